@@ -1,0 +1,4 @@
+pub mod Shifts
+pub mod HexDigits
+pub mod Fields
+pub mod DigitLaws

@@ -1,0 +1,6 @@
+use Rattle.std.proofs.Common.{◌≡◌, ◌+◌, ◌-◌, ◌*◌, ◌/◌, ◌^◌, length, take}
+use Rattle.pb_packed.specs.Digits.{hex_digits}
+use Rattle.pb_packed.proofs.packed.Packed.hex.Given as goal
+
+abbrev pub invariant-loop-i : goal.invariant-loop-i
+invariant-loop-i l = record { size : length l.out ≡ 64; digits_so_far : take l.i l.out ≡ hex_digits l.i (l.self / 2 ^ (4 * (64 - l.i))) }

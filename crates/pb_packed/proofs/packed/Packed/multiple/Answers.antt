@@ -1,0 +1,9 @@
+use Rattle.std.proofs.Common.{ap, ◌∙◌, subst, ◌≡◌, ◌*◌, ◌^◌, ℕ, ◌<◌, sym}
+use Rattle.pb_packed.proofs.Shifts.{multiple_low, multiple_high}
+use Rattle.pb_packed.proofs.packed.Packed.multiple.Goals as goal
+
+pub returns-then-at-lt128 : goal.returns-then-at-lt128
+returns-then-at-lt128 c = rw c.from-value.ensures (multiple_low c.args.value c.args.at c.if-at-lt128.true)
+
+pub returns-else-at-lt128 : goal.returns-else-at-lt128
+returns-else-at-lt128 c = rw c.from-value.ensures (multiple_high c.args.value c.args.at c.if-at-lt128.false c.requires.room)

@@ -1,0 +1,4 @@
+pub mod Halves
+pub mod Bits
+pub mod Digits
+pub mod Laws
