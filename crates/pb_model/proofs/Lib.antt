@@ -1,0 +1,16 @@
+pub mod Tests
+pub mod Successors
+pub mod Incumbents
+pub mod Offers
+pub mod Effects
+pub mod Soundness
+pub mod Locality
+pub mod Backing
+pub mod Tracing
+pub mod Optimality
+pub mod Certificates
+pub mod OnePart
+pub mod Keys
+pub mod Shown
+pub mod Growth
+pub mod Example

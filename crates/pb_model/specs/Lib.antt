@@ -1,0 +1,15 @@
+pub mod Space
+pub mod Weight
+pub mod Plan
+pub mod Guide
+pub mod Store
+pub mod KeyOrder
+pub mod Key
+pub mod Work
+pub mod Turns
+pub mod Sound
+pub mod Trace
+pub mod Local
+pub mod Certificate
+pub mod Texts
+pub mod Laws
