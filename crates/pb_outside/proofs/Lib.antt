@@ -1,0 +1,4 @@
+mod Kept
+mod Known
+mod Places
+pub mod Told

@@ -1,0 +1,19 @@
+/// Is told when a worker has got a lease and when it gives the lease back. A call may hold the worker up, and
+/// changes nothing else: tests use it to bring workers together.
+pub trait Gate: Sync {
+    /// The worker has got a lease of the block.
+    fn leased(&self, worker: u32, block: u32);
+
+    /// The worker is about to give back its lease of the block.
+    fn giving(&self, worker: u32, block: u32);
+}
+
+/// A gate that holds nobody: each call returns at once.
+#[derive(Clone, Copy, Debug)]
+pub struct OpenGate;
+
+impl Gate for OpenGate {
+    fn leased(&self, _worker: u32, _block: u32) {}
+
+    fn giving(&self, _worker: u32, _block: u32) {}
+}

@@ -1,0 +1,83 @@
+ghost use Rattle.std.specs.Prelude.{◌≡◌, ◌-◌, ◌↔◌, Some, [], ◌++◌, take, length, is_ok, IsOk, IfOk, OnOk, OnErr};
+ghost use Rattle.pb_outside.specs.Outside.{IfTold, Appends, AppendsPart, HasCause};
+ghost use Rattle.pb_outside.specs.Memory.{kept_next, after_call, with_listed, most_kept, PutSucceeds};
+
+use crate::buffer::Buffer;
+use crate::calls::Calls;
+use crate::{Failed, Memory, Sink};
+use std::alloc::Global;
+use std::marker::Model;
+
+/// A sink in memory, with room for so many bytes and a list of calls that are to fail.
+#[derive(Drop)]
+pub struct MemSink {
+    buffer: Buffer,
+    calls: Calls,
+}
+
+impl Model for MemSink {
+    ghost use Rattle.pb_outside.specs.Memory.{SinkView};
+
+    ghost Value = { SinkView };
+
+    ghost view = { λ s. record { bytes = s.buffer.bytes; room = s.buffer.room; calls = s.calls } };
+}
+
+impl MemSink {
+    /// An empty sink that takes so many bytes in all. Their room is taken now; where no memory has it, or no
+    /// block of memory could, the answer is `Memory`.
+    pub fn new(alloc: Global, room: u128) -> Result<MemSink, Memory>
+        ensures { IfOk result (λ sink. sink ≡ record { bytes = []; room = room; calls = record { count = 0; faults = 0; listed = [] } }) }
+    {
+        let Ok(room) = usize::try_from(room) else {
+            return Err(Memory);
+        };
+        Ok(MemSink {
+            buffer: Buffer::of(alloc, &[], room)?,
+            calls: Calls::new(alloc),
+        })
+    }
+
+    /// Lists a call of `put` that is to fail: its number, from 1, and how many bytes of its piece it keeps at
+    /// most. Where a number is listed twice, the first listing counts.
+    pub fn fail(&mut self, call: u64, kept: u64) -> Result<(), Memory>
+        ensures ok { OnOk result (self.new ≡ record self.old { calls = with_listed self.old.calls call kept }) }
+        ensures err { OnErr result (self.new ≡ self.old) }
+    {
+        self.calls.list(call, kept)
+    }
+
+    /// What was written.
+    pub fn bytes(&self) -> &[u8]
+        ensures { result.now ≡ self.now.bytes }
+    {
+        self.buffer.as_slice()
+    }
+}
+
+impl Sink for MemSink {
+    ghost written = { λ s. Some s.bytes };
+
+    ghost faults = { λ s. s.calls.faults };
+
+    fn put(&mut self, piece: &[u8]) -> Result<(), Failed>
+        ensures ok { OnOk result (IfTold (Some self.old.bytes) (Some self.new.bytes) (λ old new. Appends old new piece.now)) }
+        ensures err { OnErr result (IfTold (Some self.old.bytes) (Some self.new.bytes) (λ old new. AppendsPart old new piece.now)) }
+        ensures cause { HasCause self.old.calls.faults self.new.calls.faults result }
+
+        // It fails exactly where the call is listed or the room ends, and then keeps what it may and what fits.
+        ensures exact { IsOk result ↔ PutSucceeds self.old (length piece.now) }
+        ensures after { self.new ≡ record {
+          bytes = self.old.bytes ++ take (most_kept (kept_next self.old.calls) (self.old.room - length self.old.bytes)) piece.now;
+          room = self.old.room;
+          calls = after_call self.old.calls (is_ok result);
+        } }
+    {
+        let kept = self.calls.begin();
+        if self.buffer.append(piece, kept) {
+            return Ok(());
+        }
+        self.calls.fault();
+        Err(Failed)
+    }
+}
