@@ -1,0 +1,4 @@
+pub mod Grids
+pub mod Successors
+pub mod Walks
+pub mod Validation

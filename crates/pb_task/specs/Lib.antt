@@ -1,0 +1,4 @@
+pub mod Grid
+pub mod Parts
+pub mod Faults
+pub mod Laws

@@ -1,0 +1,26 @@
+-- What the parts of a task of any kind mean. A further kind of task is one case more of each definition.
+use Rattle.std.specs.Prelude.{ℕ, List}
+use Rattle.pb_model.specs.Space.{Space}
+use Rattle.pb_task.specs.declared.parts.Parts.{Parts}
+use Rattle.pb_task.specs.declared.parts.Parts.TheVariants.{Grid}
+use Rattle.pb_task.specs.Grid.{grid_space, direction, IsGrid}
+
+-- the state space of a task
+abbrev pub space_of : Parts → Space
+space_of (Grid grid) = grid_space grid
+
+-- the parts make up a task
+abbrev pub IsTask : Parts → Type 0
+IsTask (Grid grid) = IsGrid grid
+
+-- what an action is called in a plan
+abbrev pub action_name : Parts → (action : ℕ) → List ℕ
+action_name (Grid grid) action = direction action
+
+-- no state has more successors
+abbrev pub max_degree_of : Parts → ℕ
+max_degree_of parts = (space_of parts).actions
+
+-- no action costs more
+abbrev pub greatest_cost : ℕ
+greatest_cost = 1

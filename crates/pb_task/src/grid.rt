@@ -1,0 +1,134 @@
+ghost use Rattle.std.specs.Prelude.{◌≡◌, ◌≢◌, ◌+◌, ◌*◌, ◌<◌, ◌≤◌, ◌^◌};
+ghost use Rattle.pb_packed.specs.Bits.{bits_of};
+ghost use Rattle.pb_task.specs.Grid.{class_at, cell_state, class_of_state, is_passable, are_connected, cell_beside, step_to, grid_step, direction};
+ghost use Rattle.pb_task.specs.declared.parts.Class.TheVariants.{Blocked};
+
+use crate::parts::{Class, GridParts};
+use pb_packed::Packed;
+
+/// How many actions a grid has: up, down, left and right.
+pub const DIRECTIONS: u32 = 4;
+
+// How many bits of a state hold a coordinate.
+const BITS: u32 = 11;
+
+/// The state that stands for a cell.
+pub fn pack(x: u32, y: u32) -> Packed
+    requires x { x < 2048 }
+    requires y { y < 2048 }
+    ensures { result ≡ cell_state x y }
+{
+    Packed::zero()
+        .with_bits(0, BITS, u64::from(x))
+        .with_bits(BITS, BITS, u64::from(y))
+}
+
+// The column and the row in a state's bits.
+fn unpack(state: &Packed) -> (u32, u32)
+    ensures x { result.0 ≡ bits_of state.now 0 11 }
+    ensures y { result.1 ≡ bits_of state.now 11 11 }
+    ensures small_x { result.0 < 2048 }
+    ensures small_y { result.1 < 2048 }
+{
+    (state.bits(0, BITS) as u32, state.bits(BITS, BITS) as u32)
+}
+
+impl GridParts {
+    /// The class of the cell in this column and row. Off the map all is blocked.
+    pub fn class_at(&self, x: u32, y: u32) -> Class
+        ensures class { result ≡ class_at self.now x y }
+        ensures column { result ≢ Blocked → x < self.now.width }
+        ensures row { result ≢ Blocked → y < self.now.height }
+    {
+        if x < self.width && y < self.height {
+            let at = u64::from(y) * u64::from(self.width) + u64::from(x);
+            self.cells.get(at as usize).unwrap_or(Class::Blocked)
+        } else {
+            Class::Blocked
+        }
+    }
+}
+
+/// The class of the cell that a state stands for. Blocked where it stands for none.
+pub fn class_of_state(grid: &GridParts, state: &Packed) -> Class
+    ensures { result ≡ class_of_state grid.now state.now }
+{
+    let (x, y) = unpack(state);
+    if pack(x, y) == *state {
+        grid.class_at(x, y)
+    } else {
+        Class::Blocked
+    }
+}
+
+/// Whether cells of this class can be entered at all.
+pub fn is_passable(class: Class) -> bool
+    ensures { result ≡ is_passable class }
+{
+    match class {
+        Class::Land | Class::Water => true,
+        Class::Blocked => false,
+    }
+}
+
+// Whether a cell of the one class can be left for one of the other that lies beside it.
+fn are_connected(from: Class, to: Class) -> bool
+    ensures { result ≡ are_connected from to }
+{
+    match (from, to) {
+        (Class::Land, Class::Land) | (Class::Water, Class::Water) => true,
+        _ => false,
+    }
+}
+
+// The cell beside a cell in the action's direction, be it on the map or not.
+fn cell_beside(x: u32, y: u32, action: u32) -> Option<(u32, u32)>
+    requires x { x < 2048 }
+    requires y { y < 2048 }
+    ensures { result ≡ cell_beside x y action }
+{
+    match action {
+        0 if 0 < y => Some((x, y - 1)),
+        1 => Some((x, y + 1)),
+        2 if 0 < x => Some((x - 1, y)),
+        3 => Some((x + 1, y)),
+        _ => None,
+    }
+}
+
+// The step from a cell of the class to this cell, where the two are connected.
+fn step_to(grid: &GridParts, from: Class, cell: Option<(u32, u32)>) -> Option<(Packed, u64)>
+    requires width { grid.now.width ≤ 2048 }
+    requires height { grid.now.height ≤ 2048 }
+    ensures { result ≡ step_to grid.now from cell }
+{
+    let (x, y) = cell?;
+    if are_connected(from, grid.class_at(x, y)) {
+        Some((pack(x, y), 1))
+    } else {
+        None
+    }
+}
+
+/// The step from a state by an action.
+pub fn step(grid: &GridParts, from: &Packed, action: u32) -> Option<(Packed, u64)>
+    requires width { grid.now.width ≤ 2048 }
+    requires height { grid.now.height ≤ 2048 }
+    ensures { result ≡ grid_step grid.now from.now action }
+{
+    let (x, y) = unpack(from);
+    let class = class_of_state(grid, from);
+    step_to(grid, class, cell_beside(x, y, action))
+}
+
+/// The name of an action.
+pub fn direction(action: u32) -> &'static str
+    ensures { result.now ≡ direction action }
+{
+    match action {
+        0 => "up",
+        1 => "down",
+        2 => "left",
+        _ => "right",
+    }
+}

@@ -1,0 +1,21 @@
+//! Planning tasks: their states, the steps that their actions make, and their goals.
+//!
+//! Contracts see a task as its parts. What these mean as a state space is the definition `space_of` in `specs`.
+#![tactic(auto)]
+
+mod grid;
+mod laws;
+mod parts;
+mod plan;
+mod task;
+
+pub use laws::{
+    degrees_are_bounded, faults_are_unique, faults_keep_from_plans, grids_are_proper,
+    tasks_are_proper,
+};
+pub use parts::{Cells, Class, GridParts, Parts};
+pub use plan::PlanFault;
+pub use task::Task;
+
+#[cfg(test)]
+mod tests;

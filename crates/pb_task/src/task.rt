@@ -1,0 +1,152 @@
+ghost use Rattle.std.specs.Prelude.{◌≡◌, ◌<◌, ◌≤◌, ◌+◌, ◌++◌, IsTrue, IfOk, vec_capacity, vec_len, string_bytes};
+ghost use Rattle.pb_model.specs.Space.{steps, successor_list};
+ghost use Rattle.pb_task.specs.Grid.{IsGrid};
+ghost use Rattle.pb_task.specs.Parts.{space_of, IsTask, action_name, max_degree_of};
+ghost use Rattle.pb_task.specs.declared.parts.Parts.TheVariants.{Grid};
+
+use crate::grid;
+use crate::parts::{GridParts, Parts};
+use pb_model::Succ;
+use pb_packed::Packed;
+use std::alloc::{AllocError, Global};
+use std::marker::Model;
+
+/// A planning task: a state space with a start, steps by actions, and goals. Contracts see its parts.
+#[derive(Drop)]
+pub struct Task {
+    parts: Parts,
+}
+
+impl Model for Task {
+    ghost use Rattle.pb_task.specs.declared.parts.Parts.{Parts};
+    ghost use Rattle.pb_task.specs.Parts.{IsTask};
+
+    ghost Value = { Parts };
+
+    ghost view = { λ t. t.parts };
+
+    ghost invariant = { λ t. IsTask t.parts };
+}
+
+impl Task {
+    /// The task to find a way on a grid. It takes no memory.
+    pub fn of_grid(parts: GridParts) -> Task
+        requires { IsGrid parts }
+        ensures { result ≡ Grid parts }
+    {
+        Task {
+            parts: Parts::Grid(parts),
+        }
+    }
+
+    /// What the task is made of.
+    pub fn parts(&self) -> &Parts
+        ensures parts { result.now ≡ self.now }
+        ensures lawful { IsTask self.now }
+    {
+        &self.parts
+    }
+
+    /// The start.
+    pub fn initial(&self) -> Packed
+        ensures start { result ≡ (space_of self.now).start }
+        ensures lawful { IsTask self.now }
+    {
+        match &self.parts {
+            Parts::Grid(parts) => grid::pack(parts.start.0, parts.start.1),
+        }
+    }
+
+    /// Whether this is a state of the task.
+    pub fn is_state(&self, state: &Packed) -> bool
+        ensures { result ≡ (space_of self.now).is_state state.now }
+    {
+        match &self.parts {
+            Parts::Grid(parts) => grid::is_passable(grid::class_of_state(parts, state)),
+        }
+    }
+
+    /// Whether this is a goal of the task.
+    pub fn is_goal(&self, state: &Packed) -> bool
+        ensures { result ≡ (space_of self.now).is_goal state.now }
+    {
+        match &self.parts {
+            Parts::Grid(parts) => *state == grid::pack(parts.goal.0, parts.goal.1),
+        }
+    }
+
+    /// How many actions there are. They are numbered from 0.
+    pub fn actions(&self) -> u32
+        ensures { result ≡ (space_of self.now).actions }
+    {
+        match &self.parts {
+            Parts::Grid(_) => grid::DIRECTIONS,
+        }
+    }
+
+    /// No state has more successors than this.
+    pub fn max_degree(&self) -> u32
+        ensures degree { result ≡ max_degree_of self.now }
+        ensures lawful { IsTask self.now }
+    {
+        let _ = &self.parts;
+        self.actions()
+    }
+
+    /// The state that an action leads to, and what it costs. None where the action is not applicable.
+    pub fn apply(&self, from: &Packed, action: u32) -> Option<(Packed, u64)>
+        requires { IsTrue ((space_of self.now).is_state from.now) }
+        ensures { result ≡ (space_of self.now).step from.now action }
+    {
+        match &self.parts {
+            Parts::Grid(parts) => grid::step(parts, from, action),
+        }
+    }
+
+    /// Puts all successors of a state, in order of the actions, in the place of what the list holds. It takes no memory: the
+    /// list has room for them.
+    pub fn successors(&self, from: &Packed, out: &mut Vec<Succ>)
+        requires state { IsTrue ((space_of self.now).is_state from.now) }
+        requires room { max_degree_of self.now ≤ vec_capacity out.old }
+        ensures successors { out.new.items ≡ steps (space_of self.now) from.now }
+        ensures room { vec_capacity out.old ≤ vec_capacity out.new }
+    {
+        out.clear();
+        for action in 0..self.actions() {
+            let step = self.apply(from, action);
+            push_step(out, action, step);
+        }
+    }
+
+    /// What an action is called in a plan.
+    pub fn action_text(&self, alloc: Global, action: u32) -> Result<String, AllocError>
+        requires { action < (space_of self.now).actions }
+        ensures { IfOk result (λ text. string_bytes text ≡ action_name self.now action) }
+    {
+        let name = match &self.parts {
+            Parts::Grid(_) => grid::direction(action),
+        };
+        let text = String::from_str(alloc, name)?;
+        Ok(text)
+    }
+}
+
+// Adds the successor by an action, if it is applicable, to a list that has room for it.
+fn push_step(out: &mut Vec<Succ>, action: u32, step: Option<(Packed, u64)>)
+    requires { vec_len out.old < vec_capacity out.old }
+    ensures items { out.new.items ≡ out.old.items ++ successor_list action step }
+    ensures len { vec_len out.new ≤ vec_len out.old + 1 }
+    ensures room { vec_capacity out.old ≤ vec_capacity out.new }
+{
+    if let Some((state, cost)) = step {
+        let successor = Succ {
+            action,
+            state,
+            cost,
+        };
+        match out.push(successor) {
+            Ok(()) => {}
+            Err(_) => unreachable!(),
+        }
+    }
+}

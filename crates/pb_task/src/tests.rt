@@ -1,0 +1,149 @@
+ghost use Rattle.std.specs.Prelude.{◌≡◌, IfOk};
+ghost use Rattle.pb_task.specs.Parts.{max_degree_of};
+
+use crate::{Cells, Class, GridParts, Parts, PlanFault, Task};
+use pb_model::Succ;
+use pb_packed::Packed;
+use std::alloc::{AllocError, Global};
+use std::test::Fail;
+
+// A map of 3 by 3 cells of land, from its upper left to its lower right cell.
+fn open_square(alloc: Global) -> Result<Task, AllocError> {
+    let land = Class::Land;
+    let classes = vec![in alloc; land, land, land, land, land, land, land, land, land]?;
+    let task = Task::of_grid(GridParts {
+        width: 3,
+        height: 3,
+        cells: Cells::of(classes),
+        start: (0, 0),
+        goal: (2, 2),
+    });
+    Ok(task)
+}
+
+// A map of two cells, land and water, from the one to the other.
+fn shore(alloc: Global) -> Result<Task, AllocError> {
+    let classes = vec![in alloc; Class::Land, Class::Water]?;
+    let task = Task::of_grid(GridParts {
+        width: 2,
+        height: 1,
+        cells: Cells::of(classes),
+        start: (0, 0),
+        goal: (1, 0),
+    });
+    Ok(task)
+}
+
+fn packed(x: u32, y: u32) -> Packed {
+    let state = Packed::zero();
+    if x < 2048 && y < 2048 {
+        state
+            .with_bits(0, 11, u64::from(x))
+            .with_bits(11, 11, u64::from(y))
+    } else {
+        state
+    }
+}
+
+// The successors of a state, if it is one.
+fn successors(task: &Task, state: &Packed, alloc: Global) -> Result<Vec<Succ>, AllocError> {
+    let mut found = Vec::with_capacity(alloc, task.max_degree() as usize)?;
+    if task.is_state(state) {
+        task.successors(state, &mut found);
+    }
+    Ok(found)
+}
+
+#[test]
+fn successors_come_in_order_of_the_actions(rt: HostRuntime) -> Result<(), Fail> {
+    let task = open_square(rt.alloc())?;
+    let found = successors(&task, &packed(1, 1), rt.alloc())?;
+    let wanted = [
+        Succ {
+            action: 0,
+            state: packed(1, 0),
+            cost: 1,
+        },
+        Succ {
+            action: 1,
+            state: packed(1, 2),
+            cost: 1,
+        },
+        Succ {
+            action: 2,
+            state: packed(0, 1),
+            cost: 1,
+        },
+        Succ {
+            action: 3,
+            state: packed(2, 1),
+            cost: 1,
+        },
+    ];
+    assert!(rt; found.as_slice() == wanted.as_slice());
+    Ok(())
+}
+
+#[test]
+fn no_step_leaves_the_map_or_the_land(rt: HostRuntime) -> Result<(), Fail> {
+    let square = open_square(rt.alloc())?;
+    assert_eq!(rt; successors(&square, &packed(2, 2), rt.alloc())?.len(), 2);
+    assert_eq!(rt; successors(&square, &packed(0, 0), rt.alloc())?.len(), 2);
+    assert!(rt; !square.is_state(&packed(3, 0)));
+    assert!(rt; !square.is_state(&packed(0, 0).with(22, true)));
+    let shore = shore(rt.alloc())?;
+    assert!(rt; shore.is_state(&packed(1, 0)));
+    assert_eq!(rt; successors(&shore, &packed(0, 0), rt.alloc())?.len(), 0);
+    assert_eq!(rt; successors(&shore, &packed(1, 0), rt.alloc())?.len(), 0);
+    Ok(())
+}
+
+#[test]
+fn plans_are_told_from_other_lists(rt: HostRuntime) -> Result<(), Fail> {
+    let task = open_square(rt.alloc())?;
+    assert_eq!(rt; task.validate(&[3, 3, 1, 1]), Ok(4));
+    assert_eq!(rt; task.validate(&[3, 3, 1]), Err(PlanFault::NotGoal));
+    assert_eq!(rt; task.validate(&[3, 3, 3, 1]), Err(PlanFault::Step { i: 2 }));
+    assert_eq!(rt; task.validate(&[3, 4]), Err(PlanFault::Step { i: 1 }));
+    Ok(())
+}
+
+#[test]
+fn the_parts_are_lent_and_name_start_and_goal(rt: HostRuntime) -> Result<(), Fail> {
+    let task = open_square(rt.alloc())?;
+    assert!(rt; task.initial() == packed(0, 0));
+    assert!(rt; task.is_goal(&packed(2, 2)));
+    assert!(rt; !task.is_goal(&task.initial()));
+    match task.parts() {
+        Parts::Grid(grid) => {
+            assert_eq!(rt; (grid.width, grid.height), (3, 3));
+            assert_eq!(rt; grid.cells.get(8), Some(Class::Land));
+            assert_eq!(rt; grid.cells.get(9), None);
+        }
+    }
+    Ok(())
+}
+
+#[test]
+fn actions_are_called_by_their_directions(rt: HostRuntime) -> Result<(), Fail> {
+    let task = open_square(rt.alloc())?;
+    assert_eq!(rt; task.actions(), 4);
+    for (action, wanted) in [(0, "up"), (1, "down"), (2, "left"), (3, "right")] {
+        assert!(rt; action < task.actions());
+        let text = task.action_text(rt.alloc(), action)?;
+        assert_eq!(rt; text.as_str(), wanted);
+    }
+    Ok(())
+}
+
+// Only values that threads may share and hand on are taken.
+fn crosses_threads<T: Send + Sync>(value: &T) -> &T {
+    value
+}
+
+#[test]
+fn threads_may_share_a_task(rt: HostRuntime) -> Result<(), Fail> {
+    let task = open_square(rt.alloc())?;
+    assert_eq!(rt; crosses_threads(&task).max_degree(), 4);
+    Ok(())
+}
