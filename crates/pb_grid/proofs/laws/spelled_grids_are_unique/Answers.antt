@@ -1,0 +1,5 @@
+use Rattle.pb_grid.proofs.Grids.{spelled_grids_are_unique}
+use Rattle.pb_grid.proofs.laws.spelled_grids_are_unique.Goals as goal
+
+pub returns : goal.returns
+returns c = spelled_grids_are_unique
