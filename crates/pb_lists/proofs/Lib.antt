@@ -1,0 +1,4 @@
+pub mod Order
+pub mod Moves
+pub mod First
+pub mod Entries

@@ -1,0 +1,241 @@
+ghost use Rattle.std.specs.Prelude.{◌≡◌, false, ◌<◌, ◌≤◌, Option, Some, None, [], IfOk, IfSome, IfNone, OnOk, OnErr, option_copied, nat_eq, slice_get, length};
+ghost use Rattle.std.specs.Map.{keys_of};
+ghost use Rattle.std.specs.List.{IsDistinct};
+ghost use Rattle.pb_model.specs.Key.{IsBest, IsFirstRow};
+ghost use Rattle.pb_model.specs.Store.{HasOpened};
+ghost use Rattle.pb_model.specs.Work.{offered_row};
+ghost use Rattle.pb_model.specs.declared.row.Status.TheVariants.{Opened, Closed, Cut};
+ghost use Rattle.pb_lists.specs.Bundle.{Content, row_of, put, SetsRow, SetsStatus, IsOpened};
+ghost use Rattle.pb_lists.specs.Offers.{offer_of};
+ghost use Rattle.pb_lists.specs.Fields.{is_opened};
+
+use crate::place::Place;
+use indexmap::IndexMap;
+use pb_model::{Estimate, Key, Row, Status};
+use pb_packed::Packed;
+use std::alloc::{AllocError, Global};
+use std::collections::BTreeSet;
+use std::marker::Model;
+
+/// The rows of one part of a search's store: the open and closed list of a block. Contracts see the states with their rows, in
+/// the order in which the states got one, and the weight of the search.
+#[derive(Drop)]
+pub struct Bundle {
+    rows: IndexMap<Packed, Row>,
+    // the place of each Opened row
+    opened: BTreeSet<Place>,
+    num: u64,
+    den: u64,
+}
+
+impl Model for Bundle {
+    ghost use Rattle.pb_lists.specs.Bundle.{Content};
+    ghost use Rattle.pb_lists.specs.Fields.{AreFields, weight_of};
+
+    ghost Value = { Content };
+
+    ghost view = { λ b. record { entries = b.rows.entries; weight = weight_of b.num b.den } };
+
+    ghost invariant = { λ b. AreFields (weight_of b.num b.den) b.rows.entries b.opened };
+}
+
+/// What became of an offer.
+#[derive(Clone, Copy, Debug, PartialEq, Eq)]
+pub enum Offer {
+    /// The state had no row and has one now.
+    New,
+    /// The state had a row with a greater g, and has the offered one now.
+    Better,
+    /// The state has a row that is as cheap, and nothing changed.
+    Worse,
+}
+
+impl Bundle {
+    /// A bundle without a row, for a search at the weight num / den. An error is want of memory.
+    pub fn new(alloc: Global, num: u64, den: u64) -> Result<Bundle, AllocError>
+        requires positive { 1 ≤ den }
+        requires at_least_one { den ≤ num }
+        requires small { num ≤ 1000 }
+        ensures { IfOk result (λ b. b ≡ record { entries = []; weight = record { num = num; den = den } }) }
+    {
+        Ok(Bundle {
+            rows: IndexMap::new(alloc),
+            opened: BTreeSet::new(alloc),
+            num,
+            den,
+        })
+    }
+
+    /// The row of a state, or None where it has none.
+    pub fn row(&self, state: &Packed) -> Option<&Row>
+        ensures { option_copied result ≡ row_of self.now state.now }
+    {
+        self.rows.get(state)
+    }
+
+    /// How many states have a row.
+    pub fn len(&self) -> u64
+        ensures count { result ≡ length self.now.entries }
+        ensures distinct { IsDistinct nat_eq (keys_of self.now.entries) }
+    {
+        self.rows.len() as u64
+    }
+
+    /// The state that got its row after i others, with that row.
+    pub fn at(&self, i: u64) -> (&Packed, &Row)
+        requires { i < length self.now.entries }
+        ensures { slice_get self.now.entries i ≡ Some (result.0.now, result.1.now) }
+    {
+        match self.rows.get_index(i as usize) {
+            Some(entry) => entry,
+            None => unreachable!(),
+        }
+    }
+
+    /// The state of the first Opened row: that of the least key, and at one key that of the least state. None where no row is Opened.
+    pub fn first(&self) -> Option<Packed>
+        ensures some { IfSome result (λ state. (row : _) × IsFirstRow self.now.weight (row_of self.now) state row) }
+        ensures none { IfNone result (HasOpened (row_of self.now) → ⊥) }
+    {
+        match self.opened.first() {
+            Some(place) => Some(place.state),
+            None => None,
+        }
+    }
+
+    /// The least key of an Opened row, or None where no row is Opened.
+    pub fn best(&self) -> Option<Key>
+        ensures { IsBest self.now.weight (row_of self.now) result }
+    {
+        match self.opened.first() {
+            Some(place) => Some(place.key),
+            None => None,
+        }
+    }
+
+    /// Offers a state a row with this g, the cost of a walk that comes to it from the parent by the action. A state without a row
+    /// gets this one, Opened. A row with a greater g gets this g, parent and action and is Opened again, whatever its status was
+    /// (Hart, Nilsson, Raphael 1968); its estimate stays. Else nothing changes. An error is want of memory, and the bundle is
+    /// as it was.
+    pub fn offer(
+        &mut self,
+        state: Packed,
+        g: u64,
+        estimate: Estimate,
+        parent: Option<Packed>,
+        action: u32,
+    ) -> Result<Offer, AllocError>
+        ensures put { OnOk result (self.new ≡ put self.old state (offered_row g estimate parent action (row_of self.old state))) }
+        ensures sets { OnOk result (SetsRow (row_of self.old) (row_of self.new) state (offered_row g estimate parent action (row_of self.old state))) }
+        ensures answer { IfOk result (λ answer. answer ≡ offer_of (row_of self.old state) g) }
+        ensures err { OnErr result (self.new ≡ self.old) }
+    {
+        match self.row(&state).copied() {
+            None => {
+                self.add(state, opened_row(g, estimate, parent, action))?;
+                Ok(Offer::New)
+            }
+            Some(was) => {
+                if was.g <= g {
+                    return Ok(Offer::Worse);
+                }
+                self.open_again(state, was, opened_row(g, was.estimate, parent, action))?;
+                Ok(Offer::Better)
+            }
+        }
+    }
+
+    /// Closes an Opened row: its state was expanded. It takes no memory.
+    pub fn close_row(&mut self, state: &Packed)
+        requires { IsOpened (row_of self.old state.now) }
+        ensures put { (row : _) → row_of self.old state.now ≡ Some row → self.new ≡ put self.old state.now (record row { status = Closed }) }
+        ensures sets { SetsStatus (row_of self.old) (row_of self.new) state.now Closed }
+        ensures weight { self.new.weight ≡ self.old.weight }
+    {
+        self.settle(state, Status::Closed);
+    }
+
+    /// Cuts an Opened row: its state needs no expansion. It takes no memory.
+    pub fn cut_row(&mut self, state: &Packed)
+        requires { IsOpened (row_of self.old state.now) }
+        ensures put { (row : _) → row_of self.old state.now ≡ Some row → self.new ≡ put self.old state.now (record row { status = Cut }) }
+        ensures sets { SetsStatus (row_of self.old) (row_of self.new) state.now Cut }
+        ensures weight { self.new.weight ≡ self.old.weight }
+    {
+        self.settle(state, Status::Cut);
+    }
+
+    // Adds an Opened row for a state that has none. Room is taken in both collections before the rows change.
+    fn add(&mut self, state: Packed, row: Row) -> Result<(), AllocError>
+        requires absent { row_of self.old state ≡ None }
+        requires opened { row.status ≡ Opened }
+        ensures put { OnOk result (self.new ≡ put self.old state row) }
+        ensures sets { OnOk result (SetsRow (row_of self.old) (row_of self.new) state row) }
+        ensures err { OnErr result (self.new ≡ self.old) }
+    {
+        let place = Place::of(self.num, self.den, state, &row);
+        self.rows.reserve(1)?;
+        self.opened.insert(place)?;
+        match self.rows.insert(state, row) {
+            Ok(_) => Ok(()),
+            Err(_) => unreachable!(),
+        }
+    }
+
+    // Replaces the row of a state by an Opened one. Its place may be the old one's, as that of a dead row is.
+    fn open_again(&mut self, state: Packed, was: Row, row: Row) -> Result<(), AllocError>
+        requires found { row_of self.old state ≡ Some was }
+        requires opened { row.status ≡ Opened }
+        ensures put { OnOk result (self.new ≡ put self.old state row) }
+        ensures sets { OnOk result (SetsRow (row_of self.old) (row_of self.new) state row) }
+        ensures err { OnErr result (self.new ≡ self.old) }
+    {
+        let place = Place::of(self.num, self.den, state, &row);
+        let left = Place::of(self.num, self.den, state, &was);
+        self.opened.insert(place)?;
+        match self.rows.insert(state, row) {
+            Ok(_) => {
+                if left != place {
+                    self.opened.remove(&left);
+                }
+                Ok(())
+            }
+            Err(_) => unreachable!(),
+        }
+    }
+
+    // Gives an Opened row another status.
+    fn settle(&mut self, state: &Packed, status: Status)
+        requires opened { IsOpened (row_of self.old state.now) }
+        requires settled { is_opened status ≡ false }
+        ensures put { (row : _) → row_of self.old state.now ≡ Some row → self.new ≡ put self.old state.now (record row { status = status }) }
+        ensures sets { SetsStatus (row_of self.old) (row_of self.new) state.now status }
+        ensures weight { self.new.weight ≡ self.old.weight }
+    {
+        let at = *state;
+        match self.row(&at).copied() {
+            Some(was) => {
+                let left = Place::of(self.num, self.den, at, &was);
+                match self.rows.insert(at, Row { status, ..was }) {
+                    Ok(_) => {
+                        self.opened.remove(&left);
+                    }
+                    Err(_) => unreachable!(),
+                }
+            }
+            None => unreachable!(),
+        }
+    }
+}
+
+fn opened_row(g: u64, estimate: Estimate, parent: Option<Packed>, action: u32) -> Row
+    ensures { result ≡ record { g = g; estimate = estimate; parent = parent; action = action; status = Opened } }
+{
+    Row {
+        g,
+        estimate,
+        parent,
+        action,
+        status: Status::Opened,
+    }
+}
