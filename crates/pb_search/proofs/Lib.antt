@@ -1,0 +1,4 @@
+pub mod Turned
+pub mod Known
+pub mod Fewer
+pub mod Tasks
