@@ -1,0 +1,6 @@
+mod LineTexts
+mod Files
+mod Back
+mod Goals
+mod Sorted
+mod TwoRows

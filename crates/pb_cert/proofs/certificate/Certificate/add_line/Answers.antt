@@ -1,0 +1,16 @@
+use Rattle.std.proofs.Common.{ℕ, List}
+use Rattle.pb_cert.specs.Saved.{IsWritten, AddsLine}
+use Rattle.pb_cert.specs.Stated.{lines_of}
+use Rattle.pb_cert.proofs.Files.{told_as, line_written, line_of_lines}
+use Rattle.pb_cert.proofs.certificate.Certificate.add_line.Goals as goal
+
+pub returns-clause-lines : goal.returns-clause-lines
+returns-clause-lines g c = line_of_lines c.make_room.new.piece c.put_line.new.out c.put_line.ensures.0 c.put_line.ensures.2 c.in_ok-make_room.ensures.lines
+
+pub returns-clause-ok : goal.returns-clause-ok
+returns-clause-ok g c =
+    told_as (g.H.Shelf.files c.args.shelf.now) (g.H.Shelf.files c.make_room.new.shelf)
+    (λ old new. (text : List ℕ) → IsWritten old c.args.name.now c.args.piece.now text → IsWritten new c.args.name.now c.make_room.new.piece text)
+    (λ old new. (text : List ℕ) → IsWritten old c.args.name.now c.args.piece.now text → AddsLine new c.args.name.now c.put_line.new.out text (lines_of c.args.self.now) c.args.at)
+    c.in_ok-make_room.ensures.ok
+    (λ old new written text before. line_written new c.args.name.now c.make_room.new.piece c.put_line.new.out text (lines_of c.args.self.now) c.args.at (written text before) (c.put_line.ensures.0, c.put_line.ensures.1, c.put_line.ensures.2))

@@ -1,0 +1,57 @@
+use Rattle.std.proofs.Common.{◌≡◌, ◌+◌, ◌≤◌, ℕ, List, [], Some, inr, length, take, ◌∙◌, arith}
+use Rattle.pb_model.specs.Texts.{lines}
+use Rattle.pb_outside.specs.Outside.{KeepsOthers}
+use Rattle.pb_cert.specs.Stated.{lines_of, text_of}
+use Rattle.pb_cert.specs.Saved.{IsPartSaved, HoldsPart, IsWritten, AddsLine}
+use Rattle.pb_cert.proofs.LineTexts.{lines_are_text}
+use Rattle.pb_cert.proofs.Files.{on_err, on_ok_as, on_err_as, told_then, others_then, added_next, part_of_lines, all_written, all_lines}
+use Rattle.pb_cert.proofs.certificate.Certificate.write_to.Goals as goal
+
+pub returns-in_err-add_line-clause-err : goal.returns-in_err-add_line-clause-err
+returns-in_err-add_line-clause-err g c =
+    on_err c.from_residual-in_err-add_line.result
+    (told_then (g.H.Shelf.files c.args.shelf.now) (g.H.Shelf.files c.lines.shelf) (g.H.Shelf.files c.add_line.new.shelf)
+    (λ old new. IsWritten new c.args.name.now c.lines.piece (lines (take c.lines.at (lines_of c.args.self.now))))
+    (λ old new. (text : List ℕ) → IsWritten old c.args.name.now c.lines.piece text → HoldsPart new c.args.name.now text)
+    (λ old new. IsPartSaved old new c.args.name.now (text_of c.args.self.now))
+    c.lines.invariant.written c.in_err-add_line.ensures.err
+    (λ x y z written part. inr (part_of_lines z c.args.name.now (text_of c.args.self.now) (lines_of c.args.self.now) c.lines.at (lines_are_text c.args.self.now) (part (lines (take c.lines.at (lines_of c.args.self.now))) written))))
+
+pub lines-preserved : goal.lines-preserved
+lines-preserved g c =
+    record {
+      within = omega (arith, c.lines-test.true);
+      whole = c.in_ok-add_line.ensures.lines;
+      written = told_then (g.H.Shelf.files c.args.shelf.now) (g.H.Shelf.files c.lines.shelf) (g.H.Shelf.files c.add_line.new.shelf)
+          (λ old new. IsWritten new c.args.name.now c.lines.piece (lines (take c.lines.at (lines_of c.args.self.now))))
+          (λ old new. (text : List ℕ) → IsWritten old c.args.name.now c.lines.piece text → AddsLine new c.args.name.now c.add_line.new.piece text (lines_of c.args.self.now) c.lines.at)
+          (λ old new. IsWritten new c.args.name.now c.add_line.new.piece (lines (take (c.lines.at + 1) (lines_of c.args.self.now))))
+          c.lines.invariant.written c.in_ok-add_line.ensures.ok
+          (λ x y z written adds. added_next z c.args.name.now c.add_line.new.piece (lines_of c.args.self.now) c.lines.at (adds (lines (take c.lines.at (lines_of c.args.self.now))) written));
+      others = told_then (g.H.Shelf.files c.args.shelf.now) (g.H.Shelf.files c.lines.shelf) (g.H.Shelf.files c.add_line.new.shelf)
+          (λ old new. KeepsOthers old new c.args.name.now) (λ old new. KeepsOthers old new c.args.name.now) (λ old new. KeepsOthers old new c.args.name.now)
+          c.lines.invariant.others c.add_line.ensures.others (λ x y z p q. others_then x y z c.args.name.now p q);
+      later = omega (arith, c.lines.invariant.later, c.add_line.ensures.cause.later);
+    }
+
+pub returns-clause-ok : goal.returns-clause-ok
+returns-clause-ok g c =
+    let whole : length (lines_of c.args.self.now) ≤ c.lines.at = omega (arith, c.lines-test.false, c.count-count.ensures.count) in
+    let all : lines (take c.lines.at (lines_of c.args.self.now)) ≡ text_of c.args.self.now = all_lines (lines_of c.args.self.now) c.lines.at whole ∙ lines_are_text c.args.self.now in
+    on_ok_as c.append_piece.result c.append_piece.ensures.ok (λ ok.
+    told_then (g.H.Shelf.files c.args.shelf.now) (g.H.Shelf.files c.lines.shelf) (g.H.Shelf.files c.append_piece.new.shelf)
+    (λ old new. IsWritten new c.args.name.now c.lines.piece (lines (take c.lines.at (lines_of c.args.self.now))))
+    (λ old new. (text : List ℕ) → IsWritten old c.args.name.now c.lines.piece text → IsWritten new c.args.name.now [] text)
+    (λ old new. new c.args.name.now ≡ Some (text_of c.args.self.now))
+    c.lines.invariant.written ok
+    (λ x y z written done. all_written z c.args.name.now (lines (take c.lines.at (lines_of c.args.self.now))) (text_of c.args.self.now) all (done (lines (take c.lines.at (lines_of c.args.self.now))) written)))
+
+pub returns-clause-err : goal.returns-clause-err
+returns-clause-err g c =
+    on_err_as c.append_piece.result c.append_piece.ensures.err (λ err.
+    told_then (g.H.Shelf.files c.args.shelf.now) (g.H.Shelf.files c.lines.shelf) (g.H.Shelf.files c.append_piece.new.shelf)
+    (λ old new. IsWritten new c.args.name.now c.lines.piece (lines (take c.lines.at (lines_of c.args.self.now))))
+    (λ old new. (text : List ℕ) → IsWritten old c.args.name.now c.lines.piece text → HoldsPart new c.args.name.now text)
+    (λ old new. IsPartSaved old new c.args.name.now (text_of c.args.self.now))
+    c.lines.invariant.written err
+    (λ x y z written part. inr (part_of_lines z c.args.name.now (text_of c.args.self.now) (lines_of c.args.self.now) c.lines.at (lines_are_text c.args.self.now) (part (lines (take c.lines.at (lines_of c.args.self.now))) written))))

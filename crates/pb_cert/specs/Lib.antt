@@ -1,0 +1,3 @@
+pub mod Traced
+pub mod Stated
+pub mod Saved
