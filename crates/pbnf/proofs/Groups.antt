@@ -1,0 +1,113 @@
+-- Whatever plan is read off a report of a plan is the one that was reported.
+use Rattle.std.proofs.Common.{◌≡◌, ℕ, zero, suc, ◌^◌, ◌<◌, ◌≤◌, List, [], ◌∷◌, Option, Some, length, get_or, map, refl, sym, ap, ◌∙◌, subst, arith}
+use Rattle.std.proofs.lemmas.List.{length-map}
+use Rattle.std.specs.List.{AllByRecursion}
+use Rattle.pb_model.specs.Space.{Space, IsProper}
+use Rattle.pb_model.specs.Plan.{Plan, Walk, IsPlan, NoneCheaper}
+use Rattle.pb_task.specs.declared.parts.Parts.{Parts}
+use Rattle.pb_task.specs.declared.parts.Parts.TheVariants.{Grid}
+use Rattle.pb_task.specs.Grid.{direction}
+use Rattle.pb_task.specs.Parts.{space_of, action_name, IsTask, greatest_cost}
+use Rattle.pb_task.proofs.Grids.{tasks_are_proper}
+use Rattle.pb_search.specs.Reached.{unweighted}
+use Rattle.pbnf.specs.Texts.{plan_text}
+use Rattle.pbnf.specs.Claims.{Certifies, Solves, PrintsLeastCost, SavesPlan}
+use Rattle.pbnf.specs.Answer.{Says, Saves}
+use Rattle.pbnf.proofs.Reports.{IsFree, AreFree, report_tells_cost, report_tells_steps}
+
+-- ---- the names of actions
+
+names_differ : (a b : ℕ) → a < 4 → b < 4 → direction a ≡ direction b → a ≡ b
+names_differ zero zero h k e = refl
+names_differ zero (suc zero) h k e = absurd (let d : ◌≡◌ {A = ℕ} 117 100 = ap (λ t. get_or t 0 0) e in omega (arith, d))
+names_differ zero (suc (suc zero)) h k e = absurd (let d : ◌≡◌ {A = ℕ} 117 108 = ap (λ t. get_or t 0 0) e in omega (arith, d))
+names_differ zero (suc (suc (suc more))) h k e = absurd (let d : ◌≡◌ {A = ℕ} 117 114 = ap (λ t. get_or t 0 0) e in omega (arith, d))
+names_differ (suc zero) zero h k e = absurd (let d : ◌≡◌ {A = ℕ} 100 117 = ap (λ t. get_or t 0 0) e in omega (arith, d))
+names_differ (suc zero) (suc zero) h k e = refl
+names_differ (suc zero) (suc (suc zero)) h k e = absurd (let d : ◌≡◌ {A = ℕ} 100 108 = ap (λ t. get_or t 0 0) e in omega (arith, d))
+names_differ (suc zero) (suc (suc (suc more))) h k e = absurd (let d : ◌≡◌ {A = ℕ} 100 114 = ap (λ t. get_or t 0 0) e in omega (arith, d))
+names_differ (suc (suc zero)) zero h k e = absurd (let d : ◌≡◌ {A = ℕ} 108 117 = ap (λ t. get_or t 0 0) e in omega (arith, d))
+names_differ (suc (suc zero)) (suc zero) h k e = absurd (let d : ◌≡◌ {A = ℕ} 108 100 = ap (λ t. get_or t 0 0) e in omega (arith, d))
+names_differ (suc (suc zero)) (suc (suc zero)) h k e = refl
+names_differ (suc (suc zero)) (suc (suc (suc more))) h k e = absurd (let d : ◌≡◌ {A = ℕ} 108 114 = ap (λ t. get_or t 0 0) e in omega (arith, d))
+names_differ (suc (suc (suc a))) zero h k e = absurd (let d : ◌≡◌ {A = ℕ} 114 117 = ap (λ t. get_or t 0 0) e in omega (arith, d))
+names_differ (suc (suc (suc a))) (suc zero) h k e = absurd (let d : ◌≡◌ {A = ℕ} 114 100 = ap (λ t. get_or t 0 0) e in omega (arith, d))
+names_differ (suc (suc (suc a))) (suc (suc zero)) h k e = absurd (let d : ◌≡◌ {A = ℕ} 114 108 = ap (λ t. get_or t 0 0) e in omega (arith, d))
+names_differ (suc (suc (suc a))) (suc (suc (suc b))) h k e = omega arith
+
+name_free : (action : ℕ) → IsFree 10 (direction action)
+name_free zero = (refl, (refl, tt))
+name_free (suc zero) = (refl, (refl, (refl, (refl, tt))))
+name_free (suc (suc zero)) = (refl, (refl, (refl, (refl, tt))))
+name_free (suc (suc (suc more))) = (refl, (refl, (refl, (refl, (refl, tt)))))
+
+names_free : (parts : Parts) (actions : List ℕ) → AreFree 10 (map (action_name parts) actions)
+names_free parts [] = tt
+names_free (Grid grid) (action ∷ actions) = (name_free action, names_free (Grid grid) actions)
+
+abbrev pub AreActions : Space → List ℕ → Type 0
+AreActions space actions = AllByRecursion (λ action. action < space.actions) actions
+
+same_actions : (parts : Parts) (xs ys : List ℕ) → AreActions (space_of parts) xs → AreActions (space_of parts) ys
+    → map (action_name parts) xs ≡ map (action_name parts) ys → xs ≡ ys
+same_actions parts [] [] h k e = refl
+same_actions (Grid grid) [] (y ∷ ys) h k e = absurd (none e)
+  where
+    none : ◌≡◌ {A = List (List ℕ)} [] (direction y ∷ map direction ys) → ⊥
+    none e = cc
+same_actions (Grid grid) (x ∷ xs) [] h k e = absurd (none e)
+  where
+    none : ◌≡◌ {A = List (List ℕ)} (direction x ∷ map direction xs) [] → ⊥
+    none e = cc
+same_actions (Grid grid) (x ∷ xs) (y ∷ ys) h k e = go (split (direction x) (direction y) (map direction xs) (map direction ys) e) (λ f. same_actions (Grid grid) xs ys h.1 k.1 f)
+  where
+    split : (a b : List ℕ) (more others : List (List ℕ)) → a ∷ more ≡ b ∷ others → (a ≡ b) × (more ≡ others)
+    split a b more others e = (cc, cc)
+
+    go : ((direction x ≡ direction y) × (map direction xs ≡ map direction ys)) → (map direction xs ≡ map direction ys → xs ≡ ys) → x ∷ xs ≡ y ∷ ys
+    go both more = let first = names_differ x y h.0 k.0 both.0 in let rest = more both.1 in λ i. first i ∷ rest i
+
+-- ---- walks
+
+module _ (space : Space) (most : ℕ) (proper : IsProper space most) where
+  pub walk_actions : (actions : List ℕ) (from cost to : ℕ) → Walk space from actions cost to → AreActions space actions
+  walk_actions [] from cost to walk = tt
+  walk_actions (action ∷ actions) from cost to walk = (proper.action from action walk.0 walk.1 walk.3, walk_actions actions walk.0 walk.2 to walk.4)
+
+  -- each step costs at least 1
+  walk_length : (actions : List ℕ) (from cost to : ℕ) → Walk space from actions cost to → length actions ≤ cost
+  walk_length [] from cost to walk = omega arith
+  walk_length (action ∷ actions) from cost to walk =
+      let rest = walk_length actions walk.0 walk.2 to walk.4 in
+      let first = proper.positive from action walk.0 walk.1 walk.3 in
+      omega (arith, rest, first, walk.5)
+
+-- ---- the plan that a report tells
+
+module _ (parts : Parts) (lawful : IsTask parts) (report : List ℕ) (saved : Option (List ℕ)) (solves : Solves (Says report) (Saves saved) parts) where
+  proper : IsProper (space_of parts) greatest_cost
+  proper = (tasks_are_proper parts lawful).0
+
+  few : (plan : Plan) → IsPlan (space_of parts) plan → plan.cost < 2 ^ 64 → length (map (action_name parts) plan.actions) < 2 ^ 64
+  few plan is small =
+      let short = walk_length (space_of parts) greatest_cost proper plan.actions (space_of parts).start plan.cost is.0 is.1 in
+      omega (arith, length-map plan.actions (action_name parts), short, small)
+
+  pub prints_least_cost : PrintsLeastCost (Says report) parts
+  prints_least_cost steps cost bound small says =
+      let same = report_tells_cost (map (action_name parts) solves.0.actions) steps solves.0.cost solves.1 cost bound solves.7 small (sym solves.2 ∙ says) in
+      subst (λ c. NoneCheaper (space_of parts) unweighted c) same solves.5
+
+  same_plan : (plan : Plan) (bound : ℕ) → IsPlan (space_of parts) plan → plan.cost < 2 ^ 64 → Says report (plan_text parts plan bound) → solves.0 ≡ plan
+  same_plan plan bound is small says =
+      let known = solves.0 in
+      let cost = report_tells_cost (map (action_name parts) known.actions) (map (action_name parts) plan.actions) known.cost solves.1 plan.cost bound solves.7 small (sym solves.2 ∙ says) in
+      let steps = report_tells_steps (map (action_name parts) known.actions) (map (action_name parts) plan.actions) known.cost solves.1 plan.cost bound solves.7 small
+      (few known solves.3 solves.7) (few plan is small) (names_free parts known.actions) (names_free parts plan.actions) (sym solves.2 ∙ says) in
+      let actions = same_actions parts known.actions plan.actions
+      (walk_actions (space_of parts) greatest_cost proper known.actions (space_of parts).start known.cost solves.3.0 solves.3.1)
+      (walk_actions (space_of parts) greatest_cost proper plan.actions (space_of parts).start plan.cost is.0 is.1) steps in
+      λ i. record { actions = actions i; cost = cost i }
+
+  pub saves_plan : SavesPlan (Says report) (Saves saved) parts
+  saves_plan plan bound is small says = subst (λ (p : Plan). Certifies (Saves saved) parts (Some p)) (same_plan plan bound is small says) solves.6

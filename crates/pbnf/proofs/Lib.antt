@@ -1,0 +1,9 @@
+pub mod Word
+pub mod Reports
+pub mod Groups
+pub mod Ended
+pub mod Causes
+pub mod Certified
+pub mod Steps
+pub mod Spelled
+pub mod Loaded

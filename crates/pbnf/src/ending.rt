@@ -1,0 +1,60 @@
+ghost use Rattle.std.specs.Prelude.{◌≡◌, ◌≤◌, IsSome, OnOk, OnErr};
+ghost use Rattle.pb_outside.specs.Outside.{IfTold, AppendsPart, Rose, HasCause};
+ghost use Rattle.pbnf.specs.Answer.{saved_of};
+ghost use Rattle.pbnf.specs.Run.{Prints, PrintsNothing, SavesAs, SavesPartAs};
+ghost use Rattle.pbnf.specs.declared.ending.Ending.TheVariants.{Done, NotSaved, NotPrinted};
+
+use crate::answer::Answer;
+use pb_outside::{Failed, Shelf, Sink};
+
+/// How an answer was handed out.
+#[derive(Clone, Copy, Debug, PartialEq, Eq)]
+pub enum Ending {
+    /// What was to be saved is saved, and the report is printed.
+    Done,
+    /// The shelf failed while the certificate was saved, and nothing is printed.
+    NotSaved,
+    /// The sink failed while the report was printed.
+    NotPrinted,
+}
+
+// Saves the certificate of an answer, where it has one.
+fn save<H: Shelf>(shelf: &mut H, name: &str, answer: &Answer) -> Result<(), Failed>
+    ensures ok { OnOk result (IfTold (H.files shelf.old) (H.files shelf.new) (SavesAs name.now (saved_of answer.now.certificate))) }
+    ensures has { OnErr result (IsSome answer.now.certificate) }
+    ensures err { OnErr result (IfTold (H.files shelf.old) (H.files shelf.new) (SavesPartAs name.now (saved_of answer.now.certificate))) }
+    ensures cause { HasCause (H.faults shelf.old) (H.faults shelf.new) result }
+{
+    match &answer.certificate {
+        Some(certificate) => certificate.write_to(shelf, name),
+        None => Ok(()),
+    }
+}
+
+/// Saves the certificate of an answer, if it has one, and prints the report. It takes no memory.
+pub fn hand_out<H: Shelf, K: Sink>(
+    name: &str,
+    shelf: &mut H,
+    out: &mut K,
+    answer: &Answer,
+) -> Ending
+    ensures done { result ≡ Done → Prints (K.written out.old) (K.written out.new) answer.now.report }
+    ensures saved { result ≡ Done → IfTold (H.files shelf.old) (H.files shelf.new) (SavesAs name.now (saved_of answer.now.certificate)) }
+    ensures has { result ≡ NotSaved → IsSome answer.now.certificate }
+    ensures silent { result ≡ NotSaved → PrintsNothing (K.written out.old) (K.written out.new) }
+    ensures shelf_fault { result ≡ NotSaved → Rose (H.faults shelf.old) (H.faults shelf.new) }
+    ensures shelf_left { result ≡ NotSaved → IfTold (H.files shelf.old) (H.files shelf.new) (SavesPartAs name.now (saved_of answer.now.certificate)) }
+    ensures sink_fault { result ≡ NotPrinted → Rose (K.faults out.old) (K.faults out.new) }
+    ensures sink_left { result ≡ NotPrinted → IfTold (K.written out.old) (K.written out.new) (λ before after. AppendsPart before after answer.now.report) }
+    ensures sink_saved { result ≡ NotPrinted → IfTold (H.files shelf.old) (H.files shelf.new) (SavesAs name.now (saved_of answer.now.certificate)) }
+    ensures shelf_later { H.faults shelf.old ≤ H.faults shelf.new }
+    ensures sink_later { K.faults out.old ≤ K.faults out.new }
+{
+    if save(shelf, name, answer).is_err() {
+        return Ending::NotSaved;
+    }
+    match out.put(answer.report.as_slice()) {
+        Ok(()) => Ending::Done,
+        Err(_) => Ending::NotPrinted,
+    }
+}

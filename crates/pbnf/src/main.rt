@@ -1,0 +1,39 @@
+//! The planner: reads a task from files, finds its cheapest plan or that it has none, and saves a certificate of that.
+//!
+//! `run` is the whole program over any shelf, sink and gate, and carries the headline as its contract. `main` gives it the
+//! system's files and standard output.
+#![tactic(auto)]
+
+mod answer;
+mod ending;
+mod loading;
+mod report;
+mod solution;
+mod start;
+mod top;
+mod words;
+
+use crate::start::{unread, words_of};
+use crate::top::run;
+use pb_outside::{FileShelf, OpenGate, OutSink};
+use std::alloc::AllocError;
+use std::process::ExitCode;
+use std::{env, io};
+
+fn main(rt: HostRuntime) -> ExitCode {
+    let mut out = OutSink::new(io::writer(&rt));
+    let status = match env::args(&rt) {
+        Ok(args) => match words_of(rt.alloc(), args) {
+            Ok(words) => {
+                let mut shelf = FileShelf::new(&rt);
+                run(&rt, rt.alloc(), &words, &mut shelf, &mut out, &OpenGate)
+            }
+            Err(AllocError) => 71,
+        },
+        Err(error) => unread(error, &mut out),
+    };
+    ExitCode::from(status)
+}
+
+#[cfg(test)]
+mod tests;

@@ -1,0 +1,41 @@
+ghost use Rattle.std.specs.Prelude.{◌≡◌, ◌≢◌, ◌⊎◌, IfOk, codes, drop};
+ghost use Rattle.std.specs.IoError.{error_kind};
+ghost use Rattle.std.specs.Vec.Iter.{into_iter_items};
+ghost use Rattle.pb_model.specs.Texts.{line};
+ghost use Rattle.pb_outside.specs.Outside.{IfTold, AppendsPart, Rose};
+ghost use Rattle.pbnf.specs.Run.{Prints, PrintsNothing};
+
+use pb_outside::Sink;
+use std::alloc::{AllocError, Global};
+use std::env;
+use std::io::{self, ErrorKind};
+
+// The words after the first, which is the program's name.
+pub fn words_of(alloc: Global, args: env::Args) -> Result<Vec<String>, AllocError>
+    ensures { IfOk result (λ words. words.items ≡ drop 1 (into_iter_items args)) }
+{
+    let mut rest = args;
+    let _name = rest.next();
+    let mut words = Vec::new(alloc);
+    'words: while let Some(word) = rest.next() {
+        words.push(word)?;
+    }
+    Ok(words)
+}
+
+// The status where the words couldn't be read: want of memory, or a word that isn't UTF-8, which is a faulty command line.
+pub fn unread<K: Sink>(error: io::Error, out: &mut K) -> u8
+    ensures memory { result ≡ 71 → (error_kind error ≡ ErrorKind.OutOfMemory) × PrintsNothing (K.written out.old) (K.written out.new) }
+    ensures words { result ≡ 64 → (error_kind error ≢ ErrorKind.OutOfMemory) × Prints (K.written out.old) (K.written out.new) (line (codes "words form")) }
+    ensures sink_fault { result ≡ 74 → (error_kind error ≢ ErrorKind.OutOfMemory) × Rose (K.faults out.old) (K.faults out.new) }
+    ensures sink_left { result ≡ 74 → IfTold (K.written out.old) (K.written out.new) (λ before after. AppendsPart before after (line (codes "words form"))) }
+    ensures statuses { (result ≡ 71) ⊎ (result ≡ 64) ⊎ (result ≡ 74) }
+{
+    match error.kind() {
+        ErrorKind::OutOfMemory => 71,
+        _ => match out.put(b"words form\n") {
+            Ok(()) => 64,
+            Err(_) => 74,
+        },
+    }
+}
