@@ -1,0 +1,212 @@
+-- Each step of the table under a lock keeps its rule.
+use Rattle.std.proofs.Common.{◌≡◌, ◌≢◌, ℕ, zero, suc, ◌+◌, ◌<◌, eqb, List, [], ◌∷◌, ◌++◌, map, get_or, set, Some, sym, refl, ap, ◌∙◌, subst, arith, eq-eqb, ne_eqb}
+use mathlib.Core.Option as maybe
+use mathlib.Core.Option.{none, some, some-injective, some-ne-none}
+use mathlib.Core.Logic.{dite}
+use native.Mathlib.Decide.{ℕ_discrete}
+use lib.ListN.{get_elem?}
+use prog.Atomic.{either}
+use Rattle.std.specs.Prelude.{Option}
+use Rattle.atomic_table.specs.Table.{State, step, keeps, takes, gives, stepped, Allows, Splits, Joins, put_back, rest, opening, Final, Seen}
+use Rattle.atomic_table.proofs.Lists.{at_map, set_again, set_else, at_longer}
+use Rattle.pb_turn.specs.declared.table_rule.PassView.{PassView}
+use Rattle.pb_turn.specs.declared.table_rule.Stage.{Stage}
+use Rattle.pb_turn.specs.declared.table_rule.Stage.TheVariants.{Resting, Holding}
+use Rattle.pb_turn.specs.Obligations.{LeaveKeeps, SplitKeeps, MeetKeeps, Stands, StandsAlone}
+use Rattle.pb_turn.specs.Passes.{whole}
+use Rattle.pb_turn.specs.Table.{home_of, Knows, Known, pass_view, first_pass, spent_pass, kept_pass, given_pass, met_pass, view_of, parts_of, Turned, tried, left}
+use Rattle.pb_turn.proofs.PassLists.{put_there, each_set, each_snoc, sum_set, sum_snoc, sum_two, map_at, map_set, map_snoc}
+
+module _ {S : Type 0} where
+  idle_not : (x : S) → Resting ≡ Holding x → ⊥
+  idle_not x e = cc
+
+  -- who isn't the holder doesn't hold the turn, whatever the turn is then
+  other_knows : (b h : ℕ) (x : S) (b' h' : ℕ) (x' : S) (j : ℕ) (st : Stage S) → (b ≡ 1 → j ≢ h) → Knows b h x j st → Knows b' h' x' j st
+  other_knows b h x b' h' x' j Resting off k = tt
+  other_knows b h x b' h' x' j (Holding y) off k = absurd (off k.0 k.1)
+
+module _ {S V : Type 0} (fact : S → List V → Type 0) (spent : V) where
+  abbrev D : Type 0
+  D = PassView S V
+
+  abbrev St : Type 0
+  St = State (Option S) D
+
+  abbrev Rule : St → Type 0
+  Rule = Turned fact spent
+
+  first_knows : (x : S) (v : V) (j : ℕ) (d : D) → get_elem? (first_pass v ∷ []) j ≡ some d → Knows 0 0 x j d.stage
+  first_knows x v zero d e = subst (λ (y : D). Knows 0 0 x 0 y.stage) (some-injective (first_pass v) d e) tt
+  first_knows x v (suc j) d e = absurd (some-ne-none d (sym e))
+
+  first_parts : (v : V) (j : ℕ) (d : D) → get_elem? (first_pass {S = S} v ∷ []) j ≡ some d → d.parts ≡ 0 → d ≡ spent_pass spent
+  first_parts v zero d e z = let p : whole ≡ d.parts = ap (λ (y : D). y.parts) (some-injective (first_pass v) d e) in absurd (omega arith)
+  first_parts v (suc j) d e z = absurd (some-ne-none d (sym e))
+
+  pub begins : (x : S) (v : V) → fact x (v ∷ []) → Rule (opening (0 ∷ []) (Some x ∷ []) (first_pass v))
+  begins x v h = record {
+    state = x;
+    turn = 0;
+    holder = 0;
+    low = omega arith;
+    words = refl;
+    homes = refl;
+    each_pass = first_knows x v;
+    holds_it = λ e. absurd (omega arith);
+    all_parts = omega arith;
+    no_parts = first_parts v;
+    kept = h;
+  }
+
+  -- a resting pass with all parts: the state is at home, and all others are spent
+  module _ (s : St) (r : Rule s) (id : ℕ) (d : D) (idle : d.stage ≡ Resting) (all : d.parts ≡ whole) (at : get_elem? s.views id ≡ some d) where
+    others_spent : (j : ℕ) (y : D) → get_elem? s.views j ≡ some y → j ≢ id → y ≡ spent_pass spent
+    others_spent j y e apart = r.no_parts j y e (let p = sum_two parts_of s.views j id y d apart e at in let w = r.all_parts in omega arith)
+
+    nobody_holds : r.turn ≡ 0
+    nobody_holds = dite (ℕ_discrete r.turn 0) (λ z. z) (λ off. let l = r.low in let h = r.holds_it (omega arith) in absurd (dite (ℕ_discrete r.holder id)
+        (λ same. idle_not r.state (sym idle ∙ ap (λ (y : D). y.stage) (some-injective d h.0 (sym at ∙ ap (get_elem? s.views) (sym same) ∙ h.1)) ∙ h.2))
+        (λ apart. idle_not r.state (sym (ap (λ (y : D). y.stage) (others_spent r.holder h.0 h.1 apart)) ∙ h.2))))
+
+    pub at_home : get_elem? s.homes 0 ≡ some (some (Some r.state))
+    at_home = ap (λ (l : List (maybe.Option (Option S))). get_elem? l 0) r.homes ∙ ap (λ (b : ℕ). some (home_of b r.state)) nobody_holds
+
+  missed : (s : St) (r : Rule s) (id : ℕ) (me : Known S V) → me.0.stage ≡ Resting → 0 < me.0.parts → get_elem? s.views id ≡ some me.0
+      → Rule (stepped s 0 (get_or s.words 0 0) id me.1 (pass_view me.0.stage me.0.parts (me.0.misses + 1) me.0.view) keeps)
+  missed s r id me idle some_parts at = let w : D = pass_view me.0.stage me.0.parts (me.0.misses + 1) me.0.view in record {
+    state = r.state;
+    turn = r.turn;
+    holder = r.holder;
+    low = r.low;
+    words = ap (λ (l : List ℕ). set l 0 (get_or l 0 0)) r.words;
+    homes = r.homes;
+    each_pass = each_set (λ j d. Knows r.turn r.holder r.state j d.stage) s.views id w (r.each_pass id me.0 at) (λ j d _ e. r.each_pass j d e);
+    holds_it = λ b. let h = r.holds_it b in (
+      h.0,
+      set_else s.views id r.holder w (λ same. idle_not r.state (sym idle ∙ ap (λ (d : D). d.stage) (some-injective me.0 h.0 (sym at ∙ ap (get_elem? s.views) (sym same) ∙ h.1)) ∙ h.2)) ∙ h.1,
+      h.2,
+    );
+    all_parts = let p = sum_set parts_of s.views id me.0 w at in let a = r.all_parts in omega arith;
+    no_parts = each_set (λ j d. d.parts ≡ 0 → d ≡ spent_pass spent) s.views id w (λ z. absurd (omega arith)) (λ j d _ e. r.no_parts j d e);
+    kept = subst (fact r.state) (sym (map_set view_of s.views id w ∙ set_again (map view_of s.views) id me.0.view (at_map view_of s.views id me.0 at))) r.kept;
+  }
+
+  gained : (s : St) (r : Rule s) (id : ℕ) (me : Known S V) → r.turn ≡ 0 → 0 < me.0.parts → get_elem? s.views id ≡ some me.0
+      → Rule (stepped s 0 1 id me.1 (pass_view (Holding r.state) me.0.parts me.0.misses me.0.view) (takes 0 (Some r.state)))
+  gained s r id me free some_parts at = let w : D = pass_view (Holding r.state) me.0.parts me.0.misses me.0.view in record {
+    state = r.state;
+    turn = 1;
+    holder = id;
+    low = omega arith;
+    words = ap (λ (l : List ℕ). set l 0 1) r.words;
+    homes = ap (λ (l : List (maybe.Option (Option S))). set l 0 none) r.homes;
+    each_pass = each_set (λ j d. Knows 1 id r.state j d.stage) s.views id w (refl, refl, refl)
+        (λ j d _ e. other_knows r.turn r.holder r.state 1 id r.state j d.stage (λ b. absurd (omega arith)) (r.each_pass j d e));
+    holds_it = λ _. (w, put_there s.views id me.0 w at, refl);
+    all_parts = let p = sum_set parts_of s.views id me.0 w at in let a = r.all_parts in omega arith;
+    no_parts = each_set (λ j d. d.parts ≡ 0 → d ≡ spent_pass spent) s.views id w (λ z. absurd (omega arith)) (λ j d _ e. r.no_parts j d e);
+    kept = subst (fact r.state) (sym (map_set view_of s.views id w ∙ set_again (map view_of s.views) id me.0.view (at_map view_of s.views id me.0 at))) r.kept;
+  }
+
+  -- the fact stands for each pass
+  stands : (s : St) (r : Rule s) (id : ℕ) (me : Known S V) → get_elem? s.views id ≡ some me.0 → Stands fact id me.0.view r.state
+  stands s r id me at = (map view_of s.views, r.kept, at_map view_of s.views id me.0 at)
+
+  -- a resting pass that found the turn held hasn't all parts
+  not_alone : (s : St) (r : Rule s) (id : ℕ) (me : Known S V) → me.0.stage ≡ Resting → get_elem? s.views id ≡ some me.0 → get_or s.words 0 0 ≡ r.turn → get_or s.words 0 0 ≢ 0 → me.0.parts ≢ whole
+  not_alone s r id me idle at found held all = held (found ∙ nobody_holds s r id me.0 idle all at)
+
+  pub tries : (slots id : ℕ) (me : Known S V) (number : ℕ) → number ≡ id → me.0.stage ≡ Resting → 0 < me.0.parts
+      → Allows Rule slots id me 0 (λ n. either (eqb n 0) 1 n) (tried fact number (step slots 0 0 1 none) me)
+  tries slots id me number same idle some_parts s r _ at _ = let n : ℕ = get_or s.words 0 0 in let found : n ≡ r.turn = ap (λ (l : List ℕ). get_or l 0 0) r.words in dite (ℕ_discrete n 0)
+      (λ hit. let free : r.turn ≡ 0 = sym found ∙ hit in (
+        pass_view (Holding r.state) me.0.parts me.0.misses me.0.view,
+        takes 0 (Some r.state),
+        ap (λ (l : List (maybe.Option (Option S))). get_elem? l 0) r.homes ∙ ap (λ (b : ℕ). some (home_of b r.state)) free,
+        subst (λ b. Rule (stepped s 0 (either b 1 n) id me.1 (pass_view (Holding r.state) me.0.parts me.0.misses me.0.view) (takes 0 (Some r.state)))) (sym (eq-eqb n 0 hit)) (gained s r id me free some_parts at),
+        ((λ _. (r.state, (refl, subst (λ k. Stands fact k me.0.view r.state) (sym same) (stands s r id me at)))), λ no. absurd (no hit)),
+      ))
+      (λ miss. (
+        pass_view me.0.stage me.0.parts (me.0.misses + 1) me.0.view,
+        keeps,
+        tt,
+        subst (λ b. Rule (stepped s 0 (either b 1 n) id me.1 (pass_view me.0.stage me.0.parts (me.0.misses + 1) me.0.view) keeps)) (sym (ne_eqb n 0 miss)) (missed s r id me idle some_parts at),
+        ((λ yes. absurd (miss yes)), λ _. ((let l = r.low in omega arith), (refl, not_alone s r id me idle at found miss, (r.state, subst (λ k. Stands fact k me.0.view r.state) (sym same) (stands s r id me at))))),
+      ))
+
+  pub leaves : (slots id : ℕ) (me : Known S V) (x y : S) (w : V) (next : Option V) → me.0.stage ≡ Holding x → me.1 ≡ (0, Some y) ∷ [] → next ≡ Some w → LeaveKeeps fact id me.0.view x y w
+      → Allows Rule slots id me 0 (λ _. 0) (λ _. left next (step slots 0 0 0 none) me 0)
+  leaves slots id me x y w next holds has is asked s r _ at _ = let d' : D = pass_view Resting me.0.parts me.0.misses w in
+      let known = subst (λ (st : Stage S). Knows r.turn r.holder r.state id st) holds (r.each_pass id me.0 at) in (
+        d',
+        gives,
+        tt,
+        record {
+          state = y;
+          turn = 0;
+          holder = 0;
+          low = omega arith;
+          words = ap (λ (l : List ℕ). set l 0 0) r.words;
+          homes = λ i. put_back (r.homes i) (has i);
+          each_pass = each_set (λ j d. Knows 0 0 y j d.stage) s.views id d' tt (λ j d other e. other_knows r.turn r.holder r.state 0 0 y j d.stage (λ _ same. other (same ∙ sym known.1)) (r.each_pass j d e));
+          holds_it = λ e. absurd (omega arith);
+          all_parts = let p = sum_set parts_of s.views id me.0 d' at in let a = r.all_parts in omega arith;
+          no_parts = each_set (λ j d. d.parts ≡ 0 → d ≡ spent_pass spent) s.views id d'
+              (λ z. absurd (idle_not x (sym (ap (λ (d : D). d.stage) (r.no_parts id me.0 at z)) ∙ holds))) (λ j d _ e. r.no_parts j d e);
+          kept = subst (fact y) (sym (map_set view_of s.views id d')) (asked (map view_of s.views) (subst (λ (z : S). fact z (map view_of s.views)) (sym known.2) r.kept) (at_map view_of s.views id me.0 at));
+        },
+        (refl, refl, refl, is, ap rest has),
+      )
+
+  pub splits : (id : ℕ) (d : D) (kept given : V → V) → 1 < d.parts → SplitKeeps fact id d.view (kept d.view) (given d.view) → Splits Rule id d (kept_pass kept d) (given_pass given d)
+  splits id d kept given more asked s r at = let a : D = kept_pass kept d in let b : D = given_pass given d in let l : List D = set s.views id a in record {
+    state = r.state;
+    turn = r.turn;
+    holder = r.holder;
+    low = r.low;
+    words = r.words;
+    homes = r.homes;
+    each_pass = each_snoc (λ j y. Knows r.turn r.holder r.state j y.stage) l b (λ j. tt) (each_set (λ j y. Knows r.turn r.holder r.state j y.stage) s.views id a (r.each_pass id d at) (λ j y _ e. r.each_pass j y e));
+    holds_it = λ is. let h = r.holds_it is in dite (ℕ_discrete r.holder id)
+        (λ same. (a, at_longer l (b ∷ []) r.holder a (subst (λ (k : ℕ). get_elem? l k ≡ some a) (sym same) (put_there s.views id d a at)), ap (λ (y : D). y.stage) (some-injective d h.0 (sym at ∙ ap (get_elem? s.views) (sym same) ∙ h.1)) ∙ h.2))
+        (λ apart. (h.0, at_longer l (b ∷ []) r.holder h.0 (set_else s.views id r.holder a apart ∙ h.1), h.2));
+    all_parts = let p = sum_set parts_of s.views id d a at in let q = sum_snoc parts_of l b in let w = r.all_parts in omega arith;
+    no_parts = each_snoc (λ j y. y.parts ≡ 0 → y ≡ spent_pass spent) l b (λ j z. absurd (omega arith)) (each_set (λ j y. y.parts ≡ 0 → y ≡ spent_pass spent) s.views id a (λ z. absurd (omega arith)) (λ j y _ e. r.no_parts j y e));
+    kept = subst (fact r.state) (sym (map_snoc view_of l b ∙ ap (λ (cs : List V). cs ++ b.view ∷ []) (map_set view_of s.views id a))) (asked r.state (map view_of s.views) r.kept (at_map view_of s.views id d at));
+  }
+
+  pub joins : (id : ℕ) (d : D) (other : ℕ) (e : D) (met : V → V → V) → 0 < d.parts → e.stage ≡ Resting → MeetKeeps fact id d.view other e.view (met d.view e.view) spent
+      → Joins Rule id d other e (met_pass met d e) (spent_pass spent)
+  joins id d other e met some_parts idle asked s r at apart there = let b : D = met_pass met d e in let z : D = spent_pass spent in let l : List D = set s.views id b in record {
+    state = r.state;
+    turn = r.turn;
+    holder = r.holder;
+    low = r.low;
+    words = r.words;
+    homes = r.homes;
+    each_pass = each_set (λ j y. Knows r.turn r.holder r.state j y.stage) l other z tt (λ j y _ i. each_set (λ k u. Knows r.turn r.holder r.state k u.stage) s.views id b (r.each_pass id d at) (λ k u _ m. r.each_pass k u m) j y i);
+    holds_it = λ is. let h = r.holds_it is in dite (ℕ_discrete r.holder id)
+        (λ same. (b, set_else l other r.holder z (λ k. apart (sym k ∙ same)) ∙ subst (λ (k : ℕ). get_elem? l k ≡ some b) (sym same) (put_there s.views id d b at), ap (λ (y : D). y.stage) (some-injective d h.0 (sym at ∙ ap (get_elem? s.views) (sym same) ∙ h.1)) ∙ h.2))
+        (λ off. let here : get_elem? l r.holder ≡ some h.0 = set_else s.views id r.holder b off ∙ h.1 in
+        (h.0, set_else l other r.holder z (λ k. idle_not r.state (sym idle ∙ ap (λ (y : D). y.stage) (some-injective e h.0 (sym there ∙ ap (get_elem? l) (sym k) ∙ here)) ∙ h.2)) ∙ here, h.2));
+    all_parts = let p = sum_set parts_of s.views id d b at in let q = sum_set parts_of l other e z there in let w = r.all_parts in omega arith;
+    no_parts = each_set (λ j y. y.parts ≡ 0 → y ≡ spent_pass spent) l other z (λ _. refl)
+        (λ j y _ i. each_set (λ k u. u.parts ≡ 0 → u ≡ spent_pass spent) s.views id b (λ n. absurd (omega arith)) (λ k u _ m. r.no_parts k u m) j y i);
+    kept = subst (fact r.state) (sym (map_set view_of l other z ∙ ap (λ (cs : List V). set cs other spent) (map_set view_of s.views id b)))
+        (asked r.state (map view_of s.views) r.kept (at_map view_of s.views id d at) apart
+        (subst (λ (cs : List V). get_elem? cs other ≡ some e.view) (map_set view_of s.views id b) (at_map view_of l other e there)));
+  }
+
+  pub closes : (id : ℕ) (d : D) (ws : List ℕ) (xs : List (Option S)) → d.stage ≡ Resting → d.parts ≡ whole → Final (Seen Rule id d) ws xs → (y : Option S) → get_elem? xs 0 ≡ some y
+      → (x : S) × (y ≡ Some x) × StandsAlone fact id d.view spent x
+  closes id d ws xs idle all f y e = let s : St = f.0 in let r : Rule s = f.1.0 in let at = f.1.1 in (
+    r.state,
+    some-injective y (Some r.state) (sym e ∙ f.4 0 (Some r.state) (at_home s r id d idle all at)),
+    (
+      map view_of s.views,
+      r.kept,
+      at_map view_of s.views id d at,
+      λ j w there apart. let m = map_at view_of s.views j w there in sym m.2 ∙ ap view_of (others_spent s r id d idle all at j m.0 m.1 apart),
+    ),
+  )

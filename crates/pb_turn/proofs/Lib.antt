@@ -1,0 +1,3 @@
+pub mod PassLists
+pub mod CountingKeeps
+pub mod Keeping

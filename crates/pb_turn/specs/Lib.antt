@@ -1,0 +1,4 @@
+pub mod Counting
+pub mod Obligations
+pub mod Passes
+pub mod Table

@@ -1,0 +1,81 @@
+-- The rule of the table under a lock, and what each step tells.
+-- Word 0 is the turn: 1 while a pass holds it, else 0. Slot 0 has the state, and is at home while the turn is 0.
+use Rattle.std.specs.Prelude.{◌≡◌, ◌≢◌, ℕ, zero, suc, ◌+◌, ◌-◌, ◌≤◌, List, [], ◌∷◌, map, sum_by, Option, Some}
+use mathlib.Core.Option as maybe
+use mathlib.Core.Option.{none, some}
+use lib.ListN.{get_elem?}
+use Rattle.atomic_table.specs.Table.{State, Me, Step}
+use Rattle.pb_turn.specs.declared.table_rule.PassView.{PassView}
+use Rattle.pb_turn.specs.declared.table_rule.Stage.{Stage}
+use Rattle.pb_turn.specs.declared.table_rule.Stage.TheVariants.{Resting, Holding}
+use Rattle.pb_turn.specs.Obligations.{Stands}
+use Rattle.pb_turn.specs.Passes.{whole}
+
+-- the slot, by the turn
+abbrev pub home_of : {S : Type 0} → ℕ → S → maybe.Option (Option S)
+home_of zero x = some (Some x)
+home_of (suc n) x = none
+
+-- a pass that holds the turn is the holder, and found the state that the last holder left
+abbrev pub Knows : {S : Type 0} → ℕ → ℕ → S → ℕ → Stage S → Type 0
+Knows turn holder state pass Resting = Unit {0}
+Knows turn holder state pass (Holding x) = (turn ≡ 1) × (pass ≡ holder) × (x ≡ state)
+
+-- what is known of a pass, and what it has taken out of the table
+abbrev pub Known : Type 0 → Type 0 → Type 0
+Known S V = Me (Option S) (PassView S V)
+
+module _ {S V : Type 0} where
+  abbrev pub pass_view : Stage S → ℕ → ℕ → V → PassView S V
+  pass_view stage parts misses v = record { stage = stage; parts = parts; misses = misses; view = v }
+
+  abbrev pub first_pass : V → PassView S V
+  first_pass v = pass_view Resting whole 0 v
+
+  abbrev pub spent_pass : V → PassView S V
+  spent_pass v = pass_view Resting 0 0 v
+
+  abbrev pub kept_pass : (V → V) → PassView S V → PassView S V
+  kept_pass kept d = pass_view d.stage (d.parts - 1) d.misses (kept d.view)
+
+  abbrev pub given_pass : (V → V) → PassView S V → PassView S V
+  given_pass given d = pass_view Resting 1 0 (given d.view)
+
+  abbrev pub met_pass : (V → V → V) → PassView S V → PassView S V → PassView S V
+  met_pass met d e = pass_view d.stage (d.parts + e.parts) (d.misses + e.misses) (met d.view e.view)
+
+  abbrev pub view_of : PassView S V → V
+  view_of d = d.view
+
+  abbrev pub parts_of : PassView S V → ℕ
+  parts_of d = d.parts
+
+  -- `state` is the one that the last holder left: it lies in the slot, or the holder has found it
+  pub record Turned (fact : S → List V → Type 0) (spent : V) (s : State (Option S) (PassView S V)) : Type 0 where
+    pub state : S
+    pub turn : ℕ
+    pub holder : ℕ
+    pub low : turn ≤ 1
+    pub words : s.words ≡ turn ∷ []
+    pub homes : s.homes ≡ home_of turn state ∷ []
+    pub each_pass : (j : ℕ) (d : PassView S V) → get_elem? s.views j ≡ some d → Knows turn holder state j d.stage
+    pub holds_it : turn ≡ 1 → (d : PassView S V) × (get_elem? s.views holder ≡ some d) × (d.stage ≡ Holding state)
+    pub all_parts : sum_by parts_of s.views ≡ whole
+    pub no_parts : (j : ℕ) (d : PassView S V) → get_elem? s.views j ≡ some d → d.parts ≡ 0 → d ≡ spent_pass spent
+    pub kept : fact state (map view_of s.views)
+
+  -- the pass has the turn and the state x, of which the fact stands
+  abbrev pub Won : (S → List V → Type 0) → ℕ → Known S V → S → Known S V → Type 0
+  Won fact pass m x m' = (m' ≡ (pass_view (Holding x) m.0.parts m.0.misses m.0.view, (0, Some x) ∷ m.1)) × Stands fact pass m.0.view x
+
+  -- the pass counts a miss. It isn't the only one, and the fact stands of what the holder found
+  abbrev pub Missed : (S → List V → Type 0) → ℕ → Known S V → Known S V → Type 0
+  Missed fact pass m m' = (m' ≡ (pass_view m.0.stage m.0.parts (m.0.misses + 1) m.0.view, m.1)) × (m.0.parts ≢ whole) × ((x : S) × Stands fact pass m.0.view x)
+
+  -- a try for the turn, by what it found
+  abbrev pub tried : (S → List V → Type 0) → ℕ → Step (Option S) → Known S V → ℕ → Known S V → Type 0
+  tried fact pass st m n m' = (n ≡ 0 → (x : S) × Won fact pass m x m') × (n ≢ 0 → (n ≡ 1) × Missed fact pass m m')
+
+  -- the store that leaves
+  abbrev pub left : Option V → Step (Option S) → Known S V → ℕ → Known S V → Type 0
+  left next st m n m' = (m'.0.stage ≡ Resting) × (m'.0.parts ≡ m.0.parts) × (m'.0.misses ≡ m.0.misses) × (next ≡ Some m'.0.view) × (m'.1 ≡ [])

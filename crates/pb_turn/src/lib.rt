@@ -1,0 +1,24 @@
+//! A lock that hands a state on by moves.
+//!
+//! Each thread carries a pass. One pass at a time holds the turn; its holder has the state itself, which the last holder
+//! left, and puts it back when it leaves. What a pass knows is its view: plain data that exists in proofs alone. A rule
+//! of the caller's ties the state to the views of all passes, and holds between any two steps: whoever leaves with
+//! another state or view, splits a pass or lets one meet another shows that the rule stays.
+#![tactic(auto)]
+
+mod bounds;
+mod held;
+mod lifecycle;
+mod lock;
+mod pass;
+mod plays;
+mod rule;
+mod steps;
+mod table_rule;
+#[cfg(test)]
+mod tests;
+mod turn;
+
+pub use lock::TurnLock;
+pub use pass::{Held, Pass};
+pub use rule::{Leaving, TurnRule};

@@ -1,0 +1,135 @@
+//! The steps on the table of which the calls of a lock are made. Each is one atomic step, but for the two that move the
+//! state between the slot and the holder, which only the holder of the turn does.
+ghost use Rattle.std.specs.Prelude.{◌≡◌, ◌≢◌, ◌+◌, ◌<◌, Some, MatchBool, ⊤};
+ghost use Rattle.pb_turn.specs.Obligations.{LeaveKeeps, SplitKeeps, MeetKeeps, Stands};
+ghost use Rattle.pb_turn.specs.Passes.{view, number, parts, misses, whole, found, state, IsResting, HoldsTurn, HasLaid, IsPassOf, IsSamePass, IsSamePlace};
+
+use crate::lock::TurnLock;
+use crate::pass::{Held, Pass};
+use crate::plays::{LeaveTurn, MeetPass, NextView, PassNumber, SplitPass, TryTurn};
+use crate::rule::{Leaving, TurnRule};
+use crate::table_rule::{FREE, STATE, TAKEN, TURN};
+use std::marker::Brand;
+use std::snapshot::Snapshot;
+
+impl<R: TurnRule> TurnLock<R> {
+    // Takes the turn where it is free, and says whether it did.
+    pub(crate) fn try_turn(&self, pass: &mut Pass<R>) -> bool
+        requires own { IsPassOf self.now pass.old }
+        requires rests { IsResting pass.old }
+        ensures same { IsSamePass pass.old pass.new × (view pass.new ≡ view pass.old) }
+        ensures misses { MatchBool result (misses pass.new ≡ misses pass.old) (misses pass.new ≡ misses pass.old + 1) }
+        ensures turn { MatchBool result ((x : R.State) × HasLaid pass.new x x × Stands R.fact (number pass.old) (view pass.old) x) (IsResting pass.new) }
+        ensures held { MatchBool result ⊤ ((parts pass.old ≢ whole) × ((x : R.State) × Stands R.fact (number pass.old) (view pass.old) x)) }
+    {
+        self.try_turn_as::<Brand>(pass)
+    }
+
+    // The same, where the call picks the pass's number.
+    fn try_turn_as<N: PassNumber>(&self, pass: &mut Pass<R>) -> bool
+        requires own { IsPassOf self.now pass.old }
+        requires rests { IsResting pass.old }
+        requires number { N.number ≡ number pass.old }
+        ensures same { IsSamePass pass.old pass.new × (view pass.new ≡ view pass.old) }
+        ensures misses { MatchBool result (misses pass.new ≡ misses pass.old) (misses pass.new ≡ misses pass.old + 1) }
+        ensures turn { MatchBool result ((x : R.State) × HasLaid pass.new x x × Stands R.fact (number pass.old) (view pass.old) x) (IsResting pass.new) }
+        ensures held { MatchBool result ⊤ ((parts pass.old ≢ whole) × ((x : R.State) × Stands R.fact (number pass.old) (view pass.old) x)) }
+    {
+        let seat = &mut pass.seat;
+        let shared = &self.table.shared;
+        let word = shared.compare_exchange::<TryTurn<R, N>>(seat, TURN, FREE, TAKEN);
+        word == FREE
+    }
+
+    // Takes the state out of the slot.
+    pub(crate) fn take_state(&self, pass: &mut Pass<R>) -> Held<R>
+        requires own { IsPassOf self.now pass.old }
+        requires laid { (x : R.State) × HasLaid pass.old x x }
+        ensures same { IsSamePass pass.old pass.new × (view pass.new ≡ view pass.old) × (misses pass.new ≡ misses pass.old) }
+        ensures held { HasLaid pass.old (found result) (found result) × HoldsTurn pass.new (found result) × (state result ≡ found result) }
+    {
+        let shared = &self.table.shared;
+        let was = shared.exchange(&mut pass.seat, STATE, None);
+        let Some(state) = was else { unreachable!() };
+        let found = Snapshot::of(&state);
+        Held { state, found }
+    }
+
+    // Puts the state into the slot.
+    pub(crate) fn put_state(&self, pass: &mut Pass<R>, state: R::State, found: &Snapshot<R::State>)
+        requires own { IsPassOf self.now pass.old }
+        requires holds { HoldsTurn pass.old found.now.value }
+        ensures same { IsSamePass pass.old pass.new × (view pass.new ≡ view pass.old) × (misses pass.new ≡ misses pass.old) }
+        ensures laid { HasLaid pass.new found.now.value state }
+    {
+        let _ = found;
+        let shared = &self.table.shared;
+        let was = shared.exchange(&mut pass.seat, STATE, Some(state));
+        let None = was else { unreachable!() };
+    }
+
+    // The store that leaves, with the view that M says.
+    pub(crate) fn leave_turn<M: Leaving<R>>(
+        &self,
+        pass: &mut Pass<R>,
+        found: &Snapshot<R::State>,
+        leaves: &Snapshot<R::State>,
+        said: &M::Said,
+    )
+        requires own { IsPassOf self.now pass.old }
+        requires laid { HasLaid pass.old found.now.value leaves.now.value }
+        requires rule { LeaveKeeps R.fact (number pass.old) (view pass.old) found.now.value leaves.now.value (M.after said.now found.now.value leaves.now.value (view pass.old)) }
+        ensures same { IsSamePass pass.old pass.new × IsResting pass.new × (misses pass.new ≡ misses pass.old) }
+        ensures view { view pass.new ≡ M.after said.now found.now.value leaves.now.value (view pass.old) }
+    {
+        self.leave_turn_as::<Brand, M>(pass, found, leaves, said);
+    }
+
+    // The same, where the call picks the view.
+    fn leave_turn_as<N: NextView<R::View>, M: Leaving<R>>(
+        &self,
+        pass: &mut Pass<R>,
+        found: &Snapshot<R::State>,
+        leaves: &Snapshot<R::State>,
+        said: &M::Said,
+    )
+        requires own { IsPassOf self.now pass.old }
+        requires laid { HasLaid pass.old found.now.value leaves.now.value }
+        requires rule { (w : R.View) × (N.next ≡ Some w) × LeaveKeeps R.fact (number pass.old) (view pass.old) found.now.value leaves.now.value w }
+        ensures same { IsSamePass pass.old pass.new × IsResting pass.new × (misses pass.new ≡ misses pass.old) }
+        ensures view { N.next ≡ Some (view pass.new) }
+    {
+        let _ = found;
+        let _ = leaves;
+        let _ = said;
+        let shared = &self.table.shared;
+        shared.store::<LeaveTurn<N>>(&mut pass.seat, TURN, FREE);
+    }
+
+    // Splits a new pass off.
+    pub(crate) fn split_off(&self, pass: &mut Pass<R>) -> Pass<R>
+        requires own { IsPassOf self.now pass.old }
+        requires more { 1 < parts pass.old }
+        requires rule { SplitKeeps R.fact (number pass.old) (view pass.old) (R.kept (view pass.old)) (R.given (view pass.old)) }
+        ensures same { IsSamePlace pass.old pass.new × (misses pass.new ≡ misses pass.old) }
+        ensures kept { (view pass.new ≡ R.kept (view pass.old)) × (parts pass.new + 1 ≡ parts pass.old) }
+        ensures given { IsPassOf self.now result × IsResting result × (view result ≡ R.given (view pass.old)) × (parts result ≡ 1) × (misses result ≡ 0) }
+    {
+        let shared = &self.table.shared;
+        let seat = shared.split_seat::<SplitPass<R>>(&mut pass.seat);
+        Pass { seat }
+    }
+
+    // Takes in another pass.
+    pub(crate) fn take_in(&self, pass: &mut Pass<R>, other: Pass<R>)
+        requires own { IsPassOf self.now pass.old × IsPassOf self.now other }
+        requires rests { IsResting other }
+        requires rule { MeetKeeps R.fact (number pass.old) (view pass.old) (number other) (view other) (R.met (view pass.old) (view other)) R.spent }
+        ensures same { IsSamePlace pass.old pass.new × (misses pass.new ≡ misses pass.old + misses other) }
+        ensures met { (view pass.new ≡ R.met (view pass.old) (view other)) × (parts pass.new ≡ parts pass.old + parts other) }
+    {
+        let Pass { seat } = other;
+        let shared = &self.table.shared;
+        shared.join_seat::<MeetPass<R>>(&mut pass.seat, seat);
+    }
+}

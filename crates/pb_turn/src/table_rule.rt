@@ -1,0 +1,51 @@
+//! The rule of the table under a lock: one word, which is the turn, and one slot, in which the state lies while no pass
+//! holds the turn.
+ghost use Rattle.std.specs.Prelude.{ℕ};
+
+use crate::rule::TurnRule;
+use atomic_table::TableRule;
+use std::marker::PhantomData;
+use std::snapshot::Snapshot;
+
+/// The number of the word that is the turn.
+pub(crate) const TURN: usize = 0;
+
+/// The turn, while no pass holds it, and while one does.
+pub(crate) const FREE: u64 = 0;
+
+pub(crate) const TAKEN: u64 = 1;
+
+/// The number of the slot in which the state lies.
+pub(crate) const STATE: usize = 0;
+
+/// Whether a pass holds the turn.
+pub enum Stage<S> {
+    Resting,
+    /// It holds the turn, and found this state.
+    Holding(S),
+}
+
+/// All that is known of a pass. No value of it is made.
+pub struct PassView<S, V> {
+    pub stage: Stage<S>,
+    /// Its parts of the right to close the lock.
+    pub parts: u64,
+    /// How often a step of its own found the turn held.
+    pub misses: u64,
+    /// What the caller's rule sees.
+    pub view: V,
+}
+
+/// What the table under a lock keeps.
+pub struct LockRule<R> {
+    rule: PhantomData<R>,
+}
+
+impl<R: TurnRule> TableRule<Option<R::State>, PassView<R::State, R::View>, Snapshot<R::State>>
+    for LockRule<R> {
+    ghost use Rattle.pb_turn.specs.Table.{Turned, first_pass};
+
+    ghost holds = { λ _. Turned R.fact R.spent };
+
+    ghost first = { λ key. first_pass (R.first key.value) };
+}

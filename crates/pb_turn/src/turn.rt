@@ -1,0 +1,66 @@
+//! Taking the turn, and leaving it.
+ghost use Rattle.std.specs.Prelude.{◌≡◌, ◌≢◌, ◌+◌, ◌≤◌, IfSome, IfNone};
+ghost use Rattle.pb_turn.specs.Obligations.{LeaveKeeps, Stands};
+ghost use Rattle.pb_turn.specs.Passes.{view, number, parts, misses, whole, found, state, IsResting, HoldsTurn, IsPassOf, IsSamePass};
+
+use crate::lock::TurnLock;
+use crate::pass::{Held, Pass};
+use crate::rule::{Leaving, TurnRule};
+use crate::table_rule::{TAKEN, TURN};
+use std::snapshot::Snapshot;
+use std::sync::Wait;
+
+impl<R: TurnRule> TurnLock<R> {
+    /// Tries once to take the turn, and never waits. None comes only where this call's own step found the turn held by
+    /// another pass; the pass then counts a miss, and is otherwise as it was. A pass that has all parts always gets it.
+    pub fn try_enter(&self, pass: &mut Pass<R>) -> Option<Held<R>>
+        requires own { IsPassOf self.now pass.old }
+        requires rests { IsResting pass.old }
+        ensures same { IsSamePass pass.old pass.new × (view pass.new ≡ view pass.old) }
+        ensures won { IfSome result (λ h. HoldsTurn pass.new (found h) × (state h ≡ found h) × (misses pass.new ≡ misses pass.old)) }
+        ensures rule { IfSome result (λ h. Stands R.fact (number pass.old) (view pass.old) (found h)) }
+        ensures lost { IfNone result (IsResting pass.new × (misses pass.new ≡ misses pass.old + 1)) }
+        ensures shared { IfNone result (parts pass.old ≢ whole) }
+        ensures others { IfNone result ((x : R.State) × Stands R.fact (number pass.old) (view pass.old) x) }
+    {
+        if !self.try_turn(pass) {
+            return None;
+        }
+        Some(self.take_state(pass))
+    }
+
+    /// Takes the turn, and sleeps while another pass holds it. It may wait for ever.
+    pub fn enter<W: Wait>(&self, rt: &W, pass: &mut Pass<R>) -> Held<R>
+        requires own { IsPassOf self.now pass.old }
+        requires rests { IsResting pass.old }
+        ensures same { IsSamePass pass.old pass.new × (view pass.new ≡ view pass.old) }
+        ensures won { HoldsTurn pass.new (found result) × (state result ≡ found result) }
+        ensures rule { Stands R.fact (number pass.old) (view pass.old) (found result) }
+        ensures misses { misses pass.old ≤ misses pass.new }
+    {
+        for _ in rt.forever() {
+            if let Some(held) = self.try_enter(pass) {
+                return held;
+            }
+            self.table.shared.park(rt, TURN, TAKEN as u32);
+        }
+        unreachable!()
+    }
+
+    /// Puts the state back and leaves the turn. All that the holder did takes effect here, at one step. The caller shows
+    /// that the rule stays when the state that was found becomes the one that is put back, and the view the one that
+    /// `M` gives; what the holder says is for `M` alone.
+    pub fn leave<M: Leaving<R>>(&self, pass: &mut Pass<R>, held: Held<R>, said: &M::Said)
+        requires own { IsPassOf self.now pass.old }
+        requires holds { HoldsTurn pass.old (found held) }
+        requires rule { LeaveKeeps R.fact (number pass.old) (view pass.old) (found held) (state held) (M.after said.now (found held) (state held) (view pass.old)) }
+        ensures same { IsSamePass pass.old pass.new × IsResting pass.new × (misses pass.new ≡ misses pass.old) }
+        ensures view { view pass.new ≡ M.after said.now (found held) (state held) (view pass.old) }
+    {
+        let Held { state, found } = held;
+        let leaves = Snapshot::of(&state);
+        self.put_state(pass, state, &found);
+        self.leave_turn::<M>(pass, &found, &leaves, said);
+        self.table.shared.wake_one(TURN);
+    }
+}
