@@ -1,0 +1,444 @@
+-- Every event and every told cost keeps the machine lawful.
+use Rattle.std.proofs.Common.{◌≡◌, ℕ, ◌+◌, ◌*◌, ◌<◌, ◌≤◌, min, Bool, true, false, cond, ◌==◌, is_some, is_none, List, [], ◌∷◌, ◌++◌, Option, Some, None, refl, sym, ap, ◌∙◌, subst, ◌⊎◌, inl, inr, arith, le_trans, mul-le-mul_left}
+use Rattle.pb_model.specs.Store.{Store, HasGoalWithin, HasOpened, IsQuiet, CostsAtMost, lesser, AtMost}
+use Rattle.pb_model.specs.Work.{Work, lower, Comes, LowersTo, opening_store}
+use Rattle.pb_model.specs.Sound.{IsSound}
+use Rattle.pb_model.specs.Plan.{Plan, IsPlan}
+use Rattle.pb_model.proofs.Tracing.{goals_are_plans}
+use Rattle.pb_model.proofs.Tests.{not_both, equal, equal_self, by_cases}
+use Rattle.pb_model.proofs.Incumbents.{some_number, at_most_self, at_most_trans, lesser_at_most, lesser_below, lesser_cases}
+use Rattle.pb_model.proofs.Soundness.{work_keeps_sound}
+use Rattle.pb_model.proofs.Backing.{costs_never_rise, incumbents_are_backed}
+use Rattle.pb_model.proofs.Locality.{work_goes_on, never_reopens, reopens_append}
+use Rattle.pb_machine.specs.declared.event.End.{End}
+use Rattle.pb_machine.specs.declared.event.End.TheVariants.{Quiet, Budget, Memory}
+use Rattle.pb_machine.specs.declared.event.Event.{Event}
+use Rattle.pb_machine.specs.declared.event.Event.TheVariants.{Lease, Renew, Hot, Cold, Release, Off, Ended}
+use Rattle.pb_machine.specs.declared.event.Grant.{Grant}
+use Rattle.pb_machine.specs.Tables.{with_entry}
+use Rattle.pb_machine.specs.Settings.{weight_of}
+use Rattle.pb_machine.specs.Counts.{Counts, leases_out, is_any_out, with_quota, counts_after}
+use Rattle.pb_machine.specs.Legality.{refusal}
+use Rattle.pb_machine.specs.Machine.{Setup, IsSetup, Machine, opening_machine, HasWorked, CameBack, KeepsRows, Happens, Tells, Move, event_move, tell_move, Moves, Runs}
+use Rattle.pb_machine.specs.Lawful.{IsReached, IsTold, IsLawful}
+use Rattle.pb_machine.specs.Laws.{OpeningIsLawful, MovesKeepLawful, RunsAreLawful}
+use Rattle.pb_machine.proofs.TableLaws.{entry_here, entry_else, sum_same, sum_small, sum_with_entry}
+use Rattle.pb_machine.proofs.CountsLaws.{passes, no_trouble, event_keeps, opening_lawful, still, out_still, released_was, none_leased}
+use Rattle.pb_machine.proofs.LeaseWork.{not_lowered, merged, none_reopens, works_there, row_there, goal_there}
+
+-- ---- how many leases are out
+
+abbrev one_of : Option Grant → ℕ
+one_of o = cond (is_some o) 1 0
+
+one_small : (o : Option Grant) → one_of o ≤ 1
+one_small None = omega arith
+one_small (Some grant) = omega arith
+
+pub out_small : (n : ℕ) (leases : ℕ → Option Grant) → leases_out n leases ≤ n
+out_small n leases = sum_small n (λ i. one_of (leases i)) (λ i. one_small (leases i))
+
+-- one less after a lease came back
+pub out_less : (n i : ℕ) (leases : ℕ → Option Grant) (grant : Grant) → i < n → leases i ≡ Some grant → leases_out n (with_entry leases i None) + 1 ≡ leases_out n leases
+out_less n i leases grant lt is =
+    let sums = sum_with_entry one_of n i leases None lt in
+    let one : one_of (leases i) ≡ 1 = ap one_of is in
+    omega arith
+
+out_same : (n i q : ℕ) (leases : ℕ → Option Grant) → leases_out n (with_entry leases i (with_quota q (leases i))) ≡ leases_out n leases
+out_same n i q leases = sum_same n _ _ (λ k. by_cases (k == i)
+    (λ e. ap one_of (entry_here leases i k _ e) ∙ same (leases i) ∙ ap (λ j. one_of (leases j)) (sym (equal k i e)))
+    (λ e. ap one_of (entry_else leases i k _ e)))
+  where
+    same : (o : Option Grant) → one_of (with_quota q o) ≡ one_of o
+    same None = refl
+    same (Some grant) = refl
+
+-- ---- what was told
+
+-- the lesser of what was told before and a cost is known, and no more than this cost
+told_now : (o : Option ℕ) (u : ℕ) → (c : ℕ) × (lesser o (Some u) ≡ Some c) × (c ≤ u)
+told_now None u = (u, refl, omega arith)
+told_now (Some x) u = (min x u, refl, omega arith)
+
+told_less : (o : Option ℕ) (u x : ℕ) → o ≡ Some x → (c : ℕ) × (lesser o (Some u) ≡ Some c) × (c ≤ x)
+told_less None u x h = cc
+told_less (Some y) u x h = let e : y ≡ x = some_number y x h in (min y u, refl, omega arith)
+
+module _ (p : Setup) (greatest_cost : ℕ) (is_setup : IsSetup p greatest_cost) where
+  -- the whole store after a lease came back is the one before, after the lease's work
+  pub comes_back : (m : Machine) (i used few : ℕ) (w : Store) → IsLawful p m → (back : CameBack p m i used few w) → Comes p.space p.guide back.work.works m.store w
+  comes_back m i used few w l back =
+      subst (λ q. Comes p.space p.guide back.work.works m.store q) (sym back.back) (works_there p greatest_cost is_setup m i back.grant used few back.worked l back.leased back.work)
+
+  -- what its worker told is shown by a goal's row of the whole store then
+  pub shown_back : (m : Machine) (i used few : ℕ) (w : Store) → IsLawful p m → CameBack p m i used few w → (u : ℕ) → m.told i ≡ Some u → HasGoalWithin p.space p.guide w u
+  shown_back m i used few w l back u is =
+      subst (λ q. HasGoalWithin p.space p.guide q u) (sym back.back) (goal_there p greatest_cost is_setup m i back.grant used few back.worked l back.leased back.work u (back.shown u is))
+
+  pub is_at : (n : Machine) (c : Counts) (w : Store) (g a : ℕ → Option ℕ) (k : ℕ) → n.counts ≡ c → n.store ≡ w → n.given ≡ g → n.told ≡ a → n.broken ≡ k
+      → IsLawful p (record { counts = c; store = w; given = g; told = a; broken = k }) → IsLawful p n
+  is_at n c w g a k p1 p2 p3 p4 p5 l =
+      let same : ◌≡◌ {A = Machine} (record { counts = c; store = w; given = g; told = a; broken = k }) n = sym (λ i. record { counts = p1 i; store = p2 i; given = p3 i; told = p4 i; broken = p5 i }) in
+      subst (IsLawful p) same l
+
+  -- the work that came back is added to what led to the store
+  reached_more : (m : Machine) (i used few : ℕ) (c : Counts) (w : Store) (g a : ℕ → Option ℕ) (k : ℕ) → IsLawful p m → CameBack p m i used few w
+      → c.spent ≡ m.counts.spent + used → k ≡ m.broken + few → IsReached p (record { counts = c; store = w; given = g; told = a; broken = k })
+  reached_more m i used few c w g a k l back spent more =
+      let all = work_goes_on p.space p.guide l.reached.works back.work.works (opening_store p.space p.guide l.reached.first_weight) m.store w l.reached.comes (comes_back m i used few w l back) in
+      let never = none_reopens p greatest_cost is_setup back.grant.block m.store.incumbent back.work.works back.work.on in
+      record {
+        first_weight = l.reached.first_weight;
+        is_weight = l.reached.is_weight;
+        works = l.reached.works ++ back.work.works;
+        comes = all.0;
+        spent = omega (arith, all.1, l.reached.spent, back.work.used_is, spent);
+        broken = omega (arith, all.2, l.reached.broken, back.work.few_broken, more);
+        reopened = omega (arith, all.4, l.reached.reopened, never);
+        between = reopens_append p.space p.guide l.reached.works back.work.works (opening_store p.space p.guide l.reached.first_weight) m.store l.reached.comes l.reached.between
+            (never_reopens p.space p.guide back.work.works m.store never);
+      }
+
+  -- the incumbent has fallen, and the weight is the same
+  pub fell : (m : Machine) (i used few : ℕ) (w : Store) → CameBack p m i used few w → AtMost w.incumbent m.store.incumbent
+  fell m i used few w back = subst (λ q. AtMost q.incumbent m.store.incumbent) (sym back.back) (lesser_at_most m.store.incumbent back.worked.incumbent)
+
+  same_weight : (m : Machine) (i used few : ℕ) (w : Store) → IsLawful p m → CameBack p m i used few w → w.weight ≡ weight_of p.settings
+  same_weight m i used few w l back = ap (λ (q : Store). q.weight) back.back ∙ l.weight
+
+  pub sound_after : (m : Machine) → IsLawful p m → IsSound p.space p.guide m.store × CostsAtMost m.store (greatest_cost * (m.counts.spent + m.broken))
+  sound_after m l =
+      let both = work_keeps_sound p.space greatest_cost p.guide l.reached.first_weight l.reached.works m.store is_setup.space l.reached.is_weight l.reached.comes in
+      (both.0, λ home state row is. le_trans (both.1 home state row is) (mul-le-mul_left greatest_cost (omega (arith, l.reached.spent, l.reached.broken))))
+
+  -- a cost that is no less than that of a plan
+  abbrev pub HasPlan : ℕ → Type 0
+  HasPlan u = (plan : Plan) × IsPlan p.space plan × (plan.cost ≤ u)
+
+  pub plan_within : (x u : ℕ) → x ≤ u → HasPlan x → HasPlan u
+  plan_within x u le h = (h.0, h.1, le_trans h.2 le)
+
+  -- a goal's row of a lease, as it has worked so far, shows a plan
+  worked_plan : (m : Machine) (i : ℕ) (grant : Grant) (used few u : ℕ) (worked : Store) → IsLawful p m → m.counts.leases i ≡ Some grant → HasWorked p m i grant used few worked → HasGoalWithin p.space p.guide worked u → HasPlan u
+  worked_plan m i grant used few u worked l leased work g =
+      let together : Store = merged p greatest_cost is_setup m grant worked in
+      let all = work_goes_on p.space p.guide l.reached.works work.works (opening_store p.space p.guide l.reached.first_weight) m.store together l.reached.comes
+      (works_there p greatest_cost is_setup m i grant used few worked l leased work) in
+      let both = work_keeps_sound p.space greatest_cost p.guide l.reached.first_weight (l.reached.works ++ work.works) together is_setup.space l.reached.is_weight all.0 in
+      goals_are_plans p.space greatest_cost p.guide together is_setup.space both.0 u (goal_there p greatest_cost is_setup m i grant used few worked l leased work u g)
+
+  -- the g of a lease's row, as it has worked so far
+  pub worked_costs : (m : Machine) (i : ℕ) (grant : Grant) (used few : ℕ) (worked : Store) → IsLawful p m → m.counts.leases i ≡ Some grant → HasWorked p m i grant used few worked
+      → CostsAtMost worked (greatest_cost * (m.counts.spent + used + m.broken + few))
+  worked_costs m i grant used few worked l leased work home state row found =
+      let together : Store = merged p greatest_cost is_setup m grant worked in
+      let all = work_goes_on p.space p.guide l.reached.works work.works (opening_store p.space p.guide l.reached.first_weight) m.store together l.reached.comes
+      (works_there p greatest_cost is_setup m i grant used few worked l leased work) in
+      let both = work_keeps_sound p.space greatest_cost p.guide l.reached.first_weight (l.reached.works ++ work.works) together is_setup.space l.reached.is_weight all.0 in
+      le_trans (both.1 home state row (row_there p greatest_cost is_setup m i grant used few worked l leased work home state row found))
+      (mul-le-mul_left greatest_cost (omega (arith, all.1, all.2, l.reached.spent, l.reached.broken, work.used_is, work.few_broken)))
+
+  -- what a worker told is left out once its lease came back
+  told_but : (m : Machine) (i : ℕ) → IsLawful p m → (k u : ℕ) → with_entry m.told i None k ≡ Some u → HasPlan u
+  told_but m i l k u is = by_cases (k == i)
+      (λ e. let bad : ◌≡◌ {A = Option ℕ} None (Some u) = sym (entry_here m.told i k None e) ∙ is in cc)
+      (λ e. l.told k u (sym (entry_else m.told i k None e) ∙ is))
+
+  pub incumbent_plan : (m : Machine) → IsLawful p m → (u : ℕ) → m.store.incumbent ≡ Some u → HasPlan u
+  incumbent_plan m l u is = go (l.backed u is)
+    where
+      go : (HasGoalWithin p.space p.guide m.store u ⊎ IsTold m u) → HasPlan u
+      go (inl g) = goals_are_plans p.space greatest_cost p.guide m.store is_setup.space (sound_after m l).0 u g
+      go (inr t) = plan_within t.2 u t.5 (l.told t.0 t.2 t.4)
+
+  -- a goal's row that costs no more than a cost costs no more than a greater one, and stays so
+  pub goal_within : (w : Store) (x u : ℕ) → x ≤ u → HasGoalWithin p.space p.guide w x → HasGoalWithin p.space p.guide w u
+  goal_within w x u le g = (g.0, g.1, (g.2.0, g.2.1, le_trans g.2.2 le))
+
+  pub goal_still : (works : List Work) (w v : Store) (u : ℕ) → Comes p.space p.guide works w v → HasGoalWithin p.space p.guide w u → HasGoalWithin p.space p.guide v u
+  goal_still works w v u comes g = (g.0, g.1, costs_never_rise p.space p.guide works w v comes g.0 u g.2)
+
+  -- who has told a cost still has a lease, but for one worker whose cost is shown now, and the incumbent is no greater
+  teller_but : (m : Machine) (i : ℕ) (leases : ℕ → Option Grant) (low : Option ℕ) → IsLawful p m
+      → ((j : ℕ) (h : Grant) → (j == i) ≡ false → m.counts.leases j ≡ Some h → leases j ≡ Some h) → AtMost low m.store.incumbent
+      → (k u : ℕ) → with_entry m.told i None k ≡ Some u → ((h : Grant) × (leases k ≡ Some h)) × AtMost low (Some u)
+  teller_but m i leases low l others fell k u is = by_cases (k == i)
+      (λ e. let bad : ◌≡◌ {A = Option ℕ} None (Some u) = sym (entry_here m.told i k None e) ∙ is in cc)
+      (λ e. let t = l.teller k u (sym (entry_else m.told i k None e) ∙ is) in ((t.0.0, others k t.0.0 e t.0.1), at_most_trans low m.store.incumbent (Some u) fell t.1))
+
+  -- the incumbent after a lease came back: what its worker told is shown by a goal's row
+  backed_after : (m : Machine) (i used few : ℕ) (w : Store) (leases : ℕ → Option Grant) → IsLawful p m → CameBack p m i used few w
+      → ((j : ℕ) (h : Grant) → (j == i) ≡ false → m.counts.leases j ≡ Some h → leases j ≡ Some h)
+      → (u : ℕ) → w.incumbent ≡ Some u → HasGoalWithin p.space p.guide w u ⊎ ((j : ℕ) × (h : Grant) × (c : ℕ) × (leases j ≡ Some h) × (with_entry m.told i None j ≡ Some c) × (c ≤ u))
+  backed_after m i used few w leases l back others u is = go (incumbents_are_backed p.space p.guide back.work.works m.store w (comes_back m i used few w l back) u is)
+    where
+      old : (x : ℕ) → x ≤ u → (HasGoalWithin p.space p.guide m.store x ⊎ IsTold m x)
+          → HasGoalWithin p.space p.guide w u ⊎ ((j : ℕ) × (h : Grant) × (c : ℕ) × (leases j ≡ Some h) × (with_entry m.told i None j ≡ Some c) × (c ≤ u))
+      old x le (inl g) = inl (goal_within w x u le (goal_still back.work.works m.store w x (comes_back m i used few w l back) g))
+      old x le (inr t) = by_cases (t.0 == i)
+          (λ e. inl (goal_within w t.2 u (omega (arith, t.5, le)) (shown_back m i used few w l back t.2 (ap m.told (sym (equal t.0 i e)) ∙ t.4))))
+          (λ e. inr (t.0, t.1, t.2, others t.0 t.1 e t.3, entry_else m.told i t.0 None e ∙ t.4, omega (arith, t.5, le)))
+
+      before : ((x : ℕ) × (m.store.incumbent ≡ Some x) × (x ≤ u)) → HasGoalWithin p.space p.guide w u ⊎ ((j : ℕ) × (h : Grant) × (c : ℕ) × (leases j ≡ Some h) × (with_entry m.told i None j ≡ Some c) × (c ≤ u))
+      before h = old h.0 h.2 (l.backed h.0 h.1)
+
+      go : (HasGoalWithin p.space p.guide w u ⊎ (LowersTo back.work.works u ⊎ ((x : ℕ) × (m.store.incumbent ≡ Some x) × (x ≤ u)))) → HasGoalWithin p.space p.guide w u ⊎ ((j : ℕ) × (h : Grant) × (c : ℕ) × (leases j ≡ Some h) × (with_entry m.told i None j ≡ Some c) × (c ≤ u))
+      go (inl g) = inl g
+      go (inr (inl t)) = before (not_lowered p.guide back.grant.block m.store.incumbent back.work.works u back.work.on t)
+      go (inr (inr h)) = before h
+
+  abbrev pub BrokenEnds : Counts → ℕ → Type 0
+  BrokenEnds c broken = (broken ≡ 0) ⊎ (((c.trouble ≡ true) × (broken ≤ 1)) ⊎ (c.end ≡ Some Memory))
+
+  -- while no report waits, a broken expansion is followed by the end that it brings
+  broken_end : (m : Machine) → IsLawful p m → m.counts.trouble ≡ false → (m.broken ≡ 0) ⊎ (m.counts.end ≡ Some Memory)
+  broken_end m l none = go l.broken_ends
+    where
+      go : BrokenEnds m.counts m.broken → (m.broken ≡ 0) ⊎ (m.counts.end ≡ Some Memory)
+      go (inl e) = inl e
+      go (inr (inl t)) = not_both m.counts.trouble t.0 none
+      go (inr (inr e)) = inr e
+
+  broken_kept : (m : Machine) (c : Counts) → IsLawful p m → m.counts.trouble ≡ false → c.end ≡ m.counts.end → BrokenEnds c m.broken
+  broken_kept m c l none same = go (broken_end m l none)
+    where
+      go : ((m.broken ≡ 0) ⊎ (m.counts.end ≡ Some Memory)) → BrokenEnds c m.broken
+      go (inl e) = inl e
+      go (inr e) = inr (inr (same ∙ e))
+
+  -- while no end stands and no report waits, no expansion was broken off
+  none_broken : (m : Machine) → IsLawful p m → m.counts.trouble ≡ false → is_some m.counts.end ≡ false → m.broken ≡ 0
+  none_broken m l none no_end = go (broken_end m l none)
+    where
+      go : ((m.broken ≡ 0) ⊎ (m.counts.end ≡ Some Memory)) → m.broken ≡ 0
+      go (inl e) = e
+      go (inr e) = still p.blocks p.settings m.counts.end Memory no_end e
+
+  lease_keeps : (m n : Machine) (i b q : ℕ) → IsLawful p m → Happens p m (Lease i b q) n → IsLawful p n
+  lease_keeps m n i b q l s =
+      let t = passes p.blocks p.settings m.counts (Lease i b q) s.may in
+      let none = no_trouble p.blocks p.settings m.counts (Lease i b q) refl s.may in
+      let whole = none_broken m l none t.0 in
+      is_at n (counts_after p.blocks p.settings m.counts (Lease i b q)) m.store (with_entry m.given i s.rows.2.0) (with_entry m.told i None) m.broken s.counts s.rows.1 s.rows.2.2 s.rows.3 s.rows.4 (record {
+        counts = event_keeps p.blocks p.settings m.counts (Lease i b q) l.counts s.may;
+        reached = record { first_weight = l.reached.first_weight; is_weight = l.reached.is_weight; works = l.reached.works; comes = l.reached.comes; spent = l.reached.spent; broken = l.reached.broken; reopened = l.reached.reopened; between = l.reached.between };
+        weight = l.weight;
+        given = λ k h is. given s.rows.2.0 (subst (λ (q : Store). AtMost q.incumbent s.rows.2.0) s.rows.1 s.rows.2.1) k h is (k == i) refl;
+        backed = λ u is. backed (none_leased (m.counts.leases i) t.1.1.0) u (l.backed u is);
+        teller = teller_but m i (with_entry m.counts.leases i (Some (record { block = b; quota = q }))) m.store.incumbent l (λ j h e is. entry_else m.counts.leases i j _ e ∙ is) (at_most_self m.store.incumbent);
+        told = told_but m i l;
+        quiet = l.quiet;
+        budget = l.budget;
+        few_broken = let few = out_small p.settings.workers (with_entry m.counts.leases i (Some (record { block = b; quota = q }))) in omega (arith, few, whole);
+        broken_ends = inl whole;
+      })
+    where
+      given : (bound : Option ℕ) → AtMost m.store.incumbent bound → (k : ℕ) (h : Grant) → with_entry m.counts.leases i (Some (record { block = b; quota = q })) k ≡ Some h → (r : Bool) → (k == i) ≡ r
+          → AtMost m.store.incumbent (with_entry m.given i bound k)
+      given bound low k h is true e = subst (AtMost m.store.incumbent) (sym (entry_here m.given i k bound e)) low
+      given bound low k h is false e = subst (AtMost m.store.incumbent) (sym (entry_else m.given i k bound e)) (l.given k h (sym (entry_else m.counts.leases i k _ e) ∙ is))
+
+      backed : m.counts.leases i ≡ None → (u : ℕ) → (HasGoalWithin p.space p.guide m.store u ⊎ IsTold m u)
+          → HasGoalWithin p.space p.guide m.store u ⊎ ((j : ℕ) × (h : Grant) × (c : ℕ) × (with_entry m.counts.leases i (Some (record { block = b; quota = q })) j ≡ Some h) × (with_entry m.told i None j ≡ Some c) × (c ≤ u))
+      backed none u (inl g) = inl g
+      backed none u (inr t) = by_cases (t.0 == i)
+          (λ e. let bad : ◌≡◌ {A = Option Grant} None (Some t.1) = sym none ∙ ap m.counts.leases (sym (equal t.0 i e)) ∙ t.3 in cc)
+          (λ e. inr (t.0, t.1, t.2, entry_else m.counts.leases i t.0 _ e ∙ t.3, entry_else m.told i t.0 None e ∙ t.4, t.5))
+
+  renew_keeps : (m n : Machine) (i used q : ℕ) → IsLawful p m → Happens p m (Renew i used q) n → IsLawful p n
+  renew_keeps m n i used q l s =
+      let t = passes p.blocks p.settings m.counts (Renew i used q) s.may in
+      let none = no_trouble p.blocks p.settings m.counts (Renew i used q) refl s.may in
+      is_at n (counts_after p.blocks p.settings m.counts (Renew i used q)) n.store (with_entry m.given i s.rows.1.0) (with_entry m.told i None) m.broken s.counts refl s.rows.1.2 s.rows.2 s.rows.3 (record {
+        counts = event_keeps p.blocks p.settings m.counts (Renew i used q) l.counts s.may;
+        reached = reached_more m i used 0 _ n.store _ _ m.broken l s.rows.0 refl (omega arith);
+        weight = same_weight m i used 0 n.store l s.rows.0;
+        given = λ k h is. given s.rows.1.0 s.rows.1.1 k h is (k == i) refl;
+        backed = backed_after m i used 0 n.store (with_entry m.counts.leases i (with_quota q (m.counts.leases i))) l s.rows.0 (λ j h e is. entry_else m.counts.leases i j _ e ∙ is);
+        teller = teller_but m i (with_entry m.counts.leases i (with_quota q (m.counts.leases i))) n.store.incumbent l (λ j h e is. entry_else m.counts.leases i j _ e ∙ is) (fell m i used 0 n.store s.rows.0);
+        told = told_but m i l;
+        quiet = λ e. still p.blocks p.settings m.counts.end Quiet t.0 e;
+        budget = λ e. still p.blocks p.settings m.counts.end Budget t.0 e;
+        few_broken = omega (arith, l.few_broken, out_same p.settings.workers i q m.counts.leases);
+        broken_ends = inl (none_broken m l none t.0);
+      })
+    where
+      given : (bound : Option ℕ) → AtMost n.store.incumbent bound → (k : ℕ) (h : Grant) → with_entry m.counts.leases i (with_quota q (m.counts.leases i)) k ≡ Some h → (r : Bool) → (k == i) ≡ r
+          → AtMost n.store.incumbent (with_entry m.given i bound k)
+      given bound low k h is true e = subst (AtMost n.store.incumbent) (sym (entry_here m.given i k bound e)) low
+      given bound low k h is false e =
+          subst (AtMost n.store.incumbent) (sym (entry_else m.given i k bound e))
+          (at_most_trans n.store.incumbent m.store.incumbent (m.given k) (fell m i used 0 n.store s.rows.0) (l.given k h (sym (entry_else m.counts.leases i k _ e) ∙ is)))
+
+  -- a lease came back for good; it broke off no more expansions than it reports want of memory
+  release_keeps : (m n : Machine) (i used : ℕ) (memory : Bool) (few : ℕ) → IsLawful p m → refusal p.blocks p.settings m.counts (Release i used memory) ≡ None
+      → n.counts ≡ counts_after p.blocks p.settings m.counts (Release i used memory) → CameBack p m i used few n.store → n.given ≡ m.given → n.told ≡ with_entry m.told i None → n.broken ≡ m.broken + few
+      → few ≤ 1 → BrokenEnds (counts_after p.blocks p.settings m.counts (Release i used memory)) (m.broken + few) → IsLawful p n
+  release_keeps m n i used memory few l may counts back given told broken at_most_one ends =
+      let known = l.counts.known i back.grant back.leased in
+      let out = out_still p.blocks p.settings m.counts.leases i back.grant known.0 back.leased in
+      is_at n (counts_after p.blocks p.settings m.counts (Release i used memory)) n.store m.given (with_entry m.told i None) (m.broken + few) counts refl given told broken (record {
+        counts = event_keeps p.blocks p.settings m.counts (Release i used memory) l.counts may;
+        reached = reached_more m i used few _ n.store _ _ (m.broken + few) l back refl refl;
+        weight = same_weight m i used few n.store l back;
+        given = λ k h is. at_most_trans n.store.incumbent m.store.incumbent (m.given k) (fell m i used few n.store back) (l.given k h (released_was p.blocks p.settings m.counts.leases i k h is));
+        backed = backed_after m i used few n.store (with_entry m.counts.leases i None) l back (λ j h e is. entry_else m.counts.leases i j None e ∙ is);
+        teller = teller_but m i (with_entry m.counts.leases i None) n.store.incumbent l (λ j h e is. entry_else m.counts.leases i j None e ∙ is) (fell m i used few n.store back);
+        told = told_but m i l;
+        quiet = λ e. not_both (is_any_out p.settings.workers m.counts.leases) out (l.counts.quiet e);
+        budget = λ e. not_both (is_any_out p.settings.workers m.counts.leases) out (l.counts.budget e).0;
+        few_broken = omega (arith, l.few_broken, at_most_one, out_less p.settings.workers i m.counts.leases back.grant known.0 back.leased);
+        broken_ends = ends;
+      })
+
+  -- after a release with want of memory that end stands, or comes next
+  memory_ends : (m : Machine) (i used : ℕ) → IsLawful p m → m.counts.trouble ≡ false → (grant : Grant) → m.counts.leases i ≡ Some grant → BrokenEnds (counts_after p.blocks p.settings m.counts (Release i used true)) (m.broken + 1)
+  memory_ends m i used l report grant is = go m.counts.end refl
+    where
+      out : is_any_out p.settings.workers m.counts.leases ≡ true
+      out = out_still p.blocks p.settings m.counts.leases i grant (l.counts.known i grant is).0 is
+
+      go : (o : Option End) → m.counts.end ≡ o → BrokenEnds (counts_after p.blocks p.settings m.counts (Release i used true)) (m.broken + 1)
+      go None e = let whole = none_broken m l report (ap is_some e) in inr (inl (ap is_none e, omega (arith, whole)))
+      go (Some Quiet) e = not_both (is_any_out p.settings.workers m.counts.leases) out (l.counts.quiet e)
+      go (Some Budget) e = not_both (is_any_out p.settings.workers m.counts.leases) out (l.counts.budget e).0
+      go (Some Memory) e = inr (inr e)
+
+  -- nothing but the counts changed, and no worker has more than it had
+  rows_keep : (m n : Machine) (e : Event) → IsLawful p m → refusal p.blocks p.settings m.counts e ≡ None → n.counts ≡ counts_after p.blocks p.settings m.counts e
+      → KeepsRows m n
+      → (counts_after p.blocks p.settings m.counts e).leases ≡ m.counts.leases → (counts_after p.blocks p.settings m.counts e).spent ≡ m.counts.spent
+      → ((counts_after p.blocks p.settings m.counts e).end ≡ Some Quiet → IsQuiet m.store) → ((counts_after p.blocks p.settings m.counts e).end ≡ Some Budget → (block : ℕ) × HasOpened (m.store.rows block))
+      → BrokenEnds (counts_after p.blocks p.settings m.counts e) m.broken → IsLawful p n
+  rows_keep m n e l may counts rows leases spent quiet budget ends =
+      is_at n (counts_after p.blocks p.settings m.counts e) m.store m.given m.told m.broken counts rows.0 rows.1 rows.2 rows.3 (record {
+        counts = event_keeps p.blocks p.settings m.counts e l.counts may;
+        reached = record { first_weight = l.reached.first_weight; is_weight = l.reached.is_weight; works = l.reached.works; comes = l.reached.comes; spent = l.reached.spent ∙ sym spent; broken = l.reached.broken; reopened = l.reached.reopened; between = l.reached.between };
+        weight = l.weight;
+        given = λ k h is. l.given k h (sym (λ j. leases j k) ∙ is);
+        backed = λ u is. subst (λ (f : ℕ → Option Grant). HasGoalWithin p.space p.guide m.store u ⊎ ((j : ℕ) × (h : Grant) × (c : ℕ) × (f j ≡ Some h) × (m.told j ≡ Some c) × (c ≤ u))) (sym leases) (l.backed u is);
+        teller = λ k u is. let t = l.teller k u is in ((t.0.0, (λ j. leases j k) ∙ t.0.1), t.1);
+        told = l.told;
+        quiet = quiet;
+        budget = budget;
+        few_broken = subst (λ (f : ℕ → Option Grant). m.broken + leases_out p.settings.workers f ≤ p.settings.workers) (sym leases) l.few_broken;
+        broken_ends = ends;
+      })
+
+  -- the end that follows from a report, or another one
+  ended_broken : (m : Machine) (e : End) → IsLawful p m → refusal p.blocks p.settings m.counts (Ended e) ≡ None → is_some m.counts.end ≡ false → BrokenEnds (counts_after p.blocks p.settings m.counts (Ended e)) m.broken
+  ended_broken m Quiet l may no_end = inl (none_broken m l (no_trouble p.blocks p.settings m.counts (Ended Quiet) refl may) no_end)
+  ended_broken m Budget l may no_end = inl (none_broken m l (no_trouble p.blocks p.settings m.counts (Ended Budget) refl may) no_end)
+  ended_broken m Memory l may no_end = inr (inr refl)
+
+  pub event_keeps_lawful : (m n : Machine) (e : Event) → IsLawful p m → Happens p m e n → IsLawful p n
+  event_keeps_lawful m n (Lease i b q) l s = lease_keeps m n i b q l s
+  event_keeps_lawful m n (Renew i used q) l s = renew_keeps m n i used q l s
+  event_keeps_lawful m n (Hot i b) l s = rows_keep m n (Hot i b) l s.may s.counts s.rows.1 refl refl l.quiet l.budget (broken_kept m (counts_after p.blocks p.settings m.counts (Hot i b)) l (no_trouble p.blocks p.settings m.counts (Hot i b) refl s.may) refl)
+  event_keeps_lawful m n (Cold i b) l s = rows_keep m n (Cold i b) l s.may s.counts s.rows refl refl l.quiet l.budget (broken_kept m (counts_after p.blocks p.settings m.counts (Cold i b)) l (no_trouble p.blocks p.settings m.counts (Cold i b) refl s.may) refl)
+  event_keeps_lawful m n (Release i used false) l s =
+      release_keeps m n i used false 0 l s.may s.counts s.rows.0 s.rows.1 s.rows.2 (s.rows.3 ∙ omega arith) (omega arith)
+      (subst (BrokenEnds (counts_after p.blocks p.settings m.counts (Release i used false))) (omega arith) (broken_kept m (counts_after p.blocks p.settings m.counts (Release i used false)) l (no_trouble p.blocks p.settings m.counts (Release i used false) refl s.may) refl))
+  event_keeps_lawful m n (Release i used true) l s = release_keeps m n i used true 1 l s.may s.counts s.rows.0 s.rows.1 s.rows.2 s.rows.3 (omega arith) (memory_ends m i used l (no_trouble p.blocks p.settings m.counts (Release i used true) refl s.may) s.rows.0.grant s.rows.0.leased)
+  event_keeps_lawful m n (Off i memory) l s = rows_keep m n (Off i memory) l s.may s.counts s.rows refl refl l.quiet l.budget (broken_kept m (counts_after p.blocks p.settings m.counts (Off i memory)) l (no_trouble p.blocks p.settings m.counts (Off i memory) refl s.may) refl)
+  event_keeps_lawful m n (Ended Quiet) l s =
+      rows_keep m n (Ended Quiet) l s.may s.counts s.rows.1 refl refl (λ _. s.rows.0) (λ (e : ◌≡◌ {A = Option End} (Some Quiet) (Some Budget)). cc) (ended_broken m Quiet l s.may (passes p.blocks p.settings m.counts (Ended Quiet) s.may).0)
+  event_keeps_lawful m n (Ended Budget) l s =
+      rows_keep m n (Ended Budget) l s.may s.counts s.rows.1 refl refl (λ (e : ◌≡◌ {A = Option End} (Some Budget) (Some Quiet)). cc) (λ _. s.rows.0) (ended_broken m Budget l s.may (passes p.blocks p.settings m.counts (Ended Budget) s.may).0)
+  event_keeps_lawful m n (Ended Memory) l s =
+      rows_keep m n (Ended Memory) l s.may s.counts s.rows refl refl (λ (e : ◌≡◌ {A = Option End} (Some Memory) (Some Quiet)). cc) (λ (e : ◌≡◌ {A = Option End} (Some Memory) (Some Budget)). cc) (ended_broken m Memory l s.may (passes p.blocks p.settings m.counts (Ended Memory) s.may).0)
+
+  -- a told cost keeps the machine lawful
+  pub tell_keeps_lawful : (m n : Machine) (i u : ℕ) → IsLawful p m → Tells p m i u n → IsLawful p n
+  tell_keeps_lawful m n i u l s =
+      let opening : Store = opening_store p.space p.guide l.reached.first_weight in
+      let lowered : Store = record { rows = m.store.rows; incumbent = lesser m.store.incumbent (Some u); weight = m.store.weight } in
+      let all = work_goes_on p.space p.guide l.reached.works (lower u ∷ []) opening m.store lowered l.reached.comes (tt, refl) in
+      is_at n m.counts (record { rows = m.store.rows; incumbent = lesser m.store.incumbent (Some u); weight = m.store.weight }) m.given (with_entry m.told i (lesser (m.told i) (Some u))) m.broken s.counts s.store s.given s.told s.broken (record {
+        counts = l.counts;
+        reached = record {
+          first_weight = l.reached.first_weight;
+          is_weight = l.reached.is_weight;
+          works = l.reached.works ++ lower u ∷ [];
+          comes = all.0;
+          spent = omega (arith, all.1, l.reached.spent);
+          broken = omega (arith, all.2, l.reached.broken);
+          reopened = omega (arith, all.4, l.reached.reopened);
+          between = reopens_append p.space p.guide l.reached.works (lower u ∷ []) opening m.store l.reached.comes l.reached.between tt;
+        };
+        weight = l.weight;
+        given = λ k h is. at_most_trans (lesser m.store.incumbent (Some u)) m.store.incumbent (m.given k) (lesser_at_most m.store.incumbent (Some u)) (l.given k h is);
+        backed = λ x is. backed x (lesser_cases m.store.incumbent u x is);
+        teller = λ k x is. teller k x is;
+        told = λ k x is. told k x is;
+        quiet = l.quiet;
+        budget = l.budget;
+        few_broken = l.few_broken;
+        broken_ends = l.broken_ends;
+      })
+    where
+      teller : (k x : ℕ) → with_entry m.told i (lesser (m.told i) (Some u)) k ≡ Some x → ((h : Grant) × (m.counts.leases k ≡ Some h)) × AtMost (lesser m.store.incumbent (Some u)) (Some x)
+      teller k x is = by_cases (k == i)
+          (λ e. ((s.grant, ap m.counts.leases (equal k i e) ∙ s.leased), which x (lesser_cases (m.told i) u x (sym (entry_here m.told i k _ e) ∙ is))))
+          (λ e. let t = l.teller k x (sym (entry_else m.told i k _ e) ∙ is) in
+          (t.0, at_most_trans (lesser m.store.incumbent (Some u)) m.store.incumbent (Some x) (lesser_at_most m.store.incumbent (Some u)) t.1))
+        where
+          which : (x : ℕ) → ((u ≤ x) ⊎ ((before : ℕ) × (m.told i ≡ Some before) × (before ≤ x))) → AtMost (lesser m.store.incumbent (Some u)) (Some x)
+          which x (inl le) = at_most_trans (lesser m.store.incumbent (Some u)) (Some u) (Some x) (lesser_below m.store.incumbent u) le
+          which x (inr h) =
+              at_most_trans (lesser m.store.incumbent (Some u)) m.store.incumbent (Some x) (lesser_at_most m.store.incumbent (Some u))
+              (at_most_trans m.store.incumbent (Some h.0) (Some x) (l.teller i h.0 h.1).1 h.2)
+
+      told : (k x : ℕ) → with_entry m.told i (lesser (m.told i) (Some u)) k ≡ Some x → HasPlan x
+      told k x is = by_cases (k == i)
+          (λ e. which x (lesser_cases (m.told i) u x (sym (entry_here m.told i k _ e) ∙ is)))
+          (λ e. l.told k x (sym (entry_else m.told i k _ e) ∙ is))
+        where
+          which : (x : ℕ) → ((u ≤ x) ⊎ ((before : ℕ) × (m.told i ≡ Some before) × (before ≤ x))) → HasPlan x
+          which x (inl le) = plan_within u x le (worked_plan m i s.grant s.used s.few u s.worked l s.leased s.work s.shown)
+          which x (inr h) = plan_within h.0 x h.2 (l.told i h.0 h.1)
+
+      old : (x y : ℕ) → y ≤ x → HasGoalWithin p.space p.guide m.store y ⊎ IsTold m y
+          → HasGoalWithin p.space p.guide m.store x ⊎ ((j : ℕ) × (h : Grant) × (c : ℕ) × (m.counts.leases j ≡ Some h) × (with_entry m.told i (lesser (m.told i) (Some u)) j ≡ Some c) × (c ≤ x))
+      old x y le (inl g) = inl (goal_within m.store y x le g)
+      old x y le (inr t) = by_cases (t.0 == i)
+          (λ e. let c = told_less (m.told i) u t.2 (ap m.told (sym (equal t.0 i e)) ∙ t.4) in inr (t.0, t.1, c.0, t.3, entry_here m.told i t.0 _ e ∙ c.1, omega (arith, c.2, t.5, le)))
+          (λ e. inr (t.0, t.1, t.2, t.3, entry_else m.told i t.0 _ e ∙ t.4, omega (arith, t.5, le)))
+
+      backed : (x : ℕ) → ((u ≤ x) ⊎ ((y : ℕ) × (m.store.incumbent ≡ Some y) × (y ≤ x)))
+          → HasGoalWithin p.space p.guide m.store x ⊎ ((j : ℕ) × (h : Grant) × (c : ℕ) × (m.counts.leases j ≡ Some h) × (with_entry m.told i (lesser (m.told i) (Some u)) j ≡ Some c) × (c ≤ x))
+      backed x (inr y) = old x y.0 y.2 (l.backed y.0 y.1)
+      backed x (inl le) = let c = told_now (m.told i) u in inr (i, s.grant, c.0, s.leased, entry_here m.told i i _ (equal_self i) ∙ c.1, omega (arith, c.2, le))
+
+  pub move_keeps : (m n : Machine) (move : Move) → IsLawful p m → Moves p m move n → IsLawful p n
+  move_keeps m n (event_move e) l s = event_keeps_lawful m n e l s
+  move_keeps m n (tell_move i u) l s = tell_keeps_lawful m n i u l s
+
+  pub run_keeps : (moves : List Move) (m n : Machine) → IsLawful p m → Runs p m moves n → IsLawful p n
+  run_keeps [] m n l r = subst (IsLawful p) (sym r) l
+  run_keeps (move ∷ moves) m n l r = run_keeps moves r.0 n (move_keeps m r.0 move l r.1) r.2
+
+  pub opening_keeps : p.reopenings ≡ 0 → IsLawful p (opening_machine p)
+  opening_keeps first = record {
+    counts = opening_lawful p.blocks p.settings 0 (omega arith);
+    reached = record { first_weight = weight_of p.settings; is_weight = is_setup.weight; works = []; comes = refl; spent = refl; broken = omega arith; reopened = sym first; between = tt };
+    weight = refl;
+    given = λ i h (is : ◌≡◌ {A = Option Grant} None (Some h)). cc;
+    backed = λ u (is : ◌≡◌ {A = Option ℕ} None (Some u)). cc;
+    teller = λ i u (is : ◌≡◌ {A = Option ℕ} None (Some u)). cc;
+    told = λ i u (is : ◌≡◌ {A = Option ℕ} None (Some u)). cc;
+    quiet = λ (e : ◌≡◌ {A = Option End} None (Some Quiet)). cc;
+    budget = λ (e : ◌≡◌ {A = Option End} None (Some Budget)). cc;
+    few_broken = let few = out_small p.settings.workers (λ i. None) in omega (arith, few);
+    broken_ends = inl refl;
+  }
+
+pub opening_is_lawful : OpeningIsLawful
+opening_is_lawful setup greatest_cost is first = opening_keeps setup greatest_cost is first
+
+pub moves_keep_lawful : MovesKeepLawful
+moves_keep_lawful setup greatest_cost move old new is l moves = move_keeps setup greatest_cost is old new move l moves
+
+pub runs_are_lawful : RunsAreLawful
+runs_are_lawful setup greatest_cost moves start machine is lawful runs = run_keeps setup greatest_cost is moves start machine lawful runs

@@ -1,0 +1,5 @@
+use Rattle.pb_machine.proofs.Counters as law
+use Rattle.pb_machine.proofs.journal_laws.counters_begin_at_none.Goals as goal
+
+pub returns : goal.returns
+returns c = law.counters_begin_at_none

@@ -1,0 +1,5 @@
+use Rattle.pb_machine.proofs.MomentLaws as law
+use Rattle.pb_machine.proofs.laws.incumbents_are_plans.Goals as goal
+
+pub returns : goal.returns
+returns c = law.incumbents_are_plans

@@ -1,0 +1,16 @@
+pub mod Tables
+pub mod Blocks
+pub mod Settings
+pub mod Counts
+pub mod Counters
+pub mod Legality
+pub mod History
+pub mod Views
+pub mod Choice
+pub mod Machine
+pub mod Turns
+pub mod Lawful
+pub mod Whole
+pub mod Worked
+pub mod JournalLaws
+pub mod Laws

@@ -1,0 +1,167 @@
+-- The lease machine with its rows. The machine has one whole store. A lease works on a copy of the rows of its scope, and the whole
+-- store takes them when the lease is renewed or released; so the rows at home are those of the blocks outside leased scopes.
+use Rattle.std.specs.Prelude.{◌≡◌, ℕ, ◌+◌, ◌≤◌, true, false, IsTrue, List, [], ◌∷◌, Option, Some, None}
+use Rattle.std.specs.List.{AllByRecursion}
+use Rattle.pb_model.specs.Space.{Space, IsProper}
+use Rattle.pb_model.specs.Weight.{IsWeight}
+use Rattle.pb_model.specs.Guide.{Guide}
+use Rattle.pb_model.specs.Store.{Store, HasGoalWithin, HasOpened, IsQuiet, lesser, AtMost}
+use Rattle.pb_model.specs.Work.{Work, expand, break_off, cut, take_goal, lower, reopen, Comes, expansions, broken_expansions, opening_store}
+use Rattle.pb_model.specs.Local.{restriction, merged_store}
+use Rattle.pb_machine.specs.declared.event.End.TheVariants.{Quiet, Budget, Memory}
+use Rattle.pb_machine.specs.declared.event.Event.{Event}
+use Rattle.pb_machine.specs.declared.event.Event.TheVariants.{Lease, Renew, Hot, Cold, Release, Off, Ended}
+use Rattle.pb_machine.specs.declared.event.Grant.{Grant}
+use Rattle.pb_machine.specs.declared.settings.Settings.{Settings}
+use Rattle.pb_machine.specs.Tables.{with_entry}
+use Rattle.pb_machine.specs.Blocks.{Blocks, AreBlocks, interferes}
+use Rattle.pb_machine.specs.Settings.{weight_of}
+use Rattle.pb_machine.specs.Counts.{Counts, opening_counts, counts_after}
+use Rattle.pb_machine.specs.Legality.{refusal}
+use Rattle.pb_machine.specs.Choice.{IsBetter}
+
+-- what is searched, and with what
+pub record Setup : Type 0 where
+  pub space : Space
+  pub guide : Guide
+  pub blocks : Blocks
+  pub settings : Settings
+  pub reopenings : ℕ  -- how often the search was opened again with another weight
+
+pub record IsSetup (setup : Setup) (greatest_cost : ℕ) : Type 0 where
+  pub space : IsProper setup.space greatest_cost
+  pub blocks : AreBlocks setup.space setup.guide setup.blocks
+  pub weight : IsWeight (weight_of setup.settings)
+
+pub record Machine : Type 0 where
+  pub counts : Counts
+  pub store : Store
+  pub given : ℕ → Option ℕ  -- by worker: the incumbent that its lease was given, or last renewed with
+  pub told : ℕ → Option ℕ  -- by worker: the least cost that it has told since then, and not yet shown by a goal's row
+  pub broken : ℕ  -- how often a lease was released with want of memory
+
+abbrev pub opening_machine : Setup → Machine
+opening_machine setup =
+    record {
+      counts = opening_counts setup.settings 0;
+      store = opening_store setup.space setup.guide (weight_of setup.settings);
+      given = λ worker. None;
+      told = λ worker. None;
+      broken = 0;
+    }
+
+-- ---- the work of a lease
+
+-- The work is on a row of the block, or it lowers the lease's incumbent to a cost that is not below `least`, as where the worker
+-- reads an incumbent that was that low. It is no reopening.
+abbrev pub IsOn : Guide → (block : ℕ) → (least : Option ℕ) → Work → Type 0
+IsOn guide block least (expand own) = guide.home own ≡ block
+IsOn guide block least (break_off own offers) = guide.home own ≡ block
+IsOn guide block least (cut own) = guide.home own ≡ block
+IsOn guide block least (take_goal own) = guide.home own ≡ block
+IsOn guide block least (lower cost) = AtMost least (Some cost)
+IsOn guide block least (reopen weight) = ⊥
+
+-- what a lease of the block is given, with this incumbent: the rows of the block's scope
+abbrev pub lent_store : Setup → (block : ℕ) → Store → (incumbent : Option ℕ) → Store
+lent_store setup block store incumbent = restriction (setup.blocks.scope block) store incumbent
+
+-- The lease's store comes from the one that it was given by work on its block: by exactly `used` expansions, at most this many broken
+-- ones, and any number of cuts, of goals and of incumbents read that are not below `least`.
+pub record IsWorked (space : Space) (guide : Guide) (block used most_broken : ℕ) (least : Option ℕ) (given worked : Store) : Type 0 where
+  pub works : List Work
+  pub on : AllByRecursion (IsOn guide block least) works
+  pub comes : Comes space guide works given worked
+  pub used_is : expansions works ≡ used
+  pub few_broken : broken_expansions works ≤ most_broken
+
+-- This is what the worker's lease can have made of the rows that it was given or last renewed with: no incumbent that it read was lower
+-- than that of the whole store is now.
+abbrev pub HasWorked : Setup → Machine → (worker : ℕ) → Grant → (used most_broken : ℕ) → (worked : Store) → Type 0
+HasWorked setup machine worker grant used most_broken worked =
+    IsWorked setup.space setup.guide grant.block used most_broken machine.store.incumbent (lent_store setup grant.block machine.store (machine.given worker)) worked
+
+-- The worker's lease came back, and the whole store took its rows and the lesser incumbent. What the worker told is shown by a
+-- goal's row among the rows that came back.
+pub record CameBack (setup : Setup) (machine : Machine) (worker used most_broken : ℕ) (new : Store) : Type 0 where
+  pub grant : Grant
+  pub worked : Store
+  pub leased : machine.counts.leases worker ≡ Some grant
+  pub work : HasWorked setup machine worker grant used most_broken worked
+  pub back : new ≡ merged_store (setup.blocks.scope grant.block) worked machine.store
+  pub shown : (cost : ℕ) → machine.told worker ≡ Some cost → HasGoalWithin setup.space setup.guide worked cost
+
+-- ---- events
+
+-- only the counts change
+abbrev pub KeepsRows : (old new : Machine) → Type 0
+KeepsRows old new = (new.store ≡ old.store) × (new.given ≡ old.given) × (new.told ≡ old.told) × (new.broken ≡ old.broken)
+
+-- The worker's lease is given an incumbent that is not below the whole store's: that one, or one that was known before it fell.
+abbrev pub GivesIncumbent : (old new : Machine) → (worker : ℕ) → Type 0
+GivesIncumbent old new worker = (incumbent : Option ℕ) × AtMost new.store.incumbent incumbent
+    × (new.given ≡ with_entry old.given worker incumbent)
+
+-- what an event does to the rows, and which rows it needs
+abbrev pub RowPart : Setup → (old : Machine) → Event → (new : Machine) → Type 0
+RowPart setup old (Lease worker block quota) new =
+    HasOpened (old.store.rows block) × (new.store ≡ old.store) × GivesIncumbent old new worker
+    × (new.told ≡ with_entry old.told worker None) × (new.broken ≡ old.broken)
+RowPart setup old (Renew worker used quota) new =
+    CameBack setup old worker used 0 new.store × GivesIncumbent old new worker × (new.told ≡ with_entry old.told worker None)
+    × (new.broken ≡ old.broken)
+RowPart setup old (Hot worker block) new =
+    ((other : ℕ) → IsTrue (interferes setup.blocks block other) → IsTrue (old.counts.hot other) → IsBetter old.store other block → ⊥)
+    × KeepsRows old new
+RowPart setup old (Cold worker block) new = KeepsRows old new
+RowPart setup old (Release worker used false) new =
+    CameBack setup old worker used 0 new.store × (new.given ≡ old.given) × (new.told ≡ with_entry old.told worker None)
+    × (new.broken ≡ old.broken)
+RowPart setup old (Release worker used true) new =
+    CameBack setup old worker used 1 new.store × (new.given ≡ old.given) × (new.told ≡ with_entry old.told worker None)
+    × (new.broken ≡ old.broken + 1)
+RowPart setup old (Off worker memory) new = KeepsRows old new
+RowPart setup old (Ended Quiet) new = IsQuiet old.store × KeepsRows old new
+RowPart setup old (Ended Budget) new = ((block : ℕ) × HasOpened (old.store.rows block)) × KeepsRows old new
+RowPart setup old (Ended Memory) new = KeepsRows old new
+
+-- an event that may come, with its counts and its rows
+pub record Happens (setup : Setup) (old : Machine) (event : Event) (new : Machine) : Type 0 where
+  pub may : refusal setup.blocks setup.settings old.counts event ≡ None
+  pub counts : new.counts ≡ counts_after setup.blocks setup.settings old.counts event
+  pub rows : RowPart setup old event new
+
+-- A worker that has a lease tells a cost, and the incumbent is lowered to it. The rows of the lease, as it has worked on them so
+-- far, have a goal's row that costs no more. No journal has this.
+pub record Tells (setup : Setup) (old : Machine) (worker cost : ℕ) (new : Machine) : Type 0 where
+  pub grant : Grant
+  pub leased : old.counts.leases worker ≡ Some grant
+  pub used : ℕ
+  pub few : ℕ  -- at most this many expansions were broken off
+  pub worked : Store
+  pub work : HasWorked setup old worker grant used few worked
+  pub shown : HasGoalWithin setup.space setup.guide worked cost
+  pub counts : new.counts ≡ old.counts
+  pub store : new.store ≡ record { rows = old.store.rows; incumbent = lesser old.store.incumbent (Some cost); weight = old.store.weight }
+  pub given : new.given ≡ old.given
+  pub told : new.told ≡ with_entry old.told worker (lesser (old.told worker) (Some cost))
+  pub broken : new.broken ≡ old.broken
+
+pub data Move : Type 0 where
+  event_move : Event → Move
+  tell_move : (worker cost : ℕ) → Move
+
+abbrev pub Moves : Setup → (old : Machine) → Move → (new : Machine) → Type 0
+Moves setup old (event_move event) new = Happens setup old event new
+Moves setup old (tell_move worker cost) new = Tells setup old worker cost new
+
+-- these moves, one after another
+abbrev pub Runs : Setup → (old : Machine) → List Move → (new : Machine) → Type 0
+Runs setup old [] new = new ≡ old
+Runs setup old (move ∷ moves) new = (between : Machine) × Moves setup old move between × Runs setup between moves new
+
+-- the events among the moves
+abbrev pub journal_of : List Move → List Event
+journal_of [] = []
+journal_of (event_move event ∷ moves) = event ∷ journal_of moves
+journal_of (tell_move worker cost ∷ moves) = journal_of moves

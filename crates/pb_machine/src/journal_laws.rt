@@ -1,0 +1,199 @@
+ghost use Rattle.pb_machine.specs.JournalLaws.{HistoriesAreLawful, HistoriesGrow, BeginningsAreHistories, SigningOffIsTold, FinishedWorkersSignOff, RefusalsAreFirst, RefusedJournalsFail, NoneOutNoneHot, InterferenceIsMutual, BusyIsCounted, HotIsCounted, CountersFit, EventsChangeBusy, EventsChangeHot, MarksChangeHot, FirstChoicesAreUnique, RivalsAreUnique, ChosenLeasesAreLegal, ChosenRenewalsAreLegal, FirstViewsAreTrue, HoldingKeepsViews, SplittingKeepsViews, MeetingKeepsViews, LastViewsTellAll, WorkedJournalsAreLegal, WorkedJournalsAreRefused, LeasesAreOfWorkers, ReleasesAreLegal, MarksAreLegal, SignOffsAreLegal, EndsAreLegal, MemoryEndsAreReported, SignedOffIsFinished, LastViewsSignOff, CountersBeginAtNone, LeasedAreNeverHot, SpentIsUsed, ChoicesOutliveReleases, ReleasesCoolNear};
+
+/// A legal history leads to counts that are lawful.
+pub fn histories_are_lawful()
+    ensures { HistoriesAreLawful }
+{}
+
+/// A legal history stays one with an event that is not refused.
+pub fn histories_grow()
+    ensures { HistoriesGrow }
+{}
+
+/// A longer legal history begins with a legal one.
+pub fn beginnings_are_histories()
+    ensures { BeginningsAreHistories }
+{}
+
+/// What is spent after a legal history is what was before, and the used numbers of its events.
+pub fn spent_is_used()
+    ensures { SpentIsUsed }
+{}
+
+/// A worker has signed off exactly where one of its own events says so.
+pub fn signing_off_is_told()
+    ensures { SigningOffIsTold }
+{}
+
+/// In a finished history every worker's own events have its signing off.
+pub fn finished_workers_sign_off()
+    ensures { FinishedWorkersSignOff }
+{}
+
+/// A journal is judged event by event: the reason that is given is that of the first event that may not come.
+pub fn refusals_are_first()
+    ensures { RefusalsAreFirst }
+{}
+
+/// A journal with an event that may not come is no legal history.
+pub fn refused_journals_fail()
+    ensures { RefusedJournalsFail }
+{}
+
+/// With no lease out no block is hot.
+pub fn none_out_none_hot()
+    ensures { NoneOutNoneHot }
+{}
+
+/// A leased block is never hot.
+pub fn leased_are_never_hot()
+    ensures { LeasedAreNeverHot }
+{}
+
+/// A block is in the interference of those that are in its own.
+pub fn interference_is_mutual()
+    ensures { InterferenceIsMutual }
+{}
+
+/// A block is busy exactly where the number of leased blocks in its interference is not 0.
+pub fn busy_is_counted()
+    ensures { BusyIsCounted }
+{}
+
+/// A hot block interferes exactly where the number of those in the interference is not 0.
+pub fn hot_is_counted()
+    ensures { HotIsCounted }
+{}
+
+/// The numbers of leased and of hot blocks in an interference are at most those of the workers and of the blocks.
+pub fn counters_fit()
+    ensures { CountersFit }
+{}
+
+/// With no lease out the number of leased blocks in an interference is 0, and with no hot block that of the hot ones.
+pub fn counters_begin_at_none()
+    ensures { CountersBeginAtNone }
+{}
+
+/// How each event changes the number of leased blocks in an interference.
+pub fn events_change_busy()
+    ensures { EventsChangeBusy }
+{}
+
+/// How each event changes the number of hot blocks in an interference.
+pub fn events_change_hot()
+    ensures { EventsChangeHot }
+{}
+
+/// One mark changes the numbers of hot blocks in the interference of its block by one.
+pub fn marks_change_hot()
+    ensures { MarksChangeHot }
+{}
+
+/// A mark that a release takes away is in the interference of the released block.
+pub fn releases_cool_near()
+    ensures { ReleasesCoolNear }
+{}
+
+/// There is one first choice at most.
+pub fn first_choices_are_unique()
+    ensures { FirstChoicesAreUnique }
+{}
+
+/// There is one rival at most.
+pub fn rivals_are_unique()
+    ensures { RivalsAreUnique }
+{}
+
+/// A block that may be leased may be leased with a lot, or with all that is left.
+pub fn chosen_leases_are_legal()
+    ensures { ChosenLeasesAreLegal }
+{}
+
+/// A lease may be renewed where, with it home, its block may be leased.
+pub fn chosen_renewals_are_legal()
+    ensures { ChosenRenewalsAreLegal }
+{}
+
+/// A block that may be leased with a lease home may be leased after that lease's release.
+pub fn choices_outlive_releases()
+    ensures { ChoicesOutliveReleases }
+{}
+
+/// The view of the first pass is true of a journal without events.
+pub fn first_views_are_true()
+    ensures { FirstViewsAreTrue }
+{}
+
+/// All views stay true where a pass adds events of its own worker to the journal.
+pub fn holding_keeps_views()
+    ensures { HoldingKeepsViews }
+{}
+
+/// All views stay true where a pass is split from the first one.
+pub fn splitting_keeps_views()
+    ensures { SplittingKeepsViews }
+{}
+
+/// All views stay true where a pass takes in another.
+pub fn meeting_keeps_views()
+    ensures { MeetingKeepsViews }
+{}
+
+/// A view has all events of its worker, and the last one those of every worker.
+pub fn last_views_tell_all()
+    ensures { LastViewsTellAll }
+{}
+
+/// The worked journal of a search over nine cells is a finished legal history.
+pub fn worked_journals_are_legal()
+    ensures { WorkedJournalsAreLegal }
+{}
+
+/// Journals that differ from the worked one in one place are refused there.
+pub fn worked_journals_are_refused()
+    ensures { WorkedJournalsAreRefused }
+{}
+
+/// Who has a lease is a worker that hasn't signed off.
+pub fn leases_are_of_workers()
+    ensures { LeasesAreOfWorkers }
+{}
+
+/// Whoever has a lease may bring it back, with no more expansions than its quota.
+pub fn releases_are_legal()
+    ensures { ReleasesAreLegal }
+{}
+
+/// While no end stands, whoever has a lease may mark a busy block hot that isn't so yet, unless blocks are never marked, and take a
+/// mark away.
+pub fn marks_are_legal()
+    ensures { MarksAreLegal }
+{}
+
+/// A worker without a lease may sign off at an end, or with a report of want of memory.
+pub fn sign_offs_are_legal()
+    ensures { SignOffsAreLegal }
+{}
+
+/// With no lease out the search may end quietly, and with nothing left by its budget; after a report of want of memory it may end by
+/// that.
+pub fn ends_are_legal()
+    ensures { EndsAreLegal }
+{}
+
+/// In a legal history the event directly before an end for want of memory reports it, and a report that waits for its end is the last
+/// event.
+pub fn memory_ends_are_reported()
+    ensures { MemoryEndsAreReported }
+{}
+
+/// A legal history in which every worker has signed off, and where no report waits for its end, is finished.
+pub fn signed_off_is_finished()
+    ensures { SignedOffIsFinished }
+{}
+
+/// Where one pass is left, as many were made as there are workers, and all that its view knows of have signed off, each worker has.
+pub fn last_views_sign_off()
+    ensures { LastViewsSignOff }
+{}

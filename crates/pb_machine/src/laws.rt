@@ -1,0 +1,162 @@
+ghost use Rattle.pb_machine.specs.Laws.{OpeningIsLawful, MovesKeepLawful, RunsAreLawful, JournalsAreHistories, LawfulStoresAreSound, IncumbentsArePlans, IncumbentsFall, CostsGrowByExpansions, CostsStaySmall, CostsFit, ScopesAreApart, NoneOutMayLease, QuietEndsAreBest, ReopeningIsLawful, LeaseWorkGoesOn, LeaseWorkStands, TurnsCarryOver, OrderedRunsAreRuns, ReturnsLeaveIncumbents, LeasingKeepsWhole, RenewingKeepsWhole, ReleasingKeepsWhole, OthersKeepWhole, AllIsHome, RecordedRowsAreLent, BudgetEndsAreSpent, NoneOutIsShown, ReturnsShowWork, LeaseTurnsGoOn, LeaseCostsStaySmall, LeaseCostsFit, RunsGoOn};
+
+/// The machine is lawful when it opens.
+pub fn opening_is_lawful()
+    ensures { OpeningIsLawful }
+{}
+
+/// Every event and every told cost keeps the machine lawful.
+pub fn moves_keep_lawful()
+    ensures { MovesKeepLawful }
+{}
+
+/// The machine is lawful after any moves from a lawful one.
+pub fn runs_are_lawful()
+    ensures { RunsAreLawful }
+{}
+
+/// The events of a run with settings in range are a legal history, which leads to the machine's counts.
+pub fn journals_are_histories()
+    ensures { JournalsAreHistories }
+{}
+
+/// The whole store of a lawful machine is sound.
+pub fn lawful_stores_are_sound()
+    ensures { LawfulStoresAreSound }
+{}
+
+/// The incumbent, where it is known, is at least the cost of some plan.
+pub fn incumbents_are_plans()
+    ensures { IncumbentsArePlans }
+{}
+
+/// The incumbent never rises.
+pub fn incumbents_fall()
+    ensures { IncumbentsFall }
+{}
+
+/// No g exceeds the greatest cost of an action times the number of expansions so far.
+pub fn costs_grow_by_expansions()
+    ensures { CostsGrowByExpansions }
+{}
+
+/// No g exceeds what the budget and a broken expansion for each worker allow.
+pub fn costs_stay_small()
+    ensures { CostsStaySmall }
+{}
+
+/// No g leaves 61 bits, where the settings are in range and no action costs more than 2^20.
+pub fn costs_fit()
+    ensures { CostsFit }
+{}
+
+/// No g of a lease that keeps to its quota, with one broken expansion at most, exceeds what the budget and a broken one for each worker
+/// allow.
+pub fn lease_costs_stay_small()
+    ensures { LeaseCostsStaySmall }
+{}
+
+/// No g of such a lease leaves 61 bits, where the settings are in range and no action costs more than 2^20.
+pub fn lease_costs_fit()
+    ensures { LeaseCostsFit }
+{}
+
+/// No block is in the scopes of two leases.
+pub fn scopes_are_apart()
+    ensures { ScopesAreApart }
+{}
+
+/// With no lease out and no end, each block that has an Opened row may be leased while something is left of the budget.
+pub fn none_out_may_lease()
+    ensures { NoneOutMayLease }
+{}
+
+/// At a quiet end the incumbent is backed by a plan, and no plan costs less than it divided by the weight; without one there is no plan.
+pub fn quiet_ends_are_best()
+    ensures { QuietEndsAreBest }
+{}
+
+/// A machine at a quiet end is lawful when it is opened again with another weight.
+pub fn reopening_is_lawful()
+    ensures { ReopeningIsLawful }
+{}
+
+/// Work of a lease goes on where it stopped.
+pub fn lease_work_goes_on()
+    ensures { LeaseWorkGoesOn }
+{}
+
+/// Turns of a lease go on where they stopped.
+pub fn lease_turns_go_on()
+    ensures { LeaseTurnsGoOn }
+{}
+
+/// What a lease has done may be done in the whole store as it stands now.
+pub fn lease_work_stands()
+    ensures { LeaseWorkStands }
+{}
+
+/// What a lease did in turns is on the first Opened row of its block in the whole store as well.
+pub fn turns_carry_over()
+    ensures { TurnsCarryOver }
+{}
+
+/// A run in order is a run.
+pub fn ordered_runs_are_runs()
+    ensures { OrderedRunsAreRuns }
+{}
+
+/// Moves go on where others stopped, in order where both are; the events of all together are those of the first and of the later ones.
+pub fn runs_go_on()
+    ensures { RunsGoOn }
+{}
+
+/// A lease that brings back no lower incumbent leaves it as it is.
+pub fn returns_leave_incumbents()
+    ensures { ReturnsLeaveIncumbents }
+{}
+
+/// A lease takes the rows of its scope from home, where none of them stays, and the whole store is the same.
+pub fn leasing_keeps_whole()
+    ensures { LeasingKeepsWhole }
+{}
+
+/// A renewal records the rows that the lease has now, and the whole store takes them.
+pub fn renewing_keeps_whole()
+    ensures { RenewingKeepsWhole }
+{}
+
+/// A release brings the rows that the lease has home, and the whole store takes them.
+pub fn releasing_keeps_whole()
+    ensures { ReleasingKeepsWhole }
+{}
+
+/// What changes no lease and no row leaves each row where it is.
+pub fn others_keep_whole()
+    ensures { OthersKeepWhole }
+{}
+
+/// With no lease out, the rows at home are those of the whole store.
+pub fn all_is_home()
+    ensures { AllIsHome }
+{}
+
+/// What is recorded for a lease is what it was given or last renewed with.
+pub fn recorded_rows_are_lent()
+    ensures { RecordedRowsAreLent }
+{}
+
+/// At the budget's end exactly as many expansions as it allows were made, and an Opened row is left.
+pub fn budget_ends_are_spent()
+    ensures { BudgetEndsAreSpent }
+{}
+
+/// With no lease out the incumbent is shown by a goal's row.
+pub fn none_out_is_shown()
+    ensures { NoneOutIsShown }
+{}
+
+/// A lease that made an expansion never brings back the rows that were there before.
+pub fn returns_show_work()
+    ensures { ReturnsShowWork }
+{}

@@ -1,0 +1,18 @@
+/// What a search is run with.
+#[derive(Clone, Copy, Debug, PartialEq, Eq)]
+pub struct Settings {
+    /// How many workers there are: 1 to 64.
+    pub workers: u32,
+    /// The weight of the search is `num / den` (Pohl, 1970), with 1 <= den <= num <= 1000.
+    pub num: u64,
+    /// See `num`.
+    pub den: u64,
+    /// How many expansions the search may make: 1 to 2^40.
+    pub budget: u64,
+    /// How many expansions a lease may make at most before it is renewed: 1 to 2^20.
+    pub lot: u64,
+    /// How many blocks are wished for: 16 to 4,096.
+    pub wish: u32,
+    /// Whether no block is ever marked hot.
+    pub plain: bool,
+}
