@@ -1,0 +1,39 @@
+//! Laws of the definitions in `pb_trees`: what a list of tokens is read as is what the grammar has, an error is at the
+//! first token that can't go on, and the limit on nested parentheses changes neither. It has no code that runs.
+#![tactic(auto)]
+
+ghost use Rattle.std.specs.Prelude.{◌≡◌, ℕ, List, Ok, Err};
+ghost use Rattle.pb_trees.specs.declared.error.SyntaxError.{SyntaxError};
+ghost use Rattle.pb_trees.specs.declared.token.Token.{Token};
+ghost use Rattle.pb_trees.specs.declared.tree.Domain.{Domain};
+ghost use Rattle.pb_trees.specs.declared.tree.Problem.{Problem};
+ghost use Rattle.pb_trees.specs.Tokens.{TextTokens};
+ghost use Rattle.pb_trees.specs.Reading.{limited, unlimited, domain_at, problem_at};
+ghost use Rattle.pb_trees.specs.Grammar.{IsDomain, IsProblem};
+ghost use Rattle.pb_trees.specs.Places.{IsFault};
+
+/// A law: tokens are read as a domain exactly where the grammar has them as that domain.
+pub fn domain_reading_is_exact()
+    ensures sound { (ts : List Token) (domain : Domain) → domain_at unlimited ts ≡ Ok domain → IsDomain ts domain }
+    ensures complete { (ts : List Token) (domain : Domain) → IsDomain ts domain → domain_at unlimited ts ≡ Ok domain }
+{}
+
+/// A law: tokens are read as a problem exactly where the grammar has them as that problem.
+pub fn problem_reading_is_exact()
+    ensures sound { (ts : List Token) (problem : Problem) → problem_at unlimited ts ≡ Ok problem → IsProblem ts problem }
+    ensures complete { (ts : List Token) (problem : Problem) → IsProblem ts problem → problem_at unlimited ts ≡ Ok problem }
+{}
+
+/// A law: what stands before the token that is refused is the beginning of a form, that token can't follow it, and the
+/// error is the first that fits it.
+pub fn error_is_first()
+    ensures domain { (ts : List Token) (e : SyntaxError) → domain_at unlimited ts ≡ Err e → IsFault Domain IsDomain ts e }
+    ensures problem { (ts : List Token) (e : SyntaxError) → problem_at unlimited ts ≡ Err e → IsFault Problem IsProblem ts e }
+{}
+
+/// A law: in the tokens of a text a `(` that is too deep is refused before the limit on recursion could decide, so what
+/// is read within the limit is what is read without any.
+pub fn limit_never_decides()
+    ensures domain { (text : List ℕ) (ts : List Token) → TextTokens text ts → domain_at unlimited ts ≡ domain_at limited ts }
+    ensures problem { (text : List ℕ) (ts : List Token) → TextTokens text ts → problem_at unlimited ts ≡ problem_at limited ts }
+{}

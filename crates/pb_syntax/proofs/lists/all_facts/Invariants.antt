@@ -1,0 +1,6 @@
+use Rattle.std.proofs.Common.{◌≡◌, ◌-◌, length}
+use Rattle.pb_trees.specs.Reading.{all_of, folds, begins_open, add_fact}
+use Rattle.pb_syntax.proofs.lists.all_facts.Given as goal
+
+abbrev pub invariant-loop : goal.invariant-loop
+invariant-loop l = folds (begins_open) (add_fact) (length l.tokens - l.counter) l.out l.rest ≡ all_of (begins_open) (add_fact) l.fn.out l.tokens

@@ -1,0 +1,24 @@
+use Rattle.std.proofs.Common.{◌∙◌, sym, length}
+use Rattle.std.proofs.lemmas.Result.{err_from_is_err_and}
+use Rattle.pb_trees.specs.Reading.{begins_group, group_step}
+use Rattle.pb_syntax.proofs.Folds.{goes_on, ends, stops, is_done, at_first}
+use Rattle.pb_syntax.proofs.lists.groups.Goals as goal
+
+pub loop-init : goal.loop-init
+loop-init c = at_first (begins_group c.args.kind) (group_step c.args.kind) c.args.out.now c.args.tokens.now
+
+pub returns-then-not-begins_group : goal.returns-then-not-begins_group
+returns-then-not-begins_group c = stops (begins_group c.args.kind) (group_step c.args.kind) _ c.loop.out c.loop.rest.now _ (sym c.begins_group.ensures ∙ c.if-not-begins_group.true) c.loop.invariant
+
+pub returns-in_err-rest : goal.returns-in_err-rest
+returns-in_err-rest c =
+    let p = err_from_is_err_and c.from_residual.result c.from_residual.ensures.1 in
+    rw (p.1, p.2) (ends (begins_group c.args.kind) (group_step c.args.kind) c.in_err-rest.field-0.0 _ c.loop.counter c.loop.out c.loop.rest.now _ c.loop-test.true (sym c.begins_group.ensures ∙ c.if-not-begins_group.false) c.in_err-rest.ensures c.loop.invariant)
+
+pub loop-preserved : goal.loop-preserved
+loop-preserved c =
+    goes_on (begins_group c.args.kind) (group_step c.args.kind) (length c.args.tokens.now) c.loop.counter c.loop.out c.group_step.new.out c.loop.rest.now c.in_ok-rest.rest.now _ c.loop-test.true (sym c.begins_group.ensures ∙ c.if-not-begins_group.false)
+    c.in_ok-rest.ensures c.loop.invariant
+
+pub returns : goal.returns
+returns c = is_done (begins_group c.args.kind) (group_step c.args.kind) (length c.args.tokens.now) c.loop.counter c.loop.out c.loop.rest.now _ c.loop-test.false c.loop.invariant

@@ -1,0 +1,18 @@
+use Rattle.pb_trees.specs.Reading.{unlimited, domain_at}
+use Rattle.pb_trees.specs.Grammar.{IsDomain}
+use Rattle.pb_grammar.proofs.FormsRead.{domain_is, domain_again}
+use Rattle.pb_grammar.proofs.Faults.{domain_fault}
+use Rattle.pb_grammar.proofs.Whole.{found, only, none, first}
+use Rattle.pb_syntax.proofs.reader.read_domain.Goals as goal
+
+pub returns-clause-found : goal.returns-clause-found
+returns-clause-found c = found (domain_at unlimited) IsDomain c.args.text.now c.domain_of.result domain_is c.domain_of.ensures.is
+
+pub returns-clause-only : goal.returns-clause-only
+returns-clause-only c = only (domain_at unlimited) IsDomain c.args.text.now c.domain_of.result domain_again c.domain_of.ensures.only
+
+pub returns-clause-none : goal.returns-clause-none
+returns-clause-none c = none (domain_at unlimited) IsDomain c.args.text.now c.domain_of.result domain_again c.domain_of.ensures.only
+
+pub returns-clause-first : goal.returns-clause-first
+returns-clause-first c = first (domain_at unlimited) IsDomain c.args.text.now c.domain_of.result domain_fault c.domain_of.ensures.is

@@ -1,0 +1,159 @@
+ghost use Rattle.std.specs.Prelude.{◌≡◌, [], codes, drop, is_some, Ok};
+ghost use Rattle.pb_trees.specs.Reading.{Gives, all_of, begins_key, once, params_part, pre_part, effect_part, part_at, or_empty, parts_want, limited, add_action};
+
+use crate::conditions::{cond, effect};
+use crate::lists::{begins_key, list};
+use crate::pieces::{behind, left_out, name, need, place, spells};
+use pb_trees::{
+    Action, ActionParts, Atom, Kind, LeftOut, Listed, Literal, SyntaxError, Token, Typed, Want,
+};
+use std::alloc::Global;
+
+/// How many parentheses may stand inside one another.
+pub const DEEPEST: u32 = 32;
+
+// The keyword stood before.
+#[tactic(auto, unfolding(pb_trees::specs::Reading::once))]
+pub fn once(tokens: &[Token]) -> SyntaxError
+    ensures { result ≡ once tokens.now }
+{
+    SyntaxError::Expected {
+        at: place(tokens),
+        want: Want::Once,
+    }
+}
+
+pub fn or_empty<T: Drop>(alloc: Global, list: Option<Listed<T>>) -> Listed<T>
+    ensures { result ≡ or_empty list }
+{
+    match list {
+        None => Listed::new(alloc),
+        Some(list) => list,
+    }
+}
+
+#[tactic(auto, unfolding(pb_trees::specs::Reading::params_part))]
+fn params_part<'a>(
+    alloc: Global,
+    out: &mut ActionParts,
+    tokens: &'a [Token],
+) -> Result<&'a [Token], SyntaxError>
+    ensures { Gives (λ rest. (out.new, rest.now)) result (params_part out.old tokens.now) }
+{
+    if out.params.is_some() {
+        return Err(once(tokens));
+    }
+    let inside = need(Kind::Open, Want::Paren, behind(tokens))?;
+    let (params, rest) = list(alloc, Kind::Variable, Want::Variable, inside)?;
+    out.params = Some(params);
+    Ok(rest)
+}
+
+#[tactic(auto, unfolding(pb_trees::specs::Reading::pre_part, pb_trees::specs::Reading::limited))]
+fn pre_part<'a>(
+    alloc: Global,
+    out: &mut ActionParts,
+    tokens: &'a [Token],
+) -> Result<&'a [Token], SyntaxError>
+    ensures { Gives (λ rest. (out.new, rest.now)) result (pre_part limited out.old tokens.now) }
+{
+    if out.pre.is_some() {
+        return Err(once(tokens));
+    }
+    let mut pre = Listed::new(alloc);
+    let rest = cond(alloc, true, DEEPEST, &mut pre, behind(tokens))?;
+    out.pre = Some(pre);
+    Ok(rest)
+}
+
+#[tactic(auto, unfolding(pb_trees::specs::Reading::effect_part, pb_trees::specs::Reading::limited))]
+fn effect_part<'a>(
+    alloc: Global,
+    out: &mut ActionParts,
+    tokens: &'a [Token],
+) -> Result<&'a [Token], SyntaxError>
+    ensures { Gives (λ rest. (out.new, rest.now)) result (effect_part limited out.old tokens.now) }
+{
+    if out.effect.is_some() {
+        return Err(once(tokens));
+    }
+    let mut literals = Listed::new(alloc);
+    let rest = effect(alloc, DEEPEST, &mut literals, behind(tokens))?;
+    out.effect = Some(literals);
+    Ok(rest)
+}
+
+// A part of an action, at its keyword.
+#[tactic(auto, unfolding(pb_trees::specs::Reading::part_at))]
+fn part<'a>(
+    alloc: Global,
+    out: &mut ActionParts,
+    tokens: &'a [Token],
+) -> Result<&'a [Token], SyntaxError>
+    ensures { Gives (λ rest. (out.new, rest.now)) result (part_at limited out.old tokens.now) }
+{
+    if spells(Kind::Key, b":parameters", tokens) {
+        params_part(alloc, out, tokens)
+    } else if spells(Kind::Key, b":precondition", tokens) {
+        pre_part(alloc, out, tokens)
+    } else if spells(Kind::Key, b":effect", tokens) {
+        effect_part(alloc, out, tokens)
+    } else {
+        Err(left_out(LeftOut::Part, tokens))
+    }
+}
+
+fn parts<'a>(
+    alloc: Global,
+    out: &mut ActionParts,
+    tokens: &'a [Token],
+) -> Result<&'a [Token], SyntaxError>
+    ensures { Gives (λ rest. (out.new, rest.now)) result (all_of begins_key (part_at limited) out.old tokens.now) }
+{
+    let mut rest = tokens;
+    for _ in 0..tokens.len() {
+        if !begins_key(rest) {
+            return Ok(rest);
+        }
+        rest = part(alloc, out, rest)?;
+    }
+    Ok(rest)
+}
+
+// What is wanted behind these parts.
+#[tactic(auto, unfolding(pb_trees::specs::Reading::parts_want))]
+fn parts_want(parts: &ActionParts) -> Want
+    ensures { result ≡ parts_want parts.now }
+{
+    if parts.params.is_some() && parts.pre.is_some() && parts.effect.is_some() {
+        Want::Close
+    } else {
+        Want::Part
+    }
+}
+
+// An action, behind its keyword.
+#[tactic(auto, unfolding(pb_trees::specs::Reading::add_action))]
+pub fn add_action<'a>(
+    alloc: Global,
+    out: &mut Listed<Action>,
+    tokens: &'a [Token],
+) -> Result<&'a [Token], SyntaxError>
+    ensures { Gives (λ rest. (out.new, rest.now)) result (add_action limited out.old tokens.now) }
+{
+    let (name, rest) = name(alloc, Kind::Word, Want::Name, tokens)?;
+    let mut all = ActionParts {
+        params: None,
+        pre: None,
+        effect: None,
+    };
+    let rest = parts(alloc, &mut all, rest)?;
+    let rest = need(Kind::Close, parts_want(&all), rest)?;
+    out.push(Action {
+        name,
+        params: or_empty(alloc, all.params),
+        pre: or_empty(alloc, all.pre),
+        effect: or_empty(alloc, all.effect),
+    })?;
+    Ok(rest)
+}

@@ -1,0 +1,174 @@
+ghost use Rattle.std.specs.Prelude.{◌≡◌, codes, drop, Ok};
+ghost use Rattle.pb_trees.specs.Reading.{Gives, all_of, begins_open, add_atom, cond_at, conds_at, add_literal, negative_at, effects_at, effect_at};
+
+use crate::atoms::atom;
+use crate::pieces::{begins, behind, fault, need, spells};
+use pb_trees::{Atom, Kind, Listed, Literal, SyntaxError, Token, Want};
+use std::alloc::Global;
+
+// Adds an atom, behind its `(`.
+#[tactic(auto, unfolding(pb_trees::specs::Reading::add_atom))]
+pub fn add_atom<'a>(
+    alloc: Global,
+    variables: bool,
+    out: &mut Listed<Atom>,
+    tokens: &'a [Token],
+) -> Result<&'a [Token], SyntaxError>
+    ensures { Gives (λ rest. (out.new, rest.now)) result (add_atom variables out.old tokens.now) }
+{
+    let (atom, rest) = atom(alloc, variables, tokens)?;
+    out.push(atom)?;
+    Ok(rest)
+}
+
+// Adds the atoms of a condition within so many parentheses.
+#[cycle(cond)]
+#[tactic(auto, unfolding(pb_trees::specs::Reading::cond_at))]
+pub fn cond<'a>(
+    alloc: Global,
+    variables: bool,
+    room: u32,
+    out: &mut Listed<Atom>,
+    tokens: &'a [Token],
+) -> Result<&'a [Token], SyntaxError>
+    ensures { Gives (λ rest. (out.new, rest.now)) result (cond_at variables room out.old tokens.now) }
+{
+    if room == 0 {
+        return Err(fault(Want::Paren, tokens));
+    }
+    let inside = need(Kind::Open, Want::Paren, tokens)?;
+    if begins(Kind::Close, inside) {
+        Ok(behind(inside))
+    } else if spells(Kind::Word, b"and", inside) {
+        conds(alloc, variables, room - 1, out, behind(inside))
+    } else {
+        add_atom(alloc, variables, out, inside)
+    }
+}
+
+// Adds the atoms of as many conditions as follow.
+#[cycle(cond)]
+fn all_conds<'a>(
+    alloc: Global,
+    variables: bool,
+    room: u32,
+    out: &mut Listed<Atom>,
+    tokens: &'a [Token],
+) -> Result<&'a [Token], SyntaxError>
+    ensures { Gives (λ rest. (out.new, rest.now)) result (all_of begins_open (cond_at variables room) out.old tokens.now) }
+{
+    let mut rest = tokens;
+    for _ in 0..tokens.len() {
+        if !begins(Kind::Open, rest) {
+            return Ok(rest);
+        }
+        rest = cond(alloc, variables, room, out, rest)?;
+    }
+    Ok(rest)
+}
+
+// Adds the atoms of the conditions behind `( and`.
+#[cycle(cond)]
+#[tactic(auto, unfolding(pb_trees::specs::Reading::conds_at))]
+fn conds<'a>(
+    alloc: Global,
+    variables: bool,
+    room: u32,
+    out: &mut Listed<Atom>,
+    tokens: &'a [Token],
+) -> Result<&'a [Token], SyntaxError>
+    ensures { Gives (λ rest. (out.new, rest.now)) result (conds_at variables (cond_at variables room) out.old tokens.now) }
+{
+    let rest = all_conds(alloc, variables, room, out, tokens)?;
+    need(Kind::Close, Want::Paren, rest)
+}
+
+// Adds an effect's atom, behind its `(`.
+#[tactic(auto, unfolding(pb_trees::specs::Reading::add_literal))]
+fn add_literal<'a>(
+    alloc: Global,
+    negated: bool,
+    out: &mut Listed<Literal>,
+    tokens: &'a [Token],
+) -> Result<&'a [Token], SyntaxError>
+    ensures { Gives (λ rest. (out.new, rest.now)) result (add_literal negated out.old tokens.now) }
+{
+    let (atom, rest) = atom(alloc, true, tokens)?;
+    out.push(Literal { atom, negated })?;
+    Ok(rest)
+}
+
+// Adds the atom behind `( not`.
+#[tactic(auto, unfolding(pb_trees::specs::Reading::negative_at))]
+fn negative<'a>(
+    alloc: Global,
+    out: &mut Listed<Literal>,
+    tokens: &'a [Token],
+) -> Result<&'a [Token], SyntaxError>
+    ensures { Gives (λ rest. (out.new, rest.now)) result (negative_at out.old tokens.now) }
+{
+    let inside = need(Kind::Open, Want::Paren, tokens)?;
+    let rest = add_literal(alloc, true, out, inside)?;
+    need(Kind::Close, Want::Close, rest)
+}
+
+// Adds the atoms of an effect within so many parentheses.
+#[cycle(effect)]
+#[tactic(auto, unfolding(pb_trees::specs::Reading::effect_at))]
+pub fn effect<'a>(
+    alloc: Global,
+    room: u32,
+    out: &mut Listed<Literal>,
+    tokens: &'a [Token],
+) -> Result<&'a [Token], SyntaxError>
+    ensures { Gives (λ rest. (out.new, rest.now)) result (effect_at room out.old tokens.now) }
+{
+    if room == 0 {
+        return Err(fault(Want::Paren, tokens));
+    }
+    let inside = need(Kind::Open, Want::Paren, tokens)?;
+    if begins(Kind::Close, inside) {
+        Ok(behind(inside))
+    } else if spells(Kind::Word, b"and", inside) {
+        effects(alloc, room - 1, out, behind(inside))
+    } else if spells(Kind::Word, b"not", inside) {
+        negative(alloc, out, behind(inside))
+    } else {
+        add_literal(alloc, false, out, inside)
+    }
+}
+
+// Adds the atoms of as many effects as follow.
+#[cycle(effect)]
+fn all_effects<'a>(
+    alloc: Global,
+    room: u32,
+    out: &mut Listed<Literal>,
+    tokens: &'a [Token],
+) -> Result<&'a [Token], SyntaxError>
+    ensures { Gives (λ rest. (out.new, rest.now)) result (all_of begins_open (effect_at room) out.old tokens.now) }
+{
+    let mut rest = tokens;
+    for _ in 0..tokens.len() {
+        if !begins(Kind::Open, rest) {
+            return Ok(rest);
+        }
+        rest = effect(alloc, room, out, rest)?;
+    }
+    Ok(rest)
+}
+
+// Adds the atoms of the effects behind `( and`.
+#[cycle(effect)]
+#[tactic(auto, unfolding(pb_trees::specs::Reading::effects_at))]
+fn effects<'a>(
+    alloc: Global,
+    room: u32,
+    out: &mut Listed<Literal>,
+    tokens: &'a [Token],
+) -> Result<&'a [Token], SyntaxError>
+    ensures { Gives (λ rest. (out.new, rest.now)) result (effects_at (effect_at room) out.old tokens.now) }
+{
+    let rest = all_effects(alloc, room, out, tokens)?;
+    need(Kind::Close, Want::Paren, rest)
+}

@@ -1,0 +1,210 @@
+ghost use Rattle.std.specs.Prelude.{◌≡◌, [], codes, drop, is_some, Ok};
+ghost use Rattle.pb_trees.specs.Reading.{Gives, all_of, begins_open, requirements_section, types_section, constants_section, predicates_section, action_section, no_section, domain_key, domain_section, title_at, end_at, limited, domain_at};
+
+use crate::action::{add_action, once, or_empty};
+use crate::lists::{keys, list, predicates};
+use crate::pieces::{begins, behind, fault, left_out, name, need, need_word, place, spells};
+use pb_trees::{
+    Action, Domain, DomainParts, Kind, LeftOut, Listed, Name, Predicate, SyntaxError, Token, Typed,
+    Want,
+};
+use std::alloc::Global;
+
+#[tactic(auto, unfolding(pb_trees::specs::Reading::requirements_section))]
+fn requirements_section<'a>(
+    alloc: Global,
+    out: &mut DomainParts,
+    tokens: &'a [Token],
+) -> Result<&'a [Token], SyntaxError>
+    ensures { Gives (λ rest. (out.new, rest.now)) result (requirements_section out.old tokens.now) }
+{
+    if out.requirements {
+        return Err(once(tokens));
+    }
+    let rest = keys(alloc, behind(tokens))?;
+    out.requirements = true;
+    Ok(rest)
+}
+
+#[tactic(auto, unfolding(pb_trees::specs::Reading::types_section))]
+fn types_section<'a>(
+    alloc: Global,
+    out: &mut DomainParts,
+    tokens: &'a [Token],
+) -> Result<&'a [Token], SyntaxError>
+    ensures { Gives (λ rest. (out.new, rest.now)) result (types_section out.old tokens.now) }
+{
+    if out.types.is_some() {
+        return Err(once(tokens));
+    }
+    let (types, rest) = list(alloc, Kind::Word, Want::Name, behind(tokens))?;
+    out.types = Some(types);
+    Ok(rest)
+}
+
+#[tactic(auto, unfolding(pb_trees::specs::Reading::constants_section))]
+fn constants_section<'a>(
+    alloc: Global,
+    out: &mut DomainParts,
+    tokens: &'a [Token],
+) -> Result<&'a [Token], SyntaxError>
+    ensures { Gives (λ rest. (out.new, rest.now)) result (constants_section out.old tokens.now) }
+{
+    if out.constants.is_some() {
+        return Err(once(tokens));
+    }
+    let (constants, rest) = list(alloc, Kind::Word, Want::Name, behind(tokens))?;
+    out.constants = Some(constants);
+    Ok(rest)
+}
+
+#[tactic(auto, unfolding(pb_trees::specs::Reading::predicates_section))]
+fn predicates_section<'a>(
+    alloc: Global,
+    out: &mut DomainParts,
+    tokens: &'a [Token],
+) -> Result<&'a [Token], SyntaxError>
+    ensures { Gives (λ rest. (out.new, rest.now)) result (predicates_section out.old tokens.now) }
+{
+    if out.predicates.is_some() {
+        return Err(once(tokens));
+    }
+    let (predicates, rest) = predicates(alloc, behind(tokens))?;
+    out.predicates = Some(predicates);
+    Ok(rest)
+}
+
+#[tactic(auto, unfolding(pb_trees::specs::Reading::action_section))]
+fn action_section<'a>(
+    alloc: Global,
+    out: &mut DomainParts,
+    tokens: &'a [Token],
+) -> Result<&'a [Token], SyntaxError>
+    ensures { Gives (λ rest. (out.new, rest.now)) result (action_section limited out.old tokens.now) }
+{
+    let rest = add_action(alloc, &mut out.actions, behind(tokens))?;
+    Ok(rest)
+}
+
+// No keyword of a section that there is.
+#[tactic(auto, unfolding(pb_trees::specs::Reading::no_section))]
+pub fn no_section(tokens: &[Token]) -> SyntaxError
+    ensures { result ≡ no_section tokens.now }
+{
+    if begins(Kind::Key, tokens) {
+        left_out(LeftOut::Section, tokens)
+    } else {
+        fault(Want::Section, tokens)
+    }
+}
+
+#[tactic(auto, unfolding(pb_trees::specs::Reading::domain_key))]
+fn domain_key<'a>(
+    alloc: Global,
+    out: &mut DomainParts,
+    tokens: &'a [Token],
+) -> Result<&'a [Token], SyntaxError>
+    ensures { Gives (λ rest. (out.new, rest.now)) result (domain_key limited out.old tokens.now) }
+{
+    if spells(Kind::Key, b":requirements", tokens) {
+        requirements_section(alloc, out, tokens)
+    } else if spells(Kind::Key, b":types", tokens) {
+        types_section(alloc, out, tokens)
+    } else if spells(Kind::Key, b":constants", tokens) {
+        constants_section(alloc, out, tokens)
+    } else if spells(Kind::Key, b":predicates", tokens) {
+        predicates_section(alloc, out, tokens)
+    } else if spells(Kind::Key, b":action", tokens) {
+        action_section(alloc, out, tokens)
+    } else {
+        Err(no_section(tokens))
+    }
+}
+
+#[tactic(auto, unfolding(pb_trees::specs::Reading::domain_section))]
+fn domain_section<'a>(
+    alloc: Global,
+    out: &mut DomainParts,
+    tokens: &'a [Token],
+) -> Result<&'a [Token], SyntaxError>
+    ensures { Gives (λ rest. (out.new, rest.now)) result (domain_section limited out.old tokens.now) }
+{
+    let inside = need(Kind::Open, Want::Paren, tokens)?;
+    domain_key(alloc, out, inside)
+}
+
+fn domain_sections<'a>(
+    alloc: Global,
+    out: &mut DomainParts,
+    tokens: &'a [Token],
+) -> Result<&'a [Token], SyntaxError>
+    ensures { Gives (λ rest. (out.new, rest.now)) result (all_of begins_open (domain_section limited) out.old tokens.now) }
+{
+    let mut rest = tokens;
+    for _ in 0..tokens.len() {
+        if !begins(Kind::Open, rest) {
+            return Ok(rest);
+        }
+        rest = domain_section(alloc, out, rest)?;
+    }
+    Ok(rest)
+}
+
+// The name of a form.
+#[tactic(auto, unfolding(pb_trees::specs::Reading::title_at))]
+pub fn title<'a>(
+    alloc: Global,
+    word: &[u8],
+    tokens: &'a [Token],
+) -> Result<(Name, &'a [Token]), SyntaxError>
+    ensures { Gives (λ x. (x.0, x.1.now)) result (title_at word.now tokens.now) }
+{
+    let rest = need(Kind::Open, Want::Paren, tokens)?;
+    let rest = need_word(b"define", rest)?;
+    let rest = need(Kind::Open, Want::Paren, rest)?;
+    let rest = need_word(word, rest)?;
+    let (name, rest) = name(alloc, Kind::Word, Want::Name, rest)?;
+    let rest = need(Kind::Close, Want::Close, rest)?;
+    Ok((name, rest))
+}
+
+// Nothing stands behind the whole form.
+#[tactic(auto, unfolding(pb_trees::specs::Reading::end_at))]
+pub fn end(tokens: &[Token]) -> Result<&[Token], SyntaxError>
+    ensures { Gives (λ x. x.now) result (end_at tokens.now) }
+{
+    if begins(Kind::End, tokens) {
+        Ok(tokens)
+    } else if begins(Kind::Byte, tokens) {
+        Err(SyntaxError::Byte { at: place(tokens) })
+    } else if begins(Kind::Deep, tokens) {
+        Err(SyntaxError::Deep { at: place(tokens) })
+    } else {
+        Err(SyntaxError::Extra { at: place(tokens) })
+    }
+}
+
+/// The domain that these tokens are.
+#[tactic(auto, unfolding(pb_trees::specs::Reading::domain_at))]
+pub fn domain(alloc: Global, tokens: &[Token]) -> Result<Domain, SyntaxError>
+    ensures { Gives (λ domain. domain) result (domain_at limited tokens.now) }
+{
+    let (name, rest) = title(alloc, b"domain", tokens)?;
+    let mut all = DomainParts {
+        requirements: false,
+        types: None,
+        constants: None,
+        predicates: None,
+        actions: Listed::new(alloc),
+    };
+    let rest = domain_sections(alloc, &mut all, rest)?;
+    let rest = need(Kind::Close, Want::Paren, rest)?;
+    let _end = end(rest)?;
+    Ok(Domain {
+        name,
+        types: or_empty(alloc, all.types),
+        constants: or_empty(alloc, all.constants),
+        predicates: or_empty(alloc, all.predicates),
+        actions: all.actions,
+    })
+}

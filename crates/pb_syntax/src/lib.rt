@@ -1,0 +1,20 @@
+//! Reads the STRIPS and typing part of PDDL into trees, and refuses everything else by name and place.
+#![tactic(auto)]
+
+mod action;
+mod atoms;
+mod conditions;
+mod domain;
+mod lists;
+mod pieces;
+mod problem;
+mod reader;
+
+pub use pb_trees::{
+    Action, Atom, Domain, LeftOut, Listed, Literal, Name, Predicate, Problem, SyntaxError, Term,
+    Text, Typed, Want,
+};
+pub use reader::{read_domain, read_problem};
+
+#[cfg(test)]
+mod tests;

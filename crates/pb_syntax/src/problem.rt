@@ -1,0 +1,221 @@
+ghost use Rattle.std.specs.Prelude.{◌≡◌, [], codes, drop, is_some, Ok};
+ghost use Rattle.pb_trees.specs.Reading.{Gives, all_of, begins_open, domain_name_section, problem_requirements, objects_section, init_section, goal_section, problem_key, problem_section, missing, there, stood_all, sections_want, limited, problem_at};
+
+use crate::action::{DEEPEST, once, or_empty};
+use crate::conditions::cond;
+use crate::domain::{end, no_section, title};
+use crate::lists::{facts, keys, list};
+use crate::pieces::{begins, behind, fault, name, need, place, spells};
+use pb_trees::{Atom, Kind, Listed, Name, Problem, ProblemParts, SyntaxError, Token, Typed, Want};
+use std::alloc::Global;
+
+#[tactic(auto, unfolding(pb_trees::specs::Reading::domain_name_section))]
+fn domain_name_section<'a>(
+    alloc: Global,
+    out: &mut ProblemParts,
+    tokens: &'a [Token],
+) -> Result<&'a [Token], SyntaxError>
+    ensures { Gives (λ rest. (out.new, rest.now)) result (domain_name_section out.old tokens.now) }
+{
+    if out.domain.is_some() {
+        return Err(once(tokens));
+    }
+    let (name, rest) = name(alloc, Kind::Word, Want::Name, behind(tokens))?;
+    let rest = need(Kind::Close, Want::Close, rest)?;
+    out.domain = Some(name);
+    Ok(rest)
+}
+
+#[tactic(auto, unfolding(pb_trees::specs::Reading::problem_requirements))]
+fn problem_requirements<'a>(
+    alloc: Global,
+    out: &mut ProblemParts,
+    tokens: &'a [Token],
+) -> Result<&'a [Token], SyntaxError>
+    ensures { Gives (λ rest. (out.new, rest.now)) result (problem_requirements out.old tokens.now) }
+{
+    if out.requirements {
+        return Err(once(tokens));
+    }
+    let rest = keys(alloc, behind(tokens))?;
+    out.requirements = true;
+    Ok(rest)
+}
+
+#[tactic(auto, unfolding(pb_trees::specs::Reading::objects_section))]
+fn objects_section<'a>(
+    alloc: Global,
+    out: &mut ProblemParts,
+    tokens: &'a [Token],
+) -> Result<&'a [Token], SyntaxError>
+    ensures { Gives (λ rest. (out.new, rest.now)) result (objects_section out.old tokens.now) }
+{
+    if out.objects.is_some() {
+        return Err(once(tokens));
+    }
+    let (objects, rest) = list(alloc, Kind::Word, Want::Name, behind(tokens))?;
+    out.objects = Some(objects);
+    Ok(rest)
+}
+
+#[tactic(auto, unfolding(pb_trees::specs::Reading::init_section))]
+fn init_section<'a>(
+    alloc: Global,
+    out: &mut ProblemParts,
+    tokens: &'a [Token],
+) -> Result<&'a [Token], SyntaxError>
+    ensures { Gives (λ rest. (out.new, rest.now)) result (init_section out.old tokens.now) }
+{
+    if out.init.is_some() {
+        return Err(once(tokens));
+    }
+    let (init, rest) = facts(alloc, behind(tokens))?;
+    out.init = Some(init);
+    Ok(rest)
+}
+
+#[tactic(auto, unfolding(pb_trees::specs::Reading::goal_section, pb_trees::specs::Reading::limited))]
+fn goal_section<'a>(
+    alloc: Global,
+    out: &mut ProblemParts,
+    tokens: &'a [Token],
+) -> Result<&'a [Token], SyntaxError>
+    ensures { Gives (λ rest. (out.new, rest.now)) result (goal_section limited out.old tokens.now) }
+{
+    if out.goal.is_some() {
+        return Err(once(tokens));
+    }
+    let mut goal = Listed::new(alloc);
+    let rest = cond(alloc, false, DEEPEST, &mut goal, behind(tokens))?;
+    let rest = need(Kind::Close, Want::Close, rest)?;
+    out.goal = Some(goal);
+    Ok(rest)
+}
+
+#[tactic(auto, unfolding(pb_trees::specs::Reading::problem_key))]
+fn problem_key<'a>(
+    alloc: Global,
+    out: &mut ProblemParts,
+    tokens: &'a [Token],
+) -> Result<&'a [Token], SyntaxError>
+    ensures { Gives (λ rest. (out.new, rest.now)) result (problem_key limited out.old tokens.now) }
+{
+    if spells(Kind::Key, b":domain", tokens) {
+        domain_name_section(alloc, out, tokens)
+    } else if spells(Kind::Key, b":requirements", tokens) {
+        problem_requirements(alloc, out, tokens)
+    } else if spells(Kind::Key, b":objects", tokens) {
+        objects_section(alloc, out, tokens)
+    } else if spells(Kind::Key, b":init", tokens) {
+        init_section(alloc, out, tokens)
+    } else if spells(Kind::Key, b":goal", tokens) {
+        goal_section(alloc, out, tokens)
+    } else {
+        Err(no_section(tokens))
+    }
+}
+
+// Whether each section stood, so that no more may come.
+#[tactic(auto, unfolding(pb_trees::specs::Reading::stood_all))]
+fn stood_all(parts: &ProblemParts) -> bool
+    ensures { result ≡ stood_all parts.now }
+{
+    parts.requirements
+        && parts.domain.is_some()
+        && parts.objects.is_some()
+        && parts.init.is_some()
+        && parts.goal.is_some()
+}
+
+// What is wanted behind these sections.
+#[tactic(auto, unfolding(pb_trees::specs::Reading::sections_want))]
+fn sections_want(parts: &ProblemParts) -> Want
+    ensures { result ≡ sections_want parts.now }
+{
+    if stood_all(parts) {
+        Want::Close
+    } else {
+        Want::Paren
+    }
+}
+
+#[tactic(auto, unfolding(pb_trees::specs::Reading::problem_section))]
+fn problem_section<'a>(
+    alloc: Global,
+    out: &mut ProblemParts,
+    tokens: &'a [Token],
+) -> Result<&'a [Token], SyntaxError>
+    ensures { Gives (λ rest. (out.new, rest.now)) result (problem_section limited out.old tokens.now) }
+{
+    if stood_all(out) {
+        return Err(fault(Want::Close, tokens));
+    }
+    let inside = need(Kind::Open, Want::Paren, tokens)?;
+    problem_key(alloc, out, inside)
+}
+
+fn problem_sections<'a>(
+    alloc: Global,
+    out: &mut ProblemParts,
+    tokens: &'a [Token],
+) -> Result<&'a [Token], SyntaxError>
+    ensures { Gives (λ rest. (out.new, rest.now)) result (all_of begins_open (problem_section limited) out.old tokens.now) }
+{
+    let mut rest = tokens;
+    for _ in 0..tokens.len() {
+        if !begins(Kind::Open, rest) {
+            return Ok(rest);
+        }
+        rest = problem_section(alloc, out, rest)?;
+    }
+    Ok(rest)
+}
+
+// At the last `)`, where a section that must be there is missing.
+#[tactic(auto, unfolding(pb_trees::specs::Reading::missing))]
+fn missing(tokens: &[Token]) -> SyntaxError
+    ensures { result ≡ missing tokens.now }
+{
+    SyntaxError::Expected {
+        at: place(tokens),
+        want: Want::Missing,
+    }
+}
+
+// A section that must be there, at the last `)`.
+#[tactic(auto, unfolding(pb_trees::specs::Reading::there))]
+fn there<T: Drop>(section: Option<T>, tokens: &[Token]) -> Result<T, SyntaxError>
+    ensures { Gives (λ x. x) result (there section tokens.now) }
+{
+    match section {
+        None => Err(missing(tokens)),
+        Some(x) => Ok(x),
+    }
+}
+
+/// The problem that these tokens are.
+#[tactic(auto, unfolding(pb_trees::specs::Reading::problem_at))]
+pub fn problem(alloc: Global, tokens: &[Token]) -> Result<Problem, SyntaxError>
+    ensures { Gives (λ problem. problem) result (problem_at limited tokens.now) }
+{
+    let (name, rest) = title(alloc, b"problem", tokens)?;
+    let mut all = ProblemParts {
+        requirements: false,
+        domain: None,
+        objects: None,
+        init: None,
+        goal: None,
+    };
+    let last = problem_sections(alloc, &mut all, rest)?;
+    let rest = need(Kind::Close, sections_want(&all), last)?;
+    let domain = there(all.domain, last)?;
+    let goal = there(all.goal, last)?;
+    let _end = end(rest)?;
+    Ok(Problem {
+        name,
+        domain,
+        objects: or_empty(alloc, all.objects),
+        init: or_empty(alloc, all.init),
+        goal,
+    })
+}

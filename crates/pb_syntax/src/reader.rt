@@ -1,0 +1,67 @@
+ghost use Rattle.std.specs.Prelude.{◌≡◌, ◌≢◌, List, Ok, IfOk, IfErr};
+ghost use Rattle.pb_trees.specs.declared.token.Token.{Token};
+ghost use Rattle.pb_trees.specs.declared.tree.Domain.{Domain};
+ghost use Rattle.pb_trees.specs.declared.tree.Problem.{Problem};
+ghost use Rattle.pb_trees.specs.declared.error.SyntaxError.TheVariants.{Memory};
+ghost use Rattle.pb_trees.specs.Tokens.{TextTokens};
+ghost use Rattle.pb_trees.specs.Grammar.{IsDomain, IsProblem};
+ghost use Rattle.pb_trees.specs.Trees.{IsRead, SpellsDomain, SpellsProblem, FirstFault};
+ghost use Rattle.pb_trees.specs.Reading.{Gives, unlimited, domain_at, problem_at};
+
+use crate::domain::domain;
+use crate::problem::problem;
+use pb_tokens::tokens;
+use pb_trees::{Domain, Problem, SyntaxError};
+use std::alloc::Global;
+
+fn domain_of(alloc: Global, text: &[u8]) -> Result<Domain, SyntaxError>
+    ensures is { IsRead (domain_at unlimited) text.now result }
+    ensures only { (ts : List Token) → TextTokens text.now ts → Gives (λ d. d) result (domain_at unlimited ts) }
+{
+    let list = tokens(alloc, text)?;
+    let found = domain(alloc, list.as_slice())?;
+    Ok(found)
+}
+
+fn problem_of(alloc: Global, text: &[u8]) -> Result<Problem, SyntaxError>
+    ensures is { IsRead (problem_at unlimited) text.now result }
+    ensures only { (ts : List Token) → TextTokens text.now ts → Gives (λ p. p) result (problem_at unlimited ts) }
+{
+    let list = tokens(alloc, text)?;
+    let found = problem(alloc, list.as_slice())?;
+    Ok(found)
+}
+
+/// The domain that a text spells: the STRIPS and typing part of PDDL (McDermott and others, 1998), each name with the
+/// place of its first byte. Each error but `Memory` is at the first token that can't go on; the grammar, and why a token
+/// is refused, stand in docs/FORMATS.md.
+pub fn read_domain(alloc: Global, text: &[u8]) -> Result<Domain, SyntaxError>
+    // What is read is spelled so.
+    ensures found { IfOk result (SpellsDomain text.now) }
+    // What is spelled so is read, unless memory runs out.
+    ensures only { (d : Domain) → SpellsDomain text.now d → Gives (λ x. x) result (Ok d) }
+    // With an error but Memory, the text spells no domain.
+    ensures none { IfErr result (λ e. e ≢ Memory → (d : Domain) → SpellsDomain text.now d → ⊥) }
+    // What stands before the error's token is the beginning of a domain, that token can't follow, and the error is the first that fits it.
+    ensures first { IfErr result (λ e. e ≢ Memory → FirstFault Domain IsDomain text.now e) }
+    // It is the one answer that reading from left to right gives, however deep the parentheses.
+    ensures exact { IsRead (domain_at unlimited) text.now result }
+{
+    domain_of(alloc, text)
+}
+
+/// The problem that a text spells, as `read_domain` reads a domain. Whether it fits a domain isn't looked at.
+pub fn read_problem(alloc: Global, text: &[u8]) -> Result<Problem, SyntaxError>
+    // What is read is spelled so.
+    ensures found { IfOk result (SpellsProblem text.now) }
+    // What is spelled so is read, unless memory runs out.
+    ensures only { (p : Problem) → SpellsProblem text.now p → Gives (λ x. x) result (Ok p) }
+    // With an error but Memory, the text spells no problem.
+    ensures none { IfErr result (λ e. e ≢ Memory → (p : Problem) → SpellsProblem text.now p → ⊥) }
+    // What stands before the error's token is the beginning of a problem, that token can't follow, and the error is the first that fits it.
+    ensures first { IfErr result (λ e. e ≢ Memory → FirstFault Problem IsProblem text.now e) }
+    // It is the one answer that reading from left to right gives, however deep the parentheses.
+    ensures exact { IsRead (problem_at unlimited) text.now result }
+{
+    problem_of(alloc, text)
+}

@@ -1,0 +1,7 @@
+//! The tokens of a PDDL text: `pb_trees`' `specs/Tokens.antt` says which list is a text's.
+#![tactic(auto)]
+
+mod bytes;
+mod lexer;
+
+pub use lexer::tokens;

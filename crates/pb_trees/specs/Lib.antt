@@ -1,0 +1,6 @@
+pub mod Tokens
+pub mod Reading
+pub mod Grammar
+pub mod Trees
+pub mod Spans
+pub mod Places

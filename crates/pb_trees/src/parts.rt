@@ -1,0 +1,39 @@
+//! What a reader has gathered while a list, an action or a whole form is still open.
+
+use crate::listed::Listed;
+use crate::tree::{Action, Atom, Literal, Name, Predicate, Typed};
+
+/// The names of a list that have their type, and those that wait for it.
+#[derive(Debug, Drop)]
+pub struct Group {
+    pub done: Listed<Typed>,
+    pub waiting: Listed<Name>,
+}
+
+/// The parts of an action that stood so far.
+#[derive(Debug, Drop)]
+pub struct ActionParts {
+    pub params: Option<Listed<Typed>>,
+    pub pre: Option<Listed<Atom>>,
+    pub effect: Option<Listed<Literal>>,
+}
+
+/// The sections of a domain that stood so far.
+#[derive(Debug, Drop)]
+pub struct DomainParts {
+    pub requirements: bool,
+    pub types: Option<Listed<Typed>>,
+    pub constants: Option<Listed<Typed>>,
+    pub predicates: Option<Listed<Predicate>>,
+    pub actions: Listed<Action>,
+}
+
+/// The sections of a problem that stood so far.
+#[derive(Debug, Drop)]
+pub struct ProblemParts {
+    pub requirements: bool,
+    pub domain: Option<Name>,
+    pub objects: Option<Listed<Typed>>,
+    pub init: Option<Listed<Atom>>,
+    pub goal: Option<Listed<Atom>>,
+}
