@@ -1,0 +1,41 @@
+-- The laws of this crate. Each is proved, as the contract of the public function that has its name.
+use Rattle.std.specs.Prelude.{◌≡◌, ℕ, List, [], ◌∷◌, None, false, codes}
+use Rattle.std.specs.Str.{bytes_eq}
+use Rattle.clap.specs.Lexer.{long_of, short_of}
+use Rattle.pb_words.specs.Values.{Grid}
+use Rattle.pb_words.specs.Meaning.{Read, Refused, Solve, Check, reading_of_words}
+use Rattle.pb_words.specs.declared.refusal.Fault.TheVariants as fault
+
+-- a word that is neither `--`, nor a long option, nor short ones
+pub record IsName (w : List ℕ) : Type 0 where
+  pub no_dashes : bytes_eq w (45 ∷ 45 ∷ []) ≡ false
+  pub no_long : long_of w ≡ None
+  pub no_short : short_of w ≡ None
+
+abbrev pub SolveWithTwoNamesIsRead : Type 0
+SolveWithTwoNamesIsRead = (map scenario : List ℕ) → IsName map → IsName scenario
+    → reading_of_words (codes "solve" ∷ codes "grid" ∷ map ∷ scenario ∷ []) ≡ Read (Solve (record {
+      input = Grid (record { map = map; scenario = scenario });
+      row = 0;
+      budget = 16777216;
+      certificate = None;
+    }))
+
+abbrev pub CheckWithThreeNamesIsRead : Type 0
+CheckWithThreeNamesIsRead = (certificate map scenario : List ℕ) → IsName certificate → IsName map → IsName scenario
+    → reading_of_words (codes "check" ∷ codes "grid" ∷ certificate ∷ map ∷ scenario ∷ []) ≡ Read (Check (record {
+      input = Grid (record { map = map; scenario = scenario });
+      certificate = certificate;
+      row = 0;
+    }))
+
+abbrev pub OneFileIsRefused : Type 0
+OneFileIsRefused = (map : List ℕ) → IsName map → reading_of_words (codes "solve" ∷ codes "grid" ∷ map ∷ []) ≡ Refused fault.Files
+
+abbrev pub OtherKindIsRefused : Type 0
+OtherKindIsRefused = (kind map : List ℕ) → IsName kind → IsName map → bytes_eq kind (codes "grid") ≡ false
+    → reading_of_words (codes "solve" ∷ kind ∷ map ∷ []) ≡ Refused fault.Kind
+
+abbrev pub HelpIsRefused : Type 0
+HelpIsRefused = (map scenario : List ℕ) → IsName map → IsName scenario
+    → reading_of_words (codes "solve" ∷ codes "grid" ∷ map ∷ scenario ∷ codes "--help" ∷ []) ≡ Refused fault.Form

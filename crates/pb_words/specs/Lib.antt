@@ -1,0 +1,5 @@
+pub mod Parser
+pub mod Values
+pub mod Meaning
+pub mod Causes
+pub mod Laws

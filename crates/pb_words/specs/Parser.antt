@@ -1,0 +1,62 @@
+-- The command that is declared, in the words of clap.
+use Rattle.std.specs.Prelude.{ℕ, List, [], ◌∷◌, true, Some, codes}
+use Rattle.clap.specs.Words.{App, Rule, Text, new_app, new_rule, with_rule, with_subcommand}
+use Rattle.clap.specs.declared.builder.value_parser.ValueParser.TheVariants as vp
+
+-- `--NAME NUMBER`, a whole number from `least` to `most`
+abbrev pub number_rule : Text → ℕ → ℕ → Rule
+number_rule name least most = record (new_rule name) { long = Some name; parser = Some (vp.Unsigned least most) }
+
+-- `--NAME TEXT`
+abbrev pub text_rule : Text → Rule
+text_rule name = record (new_rule name) { long = Some name }
+
+-- a word that must stand
+abbrev pub required_rule : Text → Rule
+required_rule name = record (new_rule name) { required = true }
+
+-- an option with a number, the range of the number, and the number where the option isn't given
+pub record NumberOption : Type 0 where
+  pub name : Text
+  pub least : ℕ
+  pub most : ℕ
+  pub default : ℕ
+
+-- the row of the scenario
+abbrev pub row_option : NumberOption
+row_option = record { name = codes "row"; least = 0; most = 1000000; default = 0 }
+
+-- how many expansions a search may do: at most 2^40
+abbrev pub budget_option : NumberOption
+budget_option = record { name = codes "budget"; least = 1; most = 1099511627776; default = 16777216 }
+
+abbrev pub option_rule : NumberOption → Rule
+option_rule o = number_rule o.name o.least o.most
+
+abbrev pub with_rules : App → List Rule → App
+with_rules a [] = a
+with_rules a (r ∷ rs) = with_rules (with_rule a r) rs
+
+-- `solve KIND FILE [FILE] [--row K] [--budget B] [--cert NAME]`
+unfoldable pub the_solve : App
+the_solve = with_rules (new_app (codes "solve")) (required_rule (codes "KIND") ∷ required_rule (codes "FIRST_FILE") ∷ new_rule (codes "SECOND_FILE")
+    ∷ option_rule row_option ∷ option_rule budget_option ∷ text_rule (codes "cert") ∷ [])
+
+-- `check KIND CERT FILE [FILE] [--row K]`
+unfoldable pub the_check : App
+the_check = with_rules (new_app (codes "check")) (required_rule (codes "KIND") ∷ required_rule (codes "CERTIFICATE") ∷ required_rule (codes "FIRST_FILE") ∷ new_rule (codes "SECOND_FILE")
+    ∷ option_rule row_option ∷ [])
+
+-- the program before it has subcommands: no word asks for help or the version
+abbrev pub bare_program : App
+bare_program = record (new_app (codes "pbnf")) {
+  top = record (new_app (codes "pbnf")).top {
+    no_binary_name = true;
+    disable_help_flag = true;
+    disable_help_subcommand = true;
+    subcommand_required = true;
+  };
+}
+
+unfoldable pub the_program : App
+the_program = with_subcommand (with_subcommand bare_program the_solve.top) the_check.top

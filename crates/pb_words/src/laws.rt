@@ -1,0 +1,18 @@
+ghost use Rattle.pb_words.specs.Laws.{SolveWithTwoNamesIsRead, CheckWithThreeNamesIsRead, OneFileIsRefused, OtherKindIsRefused, HelpIsRefused};
+
+/// `solve grid MAP SCEN`, with names that don't begin with a hyphen, asks for a search with the defaults.
+pub fn solve_with_two_names_is_read()
+    ensures { SolveWithTwoNamesIsRead }
+{}
+
+/// `check grid CERT MAP SCEN`, with names that don't begin with a hyphen, asks for a check with the default.
+pub fn check_with_three_names_is_read()
+    ensures { CheckWithThreeNamesIsRead }
+{}
+
+/// A grid with one file, a kind that isn't known, and a word for help are refused, each for its own fault.
+pub fn faults_are_found()
+    ensures files { OneFileIsRefused }
+    ensures kind { OtherKindIsRefused }
+    ensures help { HelpIsRefused }
+{}

@@ -1,0 +1,121 @@
+//! The words of the command line, read.
+ghost use Rattle.std.specs.Prelude.{◌≡◌, map, IfOk, IfErr, MatchResult};
+ghost use Rattle.std.specs.String.{string_bytes};
+ghost use Rattle.clap.specs.Words.{found_of, rows_of};
+ghost use Rattle.pb_words.specs.Meaning.{reading_of_words, command_of, solve_of, check_of, Read, Refused, Solve, Check};
+ghost use Rattle.pb_words.specs.Causes.{IsCause, IsRefusal, EndsLine, meaning_of, solve_meant, check_meant};
+
+use crate::command::{CheckCommand, CommandLine, SolveCommand};
+use crate::parser::program;
+use crate::refusal::{Fault, Message, Refusal, refuse};
+use crate::values::{BUDGET_DEFAULT, BUDGET_MOST, ROW_MOST, input_of, known_kind, number, text};
+use clap::error::ErrorKind;
+use clap::{ArgMatches, Error};
+use std::alloc::{AllocError, Global};
+
+// What the values of `solve` ask for.
+fn read_solve<'a>(matches: &ArgMatches<'a>) -> Result<SolveCommand<'a>, Fault>
+    ensures { MatchResult result (λ s. solve_of (rows_of (found_of matches.now)) ≡ Read (Solve (solve_meant s))) (λ f. solve_of (rows_of (found_of matches.now)) ≡ Refused f) }
+{
+    let kind = known_kind(text(matches, "KIND"));
+    let first = text(matches, "FIRST_FILE");
+    let second = text(matches, "SECOND_FILE");
+    let row = number(matches, "row", 0, ROW_MOST, 0);
+    let budget = number(matches, "budget", 1, BUDGET_MOST, BUDGET_DEFAULT);
+    let certificate = text(matches, "cert");
+    let Some(kind) = kind else {
+        return Err(Fault::Kind);
+    };
+    match (first, row, budget) {
+        (Some(first), Some(row), Some(budget)) => match input_of(kind, first, second) {
+            Some(input) => Ok(SolveCommand {
+                input,
+                row,
+                budget,
+                certificate,
+            }),
+            None => Err(Fault::Files),
+        },
+        _ => Err(Fault::Form),
+    }
+}
+
+// What the values of `check` ask for.
+fn read_check<'a>(matches: &ArgMatches<'a>) -> Result<CheckCommand<'a>, Fault>
+    ensures { MatchResult result (λ s. check_of (rows_of (found_of matches.now)) ≡ Read (Check (check_meant s))) (λ f. check_of (rows_of (found_of matches.now)) ≡ Refused f) }
+{
+    let kind = known_kind(text(matches, "KIND"));
+    let certificate = text(matches, "CERTIFICATE");
+    let first = text(matches, "FIRST_FILE");
+    let second = text(matches, "SECOND_FILE");
+    let row = number(matches, "row", 0, ROW_MOST, 0);
+    let Some(kind) = kind else {
+        return Err(Fault::Kind);
+    };
+    match (certificate, first, row) {
+        (Some(certificate), Some(first), Some(row)) => match input_of(kind, first, second) {
+            Some(input) => Ok(CheckCommand {
+                input,
+                certificate,
+                row,
+            }),
+            None => Err(Fault::Files),
+        },
+        _ => Err(Fault::Form),
+    }
+}
+
+// What the values of a subcommand ask for.
+fn read_command<'a>(name: &str, matches: &ArgMatches<'a>) -> Result<CommandLine<'a>, Fault>
+    ensures { MatchResult result (λ s. command_of name.now (rows_of (found_of matches.now)) ≡ Read (meaning_of s)) (λ f. command_of name.now (rows_of (found_of matches.now)) ≡ Refused f) }
+{
+    if name == "solve" {
+        return match read_solve(matches) {
+            Ok(command) => Ok(CommandLine::Solve(command)),
+            Err(fault) => Err(fault),
+        };
+    }
+    match read_check(matches) {
+        Ok(command) => Ok(CommandLine::Check(command)),
+        Err(fault) => Err(fault),
+    }
+}
+
+// The text of clap.
+fn form_message(alloc: Global, error: &Error) -> Result<Message, AllocError>
+    ensures { IfOk result (λ m. EndsLine m) }
+{
+    Message::of(format!(in alloc; "{error}")?)
+}
+
+// The refusal of clap, with its text.
+fn form_refusal(alloc: Global, error: &Error) -> Refusal
+    ensures { IsRefusal Fault.Form result }
+{
+    match form_message(alloc, error) {
+        Ok(message) => Refusal::Words(Fault::Form, message),
+        Err(_) => Refusal::Memory,
+    }
+}
+
+/// Reads the words after the program's name: the command that they are, or why they are none, with what is to be
+/// printed of it. The tests come in this order: the form, the kind, the number of files.
+pub fn read_words<'a>(alloc: Global, words: &'a [String]) -> Result<CommandLine<'a>, Refusal>
+    ensures read { IfOk result (λ c. reading_of_words (map string_bytes words.entry.now) ≡ Read (meaning_of c)) }
+    ensures refused { IfErr result (λ r. IsCause (reading_of_words (map string_bytes words.entry.now)) r) }
+{
+    let program = program(alloc)?;
+    match program.try_get_matches_from(words) {
+        Ok(matches) => match matches.subcommand() {
+            Some((name, inner)) => match read_command(name, inner) {
+                Ok(command) => Ok(command),
+                Err(fault) => Err(refuse(alloc, name, text(inner, "KIND"), fault)),
+            },
+            None => unreachable!(),
+        },
+        Err(error) => match error.kind() {
+            ErrorKind::OutOfMemory => Err(Refusal::Memory),
+            _ => Err(form_refusal(alloc, &error)),
+        },
+    }
+}

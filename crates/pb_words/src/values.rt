@@ -1,0 +1,72 @@
+//! What the values of a parse are.
+ghost use Rattle.std.specs.Prelude.{◌≡◌, Some, option_map};
+ghost use Rattle.clap.specs.Words.{first_of, found_of, one_of, rows_of};
+ghost use Rattle.pb_words.specs.Values.{number_in, kind_of_text, input_of};
+ghost use Rattle.pb_words.specs.Causes.{input_meant};
+
+use crate::command::{GridFiles, Input, Kind};
+use clap::ArgMatches;
+
+// The greatest row of a scenario that may be asked for.
+pub(crate) const ROW_MOST: u64 = 1_000_000;
+
+// The greatest budget, 2^40 expansions.
+pub(crate) const BUDGET_MOST: u64 = 1_099_511_627_776;
+
+// The budget where none is given.
+pub(crate) const BUDGET_DEFAULT: u64 = 16_777_216;
+
+// The first value of an argument.
+pub(crate) fn text<'a>(matches: &ArgMatches<'a>, id: &str) -> Option<&'a str>
+    ensures { option_map (λ t. t.now) result ≡ first_of id.now (rows_of (found_of matches.now)) }
+{
+    matches.get_str(id)
+}
+
+// The number of an option, or the default where it isn't given.
+pub(crate) fn number(
+    matches: &ArgMatches<'_>,
+    id: &str,
+    least: u64,
+    most: u64,
+    default: u64,
+) -> Option<u64>
+    ensures { result ≡ number_in least most (Some default) (one_of id.now (rows_of (found_of matches.now))) }
+{
+    match matches.try_get_one::<u64>(id) {
+        Ok(None) => Some(default),
+        Ok(Some(n)) => {
+            if least <= n && n <= most {
+                Some(n)
+            } else {
+                None
+            }
+        }
+        Err(_) => None,
+    }
+}
+
+// The kind that a word names.
+pub(crate) fn known_kind(word: Option<&str>) -> Option<Kind>
+    ensures { result ≡ kind_of_text (option_map (λ t. t.now) word.entry) }
+{
+    match word {
+        Some("grid") => Some(Kind::Grid),
+        _ => None,
+    }
+}
+
+// The files of a kind, where their number is right.
+pub(crate) fn input_of<'a>(kind: Kind, first: &'a str, second: Option<&'a str>) -> Option<Input<'a>>
+    ensures { option_map input_meant result ≡ input_of kind first.entry.now (option_map (λ t. t.now) second.entry) }
+{
+    match kind {
+        Kind::Grid => match second {
+            Some(scenario) => Some(Input::Grid(GridFiles {
+                map: first,
+                scenario,
+            })),
+            None => None,
+        },
+    }
+}
