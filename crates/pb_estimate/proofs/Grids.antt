@@ -1,0 +1,139 @@
+-- On a grid no step brings a cell nearer to the goal by more than its cost, so the Manhattan distance is admissible.
+use Rattle.std.proofs.Common.{◌≡◌, ℕ, zero, suc, ◌+◌, ◌-◌, ◌*◌, ◌<◌, ◌≤◌, Bool, true, false, IsTrue, Option, None, Some, List, [], ◌∷◌, unwrap_or, nat_lt, nat_eq, ◌&&◌, if◌then◌else◌, slice_get, refl, sym, subst, ap, arith, ◌∙◌}
+use Rattle.std.proofs.lemmas.Bool.Decides.{nat_tests}
+use Rattle.pb_packed.specs.Bits.{bits_of}
+use Rattle.pb_model.specs.Space.{Steps}
+use Rattle.pb_model.specs.Plan.{Walk}
+use Rattle.pb_task.specs.Grid.{is_passable, are_connected, class_at, cell_state, class_of_state, cell_beside, step_to, grid_space, IsGrid}
+use Rattle.pb_task.specs.declared.parts.Parts.TheVariants.{Grid}
+use Rattle.pb_task.specs.declared.parts.GridParts.{GridParts}
+use Rattle.pb_task.specs.declared.parts.Class.{Class}
+use Rattle.pb_task.specs.declared.parts.Class.TheVariants.{Land, Water, Blocked}
+use Rattle.pb_estimate.specs.Estimates.{apart, manhattan, cell_of}
+use Rattle.pb_estimate.specs.Laws.{EstimatesAreAdmissible}
+
+-- ---- distances
+
+near : (n m goal : ℕ) → n ≤ m + 1 → m ≤ n + 1 → apart n goal ≤ 1 + apart m goal
+near n m goal h k = omega arith
+
+near_in_x : (x x' y : ℕ) (goal : ℕ × ℕ) → x ≤ x' + 1 → x' ≤ x + 1 → manhattan (x, y) goal ≤ 1 + manhattan (x', y) goal
+near_in_x x x' y goal h k = sums (apart x goal.0) (apart x' goal.0) (apart y goal.1) (near x x' goal.0 h k)
+  where
+    sums : (a b c : ℕ) → a ≤ 1 + b → a + c ≤ 1 + (b + c)
+    sums a b c le = omega arith
+
+near_in_y : (x y y' : ℕ) (goal : ℕ × ℕ) → y ≤ y' + 1 → y' ≤ y + 1 → manhattan (x, y) goal ≤ 1 + manhattan (x, y') goal
+near_in_y x y y' goal h k = sums (apart x goal.0) (apart y goal.1) (apart y' goal.1) (near y y' goal.1 h k)
+  where
+    sums : (c a b : ℕ) → a ≤ 1 + b → c + a ≤ 1 + (c + b)
+    sums c a b le = omega arith
+
+none_apart : (cell : ℕ × ℕ) (cost : ℕ) → manhattan cell cell ≤ cost
+none_apart cell cost = omega arith
+
+-- ---- steps
+
+-- the cell that a step goes to lies beside the cell that it comes from
+beside : (x y action : ℕ) (cell goal : ℕ × ℕ) → cell_beside x y action ≡ Some cell → manhattan (x, y) goal ≤ 1 + manhattan cell goal
+beside x y zero cell goal e = go (nat_lt 0 y) e
+  where
+    go : (test : Bool) → ◌≡◌ {A = Option (ℕ × ℕ)} (if test then Some (x, y - 1) else None) (Some cell) → manhattan (x, y) goal ≤ 1 + manhattan cell goal
+    go true e = let same : ◌≡◌ {A = ℕ × ℕ} (x, y - 1) cell = cc in subst (λ c. manhattan (x, y) goal ≤ 1 + manhattan c goal) same (near_in_y x y (y - 1) goal (omega arith) (omega arith))
+    go false e = cc
+beside x y (suc zero) cell goal e =
+    let same : ◌≡◌ {A = ℕ × ℕ} (x, y + 1) cell = cc in subst (λ c. manhattan (x, y) goal ≤ 1 + manhattan c goal) same (near_in_y x y (y + 1) goal (omega arith) (omega arith))
+beside x y (suc (suc zero)) cell goal e = go (nat_lt 0 x) e
+  where
+    go : (test : Bool) → ◌≡◌ {A = Option (ℕ × ℕ)} (if test then Some (x - 1, y) else None) (Some cell) → manhattan (x, y) goal ≤ 1 + manhattan cell goal
+    go true e = let same : ◌≡◌ {A = ℕ × ℕ} (x - 1, y) cell = cc in subst (λ c. manhattan (x, y) goal ≤ 1 + manhattan c goal) same (near_in_x x (x - 1) y goal (omega arith) (omega arith))
+    go false e = cc
+beside x y (suc (suc (suc zero))) cell goal e =
+    let same : ◌≡◌ {A = ℕ × ℕ} (x + 1, y) cell = cc in subst (λ c. manhattan (x, y) goal ≤ 1 + manhattan c goal) same (near_in_x x (x + 1) y goal (omega arith) (omega arith))
+beside x y (suc (suc (suc (suc more)))) cell goal e = cc
+
+-- a cell that can be entered is on the map
+both : (column row : Bool) (class : Class) → is_passable (if column && row then class else Blocked) ≡ true → (column ≡ true) × (row ≡ true)
+both true true class e = (refl, refl)
+both true false class e = (refl, e)
+both false row class e = (e, cc)
+
+below : (a b : ℕ) → nat_lt a b ≡ true → a < b
+below a b e = grind (arith, nat_tests)
+
+on_map : (grid : GridParts) (x y : ℕ) → is_passable (class_at grid x y) ≡ true → (x < grid.width) × (y < grid.height)
+on_map grid x y e =
+    let tests : (nat_lt x grid.width ≡ true) × (nat_lt y grid.height ≡ true) = both (nat_lt x grid.width) (nat_lt y grid.height) (unwrap_or (slice_get grid.cells (y * grid.width + x)) Blocked) e in
+    (below x grid.width tests.0, below y grid.height tests.1)
+
+passable_to : (from to : Class) → are_connected from to ≡ true → is_passable to ≡ true
+passable_to from Land e = refl
+passable_to from Water e = refl
+passable_to Land Blocked e = e
+passable_to Water Blocked e = e
+passable_to Blocked Blocked e = e
+
+-- a cell that can be entered is the one that its state stands for
+x_of : (x y : ℕ) → x < 2048 → bits_of (cell_state x y) 0 11 ≡ x
+x_of x y h = omega arith
+
+y_of : (x y : ℕ) → x < 2048 → y < 2048 → bits_of (cell_state x y) 11 11 ≡ y
+y_of x y h k = omega arith
+
+cell_is : (grid : GridParts) → IsGrid grid → (x y : ℕ) → is_passable (class_at grid x y) ≡ true → cell_of (cell_state x y) ≡ (x, y)
+cell_is grid is x y e =
+    let within : (x < grid.width) × (y < grid.height) = on_map grid x y e in
+    let width : grid.width ≤ 2048 = is.width.1 in
+    let height : grid.height ≤ 2048 = is.height.1 in
+    let small_x : x < 2048 = (let a = within.0 in omega (arith, a, width)) in
+    let small_y : y < 2048 = (let b = within.1 in omega (arith, b, height)) in
+    ap (λ n. (n, bits_of (cell_state x y) 11 11)) (x_of x y small_x) ∙ ap (λ n. (x, n)) (y_of x y small_x small_y)
+
+-- a step costs as much as it can bring nearer
+nearer_to : (grid : GridParts) → IsGrid grid → (from : Class) (here cell : ℕ × ℕ) (to cost : ℕ) → manhattan here grid.goal ≤ 1 + manhattan cell grid.goal
+    → step_to grid from (Some cell) ≡ Some (to, cost) → manhattan here grid.goal ≤ cost + manhattan (cell_of to) grid.goal
+nearer_to grid is from here cell to cost le e = go (are_connected from (class_at grid cell.0 cell.1)) refl e
+  where
+    go : (test : Bool) → are_connected from (class_at grid cell.0 cell.1) ≡ test
+        → ◌≡◌ {A = Option (ℕ × ℕ)} (if test then Some (cell_state cell.0 cell.1, 1) else None) (Some (to, cost)) → manhattan here grid.goal ≤ cost + manhattan (cell_of to) grid.goal
+    go false joined e = cc
+    go true joined e =
+        let same : ◌≡◌ {A = ℕ × ℕ} (cell_state cell.0 cell.1, 1) (to, cost) = cc in
+        let there : cell_of (cell_state cell.0 cell.1) ≡ cell = cell_is grid is cell.0 cell.1 (passable_to from (class_at grid cell.0 cell.1) joined) in
+        subst (λ (p : ℕ × ℕ). manhattan here grid.goal ≤ p.1 + manhattan (cell_of p.0) grid.goal) same
+        (subst (λ c. manhattan here grid.goal ≤ 1 + manhattan c grid.goal) (sym there) le)
+
+nearer : (grid : GridParts) → IsGrid grid → (from action to cost : ℕ) → Steps (grid_space grid) from action to cost
+    → manhattan (cell_of from) grid.goal ≤ cost + manhattan (cell_of to) grid.goal
+nearer grid is from action to cost step = go (cell_beside (bits_of from 0 11) (bits_of from 11 11) action) refl step
+  where
+    go : (cell : Option (ℕ × ℕ)) → cell_beside (bits_of from 0 11) (bits_of from 11 11) action ≡ cell → step_to grid (class_of_state grid from) cell ≡ Some (to, cost)
+        → manhattan (cell_of from) grid.goal ≤ cost + manhattan (cell_of to) grid.goal
+    go None at e = cc
+    go (Some cell) at e =
+        nearer_to grid is (class_of_state grid from) (cell_of from) cell to cost (beside (bits_of from 0 11) (bits_of from 11 11) action cell grid.goal at) e
+
+-- ---- walks
+
+same_number : (n m : ℕ) → nat_eq n m ≡ true → n ≡ m
+same_number n m e = grind (arith, nat_tests)
+
+at_goal : (grid : GridParts) → IsGrid grid → (state cost : ℕ) → IsTrue ((grid_space grid).is_goal state) → manhattan (cell_of state) grid.goal ≤ cost
+at_goal grid is state cost e =
+    let here : state ≡ cell_state grid.goal.0 grid.goal.1 = same_number state (cell_state grid.goal.0 grid.goal.1) e in
+    let cell : cell_of state ≡ grid.goal = ap cell_of here ∙ cell_is grid is grid.goal.0 grid.goal.1 is.goal in
+    subst (λ c. manhattan c grid.goal ≤ cost) (sym cell) (none_apart grid.goal cost)
+
+no_walk_is_cheaper : (grid : GridParts) → IsGrid grid → (state : ℕ) (actions : List ℕ) (cost goal : ℕ) → Walk (grid_space grid) state actions cost goal
+    → IsTrue ((grid_space grid).is_goal goal) → manhattan (cell_of state) grid.goal ≤ cost
+no_walk_is_cheaper grid is state [] cost goal walk e = at_goal grid is state cost (subst (λ s. IsTrue ((grid_space grid).is_goal s)) walk.1 e)
+no_walk_is_cheaper grid is state (action ∷ actions) cost goal (next, first, rest, step, walk, sum) e =
+    let one = nearer grid is state action next first step in
+    let others = no_walk_is_cheaper grid is next actions rest goal walk e in
+    along (manhattan (cell_of state) grid.goal) (manhattan (cell_of next) grid.goal) first rest cost one others sum
+  where
+    along : (here there first rest cost : ℕ) → here ≤ first + there → there ≤ rest → cost ≡ first + rest → here ≤ cost
+    along here there first rest cost one others sum = omega arith
+
+pub estimates_are_admissible : EstimatesAreAdmissible
+estimates_are_admissible (Grid grid) is state actions cost goal is_state walk e = no_walk_is_cheaper grid is state actions cost goal walk e

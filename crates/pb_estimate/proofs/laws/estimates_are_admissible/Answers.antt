@@ -1,0 +1,5 @@
+use Rattle.pb_estimate.proofs.Grids.{estimates_are_admissible}
+use Rattle.pb_estimate.proofs.laws.estimates_are_admissible.Goals as goal
+
+pub returns : goal.returns
+returns c = estimates_are_admissible

@@ -1,0 +1,58 @@
+ghost use Rattle.std.specs.Prelude.{◌≡◌, IsTrue, IfOk};
+ghost use Rattle.pb_task.specs.Parts.{space_of};
+ghost use Rattle.pb_estimate.specs.Estimates.{estimate_of};
+ghost use Rattle.pb_estimate.specs.Tables.{tables_of};
+
+use crate::grid;
+use pb_model::Estimate;
+use pb_packed::Packed;
+use pb_task::{Parts, Task};
+use std::alloc::{AllocError, Global};
+use std::marker::Model;
+
+/// What an estimator keeps of its task, by the kind of task.
+#[derive(Clone, Copy, Debug, PartialEq, Eq)]
+pub enum Tables {
+    /// Nothing: the distance on a grid is known from the cells alone.
+    Grid,
+}
+
+/// Tells the estimates of one task's states. Contracts see what it keeps.
+#[derive(Drop)]
+pub struct Estimator {
+    tables: Tables,
+}
+
+impl Model for Estimator {
+    ghost use Rattle.pb_estimate.specs.declared.estimator.Tables.{Tables};
+
+    ghost Value = { Tables };
+
+    ghost view = { λ e. e.tables };
+}
+
+impl Estimator {
+    /// The estimator of a task. All the memory that its estimates use is taken here; on a grid they use none.
+    pub fn of(alloc: Global, task: &Task) -> Result<Estimator, AllocError>
+        ensures { IfOk result (λ estimator. estimator ≡ tables_of task.now) }
+    {
+        let _ = alloc;
+        match task.parts() {
+            Parts::Grid(_) => Ok(Estimator {
+                tables: Tables::Grid,
+            }),
+        }
+    }
+
+    /// The estimate of a state of the estimator's own task, in the unit of the task's action costs. It takes no memory.
+    pub fn estimate(&mut self, task: &Task, state: &Packed) -> Estimate
+        requires task { self.old ≡ tables_of task.now }
+        requires state { IsTrue ((space_of task.now).is_state state.now) }
+        ensures estimate { result ≡ estimate_of task.now state.now }
+        ensures task { self.new ≡ tables_of task.now }
+    {
+        match task.parts() {
+            Parts::Grid(grid) => Estimate::Cost(grid::distance(grid, state)),
+        }
+    }
+}

@@ -1,0 +1,14 @@
+//! Lower bounds on the cost of every way from a state to a goal: what guides a search, and what a certificate is judged by.
+//!
+//! The estimate of a state is the definition `estimate_of` in `specs`. For grids it is the Manhattan distance to the goal.
+#![tactic(auto)]
+
+mod estimator;
+mod grid;
+mod laws;
+
+pub use estimator::{Estimator, Tables};
+pub use laws::estimates_are_admissible;
+
+#[cfg(test)]
+mod tests;
