@@ -1,0 +1,167 @@
+-- A valid certificate has no fault.
+use Rattle.std.proofs.Common.{◌≡◌, ℕ, zero, suc, ◌+◌, ◌<◌, ◌≤◌, Bool, true, false, ◌&&◌, cond, eqb, ltb, leb, Option, None, Some, List, [], ◌∷◌, All, Contains, Result, Ok, refl, sym, ap, ◌∙◌, subst, arith, IsTrue, IsFalse}
+use Rattle.std.specs.List.Sorted.{IsStrictlySortedBy}
+use Rattle.std.specs.Ordering.{nat_cmp}
+use Rattle.std.specs.declared.cmp.Ordering.TheVariants.{Less}
+use Rattle.std.proofs.lemmas.Bool.{le-leb, lt-ltb}
+use Rattle.std.proofs.lemmas.Bool.Decides.{nat_tests}
+use Rattle.std.proofs.lemmas.List.Elements.{All-head, All-tail}
+use Rattle.pb_model.specs.declared.row.Estimate.{Estimate}
+use Rattle.pb_model.specs.declared.row.Estimate.TheVariants.{Cost, Dead}
+use Rattle.pb_model.specs.Space.{Space, Steps}
+use Rattle.pb_model.specs.Weight.{Weight, IsWeight}
+use Rattle.pb_model.specs.Plan.{Plan, Walk, IsPlan}
+use Rattle.pb_model.specs.Store.{MayBeCut}
+use Rattle.pb_model.specs.Certificate.{Line, Ascends, HasLineWithin, IsPlanIfAny, IsClosedLine, IsValid, cost_of}
+use Rattle.pb_check.specs.declared.kind.Kind.{Kind}
+use Rattle.pb_check.specs.declared.kind.Kind.TheVariants.{Grid, Tiles, Strips}
+use Rattle.pb_check.specs.declared.fault.Fault.{Fault}
+use Rattle.pb_check.specs.declared.fault.Fault.TheVariants as faults
+use Rattle.pb_check.specs.declared.fault.Verdict.{Verdict}
+use Rattle.pb_check.specs.declared.fault.CheckError.{CheckError}
+use Rattle.pb_check.specs.Shown.{IsAccepted}
+use Rattle.pb_check.specs.Faults.{◌>>=◌, Gives}
+use Rattle.pb_check.specs.Reading.{Text, plan_lines}
+use Rattle.pb_check.specs.Judging.{or_then, unless, same_kind, is_weight, after_step, walk, plan_fault, plan_fault_if_any, AreAbove, Rise, order_fault, rows_order_fault, first_fault_by, state_fault, g_of, is_zero, target_fault, step_fault, steps_fault, may_be_cut, row_fault, verdict_of, judged, checked}
+use Rattle.pb_check.proofs.Halving.{equal_at}
+use Rattle.pb_check.proofs.Readable.{readable}
+use Rattle.pb_check.proofs.Written.{spells}
+
+kind_same : (a : Kind) → same_kind a a ≡ true
+kind_same Grid = refl
+kind_same Tiles = refl
+kind_same Strips = refl
+
+both : (a b : Bool) → a ≡ true → b ≡ true → (a && b) ≡ true
+both true true x y = refl
+both false b x y = absurd cc
+both true false x y = absurd cc
+
+weight_ok : (weight : Weight) → IsWeight weight → is_weight weight ≡ true
+weight_ok weight w = both (leb 1 weight.den) (leb weight.den weight.num && leb weight.num 1000) (le-leb _ _ w.positive) (both (leb weight.den weight.num) (leb weight.num 1000) (le-leb _ _ w.at_least_one) (le-leb _ _ w.small))
+
+self : (n : ℕ) → eqb n n ≡ true
+self n = grind (arith, nat_tests)
+
+pair : (to from cost total : ℕ) → to ≡ from → cost ≡ total → ◌≡◌ {A = Result (ℕ × ℕ) Fault} (Ok (from, cost)) (Ok (to, total))
+pair to from cost total a b = cc
+
+walked : (space : Space) (from done cost : ℕ) (actions : List ℕ) (rest to : ℕ) → Walk space from actions rest to → walk space from done cost actions ≡ Ok (to, cost + rest)
+unfolding walk
+walked space from done cost [] rest to w = pair to from cost (cost + rest) w.1 (let z : rest ≡ 0 = w.0 in omega (arith, z))
+walked space from done cost (action ∷ actions) rest to w =
+    ap (after_step done (λ next first. walk space next (done + 1) (cost + first) actions)) w.3 ∙ walked space w.0 (done + 1) (cost + w.1) actions w.2 to w.4
+    ∙ ap (λ (k : ℕ). Ok (to, k)) (let z : rest ≡ w.1 + w.2 = w.5 in omega (arith, z))
+
+plan_ok : (space : Space) (plan : Plan) → IsPlan space plan → plan_fault space plan ≡ Ok true
+unfolding plan_fault
+plan_ok space plan is =
+    let w : walk space space.start 0 0 plan.actions ≡ Ok (is.0, 0 + plan.cost) = walked space space.start 0 0 plan.actions plan.cost is.0 is.1 in
+    let c : eqb plan.cost (0 + plan.cost) ≡ true = grind (arith, nat_tests) in
+    let g : space.is_goal is.0 ≡ true = is.2 in
+    rw (w, g, c) refl
+
+plan_ok_if_any : (space : Space) (plan : Option Plan) → IsPlanIfAny space plan → plan_fault_if_any space plan ≡ Ok true
+plan_ok_if_any space None is = refl
+plan_ok_if_any space (Some plan) is = plan_ok space plan is
+
+-- ---- the rows
+
+less_is : (a b : ℕ) → nat_cmp a b ≡ Less → a < b
+less_is a b e = grind (arith, nat_tests, e)
+
+above : (rows : List Line) (row : Line) → Ascends (row ∷ rows) → AreAbove row.state rows
+unfolding IsStrictlySortedBy
+above [] row h = tt
+above (next ∷ rows) row h = (less_is row.state next.state h.0.0, above rows next h.1)
+
+pub rises : (rows : List Line) → Ascends rows → Rise rows
+rises [] h = tt
+rises (row ∷ rows) h = above rows row h
+
+order_ok : (line before : ℕ) (rows : List Line) → AreAbove before rows → order_fault line before rows ≡ None
+unfolding order_fault
+order_ok line before [] h = refl
+order_ok line before (row ∷ rows) h = let lt : ltb before row.state ≡ true = lt-ltb _ _ h.0 in rw lt (order_ok (line + 1) row.state rows h.1)
+
+rows_order_ok : (line : ℕ) (rows : List Line) → Rise rows → rows_order_fault line rows ≡ None
+rows_order_ok line [] h = refl
+rows_order_ok line (row ∷ rows) h = order_ok (line + 1) row.state rows h
+
+each_ok : (fault : (line : ℕ) → Line → Option Fault) (P : Line → Type 0) (line : ℕ) (rows : List Line) → ((k : ℕ) (row : Line) → P row → fault k row ≡ None) → All P rows → first_fault_by fault line rows ≡ None
+unfolding first_fault_by
+each_ok fault P line [] so h = refl
+each_ok fault P line (row ∷ rows) so h =
+    ap (λ f. or_then f (first_fault_by fault (line + 1) rows)) (so line row (All-head P row rows h)) ∙ each_ok fault P (line + 1) rows so (All-tail P row rows h)
+
+found : (rows : List Line) → Rise rows → (state most : ℕ) → HasLineWithin rows state most → (g : ℕ) × (g_of rows state ≡ Some g) × (g ≤ most)
+found rows rise state most h =
+    let at : Contains rows h.0 = h.1 in
+    (h.0.g, sym (equal_at rows at.0 h.0 at.1 (sym at.2) rise state h.2), h.3)
+
+zero_ok : (g : Option ℕ) (k : ℕ) → g ≡ Some k → k ≤ 0 → is_zero g ≡ true
+zero_ok g k e le = let z : k ≡ 0 = omega (arith, le) in ap is_zero e ∙ ap (λ n. eqb n 0) z
+
+target_ok : (line action most : ℕ) (g : Option ℕ) (k : ℕ) → g ≡ Some k → k ≤ most → target_fault line action most g ≡ None
+target_ok line action most g k e le = ap (target_fault line action most) e ∙ ap (λ b. unless b (faults.TooDear line action)) (le-leb k most le)
+
+may_ok : (weight : Weight) (best : Option ℕ) (g : ℕ) (e : Estimate) → MayBeCut weight best g e → may_be_cut weight best g e ≡ true
+may_ok weight best g Dead h = refl
+may_ok weight None g (Cost x) h = absurd h
+may_ok weight (Some best) g (Cost x) h = le-leb _ _ h
+
+module _ (space : Space) (estimate : ℕ → Estimate) (weight : Weight) (best : Option ℕ) (rows : List Line) (rise : Rise rows) where
+  steps_ok : (line g state count : ℕ) → ((action to cost : ℕ) → Steps space state action to cost → HasLineWithin rows to (g + cost)) → steps_fault space rows line g state count ≡ None
+  unfolding steps_fault
+  steps_ok line g state zero so = refl
+  steps_ok line g state (suc action) so =
+      ap (λ f. or_then f (step_fault rows line g action (space.step state action))) (steps_ok line g state action so) ∙ go (space.step state action) refl
+    where
+      go : (r : Option (ℕ × ℕ)) → space.step state action ≡ r → step_fault rows line g action r ≡ None
+      go None e = refl
+      go (Some step) e = let f = found rows rise step.0 (g + step.1) (so action step.0 step.1 e) in target_ok line action (g + step.1) (g_of rows step.0) f.0 f.1 f.2
+
+  row_ok : (line : ℕ) (row : Line) → (IsTrue row.is_closed → IsClosedLine space rows row) → (IsFalse row.is_closed → MayBeCut weight best row.g (estimate row.state)) → row_fault space estimate weight best rows line row ≡ None
+  unfolding row_fault
+  row_ok line row closed cut = go row.is_closed refl
+    where
+      go : (b : Bool) → row.is_closed ≡ b → cond b (cond (space.is_goal row.state) (Some (faults.GoalClosed line)) (steps_fault space rows line row.g row.state space.actions)) (unless (may_be_cut weight best row.g (estimate row.state)) (faults.Low line)) ≡ None
+      go true e = let is = closed e in
+          ap (λ b. cond b (Some (faults.GoalClosed line)) (steps_fault space rows line row.g row.state space.actions)) is.no_goal ∙ steps_ok line row.g row.state space.actions is.successors
+      go false e = ap (λ b. unless b (faults.Low line)) (may_ok weight best row.g (estimate row.state) (cut e))
+
+  rows_ok : (line : ℕ) (some : List Line) → All (λ row. IsTrue row.is_closed → IsClosedLine space rows row) some → All (λ row. IsFalse row.is_closed → MayBeCut weight best row.g (estimate row.state)) some → first_fault_by (row_fault space estimate weight best rows) line some ≡ None
+  unfolding first_fault_by
+  rows_ok line [] a b = refl
+  rows_ok line (row ∷ others) a b =
+      ap (λ f. or_then f (first_fault_by (row_fault space estimate weight best rows) (line + 1) others)) (row_ok line row (All-head (λ row. IsTrue row.is_closed → IsClosedLine space rows row) row others a) (All-head (λ row. IsFalse row.is_closed → MayBeCut weight best row.g (estimate row.state)) row others b))
+      ∙ rows_ok (line + 1) others (All-tail (λ row. IsTrue row.is_closed → IsClosedLine space rows row) row others a) (All-tail (λ row. IsFalse row.is_closed → MayBeCut weight best row.g (estimate row.state)) row others b)
+
+-- ---- all together
+
+judged_ok : (space : Space) (estimate : ℕ → Estimate) (kind : Kind) (text : Text) → text.kind ≡ kind → IsValid space estimate text.certificate → judged space estimate kind text ≡ Ok (verdict_of text.certificate.weight text.certificate.plan)
+unfolding judged
+judged_ok space estimate kind text is valid =
+    let lines = text.certificate.lines in
+    let weight = text.certificate.weight in
+    let best = cost_of text.certificate.plan in
+    let rise : Rise lines = rises lines valid.ascending in
+    let s = found lines rise space.start 0 valid.start in
+    let e1 : same_kind kind text.kind ≡ true = ap (same_kind kind) is ∙ kind_same kind in
+    let e2 : is_weight weight ≡ true = weight_ok weight valid.weight in
+    let e3 : plan_fault_if_any space text.certificate.plan ≡ Ok true = plan_ok_if_any space text.certificate.plan valid.plan in
+    let e4 : rows_order_fault text.first lines ≡ None = rows_order_ok text.first lines rise in
+    let e5 : first_fault_by (state_fault space) text.first lines ≡ None = each_ok (state_fault space) (λ line. IsTrue (space.is_state line.state)) text.first lines (λ k row h. ap (λ b. unless b (faults.BadState k)) h) valid.states in
+    let e6 : is_zero (g_of lines space.start) ≡ true = zero_ok (g_of lines space.start) s.0 s.1 s.2 in
+    let e7 : first_fault_by (row_fault space estimate weight best lines) text.first lines ≡ None = rows_ok space estimate weight best lines rise text.first lines valid.closed valid.cut in
+    rw (e1, e2, e3, e4, e5, e6, e7) refl
+
+accepts : (space : Space) (estimate : ℕ → Estimate) (kind : Kind) (bytes : List ℕ) (verdict : Verdict) → IsAccepted space estimate kind bytes verdict → checked space estimate kind bytes ≡ Ok verdict
+unfolding checked
+accepts space estimate kind bytes verdict is =
+    let text : Text = record { kind = kind; certificate = is.certificate; first = 5 + plan_lines is.certificate.plan } in
+    ap (λ r. r >>= λ text. judged space estimate kind text) (readable bytes text (spells bytes text is.spelled refl)) ∙ judged_ok space estimate kind text refl is.valid ∙ ap (λ (v : Verdict). Ok v) (sym is.verdict_is)
+
+pub gives_accepted : (space : Space) (estimate : ℕ → Estimate) (kind : Kind) (bytes : List ℕ) (r : Result Verdict CheckError) → Gives (λ x. x) r (checked space estimate kind bytes)
+    → (verdict : Verdict) → IsAccepted space estimate kind bytes verdict → Gives (λ x. x) r (Ok verdict)
+gives_accepted space estimate kind bytes r e verdict is = subst (Gives (λ x. x) r) (accepts space estimate kind bytes verdict is) e

@@ -1,0 +1,16 @@
+pub mod Lines
+pub mod Places
+pub mod Loops
+pub mod Walks
+pub mod Halving
+pub mod Passes
+pub mod Spelled
+pub mod Readable
+pub mod States
+pub mod Numbers
+pub mod Written
+pub mod Validity
+pub mod Completeness
+pub mod Claims
+pub mod Known
+pub mod Judged

@@ -1,0 +1,272 @@
+-- What is spelled so is read.
+use Rattle.std.proofs.Common.{◌≡◌, ℕ, suc, ◌+◌, ◌-◌, ◌*◌, ◌^◌, ◌<◌, ◌≤◌, Bool, true, false, ◌&&◌, not, cond, eqb, ltb, leb, Option, None, Some, List, [], ◌∷◌, ◌++◌, length, take, drop, Result, Ok, Err, refl, sym, ap, ◌∙◌, arith, append-nil, append_assoc, length-append}
+use Rattle.std.specs.Prelude.{codes}
+use Rattle.std.specs.List.{list_all}
+use Rattle.std.proofs.lemmas.List.{take_at, drop_at}
+use Rattle.std.proofs.lemmas.Bool.{lt-ltb}
+use Rattle.std.proofs.lemmas.Bool.Decides.{nat_tests}
+use Rattle.pb_model.specs.Weight.{Weight}
+use Rattle.pb_model.specs.Plan.{Plan}
+use Rattle.pb_model.specs.Certificate.{Line}
+use Rattle.pb_check.specs.declared.kind.Kind.{Kind}
+use Rattle.pb_check.specs.declared.kind.Kind.TheVariants.{Grid, Tiles, Strips}
+use Rattle.pb_check.specs.declared.fault.Fault.{Fault}
+use Rattle.pb_check.specs.declared.fault.Fault.TheVariants.{Syntax}
+use Rattle.pb_check.specs.Words.{place_of, behind, is_digit, is_padded, number_after, number_of, hex_value, hex_after, state_of}
+use Rattle.pb_check.specs.Faults.{◌>>=◌, wanted}
+use Rattle.pb_check.specs.Reading.{part, line_at, is_all, is_text, number_behind, kind_in, weight_in, closed_in, row_in, fixed_at, number_at, kind_at, weight_at, row_at, actions_at, rows_at, steps_at, plan_at, plan_lines, Text, end_at, body_at, text_of}
+use Rattle.pb_check.proofs.Lines.{value_after, hex_value_after, IsNumberWord, IsStateWord, BeginsWith, BeginsWithNumber, kind_text, closed_text, IsWeightLine, IsRowLine, AreActionLines, AreRowLines, ArePlanLines, Spells}
+
+conjuncts : (a b : Bool) → (a && b) ≡ true → (a ≡ true) × (b ≡ true)
+conjuncts true b e = (refl, e)
+conjuncts false b e = absurd cc
+
+both : (a b : Bool) → a ≡ true → b ≡ true → (a && b) ≡ true
+both true true x y = refl
+both false b x y = absurd cc
+both true false x y = absurd cc
+
+-- ---- texts without a byte
+
+abbrev has_none : (byte : ℕ) → List ℕ → Bool
+has_none byte [] = true
+has_none byte (b ∷ bs) = not (eqb b byte) && has_none byte bs
+
+none_both : (byte : ℕ) (xs ys : List ℕ) → has_none byte xs ≡ true → has_none byte ys ≡ true → has_none byte (xs ++ ys) ≡ true
+none_both byte [] ys a b = b
+none_both byte (x ∷ xs) ys a b = let c = conjuncts (not (eqb x byte)) (has_none byte xs) a in both (not (eqb x byte)) (has_none byte (xs ++ ys)) c.0 (none_both byte xs ys c.1 b)
+
+place_is : (byte : ℕ) (front rest : List ℕ) → has_none byte front ≡ true → place_of byte (front ++ byte ∷ rest) ≡ length front
+unfolding place_of
+place_is byte [] rest none = let e : eqb byte byte ≡ true = grind (arith, nat_tests) in ap (λ t. cond t 0 (suc (place_of byte rest))) e
+place_is byte (b ∷ front) rest none =
+    let c = conjuncts (not (eqb b byte)) (has_none byte front) none in
+    ap (λ t. cond t 0 (suc (place_of byte (front ++ byte ∷ rest)))) (is_not (eqb b byte) c.0) ∙ ap suc (place_is byte front rest c.1)
+  where
+    is_not : (t : Bool) → not t ≡ true → t ≡ false
+    is_not false e = refl
+    is_not true e = absurd cc
+
+part_again : (byte : ℕ) (front rest : List ℕ) → has_none byte front ≡ true → part byte (front ++ byte ∷ rest) ≡ Some (front, rest)
+part_again byte front rest none =
+    let p : place_of byte (front ++ byte ∷ rest) ≡ length front = place_is byte front rest none in
+    let lt : ltb (length front) (length (front ++ byte ∷ rest)) ≡ true = lt-ltb _ _ (omega (arith, length-append front (byte ∷ rest))) in
+    let t : take (length front) (front ++ byte ∷ rest) ≡ front = take_at front (byte ∷ rest) (length front) refl in
+    let g : front ++ byte ∷ rest ≡ (front ++ byte ∷ []) ++ rest = sym (append_assoc front (byte ∷ []) rest) in
+    let d : drop (length front + 1) ((front ++ byte ∷ []) ++ rest) ≡ rest = drop_at (front ++ byte ∷ []) rest (length front + 1) (length-append front (byte ∷ [])) in
+    rw (p, lt, t) (ap (λ (r : List ℕ). Some (front, r)) (ap (drop (length front + 1)) g ∙ d))
+
+behind_again : (piece rest : List ℕ) → behind piece (piece ++ rest) ≡ Some rest
+unfolding behind
+behind_again [] rest = refl
+behind_again (p ∷ ps) rest = let e : eqb p p ≡ true = grind (arith, nat_tests) in ap (λ t. cond t (behind ps (ps ++ rest)) None) e ∙ behind_again ps rest
+
+text_again : (piece : List ℕ) → is_text piece piece ≡ true
+text_again piece = ap is_all (ap (behind piece) (sym (append-nil piece)) ∙ behind_again piece [])
+
+-- ---- numbers and states
+
+grows : (n : ℕ) (word : List ℕ) → n ≤ value_after n word
+grows n [] = omega arith
+grows n (b ∷ bs) = let h = grows (n * 10 + (b - 48)) bs in omega (arith, h)
+
+number_after_again : (n : ℕ) (word : List ℕ) → list_all is_digit word ≡ true → value_after n word < 2 ^ 63 → number_after n word ≡ Some (value_after n word)
+unfolding number_after
+number_after_again n [] digits small = refl
+number_after_again n (b ∷ bs) digits small =
+    let c = conjuncts (is_digit b) (list_all is_digit bs) digits in
+    let h = grows (n * 10 + (b - 48)) bs in
+    let s : value_after (n * 10 + (b - 48)) bs < 2 ^ 63 = small in
+    let lt : ltb (n * 10 + (b - 48)) (2 ^ 63) ≡ true = lt-ltb _ _ (omega (arith, h, s)) in
+    ap (λ t. cond t (number_after (n * 10 + (b - 48)) bs) None) (both (is_digit b) (ltb (n * 10 + (b - 48)) (2 ^ 63)) c.0 lt) ∙ number_after_again (n * 10 + (b - 48)) bs c.1 small
+
+pub number_again : (word : List ℕ) (n : ℕ) → IsNumberWord word n → number_of word ≡ Some n
+number_again word n is =
+    let e : eqb (length word) 0 ≡ false = (let s = is.some in grind (arith, nat_tests, s)) in
+    let v : value_after 0 word < 2 ^ 63 = (let a = is.value in let b = is.small in omega (arith, a, b)) in
+    ap (λ t. cond t None (cond (is_padded word) None (number_after 0 word))) e ∙ ap (λ t. cond t None (number_after 0 word)) is.unpadded ∙ number_after_again 0 word is.digits v ∙ ap (λ (k : ℕ). Some k) (sym is.value)
+
+hex_after_again : (n : ℕ) (word : List ℕ) → list_all (λ b. ltb (hex_value b) 16) word ≡ true → hex_after n word ≡ Some (hex_value_after n word)
+unfolding hex_after
+hex_after_again n [] digits = refl
+hex_after_again n (b ∷ bs) digits =
+    let c = conjuncts (ltb (hex_value b) 16) (list_all (λ b. ltb (hex_value b) 16) bs) digits in
+    ap (λ t. cond t (hex_after (n * 16 + hex_value b) bs) None) c.0 ∙ hex_after_again (n * 16 + hex_value b) bs c.1
+
+pub state_again : (word : List ℕ) (state : ℕ) → IsStateWord word state → state_of word ≡ Some state
+state_again word state is =
+    let e : eqb (length word) 64 ≡ true = (let s = is.sixty_four in grind (arith, nat_tests, s)) in
+    ap (λ t. cond t (hex_after 0 word) None) e ∙ hex_after_again 0 word is.digits ∙ ap (λ (k : ℕ). Some k) (sym is.value)
+
+-- ---- words have neither a space nor an end of a line
+
+digit_is_none : (byte b : ℕ) → byte < 48 → is_digit b ≡ true → not (eqb b byte) ≡ true
+digit_is_none byte b small e = let c = conjuncts (leb 48 b) (leb b 57) e in grind (arith, nat_tests, small, c)
+
+number_has_none : (byte : ℕ) (word : List ℕ) → byte < 48 → list_all is_digit word ≡ true → has_none byte word ≡ true
+number_has_none byte [] small e = refl
+number_has_none byte (b ∷ bs) small e = let c = conjuncts (is_digit b) (list_all is_digit bs) e in both (not (eqb b byte)) (has_none byte bs) (digit_is_none byte b small c.0) (number_has_none byte bs small c.1)
+
+hex_is_none : (byte b : ℕ) → byte < 48 → ltb (hex_value b) 16 ≡ true → not (eqb b byte) ≡ true
+hex_is_none byte b small e = grind (arith, nat_tests, small, e)
+
+state_has_none : (byte : ℕ) (word : List ℕ) → byte < 48 → list_all (λ b. ltb (hex_value b) 16) word ≡ true → has_none byte word ≡ true
+state_has_none byte [] small e = refl
+state_has_none byte (b ∷ bs) small e = let c = conjuncts (ltb (hex_value b) 16) (list_all (λ b. ltb (hex_value b) 16) bs) e in both (not (eqb b byte)) (has_none byte bs) (hex_is_none byte b small c.0) (state_has_none byte bs small c.1)
+
+-- ---- lines
+
+abbrev fine : {A : Type 0} → A → Result A Fault
+fine x = Ok x
+
+line_again : (line : ℕ) (text first rest : List ℕ) → BeginsWith text first rest → has_none 10 first ≡ true → line_at line text ≡ Ok (first, rest)
+line_again line text first rest is none = ap (λ t. wanted line (part 10 t)) is ∙ ap (wanted line) (part_again 10 first rest none)
+
+fixed_again : (line : ℕ) (piece text rest : List ℕ) → BeginsWith text piece rest → has_none 10 piece ≡ true → fixed_at line piece text ≡ Ok rest
+unfolding fixed_at
+fixed_again line piece text rest is none =
+    ap (λ r. r >>= λ first. cond (is_text piece first.0) (Ok first.1) (Err (Syntax line))) (line_again line text piece rest is none) ∙ ap (λ t. cond t (Ok rest) (Err (Syntax line))) (text_again piece)
+
+behind_number_again : (line : ℕ) (piece word : List ℕ) (n : ℕ) → IsNumberWord word n → number_behind line piece (piece ++ word) ≡ Ok n
+behind_number_again line piece word n is =
+    ap (λ o. wanted line o >>= λ word. wanted line (number_of word)) (behind_again piece word) ∙ ap (wanted line) (number_again word n is)
+
+number_line_again : (line : ℕ) (piece text : List ℕ) (n : ℕ) (rest : List ℕ) → has_none 10 piece ≡ true → BeginsWithNumber text piece n rest → number_at line piece text ≡ Ok (n, rest)
+unfolding number_at
+number_line_again line piece text n rest none is =
+    ap (λ r. r >>= λ first. number_behind line piece first.0 >>= λ n. Ok (n, first.1)) (line_again line text (piece ++ is.0) rest is.2 (none_both 10 piece is.0 none (number_has_none 10 is.0 (omega arith) is.1.digits)))
+    ∙ ap (λ r. r >>= λ n. fine (n, rest)) (behind_number_again line piece is.0 n is.1)
+
+-- ---- what a line says
+
+abbrev fine_weight : (num den : ℕ) → Result Weight Fault
+fine_weight num den = Ok (record { num = num; den = den })
+
+abbrev fine_row : (state g : ℕ) → Bool → Result Line Fault
+fine_row state g is_closed = Ok (record { state = state; g = g; is_closed = is_closed })
+
+kind_again : (line : ℕ) (k : Kind) → kind_in line (kind_text k) ≡ Ok k
+unfolding kind_in behind
+kind_again line Grid = refl
+kind_again line Tiles = refl
+kind_again line Strips = refl
+
+kind_none : (k : Kind) → has_none 10 (kind_text k) ≡ true
+kind_none Grid = refl
+kind_none Tiles = refl
+kind_none Strips = refl
+
+closed_again : (line : ℕ) (c : Bool) → closed_in line (closed_text c) ≡ Ok c
+unfolding closed_in behind
+closed_again line true = refl
+closed_again line false = refl
+
+closed_none : (c : Bool) → has_none 10 (closed_text c) ≡ true
+closed_none true = refl
+closed_none false = refl
+
+weight_again : (line : ℕ) (text : List ℕ) (w : Weight) → IsWeightLine text w → weight_in line text ≡ Ok w
+unfolding weight_in
+weight_again line text w is =
+    let den_of = λ (num : ℕ) (den : Option ℕ). wanted line den >>= λ den. fine_weight num den in
+    let num_of = λ (num : Option ℕ). wanted line num >>= λ num. den_of num (number_of is.den) in
+    let parts_of = λ (o : Option (List ℕ × List ℕ)). wanted line o >>= λ parts. wanted line (number_of parts.0) >>= λ num. den_of num (number_of parts.1) in
+    ap (weight_in line) is.line_is
+    ∙ ap (λ o. wanted line o >>= λ words. parts_of (part 32 words)) (behind_again (codes "weight ") (is.num ++ 32 ∷ is.den))
+    ∙ ap parts_of (part_again 32 is.num is.den (number_has_none 32 is.num (omega arith) is.num_is.digits))
+    ∙ ap num_of (number_again is.num w.num is.num_is)
+    ∙ ap (den_of w.num) (number_again is.den w.den is.den_is)
+
+weight_none : (text : List ℕ) (w : Weight) → IsWeightLine text w → has_none 10 text ≡ true
+weight_none text w is = ap (has_none 10) is.line_is
+    ∙ none_both 10 (codes "weight ") (is.num ++ 32 ∷ is.den) refl (none_both 10 is.num (32 ∷ is.den) (number_has_none 10 is.num (omega arith) is.num_is.digits) (number_has_none 10 is.den (omega arith) is.den_is.digits))
+
+row_again : (line : ℕ) (text : List ℕ) (row : Line) → IsRowLine text row → row_in line text ≡ Ok row
+unfolding row_in
+row_again line text row is =
+    let end_of = λ (state g : ℕ) (r : Result Bool Fault). r >>= λ is_closed. fine_row state g is_closed in
+    let g_of = λ (state : ℕ) (o : Option ℕ). wanted line o >>= λ g. end_of state g (closed_in line (closed_text row.is_closed)) in
+    let state_of_word = λ (o : Option ℕ). wanted line o >>= λ state. g_of state (number_of is.g) in
+    let back_of = λ (o : Option (List ℕ × List ℕ)). wanted line o >>= λ back. wanted line (state_of is.state) >>= λ state. wanted line (number_of back.0) >>= λ g. end_of state g (closed_in line back.1) in
+    let front_of = λ (o : Option (List ℕ × List ℕ)). wanted line o >>= λ front. wanted line (part 32 front.1) >>= λ back. wanted line (state_of front.0) >>= λ state. wanted line (number_of back.0) >>= λ g. end_of state g (closed_in line back.1) in
+    ap (row_in line) is.line_is
+    ∙ ap front_of (part_again 32 is.state (is.g ++ 32 ∷ closed_text row.is_closed) (state_has_none 32 is.state (omega arith) is.state_is.digits))
+    ∙ ap back_of (part_again 32 is.g (closed_text row.is_closed) (number_has_none 32 is.g (omega arith) is.g_is.digits))
+    ∙ ap state_of_word (state_again is.state row.state is.state_is)
+    ∙ ap (g_of row.state) (number_again is.g row.g is.g_is)
+    ∙ ap (end_of row.state row.g) (closed_again line row.is_closed)
+
+row_none : (text : List ℕ) (row : Line) → IsRowLine text row → has_none 10 text ≡ true
+row_none text row is = ap (has_none 10) is.line_is
+    ∙ none_both 10 is.state (32 ∷ (is.g ++ 32 ∷ closed_text row.is_closed)) (state_has_none 10 is.state (omega arith) is.state_is.digits)
+    (none_both 10 is.g (32 ∷ closed_text row.is_closed) (number_has_none 10 is.g (omega arith) is.g_is.digits) (closed_none row.is_closed))
+
+-- ---- lines in a row
+
+actions_again : (line : ℕ) (text actions rest : List ℕ) → AreActionLines text actions rest → actions_at (length actions) line text ≡ Ok (actions, rest)
+unfolding actions_at
+actions_again line text [] rest is = ap (λ (t : List ℕ). fine ([], t)) is
+actions_again line text (action ∷ actions) rest is =
+    ap (λ r. r >>= λ first. actions_at (length actions) (line + 1) first.1 >>= λ others. fine (first.0 ∷ others.0, others.1)) (number_line_again line [] text action is.0 refl is.1)
+    ∙ ap (λ r. r >>= λ others. fine (action ∷ others.0, others.1)) (actions_again (line + 1) is.0 actions rest is.2)
+
+rows_again : (line : ℕ) (text : List ℕ) (rows : List Line) (rest : List ℕ) → AreRowLines text rows rest → rows_at (length rows) line text ≡ Ok (rows, rest)
+unfolding rows_at row_at
+rows_again line text [] rest is = ap (λ (t : List ℕ). fine ([], t)) is
+rows_again line text (row ∷ rows) rest is =
+    let one : row_at line text ≡ Ok (row, is.1) =
+    ap (λ r. r >>= λ first. row_in line first.0 >>= λ row. fine (row, first.1)) (line_again line text is.0 is.1 is.2 (row_none is.0 row is.3))
+    ∙ ap (λ r. r >>= λ row. fine (row, is.1)) (row_again line is.0 row is.3) in
+    ap (λ r. r >>= λ first. rows_at (length rows) (line + 1) first.1 >>= λ others. fine (first.0 ∷ others.0, others.1)) one
+    ∙ ap (λ r. r >>= λ others. fine (row ∷ others.0, others.1)) (rows_again (line + 1) is.1 rows rest is.4)
+
+-- a text that begins otherwise is not this one
+plan_is_not_none : (word : List ℕ) → is_text (codes "none") (codes "plan " ++ word) ≡ false
+unfolding behind
+plan_is_not_none word = refl
+
+plan_again : (line : ℕ) (text : List ℕ) (plan : Option Plan) (rest : List ℕ) → ArePlanLines text plan rest → plan_at line text ≡ Ok (plan, rest)
+unfolding plan_at steps_at
+plan_again line text None rest is =
+    ap (λ r. r >>= λ first. cond (is_text (codes "none") first.0) (fine (None, first.1)) (number_behind line (codes "plan ") first.0 >>= λ count. steps_at count (line + 1) first.1 >>= λ plan. Ok (Some plan.0, plan.1))) (line_again line text (codes "none") rest is refl)
+    ∙ ap (λ t. cond t (fine (None, rest)) (number_behind line (codes "plan ") (codes "none") >>= λ count. steps_at count (line + 1) rest >>= λ plan. Ok (Some plan.0, plan.1))) (text_again (codes "none"))
+plan_again line text (Some plan) rest is =
+    let word = is.2.0 in
+    let first = codes "plan " ++ word in
+    let after = λ (r : Result ℕ Fault). r >>= λ count. steps_at count (line + 1) is.0 >>= λ plan. fine (Some plan.0, plan.1) in
+    let steps : steps_at (length plan.actions) (line + 1) is.0 ≡ Ok (plan, rest) =
+    ap (λ r. r >>= λ actions. number_at (line + 1 + length actions.0) (codes "cost ") actions.1 >>= λ cost. fine (record { actions = actions.0; cost = cost.0 }, cost.1)) (actions_again (line + 1) is.0 plan.actions is.1 is.3)
+    ∙ ap (λ r. r >>= λ cost. fine (record { actions = plan.actions; cost = cost.0 }, cost.1)) (number_line_again (line + 1 + length plan.actions) (codes "cost ") is.1 plan.cost rest refl is.4) in
+    ap (λ r. r >>= λ first. cond (is_text (codes "none") first.0) (fine (None, first.1)) (number_behind line (codes "plan ") first.0 >>= λ count. steps_at count (line + 1) first.1 >>= λ plan. Ok (Some plan.0, plan.1)))
+    (line_again line text first is.0 is.2.2 (none_both 10 (codes "plan ") word refl (number_has_none 10 word (omega arith) is.2.1.digits)))
+    ∙ ap (λ t. cond t (fine (None, is.0)) (after (number_behind line (codes "plan ") first))) (plan_is_not_none word)
+    ∙ ap after (behind_number_again line (codes "plan ") word (length plan.actions) is.2.1)
+    ∙ ap (λ r. r >>= λ plan. fine (Some plan.0, plan.1)) steps
+
+body_again : (line : ℕ) (text row_part end_line : List ℕ) (rows : List Line) → BeginsWithNumber text (codes "rows ") (length rows) row_part → AreRowLines row_part rows end_line → BeginsWith end_line (codes "end") [] → body_at line text ≡ Ok rows
+unfolding body_at end_at
+body_again line text row_part end_line rows count are end =
+    ap (λ r. r >>= λ count. rows_at count.0 (line + 1) count.1 >>= λ rows. end_at (line + 1 + length rows.0) rows.1 >>= λ ended. fine rows.0) (number_line_again line (codes "rows ") text (length rows) row_part refl count)
+    ∙ ap (λ r. r >>= λ rows. end_at (line + 1 + length rows.0) rows.1 >>= λ ended. fine rows.0) (rows_again (line + 1) row_part rows end_line are)
+    ∙ ap (λ r. (r >>= λ rest. cond (eqb (length rest) 0) (Ok true) (Err (Syntax (line + 1 + length rows + 1)))) >>= λ ended. fine rows) (fixed_again (line + 1 + length rows) (codes "end") end_line [] end refl)
+
+pub readable : (bytes : List ℕ) (text : Text) → Spells bytes text → text_of bytes ≡ Ok text
+unfolding text_of kind_at weight_at
+readable bytes text is =
+    let c = text.certificate in
+    let n = plan_lines c.plan in
+    let first : fixed_at 1 (codes "pbnf-certificate 1") bytes ≡ Ok is.kind_line = fixed_again 1 (codes "pbnf-certificate 1") bytes is.kind_line is.head refl in
+    let kind : kind_at 2 is.kind_line ≡ Ok (text.kind, is.weight_line) =
+    ap (λ r. r >>= λ first. kind_in 2 first.0 >>= λ kind. fine (kind, first.1)) (line_again 2 is.kind_line (kind_text text.kind) is.weight_line is.kind (kind_none text.kind))
+    ∙ ap (λ r. r >>= λ kind. fine (kind, is.weight_line)) (kind_again 2 text.kind) in
+    let weight : weight_at 3 is.weight_line ≡ Ok (c.weight, is.plan_part) =
+    ap (λ r. r >>= λ first. weight_in 3 first.0 >>= λ weight. fine (weight, first.1)) (line_again 3 is.weight_line is.weight_words is.plan_part is.weight.0 (weight_none is.weight_words c.weight is.weight.1))
+    ∙ ap (λ r. r >>= λ weight. fine (weight, is.plan_part)) (weight_again 3 is.weight_words c.weight is.weight.1) in
+    let plan : plan_at 4 is.plan_part ≡ Ok (c.plan, is.count_line) = plan_again 4 is.plan_part c.plan is.count_line is.plan in
+    let body : body_at (4 + n) is.count_line ≡ Ok c.lines = body_again (4 + n) is.count_line is.row_part is.end_line c.lines is.count is.rows is.end in
+    ap (λ r. r >>= λ rest. kind_at 2 rest >>= λ kind. weight_at 3 kind.1 >>= λ weight. plan_at 4 weight.1 >>= λ plan. body_at (4 + plan_lines plan.0) plan.1 >>= λ rows. fine (record { kind = kind.0; certificate = record { weight = weight.0; plan = plan.0; lines = rows }; first = 5 + plan_lines plan.0 })) first
+    ∙ ap (λ r. r >>= λ kind. weight_at 3 kind.1 >>= λ weight. plan_at 4 weight.1 >>= λ plan. body_at (4 + plan_lines plan.0) plan.1 >>= λ rows. fine (record { kind = kind.0; certificate = record { weight = weight.0; plan = plan.0; lines = rows }; first = 5 + plan_lines plan.0 })) kind
+    ∙ ap (λ r. r >>= λ weight. plan_at 4 weight.1 >>= λ plan. body_at (4 + plan_lines plan.0) plan.1 >>= λ rows. fine (record { kind = text.kind; certificate = record { weight = weight.0; plan = plan.0; lines = rows }; first = 5 + plan_lines plan.0 })) weight
+    ∙ ap (λ r. r >>= λ plan. body_at (4 + plan_lines plan.0) plan.1 >>= λ rows. fine (record { kind = text.kind; certificate = record { weight = c.weight; plan = plan.0; lines = rows }; first = 5 + plan_lines plan.0 })) plan
+    ∙ ap (λ r. r >>= λ rows. fine (record { kind = text.kind; certificate = record { weight = c.weight; plan = c.plan; lines = rows }; first = 5 + n })) body
+    ∙ ap (λ (k : ℕ). fine (record { kind = text.kind; certificate = c; first = k })) (sym is.first)

@@ -1,0 +1,328 @@
+-- What is read is spelled so.
+use Rattle.std.proofs.Common.{◌≡◌, ℕ, zero, suc, ◌+◌, ◌-◌, ◌*◌, ◌^◌, ◌<◌, Bool, true, false, ◌&&◌, cond, eqb, ltb, Option, None, Some, List, [], ◌∷◌, ◌++◌, length, get_or, take, drop, Result, Ok, Err, refl, sym, ap, ◌∙◌, subst, arith, drop-cons, append-nil}
+use Rattle.std.specs.Prelude.{codes}
+use Rattle.std.specs.List.{list_all}
+use Rattle.std.proofs.lemmas.List.{take-append-drop, nil_from_length}
+use Rattle.std.proofs.lemmas.Bool.{eqb-true, ltb-true}
+use Rattle.pb_model.specs.Weight.{Weight}
+use Rattle.pb_model.specs.Plan.{Plan}
+use Rattle.pb_model.specs.Certificate.{Line}
+use Rattle.pb_check.specs.declared.kind.Kind.{Kind}
+use Rattle.pb_check.specs.declared.kind.Kind.TheVariants.{Grid, Tiles, Strips}
+use Rattle.pb_check.specs.declared.fault.Fault.{Fault}
+use Rattle.pb_check.specs.declared.fault.Fault.TheVariants.{Syntax}
+use Rattle.pb_check.specs.Words.{place_of, behind, is_digit, is_padded, number_after, number_of, hex_value, hex_after, state_of}
+use Rattle.pb_check.specs.Faults.{◌>>=◌, wanted}
+use Rattle.pb_check.specs.Reading.{part, line_at, is_all, is_text, number_behind, kind_in, weight_in, closed_in, row_in, fixed_at, number_at, kind_at, weight_at, row_at, actions_at, rows_at, steps_at, plan_at, plan_lines, Text, end_at, body_at, text_of}
+use Rattle.pb_check.proofs.Lines.{value_after, hex_value_after, IsNumberWord, IsStateWord, BeginsWith, BeginsWithNumber, kind_text, closed_text, IsWeightLine, IsRowLine, AreActionLines, AreRowLines, ArePlanLines, Spells}
+
+bind_ok : {A B : Type 0} (r : Result A Fault) (f : A → Result B Fault) (y : B) → (r >>= f) ≡ Ok y → (x : A) × (r ≡ Ok x) × (f x ≡ Ok y)
+bind_ok (Ok x) f y e = (x, refl, e)
+bind_ok (Err d) f y e = absurd cc
+
+wanted_ok : {A : Type 0} (line : ℕ) (o : Option A) (x : A) → wanted line o ≡ Ok x → o ≡ Some x
+wanted_ok line None x e = absurd cc
+wanted_ok {A} line (Some y) x e = ap (λ (z : A). Some z) (go y x e)
+  where
+    go : (y x : A) → ◌≡◌ {A = Result A Fault} (Ok y) (Ok x) → y ≡ x
+    go y x e = cc
+
+ok_is : {A : Type 0} (x y : A) → ◌≡◌ {A = Result A Fault} (Ok x) (Ok y) → x ≡ y
+ok_is x y e = cc
+
+some_is : {A : Type 0} (x y : A) → ◌≡◌ {A = Option A} (Some x) (Some y) → x ≡ y
+some_is x y e = cc
+
+guard_ok : {A : Type 0} (b : Bool) (d : Fault) (x y : A) → cond b (Ok x) (Err d) ≡ Ok y → (b ≡ true) × (x ≡ y)
+guard_ok true d x y e = (refl, ok_is x y e)
+guard_ok false d x y e = absurd cc
+
+if_some : {A : Type 0} (b : Bool) (o : Option A) (x : A) → cond b o None ≡ Some x → (b ≡ true) × (o ≡ Some x)
+if_some true o x e = (refl, e)
+if_some false o x e = absurd cc
+
+if_not_some : {A : Type 0} (b : Bool) (o : Option A) (x : A) → cond b None o ≡ Some x → (b ≡ false) × (o ≡ Some x)
+if_not_some true o x e = absurd cc
+if_not_some false o x e = (refl, e)
+
+conjuncts : (a b : Bool) → (a && b) ≡ true → (a ≡ true) × (b ≡ true)
+conjuncts true b e = (refl, e)
+conjuncts false b e = absurd cc
+
+both : (a b : Bool) → a ≡ true → b ≡ true → (a && b) ≡ true
+both true true x y = refl
+both false b x y = absurd cc
+both true false x y = absurd cc
+
+-- ---- parts of a text
+
+at_place : (byte : ℕ) (text : List ℕ) → place_of byte text < length text → get_or text (place_of byte text) 0 ≡ byte
+unfolding place_of
+at_place byte [] lt = absurd (omega (arith, lt))
+at_place byte (b ∷ bs) lt = go (at_place byte bs) (eqb b byte) refl lt
+  where
+    go : (place_of byte bs < length bs → get_or bs (place_of byte bs) 0 ≡ byte) → (t : Bool) → eqb b byte ≡ t → cond t 0 (suc (place_of byte bs)) < suc (length bs) → get_or (b ∷ bs) (cond t 0 (suc (place_of byte bs))) 0 ≡ byte
+    go rest true e lt = eqb-true b byte e
+    go rest false e lt = rest (omega (arith, lt))
+
+part_is : (byte : ℕ) (text front rest : List ℕ) → part byte text ≡ Some (front, rest) → text ≡ front ++ byte ∷ rest
+part_is byte text front rest e =
+    let p = place_of byte text in
+    let h = if_some (ltb p (length text)) (Some (take p text, drop (p + 1) text)) (front, rest) e in
+    let lt : p < length text = ltb-true _ _ h.0 in
+    let pair = some_is (take p text, drop (p + 1) text) (front, rest) h.1 in
+    let s : p + 1 ≡ suc p = omega arith in
+    let cut : drop p text ≡ byte ∷ drop (p + 1) text = drop-cons text p 0 lt ∙ ap (λ b. b ∷ drop (suc p) text) (at_place byte text lt) ∙ ap (λ k. byte ∷ drop k text) (sym s) in
+    let whole : text ≡ take p text ++ byte ∷ drop (p + 1) text = sym (take-append-drop p text) ∙ ap (λ (t : List ℕ). take p text ++ t) cut in
+    whole ∙ ap (λ (x : List ℕ × List ℕ). x.0 ++ byte ∷ x.1) pair
+
+behind_is : (piece text rest : List ℕ) → behind piece text ≡ Some rest → text ≡ piece ++ rest
+unfolding behind
+behind_is [] text rest e = some_is text rest e
+behind_is (p ∷ ps) [] rest e = absurd cc
+behind_is (p ∷ ps) (b ∷ bs) rest e =
+    let h = if_some (eqb p b) (behind ps bs) rest e in
+    let same : b ≡ p = sym (eqb-true p b h.0) in
+    ap (λ x. x ∷ bs) same ∙ ap (λ (t : List ℕ). p ∷ t) (behind_is ps bs rest h.1)
+
+text_is : (piece text : List ℕ) → is_text piece text ≡ true → text ≡ piece
+text_is piece text e = go (behind piece text) refl e
+  where
+    go : (o : Option (List ℕ)) → behind piece text ≡ o → is_all o ≡ true → text ≡ piece
+    go None is e = absurd cc
+    go (Some rest) is e = behind_is piece text rest is ∙ ap (λ (r : List ℕ). piece ++ r) (nil_from_length rest (eqb-true _ _ e)) ∙ append-nil piece
+
+-- ---- words
+
+number_after_is : (n : ℕ) (word : List ℕ) (m : ℕ) → n < 2 ^ 63 → number_after n word ≡ Some m → (list_all is_digit word ≡ true) × (m ≡ value_after n word) × (m < 2 ^ 63)
+unfolding number_after
+number_after_is n [] m lt e = let s : n ≡ m = some_is n m e in (refl, sym s, omega (arith, lt, s))
+number_after_is n (b ∷ bs) m lt e =
+    let h = if_some (is_digit b && ltb (n * 10 + (b - 48)) (2 ^ 63)) (number_after (n * 10 + (b - 48)) bs) m e in
+    let c = conjuncts (is_digit b) (ltb (n * 10 + (b - 48)) (2 ^ 63)) h.0 in
+    let r = number_after_is (n * 10 + (b - 48)) bs m (ltb-true _ _ c.1) h.1 in
+    (both (is_digit b) (list_all is_digit bs) c.0 r.0, r.1, r.2)
+
+pub number_is : (word : List ℕ) (n : ℕ) → number_of word ≡ Some n → IsNumberWord word n
+number_is word n e =
+    let a = if_not_some (eqb (length word) 0) (cond (is_padded word) None (number_after 0 word)) n e in
+    let b = if_not_some (is_padded word) (number_after 0 word) n a.1 in
+    let c = number_after_is 0 word n (omega arith) b.1 in
+    record { some = grind (arith, a.0); digits = c.0; unpadded = b.0; value = c.1; small = c.2 }
+
+hex_after_is : (n : ℕ) (word : List ℕ) (m : ℕ) → hex_after n word ≡ Some m → (list_all (λ b. ltb (hex_value b) 16) word ≡ true) × (m ≡ hex_value_after n word)
+unfolding hex_after
+hex_after_is n [] m e = (refl, sym (some_is n m e))
+hex_after_is n (b ∷ bs) m e =
+    let h = if_some (ltb (hex_value b) 16) (hex_after (n * 16 + hex_value b) bs) m e in
+    let r = hex_after_is (n * 16 + hex_value b) bs m h.1 in
+    (both (ltb (hex_value b) 16) (list_all (λ b. ltb (hex_value b) 16) bs) h.0 r.0, r.1)
+
+pub state_is : (word : List ℕ) (state : ℕ) → state_of word ≡ Some state → IsStateWord word state
+state_is word state e =
+    let a = if_some (eqb (length word) 64) (hex_after 0 word) state e in
+    let r = hex_after_is 0 word state a.1 in
+    record { sixty_four = eqb-true _ _ a.0; digits = r.0; value = r.1 }
+
+-- ---- lines
+
+line_is : (line : ℕ) (text : List ℕ) (x : List ℕ × List ℕ) → line_at line text ≡ Ok x → BeginsWith text x.0 x.1
+line_is line text x e = part_is 10 text x.0 x.1 (wanted_ok line (part 10 text) x e)
+
+behind_number : (line : ℕ) (piece text : List ℕ) (n : ℕ) → number_behind line piece text ≡ Ok n → (word : List ℕ) × IsNumberWord word n × (text ≡ piece ++ word)
+behind_number line piece text n e =
+    let b = bind_ok (wanted line (behind piece text)) (λ word. wanted line (number_of word)) n e in
+    (b.0, number_is b.0 n (wanted_ok line (number_of b.0) n b.2), behind_is piece text b.0 (wanted_ok line (behind piece text) b.0 b.1))
+
+fixed_is : (line : ℕ) (piece text rest : List ℕ) → fixed_at line piece text ≡ Ok rest → BeginsWith text piece rest
+unfolding fixed_at
+fixed_is line piece text rest e =
+    let b = bind_ok (line_at line text) (λ first. cond (is_text piece first.0) (Ok first.1) (Err (Syntax line))) rest e in
+    let g = guard_ok (is_text piece b.0.0) (Syntax line) b.0.1 rest b.2 in
+    line_is line text b.0 b.1 ∙ ap (λ (t : List ℕ). t ++ 10 ∷ b.0.1) (text_is piece b.0.0 g.0) ∙ ap (λ (t : List ℕ). piece ++ 10 ∷ t) g.1
+
+number_line_is : (line : ℕ) (piece text : List ℕ) (x : ℕ × List ℕ) → number_at line piece text ≡ Ok x → BeginsWithNumber text piece x.0 x.1
+unfolding number_at
+number_line_is line piece text x e =
+    let b = bind_ok (line_at line text) (λ first. number_behind line piece first.0 >>= λ n. Ok (n, first.1)) x e in
+    let c = bind_ok (number_behind line piece b.0.0) (λ n. Ok (n, b.0.1)) x b.2 in
+    let w = behind_number line piece b.0.0 c.0 c.1 in
+    subst (λ (y : ℕ × List ℕ). BeginsWithNumber text piece y.0 y.1) (ok_is (c.0, b.0.1) x c.2)
+    (w.0, w.1, line_is line text b.0 b.1 ∙ ap (λ (t : List ℕ). t ++ 10 ∷ b.0.1) w.2)
+
+closed_is : (line : ℕ) (text : List ℕ) (c : Bool) → closed_in line text ≡ Ok c → text ≡ closed_text c
+unfolding closed_in
+closed_is line text c e = go (is_text (codes "closed") text) (is_text (codes "cut") text) refl refl e
+  where
+    go : (a b : Bool) → is_text (codes "closed") text ≡ a → is_text (codes "cut") text ≡ b → cond a (Ok true) (cond b (Ok false) (Err (Syntax line))) ≡ Ok c → text ≡ closed_text c
+    go true b x y e = text_is (codes "closed") text x ∙ ap closed_text (ok_is true c e)
+    go false true x y e = text_is (codes "cut") text y ∙ ap closed_text (ok_is false c e)
+    go false false x y e = absurd cc
+
+kind_is : (line : ℕ) (text : List ℕ) (k : Kind) → kind_in line text ≡ Ok k → text ≡ kind_text k
+unfolding kind_in
+kind_is line text k e = go (is_text (codes "kind grid") text) (is_text (codes "kind tiles") text) (is_text (codes "kind strips") text) refl refl refl e
+  where
+    go : (a b c : Bool) → is_text (codes "kind grid") text ≡ a → is_text (codes "kind tiles") text ≡ b → is_text (codes "kind strips") text ≡ c → cond a (Ok Grid) (cond b (Ok Tiles) (cond c (Ok Strips) (Err (Syntax line)))) ≡ Ok k → text ≡ kind_text k
+    go true b c x y z e = text_is (codes "kind grid") text x ∙ ap kind_text (ok_is Grid k e)
+    go false true c x y z e = text_is (codes "kind tiles") text y ∙ ap kind_text (ok_is Tiles k e)
+    go false false true x y z e = text_is (codes "kind strips") text z ∙ ap kind_text (ok_is Strips k e)
+    go false false false x y z e = absurd cc
+
+weight_is : (line : ℕ) (text : List ℕ) (w : Weight) → weight_in line text ≡ Ok w → IsWeightLine text w
+unfolding weight_in
+weight_is line text w e =
+    let a = bind_ok (wanted line (behind (codes "weight ") text)) _ w e in
+    let b = bind_ok (wanted line (part 32 a.0)) _ w a.2 in
+    let c = bind_ok (wanted line (number_of b.0.0)) _ w b.2 in
+    let d = bind_ok (wanted line (number_of b.0.1)) _ w c.2 in
+    subst (IsWeightLine text) (ok_is (record { num = c.0; den = d.0 }) w d.2)
+    (record {
+      num = b.0.0;
+      den = b.0.1;
+      line_is = behind_is (codes "weight ") text a.0 (wanted_ok line (behind (codes "weight ") text) a.0 a.1) ∙ ap (λ (t : List ℕ). codes "weight " ++ t) (part_is 32 a.0 b.0.0 b.0.1 (wanted_ok line (part 32 a.0) b.0 b.1));
+      num_is = number_is b.0.0 c.0 (wanted_ok line (number_of b.0.0) c.0 c.1);
+      den_is = number_is b.0.1 d.0 (wanted_ok line (number_of b.0.1) d.0 d.1);
+    })
+
+row_is : (line : ℕ) (text : List ℕ) (row : Line) → row_in line text ≡ Ok row → IsRowLine text row
+unfolding row_in
+row_is line text row e =
+    let a = bind_ok (wanted line (part 32 text)) _ row e in
+    let b = bind_ok (wanted line (part 32 a.0.1)) _ row a.2 in
+    let c = bind_ok (wanted line (state_of a.0.0)) _ row b.2 in
+    let d = bind_ok (wanted line (number_of b.0.0)) _ row c.2 in
+    let f = bind_ok (closed_in line b.0.1) _ row d.2 in
+    subst (IsRowLine text) (ok_is (record { state = c.0; g = d.0; is_closed = f.0 }) row f.2)
+    (record {
+      state = a.0.0;
+      g = b.0.0;
+      line_is = part_is 32 text a.0.0 a.0.1 (wanted_ok line (part 32 text) a.0 a.1)
+          ∙ ap (λ (t : List ℕ). a.0.0 ++ 32 ∷ t) (part_is 32 a.0.1 b.0.0 b.0.1 (wanted_ok line (part 32 a.0.1) b.0 b.1) ∙ ap (λ (t : List ℕ). b.0.0 ++ 32 ∷ t) (closed_is line b.0.1 f.0 f.1));
+      state_is = state_is a.0.0 c.0 (wanted_ok line (state_of a.0.0) c.0 c.1);
+      g_is = number_is b.0.0 d.0 (wanted_ok line (number_of b.0.0) d.0 d.1);
+    })
+
+kind_line_is : (line : ℕ) (text : List ℕ) (x : Kind × List ℕ) → kind_at line text ≡ Ok x → BeginsWith text (kind_text x.0) x.1
+unfolding kind_at
+kind_line_is line text x e =
+    let b = bind_ok (line_at line text) _ x e in
+    let c = bind_ok (kind_in line b.0.0) _ x b.2 in
+    subst (λ (y : Kind × List ℕ). BeginsWith text (kind_text y.0) y.1) (ok_is (c.0, b.0.1) x c.2) (line_is line text b.0 b.1 ∙ ap (λ (t : List ℕ). t ++ 10 ∷ b.0.1) (kind_is line b.0.0 c.0 c.1))
+
+weight_line_is : (line : ℕ) (text : List ℕ) (x : Weight × List ℕ) → weight_at line text ≡ Ok x → (words : List ℕ) × BeginsWith text words x.1 × IsWeightLine words x.0
+unfolding weight_at
+weight_line_is line text x e =
+    let b = bind_ok (line_at line text) _ x e in
+    let c = bind_ok (weight_in line b.0.0) _ x b.2 in
+    subst (λ (y : Weight × List ℕ). (words : List ℕ) × BeginsWith text words y.1 × IsWeightLine words y.0) (ok_is (c.0, b.0.1) x c.2) (b.0.0, line_is line text b.0 b.1, weight_is line b.0.0 c.0 c.1)
+
+row_line_is : (line : ℕ) (text : List ℕ) (x : Line × List ℕ) → row_at line text ≡ Ok x → (words : List ℕ) × BeginsWith text words x.1 × IsRowLine words x.0
+unfolding row_at
+row_line_is line text x e =
+    let b = bind_ok (line_at line text) _ x e in
+    let c = bind_ok (row_in line b.0.0) _ x b.2 in
+    subst (λ (y : Line × List ℕ). (words : List ℕ) × BeginsWith text words y.1 × IsRowLine words y.0) (ok_is (c.0, b.0.1) x c.2) (b.0.0, line_is line text b.0 b.1, row_is line b.0.0 c.0 c.1)
+
+-- ---- lines in a row
+
+actions_are : (count line : ℕ) (text : List ℕ) (x : List ℕ × List ℕ) → actions_at count line text ≡ Ok x → AreActionLines text x.0 x.1 × (length x.0 ≡ count)
+unfolding actions_at
+actions_are zero line text x e = subst (λ (y : List ℕ × List ℕ). AreActionLines text y.0 y.1 × (length y.0 ≡ 0)) (ok_is ([], text) x e) (refl, refl)
+actions_are (suc count) line text x e =
+    let b = bind_ok (number_at line [] text) _ x e in
+    let c = bind_ok (actions_at count (line + 1) b.0.1) _ x b.2 in
+    let r = actions_are count (line + 1) b.0.1 c.0 c.1 in
+    subst (λ (y : List ℕ × List ℕ). AreActionLines text y.0 y.1 × (length y.0 ≡ suc count)) (ok_is (b.0.0 ∷ c.0.0, c.0.1) x c.2) ((b.0.1, number_line_is line [] text b.0 b.1, r.0), ap suc r.1)
+
+rows_are : (count line : ℕ) (text : List ℕ) (x : List Line × List ℕ) → rows_at count line text ≡ Ok x → AreRowLines text x.0 x.1 × (length x.0 ≡ count)
+unfolding rows_at
+rows_are zero line text x e = subst (λ (y : List Line × List ℕ). AreRowLines text y.0 y.1 × (length y.0 ≡ 0)) (ok_is ([], text) x e) (refl, refl)
+rows_are (suc count) line text x e =
+    let b = bind_ok (row_at line text) _ x e in
+    let c = bind_ok (rows_at count (line + 1) b.0.1) _ x b.2 in
+    let r = rows_are count (line + 1) b.0.1 c.0 c.1 in
+    let w = row_line_is line text b.0 b.1 in
+    subst (λ (y : List Line × List ℕ). AreRowLines text y.0 y.1 × (length y.0 ≡ suc count)) (ok_is (b.0.0 ∷ c.0.0, c.0.1) x c.2) ((w.0, b.0.1, w.1, w.2, r.0), ap suc r.1)
+
+plan_cases : (line : ℕ) (text : List ℕ) (x : Option Plan × List ℕ) (first : List ℕ × List ℕ) → line_at line text ≡ Ok first → (b : Bool) → is_text (codes "none") first.0 ≡ b
+    → cond b (Ok (None, first.1)) (number_behind line (codes "plan ") first.0 >>= λ count. steps_at count (line + 1) first.1 >>= λ plan. Ok (Some plan.0, plan.1)) ≡ Ok x → ArePlanLines text x.0 x.1
+unfolding steps_at
+plan_cases line text x first at true is e =
+    subst (λ (y : Option Plan × List ℕ). ArePlanLines text y.0 y.1) (ok_is (None, first.1) x e) (line_is line text first at ∙ ap (λ (t : List ℕ). t ++ 10 ∷ first.1) (text_is (codes "none") first.0 is))
+plan_cases line text x first at false is e =
+    let b = bind_ok (number_behind line (codes "plan ") first.0) _ x e in
+    let c = bind_ok (steps_at b.0 (line + 1) first.1) _ x b.2 in
+    let d = bind_ok (actions_at b.0 (line + 1) first.1) _ c.0 c.1 in
+    let f = bind_ok (number_at (line + 1 + length d.0.0) (codes "cost ") d.0.1) _ c.0 d.2 in
+    let w = behind_number line (codes "plan ") first.0 b.0 b.1 in
+    let r = actions_are b.0 (line + 1) first.1 d.0 d.1 in
+    let n : IsNumberWord w.0 (length d.0.0) = subst (IsNumberWord w.0) (sym r.1) w.1 in
+    let made : Plan × List ℕ = (record { actions = d.0.0; cost = f.0.0 }, f.0.1) in
+    let whole : ArePlanLines text (Some made.0) made.1 =
+    (first.1, d.0.1, (w.0, n, line_is line text first at ∙ ap (λ (t : List ℕ). t ++ 10 ∷ first.1) w.2), r.0, number_line_is (line + 1 + length d.0.0) (codes "cost ") d.0.1 f.0 f.1) in
+    let same : made ≡ c.0 = ok_is made c.0 f.2 in
+    subst (λ (y : Option Plan × List ℕ). ArePlanLines text y.0 y.1) (ap (λ (m : Plan × List ℕ). (Some m.0, m.1)) same ∙ ok_is (Some c.0.0, c.0.1) x c.2) whole
+
+plan_is : (line : ℕ) (text : List ℕ) (x : Option Plan × List ℕ) → plan_at line text ≡ Ok x → ArePlanLines text x.0 x.1
+unfolding plan_at
+plan_is line text x e =
+    let a = bind_ok (line_at line text) _ x e in
+    plan_cases line text x a.0 a.1 (is_text (codes "none") a.0.0) refl a.2
+
+pub end_is : (line : ℕ) (text : List ℕ) (x : Bool) → end_at line text ≡ Ok x → BeginsWith text (codes "end") []
+unfolding end_at
+end_is line text x e =
+    let a = bind_ok (fixed_at line (codes "end") text) _ x e in
+    let g = guard_ok (eqb (length a.0) 0) (Syntax (line + 1)) true x a.2 in
+    fixed_is line (codes "end") text a.0 a.1 ∙ ap (λ (r : List ℕ). codes "end" ++ 10 ∷ r) (nil_from_length a.0 (eqb-true _ _ g.0))
+
+pub record IsBody (text : List ℕ) (rows : List Line) : Type 0 where
+  pub row_part : List ℕ
+  pub end_line : List ℕ
+  pub count : BeginsWithNumber text (codes "rows ") (length rows) row_part
+  pub rows_are : AreRowLines row_part rows end_line
+  pub end : BeginsWith end_line (codes "end") []
+
+body_is : (line : ℕ) (text : List ℕ) (rows : List Line) → body_at line text ≡ Ok rows → IsBody text rows
+unfolding body_at
+body_is line text rows e =
+    let a = bind_ok (number_at line (codes "rows ") text) _ rows e in
+    let b = bind_ok (rows_at a.0.0 (line + 1) a.0.1) _ rows a.2 in
+    let c = bind_ok (end_at (line + 1 + length b.0.0) b.0.1) _ rows b.2 in
+    let r = rows_are a.0.0 (line + 1) a.0.1 b.0 b.1 in
+    subst (IsBody text) (ok_is b.0.0 rows c.2) (record {
+      row_part = a.0.1;
+      end_line = b.0.1;
+      count = subst (λ n. BeginsWithNumber text (codes "rows ") n a.0.1) (sym r.1) (number_line_is line (codes "rows ") text a.0 a.1);
+      rows_are = r.0;
+      end = end_is (line + 1 + length b.0.0) b.0.1 c.0 c.1;
+    })
+
+pub spelled : (bytes : List ℕ) (text : Text) → text_of bytes ≡ Ok text → Spells bytes text
+unfolding text_of
+spelled bytes text e =
+    let a = bind_ok (fixed_at 1 (codes "pbnf-certificate 1") bytes) _ text e in
+    let b = bind_ok (kind_at 2 a.0) _ text a.2 in
+    let c = bind_ok (weight_at 3 b.0.1) _ text b.2 in
+    let d = bind_ok (plan_at 4 c.0.1) _ text c.2 in
+    let f = bind_ok (body_at (4 + plan_lines d.0.0) d.0.1) _ text d.2 in
+    let w = weight_line_is 3 b.0.1 c.0 c.1 in
+    let body : IsBody d.0.1 f.0 = body_is (4 + plan_lines d.0.0) d.0.1 f.0 f.1 in
+    subst (Spells bytes) (ok_is (record { kind = b.0.0; certificate = record { weight = c.0.0; plan = d.0.0; lines = f.0 }; first = 5 + plan_lines d.0.0 }) text f.2) (record {
+      kind_line = a.0;
+      weight_line = b.0.1;
+      plan_part = c.0.1;
+      count_line = d.0.1;
+      row_part = body.row_part;
+      end_line = body.end_line;
+      weight_words = w.0;
+      head = fixed_is 1 (codes "pbnf-certificate 1") bytes a.0 a.1;
+      kind = kind_line_is 2 a.0 b.0 b.1;
+      weight = (w.1, w.2);
+      plan = plan_is 4 c.0.1 d.0 d.1;
+      count = body.count;
+      rows = body.rows_are;
+      end = body.end;
+      first = refl;
+    })

@@ -1,0 +1,160 @@
+-- States as words of hexadecimal digits.
+use Rattle.std.proofs.Common.{lit<, ◌≡◌, ℕ, zero, suc, ◌+◌, ◌-◌, ◌*◌, ◌/◌, ◌%◌, ◌^◌, ◌<◌, ◌≤◌, Bool, true, false, ◌&&◌, ltb, Option, None, Some, List, [], ◌∷◌, ◌++◌, length, refl, sym, ap, ◌∙◌, subst, arith, append-nil, append_assoc, mul-le-mul_right, mul_assoc, mul_comm}
+use Rattle.std.specs.List.{list_all}
+use Rattle.std.proofs.Math.Nat.{pow-suc, div-eq_of_lt, zero-mod}
+use Rattle.std.proofs.lemmas.Nat.{mod_below, div-add-mod', div_below}
+use Rattle.std.proofs.lemmas.Bool.{ltb-true, lt-ltb}
+use Rattle.std.proofs.lemmas.Bool.Decides.{nat_tests}
+use Rattle.std.proofs.lemmas.List.Folds.{list_all-append}
+use Rattle.pb_packed.specs.Bits.{bits_of, with_bits_of}
+use Rattle.pb_packed.specs.Digits.{hex_digit, hex_digits, AreHexDigits}
+use Rattle.pb_packed.proofs.HexDigits.{no_digits, one_more, followed}
+use Rattle.pb_packed.proofs.DigitLaws.{digits_are_hex}
+use Rattle.pb_check.specs.Words.{hex_value, state_of}
+use Rattle.pb_check.proofs.Lines.{hex_value_after, IsStateWord}
+use Rattle.pb_check.proofs.Spelled.{state_is}
+use Rattle.pb_check.proofs.Readable.{state_again}
+
+abbrev are_values : List ℕ → Bool
+are_values word = list_all (λ b. ltb (hex_value b) 16) word
+
+conjuncts : (a b : Bool) → (a && b) ≡ true → (a ≡ true) × (b ≡ true)
+conjuncts true b e = (refl, e)
+conjuncts false b e = absurd cc
+
+both : (a b : Bool) → a ≡ true → b ≡ true → (a && b) ≡ true
+both true true x y = refl
+both false b x y = absurd cc
+both true false x y = absurd cc
+
+-- ---- digits and their values
+
+value_of_digit : (d : ℕ) → d < 16 → hex_value (hex_digit d) ≡ d
+value_of_digit d small = grind (arith, nat_tests)
+
+digit_of_value : (b : ℕ) → hex_value b < 16 → hex_digit (hex_value b) ≡ b
+digit_of_value b small = grind (arith, nat_tests)
+
+-- ---- the digits of a number are read as it
+
+value_behind : (n : ℕ) (word : List ℕ) (b : ℕ) → hex_value_after n (word ++ b ∷ []) ≡ hex_value_after n word * 16 + hex_value b
+value_behind n [] b = refl
+value_behind n (c ∷ word) b = value_behind (n * 16 + hex_value c) word b
+
+value_of_digits : (count n : ℕ) → n < 16 ^ count → hex_value_after 0 (hex_digits count n) ≡ n
+value_of_digits zero n small = ap (hex_value_after 0) (no_digits n) ∙ (let none : 0 ≡ n = omega (arith, small) in none)
+value_of_digits (suc count) n small =
+    let power : 16 ^ suc count ≡ 16 ^ count * 16 = pow-suc 16 count in
+    let front : hex_value_after 0 (hex_digits count (n / 16)) ≡ n / 16 = value_of_digits count (n / 16) (div_below n 16 (16 ^ count) (lit< tt) (omega (arith, power, small))) in
+    let last : hex_value (hex_digit (n % 16)) ≡ n % 16 = value_of_digit (n % 16) (mod_below n 16 (lit< tt)) in
+    ap (hex_value_after 0) (one_more count n) ∙ value_behind 0 (hex_digits count (n / 16)) (hex_digit (n % 16))
+    ∙ ap (λ k. k * 16 + hex_value (hex_digit (n % 16))) front ∙ ap (λ k. n / 16 * 16 + k) last ∙ div-add-mod' n 16
+
+digits_are_values : (count n : ℕ) → are_values (hex_digits count n) ≡ true
+digits_are_values zero n = ap are_values (no_digits n)
+digits_are_values (suc count) n =
+    let small : n % 16 < 16 = mod_below n 16 (lit< tt) in
+    let value : hex_value (hex_digit (n % 16)) ≡ n % 16 = value_of_digit (n % 16) small in
+    let last : ltb (hex_value (hex_digit (n % 16))) 16 ≡ true = lt-ltb _ _ (omega (arith, small, value)) in
+    ap are_values (one_more count n) ∙ list_all-append (λ b. ltb (hex_value b) 16) (hex_digits count (n / 16)) (hex_digit (n % 16) ∷ [])
+    ∙ both (are_values (hex_digits count (n / 16))) (ltb (hex_value (hex_digit (n % 16))) 16 && true) (digits_are_values count (n / 16)) (both (ltb (hex_value (hex_digit (n % 16))) 16) true last refl)
+
+pub state_word : (word : List ℕ) (state : ℕ) → word ≡ hex_digits 64 state → state < 2 ^ 256 → IsStateWord word state
+state_word word state is small = subst (λ w. IsStateWord w state) (sym is) (record {
+  sixty_four = (digits_are_hex 64 state).0;
+  digits = digits_are_values 64 state;
+  value = sym (value_of_digits 64 state small);
+})
+
+-- ---- what is read has these digits
+
+digits_of_value : (count n : ℕ) (word : List ℕ) → are_values word ≡ true → hex_digits (count + length word) (hex_value_after n word) ≡ hex_digits count n ++ word
+digits_of_value count n [] e = ap (λ k. hex_digits k n) (let same : count + 0 ≡ count = omega arith in same) ∙ sym (append-nil (hex_digits count n))
+digits_of_value count n (b ∷ bs) e =
+    let c = conjuncts (ltb (hex_value b) 16) (are_values bs) e in
+    let small : hex_value b < 16 = ltb-true _ _ c.0 in
+    let longer : count + suc (length bs) ≡ suc count + length bs = omega arith in
+    ap (λ k. hex_digits k (hex_value_after (n * 16 + hex_value b) bs)) longer
+    ∙ digits_of_value (suc count) (n * 16 + hex_value b) bs c.1
+    ∙ ap (λ (t : List ℕ). t ++ bs) (followed count n (hex_value b) small ∙ ap (λ d. hex_digits count n ++ d ∷ []) (digit_of_value b small))
+    ∙ append_assoc (hex_digits count n) (b ∷ []) bs
+
+value_is_small : (n : ℕ) (word : List ℕ) → are_values word ≡ true → hex_value_after n word < (n + 1) * 16 ^ length word
+value_is_small n [] e = omega arith
+value_is_small n (b ∷ bs) e =
+    let c = conjuncts (ltb (hex_value b) 16) (are_values bs) e in
+    let digit : hex_value b < 16 = ltb-true _ _ c.0 in
+    let rest : hex_value_after (n * 16 + hex_value b) bs < (n * 16 + hex_value b + 1) * 16 ^ length bs = value_is_small (n * 16 + hex_value b) bs c.1 in
+    let power : (n + 1) * 16 ^ suc (length bs) ≡ ((n + 1) * 16) * 16 ^ length bs = ap (λ p. (n + 1) * p) (pow-suc 16 (length bs) ∙ mul_comm (16 ^ length bs) 16) ∙ sym (mul_assoc (n + 1) 16 (16 ^ length bs)) in
+    let le : n * 16 + hex_value b + 1 ≤ (n + 1) * 16 = omega (arith, digit) in
+    let more : (n * 16 + hex_value b + 1) * 16 ^ length bs ≤ ((n + 1) * 16) * 16 ^ length bs = mul-le-mul_right (16 ^ length bs) le in
+    omega (arith, rest, power, more)
+
+pub state_word_is : (word : List ℕ) (state : ℕ) → IsStateWord word state → (word ≡ hex_digits 64 state) × (state < 2 ^ 256)
+state_word_is word state is =
+    let long : 0 + length word ≡ 64 = (let l = is.sixty_four in omega (arith, l)) in
+    let digits : hex_digits (0 + length word) (hex_value_after 0 word) ≡ hex_digits 0 0 ++ word = digits_of_value 0 0 word is.digits in
+    let small : hex_value_after 0 word < (0 + 1) * 16 ^ length word = value_is_small 0 word is.digits in
+    let limit : hex_value_after 0 word < (0 + 1) * 16 ^ 64 = subst (λ k. hex_value_after 0 word < (0 + 1) * 16 ^ k) is.sixty_four small in (
+      sym (ap (λ k. hex_digits 64 k) is.value ∙ ap (λ k. hex_digits k (hex_value_after 0 word)) (sym long) ∙ digits ∙ ap (λ (t : List ℕ). t ++ word) (no_digits 0)),
+      (let v = is.value in omega (arith, v, limit)),
+    )
+
+-- ---- what reading digits returns
+
+-- the digits of a number are those of its lowest bits
+digits_above : (count q r : ℕ) → hex_digits count (q * 16 ^ count + r) ≡ hex_digits count r
+digits_above zero q r = no_digits (q * 16 ^ 0 + r) ∙ sym (no_digits r)
+digits_above (suc count) q r =
+    let p : ℕ = q * 16 ^ count in
+    let e : q * 16 ^ suc count ≡ p * 16 = ap (λ k. q * k) (pow-suc 16 count) ∙ sym (mul_assoc q (16 ^ count) 16) in
+    let front : (q * 16 ^ suc count + r) / 16 ≡ p + r / 16 = divided p r (q * 16 ^ suc count) e in
+    let last : (q * 16 ^ suc count + r) % 16 ≡ r % 16 = left p r (q * 16 ^ suc count) e in
+    one_more count (q * 16 ^ suc count + r) ∙ ap (λ k. hex_digits count k ++ hex_digit ((q * 16 ^ suc count + r) % 16) ∷ []) front
+    ∙ ap (λ k. hex_digits count (p + r / 16) ++ hex_digit k ∷ []) last ∙ ap (λ (t : List ℕ). t ++ hex_digit (r % 16) ∷ []) (digits_above count q (r / 16)) ∙ sym (one_more count r)
+  where
+    divided : (p r whole : ℕ) → whole ≡ p * 16 → (whole + r) / 16 ≡ p + r / 16
+    divided p r whole e = omega (arith, e)
+
+    left : (p r whole : ℕ) → whole ≡ p * 16 → (whole + r) % 16 ≡ r % 16
+    left p r whole e = omega (arith, e)
+
+digits_of_lowest : (n : ℕ) → hex_digits 64 (n % 2 ^ 256) ≡ hex_digits 64 n
+digits_of_lowest n = sym (ap (λ k. hex_digits 64 k) (let e : n ≡ n / 2 ^ 256 * 16 ^ 64 + n % 2 ^ 256 = omega arith in e) ∙ digits_above 64 (n / 2 ^ 256) (n % 2 ^ 256))
+
+-- a field above all bits of a number is added to it
+field_above : (n at len value : ℕ) → n < 2 ^ at → with_bits_of n at len value ≡ n + value * 2 ^ at
+field_above n at len value small =
+    let none : n / 2 ^ at ≡ 0 = div-eq_of_lt small in
+    let field : bits_of n at len ≡ 0 = ap (λ k. k % 2 ^ len) none ∙ zero-mod (2 ^ len) in
+    ap (λ k. n - k * 2 ^ at + value * 2 ^ at) field ∙ (let e : n - 0 * 2 ^ at + value * 2 ^ at ≡ n + value * 2 ^ at = rest n (value * 2 ^ at) (2 ^ at) in e)
+  where
+    rest : (n field power : ℕ) → n - 0 * power + field ≡ n + field
+    rest n field power = omega arith
+
+pub of_fields : (n a b c d : ℕ) → a ≡ bits_of n 0 64 → b ≡ bits_of n 64 64 → c ≡ bits_of n 128 64 → d ≡ bits_of n 192 64
+    → with_bits_of (with_bits_of (with_bits_of (with_bits_of 0 0 64 a) 64 64 b) 128 64 c) 192 64 d ≡ n % 2 ^ 256
+of_fields n a b c d e f g h =
+    let one : with_bits_of 0 0 64 a ≡ a = field_above 0 0 64 a (omega arith) ∙ (let z : 0 + a * 2 ^ 0 ≡ a = omega arith in z) in
+    let a_small : a < 2 ^ 64 = omega (arith, e) in
+    let b_small : b < 2 ^ 64 = omega (arith, f) in
+    let c_small : c < 2 ^ 64 = omega (arith, g) in
+    let two : with_bits_of a 64 64 b ≡ a + b * 2 ^ 64 = field_above a 64 64 b a_small in
+    let three : with_bits_of (a + b * 2 ^ 64) 128 64 c ≡ a + b * 2 ^ 64 + c * 2 ^ 128 = field_above (a + b * 2 ^ 64) 128 64 c (omega (arith, a_small, b_small)) in
+    let four : with_bits_of (a + b * 2 ^ 64 + c * 2 ^ 128) 192 64 d ≡ a + b * 2 ^ 64 + c * 2 ^ 128 + d * 2 ^ 192 =
+    field_above (a + b * 2 ^ 64 + c * 2 ^ 128) 192 64 d (omega (arith, a_small, b_small, c_small)) in
+    ap (λ k. with_bits_of (with_bits_of (with_bits_of k 64 64 b) 128 64 c) 192 64 d) one ∙ ap (λ k. with_bits_of (with_bits_of k 128 64 c) 192 64 d) two
+    ∙ ap (λ k. with_bits_of k 192 64 d) three ∙ four ∙ omega (arith, e, f, g, h)
+
+pub state_read : (word : List ℕ) (n read : ℕ) → word ≡ hex_digits 64 n → read ≡ n % 2 ^ 256 → ◌≡◌ {A = Option ℕ} (Some read) (state_of word)
+state_read word n read is low =
+    sym (state_again word read (state_word word read (is ∙ sym (digits_of_lowest n) ∙ ap (λ k. hex_digits 64 k) (sym low)) (omega (arith, low))))
+
+pub no_state : (word : List ℕ) → (AreHexDigits word → ⊥) → ◌≡◌ {A = Option ℕ} None (state_of word)
+no_state word none = go (state_of word) refl
+  where
+    go : (found : Option ℕ) → state_of word ≡ found → ◌≡◌ {A = Option ℕ} None (state_of word)
+    go None e = sym e
+    go (Some state) e =
+        let is : word ≡ hex_digits 64 state = (state_word_is word state (state_is word state e)).0 in
+        absurd (none (subst AreHexDigits (sym is) (digits_are_hex 64 state)))

@@ -1,0 +1,154 @@
+-- The first fault of a certificate that is spelled, in the stated order. Each row is judged by itself against all rows.
+use Rattle.std.specs.Prelude.{ℕ, zero, suc, ◌+◌, ◌-◌, ◌*◌, ◌/◌, Bool, true, false, Option, None, Some, List, [], ◌∷◌, Result, Ok, Err, if◌then◌else◌, nat_lt, nat_le, ◌==◌, ◌&&◌, ◌<◌, ⊤}
+use Rattle.pb_model.specs.declared.row.Estimate.{Estimate}
+use Rattle.pb_model.specs.declared.row.Estimate.TheVariants.{Cost, Dead}
+use Rattle.pb_model.specs.Space.{Space}
+use Rattle.pb_model.specs.Weight.{Weight}
+use Rattle.pb_model.specs.Plan.{Plan}
+use Rattle.pb_model.specs.Certificate.{Line, cost_of}
+use Rattle.pb_check.specs.declared.kind.Kind.{Kind}
+use Rattle.pb_check.specs.declared.kind.Kind.TheVariants.{Grid, Tiles, Strips}
+use Rattle.pb_check.specs.declared.fault.Fault.{Fault}
+use Rattle.pb_check.specs.declared.fault.Fault.TheVariants as faults
+use Rattle.pb_check.specs.declared.fault.Verdict.{Verdict}
+use Rattle.pb_check.specs.declared.fault.Verdict.TheVariants.{Bounded, Unsolvable}
+use Rattle.pb_check.specs.Faults.{◌>>=◌}
+use Rattle.pb_check.specs.Reading.{Text, text_of}
+
+-- no fault, or this one
+abbrev pub passes : Option Fault → Result Bool Fault
+passes None = Ok true
+passes (Some fault) = Err fault
+
+-- the first of two faults
+abbrev pub or_then : Option Fault → Option Fault → Option Fault
+or_then None other = other
+or_then (Some fault) other = Some fault
+
+abbrev pub unless : Bool → Fault → Option Fault
+unless true fault = None
+unless false fault = Some fault
+
+abbrev pub same_kind : Kind → Kind → Bool
+same_kind Grid Grid = true
+same_kind Tiles Tiles = true
+same_kind Strips Strips = true
+same_kind Grid Tiles = false
+same_kind Grid Strips = false
+same_kind Tiles Grid = false
+same_kind Tiles Strips = false
+same_kind Strips Grid = false
+same_kind Strips Tiles = false
+
+abbrev pub is_weight : Weight → Bool
+is_weight weight = nat_le 1 weight.den && (nat_le weight.den weight.num && nat_le weight.num 1000)
+
+-- ---- the plan
+
+-- goes on behind a step, if it is one
+abbrev pub after_step : (done : ℕ) → ((next first : ℕ) → Result (ℕ × ℕ) Fault) → Option (ℕ × ℕ) → Result (ℕ × ℕ) Fault
+after_step done rest None = Err (faults.PlanStep done)
+after_step done rest (Some step) = rest step.0 step.1
+
+-- where the actions lead, and at what cost, behind so many steps of this cost; or the first step that is none
+unfoldable pub walk : Space → (from done cost : ℕ) → List ℕ → Result (ℕ × ℕ) Fault
+walk space from done cost [] = Ok (from, cost)
+walk space from done cost (action ∷ actions) = after_step done (λ next first. walk space next (done + 1) (cost + first) actions) (space.step from action)
+
+unfoldable pub plan_fault : Space → Plan → Result Bool Fault
+plan_fault space plan = do
+  walked ← walk space space.start 0 0 plan.actions
+  goal ← passes (unless (space.is_goal walked.0) faults.NotGoal)
+  passes (unless (plan.cost == walked.1) (faults.Cost plan.cost walked.1))
+
+abbrev pub plan_fault_if_any : Space → Option Plan → Result Bool Fault
+plan_fault_if_any space None = Ok true
+plan_fault_if_any space (Some plan) = plan_fault space plan
+
+-- ---- the rows
+
+-- the first row whose state is not above that of the row before it
+unfoldable pub order_fault : (line before : ℕ) → List Line → Option Fault
+order_fault line before [] = None
+order_fault line before (row ∷ rows) = if nat_lt before row.state then order_fault (line + 1) row.state rows else Some (faults.RowOrder line)
+
+abbrev pub rows_order_fault : (line : ℕ) → List Line → Option Fault
+rows_order_fault line [] = None
+rows_order_fault line (row ∷ rows) = order_fault (line + 1) row.state rows
+
+-- the first fault of the rows, by what is the fault of a row in its line
+unfoldable pub first_fault_by : ((line : ℕ) → Line → Option Fault) → (line : ℕ) → List Line → Option Fault
+first_fault_by fault line [] = None
+first_fault_by fault line (row ∷ rows) = or_then (fault line row) (first_fault_by fault (line + 1) rows)
+
+abbrev pub state_fault : Space → (line : ℕ) → Line → Option Fault
+state_fault space line row = unless (space.is_state row.state) (faults.BadState line)
+
+-- the states of the rows rise, from above this one on
+abbrev pub AreAbove : (before : ℕ) → List Line → Type 0
+AreAbove before [] = ⊤
+AreAbove before (row ∷ rows) = (before < row.state) × AreAbove row.state rows
+
+abbrev pub Rise : List Line → Type 0
+Rise [] = ⊤
+Rise (row ∷ rows) = AreAbove row.state rows
+
+-- the g of the first row of a state
+unfoldable pub g_of : List Line → (state : ℕ) → Option ℕ
+g_of [] state = None
+g_of (row ∷ rows) state = if row.state == state then Some row.g else g_of rows state
+
+abbrev pub is_zero : Option ℕ → Bool
+is_zero None = false
+is_zero (Some g) = g == 0
+
+-- the fault of a step to a state that has this g, if it has a row
+abbrev pub target_fault : (line action most : ℕ) → Option ℕ → Option Fault
+target_fault line action most None = Some (faults.Missing line action)
+target_fault line action most (Some g) = unless (nat_le g most) (faults.TooDear line action)
+
+abbrev pub step_fault : (rows : List Line) → (line g action : ℕ) → Option (ℕ × ℕ) → Option Fault
+step_fault rows line g action None = None
+step_fault rows line g action (Some step) = target_fault line action (g + step.1) (g_of rows step.0)
+
+-- the fault of the first action below a number that has one
+unfoldable pub steps_fault : Space → (rows : List Line) → (line g state count : ℕ) → Option Fault
+steps_fault space rows line g state zero = None
+steps_fault space rows line g state (suc action) = or_then (steps_fault space rows line g state action) (step_fault rows line g action (space.step state action))
+
+abbrev pub may_be_cut : Weight → (best : Option ℕ) → (g : ℕ) → Estimate → Bool
+may_be_cut weight best g Dead = true
+may_be_cut weight None g (Cost h) = false
+may_be_cut weight (Some best) g (Cost h) = nat_le (weight.den * best) (weight.num * (g + h))
+
+-- the fault of a row, judged against all rows
+unfoldable pub row_fault : Space → (estimate : ℕ → Estimate) → Weight → (best : Option ℕ) → (rows : List Line) → (line : ℕ) → Line → Option Fault
+row_fault space estimate weight best rows line row =
+    if row.is_closed
+    then (if space.is_goal row.state then Some (faults.GoalClosed line) else steps_fault space rows line row.g row.state space.actions)
+    else unless (may_be_cut weight best row.g (estimate row.state)) (faults.Low line)
+
+-- ---- all in order
+
+-- the least number that is at least the cost divided by the weight
+abbrev pub bound_of : Weight → (cost : ℕ) → ℕ
+bound_of weight cost = (weight.den * cost + (weight.num - 1)) / weight.num
+
+abbrev pub verdict_of : Weight → Option Plan → Verdict
+verdict_of weight None = Unsolvable
+verdict_of weight (Some plan) = Bounded plan.cost (bound_of weight plan.cost)
+
+unfoldable pub judged : Space → (estimate : ℕ → Estimate) → (kind : Kind) → Text → Result Verdict Fault
+judged space estimate kind text = do
+  kinds ← passes (unless (same_kind kind text.kind) faults.Kind)
+  weights ← passes (unless (is_weight text.certificate.weight) faults.Weight)
+  plans ← plan_fault_if_any space text.certificate.plan
+  orders ← passes (rows_order_fault text.first text.certificate.lines)
+  states ← passes (first_fault_by (state_fault space) text.first text.certificate.lines)
+  starts ← passes (unless (is_zero (g_of text.certificate.lines space.start)) faults.NoStart)
+  rows ← passes (first_fault_by (row_fault space estimate text.certificate.weight (cost_of text.certificate.plan) text.certificate.lines) text.first text.certificate.lines)
+  Ok (verdict_of text.certificate.weight text.certificate.plan)
+
+-- the verdict on the bytes, or their first fault
+unfoldable pub checked : Space → (estimate : ℕ → Estimate) → (kind : Kind) → (bytes : List ℕ) → Result Verdict Fault
+checked space estimate kind bytes = text_of bytes >>= λ text. judged space estimate kind text

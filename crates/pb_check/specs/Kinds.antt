@@ -1,0 +1,14 @@
+-- The kinds of tasks, as certificates name them. A further kind of task is one case more of `kind_of`.
+use Rattle.std.specs.Prelude.{ℕ, List, codes}
+use Rattle.pb_task.specs.declared.parts.Parts.{Parts}
+use Rattle.pb_task.specs.declared.parts.Parts.TheVariants as parts
+use Rattle.pb_check.specs.declared.kind.Kind.{Kind}
+use Rattle.pb_check.specs.declared.kind.Kind.TheVariants.{Grid, Tiles, Strips}
+
+abbrev pub kind_of : Parts → Kind
+kind_of (parts.Grid grid) = Grid
+
+abbrev pub kind_name : Kind → List ℕ
+kind_name Grid = codes "grid"
+kind_name Tiles = codes "tiles"
+kind_name Strips = codes "strips"

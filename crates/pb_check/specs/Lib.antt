@@ -1,0 +1,7 @@
+pub mod Kinds
+pub mod Faults
+pub mod Words
+pub mod Reading
+pub mod Spelling
+pub mod Judging
+pub mod Shown

@@ -1,0 +1,37 @@
+-- What the checker's answer means: that the certificate is valid, and what it shows of the task.
+use Rattle.std.specs.Prelude.{◌≡◌, ℕ, ◌≤◌, List}
+use Rattle.pb_model.specs.declared.row.Estimate.{Estimate}
+use Rattle.pb_model.specs.Space.{Space}
+use Rattle.pb_model.specs.Weight.{Weight, IsWeight}
+use Rattle.pb_model.specs.Plan.{Plan, IsPlan, HasNoPlan, IsBound}
+use Rattle.pb_model.specs.Certificate.{Certificate, IsValid, ClaimHolds}
+use Rattle.pb_check.specs.declared.kind.Kind.{Kind}
+use Rattle.pb_check.specs.declared.fault.Verdict.{Verdict}
+use Rattle.pb_check.specs.declared.fault.Verdict.TheVariants.{Bounded, Unsolvable}
+use Rattle.pb_check.specs.Spelling.{IsSpelled}
+use Rattle.pb_check.specs.Judging.{verdict_of, bound_of}
+
+-- the bytes spell a certificate of this kind that is valid, and this is its verdict
+pub record IsAccepted (space : Space) (estimate : ℕ → Estimate) (kind : Kind) (bytes : List ℕ) (verdict : Verdict) : Type 0 where
+  pub certificate : Certificate
+  pub spelled : IsSpelled bytes kind certificate
+  pub valid : IsValid space estimate certificate
+  pub verdict_is : verdict ≡ verdict_of certificate.weight certificate.plan
+
+-- the bytes spell a certificate with this verdict whose claim is true of the space: every plan of a cost f has num * f >= den * C, where
+-- C is the cost of the certificate's plan and num / den its weight; or there is no plan
+pub record ShowsClaim (space : Space) (kind : Kind) (bytes : List ℕ) (verdict : Verdict) : Type 0 where
+  pub certificate : Certificate
+  pub spelled : IsSpelled bytes kind certificate
+  pub weight : IsWeight certificate.weight
+  pub claim : ClaimHolds space certificate.weight certificate.plan
+  pub verdict_is : verdict ≡ verdict_of certificate.weight certificate.plan
+
+-- what a verdict says of a space: a plan has the cost, and each plan costs at least the bound; or there is no plan
+abbrev pub VerdictHolds : Space → Verdict → Type 0
+VerdictHolds space Unsolvable = HasNoPlan space
+VerdictHolds space (Bounded cost bound) = ((plan : Plan) × IsPlan space plan × (plan.cost ≡ cost)) × ((plan : Plan) → IsPlan space plan → bound ≤ plan.cost)
+
+-- The bound of a verdict is the least whole number that is no less than the cost divided by the weight.
+abbrev pub BoundsAreLeast : Type 0
+BoundsAreLeast = (weight : Weight) (cost : ℕ) → IsWeight weight → IsBound weight cost (bound_of weight cost)

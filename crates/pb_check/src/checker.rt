@@ -1,0 +1,67 @@
+ghost use Rattle.std.specs.Prelude.{◌≡◌, ◌<◌, ◌^◌, length, IfOk, Ok};
+ghost use Rattle.pb_task.specs.Parts.{space_of, IsTask};
+ghost use Rattle.pb_estimate.specs.Estimates.{estimate_of};
+ghost use Rattle.pb_estimate.specs.Tables.{tables_of};
+ghost use Rattle.pb_check.specs.declared.fault.Verdict.{Verdict};
+ghost use Rattle.pb_check.specs.Faults.{Gives};
+ghost use Rattle.pb_check.specs.Judging.{checked};
+ghost use Rattle.pb_check.specs.Kinds.{kind_of};
+ghost use Rattle.pb_check.specs.Shown.{IsAccepted, ShowsClaim, VerdictHolds};
+
+use crate::fault::{CheckError, Verdict};
+use crate::judging::judge;
+use crate::reading::text_of;
+use pb_estimate::Estimator;
+use pb_task::Task;
+use std::alloc::Global;
+
+#[tactic(auto, unfolding(crate::specs::Judging::checked))]
+fn first_fault(
+    alloc: Global,
+    task: &Task,
+    estimator: &mut Estimator,
+    bytes: &[u8],
+) -> Result<Verdict, CheckError>
+    requires task { estimator.old ≡ tables_of task.now }
+    requires bytes { length bytes.now < 2 ^ 63 }
+    ensures exact { Gives (λ x. x) result (checked (space_of task.now) (estimate_of task.now) (kind_of task.now) bytes.now) }
+    ensures lawful { IfOk result (λ verdict. IsTask task.now) }
+    ensures task { estimator.new ≡ tables_of task.now }
+{
+    let text = text_of(alloc, bytes)?;
+    judge(
+        task,
+        estimator,
+        text.kind,
+        &text.weight,
+        &text.plan,
+        &text.rows,
+        text.first,
+    )
+}
+
+/// The verdict on a certificate for the task, or its first fault. The estimator is one of this task.
+///
+/// The memory that it takes grows with the lines that it has read, and not with a number that they state.
+pub fn check(
+    alloc: Global,
+    task: &Task,
+    estimator: &mut Estimator,
+    bytes: &[u8],
+) -> Result<Verdict, CheckError>
+    requires task { estimator.old ≡ tables_of task.now }
+    requires bytes { length bytes.now < 2 ^ 63 }
+    // Which verdict or fault it is, unless memory ran out.
+    ensures exact { Gives (λ x. x) result (checked (space_of task.now) (estimate_of task.now) (kind_of task.now) bytes.now) }
+    // What is accepted spells a valid certificate of the task's kind.
+    ensures valid { IfOk result (λ verdict. IsAccepted (space_of task.now) (estimate_of task.now) (kind_of task.now) bytes.now verdict) }
+    // What spells a valid certificate of the task's kind is accepted, unless memory ran out.
+    ensures only { (verdict : Verdict) → IsAccepted (space_of task.now) (estimate_of task.now) (kind_of task.now) bytes.now verdict → Gives (λ x. x) result (Ok verdict) }
+    // What is accepted shows that no plan costs less than the plan's cost divided by the weight, or that there is none.
+    ensures claim { IfOk result (λ verdict. ShowsClaim (space_of task.now) (kind_of task.now) bytes.now verdict) }
+    // So what the verdict says is true of the task.
+    ensures holds { IfOk result (λ verdict. VerdictHolds (space_of task.now) verdict) }
+    ensures task { estimator.new ≡ tables_of task.now }
+{
+    first_fault(alloc, task, estimator, bytes)
+}

@@ -1,0 +1,71 @@
+ghost use Rattle.std.specs.Prelude.{◌≡◌};
+ghost use Rattle.pb_check.specs.declared.fault.CheckError.TheVariants.{Memory};
+
+use std::alloc::{AllocError, AllocFailed};
+
+/// Why a certificate is refused. Where it has several faults, the first in the order of these names is told, and of one
+/// name the first row or action. Lines are counted from 1.
+#[derive(Clone, Copy, Debug, PartialEq, Eq)]
+pub enum Fault {
+    /// The first line that is not spelled as a certificate's; a line that is missing is the one after the last.
+    Syntax { line: u64 },
+    /// It is for a task of another kind.
+    Kind,
+    /// The weight is not a fraction from 1 to 1000 whose denominator is at least 1 and whose numerator is at most 1000.
+    Weight,
+    /// The plan's step at place `i`, counted from 0, is by an action that is not applicable there.
+    PlanStep { i: u64 },
+    /// The plan's steps lead to no goal.
+    NotGoal,
+    /// The plan costs `real`, and the text says `said`.
+    Cost { said: u64, real: u128 },
+    /// The row's state is not above that of the row before it.
+    RowOrder { line: u64 },
+    /// The row's state is no state of the task.
+    BadState { line: u64 },
+    /// The start has no row whose g is 0.
+    NoStart,
+    /// The row is closed, and its state is a goal.
+    GoalClosed { line: u64 },
+    /// The row is closed, and the state that the action leads to from it has no row.
+    Missing { line: u64, action: u32 },
+    /// The row is closed, and the row of the state that the action leads to from it has a greater g than the step gives.
+    TooDear { line: u64, action: u32 },
+    /// The row is cut, and a plan through its state could be cheaper than the plan's cost divided by the weight.
+    Low { line: u64 },
+}
+
+/// Why there is no verdict.
+#[derive(Clone, Copy, Debug, PartialEq, Eq)]
+pub enum CheckError {
+    /// The certificate is not valid for the task: its first fault.
+    Fault(Fault),
+    /// There was not enough memory to tell.
+    Memory,
+}
+
+/// What a valid certificate shows of its task.
+#[derive(Clone, Copy, Debug, PartialEq, Eq)]
+pub enum Verdict {
+    /// Some plan has this cost, and no plan costs less than the bound: the least whole number that is no less than the cost
+    /// divided by the weight. Both are in the unit of the task's action costs.
+    Bounded { cost: u64, bound: u64 },
+    /// No plan exists.
+    Unsolvable,
+}
+
+impl From<AllocError> for CheckError {
+    ghost from_gives = { λ _ e. e ≡ Memory };
+
+    fn from(_: AllocError) -> CheckError {
+        CheckError::Memory
+    }
+}
+
+impl<T: Drop> From<AllocFailed<T>> for CheckError {
+    ghost from_gives = { λ _ e. e ≡ Memory };
+
+    fn from(_: AllocFailed<T>) -> CheckError {
+        CheckError::Memory
+    }
+}

@@ -1,0 +1,421 @@
+ghost use Rattle.std.specs.Prelude.{◌≡◌, ◌≤◌, ◌+◌, ◌*◌, ◌<◌, ◌^◌, length, IsTrue, true, false, None, Some, IfOk, IfSome, IfNone, ℕ, Option};
+ghost use Rattle.pb_model.specs.Weight.{Weight};
+ghost use Rattle.pb_model.specs.Plan.{Plan};
+ghost use Rattle.pb_model.specs.Certificate.{Line, Certificate, cost_of};
+ghost use Rattle.pb_task.specs.Parts.{space_of, IsTask, greatest_cost};
+ghost use Rattle.pb_estimate.specs.Estimates.{estimate_of};
+ghost use Rattle.pb_estimate.specs.Tables.{tables_of};
+ghost use Rattle.pb_check.specs.Faults.{Gives};
+ghost use Rattle.pb_check.specs.Reading.{Text};
+ghost use Rattle.pb_check.specs.Kinds.{kind_of};
+ghost use Rattle.pb_check.specs.Judging.{passes, unless, same_kind, is_weight, walk, plan_fault, plan_fault_if_any, order_fault, rows_order_fault, first_fault_by, state_fault, g_of, is_zero, target_fault, step_fault, steps_fault, may_be_cut, row_fault, bound_of, verdict_of, judged, Rise};
+
+use crate::fault::{CheckError, Fault, Verdict};
+use crate::kind::{Kind, kind_of};
+use crate::stated::{StatedPlan, StatedRow, StatedWeight};
+use pb_estimate::Estimator;
+use pb_model::Estimate;
+use pb_packed::Packed;
+use pb_task::Task;
+use std::cmp::Ordering;
+
+fn pass(fault: Option<Fault>) -> Result<bool, CheckError>
+    ensures gives { Gives (λ x. x) result (passes fault) }
+    ensures none { IfOk result (λ x. fault ≡ None) }
+{
+    match fault {
+        None => Ok(true),
+        Some(fault) => Err(CheckError::Fault(fault)),
+    }
+}
+
+fn unless(holds: bool, fault: Fault) -> Option<Fault>
+    ensures { result ≡ unless holds fault }
+{
+    if holds { None } else { Some(fault) }
+}
+
+// Goes on only where this holds.
+fn need(holds: bool, fault: Fault) -> Result<bool, CheckError>
+    ensures gives { Gives (λ x. x) result (passes (unless holds fault)) }
+    ensures holds { IfOk result (λ x. holds ≡ true) }
+{
+    if holds {
+        Ok(true)
+    } else {
+        Err(CheckError::Fault(fault))
+    }
+}
+
+fn same_kind(one: Kind, two: Kind) -> bool
+    ensures { result ≡ same_kind one two }
+{
+    match (one, two) {
+        (Kind::Grid, Kind::Grid) | (Kind::Tiles, Kind::Tiles) | (Kind::Strips, Kind::Strips) =>
+            true,
+        _ => false,
+    }
+}
+
+fn is_weight(weight: &StatedWeight) -> bool
+    ensures { result ≡ is_weight (record { num = weight.now.num; den = weight.now.den }) }
+{
+    1 <= weight.den && weight.den <= weight.num && weight.num <= 1000
+}
+
+// ---- the plan
+
+// The step by an action of any number. An action that the task doesn't have makes none.
+fn step(task: &Task, from: &Packed, action: u64) -> Option<(Packed, u64)>
+    requires lawful { IsTask task.now }
+    requires state { IsTrue ((space_of task.now).is_state from.now) }
+    ensures step { result ≡ (space_of task.now).step from.now action }
+    ensures state { IfSome result (λ x. IsTrue ((space_of task.now).is_state x.0)) }
+    ensures small { IfSome result (λ x. x.1 ≤ greatest_cost) }
+{
+    if action < u64::from(task.actions()) {
+        task.apply(from, action as u32)
+    } else {
+        None
+    }
+}
+
+// Where the actions lead, and at what cost, or the first that is not applicable.
+fn walk(task: &Task, actions: &[u64]) -> Result<(Packed, u128), CheckError>
+    requires lawful { IsTask task.now }
+    ensures { Gives (λ x. x) result (walk (space_of task.now) (space_of task.now).start 0 0 actions.now) }
+{
+    let mut at = task.initial();
+    let mut cost: u128 = 0;
+    for i in 0..actions.len() {
+        match step(task, &at, actions[i]) {
+            None => return Err(CheckError::Fault(Fault::PlanStep { i: i as u64 })),
+            Some((next, first)) => {
+                at = next;
+                cost += u128::from(first);
+            }
+        }
+    }
+    Ok((at, cost))
+}
+
+#[tactic(auto, unfolding(crate::specs::Judging::plan_fault))]
+fn judge_plan(task: &Task, plan: &StatedPlan) -> Result<bool, CheckError>
+    requires lawful { IsTask task.now }
+    ensures { Gives (λ x. x) result (plan_fault (space_of task.now) plan.now) }
+{
+    let (goal, cost) = walk(task, &plan.actions)?;
+    need(task.is_goal(&goal), Fault::NotGoal)?;
+    need(
+        u128::from(plan.cost) == cost,
+        Fault::Cost {
+            said: plan.cost,
+            real: cost,
+        },
+    )
+}
+
+fn judge_plan_if_any(task: &Task, plan: &Option<StatedPlan>) -> Result<bool, CheckError>
+    requires lawful { IsTask task.now }
+    ensures { Gives (λ x. x) result (plan_fault_if_any (space_of task.now) plan.now) }
+{
+    match plan {
+        None => Ok(true),
+        Some(plan) => judge_plan(task, plan),
+    }
+}
+
+// ---- the rows
+
+// The first row whose state is not above that of the row before it.
+fn rows_order_fault(line: u64, rows: &[StatedRow]) -> Option<Fault>
+    requires { line + length rows.now < 2 ^ 64 }
+    ensures fault { result ≡ rows_order_fault line rows.now }
+    ensures rises { result ≡ None → Rise rows.now }
+{
+    first_in_order(line, rows)
+}
+
+fn first_in_order(line: u64, rows: &[StatedRow]) -> Option<Fault>
+    requires { line + length rows.now < 2 ^ 64 }
+    ensures { result ≡ rows_order_fault line rows.now }
+{
+    match rows {
+        [] => None,
+        [first, others @ ..] => order_fault(line + 1, first.state, others),
+    }
+}
+
+fn is_above(state: &Packed, other: &Packed) -> bool
+    ensures yes { result ≡ true → other.now < state.now }
+    ensures no { result ≡ false → state.now ≤ other.now }
+{
+    state.cmp(other) == Ordering::Greater
+}
+
+fn order_fault(line: u64, before: Packed, rows: &[StatedRow]) -> Option<Fault>
+    requires { line + length rows.now < 2 ^ 64 }
+    ensures { result ≡ order_fault line before rows.now }
+{
+    let mut at = line;
+    let mut last = before;
+    for row in rows {
+        if !is_above(&row.state, &last) {
+            return Some(Fault::RowOrder { line: at });
+        }
+        last = row.state;
+        at += 1;
+    }
+    None
+}
+
+// The first row whose state is no state of the task.
+fn states_fault(task: &Task, line: u64, rows: &[StatedRow]) -> Option<Fault>
+    requires { line + length rows.now < 2 ^ 64 }
+    ensures { result ≡ first_fault_by (state_fault (space_of task.now)) line rows.now }
+{
+    let mut at = line;
+    for row in rows {
+        let fault = unless(task.is_state(&row.state), Fault::BadState { line: at });
+        if fault.is_some() {
+            return fault;
+        }
+        at += 1;
+    }
+    None
+}
+
+// The g of the row of a state, found by halving the rows, which rise.
+fn g_of(rows: &[StatedRow], state: &Packed) -> Option<u64>
+    requires { Rise rows.now }
+    ensures { result ≡ g_of rows.now state.now }
+{
+    if rows.len() == 0 {
+        return None;
+    }
+    let middle = rows.len() / 2;
+    let row = &rows[middle];
+    if row.state == *state {
+        return Some(row.g);
+    }
+    if is_above(state, &row.state) {
+        let (_, back) = rows.split_at(middle + 1);
+        g_of(back, state)
+    } else {
+        let (front, _) = rows.split_at(middle);
+        g_of(front, state)
+    }
+}
+
+fn target_fault(line: u64, action: u32, most: u128, g: Option<u64>) -> Option<Fault>
+    ensures { result ≡ target_fault line action most g }
+{
+    match g {
+        None => Some(Fault::Missing { line, action }),
+        Some(g) => unless(u128::from(g) <= most, Fault::TooDear { line, action }),
+    }
+}
+
+fn step_fault(
+    rows: &[StatedRow],
+    line: u64,
+    g: u64,
+    action: u32,
+    step: Option<(Packed, u64)>,
+) -> Option<Fault>
+    requires { Rise rows.now }
+    ensures { result ≡ step_fault rows.now line g action step }
+{
+    match step {
+        None => None,
+        Some((to, cost)) => target_fault(
+            line,
+            action,
+            u128::from(g) + u128::from(cost),
+            g_of(rows, &to),
+        ),
+    }
+}
+
+// The fault of the first action that has one.
+fn steps_fault(task: &Task, rows: &[StatedRow], line: u64, g: u64, state: &Packed) -> Option<Fault>
+    requires rise { Rise rows.now }
+    requires state { IsTrue ((space_of task.now).is_state state.now) }
+    ensures { result ≡ steps_fault (space_of task.now) rows.now line g state.now (space_of task.now).actions }
+{
+    for action in 0..task.actions() {
+        let fault = step_fault(rows, line, g, action, task.apply(state, action));
+        if fault.is_some() {
+            return fault;
+        }
+    }
+    None
+}
+
+fn may_be_cut(weight: &StatedWeight, best: Option<u64>, g: u64, estimate: Estimate) -> bool
+    requires weight { is_weight (record { num = weight.now.num; den = weight.now.den }) ≡ true }
+    ensures { result ≡ may_be_cut (record { num = weight.now.num; den = weight.now.den }) best g estimate }
+{
+    match estimate {
+        Estimate::Dead => true,
+        Estimate::Cost(h) => match best {
+            None => false,
+            Some(best) => {
+                u128::from(weight.den) * u128::from(best)
+                    <= u128::from(weight.num) * (u128::from(g) + u128::from(h))
+            }
+        },
+    }
+}
+
+// The fault of a row, judged by itself against all rows.
+#[tactic(auto, unfolding(crate::specs::Judging::row_fault))]
+fn row_fault(
+    task: &Task,
+    estimator: &mut Estimator,
+    weight: &StatedWeight,
+    best: Option<u64>,
+    rows: &[StatedRow],
+    line: u64,
+    row: &StatedRow,
+) -> Option<Fault>
+    requires task { estimator.old ≡ tables_of task.now }
+    requires weight { is_weight (record { num = weight.now.num; den = weight.now.den }) ≡ true }
+    requires rise { Rise rows.now }
+    requires state { IsTrue ((space_of task.now).is_state row.now.state) }
+    ensures fault { result ≡ row_fault (space_of task.now) (estimate_of task.now) (record { num = weight.now.num; den = weight.now.den }) best rows.now line row.now }
+    ensures task { estimator.new ≡ tables_of task.now }
+{
+    if row.is_closed {
+        if task.is_goal(&row.state) {
+            Some(Fault::GoalClosed { line })
+        } else {
+            steps_fault(task, rows, line, row.g, &row.state)
+        }
+    } else {
+        let estimate = estimator.estimate(task, &row.state);
+        unless(
+            may_be_cut(weight, best, row.g, estimate),
+            Fault::Low { line },
+        )
+    }
+}
+
+// The first fault of the rows, each judged by itself against all rows.
+fn rows_fault(
+    task: &Task,
+    estimator: &mut Estimator,
+    weight: &StatedWeight,
+    best: Option<u64>,
+    rows: &[StatedRow],
+    line: u64,
+) -> Option<Fault>
+    requires task { estimator.old ≡ tables_of task.now }
+    requires weight { is_weight (record { num = weight.now.num; den = weight.now.den }) ≡ true }
+    requires rise { Rise rows.now }
+    requires states { first_fault_by (state_fault (space_of task.now)) line rows.now ≡ None }
+    requires lines { line + length rows.now < 2 ^ 64 }
+    ensures fault { result ≡ first_fault_by (row_fault (space_of task.now) (estimate_of task.now) (record { num = weight.now.num; den = weight.now.den }) best rows.now) line rows.now }
+    ensures task { estimator.new ≡ tables_of task.now }
+{
+    let mut at = line;
+    for row in rows {
+        let fault = row_fault(task, estimator, weight, best, rows, at, row);
+        if fault.is_some() {
+            return fault;
+        }
+        at += 1;
+    }
+    None
+}
+
+// ---- all in order
+
+fn cost_of(plan: &Option<StatedPlan>) -> Option<u64>
+    ensures { result ≡ cost_of plan.now }
+{
+    match plan {
+        None => None,
+        Some(plan) => Some(plan.cost),
+    }
+}
+
+fn bound_of(weight: &StatedWeight, cost: u64) -> u64
+    requires { is_weight (record { num = weight.now.num; den = weight.now.den }) ≡ true }
+    ensures { result ≡ bound_of (record { num = weight.now.num; den = weight.now.den }) cost }
+{
+    let least = (u128::from(weight.den) * u128::from(cost) + (u128::from(weight.num) - 1))
+        / u128::from(weight.num);
+    least as u64
+}
+
+fn verdict_of(weight: &StatedWeight, plan: &Option<StatedPlan>) -> Verdict
+    requires { is_weight (record { num = weight.now.num; den = weight.now.den }) ≡ true }
+    ensures { result ≡ verdict_of (record { num = weight.now.num; den = weight.now.den }) plan.now }
+{
+    match plan {
+        None => Verdict::Unsolvable,
+        Some(plan) => Verdict::Bounded {
+            cost: plan.cost,
+            bound: bound_of(weight, plan.cost),
+        },
+    }
+}
+
+fn is_zero(g: Option<u64>) -> bool
+    ensures { result ≡ is_zero g }
+{
+    match g {
+        None => false,
+        Some(g) => g == 0,
+    }
+}
+
+// Goes on only where no row has a fault.
+fn need_rows(
+    task: &Task,
+    estimator: &mut Estimator,
+    weight: &StatedWeight,
+    plan: &Option<StatedPlan>,
+    rows: &[StatedRow],
+    line: u64,
+) -> Result<bool, CheckError>
+    requires task { estimator.old ≡ tables_of task.now }
+    requires weight { is_weight (record { num = weight.now.num; den = weight.now.den }) ≡ true }
+    requires rise { Rise rows.now }
+    requires states { first_fault_by (state_fault (space_of task.now)) line rows.now ≡ None }
+    requires lines { line + length rows.now < 2 ^ 64 }
+    ensures gives { Gives (λ x. x) result (passes (first_fault_by (row_fault (space_of task.now) (estimate_of task.now) (record { num = weight.now.num; den = weight.now.den }) (cost_of plan.now) rows.now) line rows.now)) }
+    ensures task { estimator.new ≡ tables_of task.now }
+{
+    let fault = rows_fault(task, estimator, weight, cost_of(plan), rows, line);
+    pass(fault)
+}
+
+/// The verdict on what a text says, or its first fault.
+#[tactic(auto, unfolding(crate::specs::Judging::judged))]
+pub fn judge(
+    task: &Task,
+    estimator: &mut Estimator,
+    kind: Kind,
+    weight: &StatedWeight,
+    plan: &Option<StatedPlan>,
+    rows: &[StatedRow],
+    first: u64,
+) -> Result<Verdict, CheckError>
+    requires task { estimator.old ≡ tables_of task.now }
+    requires lines { first + length rows.now < 2 ^ 64 }
+    ensures verdict { Gives (λ x. x) result (judged (space_of task.now) (estimate_of task.now) (kind_of task.now) (record { kind = kind; certificate = record { weight = record { num = weight.now.num; den = weight.now.den }; plan = plan.now; lines = rows.now }; first = first })) }
+    ensures lawful { IsTask task.now }
+    ensures task { estimator.new ≡ tables_of task.now }
+{
+    let start = task.initial();
+    need(same_kind(kind_of(task), kind), Fault::Kind)?;
+    need(is_weight(weight), Fault::Weight)?;
+    judge_plan_if_any(task, plan)?;
+    pass(rows_order_fault(first, rows))?;
+    pass(states_fault(task, first, rows))?;
+    need(is_zero(g_of(rows, &start)), Fault::NoStart)?;
+    need_rows(task, estimator, weight, plan, rows, first)?;
+    Ok(verdict_of(weight, plan))
+}

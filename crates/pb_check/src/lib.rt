@@ -1,0 +1,21 @@
+//! The certificate checker: whether bytes spell a certificate that is valid for a task, or else their first fault.
+//!
+//! It trusts no planner: it reads the text, walks the plan and recomputes the successors of every closed row.
+#![tactic(auto)]
+
+mod checker;
+mod fault;
+mod judging;
+mod kind;
+mod laws;
+mod reading;
+mod stated;
+mod words;
+
+pub use checker::check;
+pub use fault::{CheckError, Fault, Verdict};
+pub use kind::{Kind, kind_of};
+pub use laws::{bounds_are_least, read_as_spelled};
+
+#[cfg(test)]
+mod tests;

@@ -1,0 +1,342 @@
+ghost use Rattle.std.specs.Prelude.{◌≡◌, ◌≤◌, ◌+◌, ◌<◌, ◌^◌, length, codes, IfSome, IfNone, IfOk, Some, None, Option, List, ℕ, Err, Ok, Result, []};
+ghost use Rattle.pb_model.specs.Weight.{Weight};
+ghost use Rattle.pb_model.specs.Plan.{Plan};
+ghost use Rattle.pb_model.specs.Certificate.{Certificate};
+ghost use Rattle.pb_check.specs.Words.{number_of, behind, state_of};
+ghost use Rattle.pb_check.specs.Faults.{Gives, wanted};
+ghost use Rattle.pb_check.specs.Reading.{Text, plan_lines, part, line_at, is_text, number_behind, kind_in, weight_in, closed_in, row_in, fixed_at, number_at, kind_at, weight_at, row_at, actions_at, rows_at, steps_at, plan_at, end_at, body_at, text_of};
+
+use crate::fault::{CheckError, Fault};
+use crate::kind::Kind;
+use crate::stated::{StatedPlan, StatedRow, StatedText, StatedWeight};
+use crate::words::{behind, number_of, place_of, state_of};
+use pb_packed::Packed;
+use std::alloc::Global;
+
+// The text before the first such byte, and the text after it.
+fn part(text: &[u8], byte: u8) -> Option<(&[u8], &[u8])>
+    ensures some { IfSome result (λ x. part byte text.now ≡ Some (x.0.now, x.1.now)) }
+    ensures shorter { IfSome result (λ x. length x.1.now + 1 ≤ length text.now) }
+    ensures none { IfNone result (part byte text.now ≡ None) }
+{
+    let place = place_of(text, byte);
+    if place < text.len() {
+        let (front, _) = text.split_at(place);
+        let (_, rest) = text.split_at(place + 1);
+        Some((front, rest))
+    } else {
+        None
+    }
+}
+
+// A line, and the text after it.
+fn line_at(line: u64, text: &[u8]) -> Result<(&[u8], &[u8]), CheckError>
+    ensures gives { Gives (λ x. (x.0.now, x.1.now)) result (line_at line text.now) }
+    ensures shorter { IfOk result (λ x. length x.1.now + 1 ≤ length text.now) }
+{
+    match part(text, b'\n') {
+        Some((front, rest)) => Ok((front, rest)),
+        None => Err(CheckError::Fault(Fault::Syntax { line })),
+    }
+}
+
+fn is_text(text: &[u8], piece: &[u8]) -> bool
+    ensures { result ≡ is_text piece.now text.now }
+{
+    match behind(text, piece) {
+        Some(rest) => rest.len() == 0,
+        None => false,
+    }
+}
+
+fn number_in(line: u64, text: &[u8]) -> Result<u64, CheckError>
+    ensures gives { Gives (λ x. x) result (wanted line (number_of text.now)) }
+    ensures small { IfOk result (λ n. n < 2 ^ 63) }
+{
+    match number_of(text) {
+        Some(n) => Ok(n),
+        None => Err(CheckError::Fault(Fault::Syntax { line })),
+    }
+}
+
+fn number_behind(line: u64, text: &[u8], piece: &[u8]) -> Result<u64, CheckError>
+    ensures gives { Gives (λ x. x) result (number_behind line piece.now text.now) }
+    ensures small { IfOk result (λ n. n < 2 ^ 63) }
+{
+    match behind(text, piece) {
+        Some(word) => number_in(line, word),
+        None => Err(CheckError::Fault(Fault::Syntax { line })),
+    }
+}
+
+#[tactic(auto, unfolding(crate::specs::Reading::kind_in))]
+fn kind_in(line: u64, text: &[u8]) -> Result<Kind, CheckError>
+    ensures { Gives (λ x. x) result (kind_in line text.now) }
+{
+    if is_text(text, b"kind grid") {
+        Ok(Kind::Grid)
+    } else if is_text(text, b"kind tiles") {
+        Ok(Kind::Tiles)
+    } else if is_text(text, b"kind strips") {
+        Ok(Kind::Strips)
+    } else {
+        Err(CheckError::Fault(Fault::Syntax { line }))
+    }
+}
+
+fn part_in(line: u64, text: &[u8], byte: u8) -> Result<(&[u8], &[u8]), CheckError>
+    ensures { Gives (λ x. (x.0.now, x.1.now)) result (wanted line (part byte text.now)) }
+{
+    match part(text, byte) {
+        Some((front, rest)) => Ok((front, rest)),
+        None => Err(CheckError::Fault(Fault::Syntax { line })),
+    }
+}
+
+fn behind_in<'a>(line: u64, text: &'a [u8], piece: &[u8]) -> Result<&'a [u8], CheckError>
+    ensures { Gives (λ x. x.now) result (wanted line (behind piece.now text.now)) }
+{
+    match behind(text, piece) {
+        Some(rest) => Ok(rest),
+        None => Err(CheckError::Fault(Fault::Syntax { line })),
+    }
+}
+
+fn state_in(line: u64, text: &[u8]) -> Result<Packed, CheckError>
+    ensures { Gives (λ x. x) result (wanted line (state_of text.now)) }
+{
+    match state_of(text) {
+        Some(state) => Ok(state),
+        None => Err(CheckError::Fault(Fault::Syntax { line })),
+    }
+}
+
+#[tactic(auto, unfolding(crate::specs::Reading::weight_in))]
+fn weight_in(line: u64, text: &[u8]) -> Result<StatedWeight, CheckError>
+    ensures { Gives (λ x. record { num = x.num; den = x.den }) result (weight_in line text.now) }
+{
+    let words = behind_in(line, text, b"weight ")?;
+    let (first, second) = part_in(line, words, b' ')?;
+    let num = number_in(line, first)?;
+    let den = number_in(line, second)?;
+    Ok(StatedWeight { num, den })
+}
+
+#[tactic(auto, unfolding(crate::specs::Reading::closed_in))]
+fn closed_in(line: u64, text: &[u8]) -> Result<bool, CheckError>
+    ensures { Gives (λ x. x) result (closed_in line text.now) }
+{
+    if is_text(text, b"closed") {
+        Ok(true)
+    } else if is_text(text, b"cut") {
+        Ok(false)
+    } else {
+        Err(CheckError::Fault(Fault::Syntax { line }))
+    }
+}
+
+#[tactic(auto, unfolding(crate::specs::Reading::row_in))]
+fn row_in(line: u64, text: &[u8]) -> Result<StatedRow, CheckError>
+    ensures gives { Gives (λ x. x) result (row_in line text.now) }
+{
+    let (front, back) = part_in(line, text, b' ')?;
+    let (middle, end) = part_in(line, back, b' ')?;
+    let state = state_in(line, front)?;
+    let g = number_in(line, middle)?;
+    let is_closed = closed_in(line, end)?;
+    Ok(StatedRow {
+        state,
+        g,
+        is_closed,
+    })
+}
+
+// ---- the lines of a text, one after another
+
+#[tactic(auto, unfolding(crate::specs::Reading::fixed_at))]
+fn fixed_at<'a>(line: u64, text: &'a [u8], piece: &[u8]) -> Result<&'a [u8], CheckError>
+    ensures gives { Gives (λ x. x.now) result (fixed_at line piece.now text.now) }
+    ensures shorter { IfOk result (λ x. length x.now + 1 ≤ length text.now) }
+{
+    let (first, rest) = line_at(line, text)?;
+    if is_text(first, piece) {
+        Ok(rest)
+    } else {
+        Err(CheckError::Fault(Fault::Syntax { line }))
+    }
+}
+
+#[tactic(auto, unfolding(crate::specs::Reading::number_at))]
+fn number_at<'a>(line: u64, text: &'a [u8], piece: &[u8]) -> Result<(u64, &'a [u8]), CheckError>
+    ensures gives { Gives (λ x. (x.0, x.1.now)) result (number_at line piece.now text.now) }
+    ensures shorter { IfOk result (λ x. length x.1.now + 1 ≤ length text.now) }
+    ensures small { IfOk result (λ x. x.0 < 2 ^ 63) }
+{
+    let (first, rest) = line_at(line, text)?;
+    let n = number_behind(line, first, piece)?;
+    Ok((n, rest))
+}
+
+#[tactic(auto, unfolding(crate::specs::Reading::kind_at))]
+fn kind_at(line: u64, text: &[u8]) -> Result<(Kind, &[u8]), CheckError>
+    ensures gives { Gives (λ x. (x.0, x.1.now)) result (kind_at line text.now) }
+    ensures shorter { IfOk result (λ x. length x.1.now + 1 ≤ length text.now) }
+{
+    let (first, rest) = line_at(line, text)?;
+    let kind = kind_in(line, first)?;
+    Ok((kind, rest))
+}
+
+#[tactic(auto, unfolding(crate::specs::Reading::weight_at))]
+fn weight_at(line: u64, text: &[u8]) -> Result<(StatedWeight, &[u8]), CheckError>
+    ensures gives { Gives (λ x. (record { num = x.0.num; den = x.0.den }, x.1.now)) result (weight_at line text.now) }
+    ensures shorter { IfOk result (λ x. length x.1.now + 1 ≤ length text.now) }
+{
+    let (first, rest) = line_at(line, text)?;
+    let weight = weight_in(line, first)?;
+    Ok((weight, rest))
+}
+
+#[tactic(auto, unfolding(crate::specs::Reading::row_at))]
+fn row_at(line: u64, text: &[u8]) -> Result<(StatedRow, &[u8]), CheckError>
+    ensures gives { Gives (λ x. (x.0, x.1.now)) result (row_at line text.now) }
+    ensures shorter { IfOk result (λ x. length x.1.now + 1 ≤ length text.now) }
+{
+    let (first, rest) = line_at(line, text)?;
+    let row = row_in(line, first)?;
+    Ok((row, rest))
+}
+
+// That many actions, one a line. The list grows with the lines that were read.
+fn actions_at(
+    alloc: Global,
+    count: u64,
+    line: u64,
+    text: &[u8],
+) -> Result<(Vec<u64>, &[u8]), CheckError>
+    requires { line + length text.now < 2 ^ 64 }
+    ensures gives { Gives (λ x. (x.0.items, x.1.now)) result (actions_at count line text.now) }
+    ensures shorter { IfOk result (λ x. length x.1.now + length x.0.items ≤ length text.now) }
+    ensures many { IfOk result (λ x. length x.0.items ≡ count) }
+{
+    let mut actions = Vec::new(alloc);
+    let mut rest = text;
+    for i in 0..count {
+        let (action, after) = number_at(line + i, rest, b"")?;
+        actions.push(action)?;
+        rest = after;
+    }
+    Ok((actions, rest))
+}
+
+// That many rows, one a line.
+fn rows_at(
+    alloc: Global,
+    count: u64,
+    line: u64,
+    text: &[u8],
+) -> Result<(Vec<StatedRow>, &[u8]), CheckError>
+    requires { line + length text.now < 2 ^ 64 }
+    ensures gives { Gives (λ x. (x.0.items, x.1.now)) result (rows_at count line text.now) }
+    ensures shorter { IfOk result (λ x. length x.1.now + length x.0.items ≤ length text.now) }
+    ensures many { IfOk result (λ x. length x.0.items ≡ count) }
+{
+    let mut rows = Vec::new(alloc);
+    let mut rest = text;
+    for i in 0..count {
+        let (row, after) = row_at(line + i, rest)?;
+        rows.push(row)?;
+        rest = after;
+    }
+    Ok((rows, rest))
+}
+
+#[tactic(auto, unfolding(crate::specs::Reading::steps_at))]
+fn steps_at(
+    alloc: Global,
+    count: u64,
+    line: u64,
+    text: &[u8],
+) -> Result<(StatedPlan, &[u8]), CheckError>
+    requires { line + length text.now < 2 ^ 64 }
+    ensures gives { Gives (λ x. (x.0, x.1.now)) result (steps_at count line text.now) }
+    ensures shorter { IfOk result (λ x. length x.1.now + 1 + length x.0.actions ≤ length text.now) }
+{
+    let (actions, rest) = actions_at(alloc, count, line, text)?;
+    let (cost, rest) = number_at(line + count, rest, b"cost ")?;
+    Ok((StatedPlan { actions, cost }, rest))
+}
+
+#[tactic(auto, unfolding(crate::specs::Reading::plan_at))]
+fn plan_at(alloc: Global, line: u64, text: &[u8]) -> Result<(Option<StatedPlan>, &[u8]), CheckError>
+    requires { line + length text.now < 2 ^ 64 }
+    ensures gives { Gives (λ x. (x.0, x.1.now)) result (plan_at line text.now) }
+    ensures shorter { IfOk result (λ x. length x.1.now + plan_lines x.0 ≤ length text.now) }
+{
+    let (first, rest) = line_at(line, text)?;
+    if is_text(first, b"none") {
+        return Ok((None, rest));
+    }
+    let count = number_behind(line, first, b"plan ")?;
+    let (plan, rest) = steps_at(alloc, count, line + 1, rest)?;
+    Ok((Some(plan), rest))
+}
+
+#[tactic(auto, unfolding(crate::specs::Reading::end_at))]
+fn end_at(line: u64, text: &[u8]) -> Result<bool, CheckError>
+    requires { line + length text.now < 2 ^ 64 }
+    ensures gives { Gives (λ x. x) result (end_at line text.now) }
+    ensures some { IfOk result (λ x. 1 ≤ length text.now) }
+{
+    let rest = fixed_at(line, text, b"end")?;
+    if rest.len() == 0 {
+        Ok(true)
+    } else {
+        Err(CheckError::Fault(Fault::Syntax { line: line + 1 }))
+    }
+}
+
+#[tactic(auto, unfolding(crate::specs::Reading::body_at))]
+fn body_at(alloc: Global, line: u64, text: &[u8]) -> Result<Vec<StatedRow>, CheckError>
+    requires { line + length text.now < 2 ^ 64 }
+    ensures gives { Gives (λ x. x.items) result (body_at line text.now) }
+    ensures shorter { IfOk result (λ x. length x.items + 2 ≤ length text.now) }
+{
+    let (count, rest) = number_at(line, text, b"rows ")?;
+    let (rows, rest) = rows_at(alloc, count, line + 1, rest)?;
+    end_at(line + 1 + count, rest)?;
+    Ok(rows)
+}
+
+// How many lines the plan takes.
+fn plan_lines(plan: &Option<StatedPlan>) -> u64
+    requires { plan_lines plan.now < 2 ^ 64 }
+    ensures { result ≡ plan_lines plan.now }
+{
+    match plan {
+        None => 1,
+        Some(route) => route.actions.len() as u64 + 2,
+    }
+}
+
+/// What the bytes say, or their first line that is not spelled as it must be.
+#[tactic(auto, unfolding(crate::specs::Reading::text_of))]
+pub fn text_of(alloc: Global, bytes: &[u8]) -> Result<StatedText, CheckError>
+    requires { length bytes.now < 2 ^ 63 }
+    ensures gives { Gives (λ x. x) result (text_of bytes.now) }
+    ensures few { IfOk result (λ x. x.first + length x.certificate.lines < 2 ^ 64) }
+{
+    let rest = fixed_at(1, bytes, b"pbnf-certificate 1")?;
+    let (kind, rest) = kind_at(2, rest)?;
+    let (weight, rest) = weight_at(3, rest)?;
+    let (plan, rest) = plan_at(alloc, 4, rest)?;
+    let lines = plan_lines(&plan);
+    let rows = body_at(alloc, 4 + lines, rest)?;
+    Ok(StatedText {
+        kind,
+        weight,
+        plan,
+        rows,
+        first: 5 + lines,
+    })
+}

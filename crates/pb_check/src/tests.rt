@@ -1,0 +1,219 @@
+use crate::{CheckError, Fault, Verdict, check};
+use pb_estimate::Estimator;
+use pb_task::{Cells, Class, GridParts, Task};
+use std::alloc::{AllocError, Global};
+use std::test::Fail;
+
+// A map of 3 by 3 cells, from its upper left to its lower right cell, with this class in its middle row.
+fn square(alloc: Global, middle: Class) -> Result<Task, AllocError> {
+    let land = Class::Land;
+    let classes = vec![in alloc; land, land, land, middle, middle, middle, land, land, land]?;
+    let task = Task::of_grid(GridParts {
+        width: 3,
+        height: 3,
+        cells: Cells::of(classes),
+        start: (0, 0),
+        goal: (2, 2),
+    });
+    Ok(task)
+}
+
+// The lines of a certificate for the map of land. Rows are written with the last digits of their states alone.
+const LINES: [&str; 18] = [
+    "pbnf-certificate 1",
+    "kind grid",
+    "weight 1 1",
+    "plan 4",
+    "3",
+    "3",
+    "1",
+    "1",
+    "cost 4",
+    "rows 7",
+    "*0 0 closed",
+    "*1 1 closed",
+    "*2 2 closed",
+    "*800 1 cut",
+    "*801 2 cut",
+    "*802 3 closed",
+    "*1002 4 cut",
+    "end",
+];
+
+// Adds a line, with the 64 digits of a state that it begins with.
+fn add_line(text: &mut String, line: &str) -> Result<(), AllocError> {
+    match line.strip_prefix("*") {
+        None => text.push_str(line)?,
+        Some(row) => {
+            let digits = row.find(' ').unwrap_or(0);
+            for _ in digits..64 {
+                text.push('0')?;
+            }
+            text.push_str(row)?;
+        }
+    }
+    text.push('\n')?;
+    Ok(())
+}
+
+// The lines that stand in place of a line, parted by slashes: those of the first change that names it.
+fn in_place_of<'a>(number: usize, line: &'a str, changes: &[(usize, &'a str)]) -> &'a str {
+    for change in changes {
+        if change.0 == number {
+            return change.1;
+        }
+    }
+    line
+}
+
+// The certificate with other lines in place of some, whose numbers are counted from 1.
+fn changed(alloc: Global, changes: &[(usize, &str)]) -> Result<String, AllocError> {
+    let mut text = String::new(alloc);
+    for i in 0..LINES.len() {
+        for line in in_place_of(i + 1, LINES[i], changes).split('/') {
+            if !line.is_empty() {
+                add_line(&mut text, line)?;
+            }
+        }
+    }
+    Ok(text)
+}
+
+// What the checker answers.
+fn answer(alloc: Global, task: &Task, bytes: &[u8]) -> Result<Verdict, CheckError> {
+    let mut estimator = Estimator::of(alloc, task)?;
+    if bytes.len() < 1 << 40 {
+        check(alloc, task, &mut estimator, bytes)
+    } else {
+        Err(CheckError::Memory)
+    }
+}
+
+// What the checker answers to the certificate with these changes.
+fn changed_answer(alloc: Global, changes: &[(usize, &str)]) -> Result<Verdict, CheckError> {
+    let task = square(alloc, Class::Land)?;
+    let text = changed(alloc, changes)?;
+    answer(alloc, &task, text.as_bytes())
+}
+
+// Each row has one or two changes, and the fault of the certificate with them.
+#[test]
+fn a_changed_certificate_is_refused_at_its_first_fault(rt: HostRuntime) {
+    for (one, two, fault) in [
+        (
+            (10, "rows 6"),
+            (15, ""),
+            Fault::Missing {
+                line: 12,
+                action: 1,
+            },
+        ),
+        (
+            (14, "*800 2 cut"),
+            (0, ""),
+            Fault::TooDear {
+                line: 11,
+                action: 1,
+            },
+        ),
+        ((14, "*800 0 cut"), (0, ""), Fault::Low { line: 14 }),
+        (
+            (11, "*1 1 closed"),
+            (12, "*0 0 closed"),
+            Fault::RowOrder { line: 12 },
+        ),
+        (
+            (17, "*1002 4 closed"),
+            (0, ""),
+            Fault::GoalClosed { line: 17 },
+        ),
+        ((10, "rows 6"), (11, ""), Fault::NoStart),
+        ((9, "cost 5"), (0, ""), Fault::Cost { said: 5, real: 4 }),
+        ((18, ""), (0, ""), Fault::Syntax { line: 18 }),
+        (
+            (14, "*800 0 cut"),
+            (17, "*1002 4 closed"),
+            Fault::Low { line: 14 },
+        ),
+        ((2, "kind tiles"), (0, ""), Fault::Kind),
+        ((3, "weight 1 2"), (0, ""), Fault::Weight),
+        ((5, "0"), (0, ""), Fault::PlanStep { i: 0 }),
+        ((5, "4294967296"), (0, ""), Fault::PlanStep { i: 0 }),
+        ((4, "plan 3"), (8, ""), Fault::NotGoal),
+        (
+            (10, "rows 9223372036854775807"),
+            (0, ""),
+            Fault::Syntax { line: 18 },
+        ),
+        (
+            (10, "rows 8"),
+            (13, "*2 2 closed/*3 1 closed"),
+            Fault::BadState { line: 14 },
+        ),
+        (
+            (10, "rows 8"),
+            (16, "*802 3 closed/*1000 9223372036854775807 closed"),
+            Fault::Missing {
+                line: 17,
+                action: 3,
+            },
+        ),
+        ((3, "weight 01 1"), (0, ""), Fault::Syntax { line: 3 }),
+        (
+            (4, "plan 9223372036854775808"),
+            (0, ""),
+            Fault::Syntax { line: 4 },
+        ),
+        ((12, "*A 1 closed"), (0, ""), Fault::Syntax { line: 12 }),
+        ((14, "800 1 cut"), (0, ""), Fault::Syntax { line: 14 }),
+        ((18, "end/end"), (0, ""), Fault::Syntax { line: 19 }),
+    ] {
+        assert_eq!(rt;
+            changed_answer(rt.alloc(), &[one, two]),
+            Err(CheckError::Fault(fault))
+        );
+    }
+}
+
+// The weight 3 lowers the bound from 4 to the least whole number that is no less than 4 / 3.
+#[test]
+fn a_valid_certificate_is_accepted(rt: HostRuntime) {
+    for (one, two, bound) in [
+        ((0, ""), (0, ""), 4),
+        (
+            (10, "rows 8"),
+            (16, "*802 3 closed/*1000 9223372036854775807 cut"),
+            4,
+        ),
+        ((3, "weight 3 1"), (0, ""), 2),
+    ] {
+        assert_eq!(rt;
+            changed_answer(rt.alloc(), &[one, two]),
+            Ok(Verdict::Bounded { cost: 4, bound })
+        );
+    }
+}
+
+#[test]
+fn without_a_way_to_the_goal_there_is_no_plan(rt: HostRuntime) -> Result<(), Fail> {
+    let task = square(rt.alloc(), Class::Blocked)?;
+    let mut text = String::new(rt.alloc());
+    for line in [
+        "pbnf-certificate 1",
+        "kind grid",
+        "weight 1 1",
+        "none",
+        "rows 3",
+        "*0 0 closed",
+        "*1 1 closed",
+        "*2 2 closed",
+        "end",
+    ] {
+        add_line(&mut text, line)?;
+    }
+    assert_eq!(rt;
+        answer(rt.alloc(), &task, text.as_bytes()),
+        Ok(Verdict::Unsolvable)
+    );
+    Ok(())
+}
