@@ -2,3 +2,4 @@ mod Kept
 mod Known
 mod Places
 pub mod Told
+mod Untold

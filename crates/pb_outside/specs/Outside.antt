@@ -1,5 +1,5 @@
 -- What the calls on the outside do to it, and that a fault has a cause.
-use Rattle.std.specs.Prelude.{◌≡◌, ◌≢◌, ◌⊎◌, ℕ, ◌+◌, ◌-◌, ◌^◌, ◌<◌, ◌≤◌, min, Option, None, Some, List, [], ◌++◌, length, take, Result, IfSome, IfErr, OnErr}
+use Rattle.std.specs.Prelude.{◌≡◌, ◌≢◌, ◌⊎◌, ℕ, ◌+◌, ◌-◌, ◌^◌, ◌<◌, ◌≤◌, min, Option, None, Some, List, [], ◌++◌, length, take, Result, Ok, Err, IfSome, IfErr, OnErr}
 use Rattle.pb_outside.specs.declared.shelf.Load.{Load}
 use Rattle.pb_outside.specs.declared.shelf.Load.TheVariants.{Failed, TooLong, Memory}
 
@@ -44,6 +44,18 @@ LoadRose Memory before now = Unit {0}
 pub record HasLoadCause {T : Type 0} (before now : ℕ) (result : Result T Load) : Type 0 where
   pub later : before ≤ now
   pub failed : IfErr result (λ e. LoadRose e before now)
+
+-- the count after a call: one more after an error, and else the same
+abbrev pub count_after : {T E : Type 0} → ℕ → Result T E → ℕ
+count_after before (Ok value) = before
+count_after before (Err error) = counted before
+
+-- the count after a load, where only one error is a fault
+abbrev pub count_after_load : {T : Type 0} → ℕ → Result T Load → ℕ
+count_after_load before (Ok value) = before
+count_after_load before (Err Failed) = counted before
+count_after_load before (Err (TooLong seen)) = before
+count_after_load before (Err Memory) = before
 
 -- all files but this one stay
 abbrev pub KeepsOthers : Files → Files → List ℕ → Type 0

@@ -1,5 +1,5 @@
 -- What reading to the end and writing all do to the known bytes of a reader and a writer.
-use Rattle.std.specs.Prelude.{ℕ, ◌<◌, ◌≤◌, Option, List, length, take}
+use Rattle.std.specs.Prelude.{◌≡◌, ℕ, ◌<◌, ◌≤◌, Option, List, length, take, IfSome}
 use Rattle.std.specs.Io.KnownBytes.{Appends, Consumes}
 use Rattle.pb_outside.specs.declared.shelf.Load.{Load}
 use Rattle.pb_outside.specs.declared.shelf.Load.TheVariants.{Failed, TooLong, Memory}
@@ -17,3 +17,22 @@ ConsumesUpTo old new most = (bytes : List ℕ) × (length bytes ≤ most) × Con
 -- a first part of the bytes was written
 abbrev pub AppendsUpTo : Option (List ℕ) → Option (List ℕ) → List ℕ → Type 0
 AppendsUpTo old new bytes = (kept : ℕ) × (kept ≤ length bytes) × Appends old new (take kept bytes)
+
+-- there is a file that has exactly these bytes to give, where it tells them
+abbrev pub IsAllOfFile : {F : Type 0} → (F → Option (List ℕ)) → List ℕ → Type 0
+IsAllOfFile {F} remaining bytes = (file : F) × IfSome (remaining file) (λ all. all ≡ bytes)
+
+-- where a load was too long, there is a file that has more than `most` bytes to give, where it tells them
+abbrev pub IsLongerFile : {F : Type 0} → (F → Option (List ℕ)) → ℕ → Load → Type 0
+IsLongerFile {F} remaining most Failed = Unit {0}
+IsLongerFile {F} remaining most Memory = Unit {0}
+IsLongerFile {F} remaining most (TooLong seen) = (file : F) × IfSome (remaining file) (λ all. most < length all)
+
+-- a file got the bytes behind those that it held, where it tells them
+abbrev pub AppendsToFile : {F : Type 0} → (F → Option (List ℕ)) → List ℕ → Type 0
+AppendsToFile {F} contents bytes = (old : F) × (new : F) × Appends (contents old) (contents new) bytes
+
+-- what contracts see of a sink over a writer: what the writer holds, where it tells it, and how often it failed
+pub record OutView : Type 0 where
+  pub contents : Option (List ℕ)
+  pub faults : ℕ

@@ -1,4 +1,6 @@
-ghost use Rattle.std.specs.Prelude.{◌≡◌, None};
+ghost use Rattle.std.specs.Prelude.{◌≡◌, ◌≤◌, None, length, IfOk, IfErr, OnOk};
+ghost use Rattle.pb_outside.specs.Outside.{HasCause, HasLoadCause, SeesOneMore, count_after, count_after_load};
+ghost use Rattle.pb_outside.specs.Streams.{IsAllOfFile, IsLongerFile, AppendsToFile};
 
 use crate::streams::{read_whole, write_whole};
 use crate::{Failed, Load, Shelf};
@@ -40,7 +42,16 @@ impl<'a, R: Files> Shelf for FileShelf<'a, R> {
 
     ghost faults = { λ s. s };
 
-    fn load(&mut self, alloc: Global, name: &str, most: u64) -> Result<Vec<u8>, Load> {
+    fn load(&mut self, alloc: Global, name: &str, most: u64) -> Result<Vec<u8>, Load>
+        ensures short { IfOk result (λ bytes. length bytes.items ≤ most) }
+        ensures seen { IfErr result (λ e. SeesOneMore most e) }
+        ensures cause { HasLoadCause self.old self.new result }
+
+        // A file of the system was opened, and its bytes were read to the end, or beyond `most`.
+        ensures read { IfOk result (λ bytes. IsAllOfFile R.File.remaining bytes.items) }
+        ensures longer { IfErr result (λ e. IsLongerFile R.File.remaining most e) }
+        ensures count { self.new ≡ count_after_load self.old result }
+    {
         let Ok(mut file) = fs::open(self.rt, name) else {
             self.faults = self.faults.saturating_add(1);
             return Err(Load::Failed);
@@ -54,7 +65,13 @@ impl<'a, R: Files> Shelf for FileShelf<'a, R> {
         }
     }
 
-    fn create(&mut self, name: &str) -> Result<(), Failed> {
+    fn create(&mut self, name: &str) -> Result<(), Failed>
+        ensures cause { HasCause self.old self.new result }
+
+        // A file of the system was opened: the fact is that file.
+        ensures opened { OnOk result R.File }
+        ensures count { self.new ≡ count_after self.old result }
+    {
         if fs::create(self.rt, name).is_err() {
             self.faults = self.faults.saturating_add(1);
             return Err(Failed);
@@ -62,7 +79,13 @@ impl<'a, R: Files> Shelf for FileShelf<'a, R> {
         Ok(())
     }
 
-    fn append(&mut self, name: &str, piece: &[u8]) -> Result<(), Failed> {
+    fn append(&mut self, name: &str, piece: &[u8]) -> Result<(), Failed>
+        ensures cause { HasCause self.old self.new result }
+
+        // A file of the system was opened, and all of the piece was written to it.
+        ensures written { OnOk result (AppendsToFile R.File.contents piece.now) }
+        ensures count { self.new ≡ count_after self.old result }
+    {
         let mut options = OpenOptions::new();
         options.append(true);
         let Ok(mut file) = options.open(self.rt, name) else {

@@ -1,4 +1,7 @@
-ghost use Rattle.std.specs.Prelude.{◌≡◌, None};
+ghost use Rattle.std.specs.Prelude.{◌≡◌, None, OnOk, OnErr};
+ghost use Rattle.std.specs.Io.KnownBytes.{Appends};
+ghost use Rattle.pb_outside.specs.Outside.{HasCause, count_after};
+ghost use Rattle.pb_outside.specs.Streams.{AppendsUpTo};
 
 use crate::streams::write_whole;
 use crate::{Failed, Sink};
@@ -13,19 +16,19 @@ pub struct OutSink<W: Write> {
     faults: u64,
 }
 
-// A contract sees its count of faults.
+// A contract sees what its writer holds, where that is known, and its count of faults.
 impl<W: Write> Model for OutSink<W> {
-    ghost use Rattle.std.specs.Prelude.{ℕ};
+    ghost use Rattle.pb_outside.specs.Streams.{OutView};
 
-    ghost Value = { ℕ };
+    ghost Value = { OutView };
 
-    ghost view = { λ s. s.faults };
+    ghost view = { λ s. record { contents = W.contents s.writer; faults = s.faults } };
 }
 
 impl<W: Write> OutSink<W> {
     /// A sink that writes to this writer.
     pub fn new(writer: W) -> OutSink<W>
-        ensures { result ≡ 0 }
+        ensures { result ≡ record { contents = W.contents writer; faults = 0 } }
     {
         OutSink { writer, faults: 0 }
     }
@@ -34,9 +37,15 @@ impl<W: Write> OutSink<W> {
 impl<W: Write> Sink for OutSink<W> {
     ghost written = { λ _. None };
 
-    ghost faults = { λ s. s };
+    ghost faults = { λ s. s.faults };
 
-    fn put(&mut self, piece: &[u8]) -> Result<(), Failed> {
+    // Where the writer tells what it holds, all of the piece was written, or after a failure a first part of it.
+    fn put(&mut self, piece: &[u8]) -> Result<(), Failed>
+        ensures cause { HasCause self.old.faults self.new.faults result }
+        ensures all { OnOk result (Appends self.old.contents self.new.contents piece.now) }
+        ensures part { OnErr result (AppendsUpTo self.old.contents self.new.contents piece.now) }
+        ensures count { self.new.faults ≡ count_after self.old.faults result }
+    {
         if write_whole(&mut self.writer, piece).is_err() {
             self.faults = self.faults.saturating_add(1);
             return Err(Failed);

@@ -1,0 +1,33 @@
+use Rattle.pb_outside.proofs.Untold.{ok_claims_nothing, err_claims_nothing, value_claims_nothing, error_claims_nothing}
+use Rattle.pb_outside.proofs.file_shelf.FileShelfShelf.TheImpl.Goals as goal
+
+pub load-tells : goal.load-tells
+load-tells g c = record {
+  whole = value_claims_nothing c.result;
+  short = c.ensures.short;
+  long = error_claims_nothing c.result;
+  seen = c.ensures.seen;
+  same = tt;
+  holds = λ name n h. h;
+  cause = c.ensures.cause;
+}
+
+pub create-tells : goal.create-tells
+create-tells g c = record {
+  ok = ok_claims_nothing c.result;
+  err = err_claims_nothing c.result;
+  others = tt;
+  sure = λ n h. absurd h;
+  holds = λ name n h. h;
+  cause = c.ensures.cause;
+}
+
+pub append-tells : goal.append-tells
+append-tells g c = record {
+  ok = ok_claims_nothing c.result;
+  err = err_claims_nothing c.result;
+  others = tt;
+  sure = tt;
+  holds = λ name n h. h;
+  cause = c.ensures.cause;
+}
