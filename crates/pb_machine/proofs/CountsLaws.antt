@@ -10,12 +10,12 @@ use Rattle.pb_machine.specs.declared.event.Refusal.{Refusal}
 use Rattle.pb_machine.specs.declared.event.Refusal.TheVariants.{Trouble}
 use Rattle.pb_machine.specs.declared.settings.Settings.{Settings}
 use Rattle.pb_machine.specs.declared.event.Grant.{Grant}
-use Rattle.pb_machine.specs.Tables.{with_entry}
+use Rattle.pb_machine.specs.Tables.{with_entry, count_below}
 use Rattle.pb_machine.specs.Blocks.{Blocks, meets, interferes}
 use Rattle.pb_machine.specs.Counts.{Counts, opening_counts, is_lease_of, quota_of, is_busy, is_taken, is_any_out, with_quota, counts_after, AreLawful}
 use Rattle.pb_machine.specs.Legality.{first_true, tests, is_stranger, is_wrong_quota, is_memory_end, refusal}
 use Rattle.pb_machine.specs.JournalLaws.{NoneOutNoneHot, LeasedAreNeverHot, ReleasesCoolNear}
-use Rattle.pb_machine.proofs.TableLaws.{entry_here, entry_else, any_same, any_none, any_some, any_at, sum_zero, sum_with_entry}
+use Rattle.pb_machine.proofs.TableLaws.{entry_here, entry_else, any_same, any_none, any_some, any_at, sum_zero, sum_with_entry, none_counted, count_more}
 
 -- where nothing refuses, no test is true
 pub none_true : (ts : List (Bool × Refusal)) → first_true ts ≡ None → AllByRecursion (λ t. t.0 ≡ false) ts
@@ -44,7 +44,7 @@ pub grant_of : (o : Option Grant) → is_none o ≡ false → (h : Grant) × (o 
 grant_of None h = absurd (true≢false h)
 grant_of (Some x) h = (x, refl)
 
-none_end : (o : Option End) → is_none o ≡ true → o ≡ None
+pub none_end : (o : Option End) → is_none o ≡ true → o ≡ None
 none_end None h = refl
 none_end (Some e) h = absurd (true≢false (sym h))
 
@@ -125,6 +125,9 @@ module _ (blocks : Blocks) (settings : Settings) where
   none_off : (c : Counts) → AreLawful blocks settings c → is_some c.end ≡ false → c.trouble ≡ false → (k : ℕ) → c.signed_off k ≡ true → {A : Type 0} → A
   none_off c l no_end report k h = absurd (true≢false (sym (l.off k h).2 ∙ ap (λ r. r || c.trouble) no_end ∙ report))
 
+  pub nobody : (c : Counts) → AreLawful blocks settings c → is_some c.end ≡ false → c.trouble ≡ false → count_below settings.workers c.signed_off ≡ 0
+  nobody c l no_end report = none_counted settings.workers c.signed_off (λ k lt. by_cases (c.signed_off k) (λ e. none_off c l no_end report k e) (λ e. e))
+
   still_ended : (o : Option End) (report memory : Bool) → report ≡ false → (is_some o || report) ≡ true → (is_some o || (memory && is_none o)) ≡ true
   still_ended (Some e) report memory none h = refl
   still_ended None report memory none h = absurd (true≢false (sym h ∙ none))
@@ -141,7 +144,7 @@ module _ (blocks : Blocks) (settings : Settings) where
       let e : q ≡ min settings.lot left = equal q (min settings.lot left) both.1 in
       (omega arith, below 0 q both.0, omega arith)
 
-  within : (c : Counts) (i : ℕ) → is_stranger settings c i ≡ false → i < settings.workers
+  pub within : (c : Counts) (i : ℕ) → is_stranger settings c i ≡ false → i < settings.workers
   within c i h = below i settings.workers (not_false _ (or_false _ _ h).0)
 
   taken_apart : (leases : ℕ → Option Grant) (b k : ℕ) (x : Grant) → is_taken blocks settings.workers leases b ≡ false → k < settings.workers → leases k ≡ Some x → meets blocks b x.block ≡ false
@@ -169,6 +172,7 @@ module _ (blocks : Blocks) (settings : Settings) where
         off = λ k h. none_off c l t.0 report k h;
         sum = omega (arith, l.sum, sums, right.0, ap quota_of none);
         trouble = l.trouble;
+        waiting = λ h. not_both c.trouble h report;
         quiet = λ e. still c.end Quiet t.0 e;
         budget = λ e. still c.end Budget t.0 e;
       }
@@ -221,6 +225,7 @@ module _ (blocks : Blocks) (settings : Settings) where
         off = λ k h. none_off c l t.0 report k h;
         sum = omega (arith, l.sum, sums, right.0, enough, now);
         trouble = l.trouble;
+        waiting = λ h. not_both c.trouble h report;
         quiet = λ e. still c.end Quiet t.0 e;
         budget = λ e. still c.end Budget t.0 e;
       }
@@ -256,6 +261,7 @@ module _ (blocks : Blocks) (settings : Settings) where
         off = λ k h. none_off c l t.0 report k h;
         sum = l.sum;
         trouble = l.trouble;
+        waiting = λ h. not_both c.trouble h report;
         quiet = l.quiet;
         budget = l.budget;
       }
@@ -287,6 +293,7 @@ module _ (blocks : Blocks) (settings : Settings) where
         hot_are_apart = λ d e hd he. l.hot_are_apart d e (and_true (c.hot d) _ hd).0 (and_true (c.hot e) _ he).0;
         sum = l.sum;
         trouble = l.trouble;
+        waiting = λ h. not_both c.trouble h report;
         quiet = l.quiet;
         budget = l.budget;
       }
@@ -311,6 +318,7 @@ module _ (blocks : Blocks) (settings : Settings) where
         hot_are_apart = λ d e hd he. l.hot_are_apart d e (and_true (c.hot d) _ hd).0 (and_true (c.hot e) _ he).0;
         sum = omega (arith, l.sum, sums, enough);
         trouble = λ h. none_end c.end (and_true memory (is_none c.end) h).1;
+        waiting = λ h. let none = nobody c l (ap is_some (none_end c.end (and_true memory (is_none c.end) h).1)) report in omega (arith, none);
         quiet = λ e. not_both (is_any_out settings.workers c.leases) out (l.quiet e);
         budget = λ e. not_both (is_any_out settings.workers c.leases) out (l.budget e).0;
       }
@@ -331,6 +339,10 @@ module _ (blocks : Blocks) (settings : Settings) where
             (λ e. (omega (arith, equal k i e, within c i t.0), ap c.leases (equal k i e) ∙ none_leased (c.leases i) t.1.0, may_sign_off c.end memory t.1.1.0))
             (λ e. let was : IsOff c k = l.off k (sym (entry_else c.signed_off i k true e) ∙ h) in (was.0, was.1, still_ended c.end c.trouble memory report was.2));
         trouble = λ h. none_end c.end (and_true memory (is_none c.end) h).1;
+        waiting = λ h.
+            let none = nobody c l (ap is_some (none_end c.end (and_true memory (is_none c.end) h).1)) report in
+            let one = count_more settings.workers i c.signed_off (within c i t.0) (or_false (not (nat_lt i settings.workers)) (c.signed_off i) t.0).1 in
+            omega (arith, none, one);
         quiet = l.quiet;
         budget = l.budget;
       }
@@ -341,13 +353,13 @@ module _ (blocks : Blocks) (settings : Settings) where
   ended_keeps : (c : Counts) (e : End) → AreLawful blocks settings c → first_true (tests blocks settings c (Ended e)) ≡ None → AreLawful blocks settings (counts_after blocks settings c (Ended e))
   ended_keeps c Quiet l may =
       let t = none_true (tests blocks settings c (Ended Quiet)) may in
-      record { known = l.known; quota = l.quota; apart = l.apart; hot_is_known = l.hot_is_known; hot_is_busy = l.hot_is_busy; hot_are_apart = l.hot_are_apart; sum = l.sum; off = ended_off c l; trouble = λ h. absurd (true≢false (sym h)); quiet = λ _. t.1.0; budget = λ (e : ◌≡◌ {A = Option End} (Some Quiet) (Some Budget)). cc }
+      record { known = l.known; quota = l.quota; apart = l.apart; hot_is_known = l.hot_is_known; hot_is_busy = l.hot_is_busy; hot_are_apart = l.hot_are_apart; sum = l.sum; off = ended_off c l; trouble = λ h. absurd (true≢false (sym h)); waiting = λ h. absurd (true≢false (sym h)); quiet = λ _. t.1.0; budget = λ (e : ◌≡◌ {A = Option End} (Some Quiet) (Some Budget)). cc }
   ended_keeps c Budget l may =
       let t = none_true (tests blocks settings c (Ended Budget)) may in
       let none : c.left ≤ 0 = not_below 0 c.left t.1.1.0 in
-      record { known = l.known; quota = l.quota; apart = l.apart; hot_is_known = l.hot_is_known; hot_is_busy = l.hot_is_busy; hot_are_apart = l.hot_are_apart; sum = l.sum; off = ended_off c l; trouble = λ h. absurd (true≢false (sym h)); quiet = λ (e : ◌≡◌ {A = Option End} (Some Budget) (Some Quiet)). cc; budget = λ _. (t.1.0, omega arith) }
+      record { known = l.known; quota = l.quota; apart = l.apart; hot_is_known = l.hot_is_known; hot_is_busy = l.hot_is_busy; hot_are_apart = l.hot_are_apart; sum = l.sum; off = ended_off c l; trouble = λ h. absurd (true≢false (sym h)); waiting = λ h. absurd (true≢false (sym h)); quiet = λ (e : ◌≡◌ {A = Option End} (Some Budget) (Some Quiet)). cc; budget = λ _. (t.1.0, omega arith) }
   ended_keeps c Memory l may =
-      record { known = l.known; quota = l.quota; apart = l.apart; hot_is_known = l.hot_is_known; hot_is_busy = l.hot_is_busy; hot_are_apart = l.hot_are_apart; sum = l.sum; off = ended_off c l; trouble = λ h. absurd (true≢false (sym h)); quiet = λ (e : ◌≡◌ {A = Option End} (Some Memory) (Some Quiet)). cc; budget = λ (e : ◌≡◌ {A = Option End} (Some Memory) (Some Budget)). cc }
+      record { known = l.known; quota = l.quota; apart = l.apart; hot_is_known = l.hot_is_known; hot_is_busy = l.hot_is_busy; hot_are_apart = l.hot_are_apart; sum = l.sum; off = ended_off c l; trouble = λ h. absurd (true≢false (sym h)); waiting = λ h. absurd (true≢false (sym h)); quiet = λ (e : ◌≡◌ {A = Option End} (Some Memory) (Some Quiet)). cc; budget = λ (e : ◌≡◌ {A = Option End} (Some Memory) (Some Budget)). cc }
 
   passing : (c : Counts) (e : Event) → refusal blocks settings c e ≡ None → first_true (tests blocks settings c e) ≡ None
   passing c e may = rest_passes (c.trouble && not (is_memory_end e), Trouble) (tests blocks settings c e) may
@@ -373,6 +385,7 @@ module _ (blocks : Blocks) (settings : Settings) where
     hot_are_apart = λ b d h _. absurd (true≢false (sym h));
     sum = omega (arith, sum_zero settings.workers (λ i. 0) (λ i lt. refl));
     trouble = λ h. absurd (true≢false (sym h));
+    waiting = λ h. absurd (true≢false (sym h));
     quiet = λ (e : ◌≡◌ {A = Option End} None (Some Quiet)). cc;
     budget = λ (e : ◌≡◌ {A = Option End} None (Some Budget)). cc;
   }

@@ -1,7 +1,7 @@
 -- A search of two states by one worker, as an example that meets the definitions: each state is a block of its own, and the one action
 -- leads from the start to the goal. The worker leases the start's block and expands it, leases the goal's block, takes the goal and tells
 -- its cost, brings the lease back, and the search ends quietly.
-use Rattle.std.proofs.Common.{◌≡◌, ℕ, zero, suc, ◌<◌, ◌≤◌, false, ◌==◌, nat_lt, [], ◌∷◌, Option, Some, None, refl, sym, ap, ◌∙◌, arith, ◌⊎◌, inl}
+use Rattle.std.proofs.Common.{◌≡◌, ℕ, zero, suc, ◌<◌, ◌≤◌, Bool, false, ◌==◌, nat_lt, [], ◌∷◌, Option, Some, None, refl, sym, ap, ◌∙◌, arith, ◌⊎◌, inl}
 use Rattle.std.proofs.lemmas.Bool.Decides.{nat_tests}
 use Rattle.pb_model.specs.declared.row.Estimate.TheVariants.{Cost}
 use Rattle.pb_model.specs.declared.row.Status.TheVariants.{Opened, Closed, Cut}
@@ -15,7 +15,7 @@ use Rattle.pb_machine.specs.declared.event.Event.{Event}
 use Rattle.pb_machine.specs.declared.event.Event.TheVariants.{Lease, Release, Off, Ended}
 use Rattle.pb_machine.specs.Tables.{with_entry}
 use Rattle.pb_machine.specs.Counts.{counts_after}
-use Rattle.pb_machine.specs.Machine.{Setup, IsSetup, Machine, opening_machine, lent_store, CameBack, Happens, Tells, event_move, tell_move, Runs}
+use Rattle.pb_machine.specs.Machine.{Setup, IsSetup, with_known, with_incumbent, Machine, opening_machine, lent_store, CameBack, Happens, Tells, event_move, tell_move, Runs}
 use Rattle.pb_machine.specs.Choice.{IsBetter, IsFirstChoice}
 use Rattle.pb_machine.specs.Turns.{CameBackInTurns, RunsInOrder}
 use Rattle.pb_machine.specs.Lawful.{IsLawful}
@@ -65,8 +65,13 @@ is_setup = record {
 
 -- ---- the machine after each event
 
+-- what is known after an event: a release adds the incumbent
+abbrev known_after : Machine → Event → Store → ℕ → Option ℕ → Bool
+known_after m (Release worker used memory) store = with_incumbent m.known store.incumbent
+known_after m event store = m.known
+
 abbrev after : Machine → Event → Store → (given : ℕ → Option ℕ) → Machine
-after m event store given = record { counts = counts_after setup.blocks setup.settings m.counts event; store = store; given = given; told = with_entry m.told 0 None; broken = m.broken }
+after m event store given = record { counts = counts_after setup.blocks setup.settings m.counts event; store = store; given = given; told = with_entry m.told 0 None; known = known_after m event store; broken = m.broken }
 
 -- the store of the block's lease after this work
 abbrev worked : Work → (block : ℕ) → Machine → Store
@@ -88,7 +93,7 @@ abbrev m3 : Machine
 m3 = after m2 (Lease 0 1 5) m2.store (with_entry m2.given 0 m2.store.incumbent)
 
 abbrev told : Machine
-told = record m3 { store = record m3.store { incumbent = Some 1 }; told = with_entry m3.told 0 (Some 1) }
+told = record m3 { store = record m3.store { incumbent = Some 1 }; told = with_entry m3.told 0 (Some 1); known = with_incumbent (with_entry m3.known 0 (with_known (m3.known 0) (Some 1))) (Some 1) }
 
 abbrev m4 : Machine
 m4 = after told (Release 0 0 false) (back (take_goal 1) 1 told) told.given
@@ -106,37 +111,37 @@ abbrev goal_row : Row
 goal_row = record { g = 1; estimate = Cost 0; parent = Some 0; action = 0; status = Opened }
 
 leased_start : Happens setup m0 (Lease 0 0 5) m1
-leased_start = record { may = refl; counts = refl; rows = ((0, start_row, refl, refl), refl, (None, tt, refl), refl, refl) }
+leased_start = record { may = refl; counts = refl; rows = ((0, start_row, refl, refl), refl, (None, refl, refl), refl, refl, refl) }
 
 came_from_start : CameBack setup m1 0 1 0 m2.store
 came_from_start = record {
   grant = record { block = 0; quota = 5 };
   worked = worked (expand 0) 0 m1;
   leased = refl;
-  work = record { works = expand 0 ∷ []; on = (refl, tt); comes = (((start_row, refl, refl), refl), refl); used_is = refl; few_broken = omega arith };
+  work = record { works = expand 0 ∷ []; on = (refl, tt); comes = (((start_row, refl, refl), refl), refl); used_is = refl; few_broken = omega arith; stops = tt };
   back = refl;
   shown = λ cost (is : ◌≡◌ {A = Option ℕ} None (Some cost)). cc;
 }
 
 expanded_start : Happens setup m1 (Release 0 1 false) m2
-expanded_start = record { may = refl; counts = refl; rows = (came_from_start, refl, refl, refl) }
+expanded_start = record { may = refl; counts = refl; rows = (came_from_start, refl, refl, refl, refl) }
 
 leased_goal : Happens setup m2 (Lease 0 1 5) m3
-leased_goal = record { may = refl; counts = refl; rows = ((1, goal_row, refl, refl), refl, (None, tt, refl), refl, refl) }
+leased_goal = record { may = refl; counts = refl; rows = ((1, goal_row, refl, refl), refl, (None, refl, refl), refl, refl, refl) }
 
 told_cost : Tells setup m3 0 1 told
 told_cost = record {
   grant = record { block = 1; quota = 5 };
   leased = refl;
   used = 0;
-  few = 0;
   worked = worked (take_goal 1) 1 m3;
-  work = record { works = take_goal 1 ∷ []; on = (refl, tt); comes = (((goal_row, refl, refl), refl), refl); used_is = refl; few_broken = omega arith };
+  work = record { works = take_goal 1 ∷ []; on = (refl, tt); comes = (((goal_row, refl, refl), refl), refl); used_is = refl; few_broken = omega arith; stops = tt };
   shown = (1, refl, (record goal_row { status = Cut }, refl, omega arith));
   counts = refl;
   store = refl;
   given = refl;
   told = refl;
+  known = refl;
   broken = refl;
 }
 
@@ -148,13 +153,13 @@ came_from_goal = record {
   grant = record { block = 1; quota = 5 };
   worked = worked (take_goal 1) 1 told;
   leased = refl;
-  work = record { works = take_goal 1 ∷ []; on = (refl, tt); comes = (((goal_row, refl, refl), refl), refl); used_is = refl; few_broken = omega arith };
+  work = record { works = take_goal 1 ∷ []; on = (refl, tt); comes = (((goal_row, refl, refl), refl), refl); used_is = refl; few_broken = omega arith; stops = tt };
   back = refl;
   shown = λ cost is. (1, refl, (record goal_row { status = Cut }, refl, one_told cost is));
 }
 
 took_goal : Happens setup told (Release 0 0 false) m4
-took_goal = record { may = refl; counts = refl; rows = (came_from_goal, refl, refl, refl) }
+took_goal = record { may = refl; counts = refl; rows = (came_from_goal, refl, refl, refl, refl) }
 
 lawful : IsLawful setup m4
 lawful = run_keeps setup 1 is_setup (event_move (Lease 0 0 5) ∷ event_move (Release 0 1 false) ∷ event_move (Lease 0 1 5) ∷ tell_move 0 1 ∷ event_move (Release 0 0 false) ∷ []) m0 m4 (opening_keeps setup 1 is_setup refl)
@@ -193,8 +198,8 @@ example_runs = (
           took_goal,
           (
             m5,
-            record { may = refl; counts = refl; rows = (quiet, (refl, refl, refl, refl)) },
-            (m6, record { may = refl; counts = refl; rows = (refl, refl, refl, refl) }, refl),
+            record { may = refl; counts = refl; rows = (quiet, (refl, refl, refl, refl, refl)) },
+            (m6, record { may = refl; counts = refl; rows = (refl, refl, refl, refl, refl) }, refl),
           ),
         ),
       ),

@@ -1,5 +1,5 @@
 -- Legal histories, event by event.
-use Rattle.std.proofs.Common.{◌≡◌, ℕ, suc, ◌+◌, length, Bool, true, false, cond, ◌||◌, ◌==◌, is_none, List, [], ◌∷◌, ◌++◌, Option, Some, None, refl, sym, ap, ◌∙◌, subst, arith, true≢false, ◌⊎◌, inl, inr, rules, IsSome, is_some, ◌<◌}
+use Rattle.std.proofs.Common.{◌≡◌, ℕ, suc, ◌+◌, length, Bool, true, false, cond, ◌&&◌, ◌||◌, ◌==◌, is_none, List, [], ◌∷◌, ◌++◌, Option, Some, None, refl, sym, ap, ◌∙◌, subst, arith, true≢false, ◌⊎◌, inl, inr, rules, IsSome, is_some, ◌<◌}
 use Rattle.std.specs.List.{list_any}
 use Rattle.pb_model.proofs.Tests.{by_cases, equal_swap, and_true, not_false}
 use Rattle.pb_machine.specs.declared.event.End.{End}
@@ -9,11 +9,12 @@ use Rattle.pb_machine.specs.declared.event.Event.TheVariants.{Lease, Renew, Hot,
 use Rattle.pb_machine.specs.declared.event.Refusal.{Refusal}
 use Rattle.pb_machine.specs.declared.settings.Settings.{Settings}
 use Rattle.pb_machine.specs.Blocks.{Blocks}
-use Rattle.pb_machine.specs.Counts.{Counts, opening_counts, counts_after, AreLawful}
-use Rattle.pb_machine.specs.Legality.{refusal}
+use Rattle.pb_machine.specs.Counts.{Counts, opening_counts, quota_of, quotas_out, counts_after, AreLawful}
+use Rattle.pb_machine.specs.Legality.{is_memory_end, refusal}
 use Rattle.pb_machine.specs.History.{replay, IsFirstRefused, or_refused, first_refused, is_event_of, events_of, is_off, is_report, used_of, used_in}
-use Rattle.pb_machine.specs.JournalLaws.{HistoriesAreLawful, HistoriesGrow, BeginningsAreHistories, SigningOffIsTold, FinishedWorkersSignOff, SignedOffIsFinished, RefusalsAreFirst, RefusedJournalsFail, MemoryEndsAreReported, SpentIsUsed}
-use Rattle.pb_machine.proofs.CountsLaws.{passes, no_trouble, event_keeps, opening_lawful}
+use Rattle.pb_machine.specs.JournalLaws.{HistoriesAreLawful, HistoriesGrow, BeginningsAreHistories, SigningOffIsTold, FinishedWorkersSignOff, SignedOffIsFinished, RefusalsAreFirst, RefusedJournalsFail, MemoryEndsAreReported, ReportsEndSearches, SpentIsUsed, UsedFitsBudget}
+use Rattle.pb_machine.proofs.TableLaws.{any_none, sum_zero}
+use Rattle.pb_machine.proofs.CountsLaws.{none_leased, passes, no_trouble, event_keeps, opening_lawful}
 
 some_counts : (x y : Counts) → ◌≡◌ {A = Option Counts} (Some x) (Some y) → x ≡ y
 some_counts x y h = cc
@@ -295,6 +296,53 @@ memory_ends_are_reported blocks settings before journal counts is = (
     last (inl h) = h
     last (inr h) = absurd (true≢false (sym h.1))
 
+-- ---- a report is followed by its end
+
+-- nothing comes, or the end for want of memory is next
+abbrev EndsNext : List Event → Type 0
+EndsNext es = (es ≡ []) ⊎ ((later : List Event) × (es ≡ Ended Memory ∷ later))
+
+memory_end : (e : Event) → is_memory_end e ≡ true → e ≡ Ended Memory
+memory_end (Lease by block quota) h = absurd (true≢false (sym h))
+memory_end (Renew by used quota) h = absurd (true≢false (sym h))
+memory_end (Hot by block) h = absurd (true≢false (sym h))
+memory_end (Cold by block) h = absurd (true≢false (sym h))
+memory_end (Release by used memory) h = absurd (true≢false (sym h))
+memory_end (Off by memory) h = absurd (true≢false (sym h))
+memory_end (Ended Quiet) h = absurd (true≢false (sym h))
+memory_end (Ended Budget) h = absurd (true≢false (sym h))
+memory_end (Ended Memory) h = refl
+
+module _ (blocks : Blocks) (settings : Settings) where
+  now_waits : (c : Counts) (e : Event) → c.end ≡ None → is_report e ≡ true → (counts_after blocks settings c e).trouble ≡ true
+  now_waits c (Lease by block quota) none h = absurd (true≢false (sym h))
+  now_waits c (Renew by used quota) none h = absurd (true≢false (sym h))
+  now_waits c (Hot by block) none h = absurd (true≢false (sym h))
+  now_waits c (Cold by block) none h = absurd (true≢false (sym h))
+  now_waits c (Release by used memory) none h = ap (λ r. r && is_none c.end) h ∙ ap is_none none
+  now_waits c (Off by memory) none h = ap (λ r. r && is_none c.end) h ∙ ap is_none none
+  now_waits c (Ended end) none h = absurd (true≢false (sym h))
+
+  ends_next : (es : List Event) (c d : Counts) → c.trouble ≡ true → replay blocks settings c es ≡ Some d → EndsNext es
+  ends_next [] c d t is = inl refl
+  ends_next (e ∷ es) c d t is =
+      let may = first_may blocks settings c d e es is in
+      by_cases (is_memory_end e) (λ h. inr (es, ap (λ x. x ∷ es) (memory_end e h))) (λ h. absurd (true≢false (sym t ∙ no_trouble blocks settings c e h may)))
+
+  after_report : (start rest : List Event) (c between d : Counts) (report : Event) → replay blocks settings c start ≡ Some between → between.end ≡ None → is_report report ≡ true
+      → replay blocks settings c (start ++ report ∷ rest) ≡ Some d → EndsNext rest
+  after_report [] rest c between d report at none h is =
+      let may = first_may blocks settings c d report rest is in
+      let here : c.end ≡ None = ap (λ (k : Counts). k.end) (some_counts c between at) ∙ none in
+      ends_next rest (counts_after blocks settings c report) d (now_waits c report here h) (sym (replay_first blocks settings c report rest may) ∙ is)
+  after_report (e ∷ es) rest c between d report at none h is =
+      let may = first_may blocks settings c between e es at in
+      after_report es rest (counts_after blocks settings c e) between d report (sym (replay_first blocks settings c e es may) ∙ at) none h (sym (replay_first blocks settings c e (es ++ report ∷ rest) may) ∙ is)
+
+pub reports_end_searches : ReportsEndSearches
+reports_end_searches blocks settings before start rest report between counts first none h is =
+    after_report blocks settings start rest (opening_counts settings before) between counts report first.replays none h is.replays
+
 -- ---- what is spent
 
 module _ (blocks : Blocks) (settings : Settings) where
@@ -317,3 +365,17 @@ module _ (blocks : Blocks) (settings : Settings) where
 
 pub spent_is_used : SpentIsUsed
 spent_is_used blocks settings before journal counts is = all_spent blocks settings journal (opening_counts settings before) counts is.replays
+
+pub used_fits_budget : UsedFitsBudget
+used_fits_budget blocks settings before journal counts is = (omega (arith, spent, l.sum), λ ends. omega (arith, spent, l.sum, none ends, (l.budget ends).1))
+  where
+    l : AreLawful blocks settings counts
+    l = histories_are_lawful blocks settings before journal counts is
+
+    spent : counts.spent ≡ before + used_in journal
+    spent = spent_is_used blocks settings before journal counts is
+
+    none : counts.end ≡ Some Budget → quotas_out settings.workers counts.leases ≡ 0
+    none ends =
+        sum_zero settings.workers (λ worker. quota_of (counts.leases worker))
+        (λ worker there. ap quota_of (none_leased (counts.leases worker) (any_none settings.workers worker (λ k. is_some (counts.leases k)) (l.budget ends).0 there)))

@@ -54,7 +54,7 @@ pub turns_carry_over : TurnsCarryOver
 turns_carry_over setup greatest_cost machine worker used few grant worked is lawful leased work turns =
     turns_carry setup.space setup.guide (setup.blocks.scope grant.block) work.works (lent_store setup grant.block machine.store (machine.given worker)) worked machine.store
     (within setup greatest_cost is machine worker grant used few worked lawful leased work) work.comes
-    (λ home state inside. ap (λ r. cond r (machine.store.rows home state) None) inside) (lawful.given worker grant leased) refl turns
+    (λ home state inside. ap (λ r. cond r (machine.store.rows home state) None) inside) (lawful.least worker (machine.given worker) (lawful.given worker)) refl turns
 
 pub ordered_runs_are_runs : OrderedRunsAreRuns
 ordered_runs_are_runs setup [] old new runs = runs

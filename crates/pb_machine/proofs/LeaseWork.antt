@@ -5,48 +5,71 @@ use Rattle.pb_model.specs.declared.row.Row.{Row}
 use Rattle.pb_model.specs.Space.{Space, Steps}
 use Rattle.pb_model.specs.Guide.{Guide}
 use Rattle.pb_model.specs.Store.{Store, HasGoalWithin, AtMost}
-use Rattle.pb_model.specs.Work.{Work, reopenings, expand, break_off, cut, take_goal, lower, reopen, store_after, Comes, LowersTo}
+use Rattle.pb_model.specs.Work.{Work, broken_expansions, reopenings, expand, break_off, cut, take_goal, lower, reopen, store_after, Comes, LowersTo}
 use Rattle.pb_model.specs.Local.{IsWithin, AgreesOn, merged_store}
 use Rattle.pb_model.proofs.Tests.{by_cases, not_true}
-use Rattle.pb_model.proofs.Incumbents.{at_most_trans, lesser_same}
+use Rattle.pb_model.proofs.Incumbents.{lesser_same}
 use Rattle.pb_model.proofs.Locality.{row_outside, work_is_local, work_goes_on}
 use Rattle.pb_machine.specs.declared.event.Grant.{Grant}
-use Rattle.pb_machine.specs.Machine.{Setup, IsSetup, Machine, IsOn, lent_store, HasWorked}
+use Rattle.pb_machine.specs.Machine.{Setup, IsSetup, Machine, IsOn, BreaksLast, lent_store, HasWorked}
 use Rattle.pb_machine.specs.Lawful.{IsLawful}
 use Rattle.pb_machine.specs.Whole.{AreGone}
-use Rattle.pb_machine.specs.Laws.{LeaseWorkGoesOn, LeaseWorkStands, ReturnsLeaveIncumbents}
+use Rattle.pb_machine.specs.Laws.{LeaseWorkGoesOn, LeaseWorkStays, LeaseWorkStands, ReturnsLeaveIncumbents}
 
--- the work of a lease lowers an incumbent to nothing below the one that bounds what it reads
-pub not_lowered : (guide : Guide) (block : ℕ) (least : Option ℕ) (xs : List Work) (u : ℕ) → AllByRecursion (IsOn guide block least) xs → LowersTo xs u → (before : ℕ) × (least ≡ Some before) × (before ≤ u)
-not_lowered guide block least [] u all h = absurd h
-not_lowered guide block least (expand own ∷ xs) u all h = not_lowered guide block least xs u all.1 h
-not_lowered guide block least (break_off own offers ∷ xs) u all h = not_lowered guide block least xs u all.1 h
-not_lowered guide block least (cut own ∷ xs) u all h = not_lowered guide block least xs u all.1 h
-not_lowered guide block least (take_goal own ∷ xs) u all h = not_lowered guide block least xs u all.1 h
-not_lowered guide block least (reopen x ∷ xs) u all h = not_lowered guide block least xs u all.1 h
-not_lowered guide block least (lower cost ∷ xs) u all (inr h) = not_lowered guide block least xs u all.1 h
-not_lowered guide block least (lower cost ∷ xs) u all (inl le) = known least all.0
+-- the work of a lease lowers an incumbent to nothing below the one that no known one is below
+pub not_lowered : (guide : Guide) (block : ℕ) (known : Option ℕ → Bool) (least : Option ℕ) (xs : List Work) (u : ℕ) → ((o : Option ℕ) → known o ≡ true → AtMost least o)
+    → AllByRecursion (IsOn guide block known) xs → LowersTo xs u → (before : ℕ) × (least ≡ Some before) × (before ≤ u)
+not_lowered guide block known least [] u low all h = absurd h
+not_lowered guide block known least (expand own ∷ xs) u low all h = not_lowered guide block known least xs u low all.1 h
+not_lowered guide block known least (break_off own offers ∷ xs) u low all h = not_lowered guide block known least xs u low all.1 h
+not_lowered guide block known least (cut own ∷ xs) u low all h = not_lowered guide block known least xs u low all.1 h
+not_lowered guide block known least (take_goal own ∷ xs) u low all h = not_lowered guide block known least xs u low all.1 h
+not_lowered guide block known least (reopen x ∷ xs) u low all h = not_lowered guide block known least xs u low all.1 h
+not_lowered guide block known least (lower cost ∷ xs) u low all (inr h) = not_lowered guide block known least xs u low all.1 h
+not_lowered guide block known least (lower cost ∷ xs) u low all (inl le) = found least (low (Some cost) all.0)
   where
-    known : (o : Option ℕ) → AtMost o (Some cost) → (before : ℕ) × (o ≡ Some before) × (before ≤ u)
-    known None h = absurd h
-    known (Some x) h = (x, refl, le_trans h le)
+    found : (o : Option ℕ) → AtMost o (Some cost) → (before : ℕ) × (o ≡ Some before) × (before ≤ u)
+    found None h = absurd h
+    found (Some x) h = (x, refl, le_trans h le)
 
--- what a lease may read may be read under a lower incumbent
-on_still : (guide : Guide) (block : ℕ) (least low : Option ℕ) (xs : List Work) → AtMost low least → AllByRecursion (IsOn guide block least) xs → AllByRecursion (IsOn guide block low) xs
-on_still guide block least low [] le h = tt
-on_still guide block least low (x ∷ xs) le h = (one x h.0, on_still guide block least low xs le h.1)
+-- what a lease may read may be read where more is known
+on_still : (guide : Guide) (block : ℕ) (known more : Option ℕ → Bool) (xs : List Work) → ((o : Option ℕ) → known o ≡ true → more o ≡ true) → AllByRecursion (IsOn guide block known) xs → AllByRecursion (IsOn guide block more) xs
+on_still guide block known more [] le h = tt
+on_still guide block known more (x ∷ xs) le h = (one x h.0, on_still guide block known more xs le h.1)
   where
-    one : (x : Work) → IsOn guide block least x → IsOn guide block low x
+    one : (x : Work) → IsOn guide block known x → IsOn guide block more x
     one (expand s) e = e
     one (break_off s k) e = e
     one (cut s) e = e
     one (take_goal s) e = e
-    one (lower u) e = at_most_trans low least (Some u) le e
+    one (lower u) e = le (Some u) e
     one (reopen y) e = absurd e
 
-on_append : (guide : Guide) (block : ℕ) (least : Option ℕ) (xs ys : List Work) → AllByRecursion (IsOn guide block least) xs → AllByRecursion (IsOn guide block least) ys → AllByRecursion (IsOn guide block least) (xs ++ ys)
-on_append guide block least [] ys h k = k
-on_append guide block least (x ∷ xs) ys h k = (h.0, on_append guide block least xs ys h.1 k)
+on_append : (guide : Guide) (block : ℕ) (known : Option ℕ → Bool) (xs ys : List Work) → AllByRecursion (IsOn guide block known) xs → AllByRecursion (IsOn guide block known) ys → AllByRecursion (IsOn guide block known) (xs ++ ys)
+on_append guide block known [] ys h k = k
+on_append guide block known (x ∷ xs) ys h k = (h.0, on_append guide block known xs ys h.1 k)
+
+-- ---- want of memory ends the work
+
+-- at most one expansion is broken off
+pub breaks_few : (xs : List Work) → BreaksLast xs → broken_expansions xs ≤ 1
+breaks_few [] h = omega arith
+breaks_few (expand own ∷ xs) h = breaks_few xs h
+breaks_few (break_off own offers ∷ xs) h = let none = ap broken_expansions h in omega (arith, none)
+breaks_few (cut own ∷ xs) h = breaks_few xs h
+breaks_few (take_goal own ∷ xs) h = breaks_few xs h
+breaks_few (lower cost ∷ xs) h = breaks_few xs h
+breaks_few (reopen x ∷ xs) h = breaks_few xs h
+
+-- what has no such expansion goes on
+breaks_append : (xs ys : List Work) → broken_expansions xs ≤ 0 → BreaksLast ys → BreaksLast (xs ++ ys)
+breaks_append [] ys none h = h
+breaks_append (expand own ∷ xs) ys none h = breaks_append xs ys none h
+breaks_append (break_off own offers ∷ xs) ys none h = absurd (omega (arith, none))
+breaks_append (cut own ∷ xs) ys none h = breaks_append xs ys none h
+breaks_append (take_goal own ∷ xs) ys none h = breaks_append xs ys none h
+breaks_append (lower cost ∷ xs) ys none h = breaks_append xs ys none h
+breaks_append (reopen x ∷ xs) ys none h = breaks_append xs ys none h
 
 -- work within a scope leaves the rows outside as they are
 rows_outside : (space : Space) (guide : Guide) (scope : ℕ → Bool) (xs : List Work) (w v : Store) (home state : ℕ) → AllByRecursion (IsWithin space guide scope) xs → Comes space guide xs w v → scope home ≡ false
@@ -56,9 +79,9 @@ rows_outside space guide scope (x ∷ xs) w v home state on h out =
     rows_outside space guide scope xs (store_after space guide x w) v home state on.1 h.1 out ∙ row_outside space guide scope x _ w.incumbent home state (w.rows home state) on.0 out
 
 module _ (p : Setup) (greatest_cost : ℕ) (is_setup : IsSetup p greatest_cost) where
-  pub on_scope : (b : ℕ) (least : Option ℕ) (xs : List Work) → b < p.blocks.count → AllByRecursion (IsOn p.guide b least) xs → AllByRecursion (IsWithin p.space p.guide (p.blocks.scope b)) xs
-  on_scope b least [] there h = tt
-  on_scope b least (x ∷ xs) there h = (one x h.0, on_scope b least xs there h.1)
+  pub on_scope : (b : ℕ) (known : Option ℕ → Bool) (xs : List Work) → b < p.blocks.count → AllByRecursion (IsOn p.guide b known) xs → AllByRecursion (IsWithin p.space p.guide (p.blocks.scope b)) xs
+  on_scope b known [] there h = tt
+  on_scope b known (x ∷ xs) there h = (one x h.0, on_scope b known xs there h.1)
     where
       in_scope : (s : ℕ) → p.guide.home s ≡ b → p.blocks.scope b (p.guide.home s) ≡ true
       in_scope s e = ap (p.blocks.scope b) e ∙ is_setup.blocks.own b there
@@ -66,7 +89,7 @@ module _ (p : Setup) (greatest_cost : ℕ) (is_setup : IsSetup p greatest_cost) 
       steps : (s : ℕ) → p.guide.home s ≡ b → (action to cost : ℕ) → Steps p.space s action to cost → p.blocks.scope b (p.guide.home to) ≡ true
       steps s e action to cost step = ap (λ k. p.blocks.scope k (p.guide.home to)) (sym e) ∙ is_setup.blocks.steps s action to cost step
 
-      one : (x : Work) → IsOn p.guide b least x → IsWithin p.space p.guide (p.blocks.scope b) x
+      one : (x : Work) → IsOn p.guide b known x → IsWithin p.space p.guide (p.blocks.scope b) x
       one (expand s) e = (in_scope s e, steps s e)
       one (break_off s k) e = (in_scope s e, steps s e)
       one (cut s) e = in_scope s e
@@ -75,28 +98,28 @@ module _ (p : Setup) (greatest_cost : ℕ) (is_setup : IsSetup p greatest_cost) 
       one (reopen y) e = absurd e
 
   -- the work of a lease has no reopening
-  pub none_reopens : (b : ℕ) (least : Option ℕ) (xs : List Work) → AllByRecursion (IsOn p.guide b least) xs → reopenings xs ≡ 0
-  none_reopens b least [] h = refl
-  none_reopens b least (expand s ∷ xs) h = none_reopens b least xs h.1
-  none_reopens b least (break_off s k ∷ xs) h = none_reopens b least xs h.1
-  none_reopens b least (cut s ∷ xs) h = none_reopens b least xs h.1
-  none_reopens b least (take_goal s ∷ xs) h = none_reopens b least xs h.1
-  none_reopens b least (lower u ∷ xs) h = none_reopens b least xs h.1
-  none_reopens b least (reopen y ∷ xs) h = absurd h.0
+  pub none_reopens : (b : ℕ) (known : Option ℕ → Bool) (xs : List Work) → AllByRecursion (IsOn p.guide b known) xs → reopenings xs ≡ 0
+  none_reopens b known [] h = refl
+  none_reopens b known (expand s ∷ xs) h = none_reopens b known xs h.1
+  none_reopens b known (break_off s k ∷ xs) h = none_reopens b known xs h.1
+  none_reopens b known (cut s ∷ xs) h = none_reopens b known xs h.1
+  none_reopens b known (take_goal s ∷ xs) h = none_reopens b known xs h.1
+  none_reopens b known (lower u ∷ xs) h = none_reopens b known xs h.1
+  none_reopens b known (reopen y ∷ xs) h = absurd h.0
 
   abbrev pub merged : (m : Machine) → Grant → Store → Store
   merged m grant worked = merged_store (p.blocks.scope grant.block) worked m.store
 
   module _ (m : Machine) (i : ℕ) (grant : Grant) (used few : ℕ) (worked : Store) (l : IsLawful p m) (leased : m.counts.leases i ≡ Some grant) (work : HasWorked p m i grant used few worked) where
     pub within : AllByRecursion (IsWithin p.space p.guide (p.blocks.scope grant.block)) work.works
-    within = on_scope grant.block m.store.incumbent work.works (l.counts.known i grant leased).1 work.on
+    within = on_scope grant.block (m.known i) work.works (l.counts.known i grant leased).1 work.on
 
     -- what a lease has done may be done in the whole store
     pub works_there : Comes p.space p.guide work.works m.store (merged m grant worked)
     works_there =
         let first : Store = lent_store p grant.block m.store (m.given i) in
         let agree : AgreesOn (p.blocks.scope grant.block) first.rows m.store.rows = λ home state e. ap (λ r. cond r (m.store.rows home state) None) e in
-        work_is_local p.space p.guide (p.blocks.scope grant.block) work.works first worked m.store within work.comes agree (l.given i grant leased) refl
+        work_is_local p.space p.guide (p.blocks.scope grant.block) work.works first worked m.store within work.comes agree (l.least i (m.given i) (l.given i)) refl
 
     -- the lease has no row outside the scope
     pub none_outside : AreGone (λ block. not (p.blocks.scope grant.block block)) worked.rows
@@ -114,17 +137,31 @@ module _ (p : Setup) (greatest_cost : ℕ) (is_setup : IsSetup p greatest_cost) 
     goal_there u g = (g.0, g.1, (g.2.0, row_there (p.guide.home g.0) g.0 g.2.0 g.2.1, g.2.2))
 
 pub lease_work_goes_on : LeaseWorkGoesOn
-lease_work_goes_on space guide block used more few rest least low given between worked first second le =
+lease_work_goes_on space guide block used more most_broken known later given between worked first second le =
     let both = work_goes_on space guide first.works second.works given between worked first.comes second.comes in (
       record {
         works = first.works ++ second.works;
-        on = on_append guide block low first.works second.works (on_still guide block least low first.works le first.on) second.on;
+        on = on_append guide block later first.works second.works (on_still guide block known later first.works le first.on) second.on;
         comes = both.0;
         used_is = omega (arith, both.1, first.used_is, second.used_is);
         few_broken = omega (arith, both.2, first.few_broken, second.few_broken);
+        stops = breaks_append first.works second.works first.few_broken second.stops;
       },
       refl,
     )
+
+pub lease_work_stays : LeaseWorkStays
+lease_work_stays space guide block used most_broken more_broken known later given worked work le more = (
+  record {
+    works = work.works;
+    on = on_still guide block known later work.works more work.on;
+    comes = work.comes;
+    used_is = work.used_is;
+    few_broken = le_trans work.few_broken le;
+    stops = work.stops;
+  },
+  refl,
+)
 
 pub lease_work_stands : LeaseWorkStands
 lease_work_stands setup greatest_cost machine worker used few grant worked is lawful leased work =

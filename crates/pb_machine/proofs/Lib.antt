@@ -11,9 +11,13 @@ pub mod Meeting
 pub mod WorkedJournals
 pub mod LeaseWork
 pub mod LeaseTurns
+pub mod Known
+pub mod Reports
 pub mod Moments
 pub mod Showing
 pub mod MomentLaws
 pub mod Reopening
 pub mod WholeStore
 pub mod Example
+pub mod ExampleEnds
+pub mod ExampleTwo

@@ -1,13 +1,13 @@
 -- Taking in a pass keeps all views true of the journal.
-use Rattle.std.proofs.Common.{◌≡◌, ◌≢◌, ℕ, length, set, Bool, true, false, cond, ◌==◌, nat_lt, List, ◌∷◌, refl, sym, ap, ◌∙◌, subst, ◌⊎◌, inl, inr, arith, true≢false}
+use Rattle.std.proofs.Common.{◌≡◌, ◌≢◌, ℕ, ◌+◌, length, set, Bool, true, false, cond, ◌==◌, nat_lt, List, ◌∷◌, refl, sym, ap, ◌∙◌, subst, ◌⊎◌, inl, inr, arith, true≢false}
 use mathlib.Core.Option.{some, some-injective}
 use lib.ListN.{get_elem?}
 use Rattle.pb_model.proofs.Tests.{by_cases, not_both, equal, equal_self, below, not_below}
 use Rattle.pb_machine.specs.declared.event.Event.{Event}
 use Rattle.pb_machine.specs.History.{events_of, StartsWith}
-use Rattle.pb_machine.specs.Views.{Share, View, IsShareOf, IsTrueOf, HasWorker, AreTrueOf, spent_view, longer, met_view}
+use Rattle.pb_machine.specs.Views.{IsAmong, Share, View, IsShareOf, IsTrueOf, HasWorker, AreTrueOf, spent_view, longer, met_view}
 use Rattle.pb_machine.specs.JournalLaws.{MeetingKeepsViews}
-use Rattle.pb_machine.proofs.Places.{covered_more, differs, IsRight, among_left, among_right, set_else, set_here, at_set, all_of, all_append}
+use Rattle.pb_machine.proofs.Places.{distinct_append, has_seat, among_one, covered_more, no_longer, all_seen, differs, IsRight, among_left, among_right, set_else, set_here, at_set, all_of, all_append}
 
 module _ (workers : ℕ) (journal : List Event) (views : List View) (seat other : ℕ) (view met : View) (h : AreTrueOf workers journal views)
     (at : get_elem? views seat ≡ some view) (live : view.is_live ≡ true) (apart : other ≢ seat) (there : get_elem? (set views seat (met_view view met)) other ≡ some met) (up : met.is_live ≡ true) where
@@ -56,8 +56,37 @@ module _ (workers : ℕ) (journal : List Event) (views : List View) (seat other 
       go true e = is.covered
       go false e = covered_more journal met.seen view.seen share.worker share.events theirs.seen mine.seen (not_below (length view.seen) (length met.seen) e) is.told is.covered
 
-  not_mine : (share : Share) → IsRight journal met.seen h.made h.seat_of other share → (share.worker == view.own.worker) ≡ false
-  not_mine share right = differs share.worker view.own.worker (λ same. apart (sym right.2 ∙ ap h.seat_of same ∙ mine.shares.0.2))
+  has_mine : (worker : ℕ) → HasWorker worker view → HasWorker worker both
+  has_mine worker (inl is) = inl is
+  has_mine worker (inr is) = inr (among_left worker view.taken_in (met.own ∷ met.taken_in) is)
+
+  has_theirs : (worker : ℕ) → HasWorker worker met → HasWorker worker both
+  has_theirs worker is = inr (among_right worker view.taken_in (met.own ∷ met.taken_in) is)
+
+  in_one : (worker : ℕ) → HasWorker worker both → HasWorker worker view ⊎ HasWorker worker met
+  in_one worker (inl is) = inl (inl is)
+  in_one worker (inr is) = go (among_one worker view.taken_in (met.own ∷ met.taken_in) is)
+    where
+      go : (IsAmong worker view.taken_in ⊎ IsAmong worker (met.own ∷ met.taken_in)) → HasWorker worker view ⊎ HasWorker worker met
+      go (inl is) = inl (inr is)
+      go (inr is) = inr is
+
+  seat_mine : (worker : ℕ) → HasWorker worker view → h.seat_of worker ≡ seat
+  seat_mine worker has = has_seat journal view.seen h.made h.seat_of seat worker (view.own ∷ view.taken_in) mine.shares has
+
+  seat_theirs : (worker : ℕ) → HasWorker worker met → h.seat_of worker ≡ other
+  seat_theirs worker has = has_seat journal met.seen h.made h.seat_of other worker (met.own ∷ met.taken_in) theirs.shares has
+
+  -- one of the two has worker 0's events, and so the count, and the other counts none
+  counts : (HasWorker 0 view ⊎ HasWorker 0 met) → view.made + met.made ≡ h.made
+  counts (inl has) =
+      let here = mine.counts_passes has in
+      let none = theirs.counts_none (λ too. apart (sym (seat_theirs 0 too) ∙ seat_mine 0 has)) in
+      omega (arith, here, none)
+  counts (inr has) =
+      let their = theirs.counts_passes has in
+      let none = mine.counts_none (λ too. apart (sym (seat_theirs 0 has) ∙ seat_mine 0 too)) in
+      omega (arith, their, none)
 
   own : IsTrueOf journal h.made seat_of seat both
   own = record {
@@ -70,9 +99,9 @@ module _ (workers : ℕ) (journal : List Event) (views : List View) (seat other 
           (all_of (IsRight journal met.seen h.made h.seat_of other) (IsRight journal seen h.made seat_of seat)
           (λ share right. (theirs_covered share right.0, right.1, moves share.worker right.2)) (met.own ∷ met.taken_in) theirs.shares),
     );
-    apart = all_append (λ share. (share.worker == view.own.worker) ≡ false) view.taken_in (met.own ∷ met.taken_in) mine.apart
-        (all_of (IsRight journal met.seen h.made h.seat_of other) (λ share. (share.worker == view.own.worker) ≡ false) not_mine (met.own ∷ met.taken_in) theirs.shares);
-    counts_passes = mine.counts_passes;
+    distinct = distinct_append journal view.seen met.seen h.made h.seat_of seat other (view.own ∷ view.taken_in) (met.own ∷ met.taken_in) apart mine.shares theirs.shares mine.distinct theirs.distinct;
+    counts_passes = λ has. counts (in_one 0 has);
+    counts_none = λ none. let here = mine.counts_none (λ has. none (has_mine 0 has)) in let their = theirs.counts_none (λ has. none (has_theirs 0 has)) in omega (arith, here, their);
   }
 
   others : (j : ℕ) (u : View) → j ≢ other → get_elem? views j ≡ some u → u.is_live ≡ true → IsTrueOf journal h.made seat_of j u
@@ -81,8 +110,9 @@ module _ (workers : ℕ) (journal : List Event) (views : List View) (seat other 
       record {
         seen = is.seen;
         shares = all_of (IsRight journal u.seen h.made h.seat_of j) (IsRight journal u.seen h.made seat_of j) (λ share right. (right.0, right.1, stays share.worker j right.2 off)) (u.own ∷ u.taken_in) is.shares;
-        apart = is.apart;
+        distinct = is.distinct;
         counts_passes = is.counts_passes;
+        counts_none = is.counts_none;
       }
 
   by_set : (j : ℕ) (u : View) → j ≢ other → u.is_live ≡ true → ((j ≡ seat) × (both ≡ u)) ⊎ ((j ≢ seat) × (get_elem? views j ≡ some u)) → IsTrueOf journal h.made seat_of j u
@@ -95,13 +125,6 @@ module _ (workers : ℕ) (journal : List Event) (views : List View) (seat other 
 
   is_live : both.is_live ≡ true
   is_live = live
-
-  has_mine : (worker : ℕ) → HasWorker worker view → HasWorker worker both
-  has_mine worker (inl is) = inl is
-  has_mine worker (inr is) = inr (among_left worker view.taken_in (met.own ∷ met.taken_in) is)
-
-  has_theirs : (worker : ℕ) → HasWorker worker met → HasWorker worker both
-  has_theirs worker is = inr (among_right worker view.taken_in (met.own ∷ met.taken_in) is)
 
   abbrev Found : ℕ → ℕ → Type 0
   Found worker j = (u : View) × (get_elem? (set (set views seat both) other spent_view) j ≡ some u) × (u.is_live ≡ true) × HasWorker worker u
@@ -133,6 +156,45 @@ module _ (workers : ℕ) (journal : List Event) (views : List View) (seat other 
             has,
           )))
 
+  -- the longer of two journals is the whole one where one of them is
+  mine_whole : view.seen ≡ journal → seen ≡ journal
+  mine_whole all = go (nat_lt (length view.seen) (length met.seen)) refl
+    where
+      go : (r : Bool) → nat_lt (length view.seen) (length met.seen) ≡ r → cond r met.seen view.seen ≡ journal
+      go true e =
+          let less = below (length view.seen) (length met.seen) e in
+          let no_more = no_longer journal met.seen theirs.seen in
+          absurd (omega (arith, less, no_more, ap length all))
+      go false e = all
+
+  theirs_whole : met.seen ≡ journal → seen ≡ journal
+  theirs_whole all = go (nat_lt (length view.seen) (length met.seen)) refl
+    where
+      go : (r : Bool) → nat_lt (length view.seen) (length met.seen) ≡ r → cond r met.seen view.seen ≡ journal
+      go true e = all
+      go false e =
+          let less = not_below (length view.seen) (length met.seen) e in
+          all_seen journal view.seen mine.seen (omega (arith, less, ap length all))
+
+  -- who has seen the whole journal is that view still, or one of the two, and then the taker has
+  whole : ((j : ℕ) × (u : View) × (get_elem? views j ≡ some u) × (u.is_live ≡ true) × (u.seen ≡ journal))
+      → (j : ℕ) × (u : View) × (get_elem? (set (set views seat both) other spent_view) j ≡ some u) × (u.is_live ≡ true) × (u.seen ≡ journal)
+  whole (j, u, e, on, all) = by_cases (j == other)
+      (λ same. at_seat (theirs_whole (ap (λ (v : View). v.seen) (some-injective met u (sym there' ∙ ap (get_elem? views) (sym (equal j other same)) ∙ e)) ∙ all)))
+      (λ off. by_cases (j == seat)
+      (λ same. at_seat (mine_whole (ap (λ (v : View). v.seen) (some-injective view u (sym at ∙ ap (get_elem? views) (sym (equal j seat same)) ∙ e)) ∙ all)))
+      (λ differ. (
+        j,
+        u,
+        set_else (set views seat both) other j spent_view (λ p. not_both (j == other) (ap (λ k. k == other) p ∙ equal_self other) off)
+            ∙ set_else views seat j both (λ p. not_both (j == seat) (ap (λ k. k == seat) p ∙ equal_self seat) differ) ∙ e,
+        on,
+        all,
+      )))
+    where
+      at_seat : seen ≡ journal → (j : ℕ) × (u : View) × (get_elem? (set (set views seat both) other spent_view) j ≡ some u) × (u.is_live ≡ true) × (u.seen ≡ journal)
+      at_seat is = (seat, both, set_else (set views seat both) other seat spent_view (λ e. apart (sym e)) ∙ set_here views seat view both at, live, is)
+
   met_both : AreTrueOf workers journal (set (set views seat both) other spent_view)
   met_both = record {
     made = h.made;
@@ -141,6 +203,7 @@ module _ (workers : ℕ) (journal : List Event) (views : List View) (seat other 
     each = λ j u e on. by_spent j u on (at_set (set views seat both) other j spent_view u e);
     found = λ worker less. found worker (h.found worker less);
     unmade = h.unmade;
+    whole = whole h.whole;
   }
 
 pub meeting_keeps_views : MeetingKeepsViews

@@ -1,9 +1,9 @@
 -- What a lawful machine tells: costs that fit, incumbents that are plans, blocks that may be leased, and the end of a search.
-use Rattle.std.proofs.Common.{◌≡◌, ◌≤◌, ℕ, ◌^◌, ◌<◌, Bool, true, false, ◌&&◌, ◌==◌, is_some, List, [], ◌∷◌, Option, Some, None, refl, sym, ap, ◌∙◌, subst, ◌⊎◌, inl, inr, arith, true≢false, le_trans, mul-le-mul_left}
+use Rattle.std.proofs.Common.{◌≡◌, ℕ, ◌^◌, ◌<◌, Bool, true, false, ◌&&◌, ◌==◌, is_some, List, [], ◌∷◌, Option, Some, None, refl, sym, ap, ◌∙◌, subst, ◌⊎◌, inl, inr, arith, true≢false, le_trans, mul-le-mul_left}
 use Rattle.pb_model.specs.Plan.{IncumbentHolds}
 use Rattle.pb_model.specs.Guide.{IsAdmissible}
 use Rattle.pb_model.specs.Store.{Store, HasGoalWithin, HasOpened, AtMost}
-use Rattle.pb_model.proofs.Tests.{by_cases}
+use Rattle.pb_model.proofs.Tests.{by_cases, equal}
 use Rattle.pb_model.proofs.Incumbents.{at_most_self, at_most_trans, lesser_at_most}
 use Rattle.pb_model.specs.Work.{opening_store}
 use Rattle.pb_model.proofs.Locality.{weights_stay}
@@ -15,17 +15,20 @@ use Rattle.pb_machine.specs.declared.event.Event.TheVariants.{Lease, Renew, Hot,
 use Rattle.pb_machine.specs.declared.event.End.TheVariants.{Budget, Memory}
 use Rattle.pb_machine.specs.declared.event.Grant.{Grant}
 use Rattle.pb_machine.specs.Blocks.{meets, interferes}
+use Rattle.pb_machine.specs.Tables.{with_entry}
 use Rattle.pb_machine.specs.Settings.{weight_of}
 use Rattle.pb_machine.specs.Counts.{quota_of, is_lease_of, is_any_out, is_taken}
 use Rattle.pb_machine.specs.History.{replay}
 use Rattle.pb_machine.specs.Choice.{MayBeLeased}
-use Rattle.pb_machine.specs.Machine.{Setup, IsSetup, Machine, CameBack, RowPart, Move, event_move, tell_move, Moves, Runs, journal_of}
-use Rattle.pb_machine.specs.Lawful.{IsTold, IsLawful}
-use Rattle.pb_machine.specs.Laws.{JournalsAreHistories, LawfulStoresAreSound, IncumbentsArePlans, IncumbentsFall, CostsGrowByExpansions, CostsStaySmall, CostsFit, LeaseCostsStaySmall, LeaseCostsFit, ScopesAreApart, NoneOutMayLease, NoneOutIsShown, QuietEndsAreBest, BudgetEndsAreSpent}
-use Rattle.pb_machine.proofs.TableLaws.{sum_zero, sum_with_entry, any_none, any_some, any_false}
+use Rattle.pb_machine.specs.Machine.{Setup, IsSetup, with_known, with_incumbent, Machine, CameBack, RowPart, Move, event_move, tell_move, Moves, Runs, journal_of}
+use Rattle.pb_machine.specs.Lawful.{broken_leases, IsTold, IsLawful}
+use Rattle.pb_machine.specs.Laws.{JournalsAreHistories, LawfulStoresAreSound, IncumbentsArePlans, IncumbentsFall, KnownStays, CostsGrowByExpansions, CostsStaySmall, CostsFit, LeaseCostsStaySmall, LeaseCostsFit, ScopesAreApart, NoneOutMayLease, NoneOutIsShown, QuietEndsAreBest, BudgetEndsAreSpent}
+use Rattle.pb_machine.proofs.TableLaws.{entry_here, entry_else, sum_zero, none_counted, sum_with_entry, any_none, any_some, any_false}
 use Rattle.pb_machine.proofs.CountsLaws.{none_hot, none_leased}
 use Rattle.pb_machine.proofs.Histories.{replay_first}
-use Rattle.pb_machine.proofs.Moments.{out_less, sound_after, worked_costs, incumbent_plan}
+use Rattle.pb_machine.proofs.Known.{known_more}
+use Rattle.pb_machine.proofs.Reports.{out_less, few_broken}
+use Rattle.pb_machine.proofs.Moments.{sound_after, worked_costs, incumbent_plan}
 
 module _ (p : Setup) (greatest_cost : ℕ) (is_setup : IsSetup p greatest_cost) where
   -- no quota is out where no lease is
@@ -107,6 +110,37 @@ incumbents_fall setup [] old new runs = same_lower old.store new.store (ap (λ (
 incumbents_fall setup (move ∷ moves) old new runs =
     at_most_trans new.store.incumbent runs.0.store.incumbent old.store.incumbent (incumbents_fall setup moves runs.0 new runs.2) (move_lower setup old runs.0 move runs.1)
 
+-- ---- what is known stays known
+
+kept : (f g : ℕ → Option ℕ → Bool) → g ≡ f → (j : ℕ) (o : Option ℕ) → f j o ≡ true → g j o ≡ true
+kept f g same j o h = ap (λ (k : ℕ → Option ℕ → Bool). k j o) same ∙ h
+
+grown : (f g : ℕ → Option ℕ → Bool) (new : Option ℕ) → g ≡ with_incumbent f new → (j : ℕ) (o : Option ℕ) → f j o ≡ true → g j o ≡ true
+grown f g new same j o h = ap (λ (k : ℕ → Option ℕ → Bool). k j o) same ∙ known_more (f j) new o h
+
+row_part_knows : (p : Setup) (m n : Machine) (e : Event) → RowPart p m e n → (j : ℕ) (o : Option ℕ) → m.known j o ≡ true → n.known j o ≡ true
+row_part_knows p m n (Lease i b q) r = kept m.known n.known r.4
+row_part_knows p m n (Renew i used q) r = grown m.known n.known n.store.incumbent r.3
+row_part_knows p m n (Hot i b) r = kept m.known n.known r.1.3
+row_part_knows p m n (Cold i b) r = kept m.known n.known r.3
+row_part_knows p m n (Release i used false) r = grown m.known n.known n.store.incumbent r.3
+row_part_knows p m n (Release i used true) r = grown m.known n.known n.store.incumbent r.3
+row_part_knows p m n (Off i memory) r = kept m.known n.known r.3
+row_part_knows p m n (Ended Quiet) r = kept m.known n.known r.1.3
+row_part_knows p m n (Ended Budget) r = kept m.known n.known r.1.3
+row_part_knows p m n (Ended Memory) r = kept m.known n.known r.3
+
+move_knows : (p : Setup) (m n : Machine) (move : Move) → Moves p m move n → (j : ℕ) (o : Option ℕ) → m.known j o ≡ true → n.known j o ≡ true
+move_knows p m n (event_move e) s j o h = row_part_knows p m n e s.rows j o h
+move_knows p m n (tell_move i u) s j o h =
+    grown (with_entry m.known i (with_known (m.known i) (Some u))) n.known n.store.incumbent s.known j o (by_cases (j == i)
+    (λ e. ap (λ (f : Option ℕ → Bool). f o) (entry_here m.known i j (with_known (m.known i) (Some u)) e) ∙ known_more (m.known i) (Some u) o (ap (λ k. m.known k o) (sym (equal j i e)) ∙ h))
+    (λ e. ap (λ (f : Option ℕ → Bool). f o) (entry_else m.known i j (with_known (m.known i) (Some u)) e) ∙ h))
+
+pub known_stays : KnownStays
+known_stays setup [] old new runs j o h = ap (λ (q : Machine). q.known j o) runs ∙ h
+known_stays setup (move ∷ moves) old new runs j o h = known_stays setup moves runs.0 new runs.2 j o (move_knows setup old runs.0 move runs.1 j o h)
+
 pub journals_are_histories : JournalsAreHistories
 journals_are_histories setup moves start machine before range enough opens runs = record {
   range = range;
@@ -119,7 +153,7 @@ lawful_stores_are_sound setup greatest_cost machine is l = (sound_after setup gr
 
 pub costs_stay_small : CostsStaySmall
 costs_stay_small setup greatest_cost machine is l home state row found =
-    le_trans ((sound_after setup greatest_cost is machine l).1 home state row found) (mul-le-mul_left greatest_cost (omega (arith, l.counts.sum, l.few_broken)))
+    le_trans ((sound_after setup greatest_cost is machine l).1 home state row found) (mul-le-mul_left greatest_cost (omega (arith, l.counts.sum, few_broken setup machine l)))
 
 pub scopes_are_apart : ScopesAreApart
 scopes_are_apart setup greatest_cost machine is l worker other grant second one two differ block = apart setup greatest_cost is machine worker other grant second l one two differ block
@@ -131,17 +165,17 @@ pub costs_fit : CostsFit
 costs_fit setup machine is range l home state row found = let low = costs_stay_small setup (2 ^ 20) machine is l home state row found in omega (arith, low, range.budget.1, range.workers.1)
 
 pub lease_costs_stay_small : LeaseCostsStaySmall
-lease_costs_stay_small setup greatest_cost machine worker used few grant worked is l leased work low one home state row found =
+lease_costs_stay_small setup greatest_cost machine worker used few grant worked is l leased work low home state row found =
     let lt = (l.counts.known worker grant leased).0 in
     let out = out_less setup.settings.workers worker machine.counts.leases grant lt leased in
     let sums = sum_with_entry quota_of setup.settings.workers worker machine.counts.leases None lt in
     let quota : quota_of (machine.counts.leases worker) ≡ grant.quota = ap quota_of leased in
     le_trans (worked_costs setup greatest_cost is machine worker grant used few worked l leased work home state row found)
-    (mul-le-mul_left greatest_cost (omega (arith, l.counts.sum, l.few_broken, out, sums, quota, low, one)))
+    (mul-le-mul_left greatest_cost (omega (arith, l.counts.sum, few_broken setup machine l, out, sums, quota, low)))
 
 pub lease_costs_fit : LeaseCostsFit
-lease_costs_fit setup machine worker used few grant worked is range l leased work within one home state row found =
-    let low = lease_costs_stay_small setup (2 ^ 20) machine worker used few grant worked is l leased work within one home state row found in
+lease_costs_fit setup machine worker used few grant worked is range l leased work within home state row found =
+    let low = lease_costs_stay_small setup (2 ^ 20) machine worker used few grant worked is l leased work within home state row found in
     omega (arith, low, range.budget.1, range.workers.1)
 
 pub quiet_ends_are_best : QuietEndsAreBest
@@ -151,17 +185,16 @@ pub incumbents_are_plans : IncumbentsArePlans
 incumbents_are_plans setup greatest_cost machine is l cost known = incumbent_plan setup greatest_cost is machine l cost known
 
 pub costs_grow_by_expansions : CostsGrowByExpansions
-costs_grow_by_expansions setup greatest_cost machine is l = ((sound_after setup greatest_cost is machine l).1, omega (arith, l.few_broken))
+costs_grow_by_expansions setup greatest_cost machine is l = ((sound_after setup greatest_cost is machine l).1, omega (arith, few_broken setup machine l))
 
 -- ---- the budget's end
 
-none_broken_at : (m : Machine) (p : Setup) → IsLawful p m → m.counts.end ≡ Some Budget → m.broken ≡ 0
-none_broken_at m p l ends = go l.broken_ends
+none_broken_at : (m : Machine) (p : Setup) → IsLawful p m → m.counts.end ≡ Some Budget → broken_leases p m ≡ 0
+none_broken_at m p l ends = none_counted p.settings.workers m.broken (λ k lt. by_cases (m.broken k) (λ e. go (l.reported.released k e).2) (λ e. e))
   where
-    go : ((m.broken ≡ 0) ⊎ (((m.counts.trouble ≡ true) × (m.broken ≤ 1)) ⊎ (m.counts.end ≡ Some Memory))) → m.broken ≡ 0
-    go (inl e) = e
-    go (inr (inl t)) = let bad : ◌≡◌ {A = Option End} (Some Budget) None = sym ends ∙ l.counts.trouble t.0 in cc
-    go (inr (inr e)) = let bad : ◌≡◌ {A = Option End} (Some Budget) (Some Memory) = sym ends ∙ e in cc
+    go : {A : Type 0} → ((m.counts.trouble ≡ true) ⊎ (m.counts.end ≡ Some Memory)) → A
+    go (inl t) = let bad : ◌≡◌ {A = Option End} (Some Budget) None = sym ends ∙ l.counts.trouble t in cc
+    go (inr e) = let bad : ◌≡◌ {A = Option End} (Some Budget) (Some Memory) = sym ends ∙ e in cc
 
 pub budget_ends_are_spent : BudgetEndsAreSpent
 budget_ends_are_spent setup greatest_cost machine is l ends =

@@ -1,11 +1,11 @@
 -- Every event and every told cost keeps the machine lawful.
-use Rattle.std.proofs.Common.{◌≡◌, ℕ, ◌+◌, ◌*◌, ◌<◌, ◌≤◌, min, Bool, true, false, cond, ◌==◌, is_some, is_none, List, [], ◌∷◌, ◌++◌, Option, Some, None, refl, sym, ap, ◌∙◌, subst, ◌⊎◌, inl, inr, arith, le_trans, mul-le-mul_left}
+use Rattle.std.proofs.Common.{true≢false, ◌≡◌, ℕ, ◌+◌, ◌*◌, ◌≤◌, min, Bool, true, false, ◌==◌, List, [], ◌∷◌, ◌++◌, Option, Some, None, refl, sym, ap, ◌∙◌, subst, ◌⊎◌, inl, inr, arith, le_trans, mul-le-mul_left}
 use Rattle.pb_model.specs.Store.{Store, HasGoalWithin, HasOpened, IsQuiet, CostsAtMost, lesser, AtMost}
-use Rattle.pb_model.specs.Work.{Work, lower, Comes, LowersTo, opening_store}
+use Rattle.pb_model.specs.Work.{Work, expand, break_off, cut, take_goal, reopen, lower, Comes, LowersTo, opening_store}
 use Rattle.pb_model.specs.Sound.{IsSound}
 use Rattle.pb_model.specs.Plan.{Plan, IsPlan}
 use Rattle.pb_model.proofs.Tracing.{goals_are_plans}
-use Rattle.pb_model.proofs.Tests.{not_both, equal, equal_self, by_cases}
+use Rattle.pb_model.proofs.Tests.{or_true, not_both, equal, equal_self, by_cases}
 use Rattle.pb_model.proofs.Incumbents.{some_number, at_most_self, at_most_trans, lesser_at_most, lesser_below, lesser_cases}
 use Rattle.pb_model.proofs.Soundness.{work_keeps_sound}
 use Rattle.pb_model.proofs.Backing.{costs_never_rise, incumbents_are_backed}
@@ -15,44 +15,20 @@ use Rattle.pb_machine.specs.declared.event.End.TheVariants.{Quiet, Budget, Memor
 use Rattle.pb_machine.specs.declared.event.Event.{Event}
 use Rattle.pb_machine.specs.declared.event.Event.TheVariants.{Lease, Renew, Hot, Cold, Release, Off, Ended}
 use Rattle.pb_machine.specs.declared.event.Grant.{Grant}
-use Rattle.pb_machine.specs.Tables.{with_entry}
+use Rattle.pb_machine.specs.Tables.{with_entry, count_below}
 use Rattle.pb_machine.specs.Settings.{weight_of}
-use Rattle.pb_machine.specs.Counts.{Counts, leases_out, is_any_out, with_quota, counts_after}
+use Rattle.pb_machine.specs.Counts.{Counts, is_any_out, with_quota, counts_after}
 use Rattle.pb_machine.specs.Legality.{refusal}
-use Rattle.pb_machine.specs.Machine.{Setup, IsSetup, Machine, opening_machine, HasWorked, CameBack, KeepsRows, Happens, Tells, Move, event_move, tell_move, Moves, Runs}
-use Rattle.pb_machine.specs.Lawful.{IsReached, IsTold, IsLawful}
+use Rattle.pb_machine.specs.Machine.{IsOn, Setup, IsSetup, is_same, with_known, with_incumbent, Machine, opening_machine, HasWorked, CameBack, KeepsRows, Happens, Tells, Move, event_move, tell_move, Moves, Runs}
+use Rattle.pb_machine.specs.Lawful.{broken_leases, AreReported, IsRead, IsReached, IsTold, IsLawful}
 use Rattle.pb_machine.specs.Laws.{OpeningIsLawful, MovesKeepLawful, RunsAreLawful}
-use Rattle.pb_machine.proofs.TableLaws.{entry_here, entry_else, sum_same, sum_small, sum_with_entry}
-use Rattle.pb_machine.proofs.CountsLaws.{passes, no_trouble, event_keeps, opening_lawful, still, out_still, released_was, none_leased}
-use Rattle.pb_machine.proofs.LeaseWork.{not_lowered, merged, none_reopens, works_there, row_there, goal_there}
-
--- ---- how many leases are out
-
-abbrev one_of : Option Grant → ℕ
-one_of o = cond (is_some o) 1 0
-
-one_small : (o : Option Grant) → one_of o ≤ 1
-one_small None = omega arith
-one_small (Some grant) = omega arith
-
-pub out_small : (n : ℕ) (leases : ℕ → Option Grant) → leases_out n leases ≤ n
-out_small n leases = sum_small n (λ i. one_of (leases i)) (λ i. one_small (leases i))
-
--- one less after a lease came back
-pub out_less : (n i : ℕ) (leases : ℕ → Option Grant) (grant : Grant) → i < n → leases i ≡ Some grant → leases_out n (with_entry leases i None) + 1 ≡ leases_out n leases
-out_less n i leases grant lt is =
-    let sums = sum_with_entry one_of n i leases None lt in
-    let one : one_of (leases i) ≡ 1 = ap one_of is in
-    omega arith
-
-out_same : (n i q : ℕ) (leases : ℕ → Option Grant) → leases_out n (with_entry leases i (with_quota q (leases i))) ≡ leases_out n leases
-out_same n i q leases = sum_same n _ _ (λ k. by_cases (k == i)
-    (λ e. ap one_of (entry_here leases i k _ e) ∙ same (leases i) ∙ ap (λ j. one_of (leases j)) (sym (equal k i e)))
-    (λ e. ap one_of (entry_else leases i k _ e)))
-  where
-    same : (o : Option Grant) → one_of (with_quota q o) ≡ one_of o
-    same None = refl
-    same (Some grant) = refl
+use Rattle.pb_machine.proofs.TableLaws.{entry_here, entry_else}
+use Rattle.pb_machine.proofs.CountsLaws.{passes, no_trouble, event_keeps, opening_lawful, still, out_still, none_leased}
+use Rattle.pb_model.specs.Guide.{Guide}
+use Rattle.pb_machine.proofs.Places.{all_of, all_append}
+use Rattle.pb_machine.proofs.Known.{same_is, known_new, known_more, lesser_one}
+use Rattle.pb_machine.proofs.Reports.{none_broken, reported_still, broken_more, reported_release, reported_off, reported_end}
+use Rattle.pb_machine.proofs.LeaseWork.{breaks_few, not_lowered, merged, none_reopens, works_there, row_there, goal_there}
 
 -- ---- what was told
 
@@ -65,6 +41,25 @@ told_less : (o : Option ℕ) (u x : ℕ) → o ≡ Some x → (c : ℕ) × (less
 told_less None u x h = cc
 told_less (Some y) u x h = let e : y ≡ x = some_number y x h in (min y u, refl, omega arith)
 
+-- ---- what the work of the whole store reads
+
+read_more : (known more : ℕ → Option ℕ → Bool) → ((j : ℕ) (o : Option ℕ) → known j o ≡ true → more j o ≡ true) → (x : Work) → IsRead known x → IsRead more x
+read_more known more grows (expand s) h = tt
+read_more known more grows (break_off s k) h = tt
+read_more known more grows (cut s) h = tt
+read_more known more grows (take_goal s) h = tt
+read_more known more grows (lower u) h = (h.0, grows h.0 (Some u) h.1)
+read_more known more grows (reopen w) h = tt
+
+-- a lease reads what its worker knows
+reads_known : (guide : Guide) (block i : ℕ) (known more : ℕ → Option ℕ → Bool) → ((j : ℕ) (o : Option ℕ) → known j o ≡ true → more j o ≡ true) → (x : Work) → IsOn guide block (known i) x → IsRead more x
+reads_known guide block i known more grows (expand s) h = tt
+reads_known guide block i known more grows (break_off s k) h = tt
+reads_known guide block i known more grows (cut s) h = tt
+reads_known guide block i known more grows (take_goal s) h = tt
+reads_known guide block i known more grows (lower u) h = (i, grows i (Some u) h)
+reads_known guide block i known more grows (reopen w) h = tt
+
 module _ (p : Setup) (greatest_cost : ℕ) (is_setup : IsSetup p greatest_cost) where
   -- the whole store after a lease came back is the one before, after the lease's work
   pub comes_back : (m : Machine) (i used few : ℕ) (w : Store) → IsLawful p m → (back : CameBack p m i used few w) → Comes p.space p.guide back.work.works m.store w
@@ -76,18 +71,19 @@ module _ (p : Setup) (greatest_cost : ℕ) (is_setup : IsSetup p greatest_cost) 
   shown_back m i used few w l back u is =
       subst (λ q. HasGoalWithin p.space p.guide q u) (sym back.back) (goal_there p greatest_cost is_setup m i back.grant used few back.worked l back.leased back.work u (back.shown u is))
 
-  pub is_at : (n : Machine) (c : Counts) (w : Store) (g a : ℕ → Option ℕ) (k : ℕ) → n.counts ≡ c → n.store ≡ w → n.given ≡ g → n.told ≡ a → n.broken ≡ k
-      → IsLawful p (record { counts = c; store = w; given = g; told = a; broken = k }) → IsLawful p n
-  is_at n c w g a k p1 p2 p3 p4 p5 l =
-      let same : ◌≡◌ {A = Machine} (record { counts = c; store = w; given = g; told = a; broken = k }) n = sym (λ i. record { counts = p1 i; store = p2 i; given = p3 i; told = p4 i; broken = p5 i }) in
+  pub is_at : (n : Machine) (c : Counts) (w : Store) (g a : ℕ → Option ℕ) (o : ℕ → Option ℕ → Bool) (k : ℕ → Bool) → n.counts ≡ c → n.store ≡ w → n.given ≡ g → n.told ≡ a → n.known ≡ o → n.broken ≡ k
+      → IsLawful p (record { counts = c; store = w; given = g; told = a; known = o; broken = k }) → IsLawful p n
+  is_at n c w g a o k p1 p2 p3 p4 p5 p6 l =
+      let same : ◌≡◌ {A = Machine} (record { counts = c; store = w; given = g; told = a; known = o; broken = k }) n =
+      sym (λ i. record { counts = p1 i; store = p2 i; given = p3 i; told = p4 i; known = p5 i; broken = p6 i }) in
       subst (IsLawful p) same l
 
   -- the work that came back is added to what led to the store
-  reached_more : (m : Machine) (i used few : ℕ) (c : Counts) (w : Store) (g a : ℕ → Option ℕ) (k : ℕ) → IsLawful p m → CameBack p m i used few w
-      → c.spent ≡ m.counts.spent + used → k ≡ m.broken + few → IsReached p (record { counts = c; store = w; given = g; told = a; broken = k })
-  reached_more m i used few c w g a k l back spent more =
+  reached_more : (m : Machine) (i used few : ℕ) (c : Counts) (w : Store) (g a : ℕ → Option ℕ) (o : ℕ → Option ℕ → Bool) (k : ℕ → Bool) → IsLawful p m → CameBack p m i used few w
+      → c.spent ≡ m.counts.spent + used → broken_leases p m + few ≤ count_below p.settings.workers k → ((j : ℕ) (x : Option ℕ) → m.known j x ≡ true → o j x ≡ true) → IsReached p (record { counts = c; store = w; given = g; told = a; known = o; broken = k })
+  reached_more m i used few c w g a o k l back spent more grows =
       let all = work_goes_on p.space p.guide l.reached.works back.work.works (opening_store p.space p.guide l.reached.first_weight) m.store w l.reached.comes (comes_back m i used few w l back) in
-      let never = none_reopens p greatest_cost is_setup back.grant.block m.store.incumbent back.work.works back.work.on in
+      let never = none_reopens p greatest_cost is_setup back.grant.block (m.known i) back.work.works back.work.on in
       record {
         first_weight = l.reached.first_weight;
         is_weight = l.reached.is_weight;
@@ -98,6 +94,8 @@ module _ (p : Setup) (greatest_cost : ℕ) (is_setup : IsSetup p greatest_cost) 
         reopened = omega (arith, all.4, l.reached.reopened, never);
         between = reopens_append p.space p.guide l.reached.works back.work.works (opening_store p.space p.guide l.reached.first_weight) m.store l.reached.comes l.reached.between
             (never_reopens p.space p.guide back.work.works m.store never);
+        read = λ first. all_append (IsRead o) l.reached.works back.work.works (all_of (IsRead m.known) (IsRead o) (read_more m.known o grows) l.reached.works (l.reached.read first))
+            (all_of (IsOn p.guide back.grant.block (m.known i)) (IsRead o) (reads_known p.guide back.grant.block i m.known o grows) back.work.works back.work.on);
       }
 
   -- the incumbent has fallen, and the weight is the same
@@ -107,7 +105,7 @@ module _ (p : Setup) (greatest_cost : ℕ) (is_setup : IsSetup p greatest_cost) 
   same_weight : (m : Machine) (i used few : ℕ) (w : Store) → IsLawful p m → CameBack p m i used few w → w.weight ≡ weight_of p.settings
   same_weight m i used few w l back = ap (λ (q : Store). q.weight) back.back ∙ l.weight
 
-  pub sound_after : (m : Machine) → IsLawful p m → IsSound p.space p.guide m.store × CostsAtMost m.store (greatest_cost * (m.counts.spent + m.broken))
+  pub sound_after : (m : Machine) → IsLawful p m → IsSound p.space p.guide m.store × CostsAtMost m.store (greatest_cost * (m.counts.spent + broken_leases p m))
   sound_after m l =
       let both = work_keeps_sound p.space greatest_cost p.guide l.reached.first_weight l.reached.works m.store is_setup.space l.reached.is_weight l.reached.comes in
       (both.0, λ home state row is. le_trans (both.1 home state row is) (mul-le-mul_left greatest_cost (omega (arith, l.reached.spent, l.reached.broken))))
@@ -130,14 +128,14 @@ module _ (p : Setup) (greatest_cost : ℕ) (is_setup : IsSetup p greatest_cost) 
 
   -- the g of a lease's row, as it has worked so far
   pub worked_costs : (m : Machine) (i : ℕ) (grant : Grant) (used few : ℕ) (worked : Store) → IsLawful p m → m.counts.leases i ≡ Some grant → HasWorked p m i grant used few worked
-      → CostsAtMost worked (greatest_cost * (m.counts.spent + used + m.broken + few))
+      → CostsAtMost worked (greatest_cost * (m.counts.spent + used + broken_leases p m + 1))
   worked_costs m i grant used few worked l leased work home state row found =
       let together : Store = merged p greatest_cost is_setup m grant worked in
       let all = work_goes_on p.space p.guide l.reached.works work.works (opening_store p.space p.guide l.reached.first_weight) m.store together l.reached.comes
       (works_there p greatest_cost is_setup m i grant used few worked l leased work) in
       let both = work_keeps_sound p.space greatest_cost p.guide l.reached.first_weight (l.reached.works ++ work.works) together is_setup.space l.reached.is_weight all.0 in
       le_trans (both.1 home state row (row_there p greatest_cost is_setup m i grant used few worked l leased work home state row found))
-      (mul-le-mul_left greatest_cost (omega (arith, all.1, all.2, l.reached.spent, l.reached.broken, work.used_is, work.few_broken)))
+      (mul-le-mul_left greatest_cost (omega (arith, all.1, all.2, l.reached.spent, l.reached.broken, work.used_is, breaks_few work.works work.stops)))
 
   -- what a worker told is left out once its lease came back
   told_but : (m : Machine) (i : ℕ) → IsLawful p m → (k u : ℕ) → with_entry m.told i None k ≡ Some u → HasPlan u
@@ -159,13 +157,21 @@ module _ (p : Setup) (greatest_cost : ℕ) (is_setup : IsSetup p greatest_cost) 
   pub goal_still : (works : List Work) (w v : Store) (u : ℕ) → Comes p.space p.guide works w v → HasGoalWithin p.space p.guide w u → HasGoalWithin p.space p.guide v u
   goal_still works w v u comes g = (g.0, g.1, costs_never_rise p.space p.guide works w v comes g.0 u g.2)
 
-  -- who has told a cost still has a lease, but for one worker whose cost is shown now, and the incumbent is no greater
-  teller_but : (m : Machine) (i : ℕ) (leases : ℕ → Option Grant) (low : Option ℕ) → IsLawful p m
-      → ((j : ℕ) (h : Grant) → (j == i) ≡ false → m.counts.leases j ≡ Some h → leases j ≡ Some h) → AtMost low m.store.incumbent
-      → (k u : ℕ) → with_entry m.told i None k ≡ Some u → ((h : Grant) × (leases k ≡ Some h)) × AtMost low (Some u)
-  teller_but m i leases low l others fell k u is = by_cases (k == i)
+  -- who has told a cost still has a lease, but for one worker whose cost is shown now, and the cost is known
+  teller_but : (m : Machine) (i : ℕ) (leases : ℕ → Option Grant) (known : ℕ → Option ℕ → Bool) → IsLawful p m
+      → ((j : ℕ) (h : Grant) → (j == i) ≡ false → m.counts.leases j ≡ Some h → leases j ≡ Some h) → ((j : ℕ) (o : Option ℕ) → m.known j o ≡ true → known j o ≡ true)
+      → (k u : ℕ) → with_entry m.told i None k ≡ Some u → ((h : Grant) × (leases k ≡ Some h)) × (known k (Some u) ≡ true)
+  teller_but m i leases known l others more k u is = by_cases (k == i)
       (λ e. let bad : ◌≡◌ {A = Option ℕ} None (Some u) = sym (entry_here m.told i k None e) ∙ is in cc)
-      (λ e. let t = l.teller k u (sym (entry_else m.told i k None e) ∙ is) in ((t.0.0, others k t.0.0 e t.0.1), at_most_trans low m.store.incumbent (Some u) fell t.1))
+      (λ e. let t = l.teller k u (sym (entry_else m.told i k None e) ∙ is) in ((t.0.0, others k t.0.0 e t.0.1), more k (Some u) t.1))
+
+  -- after a lease came back the incumbent is among what is known, and no known one is lower
+  least_back : (m : Machine) (i used few : ℕ) (w : Store) → IsLawful p m → CameBack p m i used few w → (k : ℕ) (o : Option ℕ) → with_incumbent m.known w.incumbent k o ≡ true → AtMost w.incumbent o
+  least_back m i used few w l back k o h = go (or_true (is_same o w.incumbent) (m.known k o) h)
+    where
+      go : ((is_same o w.incumbent ≡ true) ⊎ (m.known k o ≡ true)) → AtMost w.incumbent o
+      go (inl same) = subst (λ (v : Option ℕ). AtMost w.incumbent v) (sym (same_is o w.incumbent same)) (at_most_self w.incumbent)
+      go (inr known) = at_most_trans w.incumbent m.store.incumbent o (fell m i used few w back) (l.least k o known)
 
   -- the incumbent after a lease came back: what its worker told is shown by a goal's row
   backed_after : (m : Machine) (i used few : ℕ) (w : Store) (leases : ℕ → Option Grant) → IsLawful p m → CameBack p m i used few w
@@ -185,59 +191,32 @@ module _ (p : Setup) (greatest_cost : ℕ) (is_setup : IsSetup p greatest_cost) 
 
       go : (HasGoalWithin p.space p.guide w u ⊎ (LowersTo back.work.works u ⊎ ((x : ℕ) × (m.store.incumbent ≡ Some x) × (x ≤ u)))) → HasGoalWithin p.space p.guide w u ⊎ ((j : ℕ) × (h : Grant) × (c : ℕ) × (leases j ≡ Some h) × (with_entry m.told i None j ≡ Some c) × (c ≤ u))
       go (inl g) = inl g
-      go (inr (inl t)) = before (not_lowered p.guide back.grant.block m.store.incumbent back.work.works u back.work.on t)
+      go (inr (inl t)) = before (not_lowered p.guide back.grant.block (m.known i) m.store.incumbent back.work.works u (l.least i) back.work.on t)
       go (inr (inr h)) = before h
-
-  abbrev pub BrokenEnds : Counts → ℕ → Type 0
-  BrokenEnds c broken = (broken ≡ 0) ⊎ (((c.trouble ≡ true) × (broken ≤ 1)) ⊎ (c.end ≡ Some Memory))
-
-  -- while no report waits, a broken expansion is followed by the end that it brings
-  broken_end : (m : Machine) → IsLawful p m → m.counts.trouble ≡ false → (m.broken ≡ 0) ⊎ (m.counts.end ≡ Some Memory)
-  broken_end m l none = go l.broken_ends
-    where
-      go : BrokenEnds m.counts m.broken → (m.broken ≡ 0) ⊎ (m.counts.end ≡ Some Memory)
-      go (inl e) = inl e
-      go (inr (inl t)) = not_both m.counts.trouble t.0 none
-      go (inr (inr e)) = inr e
-
-  broken_kept : (m : Machine) (c : Counts) → IsLawful p m → m.counts.trouble ≡ false → c.end ≡ m.counts.end → BrokenEnds c m.broken
-  broken_kept m c l none same = go (broken_end m l none)
-    where
-      go : ((m.broken ≡ 0) ⊎ (m.counts.end ≡ Some Memory)) → BrokenEnds c m.broken
-      go (inl e) = inl e
-      go (inr e) = inr (inr (same ∙ e))
-
-  -- while no end stands and no report waits, no expansion was broken off
-  none_broken : (m : Machine) → IsLawful p m → m.counts.trouble ≡ false → is_some m.counts.end ≡ false → m.broken ≡ 0
-  none_broken m l none no_end = go (broken_end m l none)
-    where
-      go : ((m.broken ≡ 0) ⊎ (m.counts.end ≡ Some Memory)) → m.broken ≡ 0
-      go (inl e) = e
-      go (inr e) = still p.blocks p.settings m.counts.end Memory no_end e
 
   lease_keeps : (m n : Machine) (i b q : ℕ) → IsLawful p m → Happens p m (Lease i b q) n → IsLawful p n
   lease_keeps m n i b q l s =
       let t = passes p.blocks p.settings m.counts (Lease i b q) s.may in
       let none = no_trouble p.blocks p.settings m.counts (Lease i b q) refl s.may in
-      let whole = none_broken m l none t.0 in
-      is_at n (counts_after p.blocks p.settings m.counts (Lease i b q)) m.store (with_entry m.given i s.rows.2.0) (with_entry m.told i None) m.broken s.counts s.rows.1 s.rows.2.2 s.rows.3 s.rows.4 (record {
+      is_at n (counts_after p.blocks p.settings m.counts (Lease i b q)) m.store (with_entry m.given i s.rows.2.0) (with_entry m.told i None) m.known m.broken s.counts s.rows.1 s.rows.2.2 s.rows.3 s.rows.4 s.rows.5 (record {
         counts = event_keeps p.blocks p.settings m.counts (Lease i b q) l.counts s.may;
-        reached = record { first_weight = l.reached.first_weight; is_weight = l.reached.is_weight; works = l.reached.works; comes = l.reached.comes; spent = l.reached.spent; broken = l.reached.broken; reopened = l.reached.reopened; between = l.reached.between };
+        reached = record { first_weight = l.reached.first_weight; is_weight = l.reached.is_weight; works = l.reached.works; comes = l.reached.comes; spent = l.reached.spent; broken = l.reached.broken; reopened = l.reached.reopened; between = l.reached.between; read = l.reached.read };
         weight = l.weight;
-        given = λ k h is. given s.rows.2.0 (subst (λ (q : Store). AtMost q.incumbent s.rows.2.0) s.rows.1 s.rows.2.1) k h is (k == i) refl;
+        is_known = l.is_known;
+        least = l.least;
+        given = λ k. given s.rows.2.0 (subst (λ (f : ℕ → Option ℕ → Bool). f i s.rows.2.0 ≡ true) s.rows.4 s.rows.2.1) k;
         backed = λ u is. backed (none_leased (m.counts.leases i) t.1.1.0) u (l.backed u is);
-        teller = teller_but m i (with_entry m.counts.leases i (Some (record { block = b; quota = q }))) m.store.incumbent l (λ j h e is. entry_else m.counts.leases i j _ e ∙ is) (at_most_self m.store.incumbent);
+        teller = teller_but m i (with_entry m.counts.leases i (Some (record { block = b; quota = q }))) m.known l (λ j h e is. entry_else m.counts.leases i j _ e ∙ is) (λ j o h. h);
         told = told_but m i l;
         quiet = l.quiet;
         budget = l.budget;
-        few_broken = let few = out_small p.settings.workers (with_entry m.counts.leases i (Some (record { block = b; quota = q }))) in omega (arith, few, whole);
-        broken_ends = inl whole;
+        reported = reported_still p m (counts_after p.blocks p.settings m.counts (Lease i b q)) l none none refl (λ k e. none_broken p m l none t.0 k e) (omega arith);
       })
     where
-      given : (bound : Option ℕ) → AtMost m.store.incumbent bound → (k : ℕ) (h : Grant) → with_entry m.counts.leases i (Some (record { block = b; quota = q })) k ≡ Some h → (r : Bool) → (k == i) ≡ r
-          → AtMost m.store.incumbent (with_entry m.given i bound k)
-      given bound low k h is true e = subst (AtMost m.store.incumbent) (sym (entry_here m.given i k bound e)) low
-      given bound low k h is false e = subst (AtMost m.store.incumbent) (sym (entry_else m.given i k bound e)) (l.given k h (sym (entry_else m.counts.leases i k _ e) ∙ is))
+      given : (bound : Option ℕ) → m.known i bound ≡ true → (k : ℕ) → m.known k (with_entry m.given i bound k) ≡ true
+      given bound known k = by_cases (k == i)
+          (λ e. ap (m.known k) (entry_here m.given i k bound e) ∙ ap (λ j. m.known j bound) (equal k i e) ∙ known)
+          (λ e. ap (m.known k) (entry_else m.given i k bound e) ∙ l.given k)
 
       backed : m.counts.leases i ≡ None → (u : ℕ) → (HasGoalWithin p.space p.guide m.store u ⊎ IsTold m u)
           → HasGoalWithin p.space p.guide m.store u ⊎ ((j : ℕ) × (h : Grant) × (c : ℕ) × (with_entry m.counts.leases i (Some (record { block = b; quota = q })) j ≡ Some h) × (with_entry m.told i None j ≡ Some c) × (c ≤ u))
@@ -250,104 +229,94 @@ module _ (p : Setup) (greatest_cost : ℕ) (is_setup : IsSetup p greatest_cost) 
   renew_keeps m n i used q l s =
       let t = passes p.blocks p.settings m.counts (Renew i used q) s.may in
       let none = no_trouble p.blocks p.settings m.counts (Renew i used q) refl s.may in
-      is_at n (counts_after p.blocks p.settings m.counts (Renew i used q)) n.store (with_entry m.given i s.rows.1.0) (with_entry m.told i None) m.broken s.counts refl s.rows.1.2 s.rows.2 s.rows.3 (record {
+      is_at n (counts_after p.blocks p.settings m.counts (Renew i used q)) n.store (with_entry m.given i s.rows.1.0) (with_entry m.told i None) (with_incumbent m.known n.store.incumbent) m.broken s.counts refl s.rows.1.2 s.rows.2 s.rows.3 s.rows.4 (record {
         counts = event_keeps p.blocks p.settings m.counts (Renew i used q) l.counts s.may;
-        reached = reached_more m i used 0 _ n.store _ _ m.broken l s.rows.0 refl (omega arith);
+        reached = reached_more m i used 0 _ n.store _ _ (with_incumbent m.known n.store.incumbent) m.broken l s.rows.0 refl (omega arith) (λ j. known_more (m.known j) n.store.incumbent);
         weight = same_weight m i used 0 n.store l s.rows.0;
-        given = λ k h is. given s.rows.1.0 s.rows.1.1 k h is (k == i) refl;
+        is_known = λ k. known_new (m.known k) n.store.incumbent;
+        least = least_back m i used 0 n.store l s.rows.0;
+        given = λ k. given s.rows.1.0 (subst (λ (f : ℕ → Option ℕ → Bool). f i s.rows.1.0 ≡ true) s.rows.3 s.rows.1.1) k;
         backed = backed_after m i used 0 n.store (with_entry m.counts.leases i (with_quota q (m.counts.leases i))) l s.rows.0 (λ j h e is. entry_else m.counts.leases i j _ e ∙ is);
-        teller = teller_but m i (with_entry m.counts.leases i (with_quota q (m.counts.leases i))) n.store.incumbent l (λ j h e is. entry_else m.counts.leases i j _ e ∙ is) (fell m i used 0 n.store s.rows.0);
+        teller = teller_but m i (with_entry m.counts.leases i (with_quota q (m.counts.leases i))) (with_incumbent m.known n.store.incumbent) l (λ j h e is. entry_else m.counts.leases i j _ e ∙ is) (λ j. known_more (m.known j) n.store.incumbent);
         told = told_but m i l;
         quiet = λ e. still p.blocks p.settings m.counts.end Quiet t.0 e;
         budget = λ e. still p.blocks p.settings m.counts.end Budget t.0 e;
-        few_broken = omega (arith, l.few_broken, out_same p.settings.workers i q m.counts.leases);
-        broken_ends = inl (none_broken m l none t.0);
+        reported = reported_still p m (counts_after p.blocks p.settings m.counts (Renew i used q)) l none none refl (λ k e. none_broken p m l none t.0 k e) (omega arith);
       })
     where
-      given : (bound : Option ℕ) → AtMost n.store.incumbent bound → (k : ℕ) (h : Grant) → with_entry m.counts.leases i (with_quota q (m.counts.leases i)) k ≡ Some h → (r : Bool) → (k == i) ≡ r
-          → AtMost n.store.incumbent (with_entry m.given i bound k)
-      given bound low k h is true e = subst (AtMost n.store.incumbent) (sym (entry_here m.given i k bound e)) low
-      given bound low k h is false e =
-          subst (AtMost n.store.incumbent) (sym (entry_else m.given i k bound e))
-          (at_most_trans n.store.incumbent m.store.incumbent (m.given k) (fell m i used 0 n.store s.rows.0) (l.given k h (sym (entry_else m.counts.leases i k _ e) ∙ is)))
+      given : (bound : Option ℕ) → with_incumbent m.known n.store.incumbent i bound ≡ true → (k : ℕ) → with_incumbent m.known n.store.incumbent k (with_entry m.given i bound k) ≡ true
+      given bound known k = by_cases (k == i)
+          (λ e. ap (with_incumbent m.known n.store.incumbent k) (entry_here m.given i k bound e) ∙ ap (λ j. with_incumbent m.known n.store.incumbent j bound) (equal k i e) ∙ known)
+          (λ e. ap (with_incumbent m.known n.store.incumbent k) (entry_else m.given i k bound e) ∙ known_more (m.known k) n.store.incumbent (m.given k) (l.given k))
 
   -- a lease came back for good; it broke off no more expansions than it reports want of memory
-  release_keeps : (m n : Machine) (i used : ℕ) (memory : Bool) (few : ℕ) → IsLawful p m → refusal p.blocks p.settings m.counts (Release i used memory) ≡ None
-      → n.counts ≡ counts_after p.blocks p.settings m.counts (Release i used memory) → CameBack p m i used few n.store → n.given ≡ m.given → n.told ≡ with_entry m.told i None → n.broken ≡ m.broken + few
-      → few ≤ 1 → BrokenEnds (counts_after p.blocks p.settings m.counts (Release i used memory)) (m.broken + few) → IsLawful p n
-  release_keeps m n i used memory few l may counts back given told broken at_most_one ends =
-      let known = l.counts.known i back.grant back.leased in
-      let out = out_still p.blocks p.settings m.counts.leases i back.grant known.0 back.leased in
-      is_at n (counts_after p.blocks p.settings m.counts (Release i used memory)) n.store m.given (with_entry m.told i None) (m.broken + few) counts refl given told broken (record {
+  release_keeps : (m n : Machine) (i used : ℕ) (memory : Bool) (few : ℕ) (broken : ℕ → Bool) → IsLawful p m → refusal p.blocks p.settings m.counts (Release i used memory) ≡ None
+      → n.counts ≡ counts_after p.blocks p.settings m.counts (Release i used memory) → CameBack p m i used few n.store → n.given ≡ m.given → n.told ≡ with_entry m.told i None → n.known ≡ with_incumbent m.known n.store.incumbent → n.broken ≡ broken
+      → broken_leases p m + few ≤ count_below p.settings.workers broken → AreReported p.settings.workers (counts_after p.blocks p.settings m.counts (Release i used memory)) broken → IsLawful p n
+  release_keeps m n i used memory few broken l may counts back given told known same enough reported =
+      let out = out_still p.blocks p.settings m.counts.leases i back.grant (l.counts.known i back.grant back.leased).0 back.leased in
+      is_at n (counts_after p.blocks p.settings m.counts (Release i used memory)) n.store m.given (with_entry m.told i None) (with_incumbent m.known n.store.incumbent) broken counts refl given told known same (record {
         counts = event_keeps p.blocks p.settings m.counts (Release i used memory) l.counts may;
-        reached = reached_more m i used few _ n.store _ _ (m.broken + few) l back refl refl;
+        reached = reached_more m i used few _ n.store _ _ (with_incumbent m.known n.store.incumbent) broken l back refl enough (λ j. known_more (m.known j) n.store.incumbent);
         weight = same_weight m i used few n.store l back;
-        given = λ k h is. at_most_trans n.store.incumbent m.store.incumbent (m.given k) (fell m i used few n.store back) (l.given k h (released_was p.blocks p.settings m.counts.leases i k h is));
+        is_known = λ k. known_new (m.known k) n.store.incumbent;
+        least = least_back m i used few n.store l back;
+        given = λ k. known_more (m.known k) n.store.incumbent (m.given k) (l.given k);
         backed = backed_after m i used few n.store (with_entry m.counts.leases i None) l back (λ j h e is. entry_else m.counts.leases i j None e ∙ is);
-        teller = teller_but m i (with_entry m.counts.leases i None) n.store.incumbent l (λ j h e is. entry_else m.counts.leases i j None e ∙ is) (fell m i used few n.store back);
+        teller = teller_but m i (with_entry m.counts.leases i None) (with_incumbent m.known n.store.incumbent) l (λ j h e is. entry_else m.counts.leases i j None e ∙ is) (λ j. known_more (m.known j) n.store.incumbent);
         told = told_but m i l;
         quiet = λ e. not_both (is_any_out p.settings.workers m.counts.leases) out (l.counts.quiet e);
         budget = λ e. not_both (is_any_out p.settings.workers m.counts.leases) out (l.counts.budget e).0;
-        few_broken = omega (arith, l.few_broken, at_most_one, out_less p.settings.workers i m.counts.leases back.grant known.0 back.leased);
-        broken_ends = ends;
+        reported = reported;
       })
-
-  -- after a release with want of memory that end stands, or comes next
-  memory_ends : (m : Machine) (i used : ℕ) → IsLawful p m → m.counts.trouble ≡ false → (grant : Grant) → m.counts.leases i ≡ Some grant → BrokenEnds (counts_after p.blocks p.settings m.counts (Release i used true)) (m.broken + 1)
-  memory_ends m i used l report grant is = go m.counts.end refl
-    where
-      out : is_any_out p.settings.workers m.counts.leases ≡ true
-      out = out_still p.blocks p.settings m.counts.leases i grant (l.counts.known i grant is).0 is
-
-      go : (o : Option End) → m.counts.end ≡ o → BrokenEnds (counts_after p.blocks p.settings m.counts (Release i used true)) (m.broken + 1)
-      go None e = let whole = none_broken m l report (ap is_some e) in inr (inl (ap is_none e, omega (arith, whole)))
-      go (Some Quiet) e = not_both (is_any_out p.settings.workers m.counts.leases) out (l.counts.quiet e)
-      go (Some Budget) e = not_both (is_any_out p.settings.workers m.counts.leases) out (l.counts.budget e).0
-      go (Some Memory) e = inr (inr e)
 
   -- nothing but the counts changed, and no worker has more than it had
   rows_keep : (m n : Machine) (e : Event) → IsLawful p m → refusal p.blocks p.settings m.counts e ≡ None → n.counts ≡ counts_after p.blocks p.settings m.counts e
       → KeepsRows m n
       → (counts_after p.blocks p.settings m.counts e).leases ≡ m.counts.leases → (counts_after p.blocks p.settings m.counts e).spent ≡ m.counts.spent
       → ((counts_after p.blocks p.settings m.counts e).end ≡ Some Quiet → IsQuiet m.store) → ((counts_after p.blocks p.settings m.counts e).end ≡ Some Budget → (block : ℕ) × HasOpened (m.store.rows block))
-      → BrokenEnds (counts_after p.blocks p.settings m.counts e) m.broken → IsLawful p n
-  rows_keep m n e l may counts rows leases spent quiet budget ends =
-      is_at n (counts_after p.blocks p.settings m.counts e) m.store m.given m.told m.broken counts rows.0 rows.1 rows.2 rows.3 (record {
+      → AreReported p.settings.workers (counts_after p.blocks p.settings m.counts e) m.broken → IsLawful p n
+  rows_keep m n e l may counts rows leases spent quiet budget reported =
+      is_at n (counts_after p.blocks p.settings m.counts e) m.store m.given m.told m.known m.broken counts rows.0 rows.1 rows.2 rows.3 rows.4 (record {
         counts = event_keeps p.blocks p.settings m.counts e l.counts may;
-        reached = record { first_weight = l.reached.first_weight; is_weight = l.reached.is_weight; works = l.reached.works; comes = l.reached.comes; spent = l.reached.spent ∙ sym spent; broken = l.reached.broken; reopened = l.reached.reopened; between = l.reached.between };
+        reached = record { first_weight = l.reached.first_weight; is_weight = l.reached.is_weight; works = l.reached.works; comes = l.reached.comes; spent = l.reached.spent ∙ sym spent; broken = l.reached.broken; reopened = l.reached.reopened; between = l.reached.between; read = l.reached.read };
         weight = l.weight;
-        given = λ k h is. l.given k h (sym (λ j. leases j k) ∙ is);
+        is_known = l.is_known;
+        least = l.least;
+        given = l.given;
         backed = λ u is. subst (λ (f : ℕ → Option Grant). HasGoalWithin p.space p.guide m.store u ⊎ ((j : ℕ) × (h : Grant) × (c : ℕ) × (f j ≡ Some h) × (m.told j ≡ Some c) × (c ≤ u))) (sym leases) (l.backed u is);
         teller = λ k u is. let t = l.teller k u is in ((t.0.0, (λ j. leases j k) ∙ t.0.1), t.1);
         told = l.told;
         quiet = quiet;
         budget = budget;
-        few_broken = subst (λ (f : ℕ → Option Grant). m.broken + leases_out p.settings.workers f ≤ p.settings.workers) (sym leases) l.few_broken;
-        broken_ends = ends;
+        reported = reported;
       })
-
-  -- the end that follows from a report, or another one
-  ended_broken : (m : Machine) (e : End) → IsLawful p m → refusal p.blocks p.settings m.counts (Ended e) ≡ None → is_some m.counts.end ≡ false → BrokenEnds (counts_after p.blocks p.settings m.counts (Ended e)) m.broken
-  ended_broken m Quiet l may no_end = inl (none_broken m l (no_trouble p.blocks p.settings m.counts (Ended Quiet) refl may) no_end)
-  ended_broken m Budget l may no_end = inl (none_broken m l (no_trouble p.blocks p.settings m.counts (Ended Budget) refl may) no_end)
-  ended_broken m Memory l may no_end = inr (inr refl)
 
   pub event_keeps_lawful : (m n : Machine) (e : Event) → IsLawful p m → Happens p m e n → IsLawful p n
   event_keeps_lawful m n (Lease i b q) l s = lease_keeps m n i b q l s
   event_keeps_lawful m n (Renew i used q) l s = renew_keeps m n i used q l s
-  event_keeps_lawful m n (Hot i b) l s = rows_keep m n (Hot i b) l s.may s.counts s.rows.1 refl refl l.quiet l.budget (broken_kept m (counts_after p.blocks p.settings m.counts (Hot i b)) l (no_trouble p.blocks p.settings m.counts (Hot i b) refl s.may) refl)
-  event_keeps_lawful m n (Cold i b) l s = rows_keep m n (Cold i b) l s.may s.counts s.rows refl refl l.quiet l.budget (broken_kept m (counts_after p.blocks p.settings m.counts (Cold i b)) l (no_trouble p.blocks p.settings m.counts (Cold i b) refl s.may) refl)
+  event_keeps_lawful m n (Hot i b) l s =
+      let none = no_trouble p.blocks p.settings m.counts (Hot i b) refl s.may in
+      rows_keep m n (Hot i b) l s.may s.counts s.rows.1 refl refl l.quiet l.budget (reported_still p m (counts_after p.blocks p.settings m.counts (Hot i b)) l none none refl (λ k e. (l.reported.released k e).1) (omega arith))
+  event_keeps_lawful m n (Cold i b) l s =
+      let none = no_trouble p.blocks p.settings m.counts (Cold i b) refl s.may in
+      rows_keep m n (Cold i b) l s.may s.counts s.rows refl refl l.quiet l.budget (reported_still p m (counts_after p.blocks p.settings m.counts (Cold i b)) l none none refl (λ k e. (l.reported.released k e).1) (omega arith))
   event_keeps_lawful m n (Release i used false) l s =
-      release_keeps m n i used false 0 l s.may s.counts s.rows.0 s.rows.1 s.rows.2 (s.rows.3 ∙ omega arith) (omega arith)
-      (subst (BrokenEnds (counts_after p.blocks p.settings m.counts (Release i used false))) (omega arith) (broken_kept m (counts_after p.blocks p.settings m.counts (Release i used false)) l (no_trouble p.blocks p.settings m.counts (Release i used false) refl s.may) refl))
-  event_keeps_lawful m n (Release i used true) l s = release_keeps m n i used true 1 l s.may s.counts s.rows.0 s.rows.1 s.rows.2 s.rows.3 (omega arith) (memory_ends m i used l (no_trouble p.blocks p.settings m.counts (Release i used true) refl s.may) s.rows.0.grant s.rows.0.leased)
-  event_keeps_lawful m n (Off i memory) l s = rows_keep m n (Off i memory) l s.may s.counts s.rows refl refl l.quiet l.budget (broken_kept m (counts_after p.blocks p.settings m.counts (Off i memory)) l (no_trouble p.blocks p.settings m.counts (Off i memory) refl s.may) refl)
+      let none = no_trouble p.blocks p.settings m.counts (Release i used false) refl s.may in
+      release_keeps m n i used false 0 m.broken l s.may s.counts s.rows.0 s.rows.1 s.rows.2 s.rows.3 s.rows.4 (omega arith)
+      (reported_still p m (counts_after p.blocks p.settings m.counts (Release i used false)) l none refl refl
+      (λ k e. by_cases (k == i) (λ here. entry_here m.counts.leases i k None here) (λ other. entry_else m.counts.leases i k None other ∙ (l.reported.released k e).1)) (omega arith))
+  event_keeps_lawful m n (Release i used true) l s =
+      let none = no_trouble p.blocks p.settings m.counts (Release i used true) refl s.may in
+      release_keeps m n i used true 1 (with_entry m.broken i true) l s.may s.counts s.rows.0 s.rows.1 s.rows.2 s.rows.3 s.rows.4
+      (let more = broken_more p m i s.rows.0.grant l s.rows.0.leased in omega (arith, more)) (reported_release p m i used s.rows.0.grant l none s.rows.0.leased)
+  event_keeps_lawful m n (Off i memory) l s = rows_keep m n (Off i memory) l s.may s.counts s.rows refl refl l.quiet l.budget (reported_off p m i memory l s.may)
   event_keeps_lawful m n (Ended Quiet) l s =
-      rows_keep m n (Ended Quiet) l s.may s.counts s.rows.1 refl refl (λ _. s.rows.0) (λ (e : ◌≡◌ {A = Option End} (Some Quiet) (Some Budget)). cc) (ended_broken m Quiet l s.may (passes p.blocks p.settings m.counts (Ended Quiet) s.may).0)
+      rows_keep m n (Ended Quiet) l s.may s.counts s.rows.1 refl refl (λ _. s.rows.0) (λ (e : ◌≡◌ {A = Option End} (Some Quiet) (Some Budget)). cc) (reported_end p m Quiet l s.may)
   event_keeps_lawful m n (Ended Budget) l s =
-      rows_keep m n (Ended Budget) l s.may s.counts s.rows.1 refl refl (λ (e : ◌≡◌ {A = Option End} (Some Budget) (Some Quiet)). cc) (λ _. s.rows.0) (ended_broken m Budget l s.may (passes p.blocks p.settings m.counts (Ended Budget) s.may).0)
+      rows_keep m n (Ended Budget) l s.may s.counts s.rows.1 refl refl (λ (e : ◌≡◌ {A = Option End} (Some Budget) (Some Quiet)). cc) (λ _. s.rows.0) (reported_end p m Budget l s.may)
   event_keeps_lawful m n (Ended Memory) l s =
-      rows_keep m n (Ended Memory) l s.may s.counts s.rows refl refl (λ (e : ◌≡◌ {A = Option End} (Some Memory) (Some Quiet)). cc) (λ (e : ◌≡◌ {A = Option End} (Some Memory) (Some Budget)). cc) (ended_broken m Memory l s.may (passes p.blocks p.settings m.counts (Ended Memory) s.may).0)
+      rows_keep m n (Ended Memory) l s.may s.counts s.rows refl refl (λ (e : ◌≡◌ {A = Option End} (Some Memory) (Some Quiet)). cc) (λ (e : ◌≡◌ {A = Option End} (Some Memory) (Some Budget)). cc) (reported_end p m Memory l s.may)
 
   -- a told cost keeps the machine lawful
   pub tell_keeps_lawful : (m n : Machine) (i u : ℕ) → IsLawful p m → Tells p m i u n → IsLawful p n
@@ -355,7 +324,7 @@ module _ (p : Setup) (greatest_cost : ℕ) (is_setup : IsSetup p greatest_cost) 
       let opening : Store = opening_store p.space p.guide l.reached.first_weight in
       let lowered : Store = record { rows = m.store.rows; incumbent = lesser m.store.incumbent (Some u); weight = m.store.weight } in
       let all = work_goes_on p.space p.guide l.reached.works (lower u ∷ []) opening m.store lowered l.reached.comes (tt, refl) in
-      is_at n m.counts (record { rows = m.store.rows; incumbent = lesser m.store.incumbent (Some u); weight = m.store.weight }) m.given (with_entry m.told i (lesser (m.told i) (Some u))) m.broken s.counts s.store s.given s.told s.broken (record {
+      is_at n m.counts (record { rows = m.store.rows; incumbent = lesser m.store.incumbent (Some u); weight = m.store.weight }) m.given (with_entry m.told i (lesser (m.told i) (Some u))) (with_incumbent (with_entry m.known i (with_known (m.known i) (Some u))) (lesser m.store.incumbent (Some u))) m.broken s.counts s.store s.given s.told (s.known ∙ ap (λ (q : Store). with_incumbent (with_entry m.known i (with_known (m.known i) (Some u))) q.incumbent) s.store) s.broken (record {
         counts = l.counts;
         reached = record {
           first_weight = l.reached.first_weight;
@@ -366,29 +335,73 @@ module _ (p : Setup) (greatest_cost : ℕ) (is_setup : IsSetup p greatest_cost) 
           broken = omega (arith, all.2, l.reached.broken);
           reopened = omega (arith, all.4, l.reached.reopened);
           between = reopens_append p.space p.guide l.reached.works (lower u ∷ []) opening m.store l.reached.comes l.reached.between tt;
+          read = λ first. all_append (IsRead (with_incumbent (with_entry m.known i (with_known (m.known i) (Some u))) (lesser m.store.incumbent (Some u)))) l.reached.works (lower u ∷ [])
+              (all_of (IsRead m.known) (IsRead (with_incumbent (with_entry m.known i (with_known (m.known i) (Some u))) (lesser m.store.incumbent (Some u))))
+              (read_more m.known (with_incumbent (with_entry m.known i (with_known (m.known i) (Some u))) (lesser m.store.incumbent (Some u)))
+              (λ k o h. known_more (with_entry m.known i (with_known (m.known i) (Some u)) k) (lesser m.store.incumbent (Some u)) o (own_more k o h)))
+              l.reached.works (l.reached.read first)) (
+                (
+                  i,
+                  known_more (with_entry m.known i (with_known (m.known i) (Some u)) i) (lesser m.store.incumbent (Some u)) (Some u)
+                      (ap (λ (f : Option ℕ → Bool). f (Some u)) (entry_here m.known i i (with_known (m.known i) (Some u)) (equal_self i)) ∙ known_new (m.known i) (Some u)),
+                ),
+                tt,
+              );
         };
         weight = l.weight;
-        given = λ k h is. at_most_trans (lesser m.store.incumbent (Some u)) m.store.incumbent (m.given k) (lesser_at_most m.store.incumbent (Some u)) (l.given k h is);
+        is_known = λ k. known_new (with_entry m.known i (with_known (m.known i) (Some u)) k) (lesser m.store.incumbent (Some u));
+        least = least;
+        given = λ k. known_more (with_entry m.known i (with_known (m.known i) (Some u)) k) (lesser m.store.incumbent (Some u)) (m.given k) (own_more k (m.given k) (l.given k));
         backed = λ x is. backed x (lesser_cases m.store.incumbent u x is);
         teller = λ k x is. teller k x is;
         told = λ k x is. told k x is;
         quiet = l.quiet;
         budget = l.budget;
-        few_broken = l.few_broken;
-        broken_ends = l.broken_ends;
+        reported = l.reported;
       })
     where
-      teller : (k x : ℕ) → with_entry m.told i (lesser (m.told i) (Some u)) k ≡ Some x → ((h : Grant) × (m.counts.leases k ≡ Some h)) × AtMost (lesser m.store.incumbent (Some u)) (Some x)
-      teller k x is = by_cases (k == i)
-          (λ e. ((s.grant, ap m.counts.leases (equal k i e) ∙ s.leased), which x (lesser_cases (m.told i) u x (sym (entry_here m.told i k _ e) ∙ is))))
-          (λ e. let t = l.teller k x (sym (entry_else m.told i k _ e) ∙ is) in
-          (t.0, at_most_trans (lesser m.store.incumbent (Some u)) m.store.incumbent (Some x) (lesser_at_most m.store.incumbent (Some u)) t.1))
+      -- what each worker knows, where this one knows the cost that it told
+      own_more : (k : ℕ) (o : Option ℕ) → m.known k o ≡ true → with_entry m.known i (with_known (m.known i) (Some u)) k o ≡ true
+      own_more k o h = by_cases (k == i)
+          (λ e. ap (λ (f : Option ℕ → Bool). f o) (entry_here m.known i k (with_known (m.known i) (Some u)) e) ∙ known_more (m.known i) (Some u) o (ap (λ j. m.known j o) (sym (equal k i e)) ∙ h))
+          (λ e. ap (λ (f : Option ℕ → Bool). f o) (entry_else m.known i k (with_known (m.known i) (Some u)) e) ∙ h)
+
+      low : (o : Option ℕ) (k : ℕ) → m.known k o ≡ true → AtMost (lesser m.store.incumbent (Some u)) o
+      low o k known = at_most_trans (lesser m.store.incumbent (Some u)) m.store.incumbent o (lesser_at_most m.store.incumbent (Some u)) (l.least k o known)
+
+      own_least : (k : ℕ) (o : Option ℕ) → with_entry m.known i (with_known (m.known i) (Some u)) k o ≡ true → AtMost (lesser m.store.incumbent (Some u)) o
+      own_least k o h = by_cases (k == i)
+          (λ e. which (or_true (is_same o (Some u)) (m.known i o) (sym (ap (λ (f : Option ℕ → Bool). f o) (entry_here m.known i k (with_known (m.known i) (Some u)) e)) ∙ h)))
+          (λ e. low o k (sym (ap (λ (f : Option ℕ → Bool). f o) (entry_else m.known i k (with_known (m.known i) (Some u)) e)) ∙ h))
         where
-          which : (x : ℕ) → ((u ≤ x) ⊎ ((before : ℕ) × (m.told i ≡ Some before) × (before ≤ x))) → AtMost (lesser m.store.incumbent (Some u)) (Some x)
-          which x (inl le) = at_most_trans (lesser m.store.incumbent (Some u)) (Some u) (Some x) (lesser_below m.store.incumbent u) le
-          which x (inr h) =
-              at_most_trans (lesser m.store.incumbent (Some u)) m.store.incumbent (Some x) (lesser_at_most m.store.incumbent (Some u))
-              (at_most_trans m.store.incumbent (Some h.0) (Some x) (l.teller i h.0 h.1).1 h.2)
+          which : ((is_same o (Some u) ≡ true) ⊎ (m.known i o ≡ true)) → AtMost (lesser m.store.incumbent (Some u)) o
+          which (inl same) = subst (λ (v : Option ℕ). AtMost (lesser m.store.incumbent (Some u)) v) (sym (same_is o (Some u) same)) (lesser_below m.store.incumbent u)
+          which (inr known) = low o i known
+
+      least : (k : ℕ) (o : Option ℕ) → with_known (with_entry m.known i (with_known (m.known i) (Some u)) k) (lesser m.store.incumbent (Some u)) o ≡ true → AtMost (lesser m.store.incumbent (Some u)) o
+      least k o h = which (or_true (is_same o (lesser m.store.incumbent (Some u))) (with_entry m.known i (with_known (m.known i) (Some u)) k o) h)
+        where
+          which : ((is_same o (lesser m.store.incumbent (Some u)) ≡ true) ⊎ (with_entry m.known i (with_known (m.known i) (Some u)) k o ≡ true)) → AtMost (lesser m.store.incumbent (Some u)) o
+          which (inl same) = subst (λ (v : Option ℕ). AtMost (lesser m.store.incumbent (Some u)) v) (sym (same_is o (lesser m.store.incumbent (Some u)) same)) (at_most_self (lesser m.store.incumbent (Some u)))
+          which (inr known) = own_least k o known
+
+      teller : (k x : ℕ) → with_entry m.told i (lesser (m.told i) (Some u)) k ≡ Some x
+          → ((h : Grant) × (m.counts.leases k ≡ Some h)) × (with_known (with_entry m.known i (with_known (m.known i) (Some u)) k) (lesser m.store.incumbent (Some u)) (Some x) ≡ true)
+      teller k x is = by_cases (k == i)
+          (λ e. (
+            (s.grant, ap m.counts.leases (equal k i e) ∙ s.leased),
+            known_more (with_entry m.known i (with_known (m.known i) (Some u)) k) (lesser m.store.incumbent (Some u)) (Some x)
+                (ap (λ (f : Option ℕ → Bool). f (Some x)) (entry_here m.known i k (with_known (m.known i) (Some u)) e) ∙ told_known (sym (entry_here m.told i k _ e) ∙ is)),
+          ))
+          (λ e. let t = l.teller k x (sym (entry_else m.told i k _ e) ∙ is) in
+          (t.0, known_more (with_entry m.known i (with_known (m.known i) (Some u)) k) (lesser m.store.incumbent (Some u)) (Some x) (own_more k (Some x) t.1)))
+        where
+          told_known : lesser (m.told i) (Some u) ≡ Some x → with_known (m.known i) (Some u) (Some x) ≡ true
+          told_known h = which (lesser_one (m.told i) u)
+            where
+              which : ((lesser (m.told i) (Some u) ≡ Some u) ⊎ (lesser (m.told i) (Some u) ≡ m.told i)) → with_known (m.known i) (Some u) (Some x) ≡ true
+              which (inl new) = ap (with_known (m.known i) (Some u)) (sym h ∙ new) ∙ known_new (m.known i) (Some u)
+              which (inr old) = known_more (m.known i) (Some u) (Some x) (l.teller i x (sym old ∙ h)).1
 
       told : (k x : ℕ) → with_entry m.told i (lesser (m.told i) (Some u)) k ≡ Some x → HasPlan x
       told k x is = by_cases (k == i)
@@ -396,7 +409,7 @@ module _ (p : Setup) (greatest_cost : ℕ) (is_setup : IsSetup p greatest_cost) 
           (λ e. l.told k x (sym (entry_else m.told i k _ e) ∙ is))
         where
           which : (x : ℕ) → ((u ≤ x) ⊎ ((before : ℕ) × (m.told i ≡ Some before) × (before ≤ x))) → HasPlan x
-          which x (inl le) = plan_within u x le (worked_plan m i s.grant s.used s.few u s.worked l s.leased s.work s.shown)
+          which x (inl le) = plan_within u x le (worked_plan m i s.grant s.used 1 u s.worked l s.leased s.work s.shown)
           which x (inr h) = plan_within h.0 x h.2 (l.told i h.0 h.1)
 
       old : (x y : ℕ) → y ≤ x → HasGoalWithin p.space p.guide m.store y ⊎ IsTold m y
@@ -422,16 +435,17 @@ module _ (p : Setup) (greatest_cost : ℕ) (is_setup : IsSetup p greatest_cost) 
   pub opening_keeps : p.reopenings ≡ 0 → IsLawful p (opening_machine p)
   opening_keeps first = record {
     counts = opening_lawful p.blocks p.settings 0 (omega arith);
-    reached = record { first_weight = weight_of p.settings; is_weight = is_setup.weight; works = []; comes = refl; spent = refl; broken = omega arith; reopened = sym first; between = tt };
+    reached = record { first_weight = weight_of p.settings; is_weight = is_setup.weight; works = []; comes = refl; spent = refl; broken = omega arith; reopened = sym first; between = tt; read = λ _. tt };
     weight = refl;
-    given = λ i h (is : ◌≡◌ {A = Option Grant} None (Some h)). cc;
+    is_known = λ k. refl;
+    least = λ k o h. subst (λ (v : Option ℕ). AtMost None v) (sym (same_is o None h)) tt;
+    given = λ i. refl;
     backed = λ u (is : ◌≡◌ {A = Option ℕ} None (Some u)). cc;
     teller = λ i u (is : ◌≡◌ {A = Option ℕ} None (Some u)). cc;
     told = λ i u (is : ◌≡◌ {A = Option ℕ} None (Some u)). cc;
     quiet = λ (e : ◌≡◌ {A = Option End} None (Some Quiet)). cc;
     budget = λ (e : ◌≡◌ {A = Option End} None (Some Budget)). cc;
-    few_broken = let few = out_small p.settings.workers (λ i. None) in omega (arith, few);
-    broken_ends = inl refl;
+    reported = record { released = λ k e. absurd (true≢false (sym e)); waiting = λ h. absurd (true≢false (sym h)); ended = λ (e : ◌≡◌ {A = Option End} None (Some Memory)). cc };
   }
 
 pub opening_is_lawful : OpeningIsLawful

@@ -8,7 +8,7 @@ use lib.ListN.{get_elem?}
 use Rattle.pb_model.proofs.Tests.{by_cases, not_both, equal, equal_self}
 use Rattle.pb_machine.specs.declared.event.Event.{Event}
 use Rattle.pb_machine.specs.History.{is_event_of, events_of, StartsWith}
-use Rattle.pb_machine.specs.Views.{Share, IsShareOf, IsAmong}
+use Rattle.pb_machine.specs.Views.{Share, AreDistinct, IsShareOf, IsAmong}
 
 -- ---- places of a list
 
@@ -89,6 +89,18 @@ begins_other (x ∷ a) (y ∷ b) r s e le =
     let more = begins_other a b r s rest (omega arith) in
     (more.0, ap (λ z. z ∷ b) (sym first) ∙ ap (λ xs. x ∷ xs) more.1)
 
+-- a beginning of a journal is no longer than it, and as long a one is the journal
+pub no_longer : (journal seen : List Event) → StartsWith journal seen → length seen ≤ length journal
+no_longer journal seen starts =
+    let sum : length journal ≡ length seen + length starts.0 = ap length starts.1 ∙ length-append seen starts.0 in
+    omega (arith, sum)
+
+pub all_seen : (journal seen : List Event) → StartsWith journal seen → length journal ≤ length seen → seen ≡ journal
+all_seen journal seen starts le =
+    let sum : length journal ≡ length seen + length starts.0 = ap length starts.1 ∙ length-append seen starts.0 in
+    let none : starts.0 ≡ [] = none_left starts.0 (omega (arith, sum, le)) in
+    sym (starts.1 ∙ ap (λ xs. seen ++ xs) none ∙ append-nil seen)
+
 -- a longer beginning of the journal has the events that a shorter one has all of
 pub covered_more : (journal a b : List Event) (worker : ℕ) (events : List Event) → StartsWith journal a → StartsWith journal b → length a ≤ length b
     → events_of worker journal ≡ events → events_of worker a ≡ events → events_of worker b ≡ events
@@ -128,3 +140,30 @@ among_left worker (x ∷ xs) ys (inr h) = inr (among_left worker xs ys h)
 pub among_right : (worker : ℕ) (xs ys : List Share) → IsAmong worker ys → IsAmong worker (xs ++ ys)
 among_right worker [] ys h = h
 among_right worker (x ∷ xs) ys h = inr (among_right worker xs ys h)
+
+-- the seat of a worker among these shares
+pub has_seat : (journal seen : List Event) (made : ℕ) (seat_of : ℕ → ℕ) (seat worker : ℕ) (shares : List Share) → AllByRecursion (IsRight journal seen made seat_of seat) shares → IsAmong worker shares → seat_of worker ≡ seat
+has_seat journal seen made seat_of seat worker [] right h = absurd h
+has_seat journal seen made seat_of seat worker (x ∷ xs) right (inl is) = ap seat_of (sym is) ∙ right.0.2
+has_seat journal seen made seat_of seat worker (x ∷ xs) right (inr h) = has_seat journal seen made seat_of seat worker xs right.1 h
+
+-- who is among two lists of shares is among one of them
+pub among_one : (worker : ℕ) (xs ys : List Share) → IsAmong worker (xs ++ ys) → IsAmong worker xs ⊎ IsAmong worker ys
+among_one worker [] ys h = inr h
+among_one worker (x ∷ xs) ys (inl h) = inl (inl h)
+among_one worker (x ∷ xs) ys (inr h) = go (among_one worker xs ys h)
+  where
+    go : (IsAmong worker xs ⊎ IsAmong worker ys) → IsAmong worker (x ∷ xs) ⊎ IsAmong worker ys
+    go (inl is) = inl (inr is)
+    go (inr is) = inr is
+
+-- shares of two seats are of workers that differ
+pub distinct_append : (journal seen other_seen : List Event) (made : ℕ) (seat_of : ℕ → ℕ) (seat other : ℕ) (xs ys : List Share) → other ≢ seat
+    → AllByRecursion (IsRight journal seen made seat_of seat) xs → AllByRecursion (IsRight journal other_seen made seat_of other) ys → AreDistinct xs → AreDistinct ys → AreDistinct (xs ++ ys)
+distinct_append journal seen other_seen made seat_of seat other [] ys apart right theirs d e = e
+distinct_append journal seen other_seen made seat_of seat other (x ∷ xs) ys apart right theirs d e = (
+  all_append (λ share. (share.worker == x.worker) ≡ false) xs ys d.0
+      (all_of (IsRight journal other_seen made seat_of other) (λ share. (share.worker == x.worker) ≡ false)
+      (λ share is. differs share.worker x.worker (λ same. apart (sym is.2 ∙ ap seat_of same ∙ right.0.2))) ys theirs),
+  distinct_append journal seen other_seen made seat_of seat other xs ys apart right.1 theirs d.1 e,
+)

@@ -1,19 +1,21 @@
 -- A machine that is opened again with another weight.
-use Rattle.std.proofs.Common.{◌≡◌, ℕ, false, [], ◌∷◌, ◌++◌, Option, Some, None, refl, sym, ap, ◌∙◌, inl, inr, arith}
+use Rattle.std.proofs.Common.{true≢false, true, ◌≡◌, ◌⊎◌, ℕ, false, [], ◌∷◌, ◌++◌, Option, Some, None, refl, sym, ap, subst, ◌∙◌, inl, inr, arith}
 use Rattle.pb_model.specs.Weight.{Weight, IsWeight}
-use Rattle.pb_model.specs.Store.{Store}
+use Rattle.pb_model.specs.Store.{Store, AtMost}
 use Rattle.pb_model.specs.Work.{reopen, store_after, opening_store}
 use Rattle.pb_model.proofs.Locality.{work_goes_on, reopens_append}
 use Rattle.pb_machine.specs.declared.event.End.{End}
 use Rattle.pb_machine.specs.declared.event.End.TheVariants.{Quiet, Budget, Memory}
-use Rattle.pb_machine.specs.declared.event.Grant.{Grant}
 use Rattle.pb_machine.specs.Counts.{quota_of, is_any_out}
 use Rattle.pb_machine.specs.Machine.{Setup, IsSetup, Machine}
-use Rattle.pb_machine.specs.Lawful.{IsLawful, reopened_machine, reopened_setup}
+use Rattle.pb_machine.specs.Lawful.{broken_leases, IsLawful, reopened_machine, reopened_setup}
 use Rattle.pb_machine.specs.Laws.{ReopeningIsLawful}
-use Rattle.pb_machine.proofs.TableLaws.{sum_zero}
+use Rattle.pb_machine.proofs.TableLaws.{sum_zero, none_counted}
+use Rattle.pb_model.proofs.Tests.{by_cases}
 use Rattle.pb_machine.proofs.CountsLaws.{opening_lawful}
-use Rattle.pb_machine.proofs.Moments.{out_small, goal_still, BrokenEnds}
+use Rattle.pb_machine.proofs.Moments.{goal_still}
+use Rattle.pb_machine.proofs.Known.{same_is, same_self}
+use Rattle.pb_model.proofs.Incumbents.{at_most_self}
 use Rattle.pb_machine.proofs.MomentLaws.{none_leased_at, shown}
 
 module _ (p : Setup) (greatest_cost : ℕ) (is_setup : IsSetup p greatest_cost) where
@@ -34,28 +36,29 @@ module _ (p : Setup) (greatest_cost : ℕ) (is_setup : IsSetup p greatest_cost) 
           broken = omega (arith, all.2, l.reached.broken, whole);
           reopened = omega (arith, all.4, l.reached.reopened);
           between = reopens_append p.space p.guide l.reached.works (reopen x ∷ []) opening m.store l.reached.comes l.reached.between (l.quiet quiet, tt);
+          read = λ first. absurd (omega (arith, first));
         };
         weight = refl;
-        given = λ i h (is : ◌≡◌ {A = Option Grant} None (Some h)). cc;
+        is_known = λ k. same_self m.store.incumbent;
+        least = λ k o h. subst (λ (v : Option ℕ). AtMost m.store.incumbent v) (sym (same_is o m.store.incumbent h)) (at_most_self m.store.incumbent);
+        given = λ i. same_self m.store.incumbent;
         backed = λ u is. inl (goal_still p greatest_cost is_setup (reopen x ∷ []) m.store (store_after p.space p.guide (reopen x) m.store) u (heavy, refl) (shown p greatest_cost is_setup m u out l (l.backed u is)));
         teller = λ i u (is : ◌≡◌ {A = Option ℕ} None (Some u)). cc;
         told = λ i u (is : ◌≡◌ {A = Option ℕ} None (Some u)). cc;
         quiet = λ (e : ◌≡◌ {A = Option End} None (Some Quiet)). cc;
         budget = λ (e : ◌≡◌ {A = Option End} None (Some Budget)). cc;
-        few_broken = let few = out_small p.settings.workers (λ i. None) in omega (arith, few);
-        broken_ends = inl refl;
+        reported = record { released = λ k e. absurd (true≢false (sym e)); waiting = λ h. absurd (true≢false (sym h)); ended = λ (e : ◌≡◌ {A = Option End} None (Some Memory)). cc };
       }
     where
       out : is_any_out p.settings.workers m.counts.leases ≡ false
       out = l.counts.quiet quiet
 
-      whole : m.broken ≡ 0
-      whole = go l.broken_ends
+      whole : broken_leases p m ≡ 0
+      whole = none_counted p.settings.workers m.broken (λ k lt. by_cases (m.broken k) (λ e. go (l.reported.released k e).2) (λ e. e))
         where
-          go : BrokenEnds p greatest_cost is_setup m.counts m.broken → m.broken ≡ 0
-          go (inl e) = e
-          go (inr (inl t)) = let bad : ◌≡◌ {A = Option End} (Some Quiet) None = sym quiet ∙ l.counts.trouble t.0 in cc
-          go (inr (inr e)) = let bad : ◌≡◌ {A = Option End} (Some Quiet) (Some Memory) = sym quiet ∙ e in cc
+          go : {A : Type 0} → ((m.counts.trouble ≡ true) ⊎ (m.counts.end ≡ Some Memory)) → A
+          go (inl t) = let bad : ◌≡◌ {A = Option End} (Some Quiet) None = sym quiet ∙ l.counts.trouble t in cc
+          go (inr e) = let bad : ◌≡◌ {A = Option End} (Some Quiet) (Some Memory) = sym quiet ∙ e in cc
 
   -- nothing is out at a quiet end, so what the budget has beyond what was spent is left
   left_stays : (x : Weight) (m : Machine) → IsLawful p m → m.counts.end ≡ Some Quiet → (reopened_machine p x m).counts.left ≡ m.counts.left

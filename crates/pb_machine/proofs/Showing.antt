@@ -175,6 +175,6 @@ module _ (space : Space) (guide : Guide) where
 pub returns_show_work : ReturnsShowWork
 returns_show_work setup greatest_cost machine worker used few new is lawful back some same =
     let works = back.work.works in
-    let never = none_reopens setup greatest_cost is back.grant.block machine.store.incumbent works back.work.on in
+    let never = none_reopens setup greatest_cost is back.grant.block (machine.known worker) works back.work.on in
     let c = shows setup.space setup.guide works machine.store new never (comes_back setup greatest_cost is machine worker used few new lawful back) (omega (arith, back.work.used_is, some)) in
     not_same (machine.store.rows c.0 c.1) (subst (Changes (machine.store.rows c.0 c.1)) (same c.0 c.1) c.2)

@@ -9,7 +9,7 @@ use Rattle.pb_machine.specs.declared.event.Event.{Event}
 use Rattle.pb_machine.specs.History.{events_of}
 use Rattle.pb_machine.specs.Views.{Share, View, IsTrueOf, HasWorker, AreTrueOf, with_one_more, next_view}
 use Rattle.pb_machine.specs.JournalLaws.{SplittingKeepsViews}
-use Rattle.pb_machine.proofs.Places.{none_covered, differs, IsRight, set_else, set_here, at_set, at_longer, at_last, at_end, all_of}
+use Rattle.pb_machine.proofs.Places.{has_seat, none_covered, differs, IsRight, set_else, set_here, at_set, at_longer, at_last, at_end, all_of}
 
 module _ (workers : ℕ) (journal : List Event) (views : List View) (seat : ℕ) (view : View) (h : AreTrueOf workers journal views)
     (at : get_elem? views seat ≡ some view) (live : view.is_live ≡ true) (first : view.own.worker ≡ 0) (more : view.made < workers) where
@@ -23,7 +23,7 @@ module _ (workers : ℕ) (journal : List Event) (views : List View) (seat : ℕ)
   mine = h.each seat view at live
 
   counted : view.made ≡ h.made
-  counted = mine.counts_passes first
+  counted = mine.counts_passes (inl first)
 
   abbrev seat_of : ℕ → ℕ
   seat_of worker = cond (worker == h.made) (length views) (h.seat_of worker)
@@ -43,7 +43,12 @@ module _ (workers : ℕ) (journal : List Event) (views : List View) (seat : ℕ)
       (λ share right. (right.0, (let less = right.1 in omega (arith, less)), kept share.worker right.1 ∙ right.2)) shares all
 
   own : IsTrueOf journal (h.made + 1) seat_of seat old
-  own = record { seen = mine.seen; shares = shares_still view.seen seat (view.own ∷ view.taken_in) mine.shares; apart = mine.apart; counts_passes = λ is. ap (λ n. n + 1) counted }
+  own = record { seen = mine.seen; shares = shares_still view.seen seat (view.own ∷ view.taken_in) mine.shares; distinct = mine.distinct; counts_passes = λ is. ap (λ n. n + 1) counted; counts_none = λ none. absurd (none (inl first)) }
+
+  -- the new pass is not worker 0's
+  not_first : HasWorker 0 next → ⊥
+  not_first (inl is) = let less = mine.shares.0.1 in absurd (omega (arith, less, counted, is))
+  not_first (inr none) = none
 
   theirs : IsTrueOf journal (h.made + 1) seat_of (length views) next
   theirs =
@@ -51,8 +56,9 @@ module _ (workers : ℕ) (journal : List Event) (views : List View) (seat : ℕ)
       record {
         seen = mine.seen;
         shares = ((record { told = none; covered = none_covered journal view.seen view.made mine.seen none }, omega (arith, counted), new_seat view.made counted), tt);
-        apart = tt;
-        counts_passes = λ is. absurd (let less = mine.shares.0.1 in omega (arith, less, counted, is));
+        distinct = (tt, tt);
+        counts_passes = λ has. absurd (not_first has);
+        counts_none = λ none. refl;
       }
 
   others : (j : ℕ) (u : View) → j ≢ seat → get_elem? views j ≡ some u → u.is_live ≡ true → IsTrueOf journal (h.made + 1) seat_of j u
@@ -61,8 +67,9 @@ module _ (workers : ℕ) (journal : List Event) (views : List View) (seat : ℕ)
       record {
         seen = is.seen;
         shares = shares_still u.seen j (u.own ∷ u.taken_in) is.shares;
-        apart = is.apart;
-        counts_passes = λ zeroth. absurd (apart (sym is.shares.0.2 ∙ ap h.seat_of (zeroth ∙ sym first) ∙ mine.shares.0.2));
+        distinct = is.distinct;
+        counts_passes = λ has. absurd (apart (sym (has_seat journal u.seen h.made h.seat_of j 0 (u.own ∷ u.taken_in) is.shares has) ∙ ap h.seat_of (sym first) ∙ mine.shares.0.2));
+        counts_none = is.counts_none;
       }
 
   by_set : (j : ℕ) (u : View) → u.is_live ≡ true → ((j ≡ seat) × (old ≡ u)) ⊎ ((j ≢ seat) × (get_elem? views j ≡ some u)) → IsTrueOf journal (h.made + 1) seat_of j u
@@ -112,6 +119,25 @@ module _ (workers : ℕ) (journal : List Event) (views : List View) (seat : ℕ)
         has,
       )
 
+  -- who has seen the whole journal is that view still, or the one that was split, which has seen no less
+  whole : ((j : ℕ) × (u : View) × (get_elem? views j ≡ some u) × (u.is_live ≡ true) × (u.seen ≡ journal))
+      → (j : ℕ) × (u : View) × (get_elem? (set views seat old ++ next ∷ []) j ≡ some u) × (u.is_live ≡ true) × (u.seen ≡ journal)
+  whole (j, u, e, on, all) = by_cases (j == seat)
+      (λ same. (
+        seat,
+        old,
+        at_longer (set views seat old) (next ∷ []) seat old (set_here views seat view old at),
+        live,
+        ap (λ (v : View). v.seen) (some-injective view u (sym at ∙ ap (get_elem? views) (sym (equal j seat same)) ∙ e)) ∙ all,
+      ))
+      (λ differ. (
+        j,
+        u,
+        at_longer (set views seat old) (next ∷ []) j u (set_else views seat j old (λ p. not_both (j == seat) (ap (λ k. k == seat) p ∙ equal_self seat) differ) ∙ e),
+        on,
+        all,
+      ))
+
   split : AreTrueOf workers journal (set views seat old ++ next ∷ [])
   split = record {
     made = h.made + 1;
@@ -120,6 +146,7 @@ module _ (workers : ℕ) (journal : List Event) (views : List View) (seat : ℕ)
     each = λ j u e up. by_end j u up (at_end (set views seat old) next u j e);
     found = λ worker less. by_cases (worker == h.made) (λ e. last worker (equal worker h.made e)) (λ e. found worker (before worker less e) (h.found worker (before worker less e)));
     unmade = λ worker le. h.unmade worker (omega arith);
+    whole = whole h.whole;
   }
 
 pub splitting_keeps_views : SplittingKeepsViews

@@ -46,9 +46,6 @@ quota_of (Some grant) = grant.quota
 abbrev pub quotas_out : (workers : ℕ) → (ℕ → Option Grant) → ℕ
 quotas_out workers leases = sum_below workers (λ worker. quota_of (leases worker))
 
-abbrev pub leases_out : (workers : ℕ) → (ℕ → Option Grant) → ℕ
-leases_out workers leases = count_below workers (λ worker. is_some (leases worker))
-
 abbrev pub is_any_out : (workers : ℕ) → (ℕ → Option Grant) → Bool
 is_any_out workers leases = any_below workers (λ worker. is_some (leases worker))
 
@@ -108,7 +105,8 @@ pub record AreLawful (blocks : Blocks) (settings : Settings) (counts : Counts) :
   -- who has signed off is a worker without a lease, and an end stands, or follows from the report of want of memory
   pub off : (worker : ℕ) → IsTrue (counts.signed_off worker)
       → (worker < settings.workers) × (counts.leases worker ≡ None) × IsTrue (is_some counts.end || counts.trouble)
-  -- a report of want of memory waits only until the end that follows from it
+  -- A report of want of memory waits only until the end that follows from it. Until then nobody has signed off but who reported so.
   pub trouble : IsTrue counts.trouble → counts.end ≡ None
+  pub waiting : IsTrue counts.trouble → count_below settings.workers counts.signed_off ≤ 1
   pub quiet : counts.end ≡ Some Quiet → IsFalse (is_any_out settings.workers counts.leases)
   pub budget : counts.end ≡ Some Budget → IsFalse (is_any_out settings.workers counts.leases) × (counts.left ≡ 0)

@@ -19,7 +19,7 @@ use Rattle.pb_machine.specs.Legality.{is_stranger, refusal}
 use Rattle.pb_machine.specs.History.{replay, IsHistory, AreFinished, IsFirstRefused, first_refused, StartsWith, events_of, is_off, is_report, used_in}
 use Rattle.pb_machine.specs.Choice.{IsRival, MayBeLeased, IsFirstChoice, counts_with_lease_home}
 use Rattle.pb_machine.specs.Views.{View, IsShareOf, HasWorker, AreTrueOf, AreBy, first_view, spent_view, view_after, with_one_more, next_view, met_view}
-use Rattle.pb_machine.specs.Worked.{IsFinishedHistory, IsUnfinishedHistory, AreRefused, nine_cells, one_worker, nine_cells_journal, with_hot, visit, later_visits, ending, refused_journals}
+use Rattle.pb_machine.specs.Worked.{IsFinishedHistory, IsUnfinishedHistory, AreRefused, nine_cells, one_worker, nine_cells_journal, with_hot, visit, later_visits, ending, refused_journals, corridor, short_budget, corridor_journal, two_workers, two_workers_journal, both_report, refused_in_corridor, refused_of_two}
 
 -- ---- by the counts alone
 
@@ -46,6 +46,13 @@ BeginningsAreHistories =
 abbrev pub SpentIsUsed : Type 0
 SpentIsUsed = (blocks : Blocks) (settings : Settings) (before : ℕ) (journal : List Event) (counts : Counts)
     → IsHistory blocks settings before journal counts → counts.spent ≡ before + used_in journal
+
+-- So the used numbers never exceed the budget, with what was spent before; and at the budget's end they are all of it.
+abbrev pub UsedFitsBudget : Type 0
+UsedFitsBudget =
+    (blocks : Blocks) (settings : Settings) (before : ℕ) (journal : List Event) (counts : Counts)
+    → IsHistory blocks settings before journal counts
+    → (before + used_in journal ≤ settings.budget) × (counts.end ≡ Some Budget → before + used_in journal ≡ settings.budget)
 
 -- A worker has signed off exactly where one of its own events says so.
 abbrev pub SigningOffIsTold : Type 0
@@ -93,6 +100,14 @@ MemoryEndsAreReported =
     → (counts.end ≡ Some Memory
     → (start rest : List Event) × (report : Event) × IsTrue (is_report report) × (journal ≡ start ++ report ∷ Ended Memory ∷ rest))
     × (IsTrue counts.trouble → (start : List Event) × (report : Event) × IsTrue (is_report report) × (journal ≡ start ++ report ∷ []))
+
+-- And where an event reports want of memory while no end stands, the next event is the end that follows from it, if there is a next one.
+abbrev pub ReportsEndSearches : Type 0
+ReportsEndSearches =
+    (blocks : Blocks) (settings : Settings) (before : ℕ) (start rest : List Event) (report : Event) (between counts : Counts)
+    → IsHistory blocks settings before start between → between.end ≡ None → IsTrue (is_report report)
+    → IsHistory blocks settings before (start ++ report ∷ rest) counts
+    → (rest ≡ []) ⊎ ((later : List Event) × (rest ≡ Ended Memory ∷ later))
 
 -- With no lease out no block is hot.
 abbrev pub NoneOutNoneHot : Type 0
@@ -271,38 +286,44 @@ MeetingKeepsViews =
     → get_elem? (slice_set views seat (met_view view met)) other ≡ some met → IsTrue met.is_live
     → AreTrueOf workers journal (slice_set (slice_set views seat (met_view view met)) other spent_view)
 
--- A view that is true of the journal begins it and has all events of its worker; and where all other passes were taken in, each
--- worker's events are among those that it has, or there are none.
+-- A view that is true of the journal begins it and has all events of its worker; and where all other passes were taken in, it has
+-- seen the whole journal, and each worker's events are among those that it has, or there are none.
 abbrev pub LastViewsTellAll : Type 0
 LastViewsTellAll =
     (workers : ℕ) (journal : List Event) (views : List View) (seat : ℕ) (view : View) → AreTrueOf workers journal views
     → get_elem? views seat ≡ some view → IsTrue view.is_live
     → StartsWith journal view.seen × AllByRecursion (IsShareOf journal view.seen) (view.own ∷ view.taken_in)
     × (((other : ℕ) (left : View) → get_elem? views other ≡ some left → other ≢ seat → IsFalse left.is_live)
-    → (worker : ℕ) → HasWorker worker view ⊎ (events_of worker journal ≡ []))
+    → (view.seen ≡ journal) × ((worker : ℕ) → HasWorker worker view ⊎ (events_of worker journal ≡ [])))
 
--- Where a pass has taken in all others, as many were made as there are workers, and all that its view knows of have signed off, each
--- worker has. The first worker's view counts the passes that were made.
+-- Where a pass has taken in all others, whichever worker's it is, its view counts as many passes as there are workers, and all that the
+-- view knows of have signed off, each worker has.
 abbrev pub LastViewsSignOff : Type 0
 LastViewsSignOff =
-    (workers : ℕ) (journal : List Event) (views : List View) (seat : ℕ) (view : View) (truth : AreTrueOf workers journal views)
+    (workers : ℕ) (journal : List Event) (views : List View) (seat : ℕ) (view : View) → AreTrueOf workers journal views
     → get_elem? views seat ≡ some view → IsTrue view.is_live
     → ((other : ℕ) (left : View) → get_elem? views other ≡ some left → other ≢ seat → IsFalse left.is_live)
-    → truth.made ≡ workers → AllByRecursion (λ share. IsTrue (list_any is_off share.events)) (view.own ∷ view.taken_in)
+    → view.made ≡ workers → AllByRecursion (λ share. IsTrue (list_any is_off share.events)) (view.own ∷ view.taken_in)
     → (worker : ℕ) → worker < workers → IsTrue (list_any is_off (events_of worker journal))
 
 -- ---- worked journals
 
 -- The journal of a search over nine cells has 16 events, and one more where a block was marked hot; without its last line it is not
--- finished. A search whose first lease has nothing to expand has 4 events, and one that ends for want of memory at once has 2.
+-- finished. A search whose first lease has nothing to expand has 4 events, and one that ends for want of memory at once has 2. One
+-- that renews a lease and ends by its budget has 7. Two workers, of whom one marks a block hot and takes the mark away, have 23, and 11
+-- where both report want of memory; as long as one of them hasn't signed off, neither is finished.
 abbrev pub WorkedJournalsAreLegal : Type 0
 WorkedJournalsAreLegal =
-    IsFinishedHistory nine_cells one_worker nine_cells_journal 16
-    × IsFinishedHistory nine_cells one_worker (with_hot 1) 17
+    IsFinishedHistory nine_cells one_worker nine_cells_journal 16 Quiet 4
+    × IsFinishedHistory nine_cells one_worker (with_hot 1) 17 Quiet 4
     × IsUnfinishedHistory nine_cells one_worker (visit 0 1 ++ later_visits ++ Ended Quiet ∷ [])
-    × IsFinishedHistory nine_cells one_worker (visit 0 0 ++ ending) 4
-    × IsFinishedHistory nine_cells one_worker (Off 0 true ∷ Ended Memory ∷ []) 2
+    × IsFinishedHistory nine_cells one_worker (visit 0 0 ++ ending) 4 Quiet 0
+    × IsFinishedHistory nine_cells one_worker (Off 0 true ∷ Ended Memory ∷ []) 2 Memory 0
+    × IsFinishedHistory corridor short_budget corridor_journal 7 Budget 5
+    × IsFinishedHistory nine_cells two_workers two_workers_journal 23 Quiet 6
+    × IsFinishedHistory nine_cells two_workers both_report 11 Memory 4
+    × IsUnfinishedHistory nine_cells two_workers (visit 0 0 ++ ending)
 
--- Journals that differ from it in one place are refused there, and so are a few that try the reasons that these leave.
+-- Journals that differ from these in a few places are refused there: each reason of each event, and the first of several.
 abbrev pub WorkedJournalsAreRefused : Type 0
-WorkedJournalsAreRefused = AreRefused refused_journals
+WorkedJournalsAreRefused = AreRefused nine_cells refused_journals × AreRefused corridor refused_in_corridor × AreRefused nine_cells refused_of_two

@@ -1,27 +1,52 @@
 -- What is true of the lease machine at every moment.
-use Rattle.std.specs.Prelude.{◌≡◌, ℕ, ◌+◌, ◌≤◌, IsTrue, List, Some, None, ◌⊎◌}
+use Rattle.std.specs.Prelude.{◌≡◌, ℕ, ◌+◌, ◌<◌, ◌≤◌, Bool, false, ◌&&◌, ◌||◌, ◌==◌, IsTrue, IsFalse, List, Option, Some, None, ◌⊎◌, ⊤}
+use Rattle.std.specs.List.{AllByRecursion}
 use Rattle.pb_model.specs.Weight.{Weight, IsWeight}
 use Rattle.pb_model.specs.Plan.{Plan, IsPlan}
 use Rattle.pb_model.specs.Store.{HasGoalWithin, HasOpened, IsQuiet, AtMost}
-use Rattle.pb_model.specs.Work.{Work, reopen, Comes, expansions, broken_expansions, reopenings, ReopensQuiet, opening_store, store_after}
+use Rattle.pb_model.specs.Work.{Work, lower, reopen, Comes, expansions, broken_expansions, reopenings, ReopensQuiet, opening_store, store_after}
 use Rattle.pb_machine.specs.declared.event.End.TheVariants.{Quiet, Budget, Memory}
 use Rattle.pb_machine.specs.declared.event.Grant.{Grant}
 use Rattle.pb_machine.specs.Settings.{weight_of, settings_with_weight}
-use Rattle.pb_machine.specs.Counts.{opening_counts, leases_out, AreLawful}
-use Rattle.pb_machine.specs.Machine.{Setup, Machine}
+use Rattle.pb_machine.specs.Tables.{count_below}
+use Rattle.pb_machine.specs.Counts.{Counts, opening_counts, AreLawful}
+use Rattle.pb_machine.specs.Machine.{Setup, is_same, Machine}
 
--- The store comes from an opening one by exactly the expansions that were settled, by at most one broken one for each lease that was
--- released with want of memory, and by as many reopenings as there were, each where no row was Opened. Without a reopening the first
--- weight is that of the settings.
+-- how many workers' leases were released with want of memory
+abbrev pub broken_leases : Setup → Machine → ℕ
+broken_leases setup machine = count_below setup.settings.workers machine.broken
+
+-- how many workers' leases were released with want of memory, and how many workers have signed off, together
+abbrev pub reports : (workers : ℕ) → Counts → (broken : ℕ → Bool) → ℕ
+reports workers counts broken = count_below workers broken + count_below workers counts.signed_off
+
+-- What holds of want of memory. A worker whose lease was released with it takes no other lease: the search ends by its report, or ended so
+-- before. A report that waits for its end was made by one worker, by its release or by its sign-off, and an end for want of memory
+-- by at least one.
+pub record AreReported (workers : ℕ) (counts : Counts) (broken : ℕ → Bool) : Type 0 where
+  pub released : (worker : ℕ) → IsTrue (broken worker) → (worker < workers) × (counts.leases worker ≡ None)
+      × (IsTrue counts.trouble ⊎ (counts.end ≡ Some Memory))
+  pub waiting : IsTrue counts.trouble → reports workers counts broken ≡ 1
+  pub ended : counts.end ≡ Some Memory → 0 < reports workers counts broken
+
+-- a cost that the work lowers the incumbent to is known to some worker
+abbrev pub IsRead : (known : (worker : ℕ) → Option ℕ → Bool) → Work → Type 0
+IsRead known (lower cost) = (worker : ℕ) × IsTrue (known worker (Some cost))
+IsRead known work = ⊤
+
+-- The store comes from an opening one by exactly the expansions that were settled, by at most one broken one for each worker whose lease
+-- was released with want of memory, and by as many reopenings as there were, each where no row was Opened. Without a reopening the first
+-- weight is that of the settings, and the work reads no number that no worker can have read.
 pub record IsReached (setup : Setup) (machine : Machine) : Type 0 where
   pub first_weight : Weight
   pub is_weight : IsWeight first_weight
   pub works : List Work
   pub comes : Comes setup.space setup.guide works (opening_store setup.space setup.guide first_weight) machine.store
   pub spent : expansions works ≡ machine.counts.spent
-  pub broken : broken_expansions works ≤ machine.broken
+  pub broken : broken_expansions works ≤ broken_leases setup machine
   pub reopened : reopenings works ≡ setup.reopenings
   pub between : ReopensQuiet setup.space setup.guide works (opening_store setup.space setup.guide first_weight)
+  pub read : setup.reopenings ≡ 0 → AllByRecursion (IsRead machine.known) works
 
 -- some worker that has a lease told this cost or a lower one
 abbrev pub IsTold : Machine → (cost : ℕ) → Type 0
@@ -32,23 +57,30 @@ pub record IsLawful (setup : Setup) (machine : Machine) : Type 0 where
   pub counts : AreLawful setup.blocks setup.settings machine.counts
   pub reached : IsReached setup machine
   pub weight : machine.store.weight ≡ weight_of setup.settings
-  -- the incumbent that a lease was given was not lower than the incumbent is now
-  pub given : (worker : ℕ) (grant : Grant) → machine.counts.leases worker ≡ Some grant
-      → AtMost machine.store.incumbent (machine.given worker)
+  -- the incumbent is known to each worker, and no known one is lower; so nothing that a worker read is
+  pub is_known : (worker : ℕ) → IsTrue (machine.known worker machine.store.incumbent)
+  pub least : (worker : ℕ) (incumbent : Option ℕ) → IsTrue (machine.known worker incumbent) → AtMost machine.store.incumbent incumbent
+  -- the incumbent that a worker's lease was given is known to it
+  pub given : (worker : ℕ) → IsTrue (machine.known worker (machine.given worker))
   -- the incumbent is backed by a goal's row, or by a worker that told it and has still to bring the row
   pub backed : (cost : ℕ) → machine.store.incumbent ≡ Some cost
       → HasGoalWithin setup.space setup.guide machine.store cost ⊎ IsTold machine cost
-  -- a told cost is told by a worker that has a lease, and the incumbent is no greater
+  -- a told cost is told by a worker that has a lease, and is known to it; so the incumbent is no greater
   pub teller : (worker cost : ℕ) → machine.told worker ≡ Some cost → ((grant : Grant) × (machine.counts.leases worker ≡ Some grant))
-      × AtMost machine.store.incumbent (Some cost)
+      × IsTrue (machine.known worker (Some cost))
   -- each told cost is at least that of a plan
   pub told : (worker cost : ℕ) → machine.told worker ≡ Some cost → (plan : Plan) × IsPlan setup.space plan × (plan.cost ≤ cost)
   pub quiet : machine.counts.end ≡ Some Quiet → IsQuiet machine.store
   pub budget : machine.counts.end ≡ Some Budget → (block : ℕ) × HasOpened (machine.store.rows block)
-  -- no more expansions were broken off than there are workers without a lease
-  pub few_broken : machine.broken + leases_out setup.settings.workers machine.counts.leases ≤ setup.settings.workers
-  -- and the first that does so ends the search
-  pub broken_ends : (machine.broken ≡ 0) ⊎ ((IsTrue machine.counts.trouble × (machine.broken ≤ 1)) ⊎ (machine.counts.end ≡ Some Memory))
+  pub reported : AreReported setup.settings.workers machine.counts machine.broken
+
+-- The worker, and no other, has signed off, or its lease was released with want of memory; and for this worker it is one of the two.
+pub record IsOnlyReporter (setup : Setup) (machine : Machine) (worker : ℕ) : Type 0 where
+  pub known : worker < setup.settings.workers
+  pub reported : IsTrue (machine.broken worker || machine.counts.signed_off worker)
+  pub once : IsFalse (machine.broken worker && machine.counts.signed_off worker)
+  pub unleased : machine.counts.leases worker ≡ None
+  pub no_other : (other : ℕ) → IsFalse (other == worker) → IsFalse (machine.broken other || machine.counts.signed_off other)
 
 -- The machine with another weight: rows that the weight doesn't let be cut are Opened again, nobody has signed off, and no end stands.
 -- What was spent and what is left stay.
@@ -57,9 +89,10 @@ reopened_machine setup weight machine =
     record {
       counts = opening_counts setup.settings machine.counts.spent;
       store = store_after setup.space setup.guide (reopen weight) machine.store;
-      given = λ worker. None;
+      given = λ worker. machine.store.incumbent;
       told = λ worker. None;
-      broken = 0;
+      known = λ worker incumbent. is_same incumbent machine.store.incumbent;
+      broken = λ worker. false;
     }
 
 abbrev pub reopened_setup : Setup → Weight → Setup

@@ -19,7 +19,7 @@ use Rattle.pb_machine.specs.History.{IsHistory}
 use Rattle.pb_machine.specs.Choice.{MayBeLeased}
 use Rattle.pb_machine.specs.Machine.{Setup, IsSetup, Machine, opening_machine, lent_store, IsWorked, HasWorked, CameBack, Move, Moves, Runs, journal_of}
 use Rattle.pb_machine.specs.Turns.{AreLeaseTurns, AreOnFirst, RunsInOrder}
-use Rattle.pb_machine.specs.Lawful.{IsLawful, reopened_machine, reopened_setup}
+use Rattle.pb_machine.specs.Lawful.{broken_leases, IsLawful, IsOnlyReporter, reopened_machine, reopened_setup}
 use Rattle.pb_machine.specs.Whole.{AreGone, IsWhole}
 
 -- ---- at every moment
@@ -66,11 +66,17 @@ abbrev pub IncumbentsFall : Type 0
 IncumbentsFall = (setup : Setup) (moves : List Move) (old new : Machine) → Runs setup old moves new
     → AtMost new.store.incumbent old.store.incumbent
 
--- No g exceeds the greatest cost of an action times the number of expansions so far: those settled, and the broken ones.
+-- What is known to a worker stays known to it. So whatever it has read it may have read, also later.
+abbrev pub KnownStays : Type 0
+KnownStays = (setup : Setup) (moves : List Move) (old new : Machine) → Runs setup old moves new
+    → (worker : ℕ) (incumbent : Option ℕ) → IsTrue (old.known worker incumbent) → IsTrue (new.known worker incumbent)
+
+-- No g exceeds the greatest cost of an action times the number of expansions so far: those settled, and a broken one for each worker
+-- whose lease was released with want of memory.
 abbrev pub CostsGrowByExpansions : Type 0
 CostsGrowByExpansions =
     (setup : Setup) (greatest_cost : ℕ) (machine : Machine) → IsSetup setup greatest_cost → IsLawful setup machine
-    → CostsAtMost machine.store (greatest_cost * (machine.counts.spent + machine.broken)) × (machine.broken ≤ setup.settings.workers)
+    → CostsAtMost machine.store (greatest_cost * (machine.counts.spent + broken_leases setup machine)) × (broken_leases setup machine ≤ setup.settings.workers)
 
 -- No g exceeds the greatest cost of an action times the number of expansions: those of the budget, and a broken one for each worker.
 abbrev pub CostsStaySmall : Type 0
@@ -85,12 +91,12 @@ CostsFit =
     → CostsAtMost machine.store (2 ^ 61 - 1)
 
 -- No g of a lease at work exceeds the greatest cost of an action times the number of expansions of the budget, and a broken one for
--- each worker, where the lease has made no more expansions than its quota, and at most one broken one.
+-- each worker, where the lease has made no more expansions than its quota, and perhaps a broken one.
 abbrev pub LeaseCostsStaySmall : Type 0
 LeaseCostsStaySmall =
     (setup : Setup) (greatest_cost : ℕ) (machine : Machine) (worker used most_broken : ℕ) (grant : Grant) (worked : Store)
     → IsSetup setup greatest_cost → IsLawful setup machine → machine.counts.leases worker ≡ Some grant
-    → HasWorked setup machine worker grant used most_broken worked → used ≤ grant.quota → most_broken ≤ 1
+    → HasWorked setup machine worker grant used most_broken worked → used ≤ grant.quota
     → CostsAtMost worked (greatest_cost * (setup.settings.budget + setup.settings.workers))
 
 -- So no g of such a lease leaves 61 bits either, where the settings are in range and no action costs more than 2 ^ 20.
@@ -98,7 +104,7 @@ abbrev pub LeaseCostsFit : Type 0
 LeaseCostsFit =
     (setup : Setup) (machine : Machine) (worker used most_broken : ℕ) (grant : Grant) (worked : Store)
     → IsSetup setup (2 ^ 20) → AreInRange setup.settings → IsLawful setup machine → machine.counts.leases worker ≡ Some grant
-    → HasWorked setup machine worker grant used most_broken worked → used ≤ grant.quota → most_broken ≤ 1
+    → HasWorked setup machine worker grant used most_broken worked → used ≤ grant.quota
     → CostsAtMost worked (2 ^ 61 - 1)
 
 -- No block is in the scopes of two leases.
@@ -152,15 +158,29 @@ ReopeningIsLawful =
     × ((reopened_machine setup weight machine).counts.left ≡ machine.counts.left)
     × ((reopened_machine setup weight machine).store.incumbent ≡ machine.store.incumbent)
 
+-- While a report of want of memory waits for its end, exactly one worker has signed off or released its lease so: the one that made it.
+abbrev pub WaitingReportsAreOne : Type 0
+WaitingReportsAreOne = (setup : Setup) (machine : Machine) → IsLawful setup machine → IsTrue machine.counts.trouble
+    → (worker : ℕ) × IsOnlyReporter setup machine worker
+
 -- ---- the work of a lease
 
--- Work of a lease goes on where it stopped, piece after piece, and what was not below an incumbent is not below a lower one.
+-- Work of a lease goes on where it stopped, piece after piece, where no expansion was broken off; and what was known stays so where
+-- more is.
 abbrev pub LeaseWorkGoesOn : Type 0
 LeaseWorkGoesOn =
-    (space : Space) (guide : Guide) (block used more few rest : ℕ) (least lower_least : Option ℕ) (given between worked : Store)
-    → (first : IsWorked space guide block used few least given between) (second : IsWorked space guide block more rest lower_least between worked)
-    → AtMost lower_least least
-    → (both : IsWorked space guide block (used + more) (few + rest) lower_least given worked) × (both.works ≡ first.works ++ second.works)
+    (space : Space) (guide : Guide) (block used more most_broken : ℕ) (known later_known : Option ℕ → Bool) (given between worked : Store)
+    → (first : IsWorked space guide block used 0 known given between) (second : IsWorked space guide block more most_broken later_known between worked)
+    → ((incumbent : Option ℕ) → IsTrue (known incumbent) → IsTrue (later_known incumbent))
+    → (both : IsWorked space guide block (used + more) most_broken later_known given worked) × (both.works ≡ first.works ++ second.works)
+
+-- Work of a lease is that also where more incumbents are known and more expansions may have been broken off.
+abbrev pub LeaseWorkStays : Type 0
+LeaseWorkStays =
+    (space : Space) (guide : Guide) (block used most_broken more_broken : ℕ) (known later_known : Option ℕ → Bool) (given worked : Store)
+    → (work : IsWorked space guide block used most_broken known given worked) → most_broken ≤ more_broken
+    → ((incumbent : Option ℕ) → IsTrue (known incumbent) → IsTrue (later_known incumbent))
+    → (later : IsWorked space guide block used more_broken later_known given worked) × (later.works ≡ work.works)
 
 -- Turns of a lease go on where they stopped: where some come after others, all together are such turns.
 abbrev pub LeaseTurnsGoOn : Type 0

@@ -1,11 +1,11 @@
 -- The lease machine with its rows. The machine has one whole store. A lease works on a copy of the rows of its scope, and the whole
 -- store takes them when the lease is renewed or released; so the rows at home are those of the blocks outside leased scopes.
-use Rattle.std.specs.Prelude.{◌≡◌, ℕ, ◌+◌, ◌≤◌, true, false, IsTrue, List, [], ◌∷◌, Option, Some, None}
+use Rattle.std.specs.Prelude.{◌≡◌, ℕ, ◌≤◌, Bool, true, false, ◌||◌, ◌==◌, IsTrue, List, [], ◌∷◌, Option, Some, None, ⊤}
 use Rattle.std.specs.List.{AllByRecursion}
 use Rattle.pb_model.specs.Space.{Space, IsProper}
 use Rattle.pb_model.specs.Weight.{IsWeight}
 use Rattle.pb_model.specs.Guide.{Guide}
-use Rattle.pb_model.specs.Store.{Store, HasGoalWithin, HasOpened, IsQuiet, lesser, AtMost}
+use Rattle.pb_model.specs.Store.{Store, HasGoalWithin, HasOpened, IsQuiet, lesser}
 use Rattle.pb_model.specs.Work.{Work, expand, break_off, cut, take_goal, lower, reopen, Comes, expansions, broken_expansions, opening_store}
 use Rattle.pb_model.specs.Local.{restriction, merged_store}
 use Rattle.pb_machine.specs.declared.event.End.TheVariants.{Quiet, Budget, Memory}
@@ -33,12 +33,29 @@ pub record IsSetup (setup : Setup) (greatest_cost : ℕ) : Type 0 where
   pub blocks : AreBlocks setup.space setup.guide setup.blocks
   pub weight : IsWeight (weight_of setup.settings)
 
+-- whether both are one cost, or both unknown
+abbrev pub is_same : Option ℕ → Option ℕ → Bool
+is_same None None = true
+is_same None (Some other) = false
+is_same (Some cost) None = false
+is_same (Some cost) (Some other) = cost == other
+
+-- what a worker can have read as the incumbent, and this one
+abbrev pub with_known : (known : Option ℕ → Bool) → (incumbent other : Option ℕ) → Bool
+with_known known incumbent other = is_same other incumbent || known other
+
+-- what each worker can have read, where this is the incumbent
+abbrev pub with_incumbent : (known : (worker : ℕ) → Option ℕ → Bool) → (incumbent : Option ℕ) → (worker : ℕ) → Option ℕ → Bool
+with_incumbent known incumbent worker = with_known (known worker) incumbent
+
 pub record Machine : Type 0 where
   pub counts : Counts
   pub store : Store
   pub given : ℕ → Option ℕ  -- by worker: the incumbent that its lease was given, or last renewed with
   pub told : ℕ → Option ℕ  -- by worker: the least cost that it has told since then, and not yet shown by a goal's row
-  pub broken : ℕ  -- how often a lease was released with want of memory
+  -- by worker: the incumbents that there were since the run began, and the costs that it told; it can have read no others
+  pub known : (worker : ℕ) → Option ℕ → Bool
+  pub broken : ℕ → Bool  -- by worker: its lease was released with want of memory
 
 abbrev pub opening_machine : Setup → Machine
 opening_machine setup =
@@ -47,39 +64,47 @@ opening_machine setup =
       store = opening_store setup.space setup.guide (weight_of setup.settings);
       given = λ worker. None;
       told = λ worker. None;
-      broken = 0;
+      known = λ worker incumbent. is_same incumbent None;
+      broken = λ worker. false;
     }
 
 -- ---- the work of a lease
 
--- The work is on a row of the block, or it lowers the lease's incumbent to a cost that is not below `least`, as where the worker
--- reads an incumbent that was that low. It is no reopening.
-abbrev pub IsOn : Guide → (block : ℕ) → (least : Option ℕ) → Work → Type 0
-IsOn guide block least (expand own) = guide.home own ≡ block
-IsOn guide block least (break_off own offers) = guide.home own ≡ block
-IsOn guide block least (cut own) = guide.home own ≡ block
-IsOn guide block least (take_goal own) = guide.home own ≡ block
-IsOn guide block least (lower cost) = AtMost least (Some cost)
-IsOn guide block least (reopen weight) = ⊥
+-- The work is on a row of the block, or it lowers the lease's incumbent to a cost that is known, as where the worker reads it. It is
+-- no reopening.
+abbrev pub IsOn : Guide → (block : ℕ) → (known : Option ℕ → Bool) → Work → Type 0
+IsOn guide block known (expand own) = guide.home own ≡ block
+IsOn guide block known (break_off own offers) = guide.home own ≡ block
+IsOn guide block known (cut own) = guide.home own ≡ block
+IsOn guide block known (take_goal own) = guide.home own ≡ block
+IsOn guide block known (lower cost) = IsTrue (known (Some cost))
+IsOn guide block known (reopen weight) = ⊥
+
+-- Want of memory ends the work: nothing comes after an expansion that was broken off. So there is one such at most.
+abbrev pub BreaksLast : List Work → Type 0
+BreaksLast [] = ⊤
+BreaksLast (break_off own offers ∷ works) = works ≡ []
+BreaksLast (work ∷ works) = BreaksLast works
 
 -- what a lease of the block is given, with this incumbent: the rows of the block's scope
 abbrev pub lent_store : Setup → (block : ℕ) → Store → (incumbent : Option ℕ) → Store
 lent_store setup block store incumbent = restriction (setup.blocks.scope block) store incumbent
 
 -- The lease's store comes from the one that it was given by work on its block: by exactly `used` expansions, at most this many broken
--- ones, and any number of cuts, of goals and of incumbents read that are not below `least`.
-pub record IsWorked (space : Space) (guide : Guide) (block used most_broken : ℕ) (least : Option ℕ) (given worked : Store) : Type 0 where
+-- ones, after which nothing comes, and any number of cuts, of goals and of known incumbents that were read.
+pub record IsWorked (space : Space) (guide : Guide) (block used most_broken : ℕ) (known : Option ℕ → Bool) (given worked : Store) : Type 0 where
   pub works : List Work
-  pub on : AllByRecursion (IsOn guide block least) works
+  pub on : AllByRecursion (IsOn guide block known) works
   pub comes : Comes space guide works given worked
   pub used_is : expansions works ≡ used
   pub few_broken : broken_expansions works ≤ most_broken
+  pub stops : BreaksLast works
 
--- This is what the worker's lease can have made of the rows that it was given or last renewed with: no incumbent that it read was lower
--- than that of the whole store is now.
+-- This is what the worker's lease can have made of the rows that it was given or last renewed with: what it read as the incumbent was
+-- one, or the worker told it.
 abbrev pub HasWorked : Setup → Machine → (worker : ℕ) → Grant → (used most_broken : ℕ) → (worked : Store) → Type 0
 HasWorked setup machine worker grant used most_broken worked =
-    IsWorked setup.space setup.guide grant.block used most_broken machine.store.incumbent (lent_store setup grant.block machine.store (machine.given worker)) worked
+    IsWorked setup.space setup.guide grant.block used most_broken (machine.known worker) (lent_store setup grant.block machine.store (machine.given worker)) worked
 
 -- The worker's lease came back, and the whole store took its rows and the lesser incumbent. What the worker told is shown by a
 -- goal's row among the rows that came back.
@@ -95,31 +120,30 @@ pub record CameBack (setup : Setup) (machine : Machine) (worker used most_broken
 
 -- only the counts change
 abbrev pub KeepsRows : (old new : Machine) → Type 0
-KeepsRows old new = (new.store ≡ old.store) × (new.given ≡ old.given) × (new.told ≡ old.told) × (new.broken ≡ old.broken)
+KeepsRows old new = (new.store ≡ old.store) × (new.given ≡ old.given) × (new.told ≡ old.told) × (new.known ≡ old.known) × (new.broken ≡ old.broken)
 
--- The worker's lease is given an incumbent that is not below the whole store's: that one, or one that was known before it fell.
+-- the worker's lease is given the incumbent, or one that was known before it fell
 abbrev pub GivesIncumbent : (old new : Machine) → (worker : ℕ) → Type 0
-GivesIncumbent old new worker = (incumbent : Option ℕ) × AtMost new.store.incumbent incumbent
-    × (new.given ≡ with_entry old.given worker incumbent)
+GivesIncumbent old new worker = (incumbent : Option ℕ) × IsTrue (new.known worker incumbent) × (new.given ≡ with_entry old.given worker incumbent)
 
 -- what an event does to the rows, and which rows it needs
 abbrev pub RowPart : Setup → (old : Machine) → Event → (new : Machine) → Type 0
 RowPart setup old (Lease worker block quota) new =
     HasOpened (old.store.rows block) × (new.store ≡ old.store) × GivesIncumbent old new worker
-    × (new.told ≡ with_entry old.told worker None) × (new.broken ≡ old.broken)
+    × (new.told ≡ with_entry old.told worker None) × (new.known ≡ old.known) × (new.broken ≡ old.broken)
 RowPart setup old (Renew worker used quota) new =
     CameBack setup old worker used 0 new.store × GivesIncumbent old new worker × (new.told ≡ with_entry old.told worker None)
-    × (new.broken ≡ old.broken)
+    × (new.known ≡ with_incumbent old.known new.store.incumbent) × (new.broken ≡ old.broken)
 RowPart setup old (Hot worker block) new =
     ((other : ℕ) → IsTrue (interferes setup.blocks block other) → IsTrue (old.counts.hot other) → IsBetter old.store other block → ⊥)
     × KeepsRows old new
 RowPart setup old (Cold worker block) new = KeepsRows old new
 RowPart setup old (Release worker used false) new =
     CameBack setup old worker used 0 new.store × (new.given ≡ old.given) × (new.told ≡ with_entry old.told worker None)
-    × (new.broken ≡ old.broken)
+    × (new.known ≡ with_incumbent old.known new.store.incumbent) × (new.broken ≡ old.broken)
 RowPart setup old (Release worker used true) new =
     CameBack setup old worker used 1 new.store × (new.given ≡ old.given) × (new.told ≡ with_entry old.told worker None)
-    × (new.broken ≡ old.broken + 1)
+    × (new.known ≡ with_incumbent old.known new.store.incumbent) × (new.broken ≡ with_entry old.broken worker true)
 RowPart setup old (Off worker memory) new = KeepsRows old new
 RowPart setup old (Ended Quiet) new = IsQuiet old.store × KeepsRows old new
 RowPart setup old (Ended Budget) new = ((block : ℕ) × HasOpened (old.store.rows block)) × KeepsRows old new
@@ -132,19 +156,19 @@ pub record Happens (setup : Setup) (old : Machine) (event : Event) (new : Machin
   pub rows : RowPart setup old event new
 
 -- A worker that has a lease tells a cost, and the incumbent is lowered to it. The rows of the lease, as it has worked on them so
--- far, have a goal's row that costs no more. No journal has this.
+-- far, with its last expansion broken off or not, have a goal's row that costs no more. No journal has this.
 pub record Tells (setup : Setup) (old : Machine) (worker cost : ℕ) (new : Machine) : Type 0 where
   pub grant : Grant
   pub leased : old.counts.leases worker ≡ Some grant
   pub used : ℕ
-  pub few : ℕ  -- at most this many expansions were broken off
   pub worked : Store
-  pub work : HasWorked setup old worker grant used few worked
+  pub work : HasWorked setup old worker grant used 1 worked
   pub shown : HasGoalWithin setup.space setup.guide worked cost
   pub counts : new.counts ≡ old.counts
   pub store : new.store ≡ record { rows = old.store.rows; incumbent = lesser old.store.incumbent (Some cost); weight = old.store.weight }
   pub given : new.given ≡ old.given
   pub told : new.told ≡ with_entry old.told worker (lesser (old.told worker) (Some cost))
+  pub known : new.known ≡ with_incumbent (with_entry old.known worker (with_known (old.known worker) (Some cost))) new.store.incumbent
   pub broken : new.broken ≡ old.broken
 
 pub data Move : Type 0 where

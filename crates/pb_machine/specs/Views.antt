@@ -1,6 +1,6 @@
 -- What each worker's pass keeps of a journal that grows in one place, where passes are split from the first one and are taken in
 -- by others. All views begin the one journal, and have their own workers' events.
-use Rattle.std.specs.Prelude.{◌≡◌, ℕ, ◌+◌, ◌<◌, ◌≤◌, Bool, true, false, IsTrue, IsFalse, if◌then◌else◌, ◌==◌, nat_lt, length, List, [], ◌∷◌, ◌++◌, ◌⊎◌}
+use Rattle.std.specs.Prelude.{◌≡◌, ℕ, ◌+◌, ◌<◌, ◌≤◌, Bool, true, false, IsTrue, IsFalse, if◌then◌else◌, ◌==◌, nat_lt, length, List, [], ◌∷◌, ◌++◌, ◌⊎◌, ⊤}
 use Rattle.std.specs.List.{AllByRecursion}
 use mathlib.Core.Option.{some}
 use lib.ListN.{get_elem?}
@@ -17,7 +17,21 @@ pub record View : Type 0 where
   pub own : Share  -- of the pass's worker
   pub seen : List Event  -- the journal as it stood when the pass, or one that it was split from or took in, last held it
   pub taken_in : List Share  -- of the passes that it took in, and of those that they had taken in
-  pub made : ℕ  -- in the view of worker 0's pass: how many passes were made
+  pub made : ℕ  -- in the view that has worker 0's events: how many passes were made; in any other 0
+
+-- whether the worker is among those whose events these are
+abbrev pub IsAmong : (worker : ℕ) → List Share → Type 0
+IsAmong worker [] = ⊥
+IsAmong worker (share ∷ shares) = (share.worker ≡ worker) ⊎ IsAmong worker shares
+
+-- the view has the worker's events, as its own or as those of a pass that it took in
+abbrev pub HasWorker : (worker : ℕ) → View → Type 0
+HasWorker worker view = IsAmong worker (view.own ∷ view.taken_in)
+
+-- the shares are of workers that differ
+abbrev pub AreDistinct : List Share → Type 0
+AreDistinct [] = ⊤
+AreDistinct (share ∷ shares) = AllByRecursion (λ other. IsFalse (other.worker == share.worker)) shares × AreDistinct shares
 
 -- the worker has these events in the journal, and all of them stand in what was seen
 pub record IsShareOf (journal seen : List Event) (share : Share) : Type 0 where
@@ -29,20 +43,12 @@ pub record IsShareOf (journal seen : List Event) (share : Share) : Type 0 where
 pub record IsTrueOf (journal : List Event) (made : ℕ) (seat_of : ℕ → ℕ) (seat : ℕ) (view : View) : Type 0 where
   pub seen : StartsWith journal view.seen
   pub shares : AllByRecursion (λ share. IsShareOf journal view.seen share × (share.worker < made) × (seat_of share.worker ≡ seat)) (view.own ∷ view.taken_in)
-  pub apart : AllByRecursion (λ share. IsFalse (share.worker == view.own.worker)) view.taken_in
-  pub counts_passes : view.own.worker ≡ 0 → view.made ≡ made
-
--- whether the worker is among those whose events these are
-abbrev pub IsAmong : (worker : ℕ) → List Share → Type 0
-IsAmong worker [] = ⊥
-IsAmong worker (share ∷ shares) = (share.worker ≡ worker) ⊎ IsAmong worker shares
-
--- the view has the worker's events, as its own or as those of a pass that it took in
-abbrev pub HasWorker : (worker : ℕ) → View → Type 0
-HasWorker worker view = IsAmong worker (view.own ∷ view.taken_in)
+  pub distinct : AreDistinct (view.own ∷ view.taken_in)
+  pub counts_passes : HasWorker 0 view → view.made ≡ made
+  pub counts_none : (HasWorker 0 view → ⊥) → view.made ≡ 0
 
 -- The views of all seats, where spent ones say nothing, are true of the journal. Each worker whose pass was made has one seat, and no
--- other has events.
+-- other has events. What all live views have seen together is the whole journal: one of them has seen it to its end.
 pub record AreTrueOf (workers : ℕ) (journal : List Event) (views : List View) : Type 0 where
   pub made : ℕ
   pub seat_of : ℕ → ℕ
@@ -52,6 +58,7 @@ pub record AreTrueOf (workers : ℕ) (journal : List Event) (views : List View) 
   pub found : (worker : ℕ) → worker < made → (view : View) × (get_elem? views (seat_of worker) ≡ some view) × IsTrue view.is_live
       × HasWorker worker view
   pub unmade : (worker : ℕ) → made ≤ worker → events_of worker journal ≡ []
+  pub whole : (seat : ℕ) × (view : View) × (get_elem? views seat ≡ some view) × IsTrue view.is_live × (view.seen ≡ journal)
 
 -- ---- how views change
 
@@ -84,4 +91,5 @@ longer first second = if nat_lt (length first) (length second) then second else 
 
 -- after its pass took in another's
 abbrev pub met_view : (view other : View) → View
-met_view view other = record view { seen = longer view.seen other.seen; taken_in = view.taken_in ++ other.own ∷ other.taken_in }
+met_view view other =
+    record view { seen = longer view.seen other.seen; taken_in = view.taken_in ++ other.own ∷ other.taken_in; made = view.made + other.made }

@@ -1,4 +1,4 @@
-ghost use Rattle.pb_machine.specs.JournalLaws.{HistoriesAreLawful, HistoriesGrow, BeginningsAreHistories, SigningOffIsTold, FinishedWorkersSignOff, RefusalsAreFirst, RefusedJournalsFail, NoneOutNoneHot, InterferenceIsMutual, BusyIsCounted, HotIsCounted, CountersFit, EventsChangeBusy, EventsChangeHot, MarksChangeHot, FirstChoicesAreUnique, RivalsAreUnique, ChosenLeasesAreLegal, ChosenRenewalsAreLegal, FirstViewsAreTrue, HoldingKeepsViews, SplittingKeepsViews, MeetingKeepsViews, LastViewsTellAll, WorkedJournalsAreLegal, WorkedJournalsAreRefused, LeasesAreOfWorkers, ReleasesAreLegal, MarksAreLegal, SignOffsAreLegal, EndsAreLegal, MemoryEndsAreReported, SignedOffIsFinished, LastViewsSignOff, CountersBeginAtNone, LeasedAreNeverHot, SpentIsUsed, ChoicesOutliveReleases, ReleasesCoolNear};
+ghost use Rattle.pb_machine.specs.JournalLaws.{HistoriesAreLawful, HistoriesGrow, BeginningsAreHistories, SigningOffIsTold, FinishedWorkersSignOff, RefusalsAreFirst, RefusedJournalsFail, NoneOutNoneHot, InterferenceIsMutual, BusyIsCounted, HotIsCounted, CountersFit, EventsChangeBusy, EventsChangeHot, MarksChangeHot, FirstChoicesAreUnique, RivalsAreUnique, ChosenLeasesAreLegal, ChosenRenewalsAreLegal, FirstViewsAreTrue, HoldingKeepsViews, SplittingKeepsViews, MeetingKeepsViews, LastViewsTellAll, WorkedJournalsAreLegal, WorkedJournalsAreRefused, LeasesAreOfWorkers, ReleasesAreLegal, MarksAreLegal, SignOffsAreLegal, EndsAreLegal, MemoryEndsAreReported, ReportsEndSearches, SignedOffIsFinished, LastViewsSignOff, CountersBeginAtNone, LeasedAreNeverHot, SpentIsUsed, UsedFitsBudget, ChoicesOutliveReleases, ReleasesCoolNear};
 
 /// A legal history leads to counts that are lawful.
 pub fn histories_are_lawful()
@@ -18,6 +18,11 @@ pub fn beginnings_are_histories()
 /// What is spent after a legal history is what was before, and the used numbers of its events.
 pub fn spent_is_used()
     ensures { SpentIsUsed }
+{}
+
+/// The used numbers of a legal history never exceed the budget, with what was spent before, and at the budget's end they are all of it.
+pub fn used_fits_budget()
+    ensures { UsedFitsBudget }
 {}
 
 /// A worker has signed off exactly where one of its own events says so.
@@ -140,17 +145,17 @@ pub fn meeting_keeps_views()
     ensures { MeetingKeepsViews }
 {}
 
-/// A view has all events of its worker, and the last one those of every worker.
+/// A view has all events of its worker; the last one has seen the whole journal, and has those of every worker.
 pub fn last_views_tell_all()
     ensures { LastViewsTellAll }
 {}
 
-/// The worked journal of a search over nine cells is a finished legal history.
+/// The worked journals of searches over nine cells and along a corridor are finished legal histories, with their ends.
 pub fn worked_journals_are_legal()
     ensures { WorkedJournalsAreLegal }
 {}
 
-/// Journals that differ from the worked one in one place are refused there.
+/// Journals that differ from the worked ones in a few places are refused there, for each reason that an event can have.
 pub fn worked_journals_are_refused()
     ensures { WorkedJournalsAreRefused }
 {}
@@ -188,12 +193,17 @@ pub fn memory_ends_are_reported()
     ensures { MemoryEndsAreReported }
 {}
 
+/// In a legal history a report of want of memory, while no end stands, is followed by the end for want of memory, or is the last event.
+pub fn reports_end_searches()
+    ensures { ReportsEndSearches }
+{}
+
 /// A legal history in which every worker has signed off, and where no report waits for its end, is finished.
 pub fn signed_off_is_finished()
     ensures { SignedOffIsFinished }
 {}
 
-/// Where one pass is left, as many were made as there are workers, and all that its view knows of have signed off, each worker has.
+/// Where one pass is left, its view counts as many passes as there are workers, and all that it knows of have signed off, each worker has.
 pub fn last_views_sign_off()
     ensures { LastViewsSignOff }
 {}

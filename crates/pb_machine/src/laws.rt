@@ -1,4 +1,4 @@
-ghost use Rattle.pb_machine.specs.Laws.{OpeningIsLawful, MovesKeepLawful, RunsAreLawful, JournalsAreHistories, LawfulStoresAreSound, IncumbentsArePlans, IncumbentsFall, CostsGrowByExpansions, CostsStaySmall, CostsFit, ScopesAreApart, NoneOutMayLease, QuietEndsAreBest, ReopeningIsLawful, LeaseWorkGoesOn, LeaseWorkStands, TurnsCarryOver, OrderedRunsAreRuns, ReturnsLeaveIncumbents, LeasingKeepsWhole, RenewingKeepsWhole, ReleasingKeepsWhole, OthersKeepWhole, AllIsHome, RecordedRowsAreLent, BudgetEndsAreSpent, NoneOutIsShown, ReturnsShowWork, LeaseTurnsGoOn, LeaseCostsStaySmall, LeaseCostsFit, RunsGoOn};
+ghost use Rattle.pb_machine.specs.Laws.{OpeningIsLawful, MovesKeepLawful, RunsAreLawful, JournalsAreHistories, LawfulStoresAreSound, IncumbentsArePlans, IncumbentsFall, KnownStays, CostsGrowByExpansions, CostsStaySmall, CostsFit, ScopesAreApart, NoneOutMayLease, QuietEndsAreBest, ReopeningIsLawful, LeaseWorkGoesOn, LeaseWorkStays, WaitingReportsAreOne, LeaseWorkStands, TurnsCarryOver, OrderedRunsAreRuns, ReturnsLeaveIncumbents, LeasingKeepsWhole, RenewingKeepsWhole, ReleasingKeepsWhole, OthersKeepWhole, AllIsHome, RecordedRowsAreLent, BudgetEndsAreSpent, NoneOutIsShown, ReturnsShowWork, LeaseTurnsGoOn, LeaseCostsStaySmall, LeaseCostsFit, RunsGoOn};
 
 /// The machine is lawful when it opens.
 pub fn opening_is_lawful()
@@ -35,6 +35,11 @@ pub fn incumbents_fall()
     ensures { IncumbentsFall }
 {}
 
+/// What a worker can have read as the incumbent it can have read later too.
+pub fn known_stays()
+    ensures { KnownStays }
+{}
+
 /// No g exceeds the greatest cost of an action times the number of expansions so far.
 pub fn costs_grow_by_expansions()
     ensures { CostsGrowByExpansions }
@@ -50,7 +55,7 @@ pub fn costs_fit()
     ensures { CostsFit }
 {}
 
-/// No g of a lease that keeps to its quota, with one broken expansion at most, exceeds what the budget and a broken one for each worker
+/// No g of a lease that keeps to its quota, with a broken expansion or without, exceeds what the budget and a broken one for each worker
 /// allow.
 pub fn lease_costs_stay_small()
     ensures { LeaseCostsStaySmall }
@@ -81,9 +86,19 @@ pub fn reopening_is_lawful()
     ensures { ReopeningIsLawful }
 {}
 
-/// Work of a lease goes on where it stopped.
+/// A report of want of memory that waits for its end was made by exactly one worker, and no other has signed off or released so.
+pub fn waiting_reports_are_one()
+    ensures { WaitingReportsAreOne }
+{}
+
+/// Work of a lease goes on where it stopped, unless an expansion was broken off.
 pub fn lease_work_goes_on()
     ensures { LeaseWorkGoesOn }
+{}
+
+/// Work of a lease is that also where more incumbents are known and more expansions may have been broken off.
+pub fn lease_work_stays()
+    ensures { LeaseWorkStays }
 {}
 
 /// Turns of a lease go on where they stopped.
