@@ -1,71 +1,124 @@
--- A map and a scenario together.
-use Rattle.std.proofs.Common.{◌≡◌, ℕ, IsTrue, List, refl, sym, subst, ◌∙◌}
-use Rattle.pb_task.specs.Grid.{IsGrid, class_at, is_passable}
-use Rattle.pb_task.specs.declared.parts.GridParts.{GridParts}
+-- Grids: what is read is what is spelled.
+use Rattle.std.proofs.Common.{◌≡◌, ℕ, suc, ◌+◌, ◌*◌, ◌<◌, true, ◌&&◌, Some, Result, Ok, Err, List, [], ◌∷◌, ◌++◌, length, map, eqb, ltb, refl, sym, subst, ap, ◌∙◌, arith, length-append}
+use Rattle.std.specs.List.{concat, AllByRecursion}
+use Rattle.std.proofs.lemmas.Bool.{eqb-true, eq-eqb, ltb-true, lt-ltb}
 use Rattle.pb_task.specs.declared.parts.Class.{Class}
-use Rattle.pb_task.specs.declared.parts.Class.TheVariants.{Land}
-use Rattle.pb_grid.specs.Form.{SpellsMap, SpellsGrid}
-use Rattle.pb_grid.specs.Pieces.{IsScenario}
-use Rattle.pb_grid.specs.Laws.{SpelledGridsAreUnique, SpelledGridsAreGrids}
-use Rattle.pb_grid.proofs.Maps.{same_map}
-use Rattle.pb_grid.proofs.Rows.{cells_of_rows}
-use Rattle.pb_grid.proofs.Scenarios.{to_pieces, from_pieces, size_same, start_same, goal_same}
+use Rattle.pb_task.specs.declared.parts.GridParts.{GridParts}
+use Rattle.pb_task.specs.Grid.{IsGrid}
+use Rattle.pb_grid.specs.declared.error.GridError.{GridError}
+use Rattle.pb_grid.specs.declared.error.GridError.TheVariants as errors
+use Rattle.pb_grid.specs.declared.map.MapParts.{MapParts}
+use Rattle.pb_grid.specs.declared.scenario.ScenarioParts.{ScenarioParts}
+use Rattle.pb_grid.specs.Lines.{lines_of}
+use Rattle.pb_grid.specs.Reading.{◌>>=◌, must, map_reading, scenario_reading, is_on_map, is_free, grid_of_parts, grid_reading, class_of_byte}
+use Rattle.pb_grid.specs.Form.{AreRows, SpellsScenario, SpellsGrid}
+use Rattle.pb_grid.specs.Laws.{ReadAsSpelled, SpelledGridsAreUnique, SpelledGridsAreGrids}
+use Rattle.pb_grid.proofs.Steps.{ok_is, bind_ok, must_ok, both_true, and_true}
+use Rattle.pb_grid.proofs.SpelledMaps.{map_spelled}
+use Rattle.pb_grid.proofs.SpelledScenarios.{scenario_spelled}
+use Rattle.pb_grid.proofs.ReadableMaps.{map_read}
+use Rattle.pb_grid.proofs.ReadableScenarios.{scenario_read}
 
-same_scenario : (text : List ℕ) (w h w' h' : ℕ) (s g s' g' : ℕ × ℕ) → IsScenario text w h s g → IsScenario text w' h' s' g' → (w ≡ w') × (h ≡ h') × (s ≡ s') × (g ≡ g')
-same_scenario text w h w' h' s g s' g' x y =
-    let size : (w ≡ w') × (h ≡ h') = size_same text w h s g x y.sizes y.head w' h' y.starts y.size_is in
-    let start : (s.0 ≡ s'.0) × (s.1 ≡ s'.1) = start_same text w h s g x y.sizes y.head w' h' y.starts y.size_is s'.0 s'.1 y.goals y.start_is in
-    let goal : (g.0 ≡ g'.0) × (g.1 ≡ g'.1) = goal_same text w h s g x y.sizes y.head w' h' y.starts y.size_is s'.0 s'.1 y.goals y.start_is g'.0 g'.1 y.last y.goal_is in
-    (size.0, size.1, (λ i. (start.0 i, start.1 i)), (λ i. (goal.0 i, goal.1 i)))
+-- the grid of a map and a scenario
+abbrev pub joined : MapParts → ScenarioParts → GridParts
+joined m s = record { width = m.width; height = m.height; cells = m.cells; start = s.start; goal = s.goal }
 
-module _ (map_text scenario_text : List ℕ) (grid : GridParts) (is : SpellsGrid map_text scenario_text grid) where
-  pub pieces : IsScenario scenario_text grid.width grid.height grid.start grid.goal
-  pieces = to_pieces scenario_text grid.width grid.height grid.start grid.goal is.scenario_is
+pub on_map : (width height : ℕ) (cell : ℕ × ℕ) → is_on_map width height cell ≡ true → (cell.0 < width) × (cell.1 < height)
+on_map width height cell e = let parts = both_true (ltb cell.0 width) (ltb cell.1 height) e in (ltb-true cell.0 width parts.0, ltb-true cell.1 height parts.1)
 
-  module _ (w h : ℕ) (cells : List Class) (map_is : SpellsMap map_text w h cells) (sw sh : ℕ) (s g : ℕ × ℕ) (scene_is : IsScenario scenario_text sw sh s g) where
-    one_map : (grid.width ≡ w) × (grid.height ≡ h) × (grid.cells ≡ cells)
-    one_map = same_map map_text grid.width grid.height w h grid.cells cells is.map_is map_is
+pub is_on : (width height : ℕ) (cell : ℕ × ℕ) → (cell.0 < width) × (cell.1 < height) → is_on_map width height cell ≡ true
+is_on width height cell within = and_true (ltb cell.0 width) (ltb cell.1 height) (lt-ltb cell.0 width within.0) (lt-ltb cell.1 height within.1)
 
-    one_scene : (grid.width ≡ sw) × (grid.height ≡ sh) × (grid.start ≡ s) × (grid.goal ≡ g)
-    one_scene = same_scenario scenario_text grid.width grid.height sw sh grid.start grid.goal s g pieces scene_is
+-- ---- from a reading to the texts
 
-    pub width_is : sw ≡ w
-    width_is = sym one_scene.0 ∙ one_map.0
+pub spelled : (map_text scenario_text : List ℕ) (row : ℕ) (grid : GridParts) → grid_reading map_text scenario_text row ≡ Ok grid → SpellsGrid map_text scenario_text row grid
+unfolding grid_reading grid_of_parts
+spelled map_text scenario_text row grid e =
+    let a = bind_ok (map_reading (lines_of map_text)) _ grid e in
+    let b = bind_ok (scenario_reading (lines_of scenario_text) row) _ grid a.2 in
+    let c = bind_ok (must errors.ScenarioSize (eqb b.0.width a.0.width && eqb b.0.height a.0.height)) _ grid b.2 in
+    let d = bind_ok (must errors.Outside (is_on_map a.0.width a.0.height b.0.start && is_on_map a.0.width a.0.height b.0.goal)) _ grid c.2 in
+    let f = bind_ok (must errors.StartBlocked (is_free (joined a.0 b.0) b.0.start)) _ grid d.2 in
+    let g = bind_ok (must errors.GoalBlocked (is_free (joined a.0 b.0) b.0.goal)) _ grid f.2 in
+    let sizes = both_true (eqb b.0.width a.0.width) (eqb b.0.height a.0.height) (must_ok errors.ScenarioSize _ c.0 c.1) in
+    let cells = both_true (is_on_map a.0.width a.0.height b.0.start) (is_on_map a.0.width a.0.height b.0.goal) (must_ok errors.Outside _ d.0 d.1) in
+    let scene : SpellsScenario scenario_text row a.0.width a.0.height b.0.start b.0.goal =
+    subst (λ w. SpellsScenario scenario_text row w a.0.height b.0.start b.0.goal) (eqb-true b.0.width a.0.width sizes.0)
+    (subst (λ h. SpellsScenario scenario_text row b.0.width h b.0.start b.0.goal) (eqb-true b.0.height a.0.height sizes.1) (scenario_spelled scenario_text row b.0 b.1)) in
+    subst (SpellsGrid map_text scenario_text row) (ok_is (joined a.0 b.0) grid g.2) (record {
+      map_is = map_spelled map_text a.0 a.1;
+      scenario_is = scene;
+      start_on_map = on_map a.0.width a.0.height b.0.start cells.0;
+      goal_on_map = on_map a.0.width a.0.height b.0.goal cells.1;
+      start_free = must_ok errors.StartBlocked (is_free (joined a.0 b.0) b.0.start) f.0 f.1;
+      goal_free = must_ok errors.GoalBlocked (is_free (joined a.0 b.0) b.0.goal) g.0 g.1;
+    })
 
-    pub height_is : sh ≡ h
-    height_is = sym one_scene.1 ∙ one_map.1
+-- ---- from the texts to a reading
 
-    pub grid_is : grid ≡ record { width = w; height = h; cells = cells; start = s; goal = g }
-    grid_is i = record { width = one_map.0 i; height = one_map.1 i; cells = one_map.2 i; start = one_scene.2 i; goal = one_scene.3 i }
+steps : (map : MapParts) (scenario : ScenarioParts) → (eqb scenario.width map.width && eqb scenario.height map.height) ≡ true
+    → (is_on_map map.width map.height scenario.start && is_on_map map.width map.height scenario.goal) ≡ true → is_free (joined map scenario) scenario.start ≡ true → is_free (joined map scenario) scenario.goal ≡ true
+    → grid_of_parts map scenario ≡ Ok (joined map scenario)
+unfolding grid_of_parts
+steps map scenario size inside start goal = rw (size, inside, start, goal) refl
 
-    pub start_is : class_at (record { width = w; height = h; cells = cells; start = s; goal = g }) s.0 s.1 ≡ Land
-    start_is = subst (λ (r : GridParts). class_at r r.start.0 r.start.1 ≡ Land) grid_is is.start_free
+pub readable : (map_text scenario_text : List ℕ) (row : ℕ) (grid : GridParts) → SpellsGrid map_text scenario_text row grid → grid_reading map_text scenario_text row ≡ Ok grid
+unfolding grid_reading
+readable map_text scenario_text row grid is =
+    let map : MapParts = record { width = grid.width; height = grid.height; cells = grid.cells } in
+    let scene : ScenarioParts = record { width = grid.width; height = grid.height; start = grid.start; goal = grid.goal } in
+    let one : map_reading (lines_of map_text) ≡ Ok map = map_read map_text grid.width grid.height grid.cells is.map_is in
+    let two : scenario_reading (lines_of scenario_text) row ≡ Ok scene = scenario_read scenario_text row grid.width grid.height grid.start grid.goal is.scenario_is in
+    ap (λ (r : Result MapParts GridError). r >>= λ m. scenario_reading (lines_of scenario_text) row >>= λ s. grid_of_parts m s) one ∙ ap (λ (r : Result ScenarioParts GridError). r >>= λ s. grid_of_parts map s) two
+    ∙ steps map scene (and_true (eqb grid.width grid.width) (eqb grid.height grid.height) (eq-eqb grid.width grid.width refl) (eq-eqb grid.height grid.height refl))
+    (and_true (is_on_map grid.width grid.height grid.start) (is_on_map grid.width grid.height grid.goal) (is_on grid.width grid.height grid.start is.start_on_map) (is_on grid.width grid.height grid.goal is.goal_on_map))
+    is.start_free is.goal_free
 
-    pub goal_is : class_at (record { width = w; height = h; cells = cells; start = s; goal = g }) g.0 g.1 ≡ Land
-    goal_is = subst (λ (r : GridParts). class_at r r.goal.0 r.goal.1 ≡ Land) grid_is is.goal_free
+-- ---- how many cells there are
 
-pub spells : (map_text scenario_text : List ℕ) (w h sw sh : ℕ) (cells : List Class) (s g : ℕ × ℕ) → SpellsMap map_text w h cells → IsScenario scenario_text sw sh s g → sw ≡ w → sh ≡ h
-    → class_at (record { width = w; height = h; cells = cells; start = s; goal = g }) s.0 s.1 ≡ Land → class_at (record { width = w; height = h; cells = cells; start = s; goal = g }) g.0 g.1 ≡ Land
-    → SpellsGrid map_text scenario_text (record { width = w; height = h; cells = cells; start = s; goal = g })
-spells map_text scenario_text w h sw sh cells s g map_is scene_is e f start goal = record {
-  map_is = map_is;
-  scenario_is = from_pieces scenario_text w h s g (subst (λ n. IsScenario scenario_text n h s g) e (subst (λ n. IsScenario scenario_text sw n s g) f scene_is));
-  start_free = start;
-  goal_free = goal;
-}
+bytes_of_rows : (width : ℕ) (rows : List (List ℕ)) → AllByRecursion (λ row. length row ≡ width) rows → length (concat rows) ≡ width * length rows
+bytes_of_rows width [] wide = grind arith
+bytes_of_rows width (row ∷ rows) wide =
+    let more : length (concat rows) ≡ width * length rows = bytes_of_rows width rows wide.1 in
+    let here : length row ≡ width = wide.0 in
+    let all : length (row ++ concat rows) ≡ length row + length (concat rows) = length-append row (concat rows) in
+    let product : width * suc (length rows) ≡ width + width * length rows = grind arith in
+    omega (arith, more, here, all, product)
 
-pub lawful : (text : List ℕ) (grid : GridParts) → SpellsMap text grid.width grid.height grid.cells → class_at grid grid.start.0 grid.start.1 ≡ Land → class_at grid grid.goal.0 grid.goal.1 ≡ Land → IsGrid grid
-lawful text grid map_is start goal = record {
-  width = map_is.width_in;
-  height = map_is.height_in;
-  area = cells_of_rows grid.width grid.height map_is.rows grid.cells map_is.rows_are;
-  start = subst (λ class. IsTrue (is_passable class)) (sym start) refl;
-  goal = subst (λ class. IsTrue (is_passable class)) (sym goal) refl;
-}
+map_length : {A B : Type 0} (f : A → B) (xs : List A) → length (map f xs) ≡ length xs
+map_length f [] = refl
+map_length f (x ∷ xs) = ap suc (map_length f xs)
+
+cells_of_rows : (width height : ℕ) (rows : List (List ℕ)) (cells : List Class) → AreRows width height rows cells → length cells ≡ width * height
+cells_of_rows width height rows cells are =
+    sym (map_length Some cells) ∙ ap length (sym are.classes) ∙ map_length class_of_byte (concat rows) ∙ bytes_of_rows width rows are.widths ∙ ap (λ n. width * n) are.count
+
+-- ---- the laws
+
+pub read_as_spelled : ReadAsSpelled
+read_as_spelled map_text scenario_text row grid = (spelled map_text scenario_text row grid, readable map_text scenario_text row grid)
 
 pub spelled_grids_are_unique : SpelledGridsAreUnique
-spelled_grids_are_unique map_text scenario_text grid other one two =
-    grid_is map_text scenario_text grid one other.width other.height other.cells two.map_is other.width other.height other.start other.goal (pieces map_text scenario_text other two)
+spelled_grids_are_unique map_text scenario_text row grid other one two =
+    ok_is grid other (sym (readable map_text scenario_text row grid one) ∙ readable map_text scenario_text row other two)
 
 pub spelled_grids_are_grids : SpelledGridsAreGrids
-spelled_grids_are_grids map_text scenario_text grid is = lawful map_text grid is.map_is is.start_free is.goal_free
+spelled_grids_are_grids map_text scenario_text row grid is = record {
+  width = is.map_is.width_in;
+  height = is.map_is.height_in;
+  area = cells_of_rows grid.width grid.height is.map_is.rows grid.cells is.map_is.rows_are;
+  start = is.start_free;
+  goal = is.goal_free;
+}
+
+-- what is read makes up a task
+pub read_grids_are_grids : (map_text scenario_text : List ℕ) (row : ℕ) (grid : GridParts) → grid_reading map_text scenario_text row ≡ Ok grid → IsGrid grid
+read_grids_are_grids map_text scenario_text row grid e = spelled_grids_are_grids map_text scenario_text row grid (spelled map_text scenario_text row grid e)
+
+-- texts that spell a grid are not refused
+pub not_refused : (map_text scenario_text : List ℕ) (row : ℕ) (grid : GridParts) (error : GridError) → SpellsGrid map_text scenario_text row grid → grid_reading map_text scenario_text row ≡ Err error → ⊥
+not_refused map_text scenario_text row grid error is e = let other : grid_reading map_text scenario_text row ≡ Ok grid = readable map_text scenario_text row grid is in cc
+
+-- texts spell no other grid than what is read
+pub same_grid : (map_text scenario_text : List ℕ) (row : ℕ) (grid other : GridParts) → SpellsGrid map_text scenario_text row grid → grid_reading map_text scenario_text row ≡ Ok other → grid ≡ other
+same_grid map_text scenario_text row grid other is e = ok_is grid other (sym (readable map_text scenario_text row grid is) ∙ e)

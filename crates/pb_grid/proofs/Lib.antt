@@ -1,6 +1,15 @@
 pub mod Digits
+pub mod Parting
 pub mod Sizes
 pub mod Rows
-pub mod Maps
-pub mod Scenarios
+pub mod Chosen
+pub mod Steps
+pub mod SpelledMaps
+pub mod SpelledScenarios
+pub mod ReadableMaps
+pub mod ReadableScenarios
 pub mod Grids
+pub mod Refusals
+pub mod Examples
+pub mod CaseOf
+pub mod CaseTold

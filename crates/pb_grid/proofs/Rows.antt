@@ -1,167 +1,113 @@
--- The rows of a map at the front of a text.
-use Rattle.std.proofs.Common.{◌≡◌, ℕ, zero, suc, ◌+◌, ◌*◌, ◌<◌, None, Some, List, [], ◌∷◌, ◌++◌, length, map, get_or, refl, sym, ap, arith, ◌∙◌, append_assoc, append-nil, length-append}
-use Rattle.std.specs.List.{concat, AllByRecursion}
-use Rattle.std.proofs.lemmas.List.{map-append}
-use Rattle.std.proofs.lemmas.List.Folds.{concat-append}
-use Rattle.pb_model.specs.Texts.{line, lines}
+-- The rows of a map and the lines below them, as loops read them.
+use Rattle.std.proofs.Common.{◌≡◌, ◌≢◌, ℕ, suc, ◌+◌, ◌-◌, ◌<◌, ◌≤◌, Bool, true, false, ◌&&◌, Option, Some, None, Result, Ok, Err, List, [], ◌∷◌, ◌++◌, length, drop, get_or, refl, sym, ap, ◌∙◌, arith, append_assoc}
+use Rattle.std.proofs.lemmas.List.{append-nil, drop_more, drop_all, drop-drop}
 use Rattle.pb_task.specs.declared.parts.Class.{Class}
-use Rattle.pb_grid.specs.Form.{class_of_byte, AreRows}
-use Rattle.pb_grid.specs.Pieces.{BeginsWithRows}
+use Rattle.pb_grid.specs.declared.error.GridError.{GridError}
+use Rattle.pb_grid.specs.declared.error.GridError.TheVariants as errors
+use Rattle.pb_grid.specs.Lines.{lines_of, is_blank_line}
+use Rattle.pb_grid.specs.Reading.{◌>>=◌, wanted, must, class_of_byte, cells_of, added_to, row_of_map, rows_of_map, below_map, size_of_map, is_side, map_reading}
+use Rattle.pb_grid.proofs.Parting.{no_lines}
 
--- ---- known bytes: each stands for a cell
+-- ---- cells
 
--- the cells that bytes stand for, if each stands for one
-Known : List ℕ → Type 0
-Known bytes = (cells : List Class) × (map class_of_byte bytes ≡ map Some cells)
+added-more : (before : List Class) (cell : Class) (read : Result (List Class) GridError) → added_to before (read >>= λ cells. Ok (cell ∷ cells)) ≡ added_to (before ++ cell ∷ []) read
+added-more before cell (Ok cells) = ap Ok (sym (append_assoc before (cell ∷ []) cells))
+added-more before cell (Err e) = refl
 
-heads : {A : Type 0} → (a b : A) (xs ys : List A) → a ∷ xs ≡ b ∷ ys → (a ≡ b) × (xs ≡ ys)
-heads a b xs ys e = (cc, cc)
+module _ (before : List Class) (line i : ℕ) (row : List ℕ) (total : Result (List Class) GridError) (so_far : added_to before (cells_of line (i + 1) (drop i row)) ≡ total) where
+  next : (found : Option Class) → i < length row → found ≡ class_of_byte (get_or row i 0)
+      → total ≡ added_to before (wanted (errors.Cell line (i + 1)) found >>= λ cell. cells_of line (i + 1 + 1) (drop (i + 1) row) >>= λ cells. Ok (cell ∷ cells))
+  unfolding cells_of
+  next found less is =
+      sym so_far ∙ ap (λ (bytes : List ℕ). added_to before (cells_of line (i + 1) bytes)) (drop_more row i 0 less)
+      ∙ ap (λ (o : Option Class). added_to before (wanted (errors.Cell line (i + 1)) o >>= λ cell. cells_of line (i + 1 + 1) (drop (i + 1) row) >>= λ cells. Ok (cell ∷ cells))) (sym is)
 
-known_parts : (first rest : List ℕ) → Known (first ++ rest) → Known first × Known rest
-unfolding Known
-known_parts [] rest known = (([], refl), known)
-known_parts (byte ∷ bytes) rest ([], e) = cc
-known_parts (byte ∷ bytes) rest (cell ∷ cells, e) =
-    let parts : (class_of_byte byte ≡ Some cell) × (map class_of_byte (bytes ++ rest) ≡ map Some cells) = heads (class_of_byte byte) (Some cell) (map class_of_byte (bytes ++ rest)) (map Some cells) e in
-    let more : Known bytes × Known rest = known_parts bytes rest (cells, parts.1) in
-    ((cell ∷ more.0.0, λ i. parts.0 i ∷ more.0.1 i), more.1)
+  pub cell_read : (cell : Class) → i < length row → Some cell ≡ class_of_byte (get_or row i 0) → added_to (before ++ cell ∷ []) (cells_of line (i + 1 + 1) (drop (i + 1) row)) ≡ total
+  cell_read cell less is = sym (next (Some cell) less is ∙ added-more before cell (cells_of line (i + 1 + 1) (drop (i + 1) row)))
 
-pub same_cells : (cells others : List Class) → map Some cells ≡ map Some others → cells ≡ others
-same_cells [] [] e = refl
-same_cells [] (d ∷ ds) e = cc
-same_cells (c ∷ cs) [] e = cc
-same_cells (c ∷ cs) (d ∷ ds) e =
-    let parts : (Some c ≡ Some d) × (map Some cs ≡ map Some ds) = heads (Some c) (Some d) (map Some cs) (map Some ds) e in
-    let here : c ≡ d = cc in
-    let there : cs ≡ ds = same_cells cs ds parts.1 in
-    λ i. here i ∷ there i
+  pub cell_unknown : i < length row → None ≡ class_of_byte (get_or row i 0) → total ≡ Err (errors.Cell line (i + 1))
+  cell_unknown less is = next None less is
 
--- a byte that stands for no cell keeps a row from being one
-pub unknown_byte : (bytes : List ℕ) (at : ℕ) → at < length bytes → class_of_byte (get_or bytes at 0) ≡ None → (cells : List Class) → map class_of_byte bytes ≡ map Some cells → ⊥
-unknown_byte [] at less none cells e = absurd (omega arith)
-unknown_byte (byte ∷ bytes) zero less none [] e = cc
-unknown_byte (byte ∷ bytes) zero less none (cell ∷ cells) e =
-    let is : class_of_byte byte ≡ Some cell = (heads (class_of_byte byte) (Some cell) (map class_of_byte bytes) (map Some cells) e).0 in
-    let not : class_of_byte byte ≡ None = none in
-    cc
-unknown_byte (byte ∷ bytes) (suc at) less none [] e = cc
-unknown_byte (byte ∷ bytes) (suc at) less none (cell ∷ cells) e =
-    unknown_byte bytes at (omega arith) none cells (heads (class_of_byte byte) (Some cell) (map class_of_byte bytes) (map Some cells) e).1
+  pub cells_done : length row ≤ i → total ≡ Ok before
+  unfolding cells_of
+  cells_done le = sym so_far ∙ ap (λ (bytes : List ℕ). added_to before (cells_of line (i + 1) bytes)) (drop_all i row le) ∙ ap Ok (append-nil before)
 
--- ---- one line more
+-- ---- rows
 
--- two lines of one length at the front of a text are one
-row_and_rest : (row other below beneath : List ℕ) → length row ≡ length other → line row ++ below ≡ line other ++ beneath → (row ≡ other) × (below ≡ beneath)
-row_and_rest [] [] below beneath len e = (refl, (heads 10 10 below beneath e).1)
-row_and_rest [] (b ∷ other) below beneath len e = absurd (omega arith)
-row_and_rest (a ∷ row) [] below beneath len e = absurd (omega arith)
-row_and_rest (a ∷ row) (b ∷ other) below beneath len e =
-    let parts : (a ≡ b) × (line row ++ below ≡ line other ++ beneath) = heads a b (line row ++ below) (line other ++ beneath) e in
-    let more : (row ≡ other) × (below ≡ beneath) = row_and_rest row other below beneath (omega arith) parts.1 in
-    ((λ i. parts.0 i ∷ more.0 i), more.1)
+rows-read : (before more : List Class) (row others : Result (List Class) GridError) → added_to before row ≡ Ok more
+    → added_to before (row >>= λ cells. others >>= λ below. Ok (cells ++ below)) ≡ added_to more others
+rows-read before more (Ok cells) (Ok below) e = let same : before ++ cells ≡ more = cc in ap Ok (sym (append_assoc before cells below) ∙ ap (λ (m : List Class). m ++ below) same)
+rows-read before more (Ok cells) (Err f) e = refl
+rows-read before more (Err f) others e = cc
 
-all_append : (P : List ℕ → Type 0) (xs ys : List (List ℕ)) → AllByRecursion P xs → AllByRecursion P ys → AllByRecursion P (xs ++ ys)
-all_append P [] ys one two = two
-all_append P (x ∷ xs) ys one two = (one.0, all_append P xs ys one.1 two)
+rows-fail : (before : List Class) (error : GridError) (row others : Result (List Class) GridError) → added_to before row ≡ Err error
+    → added_to before (row >>= λ cells. others >>= λ below. Ok (cells ++ below)) ≡ Err error
+rows-fail before error (Ok cells) others e = cc
+rows-fail before error (Err f) others e = e
 
-lines_append : (xs ys : List (List ℕ)) → lines (xs ++ ys) ≡ lines xs ++ lines ys
-lines_append [] ys = refl
-lines_append (x ∷ xs) ys = ap (λ t. line x ++ t) (lines_append xs ys) ∙ sym (append_assoc (line x) (lines xs) (lines ys))
+module _ (before : List Class) (width height y : ℕ) (lines : List (List ℕ)) (total : Result (List Class) GridError) (so_far : added_to before (rows_of_map width (height - y) (5 + y) lines) ≡ total) where
+  next_row : (row : List ℕ) (below : List (List ℕ)) → y < height → lines ≡ row ∷ below
+      → total ≡ added_to before (row_of_map width (5 + y) row >>= λ cells. rows_of_map width (height - (y + 1)) (5 + (y + 1)) below >>= λ others. Ok (cells ++ others))
+  unfolding rows_of_map
+  next_row row below less is =
+      let k : height - y ≡ suc (height - (y + 1)) = omega arith in
+      let l : 5 + y + 1 ≡ 5 + (y + 1) = omega arith in
+      sym so_far ∙ ap (λ n. added_to before (rows_of_map width n (5 + y) lines)) k ∙ ap (λ (ls : List (List ℕ)). added_to before (rows_of_map width (suc (height - (y + 1))) (5 + y) ls)) is
+      ∙ ap (λ n. added_to before (row_of_map width (5 + y) row >>= λ cells. rows_of_map width (height - (y + 1)) n below >>= λ others. Ok (cells ++ others))) l
 
-pub no_rows_yet : (text : List ℕ) (width : ℕ) → BeginsWithRows text width 0 [] text
-no_rows_yet text width = record { rows = []; text_is = refl; rows_are = record { count = refl; widths = _; classes = refl } }
+  pub row_read : (more : List Class) (row : List ℕ) (below : List (List ℕ)) → y < height → lines ≡ row ∷ below → added_to before (row_of_map width (5 + y) row) ≡ Ok more
+      → added_to more (rows_of_map width (height - (y + 1)) (5 + (y + 1)) below) ≡ total
+  row_read more row below less is e = sym (next_row row below less is ∙ rows-read before more (row_of_map width (5 + y) row) (rows_of_map width (height - (y + 1)) (5 + (y + 1)) below) e)
 
-pub one_row_more : (text : List ℕ) (width count : ℕ) (cells more : List Class) (rest row below : List ℕ) → BeginsWithRows text width count cells rest → rest ≡ line row ++ below → length row ≡ width
-    → map Some more ≡ map Some cells ++ map class_of_byte row → BeginsWithRows text width (count + 1) more below
-one_row_more text width count cells more rest row below begins is wide known = record {
-  rows = begins.rows ++ row ∷ [];
-  text_is = begins.text_is ∙ ap (λ t. lines begins.rows ++ t) is ∙ regroup (lines begins.rows) (line row) below ∙ ap (λ t. t ++ below) (sym (lines_append begins.rows (row ∷ [])));
-  rows_are = record {
-    count = length-append begins.rows (row ∷ []) ∙ ap (λ n. n + 1) begins.rows_are.count;
-    widths = all_append (λ r. length r ≡ width) begins.rows (row ∷ []) begins.rows_are.widths (wide, _);
-    classes = ap (map class_of_byte) (concat-append begins.rows (row ∷ [])) ∙ map-append class_of_byte (concat begins.rows) (row ++ [])
-        ∙ ap (λ t. map class_of_byte (concat begins.rows) ++ map class_of_byte t) (append-nil row) ∙ ap (λ t. t ++ map class_of_byte row) begins.rows_are.classes ∙ sym known;
-  };
-} where
-  regroup : (a b c : List ℕ) → a ++ (b ++ c) ≡ (a ++ (b ++ [])) ++ c
-  regroup a b c = simp (append_assoc, append-nil)
+  pub row_fails : (error : GridError) (row : List ℕ) (below : List (List ℕ)) → y < height → lines ≡ row ∷ below → (error ≢ errors.Memory → added_to before (row_of_map width (5 + y) row) ≡ Err error)
+      → error ≢ errors.Memory → total ≡ Err error
+  row_fails error row below less is e some = next_row row below less is ∙ rows-fail before error (row_of_map width (5 + y) row) (rows_of_map width (height - (y + 1)) (5 + (y + 1)) below) (e some)
 
--- ---- no other rows
+  pub row_missing : y < height → lines ≡ [] → total ≡ Err (errors.Rows (5 + y))
+  unfolding rows_of_map
+  row_missing less is =
+      let k : height - y ≡ suc (height - (y + 1)) = omega arith in
+      sym so_far ∙ ap (λ n. added_to before (rows_of_map width n (5 + y) lines)) k ∙ ap (λ (ls : List (List ℕ)). added_to before (rows_of_map width (suc (height - (y + 1))) (5 + y) ls)) is
 
--- the next of the rows of a text, behind those that were read
-record Next (width : ℕ) (rest : List ℕ) : Type 0 where
-  pub row : List ℕ
-  pub below : List ℕ
-  pub is : rest ≡ line row ++ below
-  pub wide : length row ≡ width
-  pub known : Known row
+  pub rows_done : height ≤ y → total ≡ Ok before
+  unfolding rows_of_map
+  rows_done le =
+      let k : height - y ≡ 0 = omega arith in
+      sym so_far ∙ ap (λ n. added_to before (rows_of_map width n (5 + y) lines)) k ∙ ap Ok (append-nil before)
 
-next_of : (width : ℕ) (rows all : List (List ℕ)) (rest : List ℕ) → AllByRecursion (λ row. length row ≡ width) rows → AllByRecursion (λ row. length row ≡ width) all
-    → Known (concat all) → lines rows ++ rest ≡ lines all → length rows < length all → Next width rest
-next_of width rows [] rest wide widths known e less = absurd (omega arith)
-next_of width [] (first ∷ others) rest wide widths known e less =
-    record { row = first; below = lines others; is = e; wide = widths.0; known = (known_parts first (concat others) known).0 }
-next_of width (row ∷ rows) (first ∷ others) rest wide widths known e less =
-    next_of width rows others rest wide.1 widths.1 (known_parts first (concat others) known).1
-    (row_and_rest row first (lines rows ++ rest) (lines others) (wide.0 ∙ sym widths.0) (sym (append_assoc (line row) (lines rows) rest) ∙ e)).1 (omega arith)
+pub rows_first : (width height : ℕ) (lines : List (List ℕ)) → added_to [] (rows_of_map width (height - 0) (5 + 0) lines) ≡ rows_of_map width height 5 lines
+rows_first width height lines = let k : height - 0 ≡ height = omega arith in ap (λ n. added_to [] (rows_of_map width n 5 lines)) k ∙ same (rows_of_map width height 5 lines) where
+  same : (read : Result (List Class) GridError) → added_to [] read ≡ read
+  same (Ok cells) = refl
+  same (Err e) = refl
 
-next_row : (text : List ℕ) (width count height : ℕ) (cells all : List Class) (rest : List ℕ) → BeginsWithRows text width count cells rest → count < height
-    → BeginsWithRows text width height all [] → Next width rest
-unfolding Known
-next_row text width count height cells all rest begins less whole =
-    next_of width begins.rows whole.rows rest begins.rows_are.widths whole.rows_are.widths (all, whole.rows_are.classes)
-    (sym begins.text_is ∙ whole.text_is ∙ append-nil (lines whole.rows)) (let a : length begins.rows ≡ count = begins.rows_are.count in let b : length whole.rows ≡ height = whole.rows_are.count in omega arith)
+-- the lines behind one more
+pub one_line_more : (y : ℕ) (row : List ℕ) (all lines below : List (List ℕ)) → lines ≡ drop y all → lines ≡ row ∷ below → below ≡ drop (y + 1) all
+one_line_more y row all lines below is first = sym (ap (drop 1) first) ∙ ap (drop 1) is ∙ drop-drop 1 y all
 
-pub no_line : (text : List ℕ) (width count height : ℕ) (cells : List Class) (rest : List ℕ) → BeginsWithRows text width count cells rest → count < height
-    → ((row below : List ℕ) → rest ≡ line row ++ below → length row ≡ width → ⊥) → (all : List Class) → BeginsWithRows text width height all [] → ⊥
-no_line text width count height cells rest begins less none all whole =
-    let next : Next width rest = next_row text width count height cells all rest begins less whole in
-    none next.row next.below next.is next.wide
+-- ---- below the rows
 
-pub no_cells : (text : List ℕ) (width count height : ℕ) (cells : List Class) (rest row below : List ℕ) → BeginsWithRows text width count cells rest → count < height
-    → rest ≡ line row ++ below → length row ≡ width → ((found : List Class) → map class_of_byte row ≡ map Some found → ⊥) → (all : List Class) → BeginsWithRows text width height all [] → ⊥
-unfolding Known
-no_cells text width count height cells rest row below begins less is wide none all whole =
-    let next : Next width rest = next_row text width count height cells all rest begins less whole in
-    let same : next.row ≡ row = (row_and_rest next.row row next.below below (next.wide ∙ sym wide) (sym next.is ∙ is)).0 in
-    none next.known.0 (ap (map class_of_byte) (sym same) ∙ next.known.1)
+pub below_next : (line : ℕ) (below : List ℕ) (lines others : List (List ℕ)) (total : Result Bool GridError) → lines ≡ below ∷ others → is_blank_line below ≡ true → below_map line lines ≡ total → below_map (line + 1) others ≡ total
+unfolding below_map
+below_next line below lines others total is blank so_far =
+    sym (ap (below_map line) is ∙ ap (λ b. must (errors.Rows line) b >>= λ found. below_map (line + 1) others) blank) ∙ so_far
 
-all_read : (width : ℕ) (rows all : List (List ℕ)) (rest : List ℕ) → AllByRecursion (λ row. length row ≡ width) rows → AllByRecursion (λ row. length row ≡ width) all
-    → lines rows ++ rest ≡ lines all → length rows ≡ length all → (rows ≡ all) × (rest ≡ [])
-all_read width [] [] rest wide widths e len = (refl, e)
-all_read width [] (first ∷ others) rest wide widths e len = absurd (omega arith)
-all_read width (row ∷ rows) [] rest wide widths e len = absurd (omega arith)
-all_read width (row ∷ rows) (first ∷ others) rest wide widths e len =
-    let here : (row ≡ first) × (lines rows ++ rest ≡ lines others) =
-    row_and_rest row first (lines rows ++ rest) (lines others) (wide.0 ∙ sym widths.0) (sym (append_assoc (line row) (lines rows) rest) ∙ e) in
-    let more : (rows ≡ others) × (rest ≡ []) = all_read width rows others rest wide.1 widths.1 here.1 (omega arith) in
-    ((λ i. here.0 i ∷ more.0 i), more.1)
+pub below_fault : (line : ℕ) (below : List ℕ) (lines others : List (List ℕ)) (total : Result Bool GridError) → lines ≡ below ∷ others → is_blank_line below ≡ false → below_map line lines ≡ total → total ≡ Err (errors.Rows line)
+unfolding below_map
+below_fault line below lines others total is blank so_far =
+    sym so_far ∙ ap (below_map line) is ∙ ap (λ b. must (errors.Rows line) b >>= λ found. below_map (line + 1) others) blank
 
-pub nothing_behind : (text : List ℕ) (width height : ℕ) (cells : List Class) (rest : List ℕ) → BeginsWithRows text width height cells rest → (all : List Class) → BeginsWithRows text width height all [] → rest ≡ []
-nothing_behind text width height cells rest begins all whole =
-    (all_read width begins.rows whole.rows rest begins.rows_are.widths whole.rows_are.widths (sym begins.text_is ∙ whole.text_is ∙ append-nil (lines whole.rows)) (begins.rows_are.count ∙ sym whole.rows_are.count)).1
+pub below_end : (line : ℕ) (text : List ℕ) (total : Result Bool GridError) → text ≡ [] → below_map line (lines_of text) ≡ total → total ≡ Ok true
+unfolding below_map
+below_end line text total is so_far = sym so_far ∙ ap (λ (t : List ℕ). below_map line (lines_of t)) is ∙ ap (below_map line) no_lines
 
--- a text has its rows in one way
-pub same_rows : (text : List ℕ) (width height : ℕ) (cells others : List Class) → BeginsWithRows text width height cells [] → BeginsWithRows text width height others [] → cells ≡ others
-same_rows text width height cells others one two =
-    let rows : one.rows ≡ two.rows = (all_read width one.rows two.rows [] one.rows_are.widths two.rows_are.widths (sym one.text_is ∙ two.text_is ∙ append-nil (lines two.rows)) (one.rows_are.count ∙ sym two.rows_are.count)).0 in
-    same_cells cells others (sym one.rows_are.classes ∙ ap (λ r. map class_of_byte (concat r)) rows ∙ two.rows_are.classes)
+-- ---- the whole map
 
--- ---- how many cells there are
-
-bytes_of_rows : (width : ℕ) (rows : List (List ℕ)) → AllByRecursion (λ row. length row ≡ width) rows → length (concat rows) ≡ width * length rows
-bytes_of_rows width [] wide = grind arith
-bytes_of_rows width (row ∷ rows) wide =
-    let more : length (concat rows) ≡ width * length rows = bytes_of_rows width rows wide.1 in
-    let here : length row ≡ width = wide.0 in
-    let all : length (row ++ concat rows) ≡ length row + length (concat rows) = length-append row (concat rows) in
-    let product : width * suc (length rows) ≡ width + width * length rows = grind arith in
-    omega (arith, more, here, all, product)
-
-map_length : {A B : Type 0} (f : A → B) (xs : List A) → length (map f xs) ≡ length xs
-map_length f [] = refl
-map_length f (x ∷ xs) = ap suc (map_length f xs)
-
-pub cells_of_rows : (width height : ℕ) (rows : List (List ℕ)) (cells : List Class) → AreRows width height rows cells → length cells ≡ width * height
-cells_of_rows width height rows cells are =
-    sym (map_length Some cells) ∙ ap length (sym are.classes) ∙ map_length class_of_byte (concat rows) ∙ bytes_of_rows width rows are.widths ∙ ap (λ n. width * n) are.count
+pub map_steps : (lines rest below : List (List ℕ)) (height width : ℕ) (cells : List Class) → size_of_map lines ≡ Ok (height, width) → (is_side height && is_side width) ≡ true → rest ≡ drop 4 lines
+    → rows_of_map width height 5 rest ≡ Ok cells → below ≡ drop height rest
+    → map_reading lines ≡ (below_map (5 + height) below >>= λ blank. Ok (record { width = width; height = height; cells = cells }))
+unfolding map_reading
+map_steps lines rest below height width cells size sides rest_is rows below_is =
+    let p : rows_of_map width height 5 (drop 4 lines) ≡ Ok cells = ap (rows_of_map width height 5) (sym rest_is) ∙ rows in
+    let q : drop (4 + height) lines ≡ below = sym (below_is ∙ ap (drop height) rest_is ∙ drop-drop height 4 lines) in
+    rw (size, sides, p, q) refl

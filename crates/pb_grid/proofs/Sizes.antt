@@ -1,54 +1,31 @@
--- A map's header, piece by piece.
-use Rattle.std.proofs.Common.{◌≡◌, ℕ, List, ◌++◌, refl, sym, subst, ◌∙◌}
-use Rattle.std.proofs.lemmas.List.{append_cancel_left}
-use Rattle.pb_grid.specs.Pieces.{BeginsWithNumber, BeginsWithSize, height_head, width_head, rows_head}
-use Rattle.pb_grid.proofs.Digits.{same_number}
+-- The first four lines of a map, one after another.
+use Rattle.std.proofs.Common.{◌≡◌, ℕ, zero, suc, Bool, true, Option, Some, Ok, unwrap_or, List, [], ◌∷◌, drop, codes, refl, sym, ap, ◌∙◌}
+use Rattle.std.specs.List.{slice_get}
+use Rattle.std.proofs.lemmas.List.{drop-drop}
+use Rattle.pb_grid.specs.declared.error.GridError.TheVariants.{Header}
+use Rattle.pb_grid.specs.Lines.{line_at, words_of}
+use Rattle.pb_grid.specs.Reading.{◌>>=◌, must, are_words, number_named, size_of_map}
 
-module _ (text : List ℕ) (h w : ℕ) (rest : List ℕ) (is : BeginsWithSize text h w rest) where
-  pub no_head : ((r : List ℕ) → text ≡ height_head ++ r → ⊥) → ⊥
-  no_head none = none is.first is.head
+pub slice_get-drop : (k : ℕ) (lines : List (List ℕ)) → slice_get (drop k lines) 0 ≡ slice_get lines k
+slice_get-drop zero lines = refl
+slice_get-drop (suc k) [] = refl
+slice_get-drop (suc k) (line ∷ lines) = slice_get-drop k lines
 
-  module _ (t1 : List ℕ) (e1 : text ≡ height_head ++ t1) where
-    first_is : is.first ≡ t1
-    first_is = append_cancel_left height_head is.first t1 (sym is.head ∙ e1)
+-- the first line behind so many
+behind : (k : ℕ) (line : List ℕ) (rest lines : List (List ℕ)) → rest ≡ drop k lines → line ≡ line_at rest 1 → unwrap_or (slice_get lines k) [] ≡ line
+behind k line rest lines is e = sym (e ∙ ap (λ (ls : List (List ℕ)). line_at ls 1) is ∙ ap (λ (o : Option (List ℕ)). unwrap_or o []) (slice_get-drop k lines))
 
-    height_at : BeginsWithNumber t1 10 h is.second
-    height_at = subst (λ t. BeginsWithNumber t 10 h is.second) first_is is.height_is
-
-    pub no_height : ((n : ℕ) (r : List ℕ) → BeginsWithNumber t1 10 n r → ⊥) → ⊥
-    no_height none = none h is.second height_at
-
-    module _ (n : ℕ) (t2 : List ℕ) (e2 : BeginsWithNumber t1 10 n t2) where
-      pub height_same : h ≡ n
-      height_same = (same_number t1 10 h n is.second t2 refl height_at e2).0
-
-      middle_at : t2 ≡ width_head ++ is.third
-      middle_at = sym (same_number t1 10 h n is.second t2 refl height_at e2).1 ∙ is.middle
-
-      pub no_middle : ((r : List ℕ) → t2 ≡ width_head ++ r → ⊥) → ⊥
-      no_middle none = none is.third middle_at
-
-      module _ (t3 : List ℕ) (e3 : t2 ≡ width_head ++ t3) where
-        width_at : BeginsWithNumber t3 10 w is.fourth
-        width_at = subst (λ t. BeginsWithNumber t 10 w is.fourth) (append_cancel_left width_head is.third t3 (sym middle_at ∙ e3)) is.width_is
-
-        pub no_width : ((n : ℕ) (r : List ℕ) → BeginsWithNumber t3 10 n r → ⊥) → ⊥
-        no_width none = none w is.fourth width_at
-
-        module _ (m : ℕ) (t4 : List ℕ) (e4 : BeginsWithNumber t3 10 m t4) where
-          pub width_same : w ≡ m
-          width_same = (same_number t3 10 w m is.fourth t4 refl width_at e4).0
-
-          last_at : t4 ≡ rows_head ++ rest
-          last_at = sym (same_number t3 10 w m is.fourth t4 refl width_at e4).1 ∙ is.last
-
-          pub no_last : ((r : List ℕ) → t4 ≡ rows_head ++ r → ⊥) → ⊥
-          no_last none = none rest last_at
-
--- the header says one height, one width and one rest
-pub same_size : (text : List ℕ) (h w h' w' : ℕ) (rest rest' : List ℕ) → BeginsWithSize text h w rest → BeginsWithSize text h' w' rest' → (h ≡ h') × (w ≡ w') × (rest ≡ rest')
-same_size text h w h' w' rest rest' a b = (
-  height_same text h w rest a b.first b.head h' b.second b.height_is,
-  width_same text h w rest a b.first b.head h' b.second b.height_is b.third b.middle w' b.fourth b.width_is,
-  append_cancel_left rows_head rest rest' (sym (last_at text h w rest a b.first b.head h' b.second b.height_is b.third b.middle w' b.fourth b.width_is) ∙ b.last),
-)
+pub size_steps : (lines one two three : List (List ℕ)) (first second third fourth : List ℕ) (height width : ℕ) (last : Bool)
+    → first ≡ line_at lines 1 → one ≡ drop 1 lines → second ≡ line_at one 1 → two ≡ drop 1 one → third ≡ line_at two 1 → three ≡ drop 1 two → fourth ≡ line_at three 1
+    → true ≡ are_words (words_of first) (codes "type" ∷ codes "octile" ∷ []) → Some height ≡ number_named (codes "height") (words_of second)
+    → Some width ≡ number_named (codes "width") (words_of third) → last ≡ are_words (words_of fourth) (codes "map" ∷ [])
+    → size_of_map lines ≡ (must (Header 4) last >>= λ found. Ok (height, width))
+unfolding size_of_map
+size_steps lines one two three first second third fourth height width last a b c d e f g type height_is width_is last_is =
+    let two_is : two ≡ drop 2 lines = d ∙ ap (drop 1) b ∙ drop-drop 1 1 lines in
+    let three_is : three ≡ drop 3 lines = f ∙ ap (drop 1) two_is ∙ drop-drop 1 2 lines in
+    let p : are_words (words_of (line_at lines 1)) (codes "type" ∷ codes "octile" ∷ []) ≡ true = ap (λ (l : List ℕ). are_words (words_of l) (codes "type" ∷ codes "octile" ∷ [])) (sym a) ∙ sym type in
+    let q : number_named (codes "height") (words_of (line_at lines 2)) ≡ Some height = ap (λ (l : List ℕ). number_named (codes "height") (words_of l)) (behind 1 second one lines b c) ∙ sym height_is in
+    let r : number_named (codes "width") (words_of (line_at lines 3)) ≡ Some width = ap (λ (l : List ℕ). number_named (codes "width") (words_of l)) (behind 2 third two lines two_is e) ∙ sym width_is in
+    let s : are_words (words_of (line_at lines 4)) (codes "map" ∷ []) ≡ last = ap (λ (l : List ℕ). are_words (words_of l) (codes "map" ∷ [])) (behind 3 fourth three lines three_is g) ∙ sym last_is in
+    rw (p, q, r, s) refl

@@ -1,3 +1,5 @@
+pub mod Lines
+pub mod Reading
 pub mod Form
-pub mod Pieces
+pub mod Cases
 pub mod Laws

@@ -1,6 +1,11 @@
-ghost use Rattle.pb_grid.specs.Laws.{SpelledGridsAreUnique, SpelledGridsAreGrids};
+ghost use Rattle.pb_grid.specs.Laws.{ReadAsSpelled, SpelledGridsAreUnique, SpelledGridsAreGrids, RefusalsAreOfTexts, RefusalsHaveTheirCase};
 
-/// Two texts spell one grid at most.
+/// What is read of two texts without a refusal is a grid that they spell, and a grid that they spell is read.
+pub fn read_as_spelled()
+    ensures { ReadAsSpelled }
+{}
+
+/// Two texts and a row spell one grid at most.
 pub fn spelled_grids_are_unique()
     ensures { SpelledGridsAreUnique }
 {}
@@ -8,4 +13,14 @@ pub fn spelled_grids_are_unique()
 /// What two texts spell makes up a task.
 pub fn spelled_grids_are_grids()
     ensures { SpelledGridsAreGrids }
+{}
+
+/// Want of memory is no refusal of a text.
+pub fn refusals_are_of_texts()
+    ensures { RefusalsAreOfTexts }
+{}
+
+/// Each refusal is told exactly in its case, as the formats describe it.
+pub fn refusals_have_their_case()
+    ensures { RefusalsHaveTheirCase }
 {}

@@ -1,17 +1,23 @@
 //! Grids from the texts of a MovingAI map and scenario (Sturtevant, "Benchmarks for grid-based pathfinding", 2012).
 //!
-//! One form of the two texts is read: the definition `SpellsGrid` in `specs` says which.
+//! The relation `SpellsGrid` in `specs` says which texts spell a grid, and the function `grid_reading` which refusal comes first.
 #![tactic(auto)]
 
-mod cells;
+mod error;
+mod header;
 mod laws;
+mod lines;
 mod map;
-mod pieces;
 mod reader;
 mod scenario;
+mod words;
 
-pub use laws::{spelled_grids_are_grids, spelled_grids_are_unique};
-pub use reader::{GridError, read_grid};
+pub use error::GridError;
+pub use laws::{
+    read_as_spelled, refusals_are_of_texts, refusals_have_their_case, spelled_grids_are_grids,
+    spelled_grids_are_unique,
+};
+pub use reader::read_grid;
 
 #[cfg(test)]
 mod tests;

@@ -1,76 +1,92 @@
-ghost use Rattle.std.specs.Prelude.{◌≡◌, true, false, IfOk, Err};
-ghost use Rattle.pb_task.specs.Grid.{IsGrid, class_at};
-ghost use Rattle.pb_task.specs.declared.parts.Class.TheVariants.{Land};
+ghost use Rattle.std.specs.Prelude.{◌≡◌, ◌≢◌, IfOk, IfErr, Ok, Err};
 ghost use Rattle.pb_task.specs.declared.parts.GridParts.{GridParts};
 ghost use Rattle.pb_task.specs.declared.parts.Parts.TheVariants.{Grid};
+ghost use Rattle.pb_grid.specs.declared.error.GridError.{GridError};
+ghost use Rattle.pb_grid.specs.declared.error.GridError.TheVariants.{Memory};
+ghost use Rattle.pb_grid.specs.Cases.{IsCaseOf};
 ghost use Rattle.pb_grid.specs.Form.{SpellsGrid};
-ghost use Rattle.pb_grid.specs.declared.reader.GridError.TheVariants.{Form, Memory};
+ghost use Rattle.pb_grid.specs.Reading.{Gives, grid_reading, grid_of_parts, is_on_map, is_free, task_of};
 
-use crate::map::read_map;
-use crate::scenario::read_scenario;
+use crate::error::GridError;
+use crate::map::{MapParts, read_map};
+use crate::scenario::{ScenarioParts, read_scenario};
 use pb_task::{Class, GridParts, Task};
-use std::alloc::{AllocError, Global};
+use std::alloc::Global;
 
-/// Why two texts were not read as a grid.
-#[derive(Clone, Copy, Debug, PartialEq, Eq)]
-pub enum GridError {
-    /// The texts are not of the form that is read.
-    Form,
-    /// There was not enough memory.
-    Memory,
-}
-
-impl From<AllocError> for GridError {
-    ghost from_gives = { λ _ e. e ≡ Memory };
-
-    fn from(_: AllocError) -> Self {
-        GridError::Memory
-    }
-}
-
-/// Reads the grid that the texts of a map and of a scenario spell, in one pass. What it reserves grows with the bytes that it
-/// reads. `row` is the row of the scenario, which has one.
-pub fn read_grid(alloc: Global, map: &[u8], scen: &[u8], row: u64) -> Result<Task, GridError>
-    requires { row ≡ 0 }
-    ensures spelled { IfOk result (λ task. (grid : GridParts) × (task ≡ Grid grid) × SpellsGrid map.now scen.now grid) }
-    ensures same { IfOk result (λ task. (grid : GridParts) → SpellsGrid map.now scen.now grid → task ≡ Grid grid) }
-    ensures form { result ≡ Err Form → (grid : GridParts) → SpellsGrid map.now scen.now grid → ⊥ }
+// Whether a cell lies on a map of this size.
+fn is_on_map(width: u32, height: u32, cell: (u32, u32)) -> bool
+    ensures { result ≡ is_on_map width height cell }
 {
-    let Some(parts) = read_map(alloc, map)? else {
-        return Err(GridError::Form);
-    };
-    let Some(scene) = read_scenario(scen) else {
-        return Err(GridError::Form);
-    };
-    if scene.width != parts.width {
-        return Err(GridError::Form);
-    }
-    if scene.height != parts.height {
-        return Err(GridError::Form);
-    }
-    let grid = GridParts {
-        width: parts.width,
-        height: parts.height,
-        cells: parts.cells,
-        start: scene.start,
-        goal: scene.goal,
-    };
-    if !is_land(&grid, grid.start) {
-        return Err(GridError::Form);
-    }
-    if !is_land(&grid, grid.goal) {
-        return Err(GridError::Form);
-    }
-    Ok(Task::of_grid(grid))
+    cell.0 < width && cell.1 < height
 }
 
-// Whether a cell is on the map and land.
-fn is_land(grid: &GridParts, cell: (u32, u32)) -> bool
-    ensures yes { result ≡ true → class_at grid.now cell.0 cell.1 ≡ Land }
-    ensures no { result ≡ false → class_at grid.now cell.0 cell.1 ≡ Land → ⊥ }
+// Whether a cell is land or water.
+fn is_free(grid: &GridParts, cell: (u32, u32)) -> bool
+    ensures { result ≡ is_free grid.now cell }
 {
     match grid.class_at(cell.0, cell.1) {
-        Class::Land => true,
-        _ => false,
+        Class::Land | Class::Water => true,
+        Class::Blocked => false,
     }
+}
+
+// The grid of a map and a scenario.
+#[tactic(auto, unfolding(crate::specs::Reading::grid_of_parts))]
+fn grid_of_parts(map: MapParts, scenario: ScenarioParts) -> Result<GridParts, GridError>
+    ensures { Gives (λ x. x) result (grid_of_parts map scenario) }
+{
+    if scenario.width != map.width || scenario.height != map.height {
+        return Err(GridError::ScenarioSize);
+    }
+    if !(is_on_map(map.width, map.height, scenario.start)
+        && is_on_map(map.width, map.height, scenario.goal))
+    {
+        return Err(GridError::Outside);
+    }
+    let grid = GridParts {
+        width: map.width,
+        height: map.height,
+        cells: map.cells,
+        start: scenario.start,
+        goal: scenario.goal,
+    };
+    if !is_free(&grid, grid.start) {
+        return Err(GridError::StartBlocked);
+    }
+    if !is_free(&grid, grid.goal) {
+        return Err(GridError::GoalBlocked);
+    }
+    Ok(grid)
+}
+
+#[tactic(auto, unfolding(crate::specs::Reading::grid_reading))]
+fn parts_of_texts(
+    alloc: Global,
+    map: &[u8],
+    scenario: &[u8],
+    row: u64,
+) -> Result<GridParts, GridError>
+    ensures { Gives (λ x. x) result (grid_reading map.now scenario.now row) }
+{
+    let parts = read_map(alloc, map)?;
+    let chosen = read_scenario(scenario, row)?;
+    grid_of_parts(parts, chosen)
+}
+
+/// Reads the grid that the texts of a map and of a scenario spell, and tells the first refusal where they spell none. `row` is the
+/// chosen row of the scenario, counted from 0. What it reserves grows with the bytes of the map that it has read.
+pub fn read_grid(alloc: Global, map: &[u8], scenario: &[u8], row: u64) -> Result<Task, GridError>
+    // Which grid or refusal it is, unless memory ran out.
+    ensures exact { Gives (λ task. task) result (task_of (grid_reading map.now scenario.now row)) }
+    // What is read is a grid that the texts spell.
+    ensures spelled { IfOk result (λ task. (grid : GridParts) × (task ≡ Grid grid) × SpellsGrid map.now scenario.now row grid) }
+    // A grid that the texts spell is read, unless memory ran out.
+    ensures only { (grid : GridParts) → SpellsGrid map.now scenario.now row grid → Gives (λ task. task) result (Ok (Grid grid)) }
+    // A refusal is told only in its case: what is judged before the fault is as it must be, and then comes the fault.
+    ensures refused { IfErr result (λ error. error ≢ Memory → IsCaseOf map.now scenario.now row error) }
+    // In its case a refusal is told, unless memory ran out.
+    ensures told { (error : GridError) → IsCaseOf map.now scenario.now row error → Gives (λ task. task) result (Err error) }
+{
+    let grid = parts_of_texts(alloc, map, scenario, row)?;
+    Ok(Task::of_grid(grid))
 }

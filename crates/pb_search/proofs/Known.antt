@@ -15,7 +15,7 @@ use Rattle.pb_model.proofs.Locality.{weights_stay}
 use Rattle.pb_model.proofs.Soundness.{work_keeps_sound}
 use Rattle.pb_model.proofs.Shown.{incumbents_are_shown, quiet_incumbents_hold}
 use Rattle.pb_lists.specs.Bundle.{Content, row_of, store_of}
-use Rattle.pb_search.specs.Reached.{one_part_guide, unguided, IsReached}
+use Rattle.pb_search.specs.Reached.{one_part_guide, IsReached}
 
 -- no turn breaks an expansion off, lowers the incumbent without a goal's row, or changes the weight
 record IsAlone (works : List Work) : Type 0 where
@@ -73,7 +73,3 @@ module _ (space : Space) (estimate : ℕ → Estimate) (weight : Weight) where
   row_known used bundle incumbent greatest_cost state row proper is_weight found reached =
       let both = reached_sound used bundle incumbent reached greatest_cost proper is_weight in
       let place = both.0.place 0 state row found in (place.1, both.1 0 state row found)
-
--- the estimate 0 is admissible
-pub unguided_admissible : (space : Space) → IsAdmissible space unguided.estimate
-unguided_admissible space state actions cost goal is_state walk is_goal = omega arith

@@ -1,5 +1,5 @@
 -- A turn goes on from what a search has reached.
-use Rattle.std.proofs.Common.{◌≡◌, ◌≢◌, ℕ, ◌+◌, false, cond, ◌==◌, List, [], ◌∷◌, ◌++◌, ◌<◌, length, take, get_or, Option, Some, IsTrue, refl, sym, ap, ◌∙◌, subst, arith, inl, inr}
+use Rattle.std.proofs.Common.{◌≡◌, ◌≢◌, ℕ, ◌+◌, false, cond, ◌==◌, List, [], ◌∷◌, ◌++◌, ◌<◌, length, take, get_or, Option, Some, None, ◌&&◌, IsTrue, refl, sym, ap, ◌∙◌, subst, arith, inl, inr}
 use Rattle.std.proofs.lemmas.List.{take_more}
 use Rattle.pb_model.specs.declared.row.Estimate.{Estimate}
 use Rattle.pb_model.specs.declared.row.Status.{Status}
@@ -19,7 +19,7 @@ use Rattle.pb_model.proofs.Offers.{Left, offers_leave, offers_push}
 use Rattle.pb_model.proofs.Successors.{are_steps}
 use Rattle.pb_model.proofs.Locality.{comes_push, expansions_append}
 use Rattle.pb_model.proofs.OnePart.{work_in_one_part}
-use Rattle.pb_lists.specs.Bundle.{Content, row_of, store_of, SetsRow, SetsStatus, IsOpened}
+use Rattle.pb_lists.specs.Bundle.{Content, row_of, store_of, put, SetsRow, SetsStatus, IsOpened}
 use Rattle.pb_search.specs.Reached.{one_part_guide, IsReached, IsNext, HasOffers}
 
 -- one more turn at the end
@@ -94,6 +94,26 @@ module _ (space : Space) (estimate : ℕ → Estimate) (weight : Weight) where
       go : Left space one_part own g 0 own (old own) (row_after_offers one_part own g (steps space own) 0 own (old own)) → IsOpened (mid own)
       go (inl same) = (row, has own ∙ same ∙ found, opened)
       go (inr fresh) = (fresh.row, has own ∙ fresh.is, fresh.opened)
+
+  -- a bundle with the start's row alone is what a search begins with
+  pub opening_reached : (bundle : Content) → bundle ≡ put (record { entries = []; weight = weight }) space.start (offered_row 0 (estimate space.start) None 0 None)
+      → IsReached space one_part weight 0 bundle None
+  opening_reached bundle is = record {
+    works = [];
+    is_search = record { comes = ap (λ b. store_of b None) is ∙ alone; turns = tt };
+    count = refl;
+  }
+    where
+      start_row : Option Row
+      start_row = Some (offered_row 0 (estimate space.start) None 0 None)
+
+      alone_at : (home state : ℕ) → cond (home == 0) (cond (state == space.start) start_row None) None ≡ cond ((home == 0) && (state == space.start)) start_row None
+      alone_at home state = by_cases (home == 0)
+          (λ e. ap (λ b. cond b (cond (state == space.start) start_row None) None) e ∙ sym (ap (λ b. cond (b && (state == space.start)) start_row None) e))
+          (λ e. ap (λ b. cond b (cond (state == space.start) start_row None) None) e ∙ sym (ap (λ b. cond (b && (state == space.start)) start_row None) e))
+
+      alone : store_of (put (record { entries = []; weight = weight }) space.start (offered_row 0 (estimate space.start) None 0 None)) None ≡ opening_store space one_part weight
+      alone = λ i. record { rows = λ home state. alone_at home state i; incumbent = None; weight = weight }
 
   -- ---- the turns
 

@@ -1,7 +1,6 @@
 -- What a search over one bundle has done.
-use Rattle.std.specs.Prelude.{◌≡◌, ℕ, List, Option, IsFalse, sum_by}
+use Rattle.std.specs.Prelude.{◌≡◌, ℕ, ◌<◌, List, length, take, Option, IsFalse, sum_by}
 use Rattle.pb_model.specs.declared.row.Estimate.{Estimate}
-use Rattle.pb_model.specs.declared.row.Estimate.TheVariants.{Cost}
 use Rattle.pb_model.specs.declared.row.Row.{Row}
 use Rattle.pb_model.specs.declared.row.Status.{Status}
 use Rattle.pb_model.specs.declared.row.Status.TheVariants.{Opened, Closed, Cut}
@@ -13,15 +12,17 @@ use Rattle.pb_model.specs.Store.{Part, MayBeCut}
 use Rattle.pb_model.specs.Key.{IsFirstRow}
 use Rattle.pb_model.specs.Work.{Work, row_after_offers, expansions}
 use Rattle.pb_model.specs.Turns.{IsSearch}
+use Rattle.pb_task.specs.declared.parts.Parts.{Parts}
+use Rattle.pb_estimate.specs.Estimates.{estimate_of}
 use Rattle.pb_lists.specs.Bundle.{Content, row_of, store_of}
 
 -- the guide of a search whose store has one part
 abbrev pub one_part_guide : (estimate : ℕ → Estimate) → Guide
 one_part_guide estimate = record { estimate = estimate; home = λ state. 0 }
 
--- the estimate of each state is 0
-abbrev pub unguided : Guide
-unguided = one_part_guide (λ state. Cost 0)
+-- the guide of a search for this task: the estimate of each state is the task's own, a lower bound on the cost of every way from there to a goal
+abbrev pub guided : Parts → Guide
+guided parts = one_part_guide (estimate_of parts)
 
 -- the weight 1
 abbrev pub unweighted : Weight
@@ -43,6 +44,10 @@ pub record IsNext (space : Space) (bundle : Content) (incumbent : Option ℕ) (s
 -- these successors of a row with this g were offered, one after another
 abbrev pub HasOffers : Guide → (parent g : ℕ) → List Succ → (old new : Part) → Type 0
 HasOffers guide parent g succs old new = (state : ℕ) → new state ≡ row_after_offers guide parent g succs 0 state (old state)
+
+-- The first of these successors were offered and at least one was not: want of memory broke the expansion off, and no status was changed but by those offers.
+abbrev pub IsBrokenOff : Guide → (parent g : ℕ) → List Succ → (old new : Part) → Type 0
+IsBrokenOff guide parent g succs old new = (count : ℕ) × (count < length succs) × HasOffers guide parent g (take count succs) old new
 
 abbrev pub one_if_opened : Status → ℕ
 one_if_opened Opened = 1

@@ -1,4 +1,5 @@
-//! The search of one worker over one bundle of rows: best-first search that opens rows again (Hart, Nilsson, Raphael 1968).
+//! The search of one worker over one bundle of rows: A* with the task's own estimates, which opens rows again (Hart, Nilsson, Raphael
+//! 1968).
 //!
 //! What the contracts cite is in `specs`: `IsReached` says by which turns a search came to its bundle and its incumbent.
 #![tactic(auto)]

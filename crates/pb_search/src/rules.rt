@@ -1,21 +1,14 @@
 ghost use Rattle.std.specs.Prelude.{◌≡◌, ◌↔◌, Some, IsTrue};
 ghost use Rattle.pb_model.specs.Store.{lesser, MayBeCut};
-ghost use Rattle.pb_search.specs.Reached.{unguided, unweighted};
+ghost use Rattle.pb_search.specs.Reached.{unweighted};
 
 use pb_model::Estimate;
-use pb_packed::Packed;
 
-/// The weight of the search, as a fraction.
+/// The numerator of the search's weight.
 pub const WEIGHT_NUM: u64 = 1;
 
+/// The denominator of the search's weight.
 pub const WEIGHT_DEN: u64 = 1;
-
-/// The estimate of a state: 0, which is below the cost of each way to a goal.
-pub fn estimate_of(_state: &Packed) -> Estimate
-    ensures { result ≡ unguided.estimate _state.now }
-{
-    Estimate::Cost(0)
-}
 
 /// Whether a row with this g and estimate may be cut under this incumbent.
 pub fn may_be_cut(incumbent: Option<u64>, g: u64, estimate: Estimate) -> bool

@@ -1,6 +1,8 @@
+ghost use Rattle.std.specs.Prelude.{◌<◌, ◌^◌};
+
 use crate::{Found, Stop, search};
 use pb_lists::Bundle;
-use pb_model::Status;
+use pb_model::{Estimate, Status};
 use pb_packed::Packed;
 use pb_task::{Cells, Class, GridParts, Task};
 use std::alloc::{AllocError, Global};
@@ -34,18 +36,50 @@ fn count(bundle: &Bundle, status: Status) -> u64 {
     count
 }
 
+// The state of a cell.
+fn cell(x: u64, y: u64) -> Packed
+    requires x { x < 2 ^ 11 }
+    requires y { y < 2 ^ 11 }
+{
+    Packed::zero().with_bits(0, 11, x).with_bits(11, 11, y)
+}
+
+// The Manhattan distance leads straight along the upper and the right side: every other row that is met is cut.
 #[test]
 fn a_way_across_an_open_map(rt: HostRuntime) -> Result<(), Fail> {
     let task = map(rt.alloc(), Class::Land, true)?;
     let found = search(rt.alloc(), &task, 100)?;
-    assert!(rt; found.stop == Stop::Quiet && found.used == 8 && found.incumbent == Some(4));
-    assert!(rt;
-        count(&found.bundle, Status::Closed) == 8 && count(&found.bundle, Status::Cut) == 1
-    );
-    let goal = Packed::zero().with_bits(0, 11, 2).with_bits(11, 11, 2);
-    match found.bundle.row(&goal) {
-        Some(row) => assert!(rt; row.g == 4 && row.status == Status::Cut),
-        None => assert!(rt; false),
+    assert!(rt; found.stop == Stop::Quiet && found.used == 4 && found.incumbent == Some(4));
+    assert_eq!(rt; found.bundle.len(), 7);
+    for (x, y, g, h, status) in [
+        (0, 0, 0, 4, Status::Closed),
+        (1, 0, 1, 3, Status::Closed),
+        (2, 0, 2, 2, Status::Closed),
+        (0, 1, 1, 3, Status::Cut),
+        (1, 1, 2, 2, Status::Cut),
+        (2, 1, 3, 1, Status::Closed),
+        (2, 2, 4, 0, Status::Cut),
+    ] {
+        match found.bundle.row(&cell(x, y)) {
+            Some(row) => {
+                assert!(rt; row.g == g && row.estimate == Estimate::Cost(h) && row.status == status)
+            }
+            None => assert!(rt; false),
+        }
+    }
+    Ok(())
+}
+
+#[test]
+fn budgets_on_an_open_map(rt: HostRuntime) -> Result<(), Fail> {
+    let task = map(rt.alloc(), Class::Land, true)?;
+    for (budget, used, incumbent, stop) in [
+        (2, 2, None, Stop::Spent),
+        (3, 3, None, Stop::Spent),
+        (4, 4, Some(4), Stop::Quiet),
+    ] {
+        let found = search(rt.alloc(), &task, budget)?;
+        assert!(rt; found.stop == stop && found.used == used && found.incumbent == incumbent);
     }
     Ok(())
 }

@@ -1,5 +1,5 @@
 -- What words mean: the command that they are, or the first test that they fail.
-use Rattle.std.specs.Prelude.{ℕ, List, [], ◌∷◌, Option, None, Some, if◌then◌else◌, codes}
+use Rattle.std.specs.Prelude.{ℕ, ◌≤◌, List, [], ◌∷◌, Option, None, Some, if◌then◌else◌, codes}
 use Rattle.std.specs.Str.{bytes_eq}
 use Rattle.clap.specs.Words.{Kinds, Row, Text, fault_of, first_of, subcommand_of}
 use Rattle.pb_words.specs.Parser.{the_program, row_option, budget_option}
@@ -73,3 +73,8 @@ unless_faulty (k ∷ ks) reading = Refused fault.Form
 -- the words are refused where clap finds a fault in them, and else are what the values of their subcommand ask for
 abbrev pub reading_of_words : List Text → Reading
 reading_of_words words = unless_faulty (fault_of the_program words) (command_met (subcommand_of the_program words))
+
+-- the numbers of a command lie in their ranges
+abbrev pub IsInRange : Meaning → Type 0
+IsInRange (Solve solve) = (solve.row ≤ row_option.most) × (budget_option.least ≤ solve.budget) × (solve.budget ≤ budget_option.most)
+IsInRange (Check check) = check.row ≤ row_option.most

@@ -2,7 +2,7 @@
 ghost use Rattle.std.specs.Prelude.{◌≡◌, map, IfOk, IfErr, MatchResult};
 ghost use Rattle.std.specs.String.{string_bytes};
 ghost use Rattle.clap.specs.Words.{found_of, rows_of};
-ghost use Rattle.pb_words.specs.Meaning.{reading_of_words, command_of, solve_of, check_of, Read, Refused, Solve, Check};
+ghost use Rattle.pb_words.specs.Meaning.{reading_of_words, command_of, solve_of, check_of, Read, Refused, Solve, Check, IsInRange};
 ghost use Rattle.pb_words.specs.Causes.{IsCause, IsRefusal, EndsLine, meaning_of, solve_meant, check_meant};
 
 use crate::command::{CheckCommand, CommandLine, SolveCommand};
@@ -15,7 +15,8 @@ use std::alloc::{AllocError, Global};
 
 // What the values of `solve` ask for.
 fn read_solve<'a>(matches: &ArgMatches<'a>) -> Result<SolveCommand<'a>, Fault>
-    ensures { MatchResult result (λ s. solve_of (rows_of (found_of matches.now)) ≡ Read (Solve (solve_meant s))) (λ f. solve_of (rows_of (found_of matches.now)) ≡ Refused f) }
+    ensures read { MatchResult result (λ s. solve_of (rows_of (found_of matches.now)) ≡ Read (Solve (solve_meant s))) (λ f. solve_of (rows_of (found_of matches.now)) ≡ Refused f) }
+    ensures ranges { IfOk result (λ s. IsInRange (Solve (solve_meant s))) }
 {
     let kind = known_kind(text(matches, "KIND"));
     let first = text(matches, "FIRST_FILE");
@@ -42,7 +43,8 @@ fn read_solve<'a>(matches: &ArgMatches<'a>) -> Result<SolveCommand<'a>, Fault>
 
 // What the values of `check` ask for.
 fn read_check<'a>(matches: &ArgMatches<'a>) -> Result<CheckCommand<'a>, Fault>
-    ensures { MatchResult result (λ s. check_of (rows_of (found_of matches.now)) ≡ Read (Check (check_meant s))) (λ f. check_of (rows_of (found_of matches.now)) ≡ Refused f) }
+    ensures read { MatchResult result (λ s. check_of (rows_of (found_of matches.now)) ≡ Read (Check (check_meant s))) (λ f. check_of (rows_of (found_of matches.now)) ≡ Refused f) }
+    ensures ranges { IfOk result (λ s. IsInRange (Check (check_meant s))) }
 {
     let kind = known_kind(text(matches, "KIND"));
     let certificate = text(matches, "CERTIFICATE");
@@ -67,7 +69,8 @@ fn read_check<'a>(matches: &ArgMatches<'a>) -> Result<CheckCommand<'a>, Fault>
 
 // What the values of a subcommand ask for.
 fn read_command<'a>(name: &str, matches: &ArgMatches<'a>) -> Result<CommandLine<'a>, Fault>
-    ensures { MatchResult result (λ s. command_of name.now (rows_of (found_of matches.now)) ≡ Read (meaning_of s)) (λ f. command_of name.now (rows_of (found_of matches.now)) ≡ Refused f) }
+    ensures read { MatchResult result (λ s. command_of name.now (rows_of (found_of matches.now)) ≡ Read (meaning_of s)) (λ f. command_of name.now (rows_of (found_of matches.now)) ≡ Refused f) }
+    ensures ranges { IfOk result (λ c. IsInRange (meaning_of c)) }
 {
     if name == "solve" {
         return match read_solve(matches) {
@@ -102,6 +105,8 @@ fn form_refusal(alloc: Global, error: &Error) -> Refusal
 /// printed of it. The tests come in this order: the form, the kind, the number of files.
 pub fn read_words<'a>(alloc: Global, words: &'a [String]) -> Result<CommandLine<'a>, Refusal>
     ensures read { IfOk result (λ c. reading_of_words (map string_bytes words.entry.now) ≡ Read (meaning_of c)) }
+    // Its numbers lie in their ranges.
+    ensures ranges { IfOk result (λ c. IsInRange (meaning_of c)) }
     ensures refused { IfErr result (λ r. IsCause (reading_of_words (map string_bytes words.entry.now)) r) }
 {
     let program = program(alloc)?;

@@ -1,5 +1,5 @@
 //! What the values of a parse are.
-ghost use Rattle.std.specs.Prelude.{◌≡◌, Some, option_map};
+ghost use Rattle.std.specs.Prelude.{◌≡◌, ◌≤◌, Some, IfSome, option_map};
 ghost use Rattle.clap.specs.Words.{first_of, found_of, one_of, rows_of};
 ghost use Rattle.pb_words.specs.Values.{number_in, kind_of_text, input_of};
 ghost use Rattle.pb_words.specs.Causes.{input_meant};
@@ -31,7 +31,9 @@ pub(crate) fn number(
     most: u64,
     default: u64,
 ) -> Option<u64>
-    ensures { result ≡ number_in least most (Some default) (one_of id.now (rows_of (found_of matches.now))) }
+    requires { (least ≤ default) × (default ≤ most) }
+    ensures number { result ≡ number_in least most (Some default) (one_of id.now (rows_of (found_of matches.now))) }
+    ensures range { IfSome result (λ n. (least ≤ n) × (n ≤ most)) }
 {
     match matches.try_get_one::<u64>(id) {
         Ok(None) => Some(default),

@@ -10,9 +10,8 @@ use Rattle.pb_task.specs.Grid.{direction}
 use Rattle.pb_task.specs.Parts.{space_of, action_name, IsTask, greatest_cost}
 use Rattle.pb_task.proofs.Grids.{tasks_are_proper}
 use Rattle.pb_search.specs.Reached.{unweighted}
-use Rattle.pbnf.specs.Texts.{plan_text}
-use Rattle.pbnf.specs.Claims.{Certifies, Solves, PrintsLeastCost, SavesPlan}
-use Rattle.pbnf.specs.Answer.{Says, Saves}
+use Rattle.pb_report.specs.Texts.{plan_text}
+use Rattle.pbnf.specs.Claims.{Saved, Certifies, Solves, PrintsLeastCost, SavesPlan}
 use Rattle.pbnf.proofs.Reports.{IsFree, AreFree, report_tells_cost, report_tells_steps}
 
 -- ---- the names of actions
@@ -84,7 +83,8 @@ module _ (space : Space) (most : ℕ) (proper : IsProper space most) where
 
 -- ---- the plan that a report tells
 
-module _ (parts : Parts) (lawful : IsTask parts) (report : List ℕ) (saved : Option (List ℕ)) (solves : Solves (Says report) (Saves saved) parts) where
+module _ (parts : Parts) (lawful : IsTask parts) (report : List ℕ) (saves : Option Saved → Type 0) (name : Option (List ℕ))
+    (solves : Solves (λ text. report ≡ text) saves name parts) where
   proper : IsProper (space_of parts) greatest_cost
   proper = (tasks_are_proper parts lawful).0
 
@@ -93,12 +93,12 @@ module _ (parts : Parts) (lawful : IsTask parts) (report : List ℕ) (saved : Op
       let short = walk_length (space_of parts) greatest_cost proper plan.actions (space_of parts).start plan.cost is.0 is.1 in
       omega (arith, length-map plan.actions (action_name parts), short, small)
 
-  pub prints_least_cost : PrintsLeastCost (Says report) parts
+  pub prints_least_cost : PrintsLeastCost (λ text. report ≡ text) parts
   prints_least_cost steps cost bound small says =
       let same = report_tells_cost (map (action_name parts) solves.0.actions) steps solves.0.cost solves.1 cost bound solves.7 small (sym solves.2 ∙ says) in
       subst (λ c. NoneCheaper (space_of parts) unweighted c) same solves.5
 
-  same_plan : (plan : Plan) (bound : ℕ) → IsPlan (space_of parts) plan → plan.cost < 2 ^ 64 → Says report (plan_text parts plan bound) → solves.0 ≡ plan
+  same_plan : (plan : Plan) (bound : ℕ) → IsPlan (space_of parts) plan → plan.cost < 2 ^ 64 → report ≡ plan_text parts plan bound → solves.0 ≡ plan
   same_plan plan bound is small says =
       let known = solves.0 in
       let cost = report_tells_cost (map (action_name parts) known.actions) (map (action_name parts) plan.actions) known.cost solves.1 plan.cost bound solves.7 small (sym solves.2 ∙ says) in
@@ -109,5 +109,5 @@ module _ (parts : Parts) (lawful : IsTask parts) (report : List ℕ) (saved : Op
       (walk_actions (space_of parts) greatest_cost proper plan.actions (space_of parts).start plan.cost is.0 is.1) steps in
       λ i. record { actions = actions i; cost = cost i }
 
-  pub saves_plan : SavesPlan (Says report) (Saves saved) parts
-  saves_plan plan bound is small says = subst (λ (p : Plan). Certifies (Saves saved) parts (Some p)) (same_plan plan bound is small says) solves.6
+  pub saves_plan : SavesPlan (λ text. report ≡ text) saves name parts
+  saves_plan plan bound is small says = subst (λ (p : Plan). Certifies saves name parts (Some p)) (same_plan plan bound is small says) solves.6

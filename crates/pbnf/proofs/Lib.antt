@@ -1,9 +1,6 @@
-pub mod Word
 pub mod Reports
 pub mod Groups
-pub mod Ended
-pub mod Causes
 pub mod Certified
-pub mod Steps
-pub mod Spelled
-pub mod Loaded
+pub mod Loads
+pub mod Told
+pub mod Ended

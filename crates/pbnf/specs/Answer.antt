@@ -1,86 +1,88 @@
--- What is answered of the task that two texts spell: the status, the report, and the text of the certificate that is to be saved, if any.
-use Rattle.std.specs.Prelude.{◌≡◌, ℕ, ◌≤◌, ◌⊎◌, Option, None, Some, IfSome, List, length, codes}
+-- What is answered of a command line and of the texts that were loaded of its files.
+use Rattle.std.specs.Prelude.{◌≡◌, ◌⊎◌, ℕ, Option, None, Some, List, Result, Ok, Err}
 use Rattle.std.specs.Option.{option_map}
 use Rattle.pb_model.specs.Plan.{HasNoPlan}
 use Rattle.pb_model.specs.Turns.{StopsAfter}
-use Rattle.pb_model.specs.Texts.{line, none_report, stopped_report}
+use Rattle.pb_model.specs.Texts.{none_report, stopped_report}
 use Rattle.pb_task.specs.declared.parts.Parts.{Parts}
 use Rattle.pb_task.specs.Parts.{space_of}
-use Rattle.pb_search.specs.Reached.{unguided, unweighted}
-use Rattle.pb_cert.specs.Stated.{Stated, text_of}
+use Rattle.pb_search.specs.Reached.{guided, unweighted}
+use Rattle.pb_cert.specs.Stated.{text_of}
+use Rattle.pb_words.specs.Meaning.{Reading, Refused, Read, Solve, Check, reading_of_words}
+use Rattle.pb_words.specs.Causes.{IsPrinted}
 use Rattle.pb_outside.specs.Outside.{Files}
-use Rattle.pbnf.specs.Words.{budget, longest_file, Asks, AsksNothing}
-use Rattle.pbnf.specs.Texts.{SpellNothing, OfTexts, IsLong, IsShort}
-use Rattle.pbnf.specs.Claims.{Solves, PrintsLeastCost, SavesPlan, Certifies}
+use Rattle.pbnf.specs.Asked.{files_of}
+use Rattle.pbnf.specs.Loaded.{AreLoaded, solve_task, check_task}
+use Rattle.pbnf.specs.Claims.{Saved, Certifies, Solves, PrintsLeastCost, SavesPlan, Accepts, Rejects}
+use Rattle.pbnf.specs.declared.answer.Answer.{Answer}
+use Rattle.pbnf.specs.declared.answer.SavedCertificate.{SavedCertificate}
 
--- the report is this text, and the certificate's text is that one
-abbrev pub Says : (report : List ℕ) → List ℕ → Type 0
-Says report text = report ≡ text
+-- the status, the report, and what is to be saved, if anything
+pub record Said : Type 0 where
+  pub status : ℕ
+  pub report : List ℕ
+  pub saved : Option Saved
 
-abbrev pub Saves : (saved : Option (List ℕ)) → List ℕ → Type 0
-Saves saved text = saved ≡ Some text
+abbrev pub file_of : SavedCertificate → Saved
+file_of file = (file.name.now, text_of file.certificate)
 
--- the text of the certificate that is to be saved, if any
-abbrev pub saved_of : Option Stated → Option (List ℕ)
-saved_of certificate = option_map text_of certificate
+abbrev pub said_of : Answer → Said
+said_of answer = record { status = answer.status; report = answer.report; saved = option_map file_of answer.saved }
 
--- ---- of a task
+-- the report is this text
+abbrev pub Says : Said → List ℕ → Type 0
+Says said text = said.report ≡ text
 
--- a cheapest plan is reported, with its certificate; whatever plan is read off the report, it is the one that all this is said of
-abbrev pub IsSolved : Parts → (status : ℕ) → (report : List ℕ) → (saved : Option (List ℕ)) → Type 0
-IsSolved parts status report saved =
-    (status ≡ 0) × Solves (Says report) (Saves saved) parts × PrintsLeastCost (Says report) parts × SavesPlan (Says report) (Saves saved) parts
+-- this is to be saved
+abbrev pub Saves : Said → Option Saved → Type 0
+Saves said saved = said.saved ≡ saved
+
+-- ---- of a task that is to be solved
+
+-- a cheapest plan is reported, with its certificate, if it is to be saved under a name; whatever plan is read off the report, it is the one
+-- that all this is said of
+abbrev pub IsSolved : (name : Option (List ℕ)) → Parts → Said → Type 0
+IsSolved name parts said =
+    (said.status ≡ 0) × Solves (Says said) (Saves said) name parts × PrintsLeastCost (Says said) parts × SavesPlan (Says said) (Saves said) name parts
 
 -- it is reported that there is no plan, with the certificate of that
-abbrev pub IsUnsolvable : Parts → (status : ℕ) → (report : List ℕ) → (saved : Option (List ℕ)) → Type 0
-IsUnsolvable parts status report saved = (status ≡ 1) × (report ≡ none_report) × HasNoPlan (space_of parts) × Certifies (Saves saved) parts None
+abbrev pub IsUnsolvable : (name : Option (List ℕ)) → Parts → Said → Type 0
+IsUnsolvable name parts said = (said.status ≡ 1) × Says said none_report × HasNoPlan (space_of parts) × Certifies (Saves said) name parts None
 
 -- the budget of expansions was used up, and there is no certificate
-abbrev pub IsStopped : Parts → (status : ℕ) → (report : List ℕ) → (saved : Option (List ℕ)) → Type 0
-IsStopped parts status report saved = (status ≡ 2) × (report ≡ stopped_report budget) × (saved ≡ None) × StopsAfter (space_of parts) unguided unweighted budget
+abbrev pub IsStopped : (budget : ℕ) → Parts → Said → Type 0
+IsStopped budget parts said =
+    (said.status ≡ 2) × Says said (stopped_report budget) × Saves said None × StopsAfter (space_of parts) (guided parts) unweighted budget
 
-abbrev pub IsAnswerOf : Parts → (status : ℕ) → (report : List ℕ) → (saved : Option (List ℕ)) → Type 0
-IsAnswerOf parts status report saved = IsSolved parts status report saved ⊎ (IsUnsolvable parts status report saved ⊎ IsStopped parts status report saved)
+abbrev pub IsFound : (budget : ℕ) → (name : Option (List ℕ)) → Parts → Said → Type 0
+IsFound budget name parts said = IsSolved name parts said ⊎ (IsUnsolvable name parts said ⊎ IsStopped budget parts said)
 
--- ---- of two texts
+-- ---- of a certificate that is to be checked
 
--- the texts spell no task
-abbrev pub IsFormless : (map_text scenario_text : List ℕ) → (status : ℕ) → (report : List ℕ) → (saved : Option (List ℕ)) → Type 0
-IsFormless map_text scenario_text status report saved =
-    (status ≡ 65) × (report ≡ line (codes "input Form")) × (saved ≡ None) × SpellNothing map_text scenario_text
+abbrev pub IsChecked : Parts → (certificate : List ℕ) → Said → Type 0
+IsChecked parts certificate said =
+    ((said.status ≡ 0) × (said.saved ≡ None) × Accepts (Says said) parts certificate) ⊎ ((said.status ≡ 3) × (said.saved ≡ None) × Rejects (Says said) parts certificate)
 
-abbrev pub IsAnswer : (map_text scenario_text : List ℕ) → (status : ℕ) → (report : List ℕ) → (saved : Option (List ℕ)) → Type 0
-IsAnswer map_text scenario_text status report saved =
-    OfTexts map_text scenario_text (λ parts. IsAnswerOf parts status report saved) ⊎ IsFormless map_text scenario_text status report saved
+-- ---- of the words and the texts
 
--- ---- of the words and the files that they name
+-- the input is refused with this report
+abbrev pub IsRefused : (report : List ℕ) → Said → Type 0
+IsRefused report said = (said.status ≡ 65) × Says said report × (said.saved ≡ None)
 
--- the words are no command line
-abbrev pub IsFaulty : (words : List (List ℕ)) → (status : ℕ) → (report : List ℕ) → (saved : Option (List ℕ)) → Type 0
-IsFaulty words status report saved = (status ≡ 64) × (report ≡ line (codes "words form")) × (saved ≡ None) × AsksNothing words
+-- what P says of a task, or the refusal of the texts
+abbrev pub OrRefused : {A : Type 0} → Result A (List ℕ) → (P : A → Said → Type 0) → Said → Type 0
+OrRefused (Ok task) P said = P task said
+OrRefused (Err report) P said = IsRefused report said
 
--- the file of this name was loaded with this text; a shelf that tells its files tells this one
-abbrev pub IsLoaded : Option Files → (name text : List ℕ) → Type 0
-IsLoaded files name text = (length text ≤ longest_file) × IfSome files (λ told. told name ≡ Some text)
+abbrev pub AnswersReading : Reading → (texts : List (List ℕ)) → Said → Type 0
+AnswersReading (Refused fault) texts said = (said.status ≡ 64) × IsPrinted fault said.report × (said.saved ≡ None)
+AnswersReading (Read (Solve solve)) texts said = OrRefused (solve_task solve texts) (IsFound solve.budget solve.certificate) said
+AnswersReading (Read (Check check)) texts said = OrRefused (check_task check texts) (λ task. IsChecked task.0 task.1) said
 
--- one of the two files is too long
-abbrev pub IsTooLong : Option Files → (map_name scenario_name : List ℕ) → (status : ℕ) → (report : List ℕ) → (saved : Option (List ℕ)) → Type 0
-IsTooLong files map_name scenario_name status report saved =
-    (status ≡ 65) × (report ≡ line (codes "input TooLong")) × (saved ≡ None)
-    × IfSome files (λ told. IsLong told map_name ⊎ ((map_text : List ℕ) × IsShort told map_name map_text × IsLong told scenario_name))
+-- this is answered of the words and of the texts that were loaded
+abbrev pub Answers : (words texts : List (List ℕ)) → Said → Type 0
+Answers words texts said = AnswersReading (reading_of_words words) texts said
 
--- both files were loaded, and this is answered of their texts
-abbrev pub IsAnsweredOf : Option Files → (map_name scenario_name : List ℕ) → (status : ℕ) → (report : List ℕ) → (saved : Option (List ℕ)) → Type 0
-IsAnsweredOf files map_name scenario_name status report saved =
-    (map_text : List ℕ) × (scenario_text : List ℕ) × IsLoaded files map_name map_text × IsLoaded files scenario_name scenario_text
-    × IsAnswer map_text scenario_text status report saved
-
--- the words ask for a task, and this is answered of the files that they name
-abbrev pub IsAskedFor : (words : List (List ℕ)) → Option Files → (status : ℕ) → (report : List ℕ) → (saved : Option (List ℕ)) → Type 0
-IsAskedFor words files status report saved =
-    (map_name : List ℕ) × (scenario_name : List ℕ) × (certificate_name : List ℕ) × Asks words map_name scenario_name certificate_name
-    × (IsTooLong files map_name scenario_name status report saved ⊎ IsAnsweredOf files map_name scenario_name status report saved)
-
--- this is answered of the words and the files
-abbrev pub AnswersWords : (words : List (List ℕ)) → Option Files → (status : ℕ) → (report : List ℕ) → (saved : Option (List ℕ)) → Type 0
-AnswersWords words files status report saved = IsFaulty words status report saved ⊎ IsAskedFor words files status report saved
+-- this is answered of the words and of the texts that were loaded of the files
+abbrev pub AnswersFiles : Reading → Option Files → Said → Type 0
+AnswersFiles reading files said = (texts : List (List ℕ)) × AreLoaded files (files_of reading) texts × AnswersReading reading texts said

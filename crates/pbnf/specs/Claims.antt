@@ -1,28 +1,43 @@
--- What the program claims of a task, by the text that it prints and the text of the certificate that it saves.
-use Rattle.std.specs.Prelude.{ℕ, ◌^◌, ◌<◌, Option, Some, List}
+-- What the program claims of a task, by the text that it prints and the certificate that it saves or checks.
+use Rattle.std.specs.Prelude.{◌≡◌, ℕ, ◌^◌, ◌<◌, Option, None, Some, List, Ok, Err}
 use Rattle.pb_model.specs.Plan.{Plan, IsPlan, NoneCheaper, IsBound}
 use Rattle.pb_model.specs.Certificate.{Line, Certificate, IsValid}
 use Rattle.pb_model.specs.Texts.{plan_report, head_1, certificate_text}
 use Rattle.pb_task.specs.declared.parts.Parts.{Parts}
 use Rattle.pb_task.specs.Parts.{space_of}
-use Rattle.pb_search.specs.Reached.{unguided, unweighted}
-use Rattle.pbnf.specs.Texts.{plan_text, kind_of}
+use Rattle.pb_estimate.specs.Estimates.{estimate_of}
+use Rattle.pb_search.specs.Reached.{unweighted}
+use Rattle.pb_check.specs.declared.fault.Fault.{Fault}
+use Rattle.pb_check.specs.declared.fault.Verdict.{Verdict}
+use Rattle.pb_check.specs.Judging.{checked}
+use Rattle.pb_check.specs.Kinds.{kind_of, kind_name}
+use Rattle.pb_check.specs.Shown.{IsAccepted, ShowsClaim, VerdictHolds}
+use Rattle.pb_report.specs.Texts.{plan_text, verdict_text, fault_text}
+
+-- ---- of a search
+
+-- a file that is saved: its name and its text
+abbrev pub Saved : Type 0
+Saved = List ℕ × List ℕ
 
 -- the certificate with this plan, or with none
 abbrev pub certificate_of : Option Plan → List Line → Certificate
 certificate_of plan lines = record { weight = unweighted; plan = plan; lines = lines }
 
--- what is saved is the text of a certificate of the task that is valid and has this plan, or none
-abbrev pub Certifies : (saves : List ℕ → Type 0) → Parts → Option Plan → Type 0
-Certifies saves parts plan =
-    (lines : List Line) × IsValid (space_of parts) unguided.estimate (certificate_of plan lines) × saves (certificate_text (head_1 (kind_of parts)) 64 (certificate_of plan lines))
+-- What is saved under the name is the text of a certificate of the task that is valid and has this plan, or none; without a name nothing
+-- is saved.
+abbrev pub Certifies : (saves : Option Saved → Type 0) → (name : Option (List ℕ)) → Parts → Option Plan → Type 0
+Certifies saves None parts plan = saves None
+Certifies saves (Some name) parts plan =
+    (lines : List Line) × IsValid (space_of parts) (estimate_of parts) (certificate_of plan lines)
+    × saves (Some (name, certificate_text (head_1 (kind_name (kind_of parts))) 64 (certificate_of plan lines)))
 
 -- All of one plan: it is printed with its cost and bound and is a plan of the task, no plan costs less, and the saved certificate has it. Its
 -- cost is a number of 64 bits.
-abbrev pub Solves : (says saves : List ℕ → Type 0) → Parts → Type 0
-Solves says saves parts =
+abbrev pub Solves : (says : List ℕ → Type 0) → (saves : Option Saved → Type 0) → (name : Option (List ℕ)) → Parts → Type 0
+Solves says saves name parts =
     (plan : Plan) × (bound : ℕ) × says (plan_text parts plan bound) × IsPlan (space_of parts) plan × IsBound unweighted plan.cost bound
-    × NoneCheaper (space_of parts) unweighted plan.cost × Certifies saves parts (Some plan) × (plan.cost < 2 ^ 64)
+    × NoneCheaper (space_of parts) unweighted plan.cost × Certifies saves name parts (Some plan) × (plan.cost < 2 ^ 64)
 
 -- A plan of the task is printed, with its cost and bound.
 abbrev pub PrintsPlan : (says : List ℕ → Type 0) → Parts → Type 0
@@ -35,5 +50,22 @@ PrintsLeastCost says parts =
     (steps : List (List ℕ)) (cost bound : ℕ) → cost < 2 ^ 64 → says (plan_report steps cost bound) → NoneCheaper (space_of parts) unweighted cost
 
 -- The saved certificate is valid, and its plan is the one that is printed.
-abbrev pub SavesPlan : (says saves : List ℕ → Type 0) → Parts → Type 0
-SavesPlan says saves parts = (plan : Plan) (bound : ℕ) → IsPlan (space_of parts) plan → plan.cost < 2 ^ 64 → says (plan_text parts plan bound) → Certifies saves parts (Some plan)
+abbrev pub SavesPlan : (says : List ℕ → Type 0) → (saves : Option Saved → Type 0) → (name : Option (List ℕ)) → Parts → Type 0
+SavesPlan says saves name parts =
+    (plan : Plan) (bound : ℕ) → IsPlan (space_of parts) plan → plan.cost < 2 ^ 64 → says (plan_text parts plan bound) → Certifies saves name parts (Some plan)
+
+-- ---- of a certificate that is checked
+
+-- The text is that of a valid certificate of the task, its verdict is printed, and what the certificate claims is true of the task: every
+-- plan of a cost f has num * f >= den * C, where C is the certificate's cost and num / den its weight, or there is none.
+abbrev pub Accepts : (says : List ℕ → Type 0) → Parts → (certificate : List ℕ) → Type 0
+Accepts says parts certificate =
+    (verdict : Verdict) × says (verdict_text verdict) × (checked (space_of parts) (estimate_of parts) (kind_of parts) certificate ≡ Ok verdict)
+    × IsAccepted (space_of parts) (estimate_of parts) (kind_of parts) certificate verdict × ShowsClaim (space_of parts) (kind_of parts) certificate verdict
+    × VerdictHolds (space_of parts) verdict
+
+-- The text is that of no valid certificate of the task, and its first fault is printed.
+abbrev pub Rejects : (says : List ℕ → Type 0) → Parts → (certificate : List ℕ) → Type 0
+Rejects says parts certificate =
+    (fault : Fault) × says (fault_text fault) × (checked (space_of parts) (estimate_of parts) (kind_of parts) certificate ≡ Err fault)
+    × ((verdict : Verdict) → IsAccepted (space_of parts) (estimate_of parts) (kind_of parts) certificate verdict → ⊥)

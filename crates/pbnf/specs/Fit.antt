@@ -1,13 +1,8 @@
 -- Conditions between the parts of the program.
-use Rattle.std.specs.Prelude.{ℕ, ◌≤◌, ◌<◌, List, Result, IfErr, All}
-use Rattle.pb_model.specs.Space.{Space}
+use Rattle.std.specs.Prelude.{ℕ, ◌≤◌, Result, IfErr}
 use Rattle.pb_outside.specs.Outside.{Rose}
 use Rattle.pbnf.specs.declared.loading.Fault.{Fault}
 use Rattle.pbnf.specs.declared.loading.Fault.TheVariants.{OutOfMemory, ShelfFailed}
-
--- each is the number of an action
-abbrev pub AreActions : Space → List ℕ → Type 0
-AreActions space actions = All (λ action. action < space.actions) actions
 
 -- the shelf's fault is told only where its count rose
 abbrev pub IfShelf : Fault → Type 0 → Type 0

@@ -1,20 +1,18 @@
-ghost use Rattle.std.specs.Prelude.{◌≡◌, ◌⊎◌, None, Err, IfOk, IfSome, map, string_bytes};
+ghost use Rattle.std.specs.Prelude.{◌≡◌, ◌≢◌, [], Err, IfOk, map, string_bytes, option_map};
 ghost use Rattle.pb_outside.specs.Outside.{IfTold, KeepsAll};
-ghost use Rattle.pb_model.specs.Texts.{line};
-ghost use Rattle.pbnf.specs.Texts.{IsLong};
-ghost use Rattle.pbnf.specs.Answer.{IsLoaded, IsTooLong, IsAnsweredOf, AnswersWords, saved_of};
-ghost use Rattle.pbnf.specs.Words.{AsksNothing};
+ghost use Rattle.pb_words.specs.Meaning.{reading_of_words};
+ghost use Rattle.pbnf.specs.Asked.{IsFaulty};
+ghost use Rattle.pbnf.specs.Loaded.{AreLoaded};
+ghost use Rattle.pbnf.specs.Answer.{AnswersFiles, said_of};
+ghost use Rattle.pbnf.specs.Files.{wanted_of, LoadsText};
 ghost use Rattle.pbnf.specs.Fit.{FaultRose};
 ghost use Rattle.pbnf.specs.declared.loading.Fault.TheVariants.{ShelfFailed};
 
-use crate::answer::{Answer, answer_texts};
-use crate::report::Report;
-use crate::words::{asks, word_at};
+use crate::answer::{Answer, answer_words};
+use crate::files::{Wanted, files_of};
+use crate::texts::Texts;
 use pb_outside::{Load, Shelf};
 use std::alloc::{AllocError, Global};
-
-// How many bytes an input file may have.
-const LONGEST: u64 = 16_777_216;
 
 /// Why nothing is answered.
 #[derive(Clone, Copy, Debug, PartialEq, Eq)]
@@ -37,13 +35,12 @@ impl From<AllocError> for Fault {
 }
 
 // The bytes of a file, or None where it is too long.
-fn load<H: Shelf>(shelf: &mut H, alloc: Global, name: &str) -> Result<Option<Vec<u8>>, Fault>
-    ensures text { IfOk result (λ loaded. IfSome loaded (λ text. IsLoaded (H.files shelf.old) name.now text.items)) }
-    ensures long { IfOk result (λ loaded. loaded ≡ None → IfSome (H.files shelf.old) (λ told. IsLong told name.now)) }
+fn load<H: Shelf>(shelf: &mut H, alloc: Global, file: Wanted<'_>) -> Result<Option<Vec<u8>>, Fault>
+    ensures text { IfOk result (λ loaded. LoadsText (H.files shelf.old) (wanted_of file.entry) (option_map (λ v. v.items) loaded)) }
     ensures same { IfTold (H.files shelf.old) (H.files shelf.new) KeepsAll }
     ensures fault { FaultRose (H.faults shelf.old) (H.faults shelf.new) result }
 {
-    match shelf.load(alloc, name, LONGEST) {
+    match shelf.load(alloc, file.name, file.most) {
         Ok(bytes) => Ok(Some(bytes)),
         Err(Load::TooLong { seen: _ }) => Ok(None),
         Err(Load::Failed) => Err(Fault::ShelfFailed),
@@ -51,49 +48,39 @@ fn load<H: Shelf>(shelf: &mut H, alloc: Global, name: &str) -> Result<Option<Vec
     }
 }
 
-// The answer that has no certificate.
-fn refusal(alloc: Global, status: u8, text: &[u8]) -> Result<Answer, AllocError>
-    ensures { IfOk result (λ a. (a.status ≡ status) × (a.report ≡ line text.now) × (saved_of a.certificate ≡ None)) }
-{
-    Ok(Answer {
-        status,
-        report: Report::line(alloc, text)?,
-        certificate: None,
-    })
-}
-
-/// Tests the words, loads the files that they name, and answers the task that these spell.
-pub fn decide<H: Shelf>(alloc: Global, words: &[String], shelf: &mut H) -> Result<Answer, Fault>
-    ensures answers { IfOk result (λ a. AnswersWords (map string_bytes words.now) (H.files shelf.old) a.status a.report (saved_of a.certificate)) }
-    ensures asked { result ≡ Err ShelfFailed → AsksNothing (map string_bytes words.now) → ⊥ }
+// Loads the files one after another, up to the first that is too long.
+fn load_all<H: Shelf>(alloc: Global, files: &[Wanted<'_>], shelf: &mut H) -> Result<Texts, Fault>
+    ensures texts { IfOk result (λ texts. AreLoaded (H.files shelf.old) (map wanted_of files.now) texts) }
+    ensures none { result ≡ Err ShelfFailed → files.now ≢ [] }
     ensures same { IfTold (H.files shelf.old) (H.files shelf.new) KeepsAll }
     ensures fault { FaultRose (H.faults shelf.old) (H.faults shelf.new) result }
 {
-    if !asks(words) {
-        return Ok(refusal(alloc, 64, b"words form")?);
+    let mut texts = Texts::new(alloc);
+    for file in files {
+        let Some(text) = load(shelf, alloc, *file)? else {
+            return Ok(texts);
+        };
+        texts.push(text)?;
     }
-    let answer = read_files(alloc, word_at(words, 2), word_at(words, 3), shelf)?;
-    Ok(answer)
+    Ok(texts)
 }
 
-// Loads the two files, and answers the task that they spell.
-fn read_files<H: Shelf>(
+/// Reads the words, loads the files that they name, and answers what they ask.
+pub fn decide<'a, H: Shelf>(
     alloc: Global,
-    map: &str,
-    scenario: &str,
+    words: &'a [String],
     shelf: &mut H,
-) -> Result<Answer, Fault>
-    ensures answers { IfOk result (λ a. IsTooLong (H.files shelf.old) map.now scenario.now a.status a.report (saved_of a.certificate)
-        ⊎ IsAnsweredOf (H.files shelf.old) map.now scenario.now a.status a.report (saved_of a.certificate)) }
+) -> Result<Answer<'a>, Fault>
+    ensures answers { IfOk result (λ a. AnswersFiles (reading_of_words (map string_bytes words.entry.now)) (H.files shelf.old) (said_of a)) }
+    ensures asked { result ≡ Err ShelfFailed → IsFaulty (reading_of_words (map string_bytes words.entry.now)) → ⊥ }
     ensures same { IfTold (H.files shelf.old) (H.files shelf.new) KeepsAll }
     ensures fault { FaultRose (H.faults shelf.old) (H.faults shelf.new) result }
 {
-    let Some(map_text) = load(shelf, alloc, map)? else {
-        return Ok(refusal(alloc, 65, b"input TooLong")?);
+    let files = files_of(alloc, words)?;
+    let texts = match load_all(alloc, &files, shelf) {
+        Ok(texts) => texts,
+        Err(fault) => return Err(fault),
     };
-    let Some(scenario_text) = load(shelf, alloc, scenario)? else {
-        return Ok(refusal(alloc, 65, b"input TooLong")?);
-    };
-    let answer = answer_texts(alloc, &map_text, &scenario_text)?;
+    let answer = answer_words(alloc, words, &texts)?;
     Ok(answer)
 }

@@ -1,17 +1,19 @@
-//! The planner: reads a task from files, finds its cheapest plan or that it has none, and saves a certificate of that.
+//! The planner: reads a task from files, finds its cheapest plan or that it has none, and saves a certificate of that; and checks certificates.
 //!
 //! `run` is the whole program over any shelf, sink and gate, and carries the headline as its contract. `main` gives it the
 //! system's files and standard output.
 #![tactic(auto)]
 
 mod answer;
+mod checking;
 mod ending;
+mod files;
+mod input;
 mod loading;
-mod report;
-mod solution;
+mod searching;
 mod start;
+mod texts;
 mod top;
-mod words;
 
 use crate::start::{unread, words_of};
 use crate::top::run;

@@ -23,17 +23,20 @@ pub fn words_of(alloc: Global, args: env::Args) -> Result<Vec<String>, AllocErro
     Ok(words)
 }
 
+// What is printed where a word isn't UTF-8.
+const NOT_UTF8: &[u8] = b"error: invalid UTF-8 was detected in one or more arguments\n";
+
 // The status where the words couldn't be read: want of memory, or a word that isn't UTF-8, which is a faulty command line.
 pub fn unread<K: Sink>(error: io::Error, out: &mut K) -> u8
     ensures memory { result ≡ 71 → (error_kind error ≡ ErrorKind.OutOfMemory) × PrintsNothing (K.written out.old) (K.written out.new) }
-    ensures words { result ≡ 64 → (error_kind error ≢ ErrorKind.OutOfMemory) × Prints (K.written out.old) (K.written out.new) (line (codes "words form")) }
+    ensures words { result ≡ 64 → (error_kind error ≢ ErrorKind.OutOfMemory) × Prints (K.written out.old) (K.written out.new) (line (codes "error: invalid UTF-8 was detected in one or more arguments")) }
     ensures sink_fault { result ≡ 74 → (error_kind error ≢ ErrorKind.OutOfMemory) × Rose (K.faults out.old) (K.faults out.new) }
-    ensures sink_left { result ≡ 74 → IfTold (K.written out.old) (K.written out.new) (λ before after. AppendsPart before after (line (codes "words form"))) }
+    ensures sink_left { result ≡ 74 → IfTold (K.written out.old) (K.written out.new) (λ before after. AppendsPart before after (line (codes "error: invalid UTF-8 was detected in one or more arguments"))) }
     ensures statuses { (result ≡ 71) ⊎ (result ≡ 64) ⊎ (result ≡ 74) }
 {
     match error.kind() {
         ErrorKind::OutOfMemory => 71,
-        _ => match out.put(b"words form\n") {
+        _ => match out.put(NOT_UTF8) {
             Ok(()) => 64,
             Err(_) => 74,
         },

@@ -2,7 +2,7 @@
 use crate::start::unread;
 use crate::top::run;
 use pb_outside::{MemShelf, MemSink, OpenGate};
-use std::alloc::Global;
+use std::alloc::{AllocError, Global};
 use std::io;
 use std::sync::Wait;
 use std::test::Fail;
@@ -15,6 +15,87 @@ const WALLED_MAP: &str = "type octile\nheight 3\nwidth 3\nmap\n...\n@@@\n...\n";
 const SCENARIO: &str = "version 1\n0\tm\t3\t3\t0\t0\t2\t2\t0\n";
 
 const PLAN: &str = "plan 4 4\nright\nright\ndown\ndown\nbound 4\n";
+
+const SAVING: &str = "solve grid map scenario --cert c";
+
+const CHECKING: &str = "check grid c map scenario";
+
+// The lines of the open map's certificate. Rows are written with the last digits of their states alone.
+const LINES: [&str; 18] = [
+    "pbnf-certificate 1",
+    "kind grid",
+    "weight 1 1",
+    "plan 4",
+    "3",
+    "3",
+    "1",
+    "1",
+    "cost 4",
+    "rows 7",
+    "*0 0 closed",
+    "*1 1 closed",
+    "*2 2 closed",
+    "*800 1 cut",
+    "*801 2 cut",
+    "*802 3 closed",
+    "*1002 4 cut",
+    "end",
+];
+
+// The lines of the walled map's certificate.
+const NONE_LINES: [&str; 9] = [
+    "pbnf-certificate 1",
+    "kind grid",
+    "weight 1 1",
+    "none",
+    "rows 3",
+    "*0 0 closed",
+    "*1 1 closed",
+    "*2 2 closed",
+    "end",
+];
+
+// Adds a line, with the 64 digits of a state that it begins with.
+fn add_line(text: &mut String, line: &str) -> Result<(), AllocError> {
+    match line.strip_prefix("*") {
+        None => text.push_str(line)?,
+        Some(row) => {
+            let digits = row.find(' ').unwrap_or(0);
+            for _ in digits..64 {
+                text.push('0')?;
+            }
+            text.push_str(row)?;
+        }
+    }
+    text.push('\n')?;
+    Ok(())
+}
+
+// The line that stands in place of a line, or an empty one: that of the first change that names it.
+fn in_place_of<'a>(number: usize, line: &'a str, changes: &[(usize, &'a str)]) -> &'a str {
+    for change in changes {
+        if change.0 == number {
+            return change.1;
+        }
+    }
+    line
+}
+
+// A certificate with other lines in place of some, whose numbers are counted from 1. An empty line is left out.
+fn certificate<'a>(
+    alloc: Global,
+    lines: &[&'a str],
+    changes: &[(usize, &'a str)],
+) -> Result<String, AllocError> {
+    let mut text = String::new(alloc);
+    for i in 0..lines.len() {
+        let line = in_place_of(i + 1, lines[i], changes);
+        if !line.is_empty() {
+            add_line(&mut text, line)?;
+        }
+    }
+    Ok(text)
+}
 
 // The words of a command line.
 fn words(alloc: Global, text: &str) -> Result<Vec<String>, Fail> {
@@ -34,7 +115,7 @@ fn shelf(alloc: Global, map: &str, scenario: &str) -> Result<MemShelf, Fail> {
     Ok(shelf)
 }
 
-// What a run answers: the status, what it prints, and the certificate, if a file has its name.
+// The status of a run.
 fn outcome<R: Threads + Wait>(
     rt: &R,
     alloc: Global,
@@ -47,123 +128,195 @@ fn outcome<R: Threads + Wait>(
 }
 
 #[test]
-fn an_open_map_has_a_plan_and_its_certificate(rt: HostRuntime) -> Result<(), Fail> {
-    let mut files = shelf(rt.alloc(), OPEN_MAP, SCENARIO)?;
-    let mut sink = MemSink::new(rt.alloc(), 4096)?;
-    let status = outcome(
-        &rt,
-        rt.alloc(),
-        "solve grid map scenario --cert c",
-        &mut files,
-        &mut sink,
-    )?;
-    assert_eq!(rt; status, 0);
-    assert_eq!(rt; sink.bytes(), PLAN.as_bytes());
-    assert!(rt; files.has("c"));
-    let text = String::from_utf8_lossy(rt.alloc(), files.file("c"))?;
-    let mut lines = text.lines();
-    for wanted in [
-        "pbnf-certificate 1",
-        "kind grid",
-        "weight 1 1",
-        "plan 4",
-        "3",
-        "3",
-        "1",
-        "1",
-        "cost 4",
-        "rows 9",
-    ] {
-        assert_eq!(rt; lines.next(), Some(wanted));
+fn an_open_map_has_a_plan_and_a_certificate_that_is_accepted(rt: HostRuntime) -> Result<(), Fail> {
+    let returns = "type octile\r\nheight 3\r\nwidth 3\r\nmap\r\n...\r\n...\r\n...\r\n";
+    for map in [OPEN_MAP, returns] {
+        let mut files = shelf(rt.alloc(), map, SCENARIO)?;
+        let mut sink = MemSink::new(rt.alloc(), 4096)?;
+        let status = outcome(&rt, rt.alloc(), SAVING, &mut files, &mut sink)?;
+        assert_eq!(rt; status, 0);
+        assert_eq!(rt; sink.bytes(), PLAN.as_bytes());
+        assert!(rt; files.has("c"));
+        let wanted = certificate(rt.alloc(), LINES.as_slice(), [].as_slice())?;
+        assert_eq!(rt; files.file("c"), wanted.as_bytes());
+        let mut verdict = MemSink::new(rt.alloc(), 4096)?;
+        let status = outcome(&rt, rt.alloc(), CHECKING, &mut files, &mut verdict)?;
+        assert_eq!(rt; status, 0);
+        assert_eq!(rt; verdict.bytes(), b"accepted cost 4 bound 4\n".as_slice());
     }
-    for wanted in [
-        "000 0 closed",
-        "001 1 closed",
-        "002 2 closed",
-        "800 1 closed",
-        "801 2 closed",
-        "802 3 closed",
-        "1000 2 closed",
-        "1001 3 closed",
-        "1002 4 cut",
-    ] {
-        let line = lines.next();
-        assert!(rt;
-            line.is_some_and(|line| line.ends_with(wanted) && line.starts_with("0000000000"))
-        );
-    }
-    assert_eq!(rt; lines.next(), Some("end"));
-    assert_eq!(rt; lines.next(), None);
     Ok(())
 }
 
 #[test]
-fn a_walled_map_has_no_plan_and_the_certificate_of_that(rt: HostRuntime) -> Result<(), Fail> {
+fn a_walled_map_has_no_plan_and_the_certificate_of_that_is_accepted(
+    rt: HostRuntime,
+) -> Result<(), Fail> {
     let mut files = shelf(rt.alloc(), WALLED_MAP, SCENARIO)?;
     let mut sink = MemSink::new(rt.alloc(), 4096)?;
-    let status = outcome(
-        &rt,
-        rt.alloc(),
-        "solve grid map scenario --cert c",
-        &mut files,
-        &mut sink,
-    )?;
+    let status = outcome(&rt, rt.alloc(), SAVING, &mut files, &mut sink)?;
     assert_eq!(rt; status, 1);
     assert_eq!(rt; sink.bytes(), b"none\n".as_slice());
     assert!(rt; files.has("c"));
-    let text = String::from_utf8_lossy(rt.alloc(), files.file("c"))?;
-    assert!(rt; text.contains("\nnone\nrows 3\n"));
-    assert_eq!(rt; text.matches(" closed\n").count(), 3);
-    assert_eq!(rt; text.matches(" cut\n").count(), 0);
+    let wanted = certificate(rt.alloc(), NONE_LINES.as_slice(), [].as_slice())?;
+    assert_eq!(rt; files.file("c"), wanted.as_bytes());
+    let mut verdict = MemSink::new(rt.alloc(), 4096)?;
+    let status = outcome(&rt, rt.alloc(), CHECKING, &mut files, &mut verdict)?;
+    assert_eq!(rt; status, 0);
+    assert_eq!(rt; verdict.bytes(), b"accepted none\n".as_slice());
     Ok(())
 }
 
+// Each row has one or two changed lines of the open map's certificate, and what is printed of it.
 #[test]
-fn other_forms_are_refused(rt: HostRuntime) -> Result<(), Fail> {
-    let returns = "type octile\r\nheight 3\r\nwidth 3\r\nmap\r\n...\r\n...\r\n...\r\n";
+fn a_changed_certificate_is_refused_at_its_first_fault(rt: HostRuntime) -> Result<(), Fail> {
+    for (one, two, printed) in [
+        ((10, "rows 6"), (15, ""), "refused Missing 12 1\n"),
+        ((14, "*800 2 cut"), (0, ""), "refused TooDear 11 1\n"),
+        ((14, "*800 0 cut"), (0, ""), "refused Low 14\n"),
+        (
+            (11, "*1 1 closed"),
+            (12, "*0 0 closed"),
+            "refused RowOrder 12\n",
+        ),
+        ((17, "*1002 4 closed"), (0, ""), "refused GoalClosed 17\n"),
+        ((10, "rows 6"), (11, ""), "refused NoStart\n"),
+        ((9, "cost 5"), (0, ""), "refused Cost 5 4\n"),
+        ((18, ""), (0, ""), "refused Syntax 18\n"),
+    ] {
+        let text = certificate(rt.alloc(), LINES.as_slice(), [one, two].as_slice())?;
+        let mut files = shelf(rt.alloc(), OPEN_MAP, SCENARIO)?;
+        files.add("c", text.as_bytes())?;
+        let mut sink = MemSink::new(rt.alloc(), 4096)?;
+        let status = outcome(&rt, rt.alloc(), CHECKING, &mut files, &mut sink)?;
+        assert_eq!(rt; status, 3);
+        assert_eq!(rt; sink.bytes(), printed.as_bytes());
+        assert!(rt; files.has("c"));
+        assert_eq!(rt; files.file("c"), text.as_bytes());
+    }
+    Ok(())
+}
+
+// Each row has the lines of a map after its first one, a row of a scenario, a status and what is printed.
+#[test]
+fn maps_and_scenarios_are_read_or_refused_in_order(rt: HostRuntime) -> Result<(), Fail> {
+    let open = "height 3\nwidth 3\nmap\n...\n...\n...\n";
+    for (map, row, status, printed) in [
+        (
+            "height 1\nwidth 2\nmap\n.W\n",
+            "0\tm\t2\t1\t0\t0\t1\t0\t0",
+            1,
+            "none\n",
+        ),
+        (
+            "height 1\nwidth 2\nmap\nWW\n",
+            "0\tm\t2\t1\t0\t0\t1\t0\t0",
+            0,
+            "plan 1 1\nright\nbound 1\n",
+        ),
+        (
+            "height 1\nwidth 2\nmap\n.S\n",
+            "0\tm\t2\t1\t0\t0\t1\t0\t0",
+            0,
+            "plan 1 1\nright\nbound 1\n",
+        ),
+        (
+            "height 1\nwidth 2\nmap\nT.\n",
+            "0\tm\t2\t1\t0\t0\t1\t0\t0",
+            65,
+            "input StartBlocked\n",
+        ),
+        (
+            "height 1\nwidth 2\nmap\nT.\n",
+            "0\tm\t2\t1\t1\t0\t0\t0\t0",
+            65,
+            "input GoalBlocked\n",
+        ),
+        (
+            "height 2\nwidth 3\nmap\n...\n..\n",
+            "0\tm\t3\t2\t0\t0\t1\t0\t0",
+            65,
+            "input Rows 6\n",
+        ),
+        (
+            "height 1\nwidth 2\nmap\nx.\n",
+            "0\tm\t2\t1\t0\t0\t1\t0\t0",
+            65,
+            "input Cell 5 1\n",
+        ),
+        (open, "0\tm\t3\t3\t3\t0\t2\t2\t0", 65, "input Outside\n"),
+        (
+            open,
+            "0\tm\t4\t3\t0\t0\t2\t2\t0",
+            65,
+            "input ScenarioSize\n",
+        ),
+        (open, "0\tmy map\t3\t3\t0\t0\t2\t2\t0", 0, PLAN),
+    ] {
+        let mut text = String::from_str(rt.alloc(), "type octile\n")?;
+        text.push_str(map)?;
+        let mut scenario = String::from_str(rt.alloc(), "version 1\n")?;
+        scenario.push_str(row)?;
+        let mut files = shelf(rt.alloc(), text.as_str(), scenario.as_str())?;
+        let mut sink = MemSink::new(rt.alloc(), 4096)?;
+        let found = outcome(
+            &rt,
+            rt.alloc(),
+            "solve grid map scenario",
+            &mut files,
+            &mut sink,
+        )?;
+        assert_eq!(rt; sink.bytes(), printed.as_bytes());
+        assert_eq!(rt; found, status);
+        assert!(rt; !files.has("c"));
+    }
+    Ok(())
+}
+
+// Each row has a command line, its status, and what is printed; no certificate is saved.
+#[test]
+fn words_and_files_are_refused_and_budgets_are_kept(rt: HostRuntime) -> Result<(), Fail> {
     for (map, line, status, printed) in [
         (
-            returns,
-            "solve grid map scenario --cert c",
+            WALLED_MAP,
+            "solve grid map scenario --budget 2 --cert c",
+            2,
+            "stopped budget 2\n",
+        ),
+        (
+            WALLED_MAP,
+            "solve grid map scenario --budget 3",
+            1,
+            "none\n",
+        ),
+        (
+            OPEN_MAP,
+            "solve grid map scenario --row 1",
             65,
-            "input Form\n",
+            "input NoRow 1 1\n",
         ),
-        (OPEN_MAP, "solve grid map scenario", 64, "words form\n"),
+        (OPEN_MAP, "solve grid map --cert c", 64, "words files\n"),
         (
             OPEN_MAP,
-            "solve grid map scenario --cert c more",
+            "solve maze map scenario",
             64,
-            "words form\n",
-        ),
-        (
-            OPEN_MAP,
-            "solve tiles map scenario --cert c",
-            64,
-            "words form\n",
+            "error: invalid value 'maze' for '<KIND>'\n  [possible values: grid]\n\nUsage: solve [OPTIONS] <KIND> <FIRST_FILE> [SECOND_FILE]\n",
         ),
         (
             OPEN_MAP,
-            "check grid map scenario --cert c",
+            "solve grid map scenario --help",
             64,
-            "words form\n",
-        ),
-        (
-            OPEN_MAP,
-            "solve grid map scenario --trace c",
-            64,
-            "words form\n",
+            "error: unexpected argument '--help' found\n\n  tip: to pass '--help' as a value, use '-- --help'\n\nUsage: solve <KIND> <FIRST_FILE> <SECOND_FILE>\n",
         ),
         (OPEN_MAP, "solve grid gone scenario --cert c", 73, ""),
         (OPEN_MAP, "solve grid map gone --cert c", 73, ""),
         (OPEN_MAP, "solve grid map scenario --cert d", 73, ""),
+        (OPEN_MAP, "check grid c map scenario", 73, ""),
     ] {
         let mut files = shelf(rt.alloc(), map, SCENARIO)?;
         let mut sink = MemSink::new(rt.alloc(), 4096)?;
-        assert_eq!(rt;
-            outcome(&rt, rt.alloc(), line, &mut files, &mut sink)?,
-            status
-        );
+        let found = outcome(&rt, rt.alloc(), line, &mut files, &mut sink)?;
         assert_eq!(rt; sink.bytes(), printed.as_bytes());
+        assert_eq!(rt; found, status);
         assert!(rt; !files.has("c"));
     }
     Ok(())
@@ -174,13 +327,7 @@ fn a_failing_shelf_keeps_a_first_part(rt: HostRuntime) -> Result<(), Fail> {
     let mut files = shelf(rt.alloc(), OPEN_MAP, SCENARIO)?;
     let mut sink = MemSink::new(rt.alloc(), 4096)?;
     files.fail(4, 10)?;
-    let status = outcome(
-        &rt,
-        rt.alloc(),
-        "solve grid map scenario --cert c",
-        &mut files,
-        &mut sink,
-    )?;
+    let status = outcome(&rt, rt.alloc(), SAVING, &mut files, &mut sink)?;
     assert_eq!(rt; status, 73);
     assert!(rt; files.has("c"));
     assert_eq!(rt; files.file("c"), b"pbnf-certi".as_slice());
@@ -193,17 +340,12 @@ fn a_failing_sink_keeps_a_first_part(rt: HostRuntime) -> Result<(), Fail> {
     let mut files = shelf(rt.alloc(), OPEN_MAP, SCENARIO)?;
     let mut sink = MemSink::new(rt.alloc(), 4096)?;
     sink.fail(1, 6)?;
-    let status = outcome(
-        &rt,
-        rt.alloc(),
-        "solve grid map scenario --cert c",
-        &mut files,
-        &mut sink,
-    )?;
+    let status = outcome(&rt, rt.alloc(), SAVING, &mut files, &mut sink)?;
     assert_eq!(rt; status, 74);
     assert_eq!(rt; sink.bytes(), b"plan 4".as_slice());
     assert!(rt; files.has("c"));
-    assert!(rt; files.file("c").ends_with(b" 4 cut\nend\n"));
+    let whole = certificate(rt.alloc(), LINES.as_slice(), [].as_slice())?;
+    assert_eq!(rt; files.file("c"), whole.as_bytes());
     Ok(())
 }
 
@@ -212,13 +354,7 @@ fn a_file_of_more_than_16_mebibytes_is_too_long(rt: HostRuntime) -> Result<(), F
     let mut files = shelf(rt.alloc(), OPEN_MAP, SCENARIO)?;
     let mut sink = MemSink::new(rt.alloc(), 4096)?;
     files.add("map", &vec![in rt.alloc(); b'.'; 16_777_217]?)?;
-    let status = outcome(
-        &rt,
-        rt.alloc(),
-        "solve grid map scenario --cert c",
-        &mut files,
-        &mut sink,
-    )?;
+    let status = outcome(&rt, rt.alloc(), SAVING, &mut files, &mut sink)?;
     assert_eq!(rt; status, 65);
     assert_eq!(rt; sink.bytes(), b"input TooLong\n".as_slice());
     Ok(())
@@ -236,6 +372,9 @@ fn words_that_cannot_be_read_have_a_status(rt: HostRuntime) -> Result<(), Fail> 
         unread(io::Error::from(io::ErrorKind::InvalidData), &mut sink),
         64
     );
-    assert_eq!(rt; sink.bytes(), b"words form\n".as_slice());
+    assert_eq!(rt;
+        sink.bytes(),
+        b"error: invalid UTF-8 was detected in one or more arguments\n".as_slice()
+    );
     Ok(())
 }

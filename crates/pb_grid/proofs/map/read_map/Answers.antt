@@ -1,15 +1,17 @@
-use Rattle.pb_model.specs.Texts.{lines}
-use Rattle.pb_grid.proofs.Maps.{size_of_map, high, wide, rows}
+use Rattle.std.proofs.Common.{◌≡◌, ◌∙◌, ap, sym, Result, Ok, Bool, true, ◌&&◌}
+use Rattle.std.proofs.lemmas.Result.{err_from_is_err_and}
+use Rattle.pb_grid.specs.declared.error.GridError.{GridError}
+use Rattle.pb_grid.specs.Lines.{lines_of}
+use Rattle.pb_grid.specs.Reading.{◌>>=◌, is_side}
+use Rattle.pb_grid.proofs.Rows.{map_steps}
 use Rattle.pb_grid.proofs.map.read_map.Goals as goal
 
-pub returns-in_default-clause-none : goal.returns-in_default-clause-none
-returns-in_default-clause-none c = λ w h cells is. c.in_default.ensures.none h w (lines is.rows) (size_of_map c.args.text.now w h cells is)
-
-pub returns-then-not-is_side-clause-none : goal.returns-then-not-is_side-clause-none
-returns-then-not-is_side-clause-none c = λ w h cells is. c.is_side.ensures.no c.if-not-is_side.true (high c.args.text.now w h cells is c.in-Some.height c.in-Some.width c.in-Some.rest.now c.in-Some.ensures.some)
-
-pub returns-then-not-is_side-2-clause-none : goal.returns-then-not-is_side-2-clause-none
-returns-then-not-is_side-2-clause-none c = λ w h cells is. c.is_side-2.ensures.no c.if-not-is_side-2.true (wide c.args.text.now w h cells is c.in-Some.height c.in-Some.width c.in-Some.rest.now c.in-Some.ensures.some)
-
-pub returns-in_default-2-clause-none : goal.returns-in_default-2-clause-none
-returns-in_default-2-clause-none c = λ w h cells is. (rw c.in_default-2.is at c.in_ok-cells.ensures.none) cells (rows c.args.text.now w h cells is c.in-Some.height c.in-Some.width c.in-Some.rest.now c.in-Some.ensures.some)
+pub returns-in_err-below_map : goal.returns-in_err-below_map
+returns-in_err-below_map c =
+    let p = err_from_is_err_and c.from_residual-in_err-below_map.result c.from_residual-in_err-below_map.ensures.1 in
+    let number : c.from.result ≡ c.in_ok-height.height = c.from.ensures in
+    let sides : (is_side c.in_ok-height.height && is_side c.in_ok-height.width) ≡ true = sym c.is_size.ensures ∙ c.if-not-is_size.false in
+    rw (p.1, p.2) (λ some.
+    map_steps (lines_of c.args.text.now) (lines_of c.in_ok-height.rows.now) (lines_of c.in_ok-cells.below.now) c.in_ok-height.height c.in_ok-height.width c.in_ok-cells.cells.items
+    c.in_ok-height.ensures.gives sides c.in_ok-height.ensures.rest c.in_ok-cells.ensures.gives c.in_ok-cells.ensures.rest
+    ∙ ap (λ (r : Result Bool GridError). r >>= λ blank. Ok (record { width = c.in_ok-height.width; height = c.in_ok-height.height; cells = c.in_ok-cells.cells.items })) ((rw number at c.in_err-below_map.ensures) some))

@@ -1,45 +1,34 @@
-use Rattle.std.proofs.Common.{sym, ap, ◌∙◌}
-use Rattle.pb_task.specs.declared.parts.Parts.TheVariants.{Grid}
-use Rattle.pb_grid.proofs.Grids.{pieces, width_is, height_is, start_is, goal_is, grid_is, spells, lawful}
+use Rattle.std.proofs.Common.{◌≡◌, ap, Err}
+use Rattle.std.proofs.lemmas.Result.{err_from_is_err_and}
+use Rattle.pb_grid.proofs.Grids.{spelled, same_grid, not_refused, read_grids_are_grids}
+use Rattle.pb_grid.proofs.CaseOf.{case_of}
+use Rattle.pb_grid.proofs.CaseTold.{same_refusal, no_grid}
 use Rattle.pb_grid.proofs.reader.read_grid.Goals as goal
 
-pub returns-in_default-clause-form : goal.returns-in_default-clause-form
-returns-in_default-clause-form c = λ _ grid is. (rw c.in_default.is at c.in_ok-parts.ensures.none) grid.width grid.height grid.cells is.map_is
+pub returns-in_err-grid-clause-only : goal.returns-in_err-grid-clause-only
+returns-in_err-grid-clause-only c =
+    let p = err_from_is_err_and c.from_residual.result c.from_residual.ensures.1 in
+    rw (p.1, p.2) (λ grid is some. absurd (not_refused c.args.map.now c.args.scenario.now c.args.row grid c.in_err-grid.field-0.0 is (c.in_err-grid.ensures some)))
 
-pub returns-in_default-read_scenario-clause-form : goal.returns-in_default-read_scenario-clause-form
-returns-in_default-read_scenario-clause-form c = λ _ grid is.
-    c.in_default-read_scenario.ensures.none grid.width grid.height grid.start grid.goal (pieces c.args.map.now c.args.scen.now grid is)
+pub returns-in_err-grid-clause-refused : goal.returns-in_err-grid-clause-refused
+returns-in_err-grid-clause-refused c =
+    let p = err_from_is_err_and c.from_residual.result c.from_residual.ensures.1 in
+    rw (p.1, p.2) (λ some. case_of c.args.map.now c.args.scenario.now c.args.row c.in_err-grid.field-0.0 (c.in_err-grid.ensures some))
 
-pub returns-then-scene-parts-clause-form : goal.returns-then-scene-parts-clause-form
-returns-then-scene-parts-clause-form c = λ _ grid is. c.if-scene-parts.true (width_is c.args.map.now c.args.scen.now grid is c.in-Some.parts.width c.in-Some.parts.height c.in-Some.parts.cells (rw c.in-Some.is at c.in_ok-parts.ensures.some)
-    c.in-Some-read_scenario.scene.width c.in-Some-read_scenario.scene.height c.in-Some-read_scenario.scene.start c.in-Some-read_scenario.scene.goal c.in-Some-read_scenario.ensures.some)
-
-pub returns-then-scene-parts-2-clause-form : goal.returns-then-scene-parts-2-clause-form
-returns-then-scene-parts-2-clause-form c = λ _ grid is. c.if-scene-parts-2.true (height_is c.args.map.now c.args.scen.now grid is c.in-Some.parts.width c.in-Some.parts.height c.in-Some.parts.cells (rw c.in-Some.is at c.in_ok-parts.ensures.some)
-    c.in-Some-read_scenario.scene.width c.in-Some-read_scenario.scene.height c.in-Some-read_scenario.scene.start c.in-Some-read_scenario.scene.goal c.in-Some-read_scenario.ensures.some)
-
-pub returns-then-not-is_land-clause-form : goal.returns-then-not-is_land-clause-form
-returns-then-not-is_land-clause-form c = λ _ grid is. c.is_land.ensures.no c.if-not-is_land.true (start_is c.args.map.now c.args.scen.now grid is c.in-Some.parts.width c.in-Some.parts.height c.in-Some.parts.cells (rw c.in-Some.is at c.in_ok-parts.ensures.some)
-    c.in-Some-read_scenario.scene.width c.in-Some-read_scenario.scene.height c.in-Some-read_scenario.scene.start c.in-Some-read_scenario.scene.goal c.in-Some-read_scenario.ensures.some)
-
-pub returns-then-not-is_land-2-clause-form : goal.returns-then-not-is_land-2-clause-form
-returns-then-not-is_land-2-clause-form c = λ _ grid is. c.is_land-2.ensures.no c.if-not-is_land-2.true (goal_is c.args.map.now c.args.scen.now grid is c.in-Some.parts.width c.in-Some.parts.height c.in-Some.parts.cells (rw c.in-Some.is at c.in_ok-parts.ensures.some)
-    c.in-Some-read_scenario.scene.width c.in-Some-read_scenario.scene.height c.in-Some-read_scenario.scene.start c.in-Some-read_scenario.scene.goal c.in-Some-read_scenario.ensures.some)
+pub returns-in_err-grid-clause-told : goal.returns-in_err-grid-clause-told
+returns-in_err-grid-clause-told c =
+    let p = err_from_is_err_and c.from_residual.result c.from_residual.ensures.1 in
+    rw (p.1, p.2) (λ error is some. ap Err (same_refusal c.args.map.now c.args.scenario.now c.args.row error c.in_err-grid.field-0.0 is (c.in_err-grid.ensures some)))
 
 pub of_grid-requires : goal.of_grid-requires
-of_grid-requires c =
-    lawful c.args.map.now (record { width = c.in-Some.parts.width; height = c.in-Some.parts.height; cells = c.in-Some.parts.cells; start = c.in-Some-read_scenario.scene.start; goal = c.in-Some-read_scenario.scene.goal })
-    (rw c.in-Some.is at c.in_ok-parts.ensures.some) (c.is_land.ensures.yes c.if-not-is_land.false) (c.is_land-2.ensures.yes c.if-not-is_land-2.false)
+of_grid-requires c = read_grids_are_grids c.args.map.now c.args.scenario.now c.args.row c.in_ok-grid.grid c.in_ok-grid.ensures
 
 pub returns-clause-spelled : goal.returns-clause-spelled
-returns-clause-spelled c = (
-  record { width = c.in-Some.parts.width; height = c.in-Some.parts.height; cells = c.in-Some.parts.cells; start = c.in-Some-read_scenario.scene.start; goal = c.in-Some-read_scenario.scene.goal },
-  c.of_grid.ensures,
-  spells c.args.map.now c.args.scen.now c.in-Some.parts.width c.in-Some.parts.height c.in-Some-read_scenario.scene.width c.in-Some-read_scenario.scene.height c.in-Some.parts.cells
-      c.in-Some-read_scenario.scene.start c.in-Some-read_scenario.scene.goal (rw c.in-Some.is at c.in_ok-parts.ensures.some) c.in-Some-read_scenario.ensures.some c.if-scene-parts.false c.if-scene-parts-2.false
-      (c.is_land.ensures.yes c.if-not-is_land.false) (c.is_land-2.ensures.yes c.if-not-is_land-2.false),
-)
+returns-clause-spelled c = (c.in_ok-grid.grid, c.of_grid.ensures, spelled c.args.map.now c.args.scenario.now c.args.row c.in_ok-grid.grid c.in_ok-grid.ensures)
 
-pub returns-clause-same : goal.returns-clause-same
-returns-clause-same c = λ grid is. c.of_grid.ensures ∙ ap Grid (sym (grid_is c.args.map.now c.args.scen.now grid is c.in-Some.parts.width c.in-Some.parts.height c.in-Some.parts.cells (rw c.in-Some.is at c.in_ok-parts.ensures.some)
-    c.in-Some-read_scenario.scene.width c.in-Some-read_scenario.scene.height c.in-Some-read_scenario.scene.start c.in-Some-read_scenario.scene.goal c.in-Some-read_scenario.ensures.some))
+pub returns-clause-only : goal.returns-clause-only
+returns-clause-only c = λ grid is.
+    let same : grid ≡ c.in_ok-grid.grid = same_grid c.args.map.now c.args.scenario.now c.args.row grid c.in_ok-grid.grid is c.in_ok-grid.ensures in cc
+
+pub returns-clause-told : goal.returns-clause-told
+returns-clause-told c = λ error is. absurd (no_grid c.args.map.now c.args.scenario.now c.args.row error c.in_ok-grid.grid is c.in_ok-grid.ensures)

@@ -7,13 +7,13 @@ pub returns-in-Ok-read_command-clause-read : goal.returns-in-Ok-read_command-cla
 returns-in-Ok-read_command-clause-read c =
     let m = c.in-Ok.matches in
     let met = command_met c.in_ok-program.program _ m c.in_ok-program.ensures.app c.in-Ok.ensures.matches c.in-Ok.ensures.kinds in
-    met ∙ command_of_rows (subcommand_rows_of m) c.in-Some.name.now (rows_of (found_of c.in-Some.inner.now)) (c.in-Some.ensures.name ∙ name_of_rows m) c.in-Some.ensures.rows ∙ c.in-Ok-read_command.ensures
+    met ∙ command_of_rows (subcommand_rows_of m) c.in-Some.name.now (rows_of (found_of c.in-Some.inner.now)) (c.in-Some.ensures.name ∙ name_of_rows m) c.in-Some.ensures.rows ∙ c.in-Ok-read_command.ensures.read
 
 pub returns-in-Some-clause-refused : goal.returns-in-Some-clause-refused
 returns-in-Some-clause-refused c =
     let m = c.in-Ok.matches in
     let met = command_met c.in_ok-program.program _ m c.in_ok-program.ensures.app c.in-Ok.ensures.matches c.in-Ok.ensures.kinds in
-    let faulty = met ∙ command_of_rows (subcommand_rows_of m) c.in-Some.name.now (rows_of (found_of c.in-Some.inner.now)) (c.in-Some.ensures.name ∙ name_of_rows m) c.in-Some.ensures.rows ∙ c.in-Err-read_command.ensures in
+    let faulty = met ∙ command_of_rows (subcommand_rows_of m) c.in-Some.name.now (rows_of (found_of c.in-Some.inner.now)) (c.in-Some.ensures.name ∙ name_of_rows m) c.in-Some.ensures.rows ∙ c.in-Err-read_command.ensures.read in
     refused_for _ c.in-Err-read_command.fault c.refuse.result faulty c.refuse.ensures
 
 pub unreachable-requires : goal.unreachable-requires

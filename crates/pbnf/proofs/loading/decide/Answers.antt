@@ -1,18 +1,11 @@
-use Rattle.std.proofs.Common.{map, string_bytes, Global, inr, refl}
-use Rattle.pbnf.specs.Words.{word}
+use Rattle.std.proofs.Common.{map, string_bytes, Global, Err, ap}
+use Rattle.pb_words.specs.Meaning.{reading_of_words}
+use Rattle.pbnf.specs.Files.{wanted_of}
+use Rattle.pbnf.specs.declared.loading.Fault.TheVariants.{ShelfFailed}
+use Rattle.pbnf.proofs.Ended.{no_files, only_fault}
 use Rattle.pbnf.proofs.loading.decide.Goals as goal
 
-pub returns-clause-answers : goal.returns-clause-answers
-returns-clause-answers g c =
-    inr (
-      word (map (string_bytes {Z = Global}) c.args.words.now) 2,
-      word (map (string_bytes {Z = Global}) c.args.words.now) 3,
-      word (map (string_bytes {Z = Global}) c.args.words.now) 5,
-      c.if-not-asks.ensures.yes refl,
-      rw (c.word_at.ensures, c.word_at-2.ensures) at c.in_ok-answer.ensures.answers,
-    )
-
-pub returns-in_err-answer-clause-asked : goal.returns-in_err-answer-clause-asked
-returns-in_err-answer-clause-asked g c = λ fault nothing.
-    nothing (word (map (string_bytes {Z = Global}) c.args.words.now) 2) (word (map (string_bytes {Z = Global}) c.args.words.now) 3)
-    (word (map (string_bytes {Z = Global}) c.args.words.now) 5) (c.if-not-asks.ensures.yes refl)
+pub returns-in-Err-clause-asked : goal.returns-in-Err-clause-asked
+returns-in-Err-clause-asked g c = λ failed faulty.
+    no_files wanted_of c.in_ok-files.files.items (reading_of_words (map (string_bytes {Z = Global}) c.args.words.now)) c.in_ok-files.ensures faulty
+    (rw c.deref.ensures.value at c.in-Err.ensures.none (ap (λ fault. Err fault) (only_fault c.in-Err.fault ShelfFailed failed)))

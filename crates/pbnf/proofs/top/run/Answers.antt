@@ -1,64 +1,93 @@
--- The clauses of `run` where the answer was handed out.
-use Rattle.std.proofs.Common.{map, string_bytes, Global, inl, Err, ap, ◌∙◌}
-use Rattle.pbnf.specs.Answer.{saved_of}
-use Rattle.pbnf.proofs.Ended.{saved_under, part_under, solved, cheapest, certified, certified_none, none, words_say, words_exact, nothing_asked, unnamed_kept, unnamed_part}
-use Rattle.pbnf.proofs.Causes.{is_status, not_73, not_74, input, input_answers, shelf_left, sink_left, complete, no_certificate}
+-- The clauses of `run`.
+use Rattle.std.proofs.Common.{map, string_bytes, Global, inl, inr, refl, Err, ap, ◌∙◌}
+use Rattle.pb_words.specs.Meaning.{reading_of_words}
+use Rattle.pbnf.specs.Answer.{said_of, file_of}
+use Rattle.pbnf.proofs.Ended.{saved_after, part_after, solved, plan, cheapest, certified, certified_none, none as no_plan, none_text, stopped, stopped_text, stop_saves_nothing, accepted, rejected, words_say, words_exact, faulty_saves, input, input_answers, check_exact, statuses, not_broken, unnamed_kept, unnamed_part, shelf_left, sink_left, complete, complete_check, check_broken, input_broken, complete_memory, check_memory, kept_unnamed, all_kept_left, no_fault, no_certificate}
 use Rattle.pbnf.proofs.top.run.Goals as goal
 
 pub returns-in-Done-clause-solved : goal.returns-in-Done-clause-solved
-returns-in-Done-clause-solved g c = λ zero. solved (map (string_bytes {Z = Global}) c.args.words.now) (g.H.Shelf.files c.args.shelf.now) (g.H.Shelf.files c.hand_out.new.shelf) (g.K.Sink.written c.args.out.now) (g.K.Sink.written c.hand_out.new.out) c.certificate_name.result.now c.certificate_name.ensures c.in-Ok.answer.status c.in-Ok.answer.report (saved_of c.in-Ok.answer.certificate) c.in-Ok.ensures.answers zero
-    (c.hand_out.ensures.done c.in-Done.is)
-    (saved_under (g.H.Shelf.files c.args.shelf.now) (g.H.Shelf.files c.decide.new.shelf) (g.H.Shelf.files c.hand_out.new.shelf) c.certificate_name.result.now (saved_of c.in-Ok.answer.certificate) c.in-Ok.ensures.same (c.hand_out.ensures.saved c.in-Done.is))
+returns-in-Done-clause-solved g c = λ e. solved (reading_of_words (map (string_bytes {Z = Global}) c.args.words.now)) (g.H.Shelf.files c.args.shelf.now) (g.H.Shelf.files c.hand_out.new.shelf) (g.K.Sink.written c.args.out.now) (g.K.Sink.written c.hand_out.new.out) (said_of c.in-Ok.answer) c.in-Ok.ensures.answers e (c.hand_out.ensures.done c.in-Done.is) (saved_after (g.H.Shelf.files c.args.shelf.now) (g.H.Shelf.files c.decide.new.shelf) (g.H.Shelf.files c.hand_out.new.shelf) (said_of c.in-Ok.answer).saved c.in-Ok.ensures.same (c.hand_out.ensures.saved c.in-Done.is))
+
+pub returns-in-Done-clause-plan : goal.returns-in-Done-clause-plan
+returns-in-Done-clause-plan g c = λ e. plan (reading_of_words (map (string_bytes {Z = Global}) c.args.words.now)) (g.H.Shelf.files c.args.shelf.now) (g.H.Shelf.files c.hand_out.new.shelf) (g.K.Sink.written c.args.out.now) (g.K.Sink.written c.hand_out.new.out) (said_of c.in-Ok.answer) c.in-Ok.ensures.answers e (c.hand_out.ensures.done c.in-Done.is)
 
 pub returns-in-Done-clause-cheapest : goal.returns-in-Done-clause-cheapest
-returns-in-Done-clause-cheapest g c = λ zero. cheapest (map (string_bytes {Z = Global}) c.args.words.now) (g.H.Shelf.files c.args.shelf.now) (g.H.Shelf.files c.hand_out.new.shelf) (g.K.Sink.written c.args.out.now) (g.K.Sink.written c.hand_out.new.out) c.certificate_name.result.now c.certificate_name.ensures c.in-Ok.answer.status c.in-Ok.answer.report (saved_of c.in-Ok.answer.certificate) c.in-Ok.ensures.answers zero (c.hand_out.ensures.done c.in-Done.is)
+returns-in-Done-clause-cheapest g c = λ e. cheapest (reading_of_words (map (string_bytes {Z = Global}) c.args.words.now)) (g.H.Shelf.files c.args.shelf.now) (g.H.Shelf.files c.hand_out.new.shelf) (g.K.Sink.written c.args.out.now) (g.K.Sink.written c.hand_out.new.out) (said_of c.in-Ok.answer) c.in-Ok.ensures.answers e (c.hand_out.ensures.done c.in-Done.is)
 
 pub returns-in-Done-clause-certified : goal.returns-in-Done-clause-certified
-returns-in-Done-clause-certified g c = λ zero. certified (map (string_bytes {Z = Global}) c.args.words.now) (g.H.Shelf.files c.args.shelf.now) (g.H.Shelf.files c.hand_out.new.shelf) (g.K.Sink.written c.args.out.now) (g.K.Sink.written c.hand_out.new.out) c.certificate_name.result.now c.certificate_name.ensures c.in-Ok.answer.status c.in-Ok.answer.report (saved_of c.in-Ok.answer.certificate) c.in-Ok.ensures.answers zero
-    (c.hand_out.ensures.done c.in-Done.is)
-    (saved_under (g.H.Shelf.files c.args.shelf.now) (g.H.Shelf.files c.decide.new.shelf) (g.H.Shelf.files c.hand_out.new.shelf) c.certificate_name.result.now (saved_of c.in-Ok.answer.certificate) c.in-Ok.ensures.same (c.hand_out.ensures.saved c.in-Done.is))
+returns-in-Done-clause-certified g c = λ e. certified (reading_of_words (map (string_bytes {Z = Global}) c.args.words.now)) (g.H.Shelf.files c.args.shelf.now) (g.H.Shelf.files c.hand_out.new.shelf) (g.K.Sink.written c.args.out.now) (g.K.Sink.written c.hand_out.new.out) (said_of c.in-Ok.answer) c.in-Ok.ensures.answers e (c.hand_out.ensures.done c.in-Done.is) (saved_after (g.H.Shelf.files c.args.shelf.now) (g.H.Shelf.files c.decide.new.shelf) (g.H.Shelf.files c.hand_out.new.shelf) (said_of c.in-Ok.answer).saved c.in-Ok.ensures.same (c.hand_out.ensures.saved c.in-Done.is))
 
 pub returns-in-Done-clause-certified_none : goal.returns-in-Done-clause-certified_none
-returns-in-Done-clause-certified_none g c = λ one. certified_none (map (string_bytes {Z = Global}) c.args.words.now) (g.H.Shelf.files c.args.shelf.now) (g.H.Shelf.files c.hand_out.new.shelf) (g.K.Sink.written c.args.out.now) (g.K.Sink.written c.hand_out.new.out) c.certificate_name.result.now c.certificate_name.ensures c.in-Ok.answer.status c.in-Ok.answer.report (saved_of c.in-Ok.answer.certificate) c.in-Ok.ensures.answers one
-    (saved_under (g.H.Shelf.files c.args.shelf.now) (g.H.Shelf.files c.decide.new.shelf) (g.H.Shelf.files c.hand_out.new.shelf) c.certificate_name.result.now (saved_of c.in-Ok.answer.certificate) c.in-Ok.ensures.same (c.hand_out.ensures.saved c.in-Done.is))
+returns-in-Done-clause-certified_none g c = λ e. certified_none (reading_of_words (map (string_bytes {Z = Global}) c.args.words.now)) (g.H.Shelf.files c.args.shelf.now) (g.H.Shelf.files c.hand_out.new.shelf) (g.K.Sink.written c.args.out.now) (g.K.Sink.written c.hand_out.new.out) (said_of c.in-Ok.answer) c.in-Ok.ensures.answers e (saved_after (g.H.Shelf.files c.args.shelf.now) (g.H.Shelf.files c.decide.new.shelf) (g.H.Shelf.files c.hand_out.new.shelf) (said_of c.in-Ok.answer).saved c.in-Ok.ensures.same (c.hand_out.ensures.saved c.in-Done.is))
 
 pub returns-in-Done-clause-none : goal.returns-in-Done-clause-none
-returns-in-Done-clause-none g c = λ one. none (map (string_bytes {Z = Global}) c.args.words.now) (g.H.Shelf.files c.args.shelf.now) (g.H.Shelf.files c.hand_out.new.shelf) (g.K.Sink.written c.args.out.now) (g.K.Sink.written c.hand_out.new.out) c.certificate_name.result.now c.certificate_name.ensures c.in-Ok.answer.status c.in-Ok.answer.report (saved_of c.in-Ok.answer.certificate) c.in-Ok.ensures.answers one
+returns-in-Done-clause-none g c = λ e. no_plan (reading_of_words (map (string_bytes {Z = Global}) c.args.words.now)) (g.H.Shelf.files c.args.shelf.now) (g.H.Shelf.files c.hand_out.new.shelf) (g.K.Sink.written c.args.out.now) (g.K.Sink.written c.hand_out.new.out) (said_of c.in-Ok.answer) c.in-Ok.ensures.answers e
+
+pub returns-in-Done-clause-none_text : goal.returns-in-Done-clause-none_text
+returns-in-Done-clause-none_text g c = λ e. none_text (reading_of_words (map (string_bytes {Z = Global}) c.args.words.now)) (g.H.Shelf.files c.args.shelf.now) (g.H.Shelf.files c.hand_out.new.shelf) (g.K.Sink.written c.args.out.now) (g.K.Sink.written c.hand_out.new.out) (said_of c.in-Ok.answer) c.in-Ok.ensures.answers e (c.hand_out.ensures.done c.in-Done.is)
+
+pub returns-in-Done-clause-stopped : goal.returns-in-Done-clause-stopped
+returns-in-Done-clause-stopped g c = λ e. stopped (reading_of_words (map (string_bytes {Z = Global}) c.args.words.now)) (g.H.Shelf.files c.args.shelf.now) (g.H.Shelf.files c.hand_out.new.shelf) (g.K.Sink.written c.args.out.now) (g.K.Sink.written c.hand_out.new.out) (said_of c.in-Ok.answer) c.in-Ok.ensures.answers e
+
+pub returns-in-Done-clause-stopped_text : goal.returns-in-Done-clause-stopped_text
+returns-in-Done-clause-stopped_text g c = λ e. stopped_text (reading_of_words (map (string_bytes {Z = Global}) c.args.words.now)) (g.H.Shelf.files c.args.shelf.now) (g.H.Shelf.files c.hand_out.new.shelf) (g.K.Sink.written c.args.out.now) (g.K.Sink.written c.hand_out.new.out) (said_of c.in-Ok.answer) c.in-Ok.ensures.answers e (c.hand_out.ensures.done c.in-Done.is)
+
+pub returns-in-Done-clause-accepted : goal.returns-in-Done-clause-accepted
+returns-in-Done-clause-accepted g c = λ e. accepted (reading_of_words (map (string_bytes {Z = Global}) c.args.words.now)) (g.H.Shelf.files c.args.shelf.now) (g.H.Shelf.files c.hand_out.new.shelf) (g.K.Sink.written c.args.out.now) (g.K.Sink.written c.hand_out.new.out) (said_of c.in-Ok.answer) c.in-Ok.ensures.answers e (c.hand_out.ensures.done c.in-Done.is)
+
+pub returns-in-Done-clause-rejected : goal.returns-in-Done-clause-rejected
+returns-in-Done-clause-rejected g c = λ e. rejected (reading_of_words (map (string_bytes {Z = Global}) c.args.words.now)) (g.H.Shelf.files c.args.shelf.now) (g.H.Shelf.files c.hand_out.new.shelf) (g.K.Sink.written c.args.out.now) (g.K.Sink.written c.hand_out.new.out) (said_of c.in-Ok.answer) c.in-Ok.ensures.answers e (c.hand_out.ensures.done c.in-Done.is)
+
+pub returns-in-Done-clause-words : goal.returns-in-Done-clause-words
+returns-in-Done-clause-words g c = λ e. words_say (reading_of_words (map (string_bytes {Z = Global}) c.args.words.now)) (g.H.Shelf.files c.args.shelf.now) (g.H.Shelf.files c.hand_out.new.shelf) (g.K.Sink.written c.args.out.now) (g.K.Sink.written c.hand_out.new.out) (said_of c.in-Ok.answer) c.in-Ok.ensures.answers e (c.hand_out.ensures.done c.in-Done.is)
+
+pub returns-in-Done-clause-input : goal.returns-in-Done-clause-input
+returns-in-Done-clause-input g c = λ e. input (reading_of_words (map (string_bytes {Z = Global}) c.args.words.now)) (g.H.Shelf.files c.args.shelf.now) (g.H.Shelf.files c.hand_out.new.shelf) (g.K.Sink.written c.args.out.now) (g.K.Sink.written c.hand_out.new.out) (said_of c.in-Ok.answer) c.in-Ok.ensures.answers e (c.hand_out.ensures.done c.in-Done.is)
 
 pub returns-in-Done-clause-words_exact : goal.returns-in-Done-clause-words_exact
-returns-in-Done-clause-words_exact g c = λ nothing. inl (words_exact (map (string_bytes {Z = Global}) c.args.words.now) (g.H.Shelf.files c.args.shelf.now) (g.H.Shelf.files c.hand_out.new.shelf) (g.K.Sink.written c.args.out.now) (g.K.Sink.written c.hand_out.new.out) c.certificate_name.result.now c.certificate_name.ensures c.in-Ok.answer.status c.in-Ok.answer.report (saved_of c.in-Ok.answer.certificate) c.in-Ok.ensures.answers nothing)
+returns-in-Done-clause-words_exact g c = λ faulty. inl (words_exact (reading_of_words (map (string_bytes {Z = Global}) c.args.words.now)) (g.H.Shelf.files c.args.shelf.now) (g.H.Shelf.files c.hand_out.new.shelf) (g.K.Sink.written c.args.out.now) (g.K.Sink.written c.hand_out.new.out) (said_of c.in-Ok.answer) c.in-Ok.ensures.answers faulty)
 
 pub returns-in-Done-clause-input_exact : goal.returns-in-Done-clause-input_exact
-returns-in-Done-clause-input_exact g c = input_answers (map (string_bytes {Z = Global}) c.args.words.now) c.in-Ok.answer.status c.in-Ok.answer.report (saved_of c.in-Ok.answer.certificate) (g.H.Shelf.files c.args.shelf.now) c.in-Ok.ensures.answers
+returns-in-Done-clause-input_exact g c = input_answers (reading_of_words (map (string_bytes {Z = Global}) c.args.words.now)) (g.H.Shelf.files c.args.shelf.now) (g.H.Shelf.files c.hand_out.new.shelf) (g.K.Sink.written c.args.out.now) (g.K.Sink.written c.hand_out.new.out) (said_of c.in-Ok.answer) c.in-Ok.ensures.answers
+
+pub returns-in-Done-clause-check_exact : goal.returns-in-Done-clause-check_exact
+returns-in-Done-clause-check_exact g c = check_exact (reading_of_words (map (string_bytes {Z = Global}) c.args.words.now)) (g.H.Shelf.files c.args.shelf.now) (g.H.Shelf.files c.hand_out.new.shelf) (g.K.Sink.written c.args.out.now) (g.K.Sink.written c.hand_out.new.out) (said_of c.in-Ok.answer) c.in-Ok.ensures.answers
+
+pub returns-in-Done-clause-statuses : goal.returns-in-Done-clause-statuses
+returns-in-Done-clause-statuses g c = statuses (reading_of_words (map (string_bytes {Z = Global}) c.args.words.now)) (g.H.Shelf.files c.args.shelf.now) (g.H.Shelf.files c.hand_out.new.shelf) (g.K.Sink.written c.args.out.now) (g.K.Sink.written c.hand_out.new.out) (said_of c.in-Ok.answer) c.in-Ok.ensures.answers
 
 pub returns-in-Done-clause-others_stay : goal.returns-in-Done-clause-others_stay
-returns-in-Done-clause-others_stay g c = unnamed_kept (map (string_bytes {Z = Global}) c.args.words.now) (g.H.Shelf.files c.args.shelf.now) (g.H.Shelf.files c.hand_out.new.shelf) (g.K.Sink.written c.args.out.now) (g.K.Sink.written c.hand_out.new.out) c.certificate_name.result.now c.certificate_name.ensures c.in-Ok.answer.status c.in-Ok.answer.report (saved_of c.in-Ok.answer.certificate) c.in-Ok.ensures.answers
-    (saved_under (g.H.Shelf.files c.args.shelf.now) (g.H.Shelf.files c.decide.new.shelf) (g.H.Shelf.files c.hand_out.new.shelf) c.certificate_name.result.now (saved_of c.in-Ok.answer.certificate) c.in-Ok.ensures.same (c.hand_out.ensures.saved c.in-Done.is))
+returns-in-Done-clause-others_stay g c = unnamed_kept (reading_of_words (map (string_bytes {Z = Global}) c.args.words.now)) (g.H.Shelf.files c.args.shelf.now) (g.H.Shelf.files c.hand_out.new.shelf) (g.K.Sink.written c.args.out.now) (g.K.Sink.written c.hand_out.new.out) (said_of c.in-Ok.answer) c.in-Ok.ensures.answers (saved_after (g.H.Shelf.files c.args.shelf.now) (g.H.Shelf.files c.decide.new.shelf) (g.H.Shelf.files c.hand_out.new.shelf) (said_of c.in-Ok.answer).saved c.in-Ok.ensures.same (c.hand_out.ensures.saved c.in-Done.is))
 
 pub returns-in-Done-clause-complete : goal.returns-in-Done-clause-complete
-returns-in-Done-clause-complete g c = complete c.in-Ok.answer.status (map (string_bytes {Z = Global}) c.args.words.now) (g.H.Shelf.files c.args.shelf.now) (g.K.Sink.written c.args.out.now) (g.K.Sink.written c.hand_out.new.out) (g.H.Shelf.faults c.args.shelf.now) (g.H.Shelf.faults c.hand_out.new.shelf) (g.K.Sink.faults c.args.out.now) (g.K.Sink.faults c.hand_out.new.out)
-    (is_status (map (string_bytes {Z = Global}) c.args.words.now) c.in-Ok.answer.status c.in-Ok.answer.report (saved_of c.in-Ok.answer.certificate) (g.H.Shelf.files c.args.shelf.now) c.in-Ok.ensures.answers) (λ e. (words_say (map (string_bytes {Z = Global}) c.args.words.now) (g.H.Shelf.files c.args.shelf.now) (g.H.Shelf.files c.hand_out.new.shelf) (g.K.Sink.written c.args.out.now) (g.K.Sink.written c.hand_out.new.out) c.certificate_name.result.now c.certificate_name.ensures c.in-Ok.answer.status c.in-Ok.answer.report (saved_of c.in-Ok.answer.certificate) c.in-Ok.ensures.answers e).0) (λ e. input (map (string_bytes {Z = Global}) c.args.words.now) c.in-Ok.answer.status c.in-Ok.answer.report (saved_of c.in-Ok.answer.certificate) (g.H.Shelf.files c.args.shelf.now) c.in-Ok.ensures.answers (g.K.Sink.written c.args.out.now) (g.K.Sink.written c.hand_out.new.out) e (c.hand_out.ensures.done c.in-Done.is))
-    (λ e. absurd (not_73 (map (string_bytes {Z = Global}) c.args.words.now) c.in-Ok.answer.status c.in-Ok.answer.report (saved_of c.in-Ok.answer.certificate) (g.H.Shelf.files c.args.shelf.now) c.in-Ok.ensures.answers e)) (λ e. absurd (not_74 (map (string_bytes {Z = Global}) c.args.words.now) c.in-Ok.answer.status c.in-Ok.answer.report (saved_of c.in-Ok.answer.certificate) (g.H.Shelf.files c.args.shelf.now) c.in-Ok.ensures.answers e))
+returns-in-Done-clause-complete g c = λ shelf sink. complete (reading_of_words (map (string_bytes {Z = Global}) c.args.words.now)) (g.H.Shelf.files c.args.shelf.now) (g.H.Shelf.files c.hand_out.new.shelf) (g.K.Sink.written c.args.out.now) (g.K.Sink.written c.hand_out.new.out) (said_of c.in-Ok.answer) c.in-Ok.ensures.answers
+
+pub returns-in-Done-clause-complete_check : goal.returns-in-Done-clause-complete_check
+returns-in-Done-clause-complete_check g c = λ shelf sink. complete_check (reading_of_words (map (string_bytes {Z = Global}) c.args.words.now)) (g.H.Shelf.files c.args.shelf.now) (g.H.Shelf.files c.hand_out.new.shelf) (g.K.Sink.written c.args.out.now) (g.K.Sink.written c.hand_out.new.out) (said_of c.in-Ok.answer) c.in-Ok.ensures.answers
 
 pub returns-in-NotSaved-clause-words_exact : goal.returns-in-NotSaved-clause-words_exact
-returns-in-NotSaved-clause-words_exact g c = λ nothing. no_certificate c.in-Ok.answer.certificate (c.hand_out.ensures.has c.in-NotSaved.is) (nothing_asked (map (string_bytes {Z = Global}) c.args.words.now) (g.H.Shelf.files c.args.shelf.now) (g.H.Shelf.files c.hand_out.new.shelf) (g.K.Sink.written c.args.out.now) (g.K.Sink.written c.hand_out.new.out) c.certificate_name.result.now c.certificate_name.ensures c.in-Ok.answer.status c.in-Ok.answer.report (saved_of c.in-Ok.answer.certificate) c.in-Ok.ensures.answers nothing)
+returns-in-NotSaved-clause-words_exact g c = λ faulty. no_certificate file_of c.in-Ok.answer.saved (c.hand_out.ensures.has c.in-NotSaved.is) (faulty_saves (reading_of_words (map (string_bytes {Z = Global}) c.args.words.now)) (g.H.Shelf.files c.args.shelf.now) (g.H.Shelf.files c.hand_out.new.shelf) (g.K.Sink.written c.args.out.now) (g.K.Sink.written c.hand_out.new.out) (said_of c.in-Ok.answer) c.in-Ok.ensures.answers faulty)
 
 pub returns-in-NotSaved-clause-shelf_left : goal.returns-in-NotSaved-clause-shelf_left
-returns-in-NotSaved-clause-shelf_left g c = λ fault. shelf_left (map (string_bytes {Z = Global}) c.args.words.now) c.in-Ok.answer.status c.in-Ok.answer.report (saved_of c.in-Ok.answer.certificate) (g.H.Shelf.files c.args.shelf.now) (g.H.Shelf.files c.hand_out.new.shelf) c.certificate_name.result.now c.certificate_name.ensures c.in-Ok.ensures.answers
-    (part_under (g.H.Shelf.files c.args.shelf.now) (g.H.Shelf.files c.decide.new.shelf) (g.H.Shelf.files c.hand_out.new.shelf) c.certificate_name.result.now (saved_of c.in-Ok.answer.certificate) c.in-Ok.ensures.same (c.hand_out.ensures.shelf_left c.in-NotSaved.is))
+returns-in-NotSaved-clause-shelf_left g c = λ e. shelf_left (reading_of_words (map (string_bytes {Z = Global}) c.args.words.now)) (g.H.Shelf.files c.args.shelf.now) (g.H.Shelf.files c.hand_out.new.shelf) (g.K.Sink.written c.args.out.now) (g.K.Sink.written c.hand_out.new.out) (said_of c.in-Ok.answer) c.in-Ok.ensures.answers (part_after (g.H.Shelf.files c.args.shelf.now) (g.H.Shelf.files c.decide.new.shelf) (g.H.Shelf.files c.hand_out.new.shelf) (said_of c.in-Ok.answer).saved c.in-Ok.ensures.same (c.hand_out.ensures.shelf_left c.in-NotSaved.is))
 
 pub returns-in-NotSaved-clause-others_stay : goal.returns-in-NotSaved-clause-others_stay
-returns-in-NotSaved-clause-others_stay g c = unnamed_part (map (string_bytes {Z = Global}) c.args.words.now) (g.H.Shelf.files c.args.shelf.now) (g.H.Shelf.files c.hand_out.new.shelf) (g.K.Sink.written c.args.out.now) (g.K.Sink.written c.hand_out.new.out) c.certificate_name.result.now c.certificate_name.ensures c.in-Ok.answer.status c.in-Ok.answer.report (saved_of c.in-Ok.answer.certificate) c.in-Ok.ensures.answers
-    (part_under (g.H.Shelf.files c.args.shelf.now) (g.H.Shelf.files c.decide.new.shelf) (g.H.Shelf.files c.hand_out.new.shelf) c.certificate_name.result.now (saved_of c.in-Ok.answer.certificate) c.in-Ok.ensures.same (c.hand_out.ensures.shelf_left c.in-NotSaved.is))
+returns-in-NotSaved-clause-others_stay g c = unnamed_part (reading_of_words (map (string_bytes {Z = Global}) c.args.words.now)) (g.H.Shelf.files c.args.shelf.now) (g.H.Shelf.files c.hand_out.new.shelf) (g.K.Sink.written c.args.out.now) (g.K.Sink.written c.hand_out.new.out) (said_of c.in-Ok.answer) c.in-Ok.ensures.answers (part_after (g.H.Shelf.files c.args.shelf.now) (g.H.Shelf.files c.decide.new.shelf) (g.H.Shelf.files c.hand_out.new.shelf) (said_of c.in-Ok.answer).saved c.in-Ok.ensures.same (c.hand_out.ensures.shelf_left c.in-NotSaved.is))
 
-pub returns-in-Ok-clause-sink_left : goal.returns-in-Ok-clause-sink_left
-returns-in-Ok-clause-sink_left g c = λ fault. sink_left (map (string_bytes {Z = Global}) c.args.words.now) c.in-Ok.answer.status c.in-Ok.answer.report (saved_of c.in-Ok.answer.certificate) (g.H.Shelf.files c.args.shelf.now) (g.H.Shelf.files c.hand_out.new.shelf) (g.K.Sink.written c.args.out.now) (g.K.Sink.written c.hand_out.new.out) c.certificate_name.result.now c.certificate_name.ensures c.in-Ok.ensures.answers
-    (saved_under (g.H.Shelf.files c.args.shelf.now) (g.H.Shelf.files c.decide.new.shelf) (g.H.Shelf.files c.hand_out.new.shelf) c.certificate_name.result.now (saved_of c.in-Ok.answer.certificate) c.in-Ok.ensures.same (c.hand_out.ensures.sink_saved c.in-NotPrinted.is)) (c.hand_out.ensures.sink_left c.in-NotPrinted.is)
+pub returns-in-NotSaved-clause-input_exact : goal.returns-in-NotSaved-clause-input_exact
+returns-in-NotSaved-clause-input_exact g c = input_broken 73 (reading_of_words (map (string_bytes {Z = Global}) c.args.words.now)) (g.H.Shelf.files c.args.shelf.now) (inr (inl refl))
+
+pub returns-in-NotSaved-clause-check_exact : goal.returns-in-NotSaved-clause-check_exact
+returns-in-NotSaved-clause-check_exact g c = check_broken 73 (reading_of_words (map (string_bytes {Z = Global}) c.args.words.now)) (g.H.Shelf.files c.args.shelf.now) (inr (inl refl))
+
+pub returns-in-Done-clause-nothing_saved : goal.returns-in-Done-clause-nothing_saved
+returns-in-Done-clause-nothing_saved g c = λ e. stop_saves_nothing (reading_of_words (map (string_bytes {Z = Global}) c.args.words.now)) (g.H.Shelf.files c.args.shelf.now) (g.H.Shelf.files c.hand_out.new.shelf) (g.K.Sink.written c.args.out.now) (g.K.Sink.written c.hand_out.new.out) (said_of c.in-Ok.answer) c.in-Ok.ensures.answers e (saved_after (g.H.Shelf.files c.args.shelf.now) (g.H.Shelf.files c.decide.new.shelf) (g.H.Shelf.files c.hand_out.new.shelf) (said_of c.in-Ok.answer).saved c.in-Ok.ensures.same (c.hand_out.ensures.saved c.in-Done.is))
 
 pub returns-in-Ok-clause-others_stay : goal.returns-in-Ok-clause-others_stay
-returns-in-Ok-clause-others_stay g c = unnamed_kept (map (string_bytes {Z = Global}) c.args.words.now) (g.H.Shelf.files c.args.shelf.now) (g.H.Shelf.files c.hand_out.new.shelf) (g.K.Sink.written c.args.out.now) (g.K.Sink.written c.hand_out.new.out) c.certificate_name.result.now c.certificate_name.ensures c.in-Ok.answer.status c.in-Ok.answer.report (saved_of c.in-Ok.answer.certificate) c.in-Ok.ensures.answers
-    (saved_under (g.H.Shelf.files c.args.shelf.now) (g.H.Shelf.files c.decide.new.shelf) (g.H.Shelf.files c.hand_out.new.shelf) c.certificate_name.result.now (saved_of c.in-Ok.answer.certificate) c.in-Ok.ensures.same (c.hand_out.ensures.sink_saved c.in-NotPrinted.is))
+returns-in-Ok-clause-others_stay g c = unnamed_kept (reading_of_words (map (string_bytes {Z = Global}) c.args.words.now)) (g.H.Shelf.files c.args.shelf.now) (g.H.Shelf.files c.hand_out.new.shelf) (g.K.Sink.written c.args.out.now) (g.K.Sink.written c.hand_out.new.out) (said_of c.in-Ok.answer) c.in-Ok.ensures.answers (saved_after (g.H.Shelf.files c.args.shelf.now) (g.H.Shelf.files c.decide.new.shelf) (g.H.Shelf.files c.hand_out.new.shelf) (said_of c.in-Ok.answer).saved c.in-Ok.ensures.same (c.hand_out.ensures.sink_saved c.in-NotPrinted.is))
 
-pub returns-clause-words_exact : goal.returns-clause-words_exact
-returns-clause-words_exact g c = λ nothing.
-    absurd (c.decide.ensures.asked (c.in-Err-ShelfFailed.is ∙ ap (λ fault. Err fault) c.in-Err-ShelfFailed.field-0-is) nothing)
+pub returns-in-Done-clause-shelf_left : goal.returns-in-Done-clause-shelf_left
+returns-in-Done-clause-shelf_left g c = λ e. absurd (not_broken (reading_of_words (map (string_bytes {Z = Global}) c.args.words.now)) (g.H.Shelf.files c.args.shelf.now) (g.H.Shelf.files c.hand_out.new.shelf) (g.K.Sink.written c.args.out.now) (g.K.Sink.written c.hand_out.new.out) (said_of c.in-Ok.answer) c.in-Ok.ensures.answers (inr (inl e)))
+
+pub returns-in-Done-clause-sink_left : goal.returns-in-Done-clause-sink_left
+returns-in-Done-clause-sink_left g c = λ e. absurd (not_broken (reading_of_words (map (string_bytes {Z = Global}) c.args.words.now)) (g.H.Shelf.files c.args.shelf.now) (g.H.Shelf.files c.hand_out.new.shelf) (g.K.Sink.written c.args.out.now) (g.K.Sink.written c.hand_out.new.out) (said_of c.in-Ok.answer) c.in-Ok.ensures.answers (inr (inr e)))

@@ -1,0 +1,114 @@
+-- What lies behind a reading that went well, step by step.
+use Rattle.std.proofs.Common.{◌≡◌, ℕ, Bool, true, false, ◌&&◌, cond, Option, Some, None, Result, Ok, Err, List, [], ◌∷◌, length, eqb, leb, refl, sym, ap, ◌∙◌, arith}
+use Rattle.std.specs.Char.{is_ascii_digit}
+use Rattle.std.specs.List.{list_all}
+use Rattle.std.specs.Str.{bytes_eq}
+use Rattle.std.proofs.lemmas.Bool.{leb-true, le-leb, eqb-true}
+use Rattle.std.proofs.lemmas.Slice.Eq.{bytes_eq-Decides}
+use Rattle.pb_grid.specs.declared.error.GridError.{GridError}
+use Rattle.pb_grid.specs.Lines.{words_of, is_blank_line, number_of, is_number, value_behind}
+use Rattle.pb_grid.specs.Reading.{◌>>=◌, wanted, must, are_words, number_named}
+use Rattle.pb_grid.specs.Form.{IsNumber}
+
+-- ---- results
+
+pub ok_is : {A : Type 0} → (x y : A) → ◌≡◌ {A = Result A GridError} (Ok x) (Ok y) → x ≡ y
+ok_is x y e = cc
+
+pub some_is : {A : Type 0} → (x y : A) → Some x ≡ Some y → x ≡ y
+some_is x y e = cc
+
+pub bind_ok : {A B : Type 0} → (r : Result A GridError) (f : A → Result B GridError) (y : B) → (r >>= f) ≡ Ok y → (x : A) × (r ≡ Ok x) × (f x ≡ Ok y)
+bind_ok (Ok x) f y e = (x, refl, e)
+bind_ok (Err error) f y e = cc
+
+pub must_ok : (error : GridError) (holds found : Bool) → must error holds ≡ Ok found → holds ≡ true
+must_ok error true found e = refl
+must_ok error false found e = cc
+
+pub must_true : (error : GridError) (holds : Bool) → holds ≡ true → must error holds ≡ Ok true
+must_true error holds e = ap (must error) e
+
+pub wanted_ok : {A : Type 0} → (error : GridError) (o : Option A) (x : A) → wanted error o ≡ Ok x → o ≡ Some x
+wanted_ok error None x e = cc
+wanted_ok error (Some y) x e = let same : y ≡ x = cc in ap Some same
+
+-- ---- tests
+
+pub both_true : (a b : Bool) → (a && b) ≡ true → (a ≡ true) × (b ≡ true)
+both_true true b e = (refl, e)
+both_true false b e = cc
+
+pub and_true : (a b : Bool) → a ≡ true → b ≡ true → (a && b) ≡ true
+and_true true b p q = q
+and_true false b p q = cc
+
+pub if_some : {A : Type 0} → (b : Bool) (o : Option A) (x : A) → cond b o None ≡ Some x → (b ≡ true) × (o ≡ Some x)
+if_some true o x e = (refl, e)
+if_some false o x e = cc
+
+pub nil_of : {A : Type 0} → (xs : List A) → eqb (length xs) 0 ≡ true → xs ≡ []
+nil_of [] e = refl
+nil_of (x ∷ xs) e = let zero_is : length (x ∷ xs) ≡ 0 = eqb-true (length (x ∷ xs)) 0 e in absurd (omega (arith, zero_is))
+
+pub blank_is : (line : List ℕ) → is_blank_line line ≡ true → words_of line ≡ []
+blank_is line e = nil_of (words_of line) e
+
+pub is_blank_is : (line : List ℕ) → words_of line ≡ [] → is_blank_line line ≡ true
+is_blank_is line e = ap (λ (ws : List (List ℕ)). eqb (length ws) 0) e
+
+-- ---- words
+
+pub words_are : (words wanted : List (List ℕ)) → are_words words wanted ≡ true → words ≡ wanted
+words_are [] [] e = refl
+words_are [] (want ∷ wanted) e = cc
+words_are (word ∷ words) [] e = cc
+words_are (word ∷ words) (want ∷ wanted) e =
+    let parts = both_true (bytes_eq word want) (are_words words wanted) e in
+    let here : word ≡ want = (bytes_eq-Decides word want).0 parts.0 in
+    let there : words ≡ wanted = words_are words wanted parts.1 in
+    λ i. here i ∷ there i
+
+pub are_words_is : (words : List (List ℕ)) → are_words words words ≡ true
+are_words_is [] = refl
+are_words_is (word ∷ words) = and_true (bytes_eq word word) (are_words words words) ((bytes_eq-Decides word word).1 refl) (are_words_is words)
+
+-- ---- numbers
+
+pub number_is : (word : List ℕ) (number : ℕ) → number_of word ≡ Some number → IsNumber word number
+unfolding number_of
+number_is word number e =
+    let found = if_some (is_number word) (Some (value_behind 0 word)) number e in
+    let one = both_true (leb 1 (length word)) (leb (length word) 9 && list_all is_ascii_digit word) found.0 in
+    let two = both_true (leb (length word) 9) (list_all is_ascii_digit word) one.1 in
+    record {
+      some = leb-true 1 (length word) one.0;
+      most = leb-true (length word) 9 two.0;
+      digits = two.1;
+      value = sym (some_is (value_behind 0 word) number found.1);
+    }
+
+pub number_of_is : (word : List ℕ) (number : ℕ) → IsNumber word number → number_of word ≡ Some number
+unfolding number_of
+number_of_is word number is =
+    ap (λ b. cond b (Some (value_behind 0 word)) None)
+    (and_true (leb 1 (length word)) (leb (length word) 9 && list_all is_ascii_digit word) (le-leb 1 (length word) is.some)
+    (and_true (leb (length word) 9) (list_all is_ascii_digit word) (le-leb (length word) 9 is.most) is.digits))
+    ∙ ap Some (sym is.value)
+
+pub record Named (name : List ℕ) (words : List (List ℕ)) (number : ℕ) : Type 0 where
+  pub word : List ℕ
+  pub words_are : words ≡ name ∷ word ∷ []
+  pub number_is : IsNumber word number
+
+pub named_is : (name : List ℕ) (words : List (List ℕ)) (number : ℕ) → number_named name words ≡ Some number → Named name words number
+named_is name [] number e = cc
+named_is name (word ∷ []) number e = cc
+named_is name (word ∷ digits ∷ []) number e =
+    let found = if_some (bytes_eq word name) (number_of digits) number e in
+    let same : word ≡ name = (bytes_eq-Decides word name).0 found.0 in
+    record { word = digits; words_are = λ i. same i ∷ digits ∷ []; number_is = number_is digits number found.1 }
+named_is name (word ∷ digits ∷ more ∷ words) number e = cc
+
+pub number_named_is : (name word : List ℕ) (number : ℕ) → IsNumber word number → number_named name (name ∷ word ∷ []) ≡ Some number
+number_named_is name word number is = ap (λ b. cond b (number_of word) None) ((bytes_eq-Decides name name).1 refl) ∙ number_of_is word number is

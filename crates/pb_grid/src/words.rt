@@ -1,0 +1,122 @@
+ghost use Rattle.std.specs.Prelude.{◌≡◌, ◌≤◌, ◌<◌, ℕ, [], ◌∷◌, length, reverse, position, slice_index, not, true, false, IfSome, IfNone};
+ghost use Rattle.std.specs.Char.{is_ascii_digit};
+ghost use Rattle.std.specs.List.{list_all};
+ghost use Rattle.pb_grid.specs.Lines.{is_blank, IsLastAt, words_of, is_blank_line, value_behind, is_number, number_of};
+
+// How many digits a number may have.
+const LONGEST_NUMBER: usize = 9;
+
+// A space or a tab.
+fn is_blank(byte: u8) -> bool
+    ensures { result ≡ is_blank byte }
+{
+    byte == b' ' || byte == b'\t'
+}
+
+// How many bytes stand before the first blank.
+fn blank_at(line: &[u8]) -> Option<usize>
+    ensures { result ≡ position is_blank line.now }
+{
+    line.iter().position(|byte| is_blank(*byte))
+}
+
+// How many blanks stand before a line's first word.
+fn word_at(line: &[u8]) -> Option<usize>
+    ensures { result ≡ position (λ byte. not (is_blank byte)) line.now }
+{
+    line.iter().position(|byte| !is_blank(*byte))
+}
+
+// Where the last blank stands.
+fn last_blank_at(line: &[u8]) -> Option<usize>
+    ensures some { IfSome result (λ at. IsLastAt is_blank line.now at) }
+    ensures none { IfNone result ((k : ℕ) → k < length line.now → is_blank (slice_index line.now k) ≡ false) }
+{
+    line.iter().rposition(|byte| is_blank(*byte))
+}
+
+// Where the last byte of a line's last word stands.
+fn word_end_at(line: &[u8]) -> Option<usize>
+    ensures some { IfSome result (λ at. IsLastAt (λ byte. not (is_blank byte)) line.now at) }
+    ensures none { IfNone result ((k : ℕ) → k < length line.now → not (is_blank (slice_index line.now k)) ≡ false) }
+{
+    line.iter().rposition(|byte| !is_blank(*byte))
+}
+
+/// The first word of a line, and the line behind it. None where the line has no word.
+pub fn split_word(line: &[u8]) -> Option<(&[u8], &[u8])>
+    ensures some { IfSome result (λ x. words_of line.now ≡ x.0.now ∷ words_of x.1.now) }
+    ensures none { IfNone result (words_of line.now ≡ []) }
+{
+    let Some(start) = word_at(line) else {
+        return None;
+    };
+    let word = &line[start..];
+    match blank_at(word) {
+        Some(end) => Some((&word[..end], &word[end..])),
+        None => Some((word, &word[word.len()..])),
+    }
+}
+
+/// The last word of a line, behind the line before it. None where the line has no word.
+pub fn split_last_word(line: &[u8]) -> Option<(&[u8], &[u8])>
+    ensures some { IfSome result (λ x. reverse (words_of line.now) ≡ x.1.now ∷ reverse (words_of x.0.now)) }
+    ensures none { IfNone result (words_of line.now ≡ []) }
+{
+    let Some(last) = word_end_at(line) else {
+        return None;
+    };
+    let front = &line[..last + 1];
+    match last_blank_at(front) {
+        Some(blank) => Some((&front[..blank], &front[blank + 1..])),
+        None => Some((&front[..0], front)),
+    }
+}
+
+/// Whether a line has no words.
+pub fn is_blank_line(line: &[u8]) -> bool
+    ensures { result ≡ is_blank_line line.now }
+{
+    match split_word(line) {
+        Some(_) => false,
+        None => true,
+    }
+}
+
+// Whether all bytes of a word are decimal digits.
+fn are_digits(word: &[u8]) -> bool
+    ensures { result ≡ list_all is_ascii_digit word.now }
+{
+    word.iter().all(|byte| byte.is_ascii_digit())
+}
+
+// Whether a word is one to nine decimal digits.
+fn is_number(word: &[u8]) -> bool
+    ensures { result ≡ is_number word.now }
+{
+    !word.is_empty() && word.len() <= LONGEST_NUMBER && are_digits(word)
+}
+
+/// The number that a word of one to nine decimal digits spells.
+#[tactic(auto, unfolding(crate::specs::Lines::number_of))]
+pub fn number_of(word: &[u8]) -> Option<u32>
+    ensures { result ≡ number_of word.now }
+{
+    if is_number(word) {
+        Some(value_of(word))
+    } else {
+        None
+    }
+}
+
+// The number that at most nine digits spell.
+fn value_of(digits: &[u8]) -> u32
+    requires { is_number digits.now ≡ true }
+    ensures { result ≡ value_behind 0 digits.now }
+{
+    let mut value = 0;
+    for digit in digits {
+        value = value * 10 + u32::from(*digit - b'0');
+    }
+    value
+}

@@ -1,0 +1,71 @@
+-- The texts that the program prints: of a plan, of a checked certificate, and of what is wrong with one or with the input.
+use Rattle.std.specs.Prelude.{ℕ, ◌<◌, Option, None, Some, List, map, codes, All}
+use Rattle.std.specs.Fmt.{decimal}
+use Rattle.pb_model.specs.Space.{Space}
+use Rattle.pb_model.specs.Plan.{Plan}
+use Rattle.pb_model.specs.Texts.{line, spaced, plan_report}
+use Rattle.pb_task.specs.declared.parts.Parts.{Parts}
+use Rattle.pb_task.specs.Parts.{action_name}
+use Rattle.pb_grid.specs.declared.error.GridError.{GridError}
+use Rattle.pb_grid.specs.declared.error.GridError.TheVariants.{Header, Size, Rows, Cell, Scenario, NoRow, ScenarioSize, Outside, StartBlocked, GoalBlocked, Memory}
+use Rattle.pb_check.specs.declared.fault.Verdict.{Verdict}
+use Rattle.pb_check.specs.declared.fault.Verdict.TheVariants.{Bounded, Unsolvable}
+use Rattle.pb_check.specs.declared.fault.Fault.{Fault}
+use Rattle.pb_check.specs.declared.fault.Fault.TheVariants.{Syntax, Kind, Weight, PlanStep, NotGoal, Cost, RowOrder, BadState, NoStart, GoalClosed, Missing, TooDear, Low}
+
+-- a line of words and a number
+abbrev pub with_number : (words : List ℕ) → (number : ℕ) → List ℕ
+with_number words number = line (spaced words (decimal number))
+
+-- a line of words and two numbers
+abbrev pub with_numbers : (words : List ℕ) → (first second : ℕ) → List ℕ
+with_numbers words first second = line (spaced words (spaced (decimal first) (decimal second)))
+
+-- ---- a plan
+
+-- each is the number of an action
+abbrev pub AreActions : Space → List ℕ → Type 0
+AreActions space actions = All (λ action. action < space.actions) actions
+
+-- a plan of a task: its cost and the number of its steps, the name of each step, and the bound
+abbrev pub plan_text : Parts → Plan → (bound : ℕ) → List ℕ
+plan_text parts plan bound = plan_report (map (action_name parts) plan.actions) plan.cost bound
+
+-- ---- a checked certificate
+
+-- what an accepted certificate shows
+abbrev pub verdict_text : Verdict → List ℕ
+verdict_text (Bounded cost bound) = line (spaced (codes "accepted cost") (spaced (decimal cost) (spaced (codes "bound") (decimal bound))))
+verdict_text Unsolvable = line (codes "accepted none")
+
+-- why a certificate is refused: the fault's name and its numbers
+abbrev pub fault_text : Fault → List ℕ
+fault_text (Syntax at) = with_number (codes "refused Syntax") at
+fault_text Kind = line (codes "refused Kind")
+fault_text Weight = line (codes "refused Weight")
+fault_text (PlanStep step) = with_number (codes "refused PlanStep") step
+fault_text NotGoal = line (codes "refused NotGoal")
+fault_text (Cost said real) = with_numbers (codes "refused Cost") said real
+fault_text (RowOrder at) = with_number (codes "refused RowOrder") at
+fault_text (BadState at) = with_number (codes "refused BadState") at
+fault_text NoStart = line (codes "refused NoStart")
+fault_text (GoalClosed at) = with_number (codes "refused GoalClosed") at
+fault_text (Missing at action) = with_numbers (codes "refused Missing") at action
+fault_text (TooDear at action) = with_numbers (codes "refused TooDear") at action
+fault_text (Low at) = with_number (codes "refused Low") at
+
+-- ---- the input
+
+-- why the texts of a map and a scenario are refused: the error's name and its numbers; want of memory has no text
+abbrev pub input_text : GridError → Option (List ℕ)
+input_text (Header at) = Some (with_number (codes "input Header") at)
+input_text Size = Some (line (codes "input Size"))
+input_text (Rows at) = Some (with_number (codes "input Rows") at)
+input_text (Cell at column) = Some (with_numbers (codes "input Cell") at column)
+input_text (Scenario at) = Some (with_number (codes "input Scenario") at)
+input_text (NoRow row rows) = Some (with_numbers (codes "input NoRow") row rows)
+input_text ScenarioSize = Some (line (codes "input ScenarioSize"))
+input_text Outside = Some (line (codes "input Outside"))
+input_text StartBlocked = Some (line (codes "input StartBlocked"))
+input_text GoalBlocked = Some (line (codes "input GoalBlocked"))
+input_text Memory = None

@@ -1,0 +1,10 @@
+//! The texts that the program prints, each made in memory before a byte of it is written.
+#![tactic(auto)]
+
+mod pieces;
+mod report;
+
+pub use report::Report;
+
+#[cfg(test)]
+mod tests;

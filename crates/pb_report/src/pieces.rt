@@ -1,0 +1,72 @@
+//! Lines of words and numbers, behind what a list of bytes holds already.
+ghost use Rattle.std.specs.Prelude.{◌≡◌, ◌++◌, OnOk, map};
+ghost use Rattle.std.specs.Fmt.{decimal};
+ghost use Rattle.pb_model.specs.Texts.{line, lines, spaced};
+ghost use Rattle.pb_task.specs.Parts.{space_of, action_name};
+ghost use Rattle.pb_report.specs.Texts.{AreActions};
+
+use itoa::Buffer;
+use pb_print::{push_line, push_number, push_text};
+use pb_task::Task;
+use std::alloc::{AllocError, Global};
+
+// A line of a text and a number.
+pub(crate) fn push_with_number(
+    out: &mut Vec<u8>,
+    text: &[u8],
+    number: u64,
+) -> Result<(), AllocError>
+    ensures { OnOk result (out.new.items ≡ out.old.items ++ line (text.now ++ decimal number)) }
+{
+    push_text(out, text)?;
+    push_number(out, number)?;
+    push_text(out, b"\n")
+}
+
+// A line of a text, a number, another text and another number.
+pub(crate) fn push_with_numbers(
+    out: &mut Vec<u8>,
+    text: &[u8],
+    first: u64,
+    between: &[u8],
+    second: u64,
+) -> Result<(), AllocError>
+    ensures { OnOk result (out.new.items ≡ out.old.items ++ line (text.now ++ decimal first ++ between.now ++ decimal second)) }
+{
+    push_text(out, text)?;
+    push_number(out, first)?;
+    push_with_number(out, between, second)
+}
+
+// A line of a text, a number, a space and a number that may be wider.
+pub(crate) fn push_with_wide(
+    out: &mut Vec<u8>,
+    text: &[u8],
+    first: u64,
+    second: u128,
+) -> Result<(), AllocError>
+    ensures { OnOk result (out.new.items ≡ out.old.items ++ line (text.now ++ spaced (decimal first) (decimal second))) }
+{
+    let mut buffer = Buffer::new();
+    push_text(out, text)?;
+    push_number(out, first)?;
+    push_text(out, b" ")?;
+    push_line(out, buffer.format(second).as_bytes())
+}
+
+// The names of the actions, a line each.
+pub(crate) fn push_steps(
+    alloc: Global,
+    out: &mut Vec<u8>,
+    task: &Task,
+    actions: &[u32],
+) -> Result<(), AllocError>
+    requires { AreActions (space_of task.now) actions.now }
+    ensures { OnOk result (out.new.items ≡ out.old.items ++ lines (map (action_name task.now) actions.now)) }
+{
+    for action in actions {
+        let name = task.action_text(alloc, *action)?;
+        push_line(out, name.as_bytes())?;
+    }
+    Ok(())
+}

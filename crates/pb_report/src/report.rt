@@ -1,0 +1,190 @@
+ghost use Rattle.std.specs.Prelude.{◌≡◌, ◌++◌, ◌^◌, ◌<◌, Some, IfOk};
+ghost use Rattle.std.specs.Fmt.{decimal};
+ghost use Rattle.pb_model.specs.Texts.{line, spaced, none_report, stopped_report};
+ghost use Rattle.pb_task.specs.Parts.{space_of};
+ghost use Rattle.pb_report.specs.Texts.{AreActions, plan_text, verdict_text, fault_text, input_text};
+
+use crate::pieces::{push_steps, push_with_number, push_with_numbers, push_with_wide};
+use pb_cert::Plan;
+use pb_check::{Fault, Verdict};
+use pb_grid::GridError;
+use pb_print::{push_line, push_text};
+use pb_task::Task;
+use std::alloc::{AllocError, Global};
+use std::marker::Model;
+
+/// The text of a report: lines of ASCII characters, each with its line feed, or the text of a tool as it stands.
+/// Contracts see its bytes. Wherever one is made, an error is want of memory.
+#[derive(Drop)]
+pub struct Report {
+    bytes: Vec<u8>,
+}
+
+impl Model for Report {
+    ghost use Rattle.std.specs.Prelude.{ℕ, List};
+
+    ghost Value = { List ℕ };
+
+    ghost view = { λ r. r.bytes.items };
+}
+
+impl Report {
+    /// One line: the text and a line feed.
+    pub fn line(alloc: Global, text: &[u8]) -> Result<Report, AllocError>
+        ensures { IfOk result (λ report. report ≡ line text.now) }
+    {
+        let mut bytes = Vec::new(alloc);
+        push_line(&mut bytes, text)?;
+        Ok(Report { bytes })
+    }
+
+    /// A text as it stands.
+    pub fn of_text(alloc: Global, text: &[u8]) -> Result<Report, AllocError>
+        ensures { IfOk result (λ report. report ≡ text.now) }
+    {
+        let mut bytes = Vec::new(alloc);
+        push_text(&mut bytes, text)?;
+        Ok(Report { bytes })
+    }
+
+    /// That no plan exists.
+    pub fn none(alloc: Global) -> Result<Report, AllocError>
+        ensures { IfOk result (λ report. report ≡ none_report) }
+    {
+        Report::line(alloc, b"none")
+    }
+
+    /// That so many expansions were allowed, and all of them were done.
+    pub fn stopped(alloc: Global, budget: u64) -> Result<Report, AllocError>
+        ensures { IfOk result (λ report. report ≡ stopped_report budget) }
+    {
+        Report::numbered(alloc, b"stopped budget ", budget)
+    }
+
+    /// A plan of the task, whose cost is its bound too, in the unit of the action costs.
+    pub fn plan(alloc: Global, task: &Task, plan: &Plan) -> Result<Report, AllocError>
+        requires { AreActions (space_of task.now) plan.now.actions }
+        ensures report { IfOk result (λ report. report ≡ plan_text task.now plan.now plan.now.cost) }
+        ensures fits { plan.now.cost < 2 ^ 64 }
+    {
+        Report::of_steps(alloc, task, plan.actions(), plan.cost())
+    }
+
+    /// That a certificate is accepted, and what it shows.
+    pub fn accepted(alloc: Global, verdict: &Verdict) -> Result<Report, AllocError>
+        ensures { IfOk result (λ report. report ≡ verdict_text verdict.now) }
+    {
+        match *verdict {
+            Verdict::Bounded { cost, bound } => {
+                Report::paired(alloc, b"accepted cost ", cost, b" bound ", bound)
+            }
+            Verdict::Unsolvable => Report::line(alloc, b"accepted none"),
+        }
+    }
+
+    /// That a certificate is refused, and why: the fault's name, and its numbers in the order of its fields.
+    pub fn refused(alloc: Global, fault: &Fault) -> Result<Report, AllocError>
+        ensures { IfOk result (λ report. report ≡ fault_text fault.now) }
+    {
+        match *fault {
+            Fault::Syntax { line } => Report::numbered(alloc, b"refused Syntax ", line),
+            Fault::Kind => Report::line(alloc, b"refused Kind"),
+            Fault::Weight => Report::line(alloc, b"refused Weight"),
+            Fault::PlanStep { i } => Report::numbered(alloc, b"refused PlanStep ", i),
+            Fault::NotGoal => Report::line(alloc, b"refused NotGoal"),
+            Fault::Cost { said, real } => Report::wide(alloc, b"refused Cost ", said, real),
+            Fault::RowOrder { line } => Report::numbered(alloc, b"refused RowOrder ", line),
+            Fault::BadState { line } => Report::numbered(alloc, b"refused BadState ", line),
+            Fault::NoStart => Report::line(alloc, b"refused NoStart"),
+            Fault::GoalClosed { line } => Report::numbered(alloc, b"refused GoalClosed ", line),
+            Fault::Missing { line, action } => {
+                Report::paired(alloc, b"refused Missing ", line, b" ", u64::from(action))
+            }
+            Fault::TooDear { line, action } => {
+                Report::paired(alloc, b"refused TooDear ", line, b" ", u64::from(action))
+            }
+            Fault::Low { line } => Report::numbered(alloc, b"refused Low ", line),
+        }
+    }
+
+    /// That the texts of a map and a scenario are refused, and why: the error's name, and its numbers in the order of its fields.
+    /// Where the error is itself want of memory, so is the answer.
+    pub fn input(alloc: Global, error: &GridError) -> Result<Report, AllocError>
+        ensures { IfOk result (λ report. input_text error.now ≡ Some report) }
+    {
+        match *error {
+            GridError::Header { line } => Report::numbered(alloc, b"input Header ", line),
+            GridError::Size => Report::line(alloc, b"input Size"),
+            GridError::Rows { line } => Report::numbered(alloc, b"input Rows ", line),
+            GridError::Cell { line, col } => {
+                Report::paired(alloc, b"input Cell ", line, b" ", col)
+            }
+            GridError::Scenario { line } => Report::numbered(alloc, b"input Scenario ", line),
+            GridError::NoRow { row, rows } => {
+                Report::paired(alloc, b"input NoRow ", row, b" ", rows)
+            }
+            GridError::ScenarioSize => Report::line(alloc, b"input ScenarioSize"),
+            GridError::Outside => Report::line(alloc, b"input Outside"),
+            GridError::StartBlocked => Report::line(alloc, b"input StartBlocked"),
+            GridError::GoalBlocked => Report::line(alloc, b"input GoalBlocked"),
+            GridError::Memory => Err(AllocError),
+        }
+    }
+
+    /// The bytes of the text.
+    pub fn as_slice(&self) -> &[u8]
+        ensures { result.now ≡ self.now }
+    {
+        &self.bytes
+    }
+
+    // The actions of a plan, and its cost.
+    pub(crate) fn of_steps(
+        alloc: Global,
+        task: &Task,
+        actions: &[u32],
+        cost: u64,
+    ) -> Result<Report, AllocError>
+        requires { AreActions (space_of task.now) actions.now }
+        ensures { IfOk result (λ report. report ≡ plan_text task.now (record { actions = actions.now; cost = cost }) cost) }
+    {
+        let mut bytes = Vec::new(alloc);
+        push_with_numbers(&mut bytes, b"plan ", cost, b" ", actions.len() as u64)?;
+        push_steps(alloc, &mut bytes, task, actions)?;
+        push_with_number(&mut bytes, b"bound ", cost)?;
+        Ok(Report { bytes })
+    }
+
+    // One line of a text and a number.
+    fn numbered(alloc: Global, text: &[u8], number: u64) -> Result<Report, AllocError>
+        ensures { IfOk result (λ report. report ≡ line (text.now ++ decimal number)) }
+    {
+        let mut bytes = Vec::new(alloc);
+        push_with_number(&mut bytes, text, number)?;
+        Ok(Report { bytes })
+    }
+
+    // One line of a text, a number, another text and another number.
+    fn paired(
+        alloc: Global,
+        text: &[u8],
+        first: u64,
+        between: &[u8],
+        second: u64,
+    ) -> Result<Report, AllocError>
+        ensures { IfOk result (λ report. report ≡ line (text.now ++ decimal first ++ between.now ++ decimal second)) }
+    {
+        let mut bytes = Vec::new(alloc);
+        push_with_numbers(&mut bytes, text, first, between, second)?;
+        Ok(Report { bytes })
+    }
+
+    // One line of a text, a number, a space and a number that may be wider.
+    fn wide(alloc: Global, text: &[u8], first: u64, second: u128) -> Result<Report, AllocError>
+        ensures { IfOk result (λ report. report ≡ line (text.now ++ spaced (decimal first) (decimal second))) }
+    {
+        let mut bytes = Vec::new(alloc);
+        push_with_wide(&mut bytes, text, first, second)?;
+        Ok(Report { bytes })
+    }
+}

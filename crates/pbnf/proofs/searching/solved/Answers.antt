@@ -1,0 +1,21 @@
+use Rattle.std.proofs.Common.{◌<◌, ℕ, refl}
+use Rattle.std.proofs.lemmas.List.Elements.{All-from_recursion}
+use Rattle.pb_task.specs.Parts.{space_of, greatest_cost}
+use Rattle.pb_task.proofs.Grids.{tasks_are_proper}
+use Rattle.pbnf.specs.Answer.{said_of}
+use Rattle.pbnf.proofs.Groups.{walk_actions}
+use Rattle.pbnf.proofs.Certified.{solved}
+use Rattle.pbnf.proofs.searching.solved.Goals as goal
+
+pub plan-requires : goal.plan-requires
+plan-requires c =
+    let is = c.in_ok-plan.ensures.plan in
+    All-from_recursion (λ (action : ℕ). action < (space_of c.args.task.now).actions) c.in_ok-plan.plan.actions
+    (walk_actions (space_of c.args.task.now) greatest_cost (tasks_are_proper c.args.task.now c.max_degree-lawful.ensures.lawful).0 c.in_ok-plan.plan.actions
+    (space_of c.args.task.now).start c.in_ok-plan.plan.cost is.0 is.1)
+
+pub returns : goal.returns
+returns c =
+    solved c.args.task.now c.args.bundle.now c.requires.weight c.max_degree-lawful.ensures.lawful c.requires.known
+    c.in_ok-plan.plan c.in_ok-plan.ensures.plan c.in_ok-plan.ensures.cheapest _ _ refl
+    c.in_ok-report.ensures.report c.in_ok-report.ensures.fits c.in_ok-saved.ensures

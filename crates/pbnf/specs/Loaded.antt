@@ -1,0 +1,107 @@
+-- What loading the files of a command line gives, and which task their texts spell. What depends on the kind of task stands here, in
+-- `input_task`, and nowhere else.
+use Rattle.std.specs.Prelude.{◌≡◌, ℕ, ◌+◌, Option, None, Some, IfSome, List, [], ◌∷◌, length, Result, Ok, Err, codes, if◌then◌else◌, nat_le, slice_get, option_map}
+use Rattle.pb_model.specs.Texts.{line}
+use Rattle.pb_task.specs.declared.parts.Parts.{Parts}
+use Rattle.pb_grid.specs.declared.error.GridError.{GridError}
+use Rattle.pb_grid.specs.Reading.{grid_reading, task_of}
+use Rattle.pb_report.specs.Texts.{input_text}
+use Rattle.pb_words.specs.Values.{InputNames, Grid}
+use Rattle.pb_words.specs.Meaning.{Reading, Refused, Read, Solve, Check, SolveMeaning, CheckMeaning}
+use Rattle.pb_outside.specs.Outside.{Files}
+use Rattle.pbnf.specs.Asked.{Wanted, input_files, files_of}
+
+-- ---- loading
+
+-- the text of a file before those of the next ones, where it is no longer than it may be; else no more is loaded
+abbrev pub load_before : (most : ℕ) → Option (List ℕ) → (rest : Option (List (List ℕ))) → Option (List (List ℕ))
+load_before most None rest = None
+load_before most (Some text) rest = if nat_le (length text) most then option_map (λ texts. text ∷ texts) rest else Some []
+
+-- the texts of the files, loaded one after another up to the first that is too long; none where a file isn't there
+abbrev pub loads_of : Files → List Wanted → Option (List (List ℕ))
+loads_of told [] = Some []
+loads_of told (file ∷ files) = load_before file.most (told file.name) (loads_of told files)
+
+-- these texts were loaded of the files; a shelf that tells its files tells these
+abbrev pub AreLoaded : Option Files → List Wanted → (texts : List (List ℕ)) → Type 0
+AreLoaded files wanted texts = IfSome files (λ told. loads_of told wanted ≡ Some texts)
+
+-- ---- what the texts spell: a task, or the report with which they are refused
+
+-- a file was too long, so that its text and the later ones were not loaded
+abbrev pub too_long : List ℕ
+too_long = line (codes "input TooLong")
+
+-- want of memory has no text, and no reading of texts is that
+abbrev pub refused_with : Option (List ℕ) → Result Parts (List ℕ)
+refused_with None = Err []
+refused_with (Some report) = Err report
+
+abbrev pub grid_told : Result Parts GridError → Result Parts (List ℕ)
+grid_told (Ok task) = Ok task
+grid_told (Err error) = refused_with (input_text error)
+
+abbrev pub grid_task : (map_text scenario_text : Option (List ℕ)) → (row : ℕ) → Result Parts (List ℕ)
+grid_task None scenario_text row = Err too_long
+grid_task (Some map_text) None row = Err too_long
+grid_task (Some map_text) (Some scenario_text) row = grid_told (task_of (grid_reading map_text scenario_text row))
+
+-- the task of the texts from this place on
+abbrev pub input_task : InputNames → (row first : ℕ) → (texts : List (List ℕ)) → Result Parts (List ℕ)
+input_task (Grid names) row first texts = grid_task (slice_get texts first) (slice_get texts (first + 1)) row
+
+-- the task that is to be solved
+abbrev pub solve_task : SolveMeaning → (texts : List (List ℕ)) → Result Parts (List ℕ)
+solve_task solve texts = input_task solve.input solve.row 0 texts
+
+abbrev pub with_certificate : Option (List ℕ) → Result Parts (List ℕ) → Result (Parts × List ℕ) (List ℕ)
+with_certificate None task = Err too_long
+with_certificate (Some certificate) (Ok parts) = Ok (parts, certificate)
+with_certificate (Some certificate) (Err report) = Err report
+
+-- the task that a certificate is to be checked for, and the certificate's text
+abbrev pub check_task : CheckMeaning → (texts : List (List ℕ)) → Result (Parts × List ℕ) (List ℕ)
+check_task check texts = with_certificate (slice_get texts 0) (input_task check.input check.row 1 texts)
+
+-- the texts spell a task to solve, and P holds of it
+abbrev pub OfTexts : SolveMeaning → (texts : List (List ℕ)) → (P : Parts → Type 0) → Type 0
+OfTexts solve texts P = (parts : Parts) × (solve_task solve texts ≡ Ok parts) × P parts
+
+-- the texts spell a task with a certificate to check, and P holds of both
+abbrev pub OfCheckedTexts : CheckMeaning → (texts : List (List ℕ)) → (P : Parts → List ℕ → Type 0) → Type 0
+OfCheckedTexts check texts P = (parts : Parts) × (certificate : List ℕ) × (check_task check texts ≡ Ok (parts, certificate)) × P parts certificate
+
+-- ---- of the files that a shelf tells
+
+-- the files spell the task that is to be solved
+abbrev pub SpellTask : Files → SolveMeaning → Parts → Type 0
+SpellTask told solve parts = (texts : List (List ℕ)) × (loads_of told (files_of (Read (Solve solve))) ≡ Some texts) × (solve_task solve texts ≡ Ok parts)
+
+-- the files spell the task, and the one that is to be checked is this certificate
+abbrev pub SpellChecked : Files → CheckMeaning → Parts → (certificate : List ℕ) → Type 0
+SpellChecked told check parts certificate =
+    (texts : List (List ℕ)) × (loads_of told (files_of (Read (Check check))) ≡ Some texts) × (check_task check texts ≡ Ok (parts, certificate))
+
+abbrev pub IsErr : {A : Type 0} → Result A (List ℕ) → (report : List ℕ) → Type 0
+IsErr result report = result ≡ Err report
+
+-- texts are refused with this report: one is too long, or they spell no task
+abbrev pub RefusesTexts : Reading → (texts : List (List ℕ)) → (report : List ℕ) → Type 0
+RefusesTexts (Refused fault) texts report = ⊥
+RefusesTexts (Read (Solve solve)) texts report = IsErr (solve_task solve texts) report
+RefusesTexts (Read (Check check)) texts report = IsErr (check_task check texts) report
+
+-- the files that the words name are refused with this report
+abbrev pub RefusesFiles : Reading → Files → (report : List ℕ) → Type 0
+RefusesFiles reading told report = (texts : List (List ℕ)) × (loads_of told (files_of reading) ≡ Some texts) × RefusesTexts reading texts report
+
+-- ---- where the shelf tells its files, P holds
+
+-- of the task that the files spell
+abbrev pub OfTask : Option Files → SolveMeaning → (P : Parts → Type 0) → Type 0
+OfTask files solve P = IfSome files (λ told. (parts : Parts) × SpellTask told solve parts × P parts)
+
+-- of the task that the files spell and the certificate that is to be checked
+abbrev pub OfChecked : Option Files → CheckMeaning → (P : Parts → List ℕ → Type 0) → Type 0
+OfChecked files check P = IfSome files (λ told. (parts : Parts) × (certificate : List ℕ) × SpellChecked told check parts certificate × P parts certificate)
