@@ -5,7 +5,7 @@ use Rattle.pb_task.specs.Parts.{space_of, IsTask, greatest_cost}
 use Rattle.pb_task.specs.declared.parts.Parts.{Parts}
 use Rattle.pb_task.proofs.Grids.{tasks_are_proper}
 use Rattle.pb_estimate.specs.Estimates.{estimate_of}
-use Rattle.pb_estimate.proofs.Grids.{estimates_are_admissible}
+use Rattle.pb_estimate.proofs.Estimates.{estimates_are_admissible}
 use Rattle.pb_model.specs.Space.{IsProper}
 use Rattle.pb_check.specs.declared.fault.Verdict.{Verdict}
 use Rattle.pb_check.specs.declared.fault.CheckError.{CheckError}

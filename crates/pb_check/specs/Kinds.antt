@@ -7,6 +7,7 @@ use Rattle.pb_check.specs.declared.kind.Kind.TheVariants.{Grid, Tiles, Strips}
 
 abbrev pub kind_of : Parts → Kind
 kind_of (parts.Grid grid) = Grid
+kind_of (parts.Tiles tiles) = Tiles
 
 abbrev pub kind_name : Kind → List ℕ
 kind_name Grid = codes "grid"

@@ -1,35 +1,34 @@
 -- On a grid no step brings a cell nearer to the goal by more than its cost, so the Manhattan distance is admissible.
-use Rattle.std.proofs.Common.{◌≡◌, ℕ, zero, suc, ◌+◌, ◌-◌, ◌*◌, ◌<◌, ◌≤◌, Bool, true, false, IsTrue, Option, None, Some, List, [], ◌∷◌, unwrap_or, nat_lt, nat_eq, ◌&&◌, if◌then◌else◌, slice_get, refl, sym, subst, ap, arith, ◌∙◌}
+use Rattle.std.proofs.Common.{◌≡◌, ℕ, zero, suc, ◌+◌, ◌-◌, ◌*◌, ◌<◌, ◌≤◌, Bool, true, false, IsTrue, Option, None, Some, List, unwrap_or, nat_lt, nat_eq, ◌&&◌, if◌then◌else◌, slice_get, refl, sym, subst, ap, arith, ◌∙◌}
 use Rattle.std.proofs.lemmas.Bool.Decides.{nat_tests}
 use Rattle.pb_packed.specs.Bits.{bits_of}
 use Rattle.pb_model.specs.Space.{Steps}
 use Rattle.pb_model.specs.Plan.{Walk}
 use Rattle.pb_task.specs.Grid.{is_passable, are_connected, class_at, cell_state, class_of_state, cell_beside, step_to, grid_space, IsGrid}
-use Rattle.pb_task.specs.declared.parts.Parts.TheVariants.{Grid}
 use Rattle.pb_task.specs.declared.parts.GridParts.{GridParts}
 use Rattle.pb_task.specs.declared.parts.Class.{Class}
 use Rattle.pb_task.specs.declared.parts.Class.TheVariants.{Land, Water, Blocked}
 use Rattle.pb_estimate.specs.Estimates.{apart, manhattan, cell_of}
-use Rattle.pb_estimate.specs.Laws.{EstimatesAreAdmissible}
+use Rattle.pb_estimate.proofs.Consistent.{no_walk_is_cheaper}
 
 -- ---- distances
 
 near : (n m goal : ℕ) → n ≤ m + 1 → m ≤ n + 1 → apart n goal ≤ 1 + apart m goal
 near n m goal h k = omega arith
 
-near_in_x : (x x' y : ℕ) (goal : ℕ × ℕ) → x ≤ x' + 1 → x' ≤ x + 1 → manhattan (x, y) goal ≤ 1 + manhattan (x', y) goal
+pub near_in_x : (x x' y : ℕ) (goal : ℕ × ℕ) → x ≤ x' + 1 → x' ≤ x + 1 → manhattan (x, y) goal ≤ 1 + manhattan (x', y) goal
 near_in_x x x' y goal h k = sums (apart x goal.0) (apart x' goal.0) (apart y goal.1) (near x x' goal.0 h k)
   where
     sums : (a b c : ℕ) → a ≤ 1 + b → a + c ≤ 1 + (b + c)
     sums a b c le = omega arith
 
-near_in_y : (x y y' : ℕ) (goal : ℕ × ℕ) → y ≤ y' + 1 → y' ≤ y + 1 → manhattan (x, y) goal ≤ 1 + manhattan (x, y') goal
+pub near_in_y : (x y y' : ℕ) (goal : ℕ × ℕ) → y ≤ y' + 1 → y' ≤ y + 1 → manhattan (x, y) goal ≤ 1 + manhattan (x, y') goal
 near_in_y x y y' goal h k = sums (apart x goal.0) (apart y goal.1) (apart y' goal.1) (near y y' goal.1 h k)
   where
     sums : (c a b : ℕ) → a ≤ 1 + b → c + a ≤ 1 + (c + b)
     sums c a b le = omega arith
 
-none_apart : (cell : ℕ × ℕ) (cost : ℕ) → manhattan cell cell ≤ cost
+pub none_apart : (cell : ℕ × ℕ) (cost : ℕ) → manhattan cell cell ≤ cost
 none_apart cell cost = omega arith
 
 -- ---- steps
@@ -124,16 +123,6 @@ at_goal grid is state cost e =
     let cell : cell_of state ≡ grid.goal = ap cell_of here ∙ cell_is grid is grid.goal.0 grid.goal.1 is.goal in
     subst (λ c. manhattan c grid.goal ≤ cost) (sym cell) (none_apart grid.goal cost)
 
-no_walk_is_cheaper : (grid : GridParts) → IsGrid grid → (state : ℕ) (actions : List ℕ) (cost goal : ℕ) → Walk (grid_space grid) state actions cost goal
+pub no_way_is_shorter : (grid : GridParts) → IsGrid grid → (state : ℕ) (actions : List ℕ) (cost goal : ℕ) → Walk (grid_space grid) state actions cost goal
     → IsTrue ((grid_space grid).is_goal goal) → manhattan (cell_of state) grid.goal ≤ cost
-no_walk_is_cheaper grid is state [] cost goal walk e = at_goal grid is state cost (subst (λ s. IsTrue ((grid_space grid).is_goal s)) walk.1 e)
-no_walk_is_cheaper grid is state (action ∷ actions) cost goal (next, first, rest, step, walk, sum) e =
-    let one = nearer grid is state action next first step in
-    let others = no_walk_is_cheaper grid is next actions rest goal walk e in
-    along (manhattan (cell_of state) grid.goal) (manhattan (cell_of next) grid.goal) first rest cost one others sum
-  where
-    along : (here there first rest cost : ℕ) → here ≤ first + there → there ≤ rest → cost ≡ first + rest → here ≤ cost
-    along here there first rest cost one others sum = omega arith
-
-pub estimates_are_admissible : EstimatesAreAdmissible
-estimates_are_admissible (Grid grid) is state actions cost goal is_state walk e = no_walk_is_cheaper grid is state actions cost goal walk e
+no_way_is_shorter grid is = no_walk_is_cheaper (grid_space grid) (λ state. manhattan (cell_of state) grid.goal) (nearer grid is) (at_goal grid is)

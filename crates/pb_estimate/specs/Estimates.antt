@@ -1,10 +1,11 @@
 -- Estimates of the cost of a way to a goal. A further kind of task is one case more of `estimate_of`.
-use Rattle.std.specs.Prelude.{ℕ, ◌+◌, ◌-◌}
+use Rattle.std.specs.Prelude.{ℕ, zero, suc, ◌+◌, ◌-◌, ◌/◌, ◌%◌, ◌==◌, List, if◌then◌else◌, position, unwrap_or, slice_index}
 use Rattle.pb_packed.specs.Bits.{bits_of}
 use Rattle.pb_model.specs.declared.row.Estimate.{Estimate}
 use Rattle.pb_model.specs.declared.row.Estimate.TheVariants.{Cost}
+use Rattle.pb_task.specs.Tiles.{cell_count, board_of}
 use Rattle.pb_task.specs.declared.parts.Parts.{Parts}
-use Rattle.pb_task.specs.declared.parts.Parts.TheVariants.{Grid}
+use Rattle.pb_task.specs.declared.parts.Parts.TheVariants.{Grid, Tiles}
 
 -- how far two numbers are apart
 abbrev pub apart : (n m : ℕ) → ℕ
@@ -18,6 +19,35 @@ manhattan from to = apart from.0 to.0 + apart from.1 to.1
 abbrev pub cell_of : (state : ℕ) → ℕ × ℕ
 cell_of state = (bits_of state 0 11, bits_of state 11 11)
 
+-- ---- tiles
+
+-- the column and the row of a board's cell
+abbrev pub place_of : (cols cell : ℕ) → ℕ × ℕ
+place_of cols cell = (cell % cols, cell / cols)
+
+-- the cell of a board that a number is in
+abbrev pub cell_with : (board : List ℕ) → (number : ℕ) → ℕ
+cell_with board number = unwrap_or (position (λ other. other == number) board) 0
+
+-- the distance of the tile in a cell from its cell on the goal board; the blank is no tile
+abbrev pub way_home : (cols : ℕ) → (goal : List ℕ) → (cell number : ℕ) → ℕ
+way_home cols goal cell number = if number == 0 then 0 else manhattan (place_of cols cell) (place_of cols (cell_with goal number))
+
+-- the distances of the tiles in the first `count` cells of a board from their cells on the goal board, summed
+abbrev pub ways_home : (cols : ℕ) → (goal board : List ℕ) → (count : ℕ) → ℕ
+ways_home cols goal board zero = 0
+ways_home cols goal board (suc cell) = ways_home cols goal board cell + way_home cols goal cell (slice_index board cell)
+
+-- the distance of a tile's cell on a board from its cell on the goal board
+abbrev pub tile_way : (cols : ℕ) → (goal board : List ℕ) → (number : ℕ) → ℕ
+tile_way cols goal board number = manhattan (place_of cols (cell_with board number)) (place_of cols (cell_with goal number))
+
+-- the distances of the tiles 1, 2 and so on up to a number, summed
+abbrev pub tile_ways : (cols : ℕ) → (goal board : List ℕ) → (number : ℕ) → ℕ
+tile_ways cols goal board zero = 0
+tile_ways cols goal board (suc number) = tile_ways cols goal board number + tile_way cols goal board (suc number)
+
 -- the estimate of a state of a task
 abbrev pub estimate_of : Parts → (state : ℕ) → Estimate
 estimate_of (Grid grid) state = Cost (manhattan (cell_of state) grid.goal)
+estimate_of (Tiles tiles) state = Cost (ways_home tiles.cols tiles.goal (board_of (cell_count tiles) state) (cell_count tiles))

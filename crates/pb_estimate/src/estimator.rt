@@ -3,7 +3,7 @@ ghost use Rattle.pb_task.specs.Parts.{space_of};
 ghost use Rattle.pb_estimate.specs.Estimates.{estimate_of};
 ghost use Rattle.pb_estimate.specs.Tables.{tables_of};
 
-use crate::grid;
+use crate::{grid, tiles};
 use pb_model::Estimate;
 use pb_packed::Packed;
 use pb_task::{Parts, Task};
@@ -15,6 +15,8 @@ use std::marker::Model;
 pub enum Tables {
     /// Nothing: the distance on a grid is known from the cells alone.
     Grid,
+    /// The cell of each number from 0 to 15 on the goal board, and 0 for a number that it doesn't have.
+    Tiles([u8; 16]),
 }
 
 /// Tells the estimates of one task's states. Contracts see what it keeps.
@@ -32,7 +34,8 @@ impl Model for Estimator {
 }
 
 impl Estimator {
-    /// The estimator of a task. All the memory that its estimates use is taken here; on a grid they use none.
+    /// The estimator of a task. All the memory that its estimates use is taken here; on a grid and for tiles
+    /// they use none.
     pub fn of(alloc: Global, task: &Task) -> Result<Estimator, AllocError>
         ensures { IfOk result (λ estimator. estimator ≡ tables_of task.now) }
     {
@@ -40,6 +43,9 @@ impl Estimator {
         match task.parts() {
             Parts::Grid(_) => Ok(Estimator {
                 tables: Tables::Grid,
+            }),
+            Parts::Tiles(parts) => Ok(Estimator {
+                tables: Tables::Tiles(tiles::goal_cells(parts.goal.numbers())),
             }),
         }
     }
@@ -51,8 +57,12 @@ impl Estimator {
         ensures estimate { result ≡ estimate_of task.now state.now }
         ensures task { self.new ≡ tables_of task.now }
     {
-        match task.parts() {
-            Parts::Grid(grid) => Estimate::Cost(grid::distance(grid, state)),
+        match (task.parts(), &self.tables) {
+            (Parts::Grid(parts), _) => Estimate::Cost(grid::distance(parts, state)),
+            (Parts::Tiles(parts), Tables::Tiles(cells)) => {
+                Estimate::Cost(tiles::distance(parts, cells, state))
+            }
+            (Parts::Tiles(_), Tables::Grid) => unreachable!(),
         }
     }
 }

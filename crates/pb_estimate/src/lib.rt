@@ -1,14 +1,17 @@
 //! Lower bounds on the cost of every way from a state to a goal: what guides a search, and what a certificate is judged by.
 //!
-//! The estimate of a state is the definition `estimate_of` in `specs`. For grids it is the Manhattan distance to the goal.
+//! The estimate of a state is the definition `estimate_of` in `specs`. For grids it is the Manhattan distance to the goal, and for
+//! tiles the Manhattan distances of all tiles from their cells on the goal board, summed.
 #![tactic(auto)]
 
+mod distance;
 mod estimator;
 mod grid;
 mod laws;
+mod tiles;
 
 pub use estimator::{Estimator, Tables};
-pub use laws::estimates_are_admissible;
+pub use laws::{estimates_are_admissible, estimates_count_tiles};
 
 #[cfg(test)]
 mod tests;

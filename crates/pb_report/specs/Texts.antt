@@ -8,6 +8,8 @@ use Rattle.pb_task.specs.declared.parts.Parts.{Parts}
 use Rattle.pb_task.specs.Parts.{action_name}
 use Rattle.pb_grid.specs.declared.error.GridError.{GridError}
 use Rattle.pb_grid.specs.declared.error.GridError.TheVariants.{Header, Size, Rows, Cell, Scenario, NoRow, ScenarioSize, Outside, StartBlocked, GoalBlocked, Memory}
+use Rattle.pb_tiles.specs.declared.error.TilesError.{TilesError}
+use Rattle.pb_tiles.specs.declared.error.TilesError.TheVariants as tiles
 use Rattle.pb_check.specs.declared.fault.Verdict.{Verdict}
 use Rattle.pb_check.specs.declared.fault.Verdict.TheVariants.{Bounded, Unsolvable}
 use Rattle.pb_check.specs.declared.fault.Fault.{Fault}
@@ -69,3 +71,12 @@ input_text Outside = Some (line (codes "input Outside"))
 input_text StartBlocked = Some (line (codes "input StartBlocked"))
 input_text GoalBlocked = Some (line (codes "input GoalBlocked"))
 input_text Memory = None
+
+-- why the text of sliding tiles is refused: the error's name and its numbers; want of memory has no text
+abbrev pub tiles_text : TilesError → Option (List ℕ)
+tiles_text (tiles.Syntax at) = Some (with_number (codes "input Syntax") at)
+tiles_text tiles.Size = Some (line (codes "input Size"))
+tiles_text (tiles.Count seen wanted) = Some (with_numbers (codes "input Count") seen wanted)
+tiles_text (tiles.Number at) = Some (with_number (codes "input Number") at)
+tiles_text (tiles.Twice number) = Some (with_number (codes "input Twice") number)
+tiles_text tiles.Memory = None

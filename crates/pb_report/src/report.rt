@@ -2,7 +2,7 @@ ghost use Rattle.std.specs.Prelude.{◌≡◌, ◌++◌, ◌^◌, ◌<◌, Some,
 ghost use Rattle.std.specs.Fmt.{decimal};
 ghost use Rattle.pb_model.specs.Texts.{line, spaced, none_report, stopped_report};
 ghost use Rattle.pb_task.specs.Parts.{space_of};
-ghost use Rattle.pb_report.specs.Texts.{AreActions, plan_text, verdict_text, fault_text, input_text};
+ghost use Rattle.pb_report.specs.Texts.{AreActions, plan_text, verdict_text, fault_text, input_text, tiles_text};
 
 use crate::pieces::{push_steps, push_with_number, push_with_numbers, push_with_wide};
 use pb_cert::Plan;
@@ -10,6 +10,7 @@ use pb_check::{Fault, Verdict};
 use pb_grid::GridError;
 use pb_print::{push_line, push_text};
 use pb_task::Task;
+use pb_tiles::TilesError;
 use std::alloc::{AllocError, Global};
 use std::marker::Model;
 
@@ -128,6 +129,23 @@ impl Report {
             GridError::StartBlocked => Report::line(alloc, b"input StartBlocked"),
             GridError::GoalBlocked => Report::line(alloc, b"input GoalBlocked"),
             GridError::Memory => Err(AllocError),
+        }
+    }
+
+    /// That the text of sliding tiles is refused, and why: the error's name, and its numbers in the order of its fields. Where the
+    /// error is itself want of memory, so is the answer.
+    pub fn tiles_input(alloc: Global, error: &TilesError) -> Result<Report, AllocError>
+        ensures { IfOk result (λ report. tiles_text error.now ≡ Some report) }
+    {
+        match *error {
+            TilesError::Syntax { line } => Report::numbered(alloc, b"input Syntax ", line),
+            TilesError::Size => Report::line(alloc, b"input Size"),
+            TilesError::Count { seen, wanted } => {
+                Report::paired(alloc, b"input Count ", seen, b" ", wanted)
+            }
+            TilesError::Number { at } => Report::numbered(alloc, b"input Number ", at),
+            TilesError::Twice { number } => Report::numbered(alloc, b"input Twice ", number),
+            TilesError::Memory => Err(AllocError),
         }
     }
 

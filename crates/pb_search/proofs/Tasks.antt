@@ -12,7 +12,7 @@ use Rattle.pb_model.proofs.Successors.{IsStep, are_steps}
 use Rattle.pb_task.specs.declared.parts.Parts.{Parts}
 use Rattle.pb_task.specs.Parts.{space_of, IsTask, greatest_cost}
 use Rattle.pb_task.proofs.Grids.{tasks_are_proper}
-use Rattle.pb_estimate.proofs.Grids.{estimates_are_admissible}
+use Rattle.pb_estimate.proofs.Estimates.{estimates_are_admissible}
 use Rattle.pb_lists.specs.Bundle.{Content, row_of, store_of}
 use Rattle.pb_estimate.specs.Estimates.{estimate_of}
 use Rattle.pb_search.specs.Reached.{guided, unweighted, IsReached, IsNext}

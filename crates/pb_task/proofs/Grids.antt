@@ -1,11 +1,12 @@
--- A grid's steps lead from states to states, by four actions, at cost 1.
+-- A grid's steps lead from states to states, by four actions, at cost 1, and what that gives for tasks of every kind.
 use Rattle.std.proofs.Common.{◌≡◌, ℕ, zero, suc, ◌+◌, ◌*◌, ◌^◌, ◌<◌, ◌≤◌, Bool, true, false, IsTrue, Option, None, Some, unwrap_or, nat_lt, ◌&&◌, if◌then◌else◌, slice_get, refl, sym, subst, ap, arith, ◌∙◌}
 use Rattle.std.proofs.lemmas.Bool.Decides.{nat_tests}
 use Rattle.pb_packed.specs.Bits.{bits_of}
 use Rattle.pb_model.specs.Space.{Steps, IsProper}
 use Rattle.pb_task.specs.Grid.{is_passable, are_connected, class_at, cell_state, class_of_state, cell_beside, step_to, grid_space, IsGrid}
 use Rattle.pb_task.specs.Laws.{GridsAreProper, TasksAreProper}
-use Rattle.pb_task.specs.declared.parts.Parts.TheVariants.{Grid}
+use Rattle.pb_task.specs.declared.parts.Parts.TheVariants.{Grid, Tiles}
+use Rattle.pb_task.proofs.Sliding.{tiles_is_proper, boards_are_small}
 use Rattle.pb_task.specs.declared.parts.GridParts.{GridParts}
 use Rattle.pb_task.specs.declared.parts.Class.{Class}
 use Rattle.pb_task.specs.declared.parts.Class.TheVariants.{Land, Water, Blocked}
@@ -111,5 +112,8 @@ states_are_small grid state e = below state (2 ^ 22) (has_few_bits (nat_lt state
 pub grids_are_proper : GridsAreProper
 grids_are_proper grid is = (grid_is_proper grid is, refl, states_are_small grid)
 
+-- ---- tasks of every kind
+
 pub tasks_are_proper : TasksAreProper
 tasks_are_proper (Grid grid) is = (grid_is_proper grid is, λ state e. let few : state < 2 ^ 22 = states_are_small grid state e in omega arith)
+tasks_are_proper (Tiles tiles) is = (tiles_is_proper tiles is, λ state e. let few : state < 2 ^ 64 = boards_are_small tiles is state e in omega arith)

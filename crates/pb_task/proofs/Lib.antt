@@ -1,3 +1,6 @@
+pub mod Boards
+pub mod Sliding
+pub mod Slides
 pub mod Grids
 pub mod Successors
 pub mod Walks

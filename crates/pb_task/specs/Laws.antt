@@ -1,12 +1,16 @@
 -- The laws of this crate. Each is proved, as the contract of the public function that has its name.
-use Rattle.std.specs.Prelude.{◌≡◌, ℕ, ◌^◌, ◌<◌, ◌≤◌, IsTrue, List, length}
-use Rattle.pb_model.specs.Space.{Space, IsProper, steps}
+use Rattle.std.specs.Prelude.{◌≡◌, ℕ, ◌^◌, ◌<◌, ◌≤◌, IsTrue, List, length, slice_index, ◌*◌, ◌↔◌}
+use Rattle.pb_packed.specs.Bits.{bits_of}
+use Rattle.pb_model.specs.Space.{Space, Steps, IsProper, steps}
 use Rattle.pb_model.specs.Plan.{IsPlan}
 use Rattle.pb_task.specs.declared.parts.Parts.{Parts}
 use Rattle.pb_task.specs.declared.parts.GridParts.{GridParts}
+use Rattle.pb_task.specs.declared.parts.TilesParts.{TilesParts}
 use Rattle.pb_task.specs.declared.plan.PlanFault.{PlanFault}
 use Rattle.pb_task.specs.Faults.{IsFault}
 use Rattle.pb_task.specs.Grid.{grid_space, IsGrid}
+use Rattle.pb_task.specs.Tiles.{cell_count, is_board, board_state, board_of, is_board_state, tiles_space, IsTiles}
+use Rattle.pb_task.specs.Slides.{Slides}
 use Rattle.pb_task.specs.Parts.{space_of, IsTask, max_degree_of, greatest_cost}
 
 -- A grid's start is a state, each of its steps is by one of four actions, leads from a state to a state, and costs 1, and its states
@@ -15,6 +19,29 @@ abbrev pub GridsAreProper : Type 0
 GridsAreProper =
     (grid : GridParts) → IsGrid grid
     → IsProper (grid_space grid) 1 × ((grid_space grid).actions ≡ 4) × ((state : ℕ) → IsTrue ((grid_space grid).is_state state) → state < 2 ^ 22)
+
+-- The start of sliding tiles is a state, each of their steps is by one of four actions, leads from a board to a board, and costs 1, and
+-- their states are numbers below 2^64.
+abbrev pub TilesAreProper : Type 0
+TilesAreProper =
+    (tiles : TilesParts) → IsTiles tiles
+    → IsProper (tiles_space tiles) 1 × ((tiles_space tiles).actions ≡ 4) × ((state : ℕ) → IsTrue ((tiles_space tiles).is_state state) → state < 2 ^ 64)
+
+-- A step of sliding tiles is one that exchanges the blank of a board and the tile beside it in the action's direction, and costs 1.
+abbrev pub TilesSlide : Type 0
+TilesSlide =
+    (tiles : TilesParts) → IsTiles tiles → (before : List ℕ) → IsTrue (is_board (cell_count tiles) before) → (action to cost : ℕ)
+    → Steps (tiles_space tiles) (board_state before) action to cost
+    ↔ ((after : List ℕ) × IsTrue (is_board (cell_count tiles) after) × Slides tiles action before after × (to ≡ board_state after) × (cost ≡ 1))
+
+-- Boards and the states that stand for them are one to one: the state of a board is one that has the board's numbers in its cells, a state that is
+-- a board is the state of the numbers in its cells, and the number in cell i is the one in the bits 4i to 4i+3.
+abbrev pub BoardsArePacked : Type 0
+BoardsArePacked =
+    (count : ℕ) → count ≤ 16
+    → ((board : List ℕ) → IsTrue (is_board count board) → IsTrue (is_board_state count (board_state board)) × (board_of count (board_state board) ≡ board))
+    × ((state : ℕ) → IsTrue (is_board_state count state) → IsTrue (is_board count (board_of count state)) × (board_state (board_of count state) ≡ state))
+    × ((state cell : ℕ) → cell < count → slice_index (board_of count state) cell ≡ bits_of state (4 * cell) 4)
 
 -- The state space of a task is proper: no action costs more than the greatest cost. Its states are numbers of 256 bits.
 abbrev pub TasksAreProper : Type 0

@@ -1,4 +1,6 @@
 pub mod Grid
+pub mod Tiles
+pub mod Slides
 pub mod Parts
 pub mod Faults
 pub mod Laws

@@ -2,20 +2,24 @@
 use Rattle.std.specs.Prelude.{ℕ, List}
 use Rattle.pb_model.specs.Space.{Space}
 use Rattle.pb_task.specs.declared.parts.Parts.{Parts}
-use Rattle.pb_task.specs.declared.parts.Parts.TheVariants.{Grid}
+use Rattle.pb_task.specs.declared.parts.Parts.TheVariants.{Grid, Tiles}
 use Rattle.pb_task.specs.Grid.{grid_space, direction, IsGrid}
+use Rattle.pb_task.specs.Tiles.{tiles_space, IsTiles}
 
 -- the state space of a task
 abbrev pub space_of : Parts → Space
 space_of (Grid grid) = grid_space grid
+space_of (Tiles tiles) = tiles_space tiles
 
 -- the parts make up a task
 abbrev pub IsTask : Parts → Type 0
 IsTask (Grid grid) = IsGrid grid
+IsTask (Tiles tiles) = IsTiles tiles
 
 -- what an action is called in a plan
 abbrev pub action_name : Parts → (action : ℕ) → List ℕ
 action_name (Grid grid) action = direction action
+action_name (Tiles tiles) action = direction action
 
 -- no state has more successors
 abbrev pub max_degree_of : Parts → ℕ

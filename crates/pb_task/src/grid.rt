@@ -6,7 +6,7 @@ ghost use Rattle.pb_task.specs.declared.parts.Class.TheVariants.{Blocked};
 use crate::parts::{Class, GridParts};
 use pb_packed::Packed;
 
-/// How many actions a grid has: up, down, left and right.
+/// How many actions a grid and a board of tiles have: up, down, left and right.
 pub const DIRECTIONS: u32 = 4;
 
 // How many bits of a state hold a coordinate.
@@ -81,8 +81,8 @@ fn are_connected(from: Class, to: Class) -> bool
     }
 }
 
-// The cell beside a cell in the action's direction, be it on the map or not.
-fn cell_beside(x: u32, y: u32, action: u32) -> Option<(u32, u32)>
+/// The cell beside a cell in the action's direction, be it on the map or not.
+pub fn cell_beside(x: u32, y: u32, action: u32) -> Option<(u32, u32)>
     requires x { x < 2048 }
     requires y { y < 2048 }
     ensures { result ≡ cell_beside x y action }

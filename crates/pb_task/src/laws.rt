@@ -1,8 +1,23 @@
-ghost use Rattle.pb_task.specs.Laws.{GridsAreProper, TasksAreProper, DegreesAreBounded, FaultsAreUnique, FaultsKeepFromPlans};
+ghost use Rattle.pb_task.specs.Laws.{GridsAreProper, TilesAreProper, BoardsArePacked, TilesSlide, TasksAreProper, DegreesAreBounded, FaultsAreUnique, FaultsKeepFromPlans};
 
 /// The steps of a grid are by four actions, lead from states to states and cost 1, and its states have 22 bits.
 pub fn grids_are_proper()
     ensures { GridsAreProper }
+{}
+
+/// The steps of sliding tiles are by four actions, lead from boards to boards and cost 1, and their states have 64 bits.
+pub fn tiles_are_proper()
+    ensures { TilesAreProper }
+{}
+
+/// Boards of at most 16 cells and the states that stand for them are one to one, and each number stands in four bits.
+pub fn boards_are_packed()
+    ensures { BoardsArePacked }
+{}
+
+/// The steps of sliding tiles are those that exchange the blank of a board and the tile beside it in the action's direction.
+pub fn tiles_slide()
+    ensures { TilesSlide }
 {}
 
 /// The state space of a task is proper.

@@ -8,12 +8,13 @@ mod laws;
 mod parts;
 mod plan;
 mod task;
+mod tiles;
 
 pub use laws::{
-    degrees_are_bounded, faults_are_unique, faults_keep_from_plans, grids_are_proper,
-    tasks_are_proper,
+    boards_are_packed, degrees_are_bounded, faults_are_unique, faults_keep_from_plans,
+    grids_are_proper, tasks_are_proper, tiles_are_proper, tiles_slide,
 };
-pub use parts::{Cells, Class, GridParts, Parts};
+pub use parts::{Board, Cells, Class, GridParts, Parts, TilesParts};
 pub use plan::PlanFault;
 pub use task::Task;
 

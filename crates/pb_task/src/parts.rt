@@ -59,9 +59,54 @@ pub struct GridParts {
     pub goal: (u32, u32),
 }
 
+/// The numbers in the cells of a board, row by row from the upper left cell on. 0 is the blank.
+#[derive(Drop)]
+pub struct Board {
+    numbers: Vec<u8>,
+}
+
+impl Model for Board {
+    ghost use Rattle.std.specs.Prelude.{ℕ, List};
+
+    ghost Value = { List ℕ };
+
+    ghost view = { λ b. b.numbers.items };
+}
+
+impl Board {
+    /// The board that has these numbers.
+    pub fn of(numbers: Vec<u8>) -> Board
+        ensures { result ≡ numbers.items }
+    {
+        Board { numbers }
+    }
+
+    /// The numbers in its cells.
+    pub fn numbers(&self) -> &[u8]
+        ensures { result.now ≡ self.now }
+    {
+        self.numbers.as_slice()
+    }
+}
+
+/// Sliding tiles: a board to start from and one to come to. Each has the numbers 0 to n - 1 once, where n is the number of cells.
+#[derive(Drop)]
+pub struct TilesParts {
+    /// How many rows a board has: 2 to 4.
+    pub rows: u32,
+    /// How many columns a board has: 2 to 4.
+    pub cols: u32,
+    /// The board that a plan starts from.
+    pub start: Board,
+    /// The board that a plan leads to.
+    pub goal: Board,
+}
+
 /// What a task of each kind is made of.
 #[derive(Drop)]
 pub enum Parts {
     /// A way is sought on a map.
     Grid(GridParts),
+    /// Tiles are slid on a board.
+    Tiles(TilesParts),
 }

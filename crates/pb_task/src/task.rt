@@ -1,11 +1,12 @@
 ghost use Rattle.std.specs.Prelude.{◌≡◌, ◌<◌, ◌≤◌, ◌+◌, ◌++◌, IsTrue, IfOk, vec_capacity, vec_len, string_bytes};
 ghost use Rattle.pb_model.specs.Space.{steps, successor_list};
 ghost use Rattle.pb_task.specs.Grid.{IsGrid};
+ghost use Rattle.pb_task.specs.Tiles.{IsTiles};
 ghost use Rattle.pb_task.specs.Parts.{space_of, IsTask, action_name, max_degree_of};
-ghost use Rattle.pb_task.specs.declared.parts.Parts.TheVariants.{Grid};
+ghost use Rattle.pb_task.specs.declared.parts.Parts.TheVariants.{Grid, Tiles};
 
-use crate::grid;
-use crate::parts::{GridParts, Parts};
+use crate::parts::{GridParts, Parts, TilesParts};
+use crate::{grid, tiles};
 use pb_model::Succ;
 use pb_packed::Packed;
 use std::alloc::{AllocError, Global};
@@ -39,6 +40,16 @@ impl Task {
         }
     }
 
+    /// The task to slide a board's tiles until it is another board. It takes no memory.
+    pub fn of_tiles(parts: TilesParts) -> Task
+        requires { IsTiles parts }
+        ensures { result ≡ Tiles parts }
+    {
+        Task {
+            parts: Parts::Tiles(parts),
+        }
+    }
+
     /// What the task is made of.
     pub fn parts(&self) -> &Parts
         ensures parts { result.now ≡ self.now }
@@ -54,6 +65,7 @@ impl Task {
     {
         match &self.parts {
             Parts::Grid(parts) => grid::pack(parts.start.0, parts.start.1),
+            Parts::Tiles(parts) => tiles::pack(parts.start.numbers()),
         }
     }
 
@@ -63,6 +75,7 @@ impl Task {
     {
         match &self.parts {
             Parts::Grid(parts) => grid::is_passable(grid::class_of_state(parts, state)),
+            Parts::Tiles(parts) => tiles::is_state(parts, state),
         }
     }
 
@@ -72,6 +85,7 @@ impl Task {
     {
         match &self.parts {
             Parts::Grid(parts) => *state == grid::pack(parts.goal.0, parts.goal.1),
+            Parts::Tiles(parts) => *state == tiles::pack(parts.goal.numbers()),
         }
     }
 
@@ -80,7 +94,7 @@ impl Task {
         ensures { result ≡ (space_of self.now).actions }
     {
         match &self.parts {
-            Parts::Grid(_) => grid::DIRECTIONS,
+            Parts::Grid(_) | Parts::Tiles(_) => grid::DIRECTIONS,
         }
     }
 
@@ -100,6 +114,7 @@ impl Task {
     {
         match &self.parts {
             Parts::Grid(parts) => grid::step(parts, from, action),
+            Parts::Tiles(parts) => tiles::step(parts, from, action),
         }
     }
 
@@ -124,7 +139,7 @@ impl Task {
         ensures { IfOk result (λ text. string_bytes text ≡ action_name self.now action) }
     {
         let name = match &self.parts {
-            Parts::Grid(_) => grid::direction(action),
+            Parts::Grid(_) | Parts::Tiles(_) => grid::direction(action),
         };
         let text = String::from_str(alloc, name)?;
         Ok(text)

@@ -1,7 +1,7 @@
 ghost use Rattle.std.specs.Prelude.{◌≡◌, IfOk};
 ghost use Rattle.pb_task.specs.Parts.{max_degree_of};
 
-use crate::{Cells, Class, GridParts, Parts, PlanFault, Task};
+use crate::{Board, Cells, Class, GridParts, Parts, PlanFault, Task, TilesParts};
 use pb_model::Succ;
 use pb_packed::Packed;
 use std::alloc::{AllocError, Global};
@@ -120,6 +120,7 @@ fn the_parts_are_lent_and_name_start_and_goal(rt: HostRuntime) -> Result<(), Fai
             assert_eq!(rt; grid.cells.get(8), Some(Class::Land));
             assert_eq!(rt; grid.cells.get(9), None);
         }
+        Parts::Tiles(_) => assert!(rt; false),
     }
     Ok(())
 }
@@ -145,5 +146,146 @@ fn crosses_threads<T: Send + Sync>(value: &T) -> &T {
 fn threads_may_share_a_task(rt: HostRuntime) -> Result<(), Fail> {
     let task = open_square(rt.alloc())?;
     assert_eq!(rt; crosses_threads(&task).max_degree(), 4);
+    Ok(())
+}
+
+// A board of 2 by 2 cells, one step before its goal: 1 0 / 2 3.
+fn one_step(alloc: Global) -> Result<Task, AllocError> {
+    let task = Task::of_tiles(TilesParts {
+        rows: 2,
+        cols: 2,
+        start: Board::of(vec![in alloc; 1, 0, 2, 3]?),
+        goal: Board::of(vec![in alloc; 0, 1, 2, 3]?),
+    });
+    Ok(task)
+}
+
+// A board of 2 by 2 cells that never becomes its goal: 0 2 / 1 3.
+fn other_ring(alloc: Global) -> Result<Task, AllocError> {
+    let task = Task::of_tiles(TilesParts {
+        rows: 2,
+        cols: 2,
+        start: Board::of(vec![in alloc; 0, 2, 1, 3]?),
+        goal: Board::of(vec![in alloc; 0, 1, 2, 3]?),
+    });
+    Ok(task)
+}
+
+// A board of 2 rows and 3 columns with its blank at the end of the upper row: 1 2 0 / 3 4 5.
+fn two_by_three(alloc: Global) -> Result<Task, AllocError> {
+    let task = Task::of_tiles(TilesParts {
+        rows: 2,
+        cols: 3,
+        start: Board::of(vec![in alloc; 1, 2, 0, 3, 4, 5]?),
+        goal: Board::of(vec![in alloc; 0, 1, 2, 3, 4, 5]?),
+    });
+    Ok(task)
+}
+
+// The state whose hexadecimal digits, from the last on, are the numbers in a board's cells.
+fn tiled(digits: u64) -> Packed {
+    Packed::zero().with_bits(0, 64, digits)
+}
+
+#[test]
+fn the_blank_changes_places_with_its_neighbours(rt: HostRuntime) -> Result<(), Fail> {
+    let task = one_step(rt.alloc())?;
+    assert!(rt; task.initial() == tiled(0x3201));
+    assert!(rt; task.is_goal(&tiled(0x3210)));
+    let found = successors(&task, &task.initial(), rt.alloc())?;
+    let wanted = [
+        Succ {
+            action: 1,
+            state: tiled(0x0231),
+            cost: 1,
+        },
+        Succ {
+            action: 2,
+            state: tiled(0x3210),
+            cost: 1,
+        },
+    ];
+    assert!(rt; found.as_slice() == wanted.as_slice());
+    assert_eq!(rt; task.validate(&[2]), Ok(1));
+    assert_eq!(rt; task.validate(&[1, 0, 2]), Ok(3));
+    assert_eq!(rt; task.validate(&[3]), Err(PlanFault::Step { i: 0 }));
+    assert_eq!(rt; task.validate(&[1]), Err(PlanFault::NotGoal));
+    Ok(())
+}
+
+#[test]
+fn no_slide_wraps_round_a_row(rt: HostRuntime) -> Result<(), Fail> {
+    let task = two_by_three(rt.alloc())?;
+    let found = successors(&task, &task.initial(), rt.alloc())?;
+    let down = Succ {
+        action: 1,
+        state: tiled(0x043521),
+        cost: 1,
+    };
+    let left = Succ {
+        action: 2,
+        state: tiled(0x543201),
+        cost: 1,
+    };
+    assert!(rt; found.as_slice() == [down, left].as_slice());
+    // The blank at the beginning of the lower row: 1 2 3 / 0 4 5.
+    let found = successors(&task, &tiled(0x540321), rt.alloc())?;
+    let up = Succ {
+        action: 0,
+        state: tiled(0x541320),
+        cost: 1,
+    };
+    let right = Succ {
+        action: 3,
+        state: tiled(0x504321),
+        cost: 1,
+    };
+    assert!(rt; found.as_slice() == [up, right].as_slice());
+    Ok(())
+}
+
+// The blank goes round a board of 2 by 2 cells: after twelve steps, and not before, the board is as it was.
+#[test]
+fn boards_of_two_by_two_form_rings_of_twelve(rt: HostRuntime) -> Result<(), Fail> {
+    let task = other_ring(rt.alloc())?;
+    let mut state = task.initial();
+    for turn in 0..3 {
+        for action in [3, 1, 2, 0] {
+            assert!(rt; task.is_state(&state));
+            assert!(rt; !task.is_goal(&state));
+            assert_eq!(rt; successors(&task, &state, rt.alloc())?.len(), 2);
+            let Some((next, cost)) = task.apply(&state, action) else {
+                return Err(Fail::from("no step"));
+            };
+            assert_eq!(rt; cost, 1);
+            state = next;
+            assert_eq!(rt; state == task.initial(), (turn, action) == (2, 0));
+        }
+    }
+    Ok(())
+}
+
+#[test]
+fn only_boards_are_states_of_tiles(rt: HostRuntime) -> Result<(), Fail> {
+    let task = one_step(rt.alloc())?;
+    assert!(rt; task.is_state(&tiled(0x0123)));
+    for other in [0x3211, 0x32110, 0x4210, 0x1_3210, 0x32, 0] {
+        assert!(rt; !task.is_state(&tiled(other)));
+    }
+    assert!(rt; !task.is_state(&tiled(0x3210).with(255, true)));
+    assert_eq!(rt; task.actions(), 4);
+    for (action, wanted) in [(0, "up"), (1, "down"), (2, "left"), (3, "right")] {
+        assert!(rt; action < task.actions());
+        let text = task.action_text(rt.alloc(), action)?;
+        assert_eq!(rt; text.as_str(), wanted);
+    }
+    match task.parts() {
+        Parts::Grid(_) => assert!(rt; false),
+        Parts::Tiles(tiles) => {
+            assert_eq!(rt; (tiles.rows, tiles.cols), (2, 2));
+            assert_eq!(rt; tiles.start.numbers(), [1, 0, 2, 3].as_slice());
+            assert_eq!(rt; tiles.goal.numbers(), [0, 1, 2, 3].as_slice());
+        }
+    }
     Ok(())
 }

@@ -1,6 +1,6 @@
 -- What the answers of the reader mean.
 use Rattle.std.specs.Prelude.{◌≡◌, ◌++◌, ◌∷◌, ◌-◌, ℕ, List, [], Some, codes, length, option_map, slice_get}
-use Rattle.pb_words.specs.Values.{InputNames, GridNames, Grid}
+use Rattle.pb_words.specs.Values.{InputNames, GridNames, Grid, Tiles}
 use Rattle.pb_words.specs.Meaning.{Meaning, Solve, Check, SolveMeaning, CheckMeaning, Reading, Refused}
 use Rattle.pb_words.specs.declared.command.GridFiles.{GridFiles}
 use Rattle.pb_words.specs.declared.command.Input.{Input}
@@ -19,6 +19,7 @@ grid_meant g = record { map = g.map.now; scenario = g.scenario.now }
 
 abbrev pub input_meant : Input → InputNames
 input_meant (kinds.Grid g) = Grid (grid_meant g)
+input_meant (kinds.Tiles board) = Tiles board.now
 
 abbrev pub solve_meant : SolveCommand → SolveMeaning
 solve_meant s = record { input = input_meant s.input; row = s.row; budget = s.budget; certificate = option_map (λ t. t.now) s.certificate }

@@ -2,7 +2,7 @@
 use Rattle.std.specs.Prelude.{◌≡◌, ℕ, List, [], ◌∷◌, None, false, codes}
 use Rattle.std.specs.Str.{bytes_eq}
 use Rattle.clap.specs.Lexer.{long_of, short_of}
-use Rattle.pb_words.specs.Values.{Grid}
+use Rattle.pb_words.specs.Values.{Grid, Tiles}
 use Rattle.pb_words.specs.Meaning.{Read, Refused, Solve, Check, reading_of_words}
 use Rattle.pb_words.specs.declared.refusal.Fault.TheVariants as fault
 
@@ -29,11 +29,32 @@ CheckWithThreeNamesIsRead = (certificate map scenario : List ℕ) → IsName cer
       row = 0;
     }))
 
+abbrev pub SolveWithOneBoardIsRead : Type 0
+SolveWithOneBoardIsRead = (board : List ℕ) → IsName board
+    → reading_of_words (codes "solve" ∷ codes "tiles" ∷ board ∷ []) ≡ Read (Solve (record {
+      input = Tiles board;
+      row = 0;
+      budget = 16777216;
+      certificate = None;
+    }))
+
+abbrev pub CheckWithOneBoardIsRead : Type 0
+CheckWithOneBoardIsRead = (certificate board : List ℕ) → IsName certificate → IsName board
+    → reading_of_words (codes "check" ∷ codes "tiles" ∷ certificate ∷ board ∷ []) ≡ Read (Check (record {
+      input = Tiles board;
+      certificate = certificate;
+      row = 0;
+    }))
+
 abbrev pub OneFileIsRefused : Type 0
 OneFileIsRefused = (map : List ℕ) → IsName map → reading_of_words (codes "solve" ∷ codes "grid" ∷ map ∷ []) ≡ Refused fault.Files
 
+abbrev pub TwoBoardsAreRefused : Type 0
+TwoBoardsAreRefused = (board other : List ℕ) → IsName board → IsName other
+    → reading_of_words (codes "solve" ∷ codes "tiles" ∷ board ∷ other ∷ []) ≡ Refused fault.Files
+
 abbrev pub OtherKindIsRefused : Type 0
-OtherKindIsRefused = (kind map : List ℕ) → IsName kind → IsName map → bytes_eq kind (codes "grid") ≡ false
+OtherKindIsRefused = (kind map : List ℕ) → IsName kind → IsName map → bytes_eq kind (codes "grid") ≡ false → bytes_eq kind (codes "tiles") ≡ false
     → reading_of_words (codes "solve" ∷ kind ∷ map ∷ []) ≡ Refused fault.Kind
 
 abbrev pub HelpIsRefused : Type 0

@@ -3,6 +3,8 @@
 pub(crate) enum Kind {
     // A grid of a map and a scenario.
     Grid,
+    // A board of a sliding-tile puzzle.
+    Tiles,
 }
 
 /// The names of the files of a grid.
@@ -19,6 +21,8 @@ pub struct GridFiles<'a> {
 pub enum Input<'a> {
     /// `grid MAP SCEN`: a grid of the MovingAI benchmarks (Sturtevant, "Benchmarks for grid-based pathfinding", 2012).
     Grid(GridFiles<'a>),
+    /// `tiles BOARD`: a sliding-tile puzzle, with the name of the board's file.
+    Tiles(&'a str),
 }
 
 /// `solve KIND FILE [FILE] [--row K] [--budget B] [--cert NAME]`.
@@ -26,7 +30,7 @@ pub enum Input<'a> {
 pub struct SolveCommand<'a> {
     /// The task.
     pub input: Input<'a>,
-    /// The row of the scenario, counted from 0: 0 to 1,000,000, and 0 where none is given.
+    /// The row of the scenario, counted from 0: 0 to 1,000,000, and 0 where none is given. Only a grid has a scenario.
     pub row: u64,
     /// How many expansions the search may do: 1 to 2^40, and 16,777,216 where none is given.
     pub budget: u64,
@@ -41,7 +45,7 @@ pub struct CheckCommand<'a> {
     pub input: Input<'a>,
     /// The certificate's file.
     pub certificate: &'a str,
-    /// The row of the scenario, counted from 0: 0 to 1,000,000, and 0 where none is given.
+    /// The row of the scenario, counted from 0: 0 to 1,000,000, and 0 where none is given. Only a grid has a scenario.
     pub row: u64,
 }
 

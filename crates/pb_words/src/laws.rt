@@ -1,4 +1,5 @@
-ghost use Rattle.pb_words.specs.Laws.{SolveWithTwoNamesIsRead, CheckWithThreeNamesIsRead, OneFileIsRefused, OtherKindIsRefused, HelpIsRefused};
+ghost use Rattle.pb_words.specs.Laws.{SolveWithTwoNamesIsRead, CheckWithThreeNamesIsRead, SolveWithOneBoardIsRead, CheckWithOneBoardIsRead};
+ghost use Rattle.pb_words.specs.Laws.{OneFileIsRefused, TwoBoardsAreRefused, OtherKindIsRefused, HelpIsRefused};
 
 /// `solve grid MAP SCEN`, with names that don't begin with a hyphen, asks for a search with the defaults.
 pub fn solve_with_two_names_is_read()
@@ -10,9 +11,20 @@ pub fn check_with_three_names_is_read()
     ensures { CheckWithThreeNamesIsRead }
 {}
 
-/// A grid with one file, a kind that isn't known, and a word for help are refused, each for its own fault.
+/// `solve tiles BOARD`, with a name that doesn't begin with a hyphen, asks for a search with the defaults.
+pub fn solve_with_one_board_is_read()
+    ensures { SolveWithOneBoardIsRead }
+{}
+
+/// `check tiles CERT BOARD`, with names that don't begin with a hyphen, asks for a check with the default.
+pub fn check_with_one_board_is_read()
+    ensures { CheckWithOneBoardIsRead }
+{}
+
+/// A grid with one file, tiles with two, a kind that isn't known, and a word for help are refused, each for its own fault.
 pub fn faults_are_found()
     ensures files { OneFileIsRefused }
+    ensures boards { TwoBoardsAreRefused }
     ensures kind { OtherKindIsRefused }
     ensures help { HelpIsRefused }
 {}

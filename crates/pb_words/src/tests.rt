@@ -10,6 +10,20 @@ fn texts(alloc: Global, words: &[&str]) -> Result<Vec<String>, AllocError> {
     Ok(made)
 }
 
+fn is_grid(input: &Input<'_>, map: &str, scenario: &str) -> bool {
+    match input {
+        Input::Grid(files) => files.map == map && files.scenario == scenario,
+        Input::Tiles(_) => false,
+    }
+}
+
+fn is_tiles(input: &Input<'_>, board: &str) -> bool {
+    match input {
+        Input::Grid(_) => false,
+        Input::Tiles(name) => *name == board,
+    }
+}
+
 #[test]
 fn commands_with_their_options(rt: HostRuntime) -> Result<(), Fail> {
     let alloc = rt.alloc();
@@ -27,8 +41,7 @@ fn commands_with_their_options(rt: HostRuntime) -> Result<(), Fail> {
     let words = texts(alloc, solve.as_slice())?;
     match read_words(alloc, words.as_slice()) {
         Ok(CommandLine::Solve(command)) => {
-            let Input::Grid(files) = command.input;
-            assert!(rt; files.map == "m" && files.scenario == "s");
+            assert!(rt; is_grid(&command.input, "m", "s"));
             assert!(rt; command.row == 1000000 && command.budget == 1099511627776);
             assert!(rt; command.certificate == Some("c"));
         }
@@ -37,8 +50,40 @@ fn commands_with_their_options(rt: HostRuntime) -> Result<(), Fail> {
     let words = texts(alloc, ["check", "grid", "c", "m", "s"].as_slice())?;
     match read_words(alloc, words.as_slice()) {
         Ok(CommandLine::Check(command)) => {
-            let Input::Grid(files) = command.input;
-            assert!(rt; files.map == "m" && files.scenario == "s");
+            assert!(rt; is_grid(&command.input, "m", "s"));
+            assert!(rt; command.certificate == "c" && command.row == 0);
+        }
+        _ => assert!(rt; false),
+    }
+    Ok(())
+}
+
+#[test]
+fn commands_of_tiles(rt: HostRuntime) -> Result<(), Fail> {
+    let alloc = rt.alloc();
+    let solve = [
+        "solve",
+        "tiles",
+        "--row",
+        "7",
+        "b",
+        "--budget=1",
+        "--cert",
+        "c",
+    ];
+    let words = texts(alloc, solve.as_slice())?;
+    match read_words(alloc, words.as_slice()) {
+        Ok(CommandLine::Solve(command)) => {
+            assert!(rt; is_tiles(&command.input, "b"));
+            assert!(rt; command.row == 7 && command.budget == 1);
+            assert!(rt; command.certificate == Some("c"));
+        }
+        _ => assert!(rt; false),
+    }
+    let words = texts(alloc, ["check", "tiles", "c", "b"].as_slice())?;
+    match read_words(alloc, words.as_slice()) {
+        Ok(CommandLine::Check(command)) => {
+            assert!(rt; is_tiles(&command.input, "b"));
             assert!(rt; command.certificate == "c" && command.row == 0);
         }
         _ => assert!(rt; false),
@@ -61,9 +106,24 @@ fn printed_texts_of_refused_words(rt: HostRuntime) -> Result<(), Fail> {
             "words files\n",
         ),
         (
+            ["solve", "tiles", "b", "s"].as_slice(),
+            Fault::Files,
+            "words files\n",
+        ),
+        (
+            ["check", "tiles", "c", "b", "s"].as_slice(),
+            Fault::Files,
+            "words files\n",
+        ),
+        (
+            ["solve", "tiles", "b", "--row", "1000001"].as_slice(),
+            Fault::Form,
+            "error: invalid value '1000001' for '--row <row>': 1000001 is not in 0..=1000000\n",
+        ),
+        (
             ["solve", "maze", "m"].as_slice(),
             Fault::Kind,
-            "error: invalid value 'maze' for '<KIND>'\n  [possible values: grid]\n\nUsage: solve [OPTIONS] <KIND> <FIRST_FILE> [SECOND_FILE]\n",
+            "error: invalid value 'maze' for '<KIND>'\n  [possible values: grid, tiles]\n\nUsage: solve [OPTIONS] <KIND> <FIRST_FILE> [SECOND_FILE]\n",
         ),
         (
             ["solve", "grid", "m", "s", "--row", "1000001"].as_slice(),

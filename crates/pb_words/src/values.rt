@@ -54,6 +54,7 @@ pub(crate) fn known_kind(word: Option<&str>) -> Option<Kind>
 {
     match word {
         Some("grid") => Some(Kind::Grid),
+        Some("tiles") => Some(Kind::Tiles),
         _ => None,
     }
 }
@@ -69,6 +70,10 @@ pub(crate) fn input_of<'a>(kind: Kind, first: &'a str, second: Option<&'a str>) 
                 scenario,
             })),
             None => None,
+        },
+        Kind::Tiles => match second {
+            Some(_) => None,
+            None => Some(Input::Tiles(first)),
         },
     }
 }

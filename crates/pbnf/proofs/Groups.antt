@@ -5,7 +5,7 @@ use Rattle.std.specs.List.{AllByRecursion}
 use Rattle.pb_model.specs.Space.{Space, IsProper}
 use Rattle.pb_model.specs.Plan.{Plan, Walk, IsPlan, NoneCheaper}
 use Rattle.pb_task.specs.declared.parts.Parts.{Parts}
-use Rattle.pb_task.specs.declared.parts.Parts.TheVariants.{Grid}
+use Rattle.pb_task.specs.declared.parts.Parts.TheVariants.{Grid, Tiles}
 use Rattle.pb_task.specs.Grid.{direction}
 use Rattle.pb_task.specs.Parts.{space_of, action_name, IsTask, greatest_cost}
 use Rattle.pb_task.proofs.Grids.{tasks_are_proper}
@@ -40,9 +40,18 @@ name_free (suc zero) = (refl, (refl, (refl, (refl, tt))))
 name_free (suc (suc zero)) = (refl, (refl, (refl, (refl, tt))))
 name_free (suc (suc (suc more))) = (refl, (refl, (refl, (refl, (refl, tt)))))
 
+-- the actions of every kind are named by their directions
+names_are : (parts : Parts) (action : ℕ) → action_name parts action ≡ direction action
+names_are (Grid grid) action = refl
+names_are (Tiles tiles) action = refl
+
+four_actions : (parts : Parts) → (space_of parts).actions ≡ 4
+four_actions (Grid grid) = refl
+four_actions (Tiles tiles) = refl
+
 names_free : (parts : Parts) (actions : List ℕ) → AreFree 10 (map (action_name parts) actions)
 names_free parts [] = tt
-names_free (Grid grid) (action ∷ actions) = (name_free action, names_free (Grid grid) actions)
+names_free parts (action ∷ actions) = (subst (IsFree 10) (sym (names_are parts action)) (name_free action), names_free parts actions)
 
 abbrev pub AreActions : Space → List ℕ → Type 0
 AreActions space actions = AllByRecursion (λ action. action < space.actions) actions
@@ -50,21 +59,25 @@ AreActions space actions = AllByRecursion (λ action. action < space.actions) ac
 same_actions : (parts : Parts) (xs ys : List ℕ) → AreActions (space_of parts) xs → AreActions (space_of parts) ys
     → map (action_name parts) xs ≡ map (action_name parts) ys → xs ≡ ys
 same_actions parts [] [] h k e = refl
-same_actions (Grid grid) [] (y ∷ ys) h k e = absurd (none e)
+same_actions parts [] (y ∷ ys) h k e = absurd (none (action_name parts y) (map (action_name parts) ys) e)
   where
-    none : ◌≡◌ {A = List (List ℕ)} [] (direction y ∷ map direction ys) → ⊥
-    none e = cc
-same_actions (Grid grid) (x ∷ xs) [] h k e = absurd (none e)
+    none : (first : List ℕ) (rest : List (List ℕ)) → ◌≡◌ {A = List (List ℕ)} [] (first ∷ rest) → ⊥
+    none first rest e = cc
+same_actions parts (x ∷ xs) [] h k e = absurd (none (action_name parts x) (map (action_name parts) xs) e)
   where
-    none : ◌≡◌ {A = List (List ℕ)} (direction x ∷ map direction xs) [] → ⊥
-    none e = cc
-same_actions (Grid grid) (x ∷ xs) (y ∷ ys) h k e = go (split (direction x) (direction y) (map direction xs) (map direction ys) e) (λ f. same_actions (Grid grid) xs ys h.1 k.1 f)
+    none : (first : List ℕ) (rest : List (List ℕ)) → ◌≡◌ {A = List (List ℕ)} (first ∷ rest) [] → ⊥
+    none first rest e = cc
+same_actions parts (x ∷ xs) (y ∷ ys) h k e =
+    go (split (action_name parts x) (action_name parts y) (map (action_name parts) xs) (map (action_name parts) ys) e) (λ f. same_actions parts xs ys h.1 k.1 f)
   where
     split : (a b : List ℕ) (more others : List (List ℕ)) → a ∷ more ≡ b ∷ others → (a ≡ b) × (more ≡ others)
     split a b more others e = (cc, cc)
 
-    go : ((direction x ≡ direction y) × (map direction xs ≡ map direction ys)) → (map direction xs ≡ map direction ys → xs ≡ ys) → x ∷ xs ≡ y ∷ ys
-    go both more = let first = names_differ x y h.0 k.0 both.0 in let rest = more both.1 in λ i. first i ∷ rest i
+    go : ((action_name parts x ≡ action_name parts y) × (map (action_name parts) xs ≡ map (action_name parts) ys)) → (map (action_name parts) xs ≡ map (action_name parts) ys → xs ≡ ys) → x ∷ xs ≡ y ∷ ys
+    go both more =
+        let x_in : x < 4 = subst (λ n. x < n) (four_actions parts) h.0 in
+        let y_in : y < 4 = subst (λ n. y < n) (four_actions parts) k.0 in
+        let first = names_differ x y x_in y_in (sym (names_are parts x) ∙ both.0 ∙ names_are parts y) in let rest = more both.1 in λ i. first i ∷ rest i
 
 -- ---- walks
 

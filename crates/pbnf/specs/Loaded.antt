@@ -3,10 +3,14 @@
 use Rattle.std.specs.Prelude.{◌≡◌, ℕ, ◌+◌, Option, None, Some, IfSome, List, [], ◌∷◌, length, Result, Ok, Err, codes, if◌then◌else◌, nat_le, slice_get, option_map}
 use Rattle.pb_model.specs.Texts.{line}
 use Rattle.pb_task.specs.declared.parts.Parts.{Parts}
+use Rattle.pb_task.specs.declared.parts.Parts.TheVariants as parts
+use Rattle.pb_task.specs.declared.parts.TilesParts.{TilesParts}
 use Rattle.pb_grid.specs.declared.error.GridError.{GridError}
 use Rattle.pb_grid.specs.Reading.{grid_reading, task_of}
-use Rattle.pb_report.specs.Texts.{input_text}
-use Rattle.pb_words.specs.Values.{InputNames, Grid}
+use Rattle.pb_tiles.specs.declared.error.TilesError.{TilesError}
+use Rattle.pb_tiles.specs.Reading.{tiles_reading}
+use Rattle.pb_report.specs.Texts.{input_text, tiles_text}
+use Rattle.pb_words.specs.Values.{InputNames, Grid, Tiles}
 use Rattle.pb_words.specs.Meaning.{Reading, Refused, Read, Solve, Check, SolveMeaning, CheckMeaning}
 use Rattle.pb_outside.specs.Outside.{Files}
 use Rattle.pbnf.specs.Asked.{Wanted, input_files, files_of}
@@ -47,9 +51,18 @@ grid_task None scenario_text row = Err too_long
 grid_task (Some map_text) None row = Err too_long
 grid_task (Some map_text) (Some scenario_text) row = grid_told (task_of (grid_reading map_text scenario_text row))
 
+abbrev pub tiles_told : Result TilesParts TilesError → Result Parts (List ℕ)
+tiles_told (Ok tiles) = Ok (parts.Tiles tiles)
+tiles_told (Err error) = refused_with (tiles_text error)
+
+abbrev pub tiles_task : (text : Option (List ℕ)) → Result Parts (List ℕ)
+tiles_task None = Err too_long
+tiles_task (Some text) = tiles_told (tiles_reading text)
+
 -- the task of the texts from this place on
 abbrev pub input_task : InputNames → (row first : ℕ) → (texts : List (List ℕ)) → Result Parts (List ℕ)
 input_task (Grid names) row first texts = grid_task (slice_get texts first) (slice_get texts (first + 1)) row
+input_task (Tiles board) row first texts = tiles_task (slice_get texts first)
 
 -- the task that is to be solved
 abbrev pub solve_task : SolveMeaning → (texts : List (List ℕ)) → Result Parts (List ℕ)

@@ -39,6 +39,7 @@ fn push_input<'a>(files: &mut Vec<Wanted<'a>>, input: Input<'a>) -> Result<(), A
             push_file(files, names.map, LONGEST_INPUT)?;
             push_file(files, names.scenario, LONGEST_INPUT)
         }
+        Input::Tiles(board) => push_file(files, board, LONGEST_INPUT),
     }
 }
 

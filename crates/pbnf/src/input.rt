@@ -1,12 +1,13 @@
 ghost use Rattle.std.specs.Prelude.{◌≡◌, ◌≤◌, Err, option_map};
 ghost use Rattle.pb_words.specs.Causes.{input_meant};
-ghost use Rattle.pbnf.specs.Loaded.{grid_task, grid_told, input_task, too_long};
+ghost use Rattle.pbnf.specs.Loaded.{grid_task, grid_told, tiles_task, tiles_told, input_task, too_long};
 ghost use Rattle.pbnf.specs.Files.{GivesTask, IsRefusal};
 
 use crate::texts::Texts;
 use pb_grid::{GridError, read_grid};
 use pb_report::Report;
 use pb_task::Task;
+use pb_tiles::{TilesError, read_tiles};
 use pb_words::Input;
 use std::alloc::{AllocError, Global};
 
@@ -69,6 +70,30 @@ fn grid(
     }
 }
 
+// The refusal of a board.
+fn refused_tiles(alloc: Global, error: TilesError) -> NoTask
+    ensures { IsRefusal result (tiles_told (Err error)) }
+{
+    match Report::tiles_input(alloc, &error) {
+        Ok(report) => NoTask::Refused(report),
+        Err(_) => NoTask::Memory,
+    }
+}
+
+// The task of a board.
+fn tiles(alloc: Global, text: Option<&[u8]>) -> Result<Task, NoTask>
+    ensures { GivesTask result (tiles_task (option_map (λ t. t.now) text.entry)) }
+{
+    match text {
+        Some(text) => match read_tiles(alloc, text) {
+            Ok(task) => Ok(task),
+            Err(TilesError::Memory) => Err(NoTask::Memory),
+            Err(error) => Err(refused_tiles(alloc, error)),
+        },
+        None => Err(too_long(alloc)),
+    }
+}
+
 /// The task that the texts from a place on spell.
 pub fn input_task(
     alloc: Global,
@@ -82,5 +107,6 @@ pub fn input_task(
 {
     match input {
         Input::Grid(_) => grid(alloc, texts.get(first), texts.get(first + 1), row),
+        Input::Tiles(_) => tiles(alloc, texts.get(first)),
     }
 }

@@ -12,3 +12,6 @@ trace-requires-clause-sound c =
     (λ state. ap (λ (content : Content). row_of content state) c.in_ok-bundle.ensures)
     (ap (λ (content : Content). content.weight) c.in_ok-offer-2.ensures.put ∙ ap (λ (content : Content). content.weight) c.in_ok-offer.ensures.put ∙ ap (λ (content : Content). content.weight) c.in_ok-bundle.ensures)
     (sym c.in-Some.ensures) c.if-eq.ensures c.in_ok-offer.ensures.sets c.in_ok-offer-2.ensures.sets
+
+pub apply-requires : goal.apply-requires
+apply-requires c = rw c.initial-start.ensures.start ((tasks_are_proper c.args.task.now c.initial-start.ensures.lawful).0.start)

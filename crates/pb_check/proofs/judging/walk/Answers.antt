@@ -1,5 +1,6 @@
-use Rattle.std.proofs.Common.{sym, arith}
+use Rattle.std.proofs.Common.{sym, arith, refl, ap}
 use Rattle.pb_task.specs.Parts.{space_of}
+use Rattle.pb_task.proofs.Grids.{tasks_are_proper}
 use Rattle.pb_check.specs.Judging.{walk}
 use Rattle.pb_check.proofs.Walks.{walk_on, walk_fails, walk_done}
 use Rattle.pb_check.proofs.judging.walk.Goals as goal
@@ -18,3 +19,10 @@ loop-i-preserved c = let space = space_of c.args.task.now in record {
 pub returns : goal.returns
 returns c = let space = space_of c.args.task.now in
     walk_done space c.loop-i.at c.loop-i.i c.loop-i.cost c.args.actions.now (walk space space.start 0 0 c.args.actions.now) c.loop-i-test.false c.loop-i.invariant.so_far
+
+pub loop-i-init : goal.loop-i-init
+loop-i-init c = record {
+  state = rw c.initial-at.ensures.start ((tasks_are_proper c.args.task.now c.requires.lawful).0.start);
+  cost = omega arith;
+  so_far = ap (λ at. walk (space_of c.args.task.now) at 0 0 c.args.actions.now) c.initial-at.ensures.start;
+}

@@ -1,4 +1,4 @@
-use Rattle.pb_estimate.proofs.Grids.{estimates_are_admissible}
+use Rattle.pb_estimate.proofs.Estimates.{estimates_are_admissible}
 use Rattle.pb_estimate.proofs.laws.estimates_are_admissible.Goals as goal
 
 pub returns : goal.returns

@@ -1,9 +1,18 @@
-use Rattle.std.proofs.Common.{◌≤◌, Ok, arith, ap, sym, ◌∙◌}
+use Rattle.std.proofs.Common.{◌≤◌, IsTrue, Ok, arith, ap, refl, subst, sym, ◌∙◌}
 use Rattle.pb_model.specs.Space.{IsProper}
 use Rattle.pb_task.specs.Parts.{space_of, greatest_cost}
 use Rattle.pb_task.proofs.Grids.{tasks_are_proper}
 use Rattle.pb_task.proofs.Validation.{one_more_step, is_fault_at, no_plan_at, plan_costs, no_plan_past_goal}
 use Rattle.pb_task.proofs.task.Task.validate.Goals as goal
+
+pub loop-i-init : goal.loop-i-init
+loop-i-init c =
+    let proper : IsProper (space_of c.args.self.now) greatest_cost = (tasks_are_proper c.args.self.now c.initial-state.ensures.lawful).0 in
+    record {
+      walk = (refl, c.initial-state.ensures.start);
+      is_state = subst (λ state. IsTrue ((space_of c.args.self.now).is_state state)) (sym c.initial-state.ensures.start) proper.start;
+      cheap = omega arith;
+    }
 
 pub returns-in_default-clause-plan : goal.returns-in_default-clause-plan
 returns-in_default-clause-plan c = λ total is.

@@ -1,0 +1,4 @@
+pub mod Digits
+pub mod Parting
+pub mod Filling
+pub mod Spelled

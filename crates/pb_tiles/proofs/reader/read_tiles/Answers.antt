@@ -1,0 +1,19 @@
+use Rattle.std.proofs.Common.{◌≡◌, Result, Ok, sym, ap, ◌∙◌}
+use Rattle.pb_task.specs.declared.parts.TilesParts.{TilesParts}
+use Rattle.pb_task.specs.declared.parts.Parts.TheVariants.{Tiles}
+use Rattle.pb_tiles.specs.declared.error.TilesError.{TilesError}
+use Rattle.pb_tiles.proofs.Spelled.{readings_are_spelled, only_memory}
+use Rattle.pb_tiles.proofs.reader.read_tiles.Goals as goal
+
+same_tiles : (tiles other : TilesParts) → ◌≡◌ {A = Result TilesParts TilesError} (Ok tiles) (Ok other) → tiles ≡ other
+same_tiles tiles other e = cc
+
+pub returns-in-Ok-clause-spelled : goal.returns-in-Ok-clause-spelled
+returns-in-Ok-clause-spelled c = (c.in-Ok.parts, c.of_tiles.ensures, (readings_are_spelled c.args.text.now c.in-Ok.parts).0 c.in-Ok.ensures.read)
+
+pub returns-in-Ok-clause-only : goal.returns-in-Ok-clause-only
+returns-in-Ok-clause-only c = λ tiles is.
+    c.of_tiles.ensures ∙ ap Tiles (same_tiles c.in-Ok.parts tiles (sym c.in-Ok.ensures.read ∙ (readings_are_spelled c.args.text.now tiles).1 is))
+
+pub returns-in-Err-clause-only : goal.returns-in-Err-clause-only
+returns-in-Err-clause-only c = λ tiles is. only_memory c.args.text.now tiles c.in-Err.error is c.in-Err.ensures.refused

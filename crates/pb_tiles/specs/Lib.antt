@@ -1,0 +1,5 @@
+pub mod Words
+pub mod Said
+pub mod Reading
+pub mod Spelling
+pub mod Laws

@@ -1,0 +1,41 @@
+-- The words of a text: its longest runs of bytes that are no blanks, each with the number of its line.
+use Rattle.std.specs.Prelude.{ℕ, ◌+◌, ◌-◌, ◌*◌, Bool, ◌==◌, ◌&&◌, ◌||◌, nat_le, List, [], ◌∷◌, ◌++◌, length, Option, None, Some, if◌then◌else◌}
+use Rattle.std.specs.Char.{is_ascii_digit}
+use Rattle.std.specs.List.{list_all}
+
+-- space, tab, carriage return and line feed part words
+abbrev pub is_blank : (byte : ℕ) → Bool
+is_blank byte = byte == 32 || byte == 9 || byte == 13 || byte == 10
+
+pub record Word : Type 0 where
+  pub text : List ℕ
+  pub line : ℕ  -- counted from 1
+
+-- the word that ends here, if it has bytes
+abbrev pub word_end : (line : ℕ) → (word : List ℕ) → List Word
+word_end line [] = []
+word_end line (byte ∷ bytes) = record { text = byte ∷ bytes; line = line } ∷ []
+
+-- the line behind a byte
+abbrev pub line_behind : (line byte : ℕ) → ℕ
+line_behind line byte = if byte == 10 then line + 1 else line
+
+-- the words of a text that stands in this line behind the first bytes of a word
+abbrev pub words_behind : (line : ℕ) → (word text : List ℕ) → List Word
+words_behind line word [] = word_end line word
+words_behind line word (byte ∷ text) =
+    if is_blank byte then word_end line word ++ words_behind (line_behind line byte) [] text else words_behind line (word ++ byte ∷ []) text
+
+abbrev pub words : (text : List ℕ) → List Word
+words text = words_behind 1 [] text
+
+-- ---- numbers
+
+-- the value of decimal digits that stand behind a number
+abbrev pub value_behind : (number : ℕ) → (digits : List ℕ) → ℕ
+value_behind number [] = number
+value_behind number (digit ∷ digits) = value_behind (number * 10 + (digit - 48)) digits
+
+-- the number that a word spells: it is 1 to 9 decimal digits
+abbrev pub number_of : (word : List ℕ) → Option ℕ
+number_of word = if nat_le 1 (length word) && nat_le (length word) 9 && list_all is_ascii_digit word then Some (value_behind 0 word) else None
