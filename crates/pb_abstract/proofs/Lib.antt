@@ -1,0 +1,14 @@
+pub mod Has
+pub mod Members
+pub mod Directions
+pub mod Squaring
+pub mod SquareEdges
+pub mod BoardCells
+pub mod Ranks
+pub mod TileEdges
+pub mod GridSteps
+pub mod TileSteps
+pub mod Walking
+pub mod Sizes
+pub mod Unique
+pub mod Example

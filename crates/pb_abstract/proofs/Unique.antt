@@ -1,0 +1,56 @@
+-- A task has one graph at most for a wish.
+use Rattle.std.proofs.Common.{◌≡◌, ℕ, ◌<◌, ◌≤◌, List, [], length, sym, ap, subst, ◌∙◌, arith, ◌⊎◌, inl, inr}
+use Rattle.std.proofs.lemmas.List.{get_or_past}
+use Rattle.pb_task.specs.declared.parts.Parts.{Parts}
+use Rattle.pb_task.specs.declared.parts.Parts.TheVariants.{Grid, Tiles}
+use Rattle.pb_task.specs.declared.parts.GridParts.{GridParts}
+use Rattle.pb_abstract.specs.declared.projection.Projection.{Projection}
+use Rattle.pb_abstract.specs.declared.projection.Projection.TheVariants.{Squares, Blank, BlankAndOne, BlankAndTwo}
+use Rattle.pb_abstract.specs.Squares.{square_count, IsLeastSide}
+use Rattle.pb_abstract.specs.Projection.{block_count, IsEdge, IsFinest}
+use Rattle.pb_abstract.specs.Graph.{has, blocks_of}
+use Rattle.pb_abstract.specs.Laws.{GraphsAreUnique}
+use Rattle.pb_abstract.proofs.Members.{same_tests}
+
+one_least : (grid : GridParts) (wish side other : ℕ) → IsLeastSide grid wish side → IsLeastSide grid wish other → side ≡ other
+one_least grid wish side other a b = go (cases side other) where
+  cases : (n m : ℕ) → (n < m) ⊎ (n ≡ m) ⊎ (m < n)
+  cases n m = grind arith
+
+  go : (side < other) ⊎ (side ≡ other) ⊎ (other < side) → side ≡ other
+  go (inl less) = let more : wish < square_count grid side = b.least side a.positive less in absurd (omega (arith, more, a.enough))
+  go (inr (inl same)) = same
+  go (inr (inr more)) = let less : wish < square_count grid other = a.least other b.positive more in absurd (omega (arith, less, b.enough))
+
+projections_are_unique : (parts : Parts) (wish : ℕ) (one other : Projection) → IsFinest parts wish one → IsFinest parts wish other → one ≡ other
+projections_are_unique (Grid grid) wish (Squares side) (Squares other) a b = ap (λ n. Squares n) (one_least grid wish side other a b)
+projections_are_unique (Grid grid) wish (Squares side) Blank a b = absurd b
+projections_are_unique (Grid grid) wish (Squares side) BlankAndOne a b = absurd b
+projections_are_unique (Grid grid) wish (Squares side) BlankAndTwo a b = absurd b
+projections_are_unique (Grid grid) wish Blank other a b = absurd a
+projections_are_unique (Grid grid) wish BlankAndOne other a b = absurd a
+projections_are_unique (Grid grid) wish BlankAndTwo other a b = absurd a
+projections_are_unique (Tiles tiles) wish one other a b = a ∙ sym b
+
+pub graphs_are_unique : GraphsAreUnique
+graphs_are_unique parts wish one other of of' finest finest' = (same, counts, scopes) where
+  same : one.projection ≡ other.projection
+  same = projections_are_unique parts wish one.projection other.projection finest finest'
+
+  counts : length one.scopes ≡ length other.scopes
+  counts = of.count ∙ ap (block_count parts) same ∙ sym of'.count
+
+  cases : (n m : ℕ) → (n < m) ⊎ (m ≤ n)
+  cases n m = grind arith
+
+  scopes : (block c : ℕ) → (blocks_of one).scope block c ≡ (blocks_of other).scope block c
+  scopes block c = go (cases block (length one.scopes)) where
+    go : (block < length one.scopes) ⊎ (length one.scopes ≤ block) → (blocks_of one).scope block c ≡ (blocks_of other).scope block c
+    go (inl less) =
+        let a = of.scope block c (subst (λ n. block < n) of.count less) in
+        let b = of'.scope block c (subst (λ n. block < n) (counts ∙ of'.count) less) in
+        same_tests ((blocks_of one).scope block c) ((blocks_of other).scope block c)
+        (λ e. b.1 (subst (λ p. (block ≡ c) ⊎ IsEdge parts p block c) same (a.0 e))) (λ e. a.1 (subst (λ p. (block ≡ c) ⊎ IsEdge parts p block c) (sym same) (b.0 e)))
+    go (inr past) =
+        ap (λ (list : List ℕ). has list c) (get_or_past one.scopes block [] past)
+        ∙ sym (ap (λ (list : List ℕ). has list c) (get_or_past other.scopes block [] (subst (λ n. n ≤ block) counts past)))

@@ -1,0 +1,12 @@
+use Rattle.std.proofs.Common.{◌≡◌, ◌<◌, length, All, get_or, subst, sym}
+use Rattle.pb_abstract.specs.Graph.{AbstractGraph}
+use Rattle.pb_abstract.proofs.Has.{scope_below}
+use Rattle.pb_abstract.proofs.graph.AbsGraph.scope.Goals as goal
+
+pub returns-clause-below : goal.returns-clause-below
+returns-clause-below c =
+    let inside : AbstractGraph = record { projection = c.self.inside.projection; scopes = c.self.inside.scopes.items } in
+    let less : c.args.b < length inside.scopes = subst (λ (g : AbstractGraph). c.args.b < length g.scopes) (sym c.self.view_is) c.requires in
+    let here : c.numbers.result.now ≡ get_or inside.scopes c.args.b c.numbers.result.now =
+    subst (λ list. list ≡ get_or inside.scopes c.args.b list) (sym c.numbers.ensures.numbers) c.index.ensures in
+    subst (λ (g : AbstractGraph). All (λ n. n < length g.scopes) c.numbers.result.now) c.self.view_is (scope_below inside.scopes c.self.invariant.0.known c.args.b c.numbers.result.now less here)

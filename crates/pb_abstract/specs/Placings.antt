@@ -1,0 +1,79 @@
+-- Blocks of sliding tiles: the boards that have the blank, or the blank and the tile 1, or the blank and the tiles 1 and 2 in the same cells.
+use Rattle.std.specs.Prelude.{◌≡◌, ◌≢◌, ℕ, ◌+◌, ◌-◌, ◌*◌, ◌<◌, List, Option, None, Some, position, unwrap_or, ◌==◌, nat_lt, nat_le, if◌then◌else◌}
+use Rattle.pb_machine.specs.Tables.{one_if}
+use Rattle.pb_task.specs.declared.parts.TilesParts.{TilesParts}
+use Rattle.pb_task.specs.Tiles.{cell_count, neighbour}
+use Rattle.pb_abstract.specs.declared.placing.Placing.{Placing}
+use Rattle.pb_abstract.specs.declared.projection.Projection.{Projection}
+use Rattle.pb_abstract.specs.declared.projection.Projection.TheVariants.{Squares, Blank, BlankAndOne, BlankAndTwo}
+
+-- They are three cells of a board that has so many.
+pub record IsPlacing (count : ℕ) (placing : Placing) : Type 0 where
+  pub blank : placing.blank < count
+  pub first : placing.first < count
+  pub second : placing.second < count
+  pub one : placing.first ≢ placing.blank
+  pub two : placing.second ≢ placing.blank
+  pub three : placing.second ≢ placing.first
+
+-- the cell of a board that a number is in
+abbrev pub cell_with : (board : List ℕ) → (number : ℕ) → ℕ
+cell_with board number = unwrap_or (position (λ other. other == number) board) 0
+
+abbrev pub placing_of : (board : List ℕ) → Placing
+placing_of board = record { blank = cell_with board 0; first = cell_with board 1; second = cell_with board 2 }
+
+-- how many blocks there are, where a board has `count` cells
+abbrev pub placing_count : (count : ℕ) → Projection → ℕ
+placing_count count (Squares side) = 0
+placing_count count Blank = count
+placing_count count BlankAndOne = count * (count - 1)
+placing_count count BlankAndTwo = count * (count - 1) * (count - 2)
+
+-- the rank of a cell among the cells other than `taken`
+abbrev pub rank_beside : (taken cell : ℕ) → ℕ
+rank_beside taken cell = cell - one_if (nat_lt taken cell)
+
+-- the rank of a cell among the cells other than two that are taken
+abbrev pub rank_beside_two : (taken other cell : ℕ) → ℕ
+rank_beside_two taken other cell = cell - (one_if (nat_lt taken cell) + one_if (nat_lt other cell))
+
+-- the block of a placing, where a board has `count` cells
+abbrev pub placing_number : (count : ℕ) → Projection → Placing → ℕ
+placing_number count (Squares side) placing = 0
+placing_number count Blank placing = placing.blank
+placing_number count BlankAndOne placing = placing.blank * (count - 1) + rank_beside placing.blank placing.first
+placing_number count BlankAndTwo placing =
+    (placing.blank * (count - 1) + rank_beside placing.blank placing.first) * (count - 2) + rank_beside_two placing.blank placing.first placing.second
+
+-- the cell of a tile after the blank moved: that of the blank before, where the two met
+abbrev pub tile_after : (blank to tile : ℕ) → ℕ
+tile_after blank to tile = if tile == to then blank else tile
+
+-- the placing after the blank moved to a cell
+abbrev pub placing_after : Placing → (to : ℕ) → Placing
+placing_after placing to = record {
+  blank = to;
+  first = tile_after placing.blank to placing.first;
+  second = tile_after placing.blank to placing.second;
+}
+
+-- the block of the placing after the blank moved to a cell, where there is such a cell
+abbrev pub number_after : (count : ℕ) → Projection → Placing → (cell : Option ℕ) → Option ℕ
+number_after count projection placing None = None
+number_after count projection placing (Some cell) = Some (placing_number count projection (placing_after placing cell))
+
+-- The blank moves from a placing of the one block to the cell beside it in a direction, and so to a placing of the other.
+pub record IsTileEdge (tiles : TilesParts) (projection : Projection) (block other : ℕ) : Type 0 where
+  pub placing : Placing
+  pub action : ℕ
+  pub cell : ℕ
+  pub is : IsPlacing (cell_count tiles) placing
+  pub beside : neighbour tiles.rows tiles.cols placing.blank action ≡ Some cell
+  pub from : placing_number (cell_count tiles) projection placing ≡ block
+  pub to : placing_number (cell_count tiles) projection (placing_after placing cell) ≡ other
+
+-- the finest of the three projections of a board of `count` cells that has at most so many blocks
+abbrev pub finest_of : (count wish : ℕ) → Projection
+finest_of count wish =
+    if nat_le (count * (count - 1) * (count - 2)) wish then BlankAndTwo else (if nat_le (count * (count - 1)) wish then BlankAndOne else Blank)

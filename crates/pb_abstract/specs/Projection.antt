@@ -1,0 +1,53 @@
+-- The projection of a task's states to blocks, and the edges between blocks. A further kind of task is one case more of each definition.
+use Rattle.std.specs.Prelude.{◌≡◌, ℕ, ◌≤◌}
+use Rattle.pb_packed.specs.Bits.{bits_of}
+use Rattle.pb_task.specs.declared.parts.Parts.{Parts}
+use Rattle.pb_task.specs.declared.parts.Parts.TheVariants.{Grid, Tiles}
+use Rattle.pb_task.specs.Tiles.{cell_count, board_of}
+use Rattle.pb_abstract.specs.declared.projection.Projection.{Projection}
+use Rattle.pb_abstract.specs.declared.projection.Projection.TheVariants.{Squares, Blank, BlankAndOne, BlankAndTwo}
+use Rattle.pb_abstract.specs.Squares.{square_count, square_of, IsSquareEdge, IsLeastSide}
+use Rattle.pb_abstract.specs.Placings.{placing_count, placing_number, placing_of, IsTileEdge, finest_of}
+
+-- the projection is one of states of this kind
+abbrev pub Fits : Parts → Projection → Type 0
+Fits (Grid grid) (Squares side) = 1 ≤ side
+Fits (Grid grid) Blank = ⊥
+Fits (Grid grid) BlankAndOne = ⊥
+Fits (Grid grid) BlankAndTwo = ⊥
+Fits (Tiles tiles) (Squares side) = ⊥
+Fits (Tiles tiles) Blank = Unit {0}
+Fits (Tiles tiles) BlankAndOne = Unit {0}
+Fits (Tiles tiles) BlankAndTwo = Unit {0}
+
+-- how many blocks there are; 0 where the projection is of another kind
+abbrev pub block_count : Parts → Projection → ℕ
+block_count (Grid grid) (Squares side) = square_count grid side
+block_count (Grid grid) Blank = 0
+block_count (Grid grid) BlankAndOne = 0
+block_count (Grid grid) BlankAndTwo = 0
+block_count (Tiles tiles) projection = placing_count (cell_count tiles) projection
+
+-- the block of a state; 0 where the projection is of another kind
+abbrev pub block_of : Parts → Projection → (state : ℕ) → ℕ
+block_of (Grid grid) (Squares side) state = square_of grid side (bits_of state 0 11) (bits_of state 11 11)
+block_of (Grid grid) Blank state = 0
+block_of (Grid grid) BlankAndOne state = 0
+block_of (Grid grid) BlankAndTwo state = 0
+block_of (Tiles tiles) projection state = placing_number (cell_count tiles) projection (placing_of (board_of (cell_count tiles) state))
+
+-- an edge leads from the one block to the other
+abbrev pub IsEdge : Parts → Projection → (block other : ℕ) → Type 0
+IsEdge (Grid grid) (Squares side) block other = IsSquareEdge grid side block other
+IsEdge (Grid grid) Blank block other = ⊥
+IsEdge (Grid grid) BlankAndOne block other = ⊥
+IsEdge (Grid grid) BlankAndTwo block other = ⊥
+IsEdge (Tiles tiles) projection block other = IsTileEdge tiles projection block other
+
+-- It is the finest projection that has at most `wish` blocks: the least side of squares, or the most tiles that are followed.
+abbrev pub IsFinest : Parts → (wish : ℕ) → Projection → Type 0
+IsFinest (Grid grid) wish (Squares side) = IsLeastSide grid wish side
+IsFinest (Grid grid) wish Blank = ⊥
+IsFinest (Grid grid) wish BlankAndOne = ⊥
+IsFinest (Grid grid) wish BlankAndTwo = ⊥
+IsFinest (Tiles tiles) wish projection = projection ≡ finest_of (cell_count tiles) wish

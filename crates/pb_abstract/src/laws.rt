@@ -1,0 +1,16 @@
+ghost use Rattle.pb_abstract.specs.Laws.{AbstractGraphsAreBlocks, EdgesAreSteps, GraphsAreUnique};
+
+/// Each state's home is a block of the task's graph, and each step stays in its block or goes along an edge.
+pub fn abstract_graphs_are_blocks()
+    ensures { AbstractGraphsAreBlocks }
+{}
+
+/// An edge leads from one block to another exactly where some state of the one has a successor in the other.
+pub fn edges_are_steps()
+    ensures { EdgesAreSteps }
+{}
+
+/// A task has one graph at most for a number of blocks that is wished for.
+pub fn graphs_are_unique()
+    ensures { GraphsAreUnique }
+{}

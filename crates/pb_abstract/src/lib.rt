@@ -1,0 +1,25 @@
+//! Abstract graphs of planning tasks: a projection maps each state to a block, and a search leases blocks. This is structured duplicate
+//! detection, from Zhou and Hansen, "Structured Duplicate Detection in External-Memory Graph Search" (2004), as Burns, Lemons, Ruml and
+//! Zhou use it in "Best-First Heuristic Search for Multicore Machines" (Journal of Artificial Intelligence Research 39, 2010).
+//!
+//! The projections and the edges between blocks are definitions in `specs`, by the kind of task.
+#![tactic(auto)]
+
+mod graph;
+mod interference;
+mod laws;
+mod lists;
+mod numbers;
+mod placing;
+mod projection;
+mod scopes;
+mod squares;
+mod steps;
+mod tiles;
+
+pub use graph::AbsGraph;
+pub use laws::{abstract_graphs_are_blocks, edges_are_steps, graphs_are_unique};
+pub use projection::Projection;
+
+#[cfg(test)]
+mod tests;

@@ -1,0 +1,110 @@
+ghost use Rattle.std.specs.Prelude.{◌≡◌, ◌*◌, ◌+◌, ◌<◌, ◌≤◌, ◌^◌, ◌↔◌, ◌⊎◌, ℕ, IsTrue, IfOk, IfSome};
+ghost use Rattle.pb_task.specs.Tiles.{IsTiles, cell_count, board_of, is_board_state, neighbour};
+ghost use Rattle.pb_abstract.specs.Placings.{IsPlacing, placing_count, placing_number, placing_of, placing_after, tile_after, number_after, cell_with, IsTileEdge};
+ghost use Rattle.pb_abstract.specs.Graph.{has};
+
+use crate::lists::{BlockList, scope_of};
+use crate::numbers::{placing_at, placing_number};
+use crate::placing::Placing;
+use crate::projection::Projection;
+use crate::steps::cell_beside;
+use pb_packed::Packed;
+use pb_task::TilesParts;
+use std::alloc::{AllocError, Global};
+
+// How many bits of a state hold the number in a cell.
+const BITS: u32 = 4;
+
+// The cell beside a cell in an action's direction, where the board has one.
+fn neighbour(tiles: &TilesParts, cell: u32, action: u32) -> Option<u32>
+    requires tiles { IsTiles tiles.now }
+    requires cell { cell < 16 }
+    ensures cell { result ≡ neighbour tiles.now.rows tiles.now.cols cell action }
+    ensures within { IfSome result (λ to. to < cell_count tiles.now) }
+{
+    let (x, y) = cell_beside(cell % tiles.cols, cell / tiles.cols, action)?;
+    if x < tiles.cols && y < tiles.rows {
+        Some(y * tiles.cols + x)
+    } else {
+        None
+    }
+}
+
+// The cell of a tile after the blank moved: that of the blank before, where the two met.
+fn tile_after(blank: u32, to: u32, tile: u32) -> u32
+    ensures { result ≡ tile_after blank to tile }
+{
+    if tile == to { blank } else { tile }
+}
+
+// The placing after the blank moved to a cell.
+fn placing_after(placing: &Placing, to: u32) -> Placing
+    ensures { result ≡ placing_after placing.now to }
+{
+    Placing {
+        blank: to,
+        first: tile_after(placing.blank, to, placing.first),
+        second: tile_after(placing.blank, to, placing.second),
+    }
+}
+
+// The block that the blank's move in an action's direction leads to.
+fn beyond(tiles: &TilesParts, projection: Projection, placing: &Placing, action: u32) -> Option<u32>
+    requires tiles { IsTiles tiles.now }
+    requires placing { IsPlacing (cell_count tiles.now) placing.now }
+    ensures { result ≡ number_after (cell_count tiles.now) projection placing.now (neighbour tiles.now.rows tiles.now.cols placing.now.blank action) }
+{
+    let to = neighbour(tiles, placing.blank, action)?;
+    let after = placing_after(placing, to);
+    Some(placing_number(tiles.rows * tiles.cols, projection, &after))
+}
+
+/// The scope of a block: itself, and those that the blank's moves lead to.
+pub fn scope(
+    alloc: Global,
+    tiles: &TilesParts,
+    projection: Projection,
+    block: u32,
+) -> Result<BlockList, AllocError>
+    requires tiles { IsTiles tiles.now }
+    requires block { block < placing_count (cell_count tiles.now) projection }
+    ensures { IfOk result (λ list. (c : ℕ) → IsTrue (has list c) ↔ ((block ≡ c) ⊎ IsTileEdge tiles.now projection block c)) }
+{
+    let placing = placing_at(tiles.rows * tiles.cols, projection, block);
+    let beyond = [
+        beyond(tiles, projection, &placing, 0),
+        beyond(tiles, projection, &placing, 1),
+        beyond(tiles, projection, &placing, 2),
+        beyond(tiles, projection, &placing, 3),
+    ];
+    scope_of(alloc, block, beyond)
+}
+
+// The cell of a board that a number is in, where the number in cell i is the one in the bits 4i to 4i+3. 0 where it is in none.
+fn cell_with(board: u64, count: u32, number: u64) -> u32
+    requires { count ≤ 16 }
+    ensures { result ≡ cell_with (board_of count board) number }
+{
+    for cell in 0..count {
+        if (board >> (BITS * cell)) % 16 == number {
+            return cell;
+        }
+    }
+    0
+}
+
+/// The block of a state.
+pub fn block(tiles: &TilesParts, projection: Projection, state: &Packed) -> u32
+    requires tiles { IsTiles tiles.now }
+    requires state { IsTrue (is_board_state (cell_count tiles.now) state.now) }
+    ensures { result ≡ placing_number (cell_count tiles.now) projection (placing_of (board_of (cell_count tiles.now) state.now)) }
+{
+    let count = tiles.rows * tiles.cols;
+    let board = state.bits(0, BITS * count);
+    let placing = Placing {
+        blank: cell_with(board, count, 0),
+        first: cell_with(board, count, 1),
+        second: cell_with(board, count, 2),
+    };
+    placing_number(count, projection, &placing)
+}
