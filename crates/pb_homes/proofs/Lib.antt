@@ -1,0 +1,10 @@
+pub mod Lists
+pub mod Moving
+pub mod Noting
+pub mod Orders
+pub mod Kept
+pub mod ByKey
+pub mod ByRows
+pub mod Opening
+pub mod Distinct
+pub mod Worked
