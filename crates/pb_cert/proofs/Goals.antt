@@ -1,5 +1,5 @@
--- The first goal among the first entries.
-use Rattle.std.proofs.Common.{◌≡◌, ◌⊎◌, inl, inr, ℕ, ◌+◌, ◌<◌, ◌≤◌, ◌^◌, Option, None, Some, IfSome, IfNone, IsTrue, nat_eq, List, length, slice_get, refl, sym, subst, arith}
+-- The first goal among the first entries of a part, and among the rows of the first parts.
+use Rattle.std.proofs.Common.{◌≡◌, ◌⊎◌, inl, inr, ℕ, ◌+◌, ◌<◌, ◌≤◌, ◌^◌, Option, None, Some, IfSome, IfNone, IsTrue, nat_eq, List, length, slice_get, refl, sym, subst, ◌∙◌, arith}
 use Rattle.std.specs.Map.{keys_of}
 use Rattle.std.specs.List.{IsDistinct}
 use Rattle.std.proofs.lemmas.Cmp.{nat_eq_equiv}
@@ -7,70 +7,126 @@ use Rattle.std.proofs.lemmas.Option.{slice_get_within}
 use Rattle.std.proofs.lemmas.Map.Entries.{lookup_from_place, place_from_lookup}
 use Rattle.pb_model.specs.declared.row.Row.{Row}
 use Rattle.pb_model.specs.Space.{Space}
+use Rattle.pb_model.specs.Store.{Part, Rows}
 use Rattle.pb_model.proofs.Tests.{equal}
 use Rattle.pb_lists.specs.Bundle.{row_in}
 use Rattle.pb_cert.specs.declared.goal.Goal.{Goal}
-use Rattle.pb_cert.specs.Traced.{HasGoal, IsFirstGoal, HasNoLater}
+use Rattle.pb_cert.specs.Store.{HasNoneFrom}
+use Rattle.pb_cert.specs.Traced.{HasGoal, IsFirstGoal, IsFirstIn, HasRowIn, HasNoLater}
 
-pub record IsFirstSoFar (space : Space) (entries : List (ℕ × Row)) (i : ℕ) (first : Option Goal) : Type 0 where
-  pub from : IfSome first (λ goal. (k : ℕ) × (row : Row) × (slice_get entries k ≡ Some (goal.state, row)) × (row.g ≡ goal.g) × IsTrue (space.is_goal goal.state))
-  pub small : IfSome first (λ goal. goal.g < 2 ^ 64)
+cases : (k i : ℕ) → k < i + 1 → (k < i) ⊎ (k ≡ i)
+cases k i below = grind (arith, below)
+
+-- ---- entry after entry
+
+-- there is a goal, and it stands among the entries with its row
+abbrev pub HasEntry : Space → List (ℕ × Row) → Option Goal → Type 0
+HasEntry space entries None = ⊥
+HasEntry space entries (Some goal) = (k : ℕ) × (row : Row) × (slice_get entries k ≡ Some (goal.state, row)) × (row.g ≡ goal.g) × IsTrue (space.is_goal goal.state)
+
+pub record IsFirstSoFar (space : Space) (entries : List (ℕ × Row)) (so_far : Option Goal) (i : ℕ) (first : Option Goal) : Type 0 where
+  pub kept : (g other : ℕ) → HasNoLater so_far g other → HasNoLater first g other
+  pub small : IfSome so_far (λ goal. goal.g < 2 ^ 64) → IfSome first (λ goal. goal.g < 2 ^ 64)
+  pub from : (first ≡ so_far) ⊎ HasEntry space entries first
   pub least : (k : ℕ) (entry : ℕ × Row) → k < i → slice_get entries k ≡ Some entry → IsTrue (space.is_goal entry.0) → HasNoLater first entry.1.g entry.0
 
-pub none_so_far : (space : Space) (entries : List (ℕ × Row)) → IsFirstSoFar space entries 0 None
-none_so_far space entries = record { from = tt; small = tt; least = λ k entry below. absurd (omega (arith, below)) }
+pub none_so_far : (space : Space) (entries : List (ℕ × Row)) (so_far : Option Goal) → IsFirstSoFar space entries so_far 0 so_far
+none_so_far space entries so_far =
+    record { kept = λ g other later. later; small = λ small. small; from = inl refl; least = λ k entry below. absurd (omega (arith, below)) }
 
-pub one_more : (space : Space) (entries : List (ℕ × Row)) (i : ℕ) (first next : Option Goal) (state : ℕ) (row : Row) → slice_get entries i ≡ Some (state, row) → IsFirstSoFar space entries i first
-    → ((g other : ℕ) → HasNoLater first g other → HasNoLater next g other) → (IfSome first (λ goal. goal.g < 2 ^ 64) → IfSome next (λ goal. goal.g < 2 ^ 64)) → (IsTrue (space.is_goal state) → HasNoLater next row.g state)
-    → (next ≡ first) ⊎ ((next ≡ Some (record { state = state; g = row.g })) × IsTrue (space.is_goal state)) → IsFirstSoFar space entries (i + 1) next
-one_more space entries i first next state row at so_far kept small here from =
+pub one_more : (space : Space) (entries : List (ℕ × Row)) (so_far : Option Goal) (i : ℕ) (first next : Option Goal) (state : ℕ) (row : Row) → slice_get entries i ≡ Some (state, row)
+    → IsFirstSoFar space entries so_far i first → ((g other : ℕ) → HasNoLater first g other → HasNoLater next g other)
+    → (IfSome first (λ goal. goal.g < 2 ^ 64) → IfSome next (λ goal. goal.g < 2 ^ 64)) → (IsTrue (space.is_goal state) → HasNoLater next row.g state)
+    → (next ≡ first) ⊎ ((next ≡ Some (record { state = state; g = row.g })) × IsTrue (space.is_goal state)) → IsFirstSoFar space entries so_far (i + 1) next
+one_more space entries so_far i first next state row at before kept small here from =
     record {
-      small = small so_far.small;
+      kept = λ g other later. kept g other (before.kept g other later);
+      small = λ s. small (before.small s);
       from = elim from [
-        | inl same ↦ subst (λ b. IfSome b (λ goal. (k : ℕ) × (row : Row) × (slice_get entries k ≡ Some (goal.state, row)) × (row.g ≡ goal.g) × IsTrue (space.is_goal goal.state))) (sym same) so_far.from
-        | inr new ↦ subst (λ b. IfSome b (λ goal. (k : ℕ) × (row : Row) × (slice_get entries k ≡ Some (goal.state, row)) × (row.g ≡ goal.g) × IsTrue (space.is_goal goal.state))) (sym new.0) (i, row, at, refl, new.1)
+        | inl same ↦ elim before.from [ inl old ↦ inl (same ∙ old) | inr entry ↦ inr (subst (HasEntry space entries) (sym same) entry) ]
+        | inr new ↦ inr (subst (HasEntry space entries) (sym new.0) (i, row, at, refl, new.1))
       ];
       least = λ k entry below found is_goal. elim (cases k i below) [
-        | inl less ↦ kept entry.1.g entry.0 (so_far.least k entry less found is_goal)
+        | inl less ↦ kept entry.1.g entry.0 (before.least k entry less found is_goal)
         | inr same ↦
             let there : ◌≡◌ {A = ℕ × Row} (state, row) entry = same_entry entries i k (state, row) entry (sym same) at found in
             subst (λ (x : ℕ × Row). HasNoLater next x.1.g x.0) there (here (subst (λ (x : ℕ × Row). IsTrue (space.is_goal x.0)) (sym there) is_goal))
       ];
     }
   where
-    cases : (k i : ℕ) → k < i + 1 → (k < i) ⊎ (k ≡ i)
-    cases k i below = grind (arith, below)
-
     same_entry : (entries : List (ℕ × Row)) (i k : ℕ) (one two : ℕ × Row) → i ≡ k → slice_get entries i ≡ Some one → slice_get entries k ≡ Some two → one ≡ two
     same_entry entries i k one two same at found = let there : slice_get entries k ≡ Some one = subst (λ n. slice_get entries n ≡ Some one) same at in cc
 
--- ---- after all entries
-
-module _ (space : Space) (entries : List (ℕ × Row)) (i : ℕ) (whole : length entries ≤ i) where
-  first_later : (first : Option Goal) → IsFirstSoFar space entries i first → (other : ℕ) (row : Row) → row_in entries other ≡ Some row → IsTrue (space.is_goal other) → HasNoLater first row.g other
-  first_later first so_far other row found is_goal =
+-- after all entries
+module _ (space : Space) (entries : List (ℕ × Row)) (so_far : Option Goal) (i : ℕ) (first : Option Goal) (before : IsFirstSoFar space entries so_far i first) where
+  pub first_of_part : length entries ≤ i → IsFirstIn space (row_in entries) first
+  first_of_part whole other row found is_goal =
       let place = place_from_lookup (nat_eq other) entries row found in
       let same : other ≡ place.1 = equal other place.1 place.3 in
       let within : place.0 < length entries = slice_get_within entries place.0 (place.1, row) place.2 in
-      subst (λ s. HasNoLater first row.g s) (sym same) (so_far.least place.0 (place.1, row) (omega (arith, within, whole)) place.2 (subst (λ s. IsTrue (space.is_goal s)) same is_goal))
+      subst (λ s. HasNoLater first row.g s) (sym same) (before.least place.0 (place.1, row) (omega (arith, within, whole)) place.2 (subst (λ s. IsTrue (space.is_goal s)) same is_goal))
 
-  pub no_goal : IsFirstSoFar space entries i None → HasGoal space (row_in entries) → ⊥
-  no_goal so_far (goal, row, found, is_goal) = first_later None so_far goal row found is_goal
+  pub from_part : IsDistinct nat_eq (keys_of entries) → (first ≡ so_far) ⊎ HasRowIn space (row_in entries) first
+  from_part distinct = elim before.from [ inl old ↦ inl old | inr entry ↦ inr (its_row first entry) ]
+    where
+      its_row : (goal : Option Goal) → HasEntry space entries goal → HasRowIn space (row_in entries) goal
+      its_row None entry = entry
+      its_row (Some goal) entry = (entry.1, lookup_from_place nat_eq_equiv entries entry.0 goal.state entry.1 distinct entry.2, entry.3, entry.4)
 
-  pub the_first : (goal : Goal) → IsDistinct nat_eq (keys_of entries) → IsFirstSoFar space entries i (Some goal) → IsFirstGoal space (row_in entries) goal.state goal.g
-  the_first goal distinct so_far =
+-- ---- part after part
+
+-- the goal has its row in some part
+abbrev pub HasRowAmong : Space → Rows → Goal → Type 0
+HasRowAmong space rows goal = (home : ℕ) × (row : Row) × (rows home goal.state ≡ Some row) × (row.g ≡ goal.g) × IsTrue (space.is_goal goal.state)
+
+pub record IsFirstBelow (space : Space) (rows : Rows) (i : ℕ) (first : Option Goal) : Type 0 where
+  pub from : IfSome first (HasRowAmong space rows)
+  pub small : IfSome first (λ goal. goal.g < 2 ^ 64)
+  pub least : (home other : ℕ) (row : Row) → home < i → rows home other ≡ Some row → IsTrue (space.is_goal other) → HasNoLater first row.g other
+
+pub none_below : (space : Space) (rows : Rows) → IsFirstBelow space rows 0 None
+none_below space rows = record { from = tt; small = tt; least = λ home other row below. absurd (omega (arith, below)) }
+
+pub next_part : (space : Space) (rows : Rows) (part : Part) (i : ℕ) (first next : Option Goal) → ((state : ℕ) → part state ≡ rows i state) → IsFirstBelow space rows i first
+    → ((g other : ℕ) → HasNoLater first g other → HasNoLater next g other) → (IfSome first (λ goal. goal.g < 2 ^ 64) → IfSome next (λ goal. goal.g < 2 ^ 64))
+    → IsFirstIn space part next → (next ≡ first) ⊎ HasRowIn space part next → IsFirstBelow space rows (i + 1) next
+next_part space rows part i first next same before kept small here from =
+    record {
+      small = small before.small;
+      from = elim from [ inl old ↦ subst (λ goal. IfSome goal (HasRowAmong space rows)) (sym old) before.from | inr new ↦ among next new ];
+      least = λ home other row below found is_goal. elim (cases home i below) [
+        | inl less ↦ kept row.g other (before.least home other row less found is_goal)
+        | inr at ↦ here other row (same other ∙ subst (λ h. rows h other ≡ Some row) at found) is_goal
+      ];
+    }
+  where
+    among : (goal : Option Goal) → HasRowIn space part goal → IfSome goal (HasRowAmong space rows)
+    among None new = absurd new
+    among (Some goal) new = (i, new.0, sym (same goal.state) ∙ new.1, new.2, new.3)
+
+-- after all parts
+module _ (space : Space) (rows : Rows) (parts i : ℕ) (beyond : HasNoneFrom rows parts) (whole : parts ≤ i) where
+  below : (home other : ℕ) (row : Row) → rows home other ≡ Some row → home < i
+  below home other row found = grind (arith, whole, known)
+    where
+      none_found : (x : Option Row) → x ≡ None → x ≡ Some row → ⊥
+      none_found x none some = cc
+
+      known : parts ≤ home → ⊥
+      known past = none_found (rows home other) (beyond home other past) found
+
+  pub the_first_if : (first : Option Goal) → IsFirstBelow space rows i first → IfSome first (λ goal. IsFirstGoal space rows goal.state goal.g)
+  the_first_if None before = tt
+  the_first_if (Some goal) before =
       record {
-        row = so_far.from.1;
-        found = lookup_from_place nat_eq_equiv entries so_far.from.0 goal.state so_far.from.1 distinct so_far.from.2;
-        costs = so_far.from.3;
-        is_goal = so_far.from.4;
-        first = λ other row found is_goal. first_later (Some goal) so_far other row found is_goal;
+        home = before.from.0;
+        row = before.from.1;
+        found = before.from.2;
+        costs = before.from.3;
+        is_goal = before.from.4;
+        first = λ home other row found is_goal. before.least home other row (below home other row found) found is_goal;
       }
 
-  pub the_first_if : (first : Option Goal) → IsDistinct nat_eq (keys_of entries) → IsFirstSoFar space entries i first → IfSome first (λ goal. IsFirstGoal space (row_in entries) goal.state goal.g)
-  the_first_if None distinct so_far = tt
-  the_first_if (Some goal) distinct so_far = the_first goal distinct so_far
-
-  pub no_goal_if : (first : Option Goal) → IsFirstSoFar space entries i first → IfNone first (HasGoal space (row_in entries) → ⊥)
-  no_goal_if None so_far = no_goal so_far
-  no_goal_if (Some goal) so_far = tt
+  pub no_goal_if : (first : Option Goal) → IsFirstBelow space rows i first → IfNone first (HasGoal space rows → ⊥)
+  no_goal_if None before = λ (home, goal, row, found, is_goal). before.least home goal row (below home goal row found) found is_goal
+  no_goal_if (Some goal) before = tt

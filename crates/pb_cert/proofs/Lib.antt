@@ -2,5 +2,6 @@ mod LineTexts
 mod Files
 mod Back
 mod Goals
+mod Distinct
 mod Sorted
 mod TwoRows

@@ -1,12 +1,12 @@
--- The lines of all rows, in order of the states, and the certificate that they make.
-use Rattle.std.proofs.Common.{◌≡◌, ℕ, zero, suc, ◌+◌, ◌<◌, ◌≤◌, ◌==◌, false, Option, None, Some, nat_eq, All, Contains, List, [], ◌∷◌, ◌++◌, map, take, length, slice_get, get_or, refl, sym, subst, ap, arith, ◌∙◌}
+-- The lines of all rows, part after part, in order of the states, and the certificate that they make.
+use Rattle.std.proofs.Common.{◌≡◌, ◌⊎◌, inl, inr, ℕ, zero, suc, ◌+◌, ◌<◌, ◌≤◌, false, Option, None, Some, nat_eq, All, Contains, List, [], ◌∷◌, ◌++◌, map, take, length, slice_get, get_or, refl, sym, subst, ap, arith, ◌∙◌, append_assoc}
 use Rattle.std.specs.Map.{keys_of}
 use Rattle.std.specs.List.{IsDistinct}
 use Rattle.std.specs.List.Sorted.{IsPermutation, IsNonDecreasing, IsNonDecreasingBy}
 use Rattle.std.proofs.lemmas.Cmp.{nat_eq_equiv}
 use Rattle.std.proofs.lemmas.Option.{slice_get-get_or, slice_get_within, get_or_from_slice_get}
-use Rattle.std.proofs.lemmas.List.{length-map, get_or-map, map_more}
-use Rattle.std.proofs.lemmas.List.Elements.{All-map}
+use Rattle.std.proofs.lemmas.List.{length-map, get_or-map, map-append, map_more}
+use Rattle.std.proofs.lemmas.List.Elements.{All-append, All-map, All-weaker, Contains-append_left, Contains-append_right}
 use Rattle.std.proofs.lemmas.List.Sorted.{IsPermutation-map, All-permutation, Contains-permutation}
 use Rattle.std.proofs.lemmas.Map.Keys.{IsDistinct-IsPermutation, IsStrictlyIncreasing-from_distinct, sorted_from_strictly_increasing}
 use Rattle.std.proofs.lemmas.Map.Entries.{lookup_from_place}
@@ -16,82 +16,162 @@ use Rattle.pb_model.specs.Space.{Space}
 use Rattle.pb_model.specs.Weight.{Weight}
 use Rattle.pb_model.specs.Plan.{Plan}
 use Rattle.pb_model.specs.Guide.{Guide}
-use Rattle.pb_model.specs.Store.{IsQuiet}
+use Rattle.pb_model.specs.Store.{Rows, IsQuiet}
 use Rattle.pb_model.specs.Sound.{IsSound}
 use Rattle.pb_model.specs.Certificate.{Line, Ascends, AreLinesOf, IsPlanIfAny, IsBackedBy, IsValid, line_of}
-use Rattle.pb_model.proofs.Tests.{equal, equal_swap}
+use Rattle.pb_model.proofs.Tests.{by_cases, equal, equal_swap}
 use Rattle.pb_model.proofs.Certificates.{quiet_stores_certify}
-use Rattle.pb_lists.specs.Bundle.{Content, row_of, store_of}
-use Rattle.pb_cert.specs.Traced.{one_part_guide}
-use Rattle.pb_cert.proofs.Back.{at_home, if_some}
+use Rattle.pb_lists.specs.Bundle.{row_in}
+use Rattle.pb_cert.specs.Store.{IsPlaced, HasNoneFrom, store_with}
+use Rattle.pb_cert.specs.Listed.{entry_line}
+use Rattle.pb_cert.proofs.Distinct.{IsDistinct-append}
 
-abbrev pub entry_line : ℕ × Row → Line
-entry_line entry = line_of entry.0 entry.1
+-- ---- the lines of the first entries of a part
 
--- ---- the lines of the first entries
-
-pub next_line : (entries : List (ℕ × Row)) (i state : ℕ) (row : Row) (lines : List Line) → slice_get entries i ≡ Some (state, row) → lines ≡ map entry_line (take i entries)
-    → lines ++ line_of state row ∷ [] ≡ map entry_line (take (i + 1) entries)
-next_line entries i state row lines at so_far =
+pub next_line : (before : List Line) (entries : List (ℕ × Row)) (i state : ℕ) (row : Row) (lines : List Line) → slice_get entries i ≡ Some (state, row) → lines ≡ before ++ map entry_line (take i entries)
+    → lines ++ line_of state row ∷ [] ≡ before ++ map entry_line (take (i + 1) entries)
+next_line before entries i state row lines at so_far =
     let within : i < length entries = slice_get_within entries i (state, row) at in
     let there : ◌≡◌ {A = ℕ × Row} (get_or entries i (state, row)) (state, row) = get_or_from_slice_get entries i (state, row) (state, row) at in
-    ap (λ t. t ++ line_of state row ∷ []) so_far ∙ ap (λ e. map entry_line (take i entries) ++ entry_line e ∷ []) (sym there) ∙ sym (map_more entry_line entries i (state, row) within)
-
--- ---- all lines, sorted
-
-keys_are : (entries : List (ℕ × Row)) → map (λ (line : Line). line.state) (map entry_line entries) ≡ keys_of entries
-keys_are [] = refl
-keys_are (entry ∷ entries) = ap (λ t. entry.0 ∷ t) (keys_are entries)
-
-rising : (lines : List Line) → IsNonDecreasingBy (λ (line : Line). line.state) lines → IsNonDecreasing (map (λ (line : Line). line.state) lines)
-rising lines sorted i j d le below =
-    let within : j < length lines = subst (λ n. j < n) (length-map lines (λ (line : Line). line.state)) below in
-    let none : Line = record { state = 0; g = 0; is_closed = false } in
-    rw (get_or-map (λ (line : Line). line.state) lines i none d (omega (arith, le, within)), get_or-map (λ (line : Line). line.state) lines j none d within) (sorted i j none le within)
-
-module _ (content : Content) (distinct : IsDistinct nat_eq (keys_of content.entries)) (lines : List Line) (permuted : IsPermutation (map entry_line content.entries) lines)
-    (sorted : IsNonDecreasingBy (λ (line : Line). line.state) lines) where
-  ascending : Ascends lines
-  ascending =
-      let states : List ℕ = map (λ (line : Line). line.state) lines in
-      let same : IsPermutation (keys_of content.entries) states = subst (λ ks. IsPermutation ks states) (keys_are content.entries) (IsPermutation-map (λ (line : Line). line.state) (map entry_line content.entries) lines permuted) in
-      sorted_from_strictly_increasing states (IsStrictlyIncreasing-from_distinct states (rising lines sorted) (IsDistinct-IsPermutation nat_eq equal_swap (keys_of content.entries) states same distinct))
-
-  of_row : All (λ line. (row : Row) × (row_of content line.state ≡ Some row) × (line ≡ line_of line.state row)) lines
-  of_row =
-      All-permutation (λ line. (row : Row) × (row_of content line.state ≡ Some row) × (line ≡ line_of line.state row)) (map entry_line content.entries) lines permuted
-      (All-map (λ line. (row : Row) × (row_of content line.state ≡ Some row) × (line ≡ line_of line.state row)) entry_line content.entries
-      (λ k d below. ((get_or content.entries k d).1, lookup_from_place nat_eq_equiv content.entries k (get_or content.entries k d).0 (get_or content.entries k d).1 distinct (slice_get-get_or content.entries k d below), refl)))
-
-  each_row : (state : ℕ) (row : Row) → row_of content state ≡ Some row → Contains lines (line_of state row)
-  each_row state row found =
-      let there : Contains content.entries (state, row) = Contains-from_lookup {eq = nat_eq} equal state row content.entries found in
-      Contains-permutation (map entry_line content.entries) lines (line_of state row) permuted (
-        there.0,
-        subst (λ n. there.0 < n) (sym (length-map content.entries entry_line)) there.1,
-        get_or-map entry_line content.entries there.0 (state, row) (line_of state row) there.1 ∙ ap entry_line there.2,
-      )
-
-  pub are_lines : AreLinesOf one_part_guide (store_of content None).rows lines
-  are_lines = record { ascending = ascending; sound = of_row; complete = each_row }
-
--- ---- the certificate is valid
-
-pub certifies : (content : Content) (weight : Weight) (lines : List Line) → content.weight ≡ weight → AreLinesOf one_part_guide (store_of content None).rows lines
-    → (space : Space) (guide : Guide) (incumbent : Option ℕ) (plan : Option Plan) → IsSound space guide (store_of content incumbent) → IsQuiet (store_of content incumbent)
-    → IsPlanIfAny space plan → IsBackedBy incumbent plan → IsValid space guide.estimate (record { weight = weight; plan = plan; lines = lines })
-certifies content weight lines same are space guide incumbent plan sound quiet is_plan backed =
-    subst (λ w. IsValid space guide.estimate (record { weight = w; plan = plan; lines = lines })) same
-    (quiet_stores_certify space guide (store_of content incumbent) plan lines sound quiet
-    (record {
-      ascending = are.ascending;
-      sound = λ k d below. let one = are.sound k d below in (one.0, at_home space content (guide, incumbent, sound) (get_or lines k d).state one.0 one.1, one.2);
-      complete = λ state row found. are.complete state row (if_some (guide.home state == 0) (row_of content state) row found);
-    })
-    is_plan backed)
+    ap (λ t. t ++ line_of state row ∷ []) so_far ∙ append_assoc before (map entry_line (take i entries)) (line_of state row ∷ [])
+    ∙ ap (λ e. before ++ (map entry_line (take i entries) ++ entry_line e ∷ [])) (sym there) ∙ sym (ap (λ t. before ++ t) (map_more entry_line entries i (state, row) within))
 
 pub whole_list : (entries : List (ℕ × Row)) (i : ℕ) → length entries ≤ i → take i entries ≡ entries
 whole_list [] zero le = refl
 whole_list [] (suc i) le = refl
 whole_list (entry ∷ entries) zero le = absurd (omega (arith, le))
 whole_list (entry ∷ entries) (suc i) le = ap (λ t. entry ∷ t) (whole_list entries i (omega (arith, le)))
+
+-- ---- the lines of the first parts
+
+abbrev pub states_of : List Line → List ℕ
+states_of lines = map (λ (line : Line). line.state) lines
+
+-- the line is that of a row in this part
+abbrev pub IsLineAt : Rows → (home : ℕ) → Line → Type 0
+IsLineAt rows home line = (row : Row) × (rows home line.state ≡ Some row) × (line ≡ line_of line.state row)
+
+-- the line is that of a row in one of the first parts
+abbrev pub IsLineBelow : Rows → (i : ℕ) → Line → Type 0
+IsLineBelow rows i line = (home : ℕ) × (home < i) × IsLineAt rows home line
+
+pub record AreLinesBelow (rows : Rows) (i : ℕ) (lines : List Line) : Type 0 where
+  pub sound : All (IsLineBelow rows i) lines
+  pub complete : (home state : ℕ) (row : Row) → home < i → rows home state ≡ Some row → Contains lines (line_of state row)
+  pub distinct : (homes : ℕ → ℕ) → IsPlaced homes rows → IsDistinct nat_eq (states_of lines)
+
+pub none_below : (rows : Rows) (lines : List Line) → lines ≡ [] → AreLinesBelow rows 0 lines
+unfolding IsDistinct
+none_below rows lines none =
+    subst (AreLinesBelow rows 0) (sym none)
+    (record { sound = λ k d below. absurd (omega (arith, below)); complete = λ home state row below. absurd (omega (arith, below)); distinct = λ homes placed. tt })
+
+keys_are : (entries : List (ℕ × Row)) → states_of (map entry_line entries) ≡ keys_of entries
+keys_are [] = refl
+keys_are (entry ∷ entries) = ap (λ t. entry.0 ∷ t) (keys_are entries)
+
+-- a line of an earlier part has another state
+apart : (rows : Rows) (i : ℕ) (homes : ℕ → ℕ) → IsPlaced homes rows → (line other : Line) → IsLineBelow rows i line → IsLineAt rows i other → nat_eq line.state other.state ≡ false
+apart rows i homes placed line other one two =
+    by_cases (nat_eq line.state other.state)
+    (λ t. absurd (not_below one.0 i one.1 (placed one.0 line.state one.2.0 one.2.1 ∙ ap homes (equal line.state other.state t) ∙ sym (placed i other.state two.0 two.1))))
+    (λ f. f)
+  where
+    not_below : (home i : ℕ) → home < i → home ≡ i → ⊥
+    not_below home i below same = omega (arith, below, same)
+
+module _ (rows : Rows) (i : ℕ) (lines : List Line) (entries : List (ℕ × Row)) (same : (state : ℕ) → row_in entries state ≡ rows i state) (distinct : IsDistinct nat_eq (keys_of entries))
+    (before : AreLinesBelow rows i lines) where
+  cases : (home : ℕ) → home < i + 1 → (home < i) ⊎ (home ≡ i)
+  cases home below = grind (arith, below)
+
+  of_entries : All (IsLineAt rows i) (map entry_line entries)
+  of_entries =
+      All-map (IsLineAt rows i) entry_line entries
+      (λ k d below. (
+        (get_or entries k d).1,
+        sym (same (get_or entries k d).0) ∙ lookup_from_place nat_eq_equiv entries k (get_or entries k d).0 (get_or entries k d).1 distinct (slice_get-get_or entries k d below),
+        refl,
+      ))
+
+  has_entry : (state : ℕ) (row : Row) → rows i state ≡ Some row → Contains (map entry_line entries) (line_of state row)
+  has_entry state row found =
+      let there : Contains entries (state, row) = Contains-from_lookup {eq = nat_eq} equal state row entries (same state ∙ found) in (
+        there.0,
+        subst (λ n. there.0 < n) (sym (length-map entries entry_line)) there.1,
+        get_or-map entry_line entries there.0 (state, row) (line_of state row) there.1 ∙ ap entry_line there.2,
+      )
+
+  states_apart : (homes : ℕ → ℕ) → IsPlaced homes rows → IsDistinct nat_eq (states_of (lines ++ map entry_line entries))
+  states_apart homes placed =
+      subst (IsDistinct nat_eq) (sym (map-append (λ (line : Line). line.state) lines (map entry_line entries)))
+      (IsDistinct-append nat_eq (states_of lines) (states_of (map entry_line entries)) (before.distinct homes placed) (subst (IsDistinct nat_eq) (sym (keys_are entries)) distinct)
+      (All-map (λ x. All (λ y. nat_eq x y ≡ false) (states_of (map entry_line entries))) (λ (line : Line). line.state) lines
+      (All-weaker (IsLineBelow rows i) (λ line. All (λ y. nat_eq line.state y ≡ false) (states_of (map entry_line entries)))
+      (λ line one. All-map (λ y. nat_eq line.state y ≡ false) (λ (line : Line). line.state) (map entry_line entries)
+      (All-weaker (IsLineAt rows i) (λ other. nat_eq line.state other.state ≡ false) (λ other two. apart rows i homes placed line other one two) (map entry_line entries) of_entries))
+      lines before.sound)))
+
+  pub next_part : AreLinesBelow rows (i + 1) (lines ++ map entry_line entries)
+  next_part =
+      record {
+        sound =
+            All-append (IsLineBelow rows (i + 1)) lines (map entry_line entries)
+            (All-weaker (IsLineBelow rows i) (IsLineBelow rows (i + 1)) (λ line one. (one.0, omega (arith, one.1), one.2)) lines before.sound)
+            (All-weaker (IsLineAt rows i) (IsLineBelow rows (i + 1)) (λ line one. (i, omega arith, one)) (map entry_line entries) of_entries);
+        complete = λ home state row below found. elim (cases home below) [
+          | inl less ↦ Contains-append_left lines (map entry_line entries) (line_of state row) (before.complete home state row less found)
+          | inr at ↦ Contains-append_right lines (map entry_line entries) (line_of state row) (has_entry state row (subst (λ h. rows h state ≡ Some row) at found))
+        ];
+        distinct = states_apart;
+      }
+
+-- ---- all lines, sorted
+
+rising : (lines : List Line) → IsNonDecreasingBy (λ (line : Line). line.state) lines → IsNonDecreasing (states_of lines)
+rising lines sorted i j d le below =
+    let within : j < length lines = subst (λ n. j < n) (length-map lines (λ (line : Line). line.state)) below in
+    let none : Line = record { state = 0; g = 0; is_closed = false } in
+    rw (get_or-map (λ (line : Line). line.state) lines i none d (omega (arith, le, within)), get_or-map (λ (line : Line). line.state) lines j none d within) (sorted i j none le within)
+
+module _ (rows : Rows) (parts i : ℕ) (beyond : HasNoneFrom rows parts) (whole : parts ≤ i) (all lines : List Line) (are : AreLinesBelow rows i all) (permuted : IsPermutation all lines)
+    (sorted : IsNonDecreasingBy (λ (line : Line). line.state) lines) where
+  below : (home state : ℕ) (row : Row) → rows home state ≡ Some row → home < i
+  below home state row found = grind (arith, whole, known)
+    where
+      none_found : (x : Option Row) → x ≡ None → x ≡ Some row → ⊥
+      none_found x none some = cc
+
+      known : parts ≤ home → ⊥
+      known past = none_found (rows home state) (beyond home state past) found
+
+  module _ (guide : Guide) (placed : IsPlaced guide.home rows) where
+    ascending : Ascends lines
+    ascending =
+        let same : IsPermutation (states_of all) (states_of lines) = IsPermutation-map (λ (line : Line). line.state) all lines permuted in
+        sorted_from_strictly_increasing (states_of lines)
+        (IsStrictlyIncreasing-from_distinct (states_of lines) (rising lines sorted) (IsDistinct-IsPermutation nat_eq equal_swap (states_of all) (states_of lines) same (are.distinct guide.home placed)))
+
+    of_row : All (λ line. (row : Row) × (rows (guide.home line.state) line.state ≡ Some row) × (line ≡ line_of line.state row)) lines
+    of_row =
+        All-weaker (IsLineBelow rows i) (λ line. (row : Row) × (rows (guide.home line.state) line.state ≡ Some row) × (line ≡ line_of line.state row))
+        (λ line one. (one.2.0, subst (λ h. rows h line.state ≡ Some one.2.0) (placed one.0 line.state one.2.0 one.2.1) one.2.1, one.2.2))
+        lines (All-permutation (IsLineBelow rows i) all lines permuted are.sound)
+
+    pub are_lines : AreLinesOf guide rows lines
+    are_lines =
+        record {
+          ascending = ascending;
+          sound = of_row;
+          complete = λ state row found.
+              Contains-permutation all lines (line_of state row) permuted (are.complete (guide.home state) state row (below (guide.home state) state row found) found);
+        }
+
+-- ---- the certificate is valid
+
+pub certifies : (rows : Rows) (weight stated : Weight) (lines : List Line) → weight ≡ stated → ((guide : Guide) → IsPlaced guide.home rows → AreLinesOf guide rows lines)
+    → (space : Space) (guide : Guide) (incumbent : Option ℕ) (plan : Option Plan) → IsSound space guide (store_with rows weight incumbent) → IsQuiet (store_with rows weight incumbent)
+    → IsPlanIfAny space plan → IsBackedBy incumbent plan → IsValid space guide.estimate (record { weight = stated; plan = plan; lines = lines })
+certifies rows weight stated lines same are space guide incumbent plan sound quiet is_plan backed =
+    subst (λ w. IsValid space guide.estimate (record { weight = w; plan = plan; lines = lines })) same
+    (quiet_stores_certify space guide (store_with rows weight incumbent) plan lines sound quiet (are guide (λ home state row found. (sound.place home state row found).0)) is_plan backed)

@@ -1,17 +1,17 @@
--- A bundle with the rows of the start and of one of its successors, both Opened, is that of a sound store.
-use Rattle.std.proofs.Common.{◌≡◌, ◌≢◌, ◌⊎◌, inl, inr, ℕ, ◌==◌, false, Option, None, Some, IsTrue, if◌then◌else◌, refl, sym, subst, ap, arith, ◌∙◌}
+-- A store with the rows of the start and of one of its successors, both Opened, is sound: in one bundle, and in two.
+use Rattle.std.proofs.Common.{◌≡◌, ◌≢◌, ◌⊎◌, inl, inr, ℕ, ◌+◌, ◌≤◌, ◌==◌, Bool, true, false, Option, None, Some, IsTrue, if◌then◌else◌, refl, sym, subst, ap, arith, ◌∙◌}
 use Rattle.pb_model.specs.declared.row.Row.{Row}
 use Rattle.pb_model.specs.declared.row.Estimate.TheVariants.{Cost}
 use Rattle.pb_model.specs.declared.row.Status.{Status}
 use Rattle.pb_model.specs.declared.row.Status.TheVariants.{Opened, Closed, Cut}
 use Rattle.pb_model.specs.Space.{Space, Steps, IsProper}
-use Rattle.pb_model.specs.Weight.{IsWeight}
+use Rattle.pb_model.specs.Weight.{Weight, IsWeight}
 use Rattle.pb_model.specs.Work.{offered_row}
+use Rattle.pb_model.specs.Store.{Part, Rows}
 use Rattle.pb_model.specs.Sound.{HasParent}
 use Rattle.pb_model.proofs.Tests.{by_cases, equal, equal_self, not_both}
-use Rattle.pb_lists.specs.Bundle.{Content, row_of, store_of, SetsRow}
-use Rattle.pb_cert.specs.Traced.{IsSoundContent, HasGoal, one_part_guide}
-use Rattle.pb_cert.proofs.Back.{if_some}
+use Rattle.pb_lists.specs.Bundle.{Content, row_of, SetsRow}
+use Rattle.pb_cert.specs.Store.{IsSoundAt, guide_with, store_with, rows_at_home, one_part_rows}
 
 differs : (a b : ℕ) → (a == b) ≡ false → a ≢ b
 differs a b test e = not_both (a == b) (ap (λ n. n == b) e ∙ equal_self b) test
@@ -28,82 +28,172 @@ not_closed status x y = cc
 not_cut : (status : Status) → status ≡ Opened → status ≡ Cut → ⊥
 not_cut status x y = cc
 
-when_true : (home : ℕ) (row : Option Row) (is : Row) → (if home == 0 then row else None) ≡ Some is → home ≡ 0
-when_true home row is e = by_cases (home == 0) (λ t. equal home 0 t) (λ f. absurd (none_found (if home == 0 then row else None) is (ap (λ b. if b then row else None) f) e))
+if_true : (b : Bool) (x y : Option Row) (row : Row) → b ≡ true → (if b then x else y) ≡ Some row → x ≡ Some row
+if_true b x y row t is = subst (λ c. (if c then x else y) ≡ Some row) t is
 
-module _ (space : Space) (greatest_cost : ℕ) (proper : IsProper space greatest_cost) (action next cost : ℕ) (step : Steps space space.start action next cost) (other : next ≢ space.start) (empty one two : Content)
-    (none : (state : ℕ) → row_of empty state ≡ None)
-    (first : SetsRow (row_of empty) (row_of one) space.start (offered_row 0 (Cost 0) None 0 (row_of empty space.start)))
-    (second : SetsRow (row_of one) (row_of two) next (offered_row cost (Cost 0) (Some space.start) action (row_of one next)))
-    (weight : two.weight ≡ record { num = 1; den = 1 }) where
-  start_row : Row
-  start_row = offered_row 0 (Cost 0) None 0 None
+if_false : (b : Bool) (x y : Option Row) (row : Row) → b ≡ false → (if b then x else y) ≡ Some row → y ≡ Some row
+if_false b x y row f is = subst (λ c. (if c then x else y) ≡ Some row) f is
 
-  next_row : Row
-  next_row = offered_row cost (Cost 0) (Some space.start) action None
+-- ---- the rows
 
-  has_start : row_of two space.start ≡ Some (offered_row 0 (Cost 0) None 0 None)
-  has_start = second.others space.start (λ e. other (sym e)) ∙ first.here ∙ ap (λ row. Some (offered_row 0 (Cost 0) None 0 row)) (none space.start)
+abbrev pub start_row : Row
+start_row = offered_row 0 (Cost 0) None 0 None
 
-  has_next : row_of two next ≡ Some (offered_row cost (Cost 0) (Some space.start) action None)
-  has_next = second.here ∙ ap (λ row. Some (offered_row cost (Cost 0) (Some space.start) action row)) (first.others next other ∙ none next)
+abbrev pub next_row : (start cost action : ℕ) → Row
+next_row start cost action = offered_row cost (Cost 0) (Some start) action None
 
-  which : (state : ℕ) (row : Row) → row_of two state ≡ Some row
-      → ((state ≡ space.start) × (row ≡ offered_row 0 (Cost 0) None 0 None)) ⊎ ((state ≡ next) × (row ≡ offered_row cost (Cost 0) (Some space.start) action None))
-  which state row found =
-      by_cases (state == space.start)
-      (λ t. let e : state ≡ space.start = equal state space.start t in inl (e, same_row (row_of two space.start) row (offered_row 0 (Cost 0) None 0 None) (subst (λ s. row_of two s ≡ Some row) e found) has_start))
-      (λ f. by_cases (state == next)
-      (λ t. let e : state ≡ next = equal state next t in inr (e, same_row (row_of two next) row (offered_row cost (Cost 0) (Some space.start) action None) (subst (λ s. row_of two s ≡ Some row) e found) has_next))
-      (λ g. absurd (none_found (row_of two state) row (second.others state (differs state next g) ∙ first.others state (differs state space.start f) ∙ none state) found)))
+-- these are the start's row and its successor's, each in the part that is its state's home, and there is no other
+pub record AreTwo (start next cost action : ℕ) (homes : ℕ → ℕ) (rows : Rows) : Type 0 where
+  pub has_start : rows_at_home homes rows start ≡ Some start_row
+  pub has_next : rows_at_home homes rows next ≡ Some (next_row start cost action)
+  pub placed : (home state : ℕ) (row : Row) → rows home state ≡ Some row → home ≡ homes state
+  pub which : (home state : ℕ) (row : Row) → rows home state ≡ Some row → ((state ≡ start) × (row ≡ start_row)) ⊎ ((state ≡ next) × (row ≡ next_row start cost action))
 
-  opened : (state : ℕ) (row : Row) → row_of two state ≡ Some row → row.status ≡ Opened
-  opened state row found = elim (which state row found) [ inl h ↦ ap (λ (r : Row). r.status) h.1 | inr h ↦ ap (λ (r : Row). r.status) h.1 ]
+module _ (space : Space) (greatest_cost : ℕ) (proper : IsProper space greatest_cost) (action next cost : ℕ) (step : Steps space space.start action next cost) (homes : ℕ → ℕ) (rows : Rows)
+    (are : AreTwo space.start next cost action homes rows) (weight : Weight) (unweighted : weight ≡ record { num = 1; den = 1 }) where
+  opened : (home state : ℕ) (row : Row) → rows home state ≡ Some row → row.status ≡ Opened
+  opened home state row found = elim (are.which home state row found) [ inl h ↦ ap (λ (r : Row). r.status) h.1 | inr h ↦ ap (λ (r : Row). r.status) h.1 ]
 
-  known : (state : ℕ) (row : Row) → row_of two state ≡ Some row → IsTrue (space.is_state state) × (row.estimate ≡ Cost 0)
-  known state row found = elim (which state row found) [
+  known : (home state : ℕ) (row : Row) → rows home state ≡ Some row → IsTrue (space.is_state state) × (row.estimate ≡ Cost 0)
+  known home state row found = elim (are.which home state row found) [
     | inl h ↦ (subst (λ s. IsTrue (space.is_state s)) (sym h.0) proper.start, ap (λ (r : Row). r.estimate) h.1)
     | inr h ↦ (subst (λ s. IsTrue (space.is_state s)) (sym h.0) (proper.to_state space.start action next cost step), ap (λ (r : Row). r.estimate) h.1)
   ]
 
-  come : (state : ℕ) (row : Row) → row_of two state ≡ Some row → (state ≡ space.start) ⊎ HasParent space one_part_guide (store_of two None) state row
-  come state row found = elim (which state row found) [
+  come : (state : ℕ) (row : Row) → rows_at_home homes rows state ≡ Some row → (state ≡ space.start) ⊎ HasParent space (guide_with (λ state. Cost 0) homes) (store_with rows weight None) state row
+  come state row found = elim (are.which (homes state) state row found) [
     | inl h ↦ inl h.0
-    | inr h ↦ inr (subst (λ s. HasParent space one_part_guide (store_of two None) s row) (sym h.0) (subst (HasParent space one_part_guide (store_of two None) next) (sym h.1) (record {
+    | inr h ↦ inr (record {
       parent = space.start;
-      parent_row = offered_row 0 (Cost 0) None 0 None;
+      parent_row = start_row;
       cost = cost;
-      named = refl;
-      found = has_start;
-      step = step;
-      cheaper = omega arith;
-    })))
+      named = ap (λ (r : Row). r.parent) h.1;
+      found = are.has_start;
+      step = subst (λ a. Steps space space.start a state cost) (sym (ap (λ (r : Row). r.action) h.1)) (subst (λ s. Steps space space.start action s cost) (sym h.0) step);
+      cheaper = subst (λ g. 0 + cost ≤ g) (sym (ap (λ (r : Row). r.g) h.1)) (omega arith);
+    })
   ]
 
-  pub two_rows_are_sound : IsSoundContent space two
+  pub two_rows_are_sound : IsSoundAt space homes rows weight
   two_rows_are_sound = (
-    one_part_guide,
+    λ state. Cost 0,
     None,
     record {
-      place = λ home state row found. let here = if_some (home == 0) (row_of two state) row found in (when_true home (row_of two state) row found, (known state row here).0, (known state row here).1);
-      start = (offered_row 0 (Cost 0) None 0 None, has_start, omega arith);
+      place = λ home state row found. (are.placed home state row found, (known home state row found).0, (known home state row found).1);
+      start = (start_row, are.has_start, omega arith);
       parent = come;
-      closed = λ state row found closed. absurd (not_closed row.status (opened state row found) closed);
-      no_goal = λ state row found closed. absurd (not_closed row.status (opened state row found) closed);
-      cut = λ state row found cut. absurd (not_cut row.status (opened state row found) cut);
-      weight = subst IsWeight (sym weight) (record { positive = omega arith; at_least_one = omega arith; small = omega arith });
+      closed = λ state row found closed. absurd (not_closed row.status (opened (homes state) state row found) closed);
+      no_goal = λ state row found closed. absurd (not_closed row.status (opened (homes state) state row found) closed);
+      cut = λ state row found cut. absurd (not_cut row.status (opened (homes state) state row found) cut);
+      weight = subst IsWeight (sym unweighted) (record { positive = omega arith; at_least_one = omega arith; small = omega arith });
     },
   )
 
-  pub next_is_goal : IsTrue (space.is_goal next) → HasGoal space (row_of two)
-  next_is_goal is_goal = (next, offered_row cost (Cost 0) (Some space.start) action None, has_next, is_goal)
+-- ---- in one bundle
 
--- the same, where the start is known by another name
-pub step_is_sound : (space : Space) (greatest_cost : ℕ) → IsProper space greatest_cost → (start action next cost : ℕ) (empty one two : Content) → start ≡ space.start → ((state : ℕ) → row_of empty state ≡ None)
+module _ (start next cost action : ℕ) (other : next ≢ start) (empty one two : Content) (none : (state : ℕ) → row_of empty state ≡ None)
+    (first : SetsRow (row_of empty) (row_of one) start (offered_row 0 (Cost 0) None 0 (row_of empty start)))
+    (second : SetsRow (row_of one) (row_of two) next (offered_row cost (Cost 0) (Some start) action (row_of one next))) where
+  has_start : row_of two start ≡ Some start_row
+  has_start = second.others start (λ e. other (sym e)) ∙ first.here ∙ ap (λ row. Some (offered_row 0 (Cost 0) None 0 row)) (none start)
+
+  has_next : row_of two next ≡ Some (next_row start cost action)
+  has_next = second.here ∙ ap (λ row. Some (offered_row cost (Cost 0) (Some start) action row)) (first.others next other ∙ none next)
+
+  which : (state : ℕ) (row : Row) → row_of two state ≡ Some row → ((state ≡ start) × (row ≡ start_row)) ⊎ ((state ≡ next) × (row ≡ next_row start cost action))
+  which state row found =
+      by_cases (state == start)
+      (λ t. let e : state ≡ start = equal state start t in inl (e, same_row (row_of two start) row start_row (subst (λ s. row_of two s ≡ Some row) e found) has_start))
+      (λ f. by_cases (state == next)
+      (λ t. let e : state ≡ next = equal state next t in inr (e, same_row (row_of two next) row (next_row start cost action) (subst (λ s. row_of two s ≡ Some row) e found) has_next))
+      (λ g. absurd (none_found (row_of two state) row (second.others state (differs state next g) ∙ first.others state (differs state start f) ∙ none state) found)))
+
+  at_zero : (home state : ℕ) (row : Row) → one_part_rows two home state ≡ Some row → (home ≡ 0) × (row_of two state ≡ Some row)
+  at_zero home state row found =
+      by_cases (home == 0)
+      (λ t. (equal home 0 t, if_true (home == 0) (row_of two state) None row t found))
+      (λ f. absurd (none_found None row refl (if_false (home == 0) (row_of two state) None row f found)))
+
+  pub two_in_one : AreTwo start next cost action (λ state. 0) (one_part_rows two)
+  two_in_one =
+      record {
+        has_start = has_start;
+        has_next = has_next;
+        placed = λ home state row found. (at_zero home state row found).0;
+        which = λ home state row found. which state row (at_zero home state row found).1;
+      }
+
+-- ---- in two bundles
+
+abbrev pub two_part_rows : (first second : Content) → Rows
+two_part_rows first second home state = if home == 0 then row_of first state else if home == 1 then row_of second state else None
+
+-- the start is at home in part 0, and all else in part 1
+abbrev pub home_by_start : (start state : ℕ) → ℕ
+home_by_start start state = if state == start then 0 else 1
+
+one_row : (part of : Part) (state : ℕ) (new : Option Row → Row) → ((state : ℕ) → part state ≡ None) → SetsRow part of state (new (part state))
+    → (of state ≡ Some (new None)) × ((other : ℕ) (row : Row) → of other ≡ Some row → (other ≡ state) × (row ≡ new None))
+one_row part of state new none sets =
+    let here : of state ≡ Some (new None) = sets.here ∙ ap (λ row. Some (new row)) (none state) in (
+      here,
+      λ other row found. by_cases (other == state)
+          (λ t. let e : other ≡ state = equal other state t in (e, same_row (of state) row (new None) (subst (λ s. of s ≡ Some row) e found) here))
+          (λ f. absurd (none_found (of other) row (sets.others other (differs other state f) ∙ none other) found)),
+    )
+
+module _ (start next cost action : ℕ) (other : next ≢ start) (empty one two empty_two : Content) (none : (state : ℕ) → row_of empty state ≡ None) (none_two : (state : ℕ) → row_of empty_two state ≡ None)
+    (first : SetsRow (row_of empty) (row_of one) start (offered_row 0 (Cost 0) None 0 (row_of empty start)))
+    (second : SetsRow (row_of empty_two) (row_of two) next (offered_row cost (Cost 0) (Some start) action (row_of empty_two next))) where
+  in_first : (row_of one start ≡ Some start_row) × ((other : ℕ) (row : Row) → row_of one other ≡ Some row → (other ≡ start) × (row ≡ start_row))
+  in_first = one_row (row_of empty) (row_of one) start (offered_row 0 (Cost 0) None 0) none first
+
+  in_second : (row_of two next ≡ Some (next_row start cost action)) × ((other : ℕ) (row : Row) → row_of two other ≡ Some row → (other ≡ next) × (row ≡ next_row start cost action))
+  in_second = one_row (row_of empty_two) (row_of two) next (offered_row cost (Cost 0) (Some start) action) none_two second
+
+  home_of_start : home_by_start start start ≡ 0
+  home_of_start = ap (λ b. if b then 0 else 1) (equal_self start)
+
+  home_of_next : home_by_start start next ≡ 1
+  home_of_next = by_cases (next == start) (λ t. absurd (other (equal next start t))) (λ f. ap (λ b. if b then 0 else 1) f)
+
+  -- where a row stands
+  at_one : (home state : ℕ) (row : Row) → two_part_rows one two home state ≡ Some row → ((home ≡ 0) × (row_of one state ≡ Some row)) ⊎ ((home ≡ 1) × (row_of two state ≡ Some row))
+  at_one home state row found =
+      by_cases (home == 0)
+      (λ t. inl (equal home 0 t, if_true (home == 0) (row_of one state) (if home == 1 then row_of two state else None) row t found))
+      (λ f. let there = if_false (home == 0) (row_of one state) (if home == 1 then row_of two state else None) row f found in
+      by_cases (home == 1)
+      (λ t. inr (equal home 1 t, if_true (home == 1) (row_of two state) None row t there))
+      (λ g. absurd (none_found None row refl (if_false (home == 1) (row_of two state) None row g there))))
+
+  pub two_in_two : AreTwo start next cost action (home_by_start start) (two_part_rows one two)
+  two_in_two =
+      record {
+        has_start = ap (λ home. two_part_rows one two home start) home_of_start ∙ in_first.0;
+        has_next = ap (λ home. two_part_rows one two home next) home_of_next ∙ in_second.0;
+        placed = λ home state row found. elim (at_one home state row found) [
+          | inl h ↦ h.0 ∙ sym home_of_start ∙ sym (ap (home_by_start start) (in_first.1 state row h.1).0)
+          | inr h ↦ h.0 ∙ sym home_of_next ∙ sym (ap (home_by_start start) (in_second.1 state row h.1).0)
+        ];
+        which = λ home state row found. elim (at_one home state row found) [ inl h ↦ inl (in_first.1 state row h.1) | inr h ↦ inr (in_second.1 state row h.1) ];
+      }
+
+-- ---- the same, where the start is known by another name
+
+pub one_part_is_sound : (space : Space) (greatest_cost : ℕ) → IsProper space greatest_cost → (start action next cost : ℕ) (empty one two : Content) → start ≡ space.start → ((state : ℕ) → row_of empty state ≡ None)
     → two.weight ≡ record { num = 1; den = 1 } → Steps space start action next cost → false ≡ (next == start)
     → SetsRow (row_of empty) (row_of one) start (offered_row 0 (Cost 0) None 0 (row_of empty start))
-    → SetsRow (row_of one) (row_of two) next (offered_row cost (Cost 0) (Some start) action (row_of one next)) → IsSoundContent space two
-step_is_sound space greatest_cost proper start action next cost empty one two same none weight =
-    subst (λ s. Steps space s action next cost → false ≡ (next == s) → SetsRow (row_of empty) (row_of one) s (offered_row 0 (Cost 0) None 0 (row_of empty s))
-    → SetsRow (row_of one) (row_of two) next (offered_row cost (Cost 0) (Some s) action (row_of one next)) → IsSoundContent space two) (sym same)
-    (λ step other first second. two_rows_are_sound space greatest_cost proper action next cost step (differs next space.start (sym other)) empty one two none first second weight)
+    → SetsRow (row_of one) (row_of two) next (offered_row cost (Cost 0) (Some start) action (row_of one next)) → IsSoundAt space (λ state. 0) (one_part_rows two) two.weight
+one_part_is_sound space greatest_cost proper start action next cost empty one two same none weight step other first second =
+    two_rows_are_sound space greatest_cost proper action next cost (subst (λ s. Steps space s action next cost) same step) (λ state. 0) (one_part_rows two)
+    (subst (λ s. AreTwo s next cost action (λ state. 0) (one_part_rows two)) same (two_in_one start next cost action (differs next start (sym other)) empty one two none first second)) two.weight weight
+
+pub two_parts_are_sound : (space : Space) (greatest_cost : ℕ) → IsProper space greatest_cost → (start action next cost : ℕ) (empty one two empty_two : Content) → start ≡ space.start → ((state : ℕ) → row_of empty state ≡ None)
+    → ((state : ℕ) → row_of empty_two state ≡ None) → one.weight ≡ record { num = 1; den = 1 } → Steps space start action next cost → false ≡ (next == start)
+    → SetsRow (row_of empty) (row_of one) start (offered_row 0 (Cost 0) None 0 (row_of empty start))
+    → SetsRow (row_of empty_two) (row_of two) next (offered_row cost (Cost 0) (Some start) action (row_of empty_two next))
+    → IsSoundAt space (home_by_start space.start) (two_part_rows one two) one.weight
+two_parts_are_sound space greatest_cost proper start action next cost empty one two empty_two same none none_two weight step other first second =
+    two_rows_are_sound space greatest_cost proper action next cost (subst (λ s. Steps space s action next cost) same step) (home_by_start space.start) (two_part_rows one two)
+    (subst (λ s. AreTwo s next cost action (home_by_start s) (two_part_rows one two)) same (two_in_two start next cost action (differs next start (sym other)) empty one two empty_two none none_two first second)) one.weight weight

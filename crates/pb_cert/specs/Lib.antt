@@ -1,3 +1,5 @@
+pub mod Store
 pub mod Traced
+pub mod Listed
 pub mod Stated
 pub mod Saved

@@ -1,15 +1,13 @@
-ghost use Rattle.std.specs.Prelude.{◌≡◌, ◌≤◌, ℕ, Option, None, IfOk, length, option_copied};
+ghost use Rattle.std.specs.Prelude.{◌≡◌, ◌≤◌, ℕ, Option, IfOk, length, option_copied};
 ghost use Rattle.pb_model.specs.Space.{Space};
 ghost use Rattle.pb_model.specs.Guide.{Guide};
 ghost use Rattle.pb_model.specs.Store.{IsQuiet};
 ghost use Rattle.pb_model.specs.Sound.{IsSound};
-ghost use Rattle.pb_model.specs.Certificate.{AreLinesOf, IsPlanIfAny, IsBackedBy, IsValid, line_of};
-ghost use Rattle.pb_lists.specs.Bundle.{store_of};
-ghost use Rattle.pb_cert.specs.Traced.{one_part_guide};
+ghost use Rattle.pb_model.specs.Certificate.{AreLinesOf, IsPlanIfAny, IsBackedBy, IsValid};
+ghost use Rattle.pb_cert.specs.Store.{IsPlaced, store_with};
 
-use crate::Plan;
-use pb_lists::Bundle;
-use pb_model::{Row, Status};
+use crate::rows::lines_for;
+use crate::{Plan, Store};
 use pb_packed::Packed;
 use std::alloc::{AllocError, Global};
 use std::marker::Model;
@@ -51,51 +49,28 @@ impl Model for Certificate {
     ghost invariant = { λ c. length c.kind.now ≤ 64 };
 }
 
-// The line of a state's row.
-fn line_for(state: &Packed, row: &Row) -> Line
-    ensures { result ≡ line_of state.now row.now }
-{
-    Line {
-        state: *state,
-        g: row.g,
-        is_closed: row.status == Status::Closed,
-    }
-}
-
-// The lines of all rows, by state.
-fn lines_for(alloc: Global, bundle: &Bundle) -> Result<Vec<Line>, AllocError>
-    ensures { IfOk result (λ lines. AreLinesOf one_part_guide (store_of bundle.now None).rows lines.items) }
-{
-    let mut lines = Vec::new(alloc);
-    'rows: for i in 0..bundle.len() {
-        let (state, row) = bundle.at(i);
-        lines.push(line_for(state, row))?;
-    }
-    lines.sort_by_key(|line| line.state)?;
-    Ok(lines)
-}
-
 impl Certificate {
-    /// The certificate of a bundle's rows, for a search at the weight num / den, with a plan or with the claim that there is
+    /// The certificate of a store's rows, for a search at the weight num / den, with a plan or with the claim that there is
     /// none. `kind` is what a task of its kind is called on a command line. An error is want of memory.
-    pub fn of(
+    pub fn of<S: Store>(
         alloc: Global,
         kind: &'static str,
         num: u64,
         den: u64,
         plan: Option<Plan>,
-        bundle: &Bundle,
+        store: &S,
     ) -> Result<Certificate, AllocError>
         requires kind { length kind.now ≤ 64 }
-        requires weight { bundle.now.weight ≡ record { num = num; den = den } }
+        requires whole { S.is_whole store.now }
+        requires weight { S.weight store.now ≡ record { num = num; den = den } }
         ensures kind { IfOk result (λ c. c.kind ≡ kind.now) }
-        ensures weight { IfOk result (λ c. c.certificate.weight ≡ bundle.now.weight) }
+        ensures weight { IfOk result (λ c. c.certificate.weight ≡ S.weight store.now) }
         ensures plan { IfOk result (λ c. c.certificate.plan ≡ plan) }
-        ensures lines { IfOk result (λ c. AreLinesOf one_part_guide (store_of bundle.now None).rows c.certificate.lines) }
-        ensures valid { IfOk result (λ c. (space : Space) (guide : Guide) (incumbent : Option ℕ) → IsSound space guide (store_of bundle.now incumbent) → IsQuiet (store_of bundle.now incumbent)
-            → IsPlanIfAny space plan → IsBackedBy incumbent plan → IsValid space guide.estimate c.certificate) }
+        ensures lines { IfOk result (λ c. (guide : Guide) → IsPlaced guide.home (S.rows store.now) → AreLinesOf guide (S.rows store.now) c.certificate.lines) }
+        ensures valid { IfOk result (λ c. (space : Space) (guide : Guide) (incumbent : Option ℕ) → IsSound space guide (store_with (S.rows store.now) (S.weight store.now) incumbent)
+            → IsQuiet (store_with (S.rows store.now) (S.weight store.now) incumbent) → IsPlanIfAny space plan → IsBackedBy incumbent plan → IsValid space guide.estimate c.certificate) }
     {
-        let lines = lines_for(alloc, bundle)?;
+        let lines = lines_for(alloc, store)?;
         Ok(Certificate {
             kind,
             num,

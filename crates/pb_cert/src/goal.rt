@@ -1,8 +1,9 @@
 ghost use Rattle.std.specs.Prelude.{◌≡◌, ◌⊎◌, ◌↔◌, ◌<◌, ◌^◌, ℕ, IsTrue, Some, IfSome, IfNone};
 ghost use Rattle.pb_lists.specs.Bundle.{row_of};
 ghost use Rattle.pb_task.specs.Parts.{space_of};
-ghost use Rattle.pb_cert.specs.Traced.{HasGoal, IsFirstGoal, IsNoLater, HasNoLater};
+ghost use Rattle.pb_cert.specs.Traced.{HasGoal, IsFirstGoal, IsFirstIn, HasRowIn, IsNoLater, HasNoLater};
 
+use crate::Store;
 use pb_lists::Bundle;
 use pb_model::Row;
 use pb_packed::Packed;
@@ -16,12 +17,27 @@ pub(crate) struct Goal {
 }
 
 // The goal whose row has the least g, and at one g the goal that is the least state. None where no goal has a row.
-pub(crate) fn first_goal(task: &Task, bundle: &Bundle) -> Option<Goal>
-    ensures some { IfSome result (λ goal. IsFirstGoal (space_of task.now) (row_of bundle.now) goal.state goal.g) }
+pub(crate) fn first_goal<S: Store>(task: &Task, store: &S) -> Option<Goal>
+    requires whole { S.is_whole store.now }
+    ensures some { IfSome result (λ goal. IsFirstGoal (space_of task.now) (S.rows store.now) goal.state goal.g) }
     ensures small { IfSome result (λ goal. goal.g < 2 ^ 64) }
-    ensures none { IfNone result (HasGoal (space_of task.now) (row_of bundle.now) → ⊥) }
+    ensures none { IfNone result (HasGoal (space_of task.now) (S.rows store.now) → ⊥) }
 {
     let mut first = None;
+    'parts: for i in 0..store.parts() {
+        first = first_in(task, first, store.part(i));
+    }
+    first
+}
+
+// The first of the goal so far, if there is one, and of the goals that have a row in this part.
+fn first_in(task: &Task, so_far: Option<Goal>, bundle: &Bundle) -> Option<Goal>
+    ensures kept { (g other : ℕ) → HasNoLater so_far g other → HasNoLater result g other }
+    ensures small { IfSome so_far (λ goal. goal.g < 2 ^ 64) → IfSome result (λ goal. goal.g < 2 ^ 64) }
+    ensures here { IsFirstIn (space_of task.now) (row_of bundle.now) result }
+    ensures from { (result ≡ so_far) ⊎ HasRowIn (space_of task.now) (row_of bundle.now) result }
+{
+    let mut first = so_far;
     'rows: for i in 0..bundle.len() {
         let (state, row) = bundle.at(i);
         first = first_of(task, first, state, row);

@@ -5,12 +5,17 @@ mod certificate;
 mod goal;
 mod lines;
 mod plan;
+mod rows;
 mod saving;
+mod store;
 mod tracing;
 
 pub use certificate::Certificate;
 pub use plan::Plan;
+pub use store::Store;
 pub use tracing::trace;
 
+#[cfg(test)]
+mod halves;
 #[cfg(test)]
 mod tests;

@@ -1,5 +1,6 @@
 ghost use Rattle.std.specs.Prelude.{◌≡◌, IfOk};
 
+use crate::halves::Halves;
 use crate::{Certificate, Plan, trace};
 use pb_lists::Bundle;
 use pb_model::{Estimate, Status};
@@ -102,6 +103,36 @@ fn a_certificate_with_a_plan_is_saved(rt: HostRuntime) -> Result<(), Fail> {
 }
 
 #[test]
+fn a_certificate_of_two_parts_is_saved(rt: HostRuntime) -> Result<(), Fail> {
+    let first = [
+        (0x1002, 4, Status::Cut),
+        (0x0801, 2, Status::Closed),
+        (0x0000, 0, Status::Closed),
+        (0x0802, 3, Status::Closed),
+    ];
+    let second = [
+        (0x1001, 3, Status::Closed),
+        (0x0001, 1, Status::Closed),
+        (0x0800, 1, Status::Closed),
+        (0x0002, 2, Status::Closed),
+        (0x1000, 2, Status::Closed),
+    ];
+    let store = Halves {
+        first: bundle_of(rt.alloc(), &first)?,
+        second: bundle_of(rt.alloc(), &second)?,
+    };
+    let actions = vec![in rt.alloc(); 3, 3, 1, 1]?;
+    let plan = Plan { actions, cost: 4 };
+    let certificate = Certificate::of(rt.alloc(), "grid", 1, 1, Some(plan), &store)?;
+    let mut shelf = MemShelf::new(rt.alloc())?;
+    shelf.reserve("c", 736)?;
+    certificate.write_to(&mut shelf, "c")?;
+    assert!(rt; shelf.has("c"));
+    assert!(rt; shelf.file("c") == OPEN_SQUARE.as_bytes());
+    Ok(())
+}
+
+#[test]
 fn a_certificate_without_a_plan_is_saved(rt: HostRuntime) -> Result<(), Fail> {
     let rows = [
         (2, 2, Status::Closed),
@@ -140,17 +171,59 @@ fn plan_of_step(alloc: Global, task: &Task, action: u32) -> Result<Option<Plan>,
     Ok(Some(plan))
 }
 
-#[test]
-fn a_plan_is_read_off_the_rows(rt: HostRuntime) -> Result<(), Fail> {
-    let classes = vec![in rt.alloc(); Class::Water, Class::Water]?;
-    let task = Task::of_grid(GridParts {
+// The same where the rows of the start and of that state stand in two parts.
+fn plan_over_two_parts(
+    alloc: Global,
+    task: &Task,
+    action: u32,
+) -> Result<Option<Plan>, AllocError> {
+    let start = task.initial();
+    let Some((next, cost)) = task.apply(&start, action) else {
+        return Ok(None);
+    };
+    if next == start {
+        return Ok(None);
+    }
+    if !task.is_goal(&next) {
+        return Ok(None);
+    }
+    let mut first = Bundle::new(alloc, 1, 1)?;
+    let mut second = Bundle::new(alloc, 1, 1)?;
+    first.offer(start, 0, Estimate::Cost(0), None, 0)?;
+    second.offer(next, cost, Estimate::Cost(0), Some(start), action)?;
+    let store = Halves { first, second };
+    let plan = trace(alloc, task, &store)?;
+    Ok(Some(plan))
+}
+
+// A task of two cells of water, from the left to the right one.
+fn two_cells(alloc: Global) -> Result<Task, AllocError> {
+    let classes = vec![in alloc; Class::Water, Class::Water]?;
+    Ok(Task::of_grid(GridParts {
         width: 2,
         height: 1,
         cells: Cells::of(classes),
         start: (0, 0),
         goal: (1, 0),
-    });
+    }))
+}
+
+#[test]
+fn a_plan_is_read_off_the_rows(rt: HostRuntime) -> Result<(), Fail> {
+    let task = two_cells(rt.alloc())?;
     let plan = plan_of_step(rt.alloc(), &task, 3)?;
+    assert!(rt; plan.is_some());
+    if let Some(plan) = plan {
+        assert!(rt; plan.actions() == [3u32].as_slice());
+        assert!(rt; plan.cost() == 1);
+    }
+    Ok(())
+}
+
+#[test]
+fn a_plan_is_read_off_the_rows_of_two_parts(rt: HostRuntime) -> Result<(), Fail> {
+    let task = two_cells(rt.alloc())?;
+    let plan = plan_over_two_parts(rt.alloc(), &task, 3)?;
     assert!(rt; plan.is_some());
     if let Some(plan) = plan {
         assert!(rt; plan.actions() == [3u32].as_slice());

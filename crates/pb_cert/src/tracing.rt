@@ -1,13 +1,13 @@
-ghost use Rattle.std.specs.Prelude.{◌≡◌, ◌≢◌, ◌≤◌, ℕ, IsTrue, Some, IfOk};
+ghost use Rattle.std.specs.Prelude.{◌≡◌, ◌≢◌, ◌≤◌, ℕ, IsTrue, None, Some, IfOk, option_copied};
 ghost use Rattle.pb_model.specs.declared.row.Row.{Row};
 ghost use Rattle.pb_model.specs.Plan.{IsPlan};
-ghost use Rattle.pb_lists.specs.Bundle.{row_of};
 ghost use Rattle.pb_task.specs.Parts.{space_of, IsTask};
-ghost use Rattle.pb_cert.specs.Traced.{IsSoundContent, HasGoal, IsTrace, IsLastStep};
+ghost use Rattle.pb_cert.specs.Store.{IsSoundAt, rows_at_home, guide_to, store_with};
+ghost use Rattle.pb_cert.specs.Traced.{HasGoal, IsTrace, IsLastStep};
 
-use crate::Plan;
 use crate::goal::first_goal;
-use pb_lists::Bundle;
+use crate::{Plan, Store};
+use pb_model::Row;
 use pb_packed::Packed;
 use pb_task::Task;
 use std::alloc::{AllocError, Global};
@@ -20,15 +20,28 @@ struct Step {
     cost: u64,
 }
 
-// The last step of the way to a state, as its row tells.
-fn last_step(task: &Task, bundle: &Bundle, state: &Packed) -> Step
-    requires lawful { IsTask task.now }
-    requires sound { IsSoundContent (space_of task.now) bundle.now }
-    requires found { (row : Row) × (row_of bundle.now state.now ≡ Some row) }
-    requires not_start { state.now ≢ (space_of task.now).start }
-    ensures { IsLastStep (space_of task.now) (row_of bundle.now) state.now result.action result.parent result.cost }
+// The row of a state in the part that is its home, or None where it has none.
+fn row_at_home<'a, S: Store>(task: &Task, store: &'a S, state: &Packed) -> Option<&'a Row>
+    requires whole { S.is_whole store.now }
+    requires of_task { S.is_of store.now task.now }
+    requires is_state { IsTrue ((space_of task.now).is_state state.now) }
+    ensures { option_copied result ≡ rows_at_home (S.home store.now task.now) (S.rows store.now) state.now }
 {
-    let Some(row) = bundle.row(state) else {
+    let home = store.home(task, state);
+    store.part(home).row(state)
+}
+
+// The last step of the way to a state, as its row tells.
+fn last_step<S: Store>(task: &Task, store: &S, state: &Packed) -> Step
+    requires lawful { IsTask task.now }
+    requires whole { S.is_whole store.now }
+    requires of_task { S.is_of store.now task.now }
+    requires sound { IsSoundAt (space_of task.now) (S.home store.now task.now) (S.rows store.now) (S.weight store.now) }
+    requires found { (row : Row) × (rows_at_home (S.home store.now task.now) (S.rows store.now) state.now ≡ Some row) }
+    requires not_start { state.now ≢ (space_of task.now).start }
+    ensures { IsLastStep (space_of task.now) (rows_at_home (S.home store.now task.now) (S.rows store.now)) state.now result.action result.parent result.cost }
+{
+    let Some(row) = row_at_home(task, store, state) else {
         unreachable!()
     };
     let Some(parent) = row.parent else {
@@ -47,22 +60,24 @@ fn last_step(task: &Task, bundle: &Bundle, state: &Packed) -> Step
 /// The plan that the rows tell: the actions on the way from the start to the goal whose row has the least g (at one g, the goal
 /// that is the least state), as parents and actions of the rows have it, and the sum of what these actions cost. An error is
 /// want of memory.
-pub fn trace(alloc: Global, task: &Task, bundle: &Bundle) -> Result<Plan, AllocError>
-    requires sound { IsSoundContent (space_of task.now) bundle.now }
-    requires goal { HasGoal (space_of task.now) (row_of bundle.now) }
+pub fn trace<S: Store>(alloc: Global, task: &Task, store: &S) -> Result<Plan, AllocError>
+    requires whole { S.is_whole store.now }
+    requires of_task { S.is_of store.now task.now }
+    requires sound { IsSoundAt (space_of task.now) (S.home store.now task.now) (S.rows store.now) (S.weight store.now) }
+    requires goal { HasGoal (space_of task.now) (S.rows store.now) }
     ensures plan { IfOk result (λ plan. IsPlan (space_of task.now) plan) }
-    ensures cheapest { IfOk result (λ plan. (goal : ℕ) (row : Row) → row_of bundle.now goal ≡ Some row → IsTrue ((space_of task.now).is_goal goal) → plan.cost ≤ row.g) }
-    ensures traced { IfOk result (λ plan. IsTrace (space_of task.now) bundle.now plan.actions) }
+    ensures cheapest { IfOk result (λ plan. (home goal : ℕ) (row : Row) → S.rows store.now home goal ≡ Some row → IsTrue ((space_of task.now).is_goal goal) → plan.cost ≤ row.g) }
+    ensures traced { IfOk result (λ plan. IsTrace (space_of task.now) (guide_to (S.home store.now task.now)) (store_with (S.rows store.now) (S.weight store.now) None) plan.actions) }
 {
     let start = task.initial();
-    let Some(goal) = first_goal(task, bundle) else {
+    let Some(goal) = first_goal(task, store) else {
         unreachable!()
     };
     let mut actions = Vec::new(alloc);
     let mut cost = 0u64;
     let mut at = goal.state;
     'back: while at != start {
-        let step = last_step(task, bundle, &at);
+        let step = last_step(task, store, &at);
         actions.push(step.action)?;
         cost += step.cost;
         at = step.parent;

@@ -1,6 +1,6 @@
 use Rattle.pb_task.specs.Parts.{space_of}
-use Rattle.pb_cert.proofs.Goals.{IsFirstSoFar}
+use Rattle.pb_cert.proofs.Goals.{IsFirstBelow}
 use Rattle.pb_cert.proofs.goal.first_goal.Given as goal
 
-abbrev pub invariant-rows : goal.invariant-rows
-invariant-rows l = IsFirstSoFar (space_of l.task) l.bundle.entries l.i l.first
+abbrev pub invariant-parts : goal.invariant-parts
+invariant-parts g l = IsFirstBelow (space_of l.task) (g.S.Store.rows l.store) l.i l.first

@@ -7,6 +7,11 @@ use Rattle.pbnf.proofs.Groups.{walk_actions}
 use Rattle.pbnf.proofs.Certified.{solved}
 use Rattle.pbnf.proofs.searching.solved.Goals as goal
 
+pub trace-requires-clause-goal : goal.trace-requires-clause-goal
+trace-requires-clause-goal c =
+    let goal = c.requires.known.3 c.requires.known.0 refl in
+    (0, goal.0, goal.2.0, goal.2.1, goal.1)
+
 pub plan-requires : goal.plan-requires
 plan-requires c =
     let is = c.in_ok-plan.ensures.plan in
@@ -17,5 +22,5 @@ plan-requires c =
 pub returns : goal.returns
 returns c =
     solved c.args.task.now c.args.bundle.now c.requires.weight c.max_degree-lawful.ensures.lawful c.requires.known
-    c.in_ok-plan.plan c.in_ok-plan.ensures.plan c.in_ok-plan.ensures.cheapest _ _ refl
+    c.in_ok-plan.plan c.in_ok-plan.ensures.plan (λ at row found. c.in_ok-plan.ensures.cheapest 0 at row found) _ _ refl
     c.in_ok-report.ensures.report c.in_ok-report.ensures.fits c.in_ok-saved.ensures
