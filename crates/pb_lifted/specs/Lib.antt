@@ -1,0 +1,17 @@
+pub mod Facts
+pub mod Typing
+pub mod WaysUp
+pub mod WorkedRows
+pub mod Steps
+pub mod Plans
+pub mod InstanceTypes
+pub mod Space
+pub mod Lifted
+pub mod Tables
+pub mod Scope
+pub mod Tree
+pub mod Numbers
+pub mod Names
+pub mod Types
+pub mod Objects
+pub mod Refusals

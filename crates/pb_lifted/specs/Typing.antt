@@ -1,0 +1,82 @@
+-- What a domain and a problem are where nothing is refused: names are known, arguments are as many as parameters and of their types.
+use Rattle.std.specs.Prelude.{◌≡◌, ◌<◌, ◌≤◌, ℕ, true, false, List, [], ◌∷◌, length, map, Some, None, All}
+use Rattle.pb_trees.specs.declared.tree.Typed.{Typed}
+use Rattle.pb_trees.specs.declared.tree.Term.{Term}
+use Rattle.pb_trees.specs.declared.tree.Atom.{Atom}
+use Rattle.pb_trees.specs.declared.tree.Literal.{Literal}
+use Rattle.pb_trees.specs.declared.tree.Predicate.{Predicate}
+use Rattle.pb_trees.specs.declared.tree.Action.{Action}
+use Rattle.pb_trees.specs.declared.tree.Domain.{Domain}
+use Rattle.pb_trees.specs.declared.tree.Problem.{Problem}
+use Rattle.pb_lifted.specs.Names.{number_of, is_among}
+use Rattle.pb_lifted.specs.Types.{name_text, kind_text, type_names, is_cyclic}
+use Rattle.pb_lifted.specs.Objects.{objects_of, predicate_of, entry_of_term}
+use Rattle.pb_lifted.specs.Tables.{predicate_text}
+use Rattle.pb_lifted.specs.Lifted.{atom_of}
+use Rattle.pb_lifted.specs.Refusals.{first_refusal}
+use Rattle.pb_lifted.specs.Space.{FitsParameter, fact_of}
+use Rattle.pb_lifted.specs.Facts.{name_at, fact_by_numbers}
+
+abbrev pub object_names : Domain → Problem → List (List ℕ)
+object_names domain problem = map name_text (objects_of domain problem)
+
+abbrev pub predicate_names : Domain → List (List ℕ)
+predicate_names domain = map predicate_text domain.predicates
+
+-- the names of the objects of these numbers
+abbrev pub named : Domain → Problem → List ℕ → List (List ℕ)
+named domain problem given = map (λ i. name_at (object_names domain problem) i) given
+
+-- To each parameter of a predicate an argument: an object or a parameter of the action, of the predicate's parameter's type or of one below.
+abbrev pub ArgumentsFit : Domain → Problem → List Typed → List Term → List Typed → Type 0
+ArgumentsFit domain problem params [] [] = Unit {0}
+ArgumentsFit domain problem params [] (w ∷ wanted) = ⊥
+ArgumentsFit domain problem params (t ∷ terms) [] = ⊥
+ArgumentsFit domain problem params (t ∷ terms) (w ∷ wanted) =
+    FitsParameter domain.types (entry_of_term (objects_of domain problem) params t) w × ArgumentsFit domain problem params terms wanted
+
+-- an atom of a declared predicate with such arguments
+pub record AtomFits (domain : Domain) (problem : Problem) (params : List Typed) (atom : Atom) : Type 0 where
+  pub predicate : Predicate
+  pub declared : predicate_of domain.predicates atom.predicate.text ≡ Some predicate
+  pub arguments : ArgumentsFit domain problem params atom.terms predicate.params
+
+-- the type is object, a declared one, or one above a declared one
+abbrev pub KindIsKnown : List Typed → Typed → Type 0
+KindIsKnown types typed = is_among (kind_text typed) (type_names types) ≡ true
+
+pub record ActionFits (domain : Domain) (problem : Problem) (action : Action) : Type 0 where
+  pub narrow : length action.params ≤ 16
+  pub params : All (KindIsKnown domain.types) action.params
+  pub pre : All (AtomFits domain problem action.params) action.pre
+  pub effect : All (λ (l : Literal). AtomFits domain problem action.params l.atom) action.effect
+
+-- no name stands twice: each is the first of its name
+abbrev pub AreDistinct : List (List ℕ) → Type 0
+AreDistinct names = (i : ℕ) → i < length names → number_of (name_at names i) names ≡ Some i
+
+-- a predicate of at most 16 parameters of known types
+pub record PredicateFits (domain : Domain) (predicate : Predicate) : Type 0 where
+  pub narrow : length predicate.params ≤ 16
+  pub params : All (KindIsKnown domain.types) predicate.params
+
+pub record IsWellTyped (domain : Domain) (problem : Problem) : Type 0 where
+  pub few : length (objects_of domain problem) ≤ 1000
+  pub rooted : All (λ t. is_cyclic domain.types t ≡ false) domain.types
+  pub distinct : AreDistinct (object_names domain problem)
+  pub objects : All (KindIsKnown domain.types) (objects_of domain problem)
+  pub predicates : All (PredicateFits domain) domain.predicates
+  pub actions : All (ActionFits domain problem) domain.actions
+  pub init : All (AtomFits domain problem []) problem.init
+  pub goal : All (AtomFits domain problem []) problem.goal
+
+-- What is not refused is well typed.
+abbrev pub AcceptedIsWellTyped : Type 0
+AcceptedIsWellTyped = (domain : Domain) (problem : Problem) → first_refusal domain problem ≡ None → IsWellTyped domain problem
+
+-- A fitting atom stands for one fact, by numbers and by names, whatever objects are given to the parameters.
+abbrev pub FittingAtomsKeepFacts : Type 0
+FittingAtomsKeepFacts =
+    (domain : Domain) (problem : Problem) (params : List Typed) (given : List ℕ) (atom : Atom) → AtomFits domain problem params atom → length given ≡ length params
+    → fact_by_numbers (predicate_names domain) (object_names domain problem) given (atom_of (predicate_names domain) (object_names domain problem) (map name_text params) atom)
+    ≡ fact_of params (named domain problem given) atom

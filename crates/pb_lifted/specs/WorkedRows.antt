@@ -1,0 +1,136 @@
+-- Worked rows of the definitions, over small trees. A name's place is the byte where it begins in the text that is quoted.
+use Rattle.std.specs.Prelude.{◌≡◌, ℕ, true, false, List, [], ◌∷◌, codes, Some, None}
+use Rattle.pb_trees.specs.declared.tree.Name.{Name}
+use Rattle.pb_trees.specs.declared.tree.Typed.{Typed}
+use Rattle.pb_trees.specs.declared.tree.Term.TheVariants as terms
+use Rattle.pb_trees.specs.declared.tree.Atom.{Atom}
+use Rattle.pb_trees.specs.declared.tree.Literal.{Literal}
+use Rattle.pb_trees.specs.declared.tree.Domain.{Domain}
+use Rattle.pb_trees.specs.declared.tree.Problem.{Problem}
+use Rattle.pb_lifted.specs.declared.refusal.Cause.TheVariants as causes
+use Rattle.pb_lifted.specs.declared.refusal.File.TheVariants as files
+use Rattle.pb_lifted.specs.declared.refusal.Place.{Place}
+use Rattle.pb_lifted.specs.declared.refusal.Refusal.TheVariants as refusals
+use Rattle.pb_lifted.specs.declared.lifted.Argument.TheVariants as arguments
+use Rattle.pb_lifted.specs.declared.lifted.LiftedAtom.{LiftedAtom}
+use Rattle.pb_lifted.specs.declared.lifted.Lifted.{Lifted}
+use Rattle.pb_lifted.specs.Names.{repeated, earliest}
+use Rattle.pb_lifted.specs.Types.{object, is_below, cyclic_types}
+use Rattle.pb_lifted.specs.Refusals.{place_in, first_refusal}
+use Rattle.pb_lifted.specs.Lifted.{lifted_of}
+use Rattle.pb_lifted.specs.Space.{Fact, State, after, added, deleted}
+
+abbrev pub name : List ℕ → ℕ → Name
+name text at = record { text = text; at = at }
+
+-- NAME - KIND, and NAME alone
+abbrev pub under : Name → Name → Typed
+under low high = record { name = low; kind = Some high }
+
+abbrev pub alone : Name → Typed
+alone low = record { name = low; kind = None }
+
+-- ---- types
+
+-- car - vehicle vehicle
+abbrev pub vehicles : List Typed
+vehicles = under (name (codes "car") 0) (name (codes "vehicle") 6) ∷ alone (name (codes "vehicle") 14) ∷ []
+
+abbrev pub SubtypeIsBelow : Type 0
+SubtypeIsBelow =
+    (is_below vehicles (codes "car") (codes "vehicle") ≡ true) × (is_below vehicles (codes "car") object ≡ true) × (is_below vehicles (codes "vehicle") (codes "car") ≡ false)
+    × (cyclic_types vehicles ≡ [])
+
+-- a - b b - a c - a d
+abbrev pub circle : List Typed
+circle =
+    under (name (codes "a") 0) (name (codes "b") 4) ∷ under (name (codes "b") 6) (name (codes "a") 10) ∷ under (name (codes "c") 12) (name (codes "a") 16)
+    ∷ alone (name (codes "d") 18) ∷ []
+
+-- The two that stand above one another and the one below them come to no root, and the fourth does.
+abbrev pub CycleIsFound : Type 0
+CycleIsFound = cyclic_types circle ≡ 0 ∷ 6 ∷ 12 ∷ []
+
+-- ---- names
+
+-- a b a c b
+abbrev pub letters : List Name
+letters = name (codes "a") 0 ∷ name (codes "b") 2 ∷ name (codes "a") 4 ∷ name (codes "c") 6 ∷ name (codes "b") 8 ∷ []
+
+-- The later ones are told, and those that stand before the list; the earliest place is the least byte.
+abbrev pub RepeatedNamesAreFound : Type 0
+RepeatedNamesAreFound =
+    (repeated [] letters ≡ 4 ∷ 8 ∷ []) × (repeated (codes "c" ∷ []) letters ≡ 4 ∷ 6 ∷ 8 ∷ []) × (earliest None (8 ∷ 4 ∷ 6 ∷ []) ≡ Some 4)
+
+-- A place in the domain comes before one in the problem, whatever their bytes.
+abbrev pub DomainComesFirst : Type 0
+DomainComesFirst =
+    let late : Place = record { file = files.Domain; at = 50 } in let early : Place = record { file = files.Problem; at = 4 } in
+    (place_in (Some 50) (Some 4) ≡ Some late) × (place_in None (Some 4) ≡ Some early)
+
+-- ---- a whole task
+
+-- (parked ?c)
+abbrev pub parked : Atom
+parked = record { predicate = name (codes "parked") 60; terms = terms.Variable (name (codes "?c") 67) ∷ [] }
+
+-- (and (not (parked ?c)) (parked ?c))
+abbrev pub parks_again : List Literal
+parks_again = record { atom = parked; negated = true } ∷ record { atom = parked; negated = false } ∷ []
+
+abbrev pub one_car : List Typed
+one_car = under (name (codes "?c") 50) (name (codes "car") 55) ∷ []
+
+-- one action, that takes a car out of its place and back
+abbrev pub turning : Domain
+turning =
+    record {
+      name = name (codes "turning") 8;
+      types = vehicles;
+      constants = [];
+      predicates = record { name = name (codes "parked") 30; params = under (name (codes "?v") 37) (name (codes "vehicle") 42) ∷ [] } ∷ [];
+      actions = record { name = name (codes "turn") 48; params = one_car; pre = parked ∷ []; effect = parks_again } ∷ [];
+    }
+
+-- (parked c1), c1 being of this type
+abbrev pub turning_problem : List ℕ → Problem
+turning_problem kind =
+    record {
+      name = name (codes "p") 9;
+      domain = name (codes "turning") 20;
+      objects = under (name (codes "c1") 40) (name kind 45) ∷ [];
+      init = record { predicate = name (codes "parked") 60; terms = terms.Object (name (codes "c1") 67) ∷ [] } ∷ [];
+      goal = [];
+    }
+
+abbrev pub parked_by_number : LiftedAtom
+parked_by_number = record { predicate = 0; arguments = arguments.Parameter 0 ∷ [] }
+
+-- Types are object, car, vehicle, and once more the vehicle that stands behind -, whose number is that of the first.
+abbrev pub TurningIsLifted : Type 0
+TurningIsLifted =
+    let lifted : Lifted =
+    record {
+      types = 0 ∷ 2 ∷ 0 ∷ [];
+      objects = 1 ∷ [];
+      predicates = (2 ∷ []) ∷ [];
+      actions = record { params = 1 ∷ []; pre = parked_by_number ∷ []; adds = parked_by_number ∷ []; deletes = parked_by_number ∷ [] } ∷ [];
+      init = record { predicate = 0; arguments = arguments.Object 0 ∷ [] } ∷ [];
+      goal = [];
+    }
+    in (first_refusal turning (turning_problem (codes "car")) ≡ None) × (lifted_of turning (turning_problem (codes "car")) ≡ lifted)
+
+-- An object that is of no vehicle's type is no argument of parked, and an unknown type comes before.
+abbrev pub WrongTypeIsRefused : Type 0
+WrongTypeIsRefused =
+    let argument : Place = record { file = files.Problem; at = 67 } in let kind : Place = record { file = files.Problem; at = 45 } in
+    (first_refusal turning (turning_problem object) ≡ Some (refusals.Named causes.WrongType argument))
+    × (first_refusal turning (turning_problem (codes "boat")) ≡ Some (refusals.Named causes.UnknownType kind))
+
+-- A fact that is deleted and added holds, and one that is only deleted doesn't.
+abbrev pub DeletedAndAddedHolds : Type 0
+DeletedAndAddedHolds =
+    let c1 : List (List ℕ) = codes "c1" ∷ [] in let fact : Fact = record { predicate = codes "parked"; objects = c1 } in
+    (state : State)
+    → (after state (deleted one_car c1 parks_again) (added one_car c1 parks_again) fact ≡ true)
+    × (state fact ≡ true → after state (deleted one_car c1 parks_again) [] fact ≡ false)

@@ -1,0 +1,63 @@
+ghost use Rattle.pb_lifted.specs.Plans.{GroundPlansArePlans, PlansAreGroundPlans};
+ghost use Rattle.pb_lifted.specs.InstanceTypes.{InstancesAreTyped, StartIsTyped, GoalIsTyped};
+ghost use Rattle.pb_lifted.specs.WaysUp.{MoreStepsChangeNothing, MoreStepsOfNumbersChangeNothing, ObjectIsReached, BelowIsReflexive, BelowIsTransitive};
+ghost use Rattle.pb_lifted.specs.WorkedRows.{SubtypeIsBelow, CycleIsFound, RepeatedNamesAreFound, DomainComesFirst, TurningIsLifted, WrongTypeIsRefused, DeletedAndAddedHolds};
+ghost use Rattle.pb_lifted.specs.Facts.{NumbersKeepFacts};
+ghost use Rattle.pb_lifted.specs.Typing.{AcceptedIsWellTyped, FittingAtomsKeepFacts};
+ghost use Rattle.pb_lifted.specs.Steps.{GroundStepsAreSteps, StepsAreGroundSteps, GroundStartIsStart, GroundGoalIsGoal};
+
+/// An atom of known names stands for one fact, by numbers and by names, whatever objects are given to the parameters.
+pub fn numbers_keep_facts()
+    ensures { NumbersKeepFacts }
+{}
+
+/// Where nothing is refused, the limits are kept, all types lead to `object`, no two objects have one name, names are known, arguments are as
+/// many as parameters, and each is of its parameter's type or of one below. So each atom stands for one fact, by numbers and by names.
+pub fn accepted_is_well_typed()
+    ensures typed { AcceptedIsWellTyped }
+    ensures facts { FittingAtomsKeepFacts }
+{}
+
+/// Where nothing is refused, the lifted task has the same start, steps and goals by numbers as the domain and the problem by names.
+pub fn numbers_keep_steps()
+    ensures by_names { GroundStepsAreSteps }
+    ensures by_numbers { StepsAreGroundSteps }
+    ensures start { GroundStartIsStart }
+    ensures goal { GroundGoalIsGoal }
+{}
+
+/// Where nothing is refused, the plans are the same by numbers and by names: the same actions with the same objects.
+pub fn numbers_keep_plans()
+    ensures by_names { GroundPlansArePlans }
+    ensures by_numbers { PlansAreGroundPlans }
+{}
+
+/// Where nothing is refused, what the instances of a lifted task need, add and delete, what holds at first and what the goal asks are facts
+/// of declared predicates, each object of its parameter's type or of one below.
+pub fn instances_are_typed()
+    ensures actions { InstancesAreTyped }
+    ensures start { StartIsTyped }
+    ensures goal { GoalIsTyped }
+{}
+
+/// The way up from a type is counted far enough: more steps come to no other type, by names and by numbers. So to be below is reflexive
+/// and transitive.
+pub fn ways_up_are_far_enough()
+    ensures numbers { MoreStepsOfNumbersChangeNothing }
+    ensures names { MoreStepsChangeNothing }
+    ensures object { ObjectIsReached }
+    ensures reflexive { BelowIsReflexive }
+    ensures transitive { BelowIsTransitive }
+{}
+
+/// The definitions on small trees: a subtype, types in a circle, a name that stands twice, a task and its numbers, an argument of a wrong
+/// type, and a fact that is deleted and added.
+pub fn worked_rows()
+    ensures subtype { SubtypeIsBelow }
+    ensures cycle { CycleIsFound }
+    ensures repeated { RepeatedNamesAreFound }
+    ensures first { DomainComesFirst }
+    ensures lifted { TurningIsLifted }
+    ensures wrong_type { WrongTypeIsRefused }
+    ensures added { DeletedAndAddedHolds }
+{}

@@ -1,0 +1,28 @@
+//! What a PDDL domain and problem mean before they are grounded: names that are resolved, and why two trees are no task.
+#![tactic(auto)]
+
+mod atoms;
+mod checking;
+mod climb;
+mod declared;
+mod entries;
+mod laws;
+mod lifted;
+mod names;
+mod places;
+mod refusal;
+mod resolving;
+mod scope;
+mod tables;
+mod tree;
+
+pub use checking::resolve;
+pub use laws::{
+    accepted_is_well_typed, instances_are_typed, numbers_keep_facts, numbers_keep_plans,
+    numbers_keep_steps, ways_up_are_far_enough, worked_rows,
+};
+pub use lifted::{Argument, Lifted, LiftedAtom, Schema};
+pub use refusal::{Cause, File, LiftedError, Place, Refusal};
+
+#[cfg(test)]
+mod tests;

@@ -1,0 +1,49 @@
+//! A lifted task: its types, objects, predicates and schemas, in numbers.
+
+use pb_trees::Listed;
+
+/// An argument of an atom.
+#[derive(Clone, Copy, Debug, PartialEq, Eq)]
+pub enum Argument {
+    /// The object of this number.
+    Object(usize),
+    /// What the instance gives to the parameter of this number.
+    Parameter(usize),
+}
+
+/// A predicate, by its number, with its arguments.
+#[derive(Debug, Drop)]
+pub struct LiftedAtom {
+    pub predicate: usize,
+    pub arguments: Listed<Argument>,
+}
+
+/// An action schema.
+#[derive(Debug, Drop)]
+pub struct Schema {
+    /// Of each parameter the number of its type.
+    pub params: Listed<usize>,
+    /// The atoms that must hold.
+    pub pre: Listed<LiftedAtom>,
+    /// The atoms that hold afterwards.
+    pub adds: Listed<LiftedAtom>,
+    /// The atoms that no longer hold, but for those that are added.
+    pub deletes: Listed<LiftedAtom>,
+}
+
+/// A lifted task. Predicates and actions have the numbers that they have in the domain, and objects are the constants and then the
+/// objects of the problem. Type 0 is `object`.
+#[derive(Debug, Drop)]
+pub struct Lifted {
+    /// Of each type the number of the type above it. Above a type behind the end there is `object`.
+    pub types: Listed<usize>,
+    /// Of each object the number of its type.
+    pub objects: Listed<usize>,
+    /// Of each predicate the numbers of the types of its parameters.
+    pub predicates: Listed<Listed<usize>>,
+    pub actions: Listed<Schema>,
+    /// The atoms that hold at first.
+    pub init: Listed<LiftedAtom>,
+    /// The atoms of the goal.
+    pub goal: Listed<LiftedAtom>,
+}
