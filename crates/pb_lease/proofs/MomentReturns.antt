@@ -1,0 +1,279 @@
+-- From one moment of a graph to the next: a lease that comes back, and one that goes on.
+use Rattle.std.proofs.Common.{◌≡◌, ℕ, ◌+◌, ◌-◌, ◌≤◌, min, Bool, true, false, cond, ◌&&◌, is_some, is_none, List, [], ◌∷◌, Option, Some, None, refl, sym, ap, ◌∙◌, arith, subst, get_or, true≢false}
+use Rattle.std.specs.Option.{option_or}
+use Rattle.pb_model.specs.Store.{Rows, Store, lesser}
+use Rattle.pb_model.specs.Local.{merged_store}
+use Rattle.pb_model.proofs.Tests.{equal_self, not_true}
+use Rattle.pb_task.specs.Parts.{greatest_cost}
+use Rattle.pb_machine.specs.declared.event.End.{End}
+use Rattle.pb_machine.specs.declared.event.End.TheVariants.{Memory}
+use Rattle.pb_machine.specs.declared.event.Event.TheVariants.{Renew, Release, Ended}
+use Rattle.pb_machine.specs.declared.event.Grant.{Grant}
+use Rattle.pb_machine.specs.declared.settings.Settings.{Settings}
+use Rattle.pb_machine.specs.Tables.{with_entry, one_if}
+use Rattle.pb_machine.specs.Blocks.{Blocks}
+use Rattle.pb_machine.specs.Counts.{Counts, quota_of, with_quota, counts_after}
+use Rattle.pb_machine.specs.Choice.{IsFirstChoice, counts_with_lease_home}
+use Rattle.pb_machine.specs.Legality.{refusal}
+use Rattle.pb_machine.specs.Machine.{Setup, Machine, with_incumbent, lent_store, RowPart, event_move, CameBack}
+use Rattle.pb_machine.specs.Turns.{IsInOrder, RunsInOrder}
+use Rattle.pb_machine.specs.Whole.{IsWhole}
+use Rattle.pb_machine.proofs.TableLaws.{entry_here}
+use Rattle.pb_machine.proofs.Known.{known_new}
+use Rattle.pb_machine.proofs.LegalEvents.{ends_are_legal}
+use Rattle.pb_machine.proofs.Moments.{runs_are_lawful}
+use Rattle.pb_machine.proofs.LeaseTurns.{ordered_runs_are_runs}
+use Rattle.pb_machine.proofs.WholeStore.{renewing_keeps_whole, releasing_keeps_whole, recorded_rows_are_lent, others_keep_whole}
+use Rattle.pb_lists.specs.Bundle.{Content}
+use Rattle.pb_homes.specs.Parts.{content_in, rows_in, away_rows}
+use Rattle.pb_homes.specs.Homes.{content_at, key_at, home_rows}
+use Rattle.pb_homes.specs.Stores.{HasKeys}
+use Rattle.pb_homes.specs.Moves.{NotesKeys}
+use Rattle.pb_homes.proofs.ByRows.{among_found, noted_keys_are_best}
+use Rattle.pb_lease.specs.Tables.{blocks}
+use Rattle.pb_lease.specs.Leasing.{can_be_leased}
+use Rattle.pb_lease.specs.Events.{counts_along, ending}
+use Rattle.pb_lease.specs.LeaseValue.{LeaseValue, leased_store}
+use Rattle.pb_lease.specs.Leased.{grant_of, IsOutInTurns}
+use Rattle.pb_lease.specs.GraphValue.{GraphValue, setup_in, counts_in, IsLeaseGraph, IsOfGraph}
+use Rattle.pb_lease.specs.Moments.{IsMoment, Follows, moves_of}
+use Rattle.pb_homes.proofs.Lists.{past}
+use Rattle.pb_homes.proofs.ByKey.{first_choices_are_by_key}
+use Rattle.pb_lease.specs.Choices.{IsChoiceWithHome}
+use Rattle.pb_lease.specs.Steps.{ChoosesByRows, IsReleased, ReleasesNext, IsRenewed, RenewsNext, renewed_quota}
+use Rattle.pb_lease.proofs.NextEvents.{release_may, renewal_may}
+use Rattle.pb_lease.proofs.GraphBasics.{setup_is, lawful_in, passes_from, passes_to}
+use Rattle.pb_lease.proofs.MomentSteps.{same_setup, moment_as, may_then, none_told}
+
+pub or_some : (found other : Option Content) → is_some found ≡ true → option_or found other ≡ found
+or_some None other e = absurd (true≢false (sym e))
+or_some (Some content) other e = refl
+
+pub or_none : (found other : Option Content) → is_some found ≡ false → option_or found other ≡ other
+or_none None other e = refl
+or_none (Some content) other e = absurd (true≢false e)
+
+none_there : (found : Option Content) → is_some found ≡ false → found ≡ None
+none_there None e = refl
+none_there (Some content) e = absurd (true≢false e)
+
+-- ---- the end that follows from want of memory, where one does
+
+pub ending_leases : (of : Blocks) (settings : Settings) (counts : Counts) (memory : Bool) (end : Option End) → (counts_along of settings counts (ending memory end)).leases ≡ counts.leases
+ending_leases of settings counts memory end = go (memory && is_none end)
+  where
+    go : (r : Bool) → (counts_along of settings counts (cond r (Ended Memory ∷ []) [])).leases ≡ counts.leases
+    go true = refl
+    go false = refl
+
+pub then_ended : (setup : Setup) (memory : Bool) (counts : Counts) (machine : Machine) → machine.counts ≡ counts → counts.trouble ≡ (memory && is_none counts.end)
+    → RunsInOrder setup machine (moves_of (ending memory counts.end)) (record machine { counts = counts_along setup.blocks setup.settings machine.counts (ending memory counts.end) })
+then_ended setup memory counts machine is report = go (memory && is_none counts.end) refl report
+  where
+    no_end : (m : Bool) (o : Option End) → (m && is_none o) ≡ true → o ≡ None
+    no_end true None h = refl
+    no_end true (Some e) h = absurd (true≢false (sym h))
+    no_end false o h = absurd (true≢false (sym h))
+
+    go : (r : Bool) → (memory && is_none counts.end) ≡ r → counts.trouble ≡ r
+        → RunsInOrder setup machine (moves_of (cond r (Ended Memory ∷ []) [])) (record machine { counts = counts_along setup.blocks setup.settings machine.counts (cond r (Ended Memory ∷ []) []) })
+    go false e trouble = refl
+    go true e trouble = (
+      record machine { counts = counts_after setup.blocks setup.settings machine.counts (Ended Memory) },
+      record {
+        may = subst (λ (c : Counts). refusal setup.blocks setup.settings c (Ended Memory) ≡ None) (sym is) ((ends_are_legal setup.blocks setup.settings counts (no_end memory counts.end e)).2 trouble);
+        counts = refl;
+        rows = (refl, refl, refl, refl, refl);
+      },
+      tt,
+      refl,
+    )
+
+module _ (old : GraphValue) (k : IsLeaseGraph old) (lease : LeaseValue) (of : IsOfGraph old lease) (few : lease.used ≤ lease.quota) where
+  abbrev Scope : ℕ → Bool
+  Scope = (blocks old.table).scope lease.block
+
+  -- the whole store with the lease's rows
+  abbrev Merged : Machine → Store
+  Merged machine = merged_store Scope (leased_store lease) machine.store
+
+  in_none : (block : ℕ) → Scope block ≡ false → content_in lease.parts block ≡ None
+  in_none block out = none_there (content_in lease.parts block) (of.scope.blocks block ∙ out)
+
+  module _ (recorded : (worker : ℕ) → Rows) (machine : Machine) (m : IsMoment old recorded machine) where
+    abbrev came : (broken : ℕ) → IsOutInTurns (setup_in old) machine broken lease → CameBack (setup_in old) machine lease.worker lease.used broken (Merged machine)
+    came broken out = record {
+      grant = grant_of lease;
+      worked = leased_store lease;
+      leased = out.0.leased;
+      work = out.0.work;
+      back = refl;
+      shown = λ cost told. absurd (true≢false (sym (ap is_some (sym (m.untold lease.worker) ∙ told))));
+    }
+
+    merged_incumbent : (Merged machine).incumbent ≡ lesser old.incumbent lease.incumbent
+    merged_incumbent = ap (λ o. lesser o lease.incumbent) m.incumbent
+
+    merged_keys : (keys : List (Option _)) → NotesKeys lease.parts old.homes.keys keys → HasKeys (Merged machine) (λ block. get_or keys block None)
+    merged_keys keys noted = noted_keys_are_best machine.store (leased_store lease) Scope lease.parts old.homes.keys keys m.keys noted
+        (λ block. sym (among_found lease.parts block) ∙ of.scope.blocks block) (λ home state inside. refl)
+        (λ block content is. of.scope.weights block content is ∙ of.weight ∙ sym m.lawful.weight)
+
+    leased_then : machine.counts.leases lease.worker ≡ Some (grant_of lease)
+    leased_then = ap (λ (c : Counts). c.leases lease.worker) m.counts ∙ of.leased
+
+  -- the choice with the lease home, by the keys that are noted then
+  pub chosen_by_rows : (new : GraphValue) → NotesKeys lease.parts old.homes.keys new.homes.keys → ChoosesByRows old lease new
+  chosen_by_rows new noted recorded machine m =
+      let pass = can_be_leased (blocks old.table) old.table.settings (counts_with_lease_home (counts_in old) lease.worker lease.used) in
+      let both = (first_choices_are_by_key (blocks old.table) old.table.settings (counts_with_lease_home (counts_in old) lease.worker lease.used) (Merged machine) (key_at new.homes) pass
+      (merged_keys recorded machine m new.homes.keys noted) (λ block le. past new.homes.keys block (omega (arith, le, noted.count, k.key_places)))
+      (λ block lt. (
+        passes_from (blocks old.table) old.table.settings (counts_with_lease_home (counts_in old) lease.worker lease.used) block,
+        λ p. passes_to (blocks old.table) old.table.settings (counts_with_lease_home (counts_in old) lease.worker lease.used) block p.0 p.1 p.2 p.3,
+      ))).0 lease.block in
+      subst (λ (c : Counts). (IsChoiceWithHome old lease new (Some lease.block) → IsFirstChoice (blocks old.table) old.table.settings (counts_with_lease_home c lease.worker lease.used) (Merged machine) lease.block)
+      × (IsFirstChoice (blocks old.table) old.table.settings (counts_with_lease_home c lease.worker lease.used) (Merged machine) lease.block → IsChoiceWithHome old lease new (Some lease.block)))
+      (sym m.counts) both
+
+  -- ---- a lease that comes back
+
+  module _ (trouble : Bool) where
+    pub release_is_legal : refusal (blocks old.table) old.table.settings (counts_in old) (Release lease.worker lease.used trouble) ≡ None
+    release_is_legal = release_may (blocks old.table) old.table.settings (counts_in old) lease.worker lease.used trouble (grant_of lease) (lawful_in old k) of.leased few refl
+
+    module _ (new : GraphValue) (r : IsReleased old lease trouble new) where
+      setup : setup_in new ≡ setup_in old
+      setup = same_setup old new r.task r.events.graph r.events.settings
+
+      module _ (recorded : (worker : ℕ) → Rows) (machine : Machine) (m : IsMoment old recorded machine) where
+        abbrev Home : Bool → Machine
+        Home t = record machine {
+          counts = counts_after (blocks old.table) old.table.settings machine.counts (Release lease.worker lease.used t);
+          store = Merged machine;
+          told = with_entry machine.told lease.worker None;
+          known = with_incumbent machine.known (Merged machine).incumbent;
+          broken = cond t (with_entry machine.broken lease.worker true) machine.broken;
+        }
+
+        rows : (t : Bool) → IsOutInTurns (setup_in old) machine (one_if t) lease → RowPart (setup_in old) machine (Release lease.worker lease.used t) (Home t)
+        rows false out = (came recorded machine m 0 out, refl, refl, refl, refl)
+        rows true out = (came recorded machine m 1 out, refl, refl, refl, refl)
+
+        order : (t : Bool) → IsOutInTurns (setup_in old) machine (one_if t) lease → IsInOrder (setup_in old) machine (event_move (Release lease.worker lease.used t)) (Home t)
+        order false out = (came recorded machine m 0 out, out.1)
+        order true out = (came recorded machine m 1 out, out.1)
+
+        abbrev Last : Machine
+        Last = record (Home trouble) { counts = counts_along (blocks old.table) old.table.settings (Home trouble).counts (ending trouble old.table.end) }
+
+        home_counts : (Home trouble).counts ≡ counts_after (blocks old.table) old.table.settings (counts_in old) (Release lease.worker lease.used trouble)
+        home_counts = ap (λ (c : Counts). counts_after (blocks old.table) old.table.settings c (Release lease.worker lease.used trouble)) m.counts
+
+        runs : IsOutInTurns (setup_in old) machine (one_if trouble) lease → RunsInOrder (setup_in old) machine (moves_of (Release lease.worker lease.used trouble ∷ ending trouble old.table.end)) Last
+        runs out = (
+          Home trouble,
+          record { may = may_then old new machine (Release lease.worker lease.used trouble) m.counts release_is_legal; counts = refl; rows = rows trouble out },
+          order trouble out,
+          then_ended (setup_in old) trouble (counts_after (blocks old.table) old.table.settings (counts_in old) (Release lease.worker lease.used trouble)) (Home trouble) home_counts refl,
+        )
+
+        whole : IsWhole (setup_in old) Last.counts (home_rows new.homes) recorded (Merged machine)
+        whole = others_keep_whole (setup_in old) (Home trouble).counts Last.counts (Merged machine) (Merged machine) (home_rows new.homes) recorded
+            (ending_leases (blocks old.table) old.table.settings (Home trouble).counts trouble old.table.end) refl
+            (releasing_keeps_whole (setup_in old) greatest_cost machine.counts machine.store (leased_store lease) (home_rows old.homes) (home_rows new.homes) recorded lease.worker lease.used trouble (grant_of lease)
+            (setup_is old k) m.lawful.counts m.whole (leased_then recorded machine m)
+            (λ home state inside. ap (λ o. rows_in o state) (r.home home ∙ or_some (content_in lease.parts home) (content_at old.homes home) (of.scope.blocks home ∙ inside)))
+            (λ home state out. ap (λ o. rows_in o state) (r.home home ∙ or_none (content_in lease.parts home) (content_at old.homes home) (of.scope.blocks home ∙ not_true _ out))))
+
+      pub released_next : ReleasesNext old lease trouble new
+      released_next recorded machine m out = (
+        Last recorded machine m,
+        record {
+          setup = setup;
+          moves = runs recorded machine m out;
+          moment = moment_as old new recorded (Last recorded machine m) setup
+              (runs_are_lawful (setup_in old) greatest_cost (moves_of (Release lease.worker lease.used trouble ∷ ending trouble old.table.end)) machine (Last recorded machine m) (setup_is old k) m.lawful
+              (ordered_runs_are_runs (setup_in old) (moves_of (Release lease.worker lease.used trouble ∷ ending trouble old.table.end)) machine (Last recorded machine m) (runs recorded machine m out)))
+              (ap (λ (c : Counts). counts_along (blocks old.table) old.table.settings c (Release lease.worker lease.used trouble ∷ ending trouble old.table.end)) m.counts ∙ sym r.events.counts)
+              (whole recorded machine m) (merged_incumbent recorded machine m ∙ sym r.incumbent) (merged_keys recorded machine m new.homes.keys r.noted)
+              (none_told machine.told lease.worker m.untold);
+        },
+      )
+
+  -- ---- a lease that goes on
+
+  module _ (test : can_be_leased (blocks old.table) old.table.settings (counts_with_lease_home (counts_in old) lease.worker lease.used) lease.block ≡ true) where
+    pub renewal_is_legal : refusal (blocks old.table) old.table.settings (counts_in old) (Renew lease.worker lease.used (renewed_quota old lease)) ≡ None
+    renewal_is_legal = subst (λ (o : Option Grant). refusal (blocks old.table) old.table.settings (counts_in old) (Renew lease.worker lease.used (min old.table.settings.lot (old.table.left + (quota_of o - lease.used)))) ≡ None) of.leased
+        (renewal_may (blocks old.table) old.table.settings (counts_in old) lease.worker lease.used (grant_of lease) (lawful_in old k) of.leased few refl k.legal.range.lot.0 test)
+
+    abbrev Kept : LeaseValue
+    Kept = record lease { quota = renewed_quota old lease; used = 0; incumbent = lesser old.incumbent lease.incumbent }
+
+    module _ (new : GraphValue) (n : IsRenewed old lease Kept new) where
+      setup_too : setup_in new ≡ setup_in old
+      setup_too = same_setup old new n.task n.events.graph n.events.settings
+
+      module _ (recorded : (worker : ℕ) → Rows) (machine : Machine) (m : IsMoment old recorded machine) (out : IsOutInTurns (setup_in old) machine 0 lease) where
+        abbrev Next : Machine
+        Next = record machine {
+          counts = counts_after (blocks old.table) old.table.settings machine.counts (Renew lease.worker lease.used (renewed_quota old lease));
+          store = Merged machine;
+          given = with_entry machine.given lease.worker (Merged machine).incumbent;
+          told = with_entry machine.told lease.worker None;
+          known = with_incumbent machine.known (Merged machine).incumbent;
+        }
+
+        goes : RunsInOrder (setup_in old) machine (moves_of (Renew lease.worker lease.used (renewed_quota old lease) ∷ [])) Next
+        goes = (
+          Next,
+          record {
+            may = may_then old new machine (Renew lease.worker lease.used (renewed_quota old lease)) m.counts renewal_is_legal;
+            counts = refl;
+            rows = (came recorded machine m 0 out, ((Merged machine).incumbent, known_new (machine.known lease.worker) (Merged machine).incumbent, refl), refl, refl, refl);
+          },
+          (came recorded machine m 0 out, out.1),
+          refl,
+        )
+
+        whole_still : IsWhole (setup_in old) Next.counts (home_rows old.homes) (with_entry recorded lease.worker (away_rows lease.parts)) (Merged machine)
+        whole_still = renewing_keeps_whole (setup_in old) greatest_cost machine.counts machine.store (leased_store lease) (home_rows old.homes) recorded lease.worker lease.used (renewed_quota old lease) (grant_of lease)
+            (setup_is old k) m.lawful.counts m.whole (leased_then recorded machine m) (λ home state gone. ap (λ o. rows_in o state) (in_none home (not_true _ gone)))
+
+        granted : Next.counts.leases lease.worker ≡ Some (grant_of Kept)
+        granted = entry_here machine.counts.leases lease.worker lease.worker (with_quota (renewed_quota old lease) (machine.counts.leases lease.worker)) (equal_self lease.worker)
+            ∙ ap (with_quota (renewed_quota old lease)) (leased_then recorded machine m)
+
+        given : Next.given lease.worker ≡ Kept.incumbent
+        given = entry_here machine.given lease.worker lease.worker (Merged machine).incumbent (equal_self lease.worker) ∙ merged_incumbent recorded machine m
+
+        begins : leased_store Kept ≡ lent_store (setup_in old) lease.block (Merged machine) (Next.given lease.worker)
+        begins = λ i. record {
+          rows = λ home state. sym (recorded_rows_are_lent (setup_in old) Next.counts (Merged machine) (home_rows old.homes) (with_entry recorded lease.worker (away_rows lease.parts)) lease.worker (grant_of Kept) (Next.given lease.worker) whole_still granted home state
+              ∙ (λ j. entry_here recorded lease.worker lease.worker (away_rows lease.parts) (equal_self lease.worker) j home state)) i;
+          incumbent = sym given i;
+          weight = (of.weight ∙ sym m.lawful.weight) i;
+        }
+
+        still_out : IsOutInTurns (setup_in old) Next 0 Kept
+        still_out = (record { leased = granted; work = record { works = []; on = tt; comes = begins; used_is = refl; few_broken = omega arith; stops = tt } }, tt)
+
+        goes_on : Follows old machine (Renew lease.worker lease.used (renewed_quota old lease) ∷ []) new (with_entry recorded lease.worker (away_rows lease.parts)) Next
+        goes_on = record {
+          setup = setup_too;
+          moves = goes;
+          moment = moment_as old new (with_entry recorded lease.worker (away_rows lease.parts)) Next setup_too
+              (runs_are_lawful (setup_in old) greatest_cost (moves_of (Renew lease.worker lease.used (renewed_quota old lease) ∷ [])) machine Next (setup_is old k) m.lawful
+              (ordered_runs_are_runs (setup_in old) (moves_of (Renew lease.worker lease.used (renewed_quota old lease) ∷ [])) machine Next goes))
+              (ap (λ (c : Counts). counts_after (blocks old.table) old.table.settings c (Renew lease.worker lease.used (renewed_quota old lease))) m.counts ∙ sym n.events.counts)
+              (subst (λ (bs : List (Option Content)). IsWhole (setup_in old) Next.counts (λ home. rows_in (get_or bs home None)) (with_entry recorded lease.worker (away_rows lease.parts)) (Merged machine)) (sym n.bundles) whole_still)
+              (merged_incumbent recorded machine m ∙ sym n.incumbent) (merged_keys recorded machine m new.homes.keys n.noted) (none_told machine.told lease.worker m.untold);
+        }
+
+      renewed_to : RenewsNext old lease Kept new
+      renewed_to recorded machine m out =
+          (Next recorded machine m out, goes_on recorded machine m out, given recorded machine m out, subst (λ (s : Setup). IsOutInTurns s (Next recorded machine m out) 0 Kept) (sym setup_too) (still_out recorded machine m out))
+
+    pub renewed_next : (kept : LeaseValue) (new : GraphValue) → IsRenewed old lease kept new → RenewsNext old lease kept new
+    renewed_next kept new n = subst (λ (v : LeaseValue). RenewsNext old lease v new) (sym n.kept_is) (renewed_to new (subst (λ (v : LeaseValue). IsRenewed old lease v new) n.kept_is n))

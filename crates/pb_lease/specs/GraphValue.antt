@@ -1,0 +1,48 @@
+-- What a contract sees of a graph that gives out leases: the task, the numbers of the lease machine, the rows at home, and the incumbent.
+use Rattle.std.specs.Prelude.{◌≡◌, ℕ, ◌<◌, not, Option, Some, is_some, length}
+use Rattle.pb_machine.specs.Settings.{weight_of}
+use Rattle.pb_machine.specs.Counts.{Counts}
+use Rattle.pb_machine.specs.History.{IsHistory}
+use Rattle.pb_machine.specs.Machine.{Setup}
+use Rattle.pb_machine.specs.Whole.{is_away}
+use Rattle.pb_task.specs.declared.parts.Parts.{Parts}
+use Rattle.pb_task.specs.Parts.{IsTask}
+use Rattle.pb_lists.specs.Bundle.{Content}
+use Rattle.pb_abstract.specs.Graph.{IsGraphOf}
+use Rattle.pb_homes.specs.Homes.{HomeTable, content_at}
+use Rattle.pb_lease.specs.Tables.{Table, blocks, counts_of}
+use Rattle.pb_lease.specs.LeaseValue.{LeaseValue}
+use Rattle.pb_lease.specs.Leased.{setup_of, grant_of, HasScope}
+
+pub record GraphValue : Type 0 where
+  pub task : Parts
+  pub table : Table  -- the numbers, with the abstract graph, the settings and the journal
+  pub homes : HomeTable  -- the bundles at home and the keys that were noted
+  pub incumbent : Option ℕ
+
+-- what the graph's search is: its task, by its blocks, with its settings, and never opened again
+abbrev pub setup_in : GraphValue → Setup
+setup_in g = setup_of g.task g.table.graph g.table.settings 0
+
+-- who has which lease, what is left, which blocks are hot, and who has signed off
+abbrev pub counts_in : GraphValue → Counts
+counts_in g = counts_of g.table
+
+-- What is true of every graph: the blocks are those of its task, and the journal is a legal history. Each block has a place and a key that is
+-- noted or not. Its bundle is at its place exactly where the block is in no leased scope, and all bundles at home have the weight of the
+-- settings.
+pub record IsLeaseGraph (g : GraphValue) : Type 0 where
+  pub is_task : IsTask g.task
+  pub graph_of : IsGraphOf g.task g.table.graph
+  pub legal : IsHistory (blocks g.table) g.table.settings 0 g.table.journal (counts_in g)
+  pub places : length g.homes.bundles ≡ (blocks g.table).count
+  pub key_places : length g.homes.keys ≡ (blocks g.table).count
+  pub home : (block : ℕ) → block < (blocks g.table).count → is_some (content_at g.homes block) ≡ not (is_away (setup_in g) (counts_in g) block)
+  pub weights : (block : ℕ) (content : Content) → content_at g.homes block ≡ Some content → content.weight ≡ weight_of g.table.settings
+
+-- The lease is the one that the graph gave to this worker: the graph's grant is the lease's, at the weight of the search, and it has the
+-- bundles of its block's scope.
+pub record IsOfGraph (g : GraphValue) (lease : LeaseValue) : Type 0 where
+  pub leased : (counts_in g).leases lease.worker ≡ Some (grant_of lease)
+  pub weight : lease.weight ≡ weight_of g.table.settings
+  pub scope : HasScope g.table.graph lease

@@ -1,0 +1,35 @@
+-- What a contract sees of a lease.
+use Rattle.std.specs.Prelude.{◌≡◌, ◌^◌, ◌≤◌, ℕ, List, Option, Some}
+use Rattle.pb_model.specs.Weight.{Weight, IsWeight}
+use Rattle.pb_model.specs.Store.{Store}
+use Rattle.pb_lists.specs.Bundle.{Content}
+use Rattle.pb_homes.specs.Parts.{content_in, with_content, away_rows}
+
+-- The worker that has it, the block that it is of, how many expansions it may make and has made, the least cost at which a goal is
+-- known to be reached, or none, the weight of the search, and the bundles of the block's scope.
+pub record LeaseValue : Type 0 where
+  pub worker : ℕ
+  pub block : ℕ
+  pub quota : ℕ
+  pub used : ℕ
+  pub incumbent : Option ℕ
+  pub weight : Weight
+  pub parts : List (ℕ × Content)
+
+-- the lease's rows with its incumbent, as a store
+abbrev pub leased_store : LeaseValue → Store
+leased_store lease = record { rows = away_rows lease.parts; incumbent = lease.incumbent; weight = lease.weight }
+
+-- every bundle has the lease's weight
+abbrev pub HasWeights : LeaseValue → Type 0
+HasWeights lease = (block : ℕ) (content : Content) → content_in lease.parts block ≡ Some content → content.weight ≡ lease.weight
+
+-- the lease with this content as the bundle of the block, and all else as it was
+abbrev pub with_bundle : LeaseValue → (block : ℕ) → Content → LeaseValue
+with_bundle lease block content = record lease { parts = with_content lease.parts block content }
+
+-- what holds of every lease
+pub record IsLease (lease : LeaseValue) : Type 0 where
+  pub weight : IsWeight lease.weight
+  pub within : lease.used ≤ lease.quota
+  pub few : lease.quota ≤ 2 ^ 20

@@ -1,0 +1,46 @@
+-- What a search by leases is, and what its holder has done with a lease that is out.
+use Rattle.std.specs.Prelude.{◌≡◌, ℕ, Some, is_some}
+use Rattle.pb_model.specs.Guide.{Guide}
+use Rattle.pb_machine.specs.declared.event.Grant.{Grant}
+use Rattle.pb_machine.specs.declared.settings.Settings.{Settings}
+use Rattle.pb_machine.specs.Machine.{Setup, Machine, HasWorked, lent_store}
+use Rattle.pb_machine.specs.Turns.{AreLeaseTurns}
+use Rattle.pb_task.specs.declared.parts.Parts.{Parts}
+use Rattle.pb_task.specs.Parts.{space_of}
+use Rattle.pb_estimate.specs.Estimates.{estimate_of}
+use Rattle.pb_abstract.specs.Graph.{AbstractGraph, blocks_of, home_of}
+use Rattle.pb_homes.specs.Parts.{content_in}
+use Rattle.pb_lease.specs.LeaseValue.{LeaseValue, leased_store, HasWeights}
+
+-- the guide of a search by blocks: the task's own estimate of each state, and the block that is its home
+abbrev pub guide_of : Parts → AbstractGraph → Guide
+guide_of task graph = record { estimate = estimate_of task; home = home_of task graph }
+
+-- what is searched, and with what: the task, by the blocks of the graph
+abbrev pub setup_of : Parts → AbstractGraph → Settings → (reopenings : ℕ) → Setup
+setup_of task graph settings reopenings =
+    record { space = space_of task; guide = guide_of task graph; blocks = blocks_of graph; settings = settings; reopenings = reopenings }
+
+-- what the lease machine has of a lease
+abbrev pub grant_of : LeaseValue → Grant
+grant_of lease = record { block = lease.block; quota = lease.quota }
+
+-- The lease is out in this machine, and its rows come from those that it was given or last renewed with by exactly the expansions that it
+-- counts, and by at most this many that were broken off.
+pub record IsOut (setup : Setup) (machine : Machine) (most_broken : ℕ) (lease : LeaseValue) : Type 0 where
+  pub leased : machine.counts.leases lease.worker ≡ Some (grant_of lease)
+  pub work : HasWorked setup machine lease.worker (grant_of lease) lease.used most_broken (leased_store lease)
+
+-- the work of a lease that is out was done in turns
+abbrev pub IsInTurns : (setup : Setup) (machine : Machine) (most_broken : ℕ) (lease : LeaseValue) → IsOut setup machine most_broken lease → Type 0
+IsInTurns setup machine most_broken lease out =
+    AreLeaseTurns setup.space setup.guide out.work.works (lent_store setup lease.block machine.store (machine.given lease.worker))
+
+-- the lease is out, and its work was done in turns
+abbrev pub IsOutInTurns : (setup : Setup) (machine : Machine) (most_broken : ℕ) (lease : LeaseValue) → Type 0
+IsOutInTurns setup machine most_broken lease = (out : IsOut setup machine most_broken lease) × IsInTurns setup machine most_broken lease out
+
+-- The lease has the bundles of its block's scope and no others, each with its weight.
+pub record HasScope (graph : AbstractGraph) (lease : LeaseValue) : Type 0 where
+  pub blocks : (block : ℕ) → is_some (content_in lease.parts block) ≡ (blocks_of graph).scope lease.block block
+  pub weights : HasWeights lease

@@ -1,0 +1,13 @@
+pub mod Tables
+pub mod Kept
+pub mod Events
+pub mod Leasing
+pub mod Marking
+pub mod Laws
+pub mod LeaseValue
+pub mod Lending
+pub mod Leased
+pub mod GraphValue
+pub mod Moments
+pub mod Choices
+pub mod Steps

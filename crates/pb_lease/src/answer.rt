@@ -1,0 +1,24 @@
+//! What a worker is answered that asks for a lease, or for more work on the lease that it has.
+use crate::lease::Lease;
+use pb_machine::End;
+
+/// What a worker is answered that asks for a lease.
+pub enum Answer {
+    /// It has this lease, of the first choice.
+    Leased(Lease),
+    /// No end stands, some lease is out, and no block may be leased as long as that is so: the worker asks again when a lease came
+    /// back.
+    NotYet,
+    /// The search is over: this end stands.
+    Over(End),
+    /// Want of memory: nothing was leased.
+    Memory,
+}
+
+/// What a worker is answered that asks for more work on the lease that it has.
+pub enum Renewed {
+    /// The lease goes on: with it home its block would be the first choice.
+    Kept(Lease),
+    /// The lease came back.
+    Given,
+}

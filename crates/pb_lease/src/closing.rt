@@ -1,0 +1,22 @@
+//! Workers that sign off.
+ghost use Rattle.std.specs.Prelude.{◌≡◌, ◌<◌, ◌||◌, ◌∷◌, IsTrue, IsFalse, None, is_some};
+ghost use Rattle.pb_machine.specs.declared.event.Event.TheVariants.{Off};
+ghost use Rattle.pb_lease.specs.Events.{ending};
+ghost use Rattle.pb_lease.specs.GraphValue.{counts_in};
+ghost use Rattle.pb_lease.specs.Steps.{IsSignedOff, KeepsLeases};
+
+use crate::graph::Graph;
+
+impl Graph {
+    /// The worker signs off: it takes no further part. Where it reports want of memory and no end stands, the search ends by that.
+    pub fn sign_off(&mut self, worker: u32, trouble: bool)
+        requires worker { worker < self.old.table.settings.workers }
+        requires vacant { (counts_in self.old).leases worker ≡ None }
+        requires stays { IsFalse ((counts_in self.old).signed_off worker) }
+        requires cause { IsTrue (trouble || is_some self.old.table.end) }
+        ensures signed_off { IsSignedOff self.old worker trouble self.new }
+        ensures moment { KeepsLeases self.old (Off worker trouble ∷ ending trouble self.old.table.end) self.new }
+    {
+        self.tables.sign_off(worker, trouble);
+    }
+}

@@ -1,0 +1,148 @@
+//! The graph of a search by leases.
+ghost use Rattle.std.specs.Prelude.{◌≡◌, ◌<◌, ℕ, [], None, Some, IsFalse, IsSome, IfOk, List};
+ghost use Rattle.std.specs.Arc.{arc_value};
+ghost use Rattle.pb_model.specs.Store.{Rows};
+ghost use Rattle.pb_model.specs.Work.{opening_store};
+ghost use Rattle.pb_machine.specs.Settings.{AreInRange, weight_of};
+ghost use Rattle.pb_machine.specs.Counts.{opening_counts};
+ghost use Rattle.pb_machine.specs.History.{IsHistory};
+ghost use Rattle.pb_machine.specs.Machine.{Machine, opening_machine};
+ghost use Rattle.pb_task.specs.Parts.{space_of};
+ghost use Rattle.pb_estimate.specs.Estimates.{estimate_of};
+ghost use Rattle.pb_abstract.specs.Graph.{IsGraphOf};
+ghost use Rattle.pb_lists.specs.Bundle.{row_of};
+ghost use Rattle.pb_homes.specs.Homes.{content_at, home_rows};
+ghost use Rattle.pb_lease.specs.Tables.{blocks, rooms};
+ghost use Rattle.pb_lease.specs.GraphValue.{setup_in, counts_in, IsLeaseGraph};
+ghost use Rattle.pb_lease.specs.Choices.{is_out_in};
+ghost use Rattle.pb_lease.specs.Moments.{IsMoment};
+
+use crate::tables::Tables;
+use pb_abstract::AbsGraph;
+use pb_homes::Homes;
+use pb_lists::Bundle;
+use pb_machine::{End, Event, Settings};
+use pb_model::Estimate;
+use pb_task::Task;
+use std::alloc::{AllocError, Global};
+use std::marker::Model;
+use std::sync::Arc;
+
+/// A search that gives out leases of its blocks: the task and its blocks, the rows at home, the least cost at which a goal is known to be
+/// reached, and the numbers and the journal of the lease machine. Each call that changes it is one event of that machine, or an event and
+/// the end that follows from it.
+#[derive(Drop)]
+pub struct Graph {
+    pub(crate) task: Arc<Task>,
+    pub(crate) tables: Tables,
+    pub(crate) homes: Homes,
+    pub(crate) incumbent: Option<u64>,
+}
+
+impl Model for Graph {
+    ghost use Rattle.std.specs.Arc.{arc_value};
+    ghost use Rattle.pb_lease.specs.GraphValue.{GraphValue, IsLeaseGraph};
+
+    ghost Value = { GraphValue };
+
+    ghost view = { λ g. record { task = arc_value g.task; table = g.tables; homes = g.homes; incumbent = g.incumbent } };
+
+    ghost invariant = { λ g. IsLeaseGraph (record { task = arc_value g.task; table = g.tables; homes = g.homes; incumbent = g.incumbent }) };
+}
+
+impl Graph {
+    /// The graph of a search that begins: the start alone has a row, which is Opened, nothing is leased, all of the budget is left, no cost
+    /// is known, and the journal is empty. It takes room for all blocks and workers, for every worker's signing off and for one end. The
+    /// estimate is the start's. An error is want of memory.
+    pub fn new(
+        alloc: Global,
+        task: Arc<Task>,
+        graph: Arc<AbsGraph>,
+        estimate: Estimate,
+        settings: Settings,
+    ) -> Result<Graph, AllocError>
+        requires graph { IsGraphOf (arc_value task) (arc_value graph) }
+        requires estimate { estimate ≡ estimate_of (arc_value task) (space_of (arc_value task)).start }
+        requires settings { AreInRange settings }
+        ensures task { IfOk result (λ g. g.task ≡ arc_value task) }
+        ensures graph { IfOk result (λ g. g.table.graph ≡ arc_value graph) }
+        ensures settings { IfOk result (λ g. g.table.settings ≡ settings) }
+        ensures counts { IfOk result (λ g. counts_in g ≡ opening_counts settings 0) }
+        ensures journal { IfOk result (λ g. g.table.journal ≡ []) }
+        ensures rooms { IfOk result (λ g. (worker : ℕ) → rooms g.table worker ≡ 0) }
+        ensures incumbent { IfOk result (λ g. g.incumbent ≡ None) }
+        ensures rows { IfOk result (λ g. (home state : ℕ) → home_rows g.homes home state ≡ (opening_store (setup_in g).space (setup_in g).guide (weight_of settings)).rows home state) }
+        ensures moment { IfOk result (λ g. (recorded : (worker : ℕ) → Rows) → IsMoment g recorded (opening_machine (setup_in g))) }
+    {
+        let start = task.initial();
+        let block = graph.block(&task, &start);
+        let mut homes = Homes::new(alloc, graph.count(), settings.num, settings.den)?;
+        homes.offer_start(block, start, estimate)?;
+        let tables = Tables::new(alloc, graph, settings)?;
+        Ok(Graph {
+            task,
+            tables,
+            homes,
+            incumbent: None,
+        })
+    }
+
+    /// The events so far: a legal history.
+    pub fn journal(&self) -> &[Event]
+        ensures events { result.now ≡ self.now.table.journal }
+        ensures legal { IsHistory (blocks self.now.table) self.now.table.settings 0 self.now.table.journal (counts_in self.now) }
+    {
+        self.tables.journal()
+    }
+
+    /// The end, or None while none stands.
+    pub fn end(&self) -> Option<End>
+        ensures { result ≡ self.now.table.end }
+    {
+        self.tables.end()
+    }
+
+    /// The least cost at which a goal is known to be reached, in the unit of the task's action costs, as of the leases that came back or
+    /// were renewed. None where no cost is known.
+    pub fn incumbent(&self) -> Option<u64>
+        ensures { result ≡ self.now.incumbent }
+    {
+        self.incumbent
+    }
+
+    /// What the search is run with.
+    pub fn settings(&self) -> &Settings
+        ensures settings { result.now ≡ self.now.table.settings }
+        ensures range { AreInRange self.now.table.settings }
+    {
+        self.tables.settings()
+    }
+
+    /// The abstract graph: the blocks that are leased.
+    pub fn abstraction(&self) -> &AbsGraph
+        ensures graph { result.now ≡ self.now.table.graph }
+        ensures lawful { IsLeaseGraph self.now }
+    {
+        self.tables.graph()
+    }
+
+    /// For how many more events of the worker there is room in the journal, beside the return of its lease: renewals, hot marks, and marks
+    /// taken away. It is 63 at a lease.
+    pub fn room(&self, worker: u32) -> u32
+        requires { IsSome ((counts_in self.now).leases worker) }
+        ensures { result ≡ rooms self.now.table worker }
+    {
+        self.tables.room(worker)
+    }
+
+    /// The rows of a block, while no lease is out: those of every moment of the search that the graph is one of.
+    pub fn bundle(&self, block: u32) -> &Bundle
+        requires home { IsFalse (is_out_in self.now) }
+        requires block { block < (blocks self.now.table).count }
+        ensures bundle { content_at self.now.homes block ≡ Some result.now }
+        ensures weight { result.now.weight ≡ weight_of self.now.table.settings }
+        ensures moment { (recorded : (worker : ℕ) → Rows) (machine : Machine) → IsMoment self.now recorded machine → (state : ℕ) → machine.store.rows block state ≡ row_of result.now state }
+    {
+        self.homes.bundle(block)
+    }
+}

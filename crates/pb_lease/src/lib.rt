@@ -1,0 +1,34 @@
+//! The graph of a parallel best-first search, which gives out leases of its blocks (Burns, Lemons, Ruml and Zhou, 2010): the rows at home,
+//! the bundles that leave with a lease and come back, the numbers of the lease machine, its journal, and the counters that are kept beside
+//! them.
+#![tactic(auto)]
+
+mod answer;
+mod closing;
+mod counters;
+mod ending;
+mod granting;
+mod graph;
+mod hot;
+mod laws;
+mod lease;
+mod leasing;
+mod marking;
+mod marks;
+mod returning;
+mod seat;
+mod seats;
+mod tables;
+
+pub use answer::{Answer, Renewed};
+pub use graph::Graph;
+pub use laws::{leases_stay_out, none_out_can_be_leased, opened_blocks_may_be_leased};
+pub use lease::Lease;
+pub use leasing::ROOM;
+pub use seat::Seat;
+pub use tables::Tables;
+
+#[cfg(test)]
+mod graph_tests;
+#[cfg(test)]
+mod tests;
