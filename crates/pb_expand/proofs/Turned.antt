@@ -1,0 +1,162 @@
+-- Turns of a lease.
+use Rattle.std.proofs.Common.{◌≡◌, ℕ, ◌+◌, ◌<◌, cond, List, [], ◌∷◌, ◌++◌, length, take, get_or, Some, IsTrue, refl, sym, ap, ◌∙◌, subst, arith, inl, inr}
+use Rattle.std.specs.List.{AllByRecursion}
+use Rattle.std.proofs.lemmas.List.{take_more}
+use Rattle.pb_model.specs.declared.row.Status.{Status}
+use Rattle.pb_model.specs.declared.row.Status.TheVariants.{Closed, Cut}
+use Rattle.pb_model.specs.declared.row.Row.{Row}
+use Rattle.pb_model.specs.declared.row.Succ.{Succ}
+use Rattle.pb_model.specs.Space.{Space, steps}
+use Rattle.pb_model.specs.Guide.{Guide}
+use Rattle.pb_model.specs.Store.{Store, is_place_of, lesser, MayBeCut}
+use Rattle.pb_model.specs.Key.{IsFirstRow}
+use Rattle.pb_model.specs.Work.{Work, expand, break_off, cut, take_goal, offered_row, row_after_offer, row_after_offers, row_after_status, row_after, incumbent_after, weight_after, g_of, g_before, store_after, May, expansions, broken_expansions}
+use Rattle.pb_model.proofs.Locality.{broken_append}
+use Rattle.pb_model.proofs.Offers.{Left, place_of, offers_leave, offers_push}
+use Rattle.pb_model.proofs.Tests.{by_cases}
+use Rattle.pb_model.proofs.Successors.{IsStep, are_steps, all_take}
+use Rattle.pb_machine.specs.Machine.{IsOn, BreaksLast}
+use Rattle.pb_machine.specs.Turns.{IsLeaseTurn, AreLeaseTurns}
+use Rattle.pb_machine.proofs.LeaseWork.{lease_work_goes_on}
+use Rattle.pb_machine.proofs.LeaseTurns.{lease_turns_go_on}
+use Rattle.pb_lists.specs.Bundle.{IsOpened}
+use Rattle.pb_homes.specs.Parts.{away_rows}
+use Rattle.pb_lease.specs.LeaseValue.{LeaseValue, leased_store}
+use Rattle.pb_expand.specs.Turned.{own_rows, reads_none, HasTurned, IsNext}
+use Rattle.pb_expand.specs.Rows.{ChangesRows, SetsStatusAt, OffersAt, HasOffers, IsBrokenOff}
+
+module _ (space : Space) (guide : Guide) (block : ℕ) where
+  -- nothing was done
+  pub turned_none : (store : Store) → HasTurned space guide block 0 0 store store
+  turned_none store = record {
+    work = record { works = []; on = tt; comes = refl; used_is = refl; few_broken = omega arith; stops = tt };
+    broken_is = refl;
+    turns = tt;
+  }
+
+  -- turns go on where others stopped
+  pub turned_on : (used more broken : ℕ) (old mid new : Store) → HasTurned space guide block used 0 old mid → HasTurned space guide block more broken mid new
+      → HasTurned space guide block (used + more) broken old new
+  turned_on used more broken old mid new first second =
+      let both = lease_work_goes_on space guide block used more broken reads_none reads_none old mid new first.work second.work (λ incumbent known. known) in
+      record {
+        work = both.0;
+        broken_is =
+            let parts : broken_expansions both.0.works ≡ broken_expansions first.work.works + broken_expansions second.work.works =
+            ap broken_expansions both.1 ∙ broken_append first.work.works second.work.works in
+            omega (arith, parts, first.broken_is, second.broken_is);
+        turns = subst (λ works. AreLeaseTurns space guide works old) (sym both.1)
+            (lease_turns_go_on space guide first.work.works second.work.works old mid first.work.comes first.turns second.turns);
+      }
+
+  -- one turn
+  one_turn : (work : Work) (used broken : ℕ) (old new : Store) → IsOn guide block reads_none work → May space guide work old → IsLeaseTurn guide old work
+      → new ≡ store_after space guide work old → expansions (work ∷ []) ≡ used → broken_expansions (work ∷ []) ≡ broken → BreaksLast (work ∷ [])
+      → HasTurned space guide block used broken old new
+  one_turn work used broken old new on may turn after used_is broken_is stops = record {
+    work = record { works = work ∷ []; on = (on, tt); comes = (may, after); used_is = used_is; few_broken = omega (arith, broken_is); stops = stops };
+    broken_is = broken_is;
+    turns = (turn, tt);
+  }
+
+-- ---- the store after a turn
+
+module _ (space : Space) (guide : Guide) (work : Work) (g : ℕ) (old new : LeaseValue) where
+  store_is : g_before guide (leased_store old) work ≡ g
+      → ((home state : ℕ) → away_rows new.parts home state ≡ row_after space guide work g old.incumbent home state (away_rows old.parts home state))
+      → new.incumbent ≡ incumbent_after work g old.incumbent → new.weight ≡ weight_after work old.weight → leased_store new ≡ store_after space guide work (leased_store old)
+  store_is at rows incumbent weight =
+      let same : g ≡ g_before guide (leased_store old) work = sym at in
+      λ i. record {
+        rows = λ home state. (rows home state ∙ ap (λ k. row_after space guide work k old.incumbent home state (away_rows old.parts home state)) same) i;
+        incumbent = (incumbent ∙ ap (λ k. incumbent_after work k old.incumbent) same) i;
+        weight = weight i;
+      }
+
+module _ (space : Space) (guide : Guide) (block : ℕ) (old : LeaseValue) (state : ℕ) (row : Row) (own : old.block ≡ block) (home : guide.home state ≡ block) where
+  module _ (first : IsFirstRow old.weight (own_rows old) state row) where
+    at_home : IsFirstRow old.weight (away_rows old.parts (guide.home state)) state row
+    at_home = subst (λ k. IsFirstRow old.weight (away_rows old.parts k) state row) (own ∙ sym home) first
+
+    g_is : g_of (away_rows old.parts (guide.home state) state) ≡ row.g
+    g_is = ap g_of at_home.found
+
+    status_rows : (from to : LeaseValue) (status : Status) → SetsStatusAt from to block state status
+        → (other_home other : ℕ) → away_rows to.parts other_home other ≡ row_after_status guide state status other_home other (away_rows from.parts other_home other)
+    status_rows from to status set = subst (λ k. SetsStatusAt from to k state status) (sym home) set
+
+    -- a row was cut that may be cut
+    pub cut_turned : (new : LeaseValue) → MayBeCut old.weight old.incumbent row.g row.estimate → SetsStatusAt old new block state Cut → ChangesRows old new
+        → HasTurned space guide block 0 0 (leased_store old) (leased_store new)
+    cut_turned new may set changes =
+        one_turn space guide block (cut state) 0 0 (leased_store old) (leased_store new) home (row, at_home.found, at_home.opened, may) (row, at_home)
+        (store_is space guide (cut state) row.g old new g_is (status_rows old new Cut set) (ap (λ (l : LeaseValue). l.incumbent) changes.others) (ap (λ (l : LeaseValue). l.weight) changes.others))
+        refl refl tt
+
+    -- a goal's row was taken
+    pub take_turned : (new : LeaseValue) → ¬ MayBeCut old.weight old.incumbent row.g row.estimate → IsTrue (space.is_goal state)
+        → SetsStatusAt (record old { incumbent = lesser old.incumbent (Some row.g) }) new block state Cut → ChangesRows (record old { incumbent = lesser old.incumbent (Some row.g) }) new
+        → HasTurned space guide block 0 0 (leased_store old) (leased_store new)
+    take_turned new kept goal set changes =
+        one_turn space guide block (take_goal state) 0 0 (leased_store old) (leased_store new) home ((row, at_home.found, at_home.opened), goal) (row, at_home, kept)
+        (store_is space guide (take_goal state) row.g old new g_is (status_rows (record old { incumbent = lesser old.incumbent (Some row.g) }) new Cut set)
+        (ap (λ (l : LeaseValue). l.incumbent) changes.others) (ap (λ (l : LeaseValue). l.weight) changes.others))
+        refl refl tt
+
+  module _ (next : IsNext space old state row) where
+    -- what has become of the row itself after offers
+    own_left : (succs : List Succ) (mid : LeaseValue) → AllByRecursion (IsStep space state) succs → HasOffers guide state row.g succs old mid → IsOpened (away_rows mid.parts block state)
+    own_left succs mid are has = go (offers_leave space guide state row.g succs block state (away_rows old.parts block state) are)
+      where
+        go : Left space guide state row.g block state (away_rows old.parts block state) (row_after_offers guide state row.g succs block state (away_rows old.parts block state))
+            → IsOpened (away_rows mid.parts block state)
+        go (inl same) = (row, has block state ∙ same ∙ ap (λ k. away_rows old.parts k state) (sym own) ∙ next.first.found, next.first.opened)
+        go (inr fresh) = (fresh.row, has block state ∙ fresh.is, fresh.opened)
+
+    -- the row is Opened while its successors are offered
+    pub offers_keep_opened : (mid : LeaseValue) → HasOffers guide state row.g (steps space state) old mid → IsOpened (away_rows mid.parts block state)
+    offers_keep_opened mid has = own_left (steps space state) mid (are_steps space state) has
+
+    pub broken_keeps_opened : (new : LeaseValue) → IsBrokenOff guide state row.g (steps space state) old new → IsOpened (away_rows new.parts block state)
+    broken_keeps_opened new broken = own_left (take broken.0 (steps space state)) new (all_take (IsStep space state) broken.0 (steps space state) (are_steps space state)) broken.2
+
+    -- the row was expanded
+    pub expand_turned : (mid new : LeaseValue) → HasOffers guide state row.g (steps space state) old mid → ChangesRows old mid → SetsStatusAt mid new block state Closed → ChangesRows mid new
+        → (counted : LeaseValue) → counted ≡ record new { used = new.used + 1 } → HasTurned space guide block 1 0 (leased_store old) (leased_store counted)
+    expand_turned mid new has first set second counted is =
+        one_turn space guide block (expand state) 1 0 (leased_store old) (leased_store counted) home ((row, (at_home next.first).found, (at_home next.first).opened), next.no_goal) (row, at_home next.first, next.kept)
+        (ap leased_store is ∙ store_is space guide (expand state) row.g old new (g_is next.first)
+        (λ other_home other. status_rows next.first mid new Closed set other_home other ∙ ap (row_after_status guide state Closed other_home other) (has other_home other))
+        (ap (λ (l : LeaseValue). l.incumbent) second.others ∙ ap (λ (l : LeaseValue). l.incumbent) first.others) (ap (λ (l : LeaseValue). l.weight) second.others ∙ ap (λ (l : LeaseValue). l.weight) first.others))
+        refl refl tt
+
+    -- the expansion was broken off
+    pub break_turned : (new : LeaseValue) → IsBrokenOff guide state row.g (steps space state) old new → ChangesRows old new → HasTurned space guide block 0 1 (leased_store old) (leased_store new)
+    break_turned new broken changes =
+        one_turn space guide block (break_off state broken.0) 0 1 (leased_store old) (leased_store new) home ((row, (at_home next.first).found, (at_home next.first).opened), next.no_goal, broken.1)
+        (row, at_home next.first, next.kept)
+        (store_is space guide (break_off state broken.0) row.g old new (g_is next.first) broken.2
+        (ap (λ (l : LeaseValue). l.incumbent) changes.others) (ap (λ (l : LeaseValue). l.weight) changes.others))
+        refl refl refl
+
+-- ---- offers one after another
+
+module _ (guide : Guide) (own g : ℕ) where
+  offers_more : (succs : List Succ) (succ : Succ) (old mid new : LeaseValue) → HasOffers guide own g succs old mid
+      → OffersAt mid new (guide.home succ.state) succ.state (g + succ.cost) (guide.estimate succ.state) (Some own) succ.action → HasOffers guide own g (succs ++ succ ∷ []) old new
+  offers_more succs succ old mid new has one home state =
+      one_more home state ∙ ap (row_after_offer guide own g succ home state) (has home state) ∙ sym (offers_push guide own g succs succ home state (away_rows old.parts home state))
+    where
+      one_more : (home state : ℕ) → away_rows new.parts home state ≡ row_after_offer guide own g succ home state (away_rows mid.parts home state)
+      one_more home state = one home state ∙ by_cases (is_place_of guide succ.state home state)
+          (λ e. ap (λ h. cond (is_place_of guide succ.state home state) (Some (offered_row (g + succ.cost) h (Some own) succ.action (away_rows mid.parts home state))) (away_rows mid.parts home state))
+          (ap guide.estimate (sym (place_of guide succ.state home state e).1)))
+          (λ e. ap (λ b. cond b (Some (offered_row (g + succ.cost) (guide.estimate succ.state) (Some own) succ.action (away_rows mid.parts home state))) (away_rows mid.parts home state)) e
+          ∙ sym (ap (λ b. cond b (Some (offered_row (g + succ.cost) (guide.estimate state) (Some own) succ.action (away_rows mid.parts home state))) (away_rows mid.parts home state)) e))
+
+  -- the next of a list of successors
+  pub offers_next : (succs : List Succ) (i : ℕ) (succ : Succ) (old mid new : LeaseValue) → i < length succs → succ ≡ get_or succs i succ → HasOffers guide own g (take i succs) old mid
+      → OffersAt mid new (guide.home succ.state) succ.state (g + succ.cost) (guide.estimate succ.state) (Some own) succ.action → HasOffers guide own g (take (i + 1) succs) old new
+  offers_next succs i succ old mid new less is has one =
+      subst (λ ss. HasOffers guide own g ss old new) (sym (take_more succs i succ less))
+      (subst (λ s. HasOffers guide own g (take i succs ++ s ∷ []) old new) is (offers_more (take i succs) succ old mid new has one))

@@ -1,0 +1,36 @@
+use Rattle.std.proofs.Common.{◌≤◌, sym, subst, arith, IsSome}
+use Rattle.pb_task.specs.Parts.{space_of, greatest_cost}
+use Rattle.pb_homes.specs.Parts.{content_in}
+use Rattle.pb_lease.specs.Leased.{guide_of}
+use Rattle.pb_expand.proofs.Listed.{step_at}
+use Rattle.pb_expand.proofs.Same.{still_there, changes_on}
+use Rattle.pb_expand.proofs.Turned.{offers_next}
+use Rattle.pb_expand.proofs.offers.offer_all.Goals as goal
+
+pub overflow_add-cost : goal.overflow_add-cost
+overflow_add-cost c =
+    let low : c.succ-item.result.cost ≤ greatest_cost =
+    c.requires.proper.bounded _ _ _ _ (step_at (space_of c.args.task.now) c.args.parent.now c.args.succs.now c.loop-succ.succ-index c.succ-item.result c.requires.succs c.loop-succ-test.true c.succ-item.is) in
+    omega (arith, low, c.requires.cheap)
+
+pub estimate-estimate-requires-clause-state : goal.estimate-estimate-requires-clause-state
+estimate-estimate-requires-clause-state c =
+    c.requires.proper.to_state _ _ _ _ (step_at (space_of c.args.task.now) c.args.parent.now c.args.succs.now c.loop-succ.succ-index c.succ-item.result c.requires.succs c.loop-succ-test.true c.succ-item.is)
+
+pub block-block-requires-clause-state : goal.block-block-requires-clause-state
+block-block-requires-clause-state c =
+    c.requires.proper.to_state _ _ _ _ (step_at (space_of c.args.task.now) c.args.parent.now c.args.succs.now c.loop-succ.succ-index c.succ-item.result c.requires.succs c.loop-succ-test.true c.succ-item.is)
+
+pub offer-requires : goal.offer-requires
+offer-requires c =
+    subst (λ block. IsSome (content_in c.loop-succ.lease.parts block)) (sym c.block-block.ensures.block)
+    (still_there c.args.lease.now.parts c.loop-succ.lease.parts _ c.loop-succ.invariant.changes.places
+    (c.requires.there _ _ _ (step_at (space_of c.args.task.now) c.args.parent.now c.args.succs.now c.loop-succ.succ-index c.succ-item.result c.requires.succs c.loop-succ-test.true c.succ-item.is)))
+
+pub loop-succ-preserved : goal.loop-succ-preserved
+loop-succ-preserved c = record {
+  offers = offers_next (guide_of c.args.task.now c.args.graph.now) c.args.parent.now c.args.g c.args.succs.now c.loop-succ.succ-index c.succ-item.result c.args.lease.now c.loop-succ.lease c.offer.new.lease
+      c.loop-succ-test.true c.succ-item.is c.loop-succ.invariant.offers (rw c.block-block.ensures.block at rw c.estimate-estimate.ensures.estimate at c.in_ok-offer.ensures.rows);
+  changes = changes_on c.args.lease.now c.loop-succ.lease c.offer.new.lease c.loop-succ.invariant.changes c.in_ok-offer.ensures.changes;
+  tables = c.estimate-estimate.ensures.task;
+}

@@ -1,0 +1,63 @@
+use Rattle.std.proofs.Common.{refl, sym, ap, subst, arith}
+use Rattle.pb_model.specs.declared.row.Status.TheVariants.{Closed}
+use Rattle.pb_task.specs.Parts.{space_of}
+use Rattle.pb_lists.specs.Bundle.{IsOpened}
+use Rattle.pb_homes.specs.Parts.{away_rows}
+use Rattle.pb_lease.specs.LeaseValue.{LeaseValue, HasWeights}
+use Rattle.pb_lease.specs.Leased.{guide_of}
+use Rattle.pb_expand.specs.Turned.{own_rows}
+use Rattle.pb_expand.specs.Rows.{SetsStatusAt}
+use Rattle.pb_expand.proofs.Changed.{on_err, has_opened}
+use Rattle.pb_expand.proofs.Known.{leads_into, row_is_home, row_is_state, row_is_cheap}
+use Rattle.pb_expand.proofs.Turned.{offers_keep_opened, broken_keeps_opened, expand_turned, break_turned}
+use Rattle.pb_expand.proofs.turns.expand.Goals as goal
+
+pub successors-requires-clause-state : goal.successors-requires-clause-state
+successors-requires-clause-state c = row_is_state c.args.task.now c.args.graph.now c.args.lease.now c.requires.at_work c.args.state.now c.args.row.now c.requires.next.first.found
+
+pub offer_all-requires-clause-there : goal.offer_all-requires-clause-there
+offer_all-requires-clause-there c =
+    leads_into c.args.task.now c.args.graph.now c.args.lease.now c.requires.at_work c.args.state.now
+    (row_is_home c.args.task.now c.args.graph.now c.args.lease.now c.requires.at_work c.args.state.now c.args.row.now c.requires.next.first.found)
+
+pub offer_all-requires-clause-cheap : goal.offer_all-requires-clause-cheap
+offer_all-requires-clause-cheap c =
+    row_is_cheap c.args.task.now c.args.graph.now c.args.lease.now c.requires.at_work c.args.state.now c.args.row.now c.requires.next.first.found (omega (arith, c.requires.left))
+
+pub returns-in_err-offer_all-clause-broken : goal.returns-in_err-offer_all-clause-broken
+returns-in_err-offer_all-clause-broken c =
+    on_err c.from_residual.result _
+    (break_turned (space_of c.args.task.now) (guide_of c.args.task.now c.args.graph.now) c.args.lease.now.block c.args.lease.now c.args.state.now c.args.row.now refl
+    (row_is_home c.args.task.now c.args.graph.now c.args.lease.now c.requires.at_work c.args.state.now c.args.row.now c.requires.next.first.found) c.requires.next c.offer_all.new.lease
+    (rw c.successors.ensures.successors at rw c.deref.ensures.value at c.in_err-offer_all.ensures.broken) c.in_err-offer_all.ensures.changes)
+
+pub returns-in_err-offer_all-clause-opened : goal.returns-in_err-offer_all-clause-opened
+returns-in_err-offer_all-clause-opened c =
+    on_err c.from_residual.result _
+    (has_opened (own_rows c.offer_all.new.lease) c.args.state.now
+    (subst (λ block. IsOpened (away_rows c.offer_all.new.lease.parts block c.args.state.now)) (sym (ap (λ (l : LeaseValue). l.block) c.in_err-offer_all.ensures.changes.others))
+    (broken_keeps_opened (space_of c.args.task.now) (guide_of c.args.task.now c.args.graph.now) c.args.lease.now.block c.args.lease.now c.args.state.now c.args.row.now refl
+    (row_is_home c.args.task.now c.args.graph.now c.args.lease.now c.requires.at_work c.args.state.now c.args.row.now c.requires.next.first.found) c.requires.next c.offer_all.new.lease
+    (rw c.successors.ensures.successors at rw c.deref.ensures.value at c.in_err-offer_all.ensures.broken))))
+
+pub returns-in_err-offer_all-clause-weights : goal.returns-in_err-offer_all-clause-weights
+returns-in_err-offer_all-clause-weights c = c.in_err-offer_all.ensures.changes.weights c.requires.at_work.scope.weights
+
+pub close-requires : goal.close-requires
+close-requires c =
+    subst (λ block. IsOpened (away_rows c.offer_all.new.lease.parts block c.args.state.now)) (sym (ap (λ (l : LeaseValue). l.block) c.in_ok-offer_all.ensures.changes.others))
+    (offers_keep_opened (space_of c.args.task.now) (guide_of c.args.task.now c.args.graph.now) c.args.lease.now.block c.args.lease.now c.args.state.now c.args.row.now refl
+    (row_is_home c.args.task.now c.args.graph.now c.args.lease.now c.requires.at_work c.args.state.now c.args.row.now c.requires.next.first.found) c.requires.next c.offer_all.new.lease
+    (rw c.successors.ensures.successors at rw c.deref.ensures.value at c.in_ok-offer_all.ensures.offers))
+
+pub returns-clause-turned : goal.returns-clause-turned
+returns-clause-turned c =
+    expand_turned (space_of c.args.task.now) (guide_of c.args.task.now c.args.graph.now) c.args.lease.now.block c.args.lease.now c.args.state.now c.args.row.now refl
+    (row_is_home c.args.task.now c.args.graph.now c.args.lease.now c.requires.at_work c.args.state.now c.args.row.now c.requires.next.first.found) c.requires.next c.offer_all.new.lease c.close.new.lease
+    (rw c.successors.ensures.successors at rw c.deref.ensures.value at c.in_ok-offer_all.ensures.offers) c.in_ok-offer_all.ensures.changes
+    (subst (λ block. SetsStatusAt c.offer_all.new.lease c.close.new.lease block c.args.state.now Closed) (ap (λ (l : LeaseValue). l.block) c.in_ok-offer_all.ensures.changes.others) c.close.ensures.rows)
+    c.close.ensures.changes c.spend.new.self c.spend.ensures
+
+pub returns-clause-weights : goal.returns-clause-weights
+returns-clause-weights c =
+    subst HasWeights (sym c.spend.ensures) (c.close.ensures.changes.weights (c.in_ok-offer_all.ensures.changes.weights c.requires.at_work.scope.weights))

@@ -1,0 +1,84 @@
+ghost use Rattle.std.specs.Prelude.{◌≡◌, ◌-◌, ◌<◌, ◌≤◌, ℕ, ◌↔◌, vec_capacity};
+ghost use Rattle.pb_model.specs.Store.{HasOpened};
+ghost use Rattle.pb_model.specs.declared.row.Row.{Row};
+ghost use Rattle.pb_machine.specs.declared.settings.Settings.{Settings};
+ghost use Rattle.pb_machine.specs.Machine.{Machine};
+ghost use Rattle.pb_task.specs.Parts.{space_of, max_degree_of};
+ghost use Rattle.pb_estimate.specs.Tables.{tables_of};
+ghost use Rattle.pb_abstract.specs.Graph.{IsGraphOf};
+ghost use Rattle.pb_lease.specs.LeaseValue.{leased_store};
+ghost use Rattle.pb_lease.specs.Leased.{guide_of, setup_of, HasScope, IsOut, IsInTurns};
+ghost use Rattle.pb_expand.specs.Turned.{own_rows, IsAtWork, HasTurned, IsNext, IsSameLease};
+ghost use Rattle.pb_expand.specs.Worked.{broken_by};
+ghost use Rattle.pb_expand.specs.declared.working.Worked.TheVariants.{Spent, Empty, Memory};
+
+use crate::turns::{expand, settle};
+use pb_abstract::AbsGraph;
+use pb_estimate::Estimator;
+use pb_lease::Lease;
+use pb_model::Succ;
+use pb_task::Task;
+
+/// Why the work on a lease stopped.
+#[derive(Clone, Copy, Debug, PartialEq, Eq)]
+pub enum Worked {
+    /// The quota is used up, and the next turn would expand one more row of the block.
+    Spent,
+    /// No row of the block is Opened.
+    Empty,
+    /// Memory was wanted for a successor of a row. The row is still Opened, and its expansion isn't counted.
+    Memory,
+}
+
+/// Works on a lease, in turns, as a best-first search does that opens rows again (Hart, Nilsson, Raphael 1968) on the rows of one
+/// block: cuts the first Opened row where it may be cut, takes it where it is a goal's, and else expands it, until no row of the block is
+/// Opened or the lease's quota is used up. The list is for successors alone. Only bundles take memory.
+pub fn work(
+    task: &Task,
+    estimator: &mut Estimator,
+    graph: &AbsGraph,
+    lease: &mut Lease,
+    succs: &mut Vec<Succ>,
+) -> Worked
+    requires tables { estimator.old ≡ tables_of task.now }
+    requires graph { IsGraphOf task.now graph.now }
+    requires room { max_degree_of task.now ≤ vec_capacity succs.old }
+    requires at_work { IsAtWork task.now graph.now lease.old }
+
+    // What was done: as many expansions as are counted, and one that was broken off where memory was wanted.
+    ensures turned { HasTurned (space_of task.now) (guide_of task.now graph.now) lease.old.block (lease.new.used - lease.old.used) (broken_by result)
+        (leased_store lease.old) (leased_store lease.new) }
+    ensures counted { lease.old.used ≤ lease.new.used }
+    ensures within { lease.new.used ≤ lease.new.quota }
+
+    // So a lease that was out in a machine still is, and has worked in turns where it had.
+    ensures out { (settings : Settings) (reopenings : ℕ) (machine : Machine)
+        → (before : IsOut (setup_of task.now graph.now settings reopenings) machine 0 lease.old)
+        → (after : IsOut (setup_of task.now graph.now settings reopenings) machine (broken_by result) lease.new)
+        × (IsInTurns (setup_of task.now graph.now settings reopenings) machine 0 lease.old before
+        → IsInTurns (setup_of task.now graph.now settings reopenings) machine (broken_by result) lease.new after) }
+
+    // Why it stopped.
+    ensures spent { (result ≡ Spent) ↔ (HasOpened (own_rows lease.new) × (lease.new.used ≡ lease.new.quota)) }
+    ensures empty { (result ≡ Empty) ↔ (HasOpened (own_rows lease.new) → ⊥) }
+    ensures memory { (result ≡ Memory) ↔ (HasOpened (own_rows lease.new) × (lease.new.used < lease.new.quota)) }
+    ensures next { result ≡ Spent → (state : ℕ) × (row : Row) × IsNext (space_of task.now) lease.new state row }
+
+    // What stays.
+    ensures same { IsSameLease lease.old lease.new }
+    ensures scope { HasScope graph.now lease.new }
+    ensures tables { estimator.new ≡ tables_of task.now }
+    ensures room { vec_capacity succs.old ≤ vec_capacity succs.new }
+{
+    let quota = lease.quota();
+    while let Some((state, row)) = settle(task, lease) {
+        if lease.used() == quota {
+            return Worked::Spent;
+        }
+        match expand(task, estimator, graph, lease, succs, &state, &row) {
+            Ok(()) => {}
+            Err(_) => return Worked::Memory,
+        }
+    }
+    Worked::Empty
+}
