@@ -1,0 +1,38 @@
+-- A worker that signed off.
+use Rattle.std.proofs.Common.{◌≡◌, Bool, true, false, Some, None, refl, ap, ◌∙◌, ◌∷◌}
+use Rattle.pb_machine.specs.declared.event.End.TheVariants.{Memory}
+use Rattle.pb_machine.specs.declared.event.Event.TheVariants.{Off}
+use Rattle.pb_machine.specs.Counts.{Counts, counts_after, is_any_out}
+use Rattle.pb_lease.specs.Tables.{blocks}
+use Rattle.pb_lease.specs.Events.{ending}
+use Rattle.pb_lease.specs.GraphValue.{GraphValue, counts_in}
+use Rattle.pb_lease.specs.Choices.{is_out_in}
+use Rattle.pb_lease.specs.Steps.{IsSignedOff, KeepsLeases}
+use Rattle.pb_workers.specs.Runs.{IsSameSearch, RunsOn}
+use Rattle.pb_workers.proofs.Going.{keeping_runs}
+use Rattle.pb_workers.proofs.Returned.{ending_same, ended_by_memory}
+
+module _ (old : GraphValue) (trouble : Bool) (new : GraphValue) (s : IsSignedOff old 0 trouble new) where
+  abbrev Gone : Counts
+  Gone = counts_after (blocks old.table) old.table.settings (counts_in old) (Off 0 trouble)
+
+  pub closed_same : IsSameSearch old new
+  closed_same = record { task = ap (λ (v : GraphValue). v.task) s.rest; graph = s.events.graph; settings = s.events.settings }
+
+  closed_leases : (counts_in new).leases ≡ (counts_in old).leases
+  closed_leases = ap (λ (c : Counts). c.leases) s.events.counts ∙ ending_same (λ c. c.leases) (blocks old.table) old.table.settings Gone trouble old.table.end (λ c. refl)
+
+  pub closed_home : is_out_in old ≡ false → is_out_in new ≡ false
+  closed_home home = (λ i. is_any_out (s.events.settings i).workers (closed_leases i)) ∙ home
+
+  pub closed_signed : (counts_in new).signed_off 0 ≡ true
+  closed_signed = ap (λ (c : Counts). c.signed_off 0) s.events.counts ∙ ending_same (λ c. c.signed_off 0) (blocks old.table) old.table.settings Gone trouble old.table.end (λ c. refl)
+
+  pub closed_runs : KeepsLeases old (Off 0 trouble ∷ ending trouble old.table.end) new → RunsOn old new
+  closed_runs keeps = keeping_runs old (Off 0 trouble ∷ ending trouble old.table.end) new keeps s.events.journal
+
+pub closed_end : (old new : GraphValue) → IsSignedOff old 0 false new → new.table.end ≡ old.table.end
+closed_end old new s = ap (λ (c : Counts). c.end) s.events.counts
+
+pub closed_by_memory : (old new : GraphValue) → IsSignedOff old 0 true new → old.table.end ≡ None → new.table.end ≡ Some Memory
+closed_by_memory old new s none = ap (λ (c : Counts). c.end) s.events.counts ∙ ended_by_memory (blocks old.table) old.table.settings (Gone old true new s) old.table.end none

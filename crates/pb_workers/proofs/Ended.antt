@@ -1,0 +1,56 @@
+-- What a search has when it ended.
+use Rattle.std.proofs.Common.{◌≡◌, ℕ, false, Some, refl, ap, ◌∙◌, subst}
+use Rattle.pb_model.specs.Store.{Rows, Store}
+use Rattle.pb_model.specs.Work.{Comes, opening_store}
+use Rattle.pb_model.specs.Weight.{Weight}
+use Rattle.pb_model.specs.Store.{IsQuiet, IsShown, HasOpened}
+use Rattle.pb_model.specs.Sound.{IsSound}
+use Rattle.pb_model.specs.Plan.{IncumbentHolds}
+use Rattle.pb_task.specs.Parts.{space_of, greatest_cost}
+use Rattle.pb_estimate.proofs.Estimates.{estimates_are_admissible}
+use Rattle.pb_machine.specs.declared.event.End.TheVariants.{Quiet, Budget}
+use Rattle.pb_machine.specs.Counts.{Counts, is_any_out}
+use Rattle.pb_machine.specs.Settings.{weight_of}
+use Rattle.pb_machine.specs.Machine.{Machine}
+use Rattle.pb_machine.proofs.MomentLaws.{lawful_stores_are_sound, quiet_ends_are_best, budget_ends_are_spent, none_out_is_shown}
+use Rattle.pb_lease.specs.Leased.{guide_of}
+use Rattle.pb_lease.specs.GraphValue.{GraphValue, setup_in, IsLeaseGraph}
+use Rattle.pb_lease.specs.Choices.{is_out_in}
+use Rattle.pb_lease.specs.Moments.{IsMoment}
+use Rattle.pb_lease.proofs.GraphBasics.{setup_is, all_rows}
+use Rattle.pb_workers.specs.Ends.{home_store, IsBestEnd, IsSpentEnd}
+
+module _ (g : GraphValue) (k : IsLeaseGraph g) (home : is_out_in g ≡ false) (recorded : (worker : ℕ) → Rows) (machine : Machine) (m : IsMoment g recorded machine) where
+  store_is : machine.store ≡ home_store g
+  store_is = λ i. record {
+    rows = λ block state. all_rows g k recorded machine m home block state i;
+    incumbent = m.incumbent i;
+    weight = m.lawful.weight i;
+  }
+
+  out : is_any_out g.table.settings.workers machine.counts.leases ≡ false
+  out = ap (λ (c : Counts). is_any_out g.table.settings.workers c.leases) m.counts ∙ home
+
+  pub best_end : g.table.end ≡ Some Quiet → IsBestEnd g
+  best_end quiet =
+      let end = ap (λ (c : Counts). c.end) m.counts ∙ quiet in
+      record {
+        sound = subst (λ (s : Store). IsSound (space_of g.task) (guide_of g.task g.table.graph) s) store_is (lawful_stores_are_sound (setup_in g) greatest_cost machine (setup_is g k) m.lawful);
+        quiet = subst (λ (s : Store). IsQuiet s) store_is (m.lawful.quiet end);
+        shown = subst (λ (s : Store). IsShown (space_of g.task) (guide_of g.task g.table.graph) s) store_is (none_out_is_shown (setup_in g) greatest_cost machine (setup_is g k) m.lawful out);
+        holds = subst (λ o. IncumbentHolds (space_of g.task) (weight_of g.table.settings) o) m.incumbent
+            (quiet_ends_are_best (setup_in g) greatest_cost machine (setup_is g k) m.lawful end (estimates_are_admissible g.task k.is_task));
+      }
+
+  pub spent_end : g.table.end ≡ Some Budget → IsSpentEnd g
+  spent_end budget =
+      let all = budget_ends_are_spent (setup_in g) greatest_cost machine (setup_is g k) m.lawful (ap (λ (c : Counts). c.end) m.counts ∙ budget) in
+      record {
+        works = all.1;
+        comes = subst (λ (s : Store). Comes (space_of g.task) (guide_of g.task g.table.graph) all.1 (opening_store (space_of g.task) (guide_of g.task g.table.graph) (weight_of g.table.settings)) s) store_is
+            (subst (λ (w : Weight). Comes (space_of g.task) (guide_of g.task g.table.graph) all.1 (opening_store (space_of g.task) (guide_of g.task g.table.graph) w) machine.store) (all.8 refl) all.3);
+        all = all.4;
+        none_broken = all.5;
+        one_run = all.6;
+        opened = (all.9.0, subst (λ (s : Store). HasOpened (s.rows all.9.0)) store_is all.9.1);
+      }

@@ -1,0 +1,96 @@
+-- Runs of a graph, one after another.
+use Rattle.std.proofs.Common.{◌≡◌, ℕ, false, List, [], ◌∷◌, ◌++◌, refl, sym, ap, ◌∙◌, subst}
+use Rattle.std.proofs.lemmas.List.{append_assoc, append-nil}
+use Rattle.pb_model.specs.Store.{Rows}
+use Rattle.pb_machine.specs.declared.event.Event.{Event}
+use Rattle.pb_machine.specs.Counts.{Counts, is_any_out}
+use Rattle.pb_machine.specs.Machine.{Setup, Machine, journal_of}
+use Rattle.pb_machine.specs.Turns.{RunsInOrder}
+use Rattle.pb_machine.proofs.LeaseTurns.{runs_go_on}
+use Rattle.pb_machine.proofs.WholeStore.{all_is_home}
+use Rattle.pb_homes.specs.Homes.{home_rows}
+use Rattle.pb_lease.specs.Leased.{setup_of}
+use Rattle.pb_lease.specs.GraphValue.{GraphValue, setup_in}
+use Rattle.pb_lease.specs.Choices.{is_out_in}
+use Rattle.pb_lease.specs.Moments.{IsMoment, Follows, moves_of}
+use Rattle.pb_lease.specs.Steps.{KeepsLeases}
+use Rattle.pb_workers.specs.Runs.{IsSameSearch, RunsTo, RunsOn}
+
+-- ---- the same search
+
+pub same_self : (g : GraphValue) → IsSameSearch g g
+same_self g = record { task = refl; graph = refl; settings = refl }
+
+pub same_then : (old mid new : GraphValue) → IsSameSearch old mid → IsSameSearch mid new → IsSameSearch old new
+same_then old mid new first second = record { task = second.task ∙ first.task; graph = second.graph ∙ first.graph; settings = second.settings ∙ first.settings }
+
+pub setup_is_same : (old new : GraphValue) → IsSameSearch old new → setup_in new ≡ setup_in old
+setup_is_same old new same = λ i. setup_of (same.task i) (same.graph i) (same.settings i) 0
+
+-- ---- runs
+
+events_of : (events : List Event) → journal_of (moves_of events) ≡ events
+events_of [] = refl
+events_of (event ∷ events) = ap (λ rest. event ∷ rest) (events_of events)
+
+-- nothing happened
+pub run_none : (g : GraphValue) (recorded : (worker : ℕ) → Rows) (machine : Machine) → IsMoment g recorded machine → RunsTo g machine g recorded machine
+run_none g recorded machine m = record { moves = []; run = refl; events = sym (append-nil g.table.journal); moment = m }
+
+-- what follows by events is a run
+pub run_one : (old : GraphValue) (machine : Machine) (events : List Event) (new : GraphValue) (recorded : (worker : ℕ) → Rows) (next : Machine)
+    → Follows old machine events new recorded next → new.table.journal ≡ old.table.journal ++ events → RunsTo old machine new recorded next
+run_one old machine events new recorded next f journal = record {
+  moves = moves_of events;
+  run = f.moves;
+  events = journal ∙ ap (λ es. old.table.journal ++ es) (sym (events_of events));
+  moment = f.moment;
+}
+
+-- a run goes on
+pub run_then : (old mid new : GraphValue) (machine next last : Machine) (recorded after : (worker : ℕ) → Rows) → IsSameSearch old mid
+    → RunsTo old machine mid recorded next → RunsTo mid next new after last → RunsTo old machine new after last
+run_then old mid new machine next last recorded after same first second =
+    let both = runs_go_on (setup_in old) first.moves second.moves machine next last in
+    record {
+      moves = first.moves ++ second.moves;
+      run = both.1 first.run (subst (λ (s : Setup). RunsInOrder s next second.moves last) (setup_is_same old mid same) second.run);
+      events = second.events ∙ ap (λ j. j ++ journal_of second.moves) first.events
+          ∙ append_assoc old.table.journal (journal_of first.moves) (journal_of second.moves) ∙ ap (λ j. old.table.journal ++ j) (sym both.2);
+      moment = second.moment;
+    }
+
+-- ---- with no lease out
+
+-- it doesn't matter what was recorded
+pub moment_home : (g : GraphValue) (recorded other : (worker : ℕ) → Rows) (machine : Machine) → is_out_in g ≡ false → IsMoment g recorded machine → IsMoment g other machine
+moment_home g recorded other machine home m =
+    let out = ap (λ (c : Counts). is_any_out g.table.settings.workers c.leases) m.counts ∙ home in
+    record {
+      lawful = m.lawful;
+      counts = m.counts;
+      whole = (all_is_home (setup_in g) machine.counts machine.store (home_rows g.homes) other m.lawful.counts out).1
+          ((all_is_home (setup_in g) machine.counts machine.store (home_rows g.homes) recorded m.lawful.counts out).0 m.whole);
+      incumbent = m.incumbent;
+      keys = m.keys;
+      untold = m.untold;
+    }
+
+pub run_home : (old : GraphValue) (machine : Machine) (new : GraphValue) (recorded other : (worker : ℕ) → Rows) (next : Machine) → is_out_in new ≡ false
+    → RunsTo old machine new recorded next → RunsTo old machine new other next
+run_home old machine new recorded other next home r = record { moves = r.moves; run = r.run; events = r.events; moment = moment_home new recorded other next home r.moment }
+
+-- events that keep the leases are a run
+pub keeping_runs : (old : GraphValue) (events : List Event) (new : GraphValue) → KeepsLeases old events new → new.table.journal ≡ old.table.journal ++ events → RunsOn old new
+keeping_runs old events new keeps journal recorded machine m =
+    let next = keeps recorded machine m in
+    (next.0, run_one old machine events new recorded next.0 next.1 journal)
+
+pub on_none : (g : GraphValue) → RunsOn g g
+on_none g recorded machine m = (machine, run_none g recorded machine m)
+
+pub on_then : (old mid new : GraphValue) → IsSameSearch old mid → RunsOn old mid → RunsOn mid new → RunsOn old new
+on_then old mid new same first second recorded machine m =
+    let one = first recorded machine m in
+    let two = second recorded one.0 one.1.moment in
+    (two.0, run_then old mid new machine one.0 two.0 recorded recorded same one.1 two.1)

@@ -1,0 +1,9 @@
+pub mod Going
+pub mod Opened
+pub mod Marked
+pub mod Returned
+pub mod Held
+pub mod GoingOn
+pub mod Searching
+pub mod Closed
+pub mod Ended

@@ -1,0 +1,83 @@
+-- What a mark leaves as it was.
+use Rattle.std.proofs.Common.{◌≡◌, ◌↔◌, ℕ, ◌-◌, ◌≤◌, Bool, IsTrue, IsFalse, [], ◌∷◌, sym, ap, ◌∙◌, arith, subst, inl, inr}
+use Rattle.pb_model.specs.Store.{Rows}
+use Rattle.pb_model.proofs.Tests.{by_cases, equal_self}
+use Rattle.pb_machine.specs.declared.event.Event.TheVariants.{Hot}
+use Rattle.pb_machine.specs.Counts.{Counts}
+use Rattle.pb_machine.specs.Machine.{Machine}
+use Rattle.pb_machine.proofs.TableLaws.{entry_here}
+use Rattle.pb_lease.specs.Tables.{rooms}
+use Rattle.pb_lease.specs.LeaseValue.{LeaseValue}
+use Rattle.pb_lease.specs.Leased.{IsOutInTurns}
+use Rattle.pb_lease.specs.GraphValue.{GraphValue, setup_in, counts_in}
+use Rattle.pb_lease.specs.Choices.{MayMark}
+use Rattle.pb_lease.specs.Moments.{IsMoment}
+use Rattle.pb_lease.specs.Steps.{IsMarked, KeepsLeases}
+use Rattle.pb_workers.specs.Runs.{IsSameSearch, RunsTo}
+use Rattle.pb_workers.specs.Holding.{MarksWhereMay, IsMarkedAtMost}
+use Rattle.pb_workers.proofs.Going.{run_none, run_one}
+
+module _ (old : GraphValue) (worker : ℕ) (new : GraphValue) where
+  by_mark : {A : Type 0} (of : GraphValue → A) → ((block : ℕ) → IsMarked old worker (Hot worker block) new → of new ≡ of old) → IsMarkedAtMost old worker new → of new ≡ of old
+  by_mark of marked (inl e) = ap of e
+  by_mark of marked (inr m) = marked m.0 m.1
+
+  pub marked_same : IsMarkedAtMost old worker new → IsSameSearch old new
+  marked_same m = record {
+    task = by_mark (λ v. v.task) (λ block is. ap (λ (v : GraphValue). v.task) is.rest) m;
+    graph = by_mark (λ v. v.table.graph) (λ block is. is.events.graph) m;
+    settings = by_mark (λ v. v.table.settings) (λ block is. is.events.settings) m;
+  }
+
+  pub marked_homes : IsMarkedAtMost old worker new → new.homes ≡ old.homes
+  marked_homes = by_mark (λ v. v.homes) (λ block is. ap (λ (v : GraphValue). v.homes) is.rest)
+
+  pub marked_leases : IsMarkedAtMost old worker new → (counts_in new).leases ≡ (counts_in old).leases
+  marked_leases = by_mark (λ v. (counts_in v).leases) (λ block is. ap (λ (c : Counts). c.leases) is.events.counts)
+
+  pub marked_signed : IsMarkedAtMost old worker new → (counts_in new).signed_off ≡ (counts_in old).signed_off
+  marked_signed = by_mark (λ v. (counts_in v).signed_off) (λ block is. ap (λ (c : Counts). c.signed_off) is.events.counts)
+
+  pub marked_left : IsMarkedAtMost old worker new → new.table.left ≡ old.table.left
+  marked_left = by_mark (λ v. v.table.left) (λ block is. ap (λ (c : Counts). c.left) is.events.counts)
+
+  pub marked_end : IsMarkedAtMost old worker new → new.table.end ≡ old.table.end
+  marked_end = by_mark (λ v. v.table.end) (λ block is. ap (λ (c : Counts). c.end) is.events.counts)
+
+  pub marked_room : IsMarkedAtMost old worker new → rooms new.table worker ≤ rooms old.table worker
+  marked_room (inl e) = let same : rooms new.table worker ≡ rooms old.table worker = ap (λ (v : GraphValue). rooms v.table worker) e in omega (arith, same)
+  marked_room (inr m) =
+      let less : rooms new.table worker ≡ rooms old.table worker - 1 =
+      ap (λ (f : ℕ → ℕ). f worker) m.1.room ∙ entry_here (rooms old.table) worker worker (rooms old.table worker - 1) (equal_self worker) in
+      omega (arith, less)
+
+  -- a run that keeps the leases that are out
+  abbrev pub RunsAlong : (recorded : (worker : ℕ) → Rows) → Machine → Type 0
+  RunsAlong recorded machine = (next : Machine) × RunsTo old machine new recorded next
+      × ((lease : LeaseValue) (most_broken : ℕ) → IsOutInTurns (setup_in old) machine most_broken lease → IsOutInTurns (setup_in new) next most_broken lease)
+
+  pub marked_runs : IsMarkedAtMost old worker new → (recorded : (worker : ℕ) → Rows) (machine : Machine) → IsMoment old recorded machine → RunsAlong recorded machine
+  marked_runs (inl e) recorded machine m = as_it_was new e
+    where
+      as_it_was : (v : GraphValue) → v ≡ old → (next : Machine) × RunsTo old machine v recorded next
+          × ((lease : LeaseValue) (most_broken : ℕ) → IsOutInTurns (setup_in old) machine most_broken lease → IsOutInTurns (setup_in v) next most_broken lease)
+      as_it_was v same = (
+        machine,
+        subst (λ (u : GraphValue). RunsTo old machine u recorded machine) (sym same) (run_none old recorded machine m),
+        λ lease most_broken out. subst (λ (u : GraphValue). IsOutInTurns (setup_in u) machine most_broken lease) (sym same) out,
+      )
+  marked_runs (inr mark) recorded machine m =
+      let step = mark.2 recorded machine m in
+      (step.0, run_one old machine (Hot worker mark.0 ∷ []) new recorded step.0 step.1 mark.1.events.journal, step.2)
+
+-- what a mark by this worker answers
+module _ (old : GraphValue) (worker called rival : ℕ) (new : GraphValue) (result : Bool) (by : called ≡ worker) (answer : IsTrue result ↔ MayMark old called rival)
+    (marked : IsTrue result → IsMarked old called (Hot called rival) new) (refused : IsFalse result → new ≡ old) where
+  pub marks_where_may : MarksWhereMay old worker rival new
+  marks_where_may = subst (λ w. MarksWhereMay old w rival new) by (record {
+    may = λ may. marked (answer.1 may);
+    may_not = λ none. refused (by_cases result (λ e. absurd (none (answer.0 e))) (λ e. e));
+  })
+
+  pub marked_at_most : (IsTrue result → KeepsLeases old (Hot called rival ∷ []) new) → IsMarkedAtMost old worker new
+  marked_at_most keeps = subst (λ w. IsMarkedAtMost old w new) by (by_cases result (λ e. inr (rival, marked e, keeps e)) (λ e. inl (refused e)))

@@ -1,0 +1,25 @@
+use Rattle.std.proofs.Common.{◌≡◌, ◌≤◌, IsFalse, vec_capacity}
+use Rattle.pb_task.specs.Parts.{max_degree_of}
+use Rattle.pb_estimate.specs.Tables.{tables_of}
+use Rattle.pb_lease.specs.GraphValue.{counts_in}
+use Rattle.pb_lease.specs.Choices.{is_out_in}
+use Rattle.pb_workers.specs.Runs.{IsSameSearch, IsAnyMoment, RunsOn}
+use Rattle.pb_workers.proofs.Searching.{distance}
+use Rattle.pb_workers.proofs.alone.search.Given as goal
+
+abbrev pub invariant-leases : goal.invariant-leases
+invariant-leases g l = record {
+  tables : l.estimator ≡ tables_of l.task;
+  room : max_degree_of l.task ≤ vec_capacity l.succs;
+  task : l.graph.task ≡ l.task;
+  abstraction : l.graph.table.graph ≡ l.abstraction;
+  alone : l.graph.table.settings.workers ≡ 1;
+  moment : IsAnyMoment l.graph;
+  home : IsFalse (is_out_in l.graph);
+  stays : IsFalse ((counts_in l.graph).signed_off 0);
+  same : IsSameSearch l.initial.graph l.graph;
+  runs : RunsOn l.initial.graph l.graph;
+}
+
+abbrev pub decreases-leases : goal.decreases-leases
+decreases-leases g l = distance l.graph

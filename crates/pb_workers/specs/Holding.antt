@@ -1,0 +1,68 @@
+-- A worker that has a lease, and what it leaves.
+use Rattle.std.specs.Prelude.{◌≡◌, ℕ, ◌+◌, ◌<◌, IsSome, is_some, None, Some, ◌⊎◌, ◌∷◌, []}
+use Rattle.pb_model.specs.Store.{Rows}
+use Rattle.pb_machine.specs.declared.event.Event.TheVariants.{Hot}
+use Rattle.pb_machine.specs.Tables.{count_below}
+use Rattle.pb_machine.specs.Blocks.{interferes}
+use Rattle.pb_machine.specs.Machine.{Machine}
+use Rattle.pb_homes.specs.Homes.{key_at}
+use Rattle.pb_homes.specs.Choosing.{IsRivalBy}
+use Rattle.pb_lease.specs.Tables.{blocks}
+use Rattle.pb_lease.specs.LeaseValue.{LeaseValue}
+use Rattle.pb_lease.specs.Leased.{IsOutInTurns}
+use Rattle.pb_lease.specs.GraphValue.{GraphValue, setup_in, IsOfGraph}
+use Rattle.pb_lease.specs.Choices.{MayMark}
+use Rattle.pb_lease.specs.Moments.{IsMoment}
+use Rattle.pb_lease.specs.Steps.{IsMarked, KeepsLeases}
+use Rattle.pb_workers.specs.Runs.{RunsTo}
+
+-- The lease is the graph's, which has no end, and its block's noted key is that of an Opened row. At some moment that the graph is, the lease
+-- is out and has worked in turns.
+pub record IsHeld (g : GraphValue) (lease : LeaseValue) : Type 0 where
+  pub of_graph : IsOfGraph g lease
+  pub no_end : g.table.end ≡ None
+  pub opened : IsSome (key_at g.homes lease.block)
+  pub recorded : (worker : ℕ) → Rows
+  pub machine : Machine
+  pub moment : IsMoment g recorded machine
+  pub out : IsOutInTurns (setup_in g) machine 0 lease
+
+-- from whichever machine at which the lease is out a run in order leads to one that the new graph is a moment of, where this lease is out
+abbrev pub RunsOut : (old : GraphValue) → LeaseValue → (new : GraphValue) → (kept : LeaseValue) → Type 0
+RunsOut old lease new kept =
+    (recorded : (worker : ℕ) → Rows) (machine : Machine) → IsMoment old recorded machine → IsOutInTurns (setup_in old) machine 0 lease
+    → (after : (worker : ℕ) → Rows) × (next : Machine) × RunsTo old machine new after next × IsOutInTurns (setup_in new) next 0 kept
+
+-- from whichever machine at which the lease is out a run in order leads to one that the new graph is a moment of
+abbrev pub RunsHome : (old : GraphValue) → LeaseValue → (new : GraphValue) → Type 0
+RunsHome old lease new =
+    (recorded : (worker : ℕ) → Rows) (machine : Machine) → IsMoment old recorded machine → IsOutInTurns (setup_in old) machine 0 lease
+    → (after : (worker : ℕ) → Rows) × (next : Machine) × RunsTo old machine new after next
+
+-- how many expansions are left, those of the lease among them
+abbrev pub left_with : GraphValue → LeaseValue → ℕ
+left_with g lease = g.table.left + lease.quota
+
+-- how many blocks have an Opened row, as the keys are noted
+abbrev pub opened_blocks : GraphValue → ℕ
+opened_blocks g = count_below (blocks g.table).count (λ block. is_some (key_at g.homes block))
+
+-- the search came nearer to its end: it ended, or less is left of the budget, or as much is and fewer blocks have an Opened row
+abbrev pub IsNearer : (old : GraphValue) → LeaseValue → (new : GraphValue) → Type 0
+IsNearer old lease new =
+    IsSome new.table.end ⊎ (new.table.left < left_with old lease) ⊎ ((new.table.left ≡ left_with old lease) × (opened_blocks new < opened_blocks old))
+
+-- the block became hot where it might, and else nothing changed
+pub record MarksWhereMay (old : GraphValue) (worker block : ℕ) (new : GraphValue) : Type 0 where
+  pub may : MayMark old worker block → IsMarked old worker (Hot worker block) new
+  pub may_not : (MayMark old worker block → ⊥) → new ≡ old
+
+-- the rival of the lease's block became hot where there is one and it might
+abbrev pub MarksRival : (old : GraphValue) → LeaseValue → (new : GraphValue) → Type 0
+MarksRival old lease new =
+    (IsRivalBy (interferes (blocks old.table) lease.block) (key_at old.homes) lease.block None × (new ≡ old))
+    ⊎ ((rival : ℕ) × IsRivalBy (interferes (blocks old.table) lease.block) (key_at old.homes) lease.block (Some rival) × MarksWhereMay old lease.worker rival new)
+
+-- nothing changed, or a block became hot, and the leases that are out stay as they are
+abbrev pub IsMarkedAtMost : (old : GraphValue) → (worker : ℕ) → (new : GraphValue) → Type 0
+IsMarkedAtMost old worker new = (new ≡ old) ⊎ ((block : ℕ) × IsMarked old worker (Hot worker block) new × KeepsLeases old (Hot worker block ∷ []) new)

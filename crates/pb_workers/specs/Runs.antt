@@ -1,0 +1,32 @@
+-- A search by leases goes on, and a graph with it.
+use Rattle.std.specs.Prelude.{◌≡◌, ℕ, List, ◌++◌}
+use Rattle.pb_model.specs.Store.{Rows}
+use Rattle.pb_machine.specs.Machine.{Machine, Move, journal_of}
+use Rattle.pb_machine.specs.Turns.{RunsInOrder}
+use Rattle.pb_lease.specs.GraphValue.{GraphValue, setup_in}
+use Rattle.pb_lease.specs.Moments.{IsMoment}
+
+-- it is the same search: the same task, by the same blocks, with the same settings
+pub record IsSameSearch (old new : GraphValue) : Type 0 where
+  pub task : new.task ≡ old.task
+  pub graph : new.table.graph ≡ old.table.graph
+  pub settings : new.table.settings ≡ old.table.settings
+
+-- the graph, with some rows recorded for its leases, is a moment of the lease machine
+abbrev pub IsAnyMoment : GraphValue → Type 0
+IsAnyMoment g = (recorded : (worker : ℕ) → Rows) × (machine : Machine) × IsMoment g recorded machine
+
+-- From this machine a run in order leads to one that the new graph is a moment of, with these rows recorded for the leases that are out.
+-- So each block that was leased was the first choice, and each row that was taken the first of its block. The events of the run are those
+-- that the journal got.
+pub record RunsTo (old : GraphValue) (machine : Machine) (new : GraphValue) (recorded : (worker : ℕ) → Rows) (next : Machine) : Type 0 where
+  pub moves : List Move
+  pub run : RunsInOrder (setup_in old) machine moves next
+  pub events : new.table.journal ≡ old.table.journal ++ journal_of moves
+  pub moment : IsMoment new recorded next
+
+-- from whichever machine the old graph is a moment of a run in order leads to one that the new graph is a moment of
+abbrev pub RunsOn : (old new : GraphValue) → Type 0
+RunsOn old new =
+    (recorded : (worker : ℕ) → Rows) (machine : Machine) → IsMoment old recorded machine
+    → (next : Machine) × RunsTo old machine new recorded next

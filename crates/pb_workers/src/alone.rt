@@ -1,0 +1,103 @@
+ghost use Rattle.std.specs.Prelude.{◌≡◌, ◌≤◌, ◌⊎◌, None, Some, IsTrue, IsFalse, OnOk, OnErr, vec_capacity};
+ghost use Rattle.pb_machine.specs.declared.event.End.TheVariants.{Quiet, Budget, Memory};
+ghost use Rattle.pb_task.specs.Parts.{max_degree_of};
+ghost use Rattle.pb_estimate.specs.Tables.{tables_of};
+ghost use Rattle.pb_lease.specs.GraphValue.{counts_in};
+ghost use Rattle.pb_lease.specs.Choices.{is_out_in};
+ghost use Rattle.pb_workers.specs.Runs.{IsSameSearch, IsAnyMoment, RunsOn};
+ghost use Rattle.pb_workers.specs.Ends.{IsBestEnd, IsSpentEnd};
+
+use crate::closing::sign_off;
+use crate::holding::hold;
+use pb_abstract::AbsGraph;
+use pb_estimate::Estimator;
+use pb_lease::{Answer, Graph};
+use pb_machine::End;
+use pb_model::Succ;
+use pb_outside::Gate;
+use pb_task::Task;
+use std::alloc::{AllocError, Global};
+
+/// Searches as the only worker of the graph, from whatever moment it is at, until the search ends: leases blocks, best first, works on each and
+/// brings it back, and signs off. The gate is told each time that a block was leased, and each time before a lease is renewed or comes back. It
+/// waits for nobody. An error is want of memory: then nothing was leased, or the search ended by that.
+pub fn run_alone<G: Gate>(
+    alloc: Global,
+    task: &Task,
+    abstraction: &AbsGraph,
+    graph: &mut Graph,
+    gate: &G,
+) -> Result<(), AllocError>
+    requires task { graph.old.task ≡ task.now }
+    requires abstraction { graph.old.table.graph ≡ abstraction.now }
+    requires alone { graph.old.table.settings.workers ≡ 1 }
+    requires moment { IsAnyMoment graph.old }
+    requires home { IsFalse (is_out_in graph.old) }
+    requires stays { IsFalse ((counts_in graph.old).signed_off 0) }
+
+    // From whichever machine the graph was a moment of, the events that the journal got are those of a run in order, at whose end it is.
+    ensures run { RunsOn graph.old graph.new }
+
+    // How it ends.
+    ensures signed_off { OnOk result (IsTrue ((counts_in graph.new).signed_off 0)) }
+    ensures ended { OnOk result ((graph.new.table.end ≡ Some Quiet) ⊎ (graph.new.table.end ≡ Some Budget)) }
+    ensures err { OnErr result ((graph.new ≡ graph.old) ⊎ (IsTrue ((counts_in graph.new).signed_off 0) × (graph.new.table.end ≡ Some Memory))) }
+    ensures home { IsFalse (is_out_in graph.new) }
+
+    // What the rows are then.
+    ensures quiet { graph.new.table.end ≡ Some Quiet → IsBestEnd graph.new }
+    ensures budget { graph.new.table.end ≡ Some Budget → IsSpentEnd graph.new }
+
+    ensures same { IsSameSearch graph.old graph.new }
+{
+    let _ = graph.abstraction();
+    let mut estimator = Estimator::of(alloc, task)?;
+    let mut succs = Vec::with_capacity(alloc, task.max_degree() as usize)?;
+    let end = search(
+        alloc,
+        task,
+        &mut estimator,
+        abstraction,
+        graph,
+        gate,
+        &mut succs,
+    );
+    sign_off(graph, end)
+}
+
+// Leases blocks and works on them until the search ends, and answers the end, or none where memory is wanted for a lease.
+fn search<G: Gate>(
+    alloc: Global,
+    task: &Task,
+    estimator: &mut Estimator,
+    abstraction: &AbsGraph,
+    graph: &mut Graph,
+    gate: &G,
+    succs: &mut Vec<Succ>,
+) -> Option<End>
+    requires tables { estimator.old ≡ tables_of task.now }
+    requires room { max_degree_of task.now ≤ vec_capacity succs.old }
+    requires task { graph.old.task ≡ task.now }
+    requires abstraction { graph.old.table.graph ≡ abstraction.now }
+    requires alone { graph.old.table.settings.workers ≡ 1 }
+    requires moment { IsAnyMoment graph.old }
+    requires home { IsFalse (is_out_in graph.old) }
+    requires stays { IsFalse ((counts_in graph.old).signed_off 0) }
+    ensures run { RunsOn graph.old graph.new }
+    ensures same { IsSameSearch graph.old graph.new }
+    ensures home { IsFalse (is_out_in graph.new) }
+    ensures stays { IsFalse ((counts_in graph.new).signed_off 0) }
+    ensures end { graph.new.table.end ≡ result }
+{
+    'leases: loop {
+        match graph.lease(alloc, 0) {
+            Answer::Leased(lease) => {
+                gate.leased(0, lease.block());
+                hold(task, estimator, abstraction, graph, gate, succs, lease);
+            }
+            Answer::NotYet => unreachable!(),
+            Answer::Over(end) => return Some(end),
+            Answer::Memory => return None,
+        }
+    }
+}
