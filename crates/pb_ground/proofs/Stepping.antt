@@ -1,0 +1,180 @@
+-- Steps by atoms and by numbers.
+use Rattle.std.proofs.Common.{◌≡◌, ℕ, zero, suc, Bool, true, false, cond, not, ◌&&◌, ◌||◌, nat_eq, List, [], ◌∷◌, ◌++◌, map, Option, Some, None, is_some, option_map, slice_get, refl, sym, ap, ◌∙◌, arith}
+use Rattle.std.proofs.lemmas.Bool.Decides.{nat_tests}
+use Rattle.std.proofs.lemmas.List.Folds.{list_any-append}
+use Rattle.std.proofs.lemmas.Slice.Eq.{bytes_eq-Decides}
+use Rattle.std.specs.List.{list_any, list_all, flat_map}
+use Rattle.std.specs.Str.{bytes_eq}
+use Rattle.pb_lifted.specs.declared.lifted.Lifted.{Lifted}
+use Rattle.pb_lifted.specs.declared.lifted.LiftedAtom.{LiftedAtom}
+use Rattle.pb_lifted.specs.declared.lifted.Schema.{Schema}
+use Rattle.pb_ground.specs.declared.atoms.GroundAtom.{GroundAtom}
+use Rattle.pb_ground.specs.Actions.{numbers_of, number_list}
+use Rattle.pb_ground.specs.Atoms.{is_fluent, same_atom, grounded, number_in, atom_of, predicate_of, changed_by}
+use Rattle.pb_ground.specs.Statics.{is_initial, statics_hold}
+use Rattle.pb_ground.specs.Steps.{Facts, Bits, all_grounded, is_in, facts_after, Packs, KeepsStatics, AreNumbered, Corresponds}
+
+nat_same : (m n : ℕ) → nat_eq m n ≡ true → m ≡ n
+nat_same m n e = grind (arith, nat_tests)
+
+same_nat : (m n : ℕ) → m ≡ n → nat_eq m n ≡ true
+same_nat m n e = grind (arith, nat_tests)
+
+both_true : (a b : Bool) → (a && b) ≡ true → (a ≡ true) × (b ≡ true)
+both_true true b e = (refl, e)
+both_true false b e = cc
+
+-- atoms that are alike are the same
+pub one_atom : (f g : GroundAtom) → same_atom f g ≡ true → f ≡ g
+one_atom f g e =
+    let both = both_true (nat_eq f.predicate g.predicate) (bytes_eq f.objects g.objects) e in
+    ap (λ p. atom_of p f.objects) (nat_same f.predicate g.predicate both.0) ∙ ap (λ os. atom_of g.predicate os) ((bytes_eq-Decides f.objects g.objects).0 both.1)
+
+pub atom_itself : (f g : GroundAtom) → f ≡ g → same_atom f g ≡ true
+atom_itself f g e =
+    ap (λ b. b && bytes_eq f.objects g.objects) (same_nat f.predicate g.predicate (ap (λ h. h.predicate) e))
+    ∙ (bytes_eq-Decides f.objects g.objects).1 (ap (λ h. h.objects) e)
+
+apart : {A : Type 0} (n : Option ℕ) → Some 0 ≡ option_map suc n → A
+apart None e = cc
+apart (Some n) e = cc
+
+under : (m n : Option ℕ) (k : ℕ) → option_map suc m ≡ Some k → option_map suc n ≡ Some k → (j : ℕ) × (m ≡ Some j) × (n ≡ Some j)
+under None n k e f = cc
+under (Some a) None k e f = cc
+under (Some a) (Some b) k e f = let same : b ≡ a = cc in (a, refl, ap (λ x. Some x) same)
+
+-- two atoms of one number are the same
+pub one_number : (f g : GroundAtom) (atoms : List GroundAtom) (n : ℕ) → number_in f atoms ≡ Some n → number_in g atoms ≡ Some n → f ≡ g
+one_number f g [] n e h = cc
+one_number f g (first ∷ atoms) n e h = at (one_number f g atoms) (same_atom f first) (same_atom g first) refl refl e h
+  where
+    at : ((k : ℕ) → number_in f atoms ≡ Some k → number_in g atoms ≡ Some k → f ≡ g) → (a b : Bool) → same_atom f first ≡ a → same_atom g first ≡ b
+        → cond a (Some 0) (option_map suc (number_in f atoms)) ≡ Some n → cond b (Some 0) (option_map suc (number_in g atoms)) ≡ Some n → f ≡ g
+    at later true true p q u v = one_atom f first p ∙ sym (one_atom g first q)
+    at later true false p q u v = apart (number_in g atoms) (u ∙ sym v)
+    at later false true p q u v = apart (number_in f atoms) (v ∙ sym u)
+    at later false false p q u v = let j = under (number_in f atoms) (number_in g atoms) n u v in later j.0 j.1 j.2
+
+-- an atom that has a number is like another where the other has it too
+alike : (f g : GroundAtom) (atoms : List GroundAtom) (n : ℕ) → number_in f atoms ≡ Some n → list_any (nat_eq n) (number_list (number_in g atoms)) ≡ same_atom f g
+alike f g atoms n e = at (same_atom f g) (number_in g atoms) refl refl
+  where
+    at : (s : Bool) (m : Option ℕ) → same_atom f g ≡ s → number_in g atoms ≡ m → list_any (nat_eq n) (number_list m) ≡ s
+    at true None p q = let here : Some n ≡ None = sym e ∙ (ap (λ h. number_in h atoms) (one_atom f g p) ∙ q) in cc
+    at true (Some m) p q =
+        let here : Some n ≡ Some m = sym e ∙ (ap (λ h. number_in h atoms) (one_atom f g p) ∙ q) in
+        let same : n ≡ m = cc in ap (λ b. b || false) (same_nat n m same)
+    at false None p q = refl
+    at false (Some m) p q = no (nat_eq n m) refl
+      where
+        no : (b : Bool) → nat_eq n m ≡ b → (nat_eq n m || false) ≡ false
+        no false r = ap (λ b. b || false) r
+        no true r =
+            let same : f ≡ g = one_number f g atoms n e (q ∙ ap (λ k. Some k) (sym (nat_same n m r))) in
+            let bad : true ≡ false = sym (atom_itself f g same) ∙ p in cc
+
+pub numbers_alike : (f : GroundAtom) (atoms : List GroundAtom) (n : ℕ) (given : List ℕ) (list : List LiftedAtom) → number_in f atoms ≡ Some n
+    → list_any (nat_eq n) (numbers_of atoms given list) ≡ is_in f (all_grounded given list)
+numbers_alike f atoms n given [] e = refl
+numbers_alike f atoms n given (a ∷ list) e =
+    list_any-append (nat_eq n) (number_list (number_in (grounded given a) atoms)) (numbers_of atoms given list)
+    ∙ (ap (λ b. b || list_any (nat_eq n) (numbers_of atoms given list)) (alike f (grounded given a) atoms n e)
+    ∙ ap (λ b. same_atom f (grounded given a) || b) (numbers_alike f atoms n given list e))
+
+all_append : (p : ℕ → Bool) (xs ys : List ℕ) → list_all p (xs ++ ys) ≡ (list_all p xs && list_all p ys)
+all_append p [] ys = refl
+all_append p (x ∷ xs) ys = ap (λ b. p x && b) (all_append p xs ys) ∙ and_again (p x) (list_all p xs) (list_all p ys)
+  where
+    and_again : (a b c : Bool) → (a && (b && c)) ≡ ((a && b) && c)
+    and_again true b c = refl
+    and_again false b c = refl
+
+-- one precondition
+one_holds : (lifted : Lifted) (atoms : List GroundAtom) (state : Facts) (bits : Bits) (given : List ℕ) (a : LiftedAtom) → Packs atoms state bits → KeepsStatics lifted state
+    → (is_fluent lifted a.predicate ≡ true → is_some (number_in (grounded given a) atoms) ≡ true)
+    → state (grounded given a) ≡ ((is_fluent lifted a.predicate || is_initial lifted (grounded given a)) && list_all bits (number_list (number_in (grounded given a) atoms)))
+one_holds lifted atoms state bits given a packs keeps numbered = at (is_fluent lifted a.predicate) (number_in (grounded given a) atoms) refl refl
+  where
+    fact : GroundAtom
+    fact = grounded given a
+
+    plain : (b : Bool) → b ≡ (b && true)
+    plain true = refl
+    plain false = refl
+
+    thrice : (b c d : Bool) → c ≡ b → d ≡ b → b ≡ (c && (d && true))
+    thrice true c d e f = rw (e, f) refl
+    thrice false c d e f = rw e refl
+
+    at : (f : Bool) (m : Option ℕ) → is_fluent lifted a.predicate ≡ f → number_in fact atoms ≡ m
+        → state fact ≡ ((f || is_initial lifted fact) && list_all bits (number_list m))
+    at true None p q = let bad : false ≡ true = ap is_some (sym q) ∙ numbered p in cc
+    at true (Some m) p q = sym (packs fact m q) ∙ plain (bits m)
+    at false None p q = keeps fact p ∙ plain (is_initial lifted fact)
+    at false (Some m) p q = thrice (state fact) (is_initial lifted fact) (bits m) (sym (keeps fact p)) (packs fact m q)
+
+regroup : (t n s b : Bool) → ((t && n) && (s && b)) ≡ ((t && s) && (n && b))
+regroup true true s b = refl
+regroup true false true b = refl
+regroup true false false b = refl
+regroup false n s b = refl
+
+all_hold : (lifted : Lifted) (atoms : List GroundAtom) (state : Facts) (bits : Bits) (given : List ℕ) (list : List LiftedAtom) → Packs atoms state bits → KeepsStatics lifted state
+    → AreNumbered lifted atoms given list → list_all state (all_grounded given list) ≡ (statics_hold lifted list given && list_all bits (numbers_of atoms given list))
+all_hold lifted atoms state bits given [] packs keeps numbered = refl
+all_hold lifted atoms state bits given (a ∷ list) packs keeps numbered =
+    let test = is_fluent lifted a.predicate || is_initial lifted (grounded given a) in
+    let here = list_all bits (number_list (number_in (grounded given a) atoms)) in
+    ap (λ b. b && list_all state (all_grounded given list)) (one_holds lifted atoms state bits given a packs keeps numbered.0)
+    ∙ (ap (λ b. (test && here) && b) (all_hold lifted atoms state bits given list packs keeps numbered.1)
+    ∙ (regroup test here (statics_hold lifted list given) (list_all bits (numbers_of atoms given list))
+    ∙ ap (λ b. (test && statics_hold lifted list given) && b) (sym (all_append bits (number_list (number_in (grounded given a) atoms)) (numbers_of atoms given list)))))
+
+pub correspond : (lifted : Lifted) (atoms : List GroundAtom) (state : Facts) (bits : Bits) (i : ℕ) (schema : Schema) (given : List ℕ) → Packs atoms state bits → KeepsStatics lifted state
+    → AreNumbered lifted atoms given schema.pre → Corresponds lifted atoms state bits i schema given
+correspond lifted atoms state bits i schema given packs keeps numbered = record {
+  applicable = all_hold lifted atoms state bits given schema.pre packs keeps numbered;
+  result = λ fact n e.
+      ap (λ b. b || (bits n && not (list_any (nat_eq n) (numbers_of atoms given schema.deletes)))) (numbers_alike fact atoms n given schema.adds e)
+      ∙ (ap (λ b. is_in fact (all_grounded given schema.adds) || (b && not (list_any (nat_eq n) (numbers_of atoms given schema.deletes)))) (packs fact n e)
+      ∙ ap (λ b. is_in fact (all_grounded given schema.adds) || (state fact && not b)) (numbers_alike fact atoms n given schema.deletes e));
+}
+
+-- ---- static atoms
+
+either : (a b : Bool) → (a || b) ≡ false → (a ≡ false) × (b ≡ false)
+either true b e = cc
+either false b e = (refl, e)
+
+-- an atom of a predicate that is not among theirs is none of these
+not_among : (f : GroundAtom) (given : List ℕ) (list : List LiftedAtom) → list_any (nat_eq f.predicate) (map predicate_of list) ≡ false → is_in f (all_grounded given list) ≡ false
+not_among f given [] e = refl
+not_among f given (a ∷ list) e =
+    let both = either (nat_eq f.predicate a.predicate) (list_any (nat_eq f.predicate) (map predicate_of list)) e in
+    ap (λ b. (b && bytes_eq f.objects (grounded given a).objects) || is_in f (all_grounded given list)) both.0 ∙ not_among f given list both.1
+
+not_changed : (n i : ℕ) (schema : Schema) (actions : List Schema) → slice_get actions i ≡ Some schema → list_any (nat_eq n) (flat_map changed_by actions) ≡ false
+    → list_any (nat_eq n) (changed_by schema) ≡ false
+not_changed n i schema [] d e = cc
+not_changed n zero schema (first ∷ actions) d e =
+    let same : first ≡ schema = cc in
+    let both = either (list_any (nat_eq n) (changed_by first)) (list_any (nat_eq n) (flat_map changed_by actions)) (sym (list_any-append (nat_eq n) (changed_by first) (flat_map changed_by actions)) ∙ e) in
+    ap (λ s. list_any (nat_eq n) (changed_by s)) (sym same) ∙ both.0
+not_changed n (suc i) schema (first ∷ actions) d e =
+    let both = either (list_any (nat_eq n) (changed_by first)) (list_any (nat_eq n) (flat_map changed_by actions)) (sym (list_any-append (nat_eq n) (changed_by first) (flat_map changed_by actions)) ∙ e) in
+    not_changed n i schema actions d both.1
+
+stays : (b : Bool) → b ≡ (false || (b && not false))
+stays true = refl
+stays false = refl
+
+pub kept : (lifted : Lifted) (state : Facts) (i : ℕ) (schema : Schema) (given : List ℕ) → slice_get lifted.actions i ≡ Some schema → KeepsStatics lifted state
+    → KeepsStatics lifted (facts_after state (all_grounded given schema.deletes) (all_grounded given schema.adds))
+kept lifted state i schema given declared keeps fact e =
+    let none = not_changed fact.predicate i schema lifted.actions declared e in
+    let both = either (list_any (nat_eq fact.predicate) (map predicate_of schema.adds)) (list_any (nat_eq fact.predicate) (map predicate_of schema.deletes))
+    (sym (list_any-append (nat_eq fact.predicate) (map predicate_of schema.adds) (map predicate_of schema.deletes)) ∙ none) in
+    ap (λ b. b || (state fact && not (is_in fact (all_grounded given schema.deletes)))) (not_among fact given schema.adds both.0)
+    ∙ (ap (λ b. false || (state fact && not b)) (not_among fact given schema.deletes both.1)
+    ∙ (sym (stays (state fact)) ∙ keeps fact e))

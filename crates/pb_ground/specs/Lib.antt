@@ -1,0 +1,10 @@
+pub mod Instances
+pub mod Actions
+pub mod Atoms
+pub mod Statics
+pub mod Steps
+pub mod Errors
+pub mod Members
+pub mod Pruning
+pub mod Search
+pub mod Count

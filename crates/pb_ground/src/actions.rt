@@ -1,0 +1,118 @@
+ghost use Rattle.std.specs.Prelude.{◌≡◌, ◌≤◌, ◌++◌, map, length, IfOk, OnOk, IfErr};
+ghost use Rattle.pb_ground.specs.Actions.{action_of, actions_of, ground_actions, TellsActions};
+ghost use Rattle.pb_ground.specs.Pruning.{AreStatics};
+ghost use Rattle.pb_ground.specs.Search.{TellsFull};
+
+use crate::atoms::Atoms;
+use crate::error::GroundError;
+use crate::numbers::numbers_of;
+use crate::search::{Search, copy_of, instances};
+use crate::statics::Statics;
+use pb_lifted::{Lifted, Schema};
+use pb_trees::Listed;
+use std::alloc::{AllocError, Global};
+
+/// An instance of an action schema. Atoms are named by their numbers. It costs 1.
+#[derive(Debug, Drop)]
+pub struct GroundAction {
+    /// The number of the schema.
+    pub schema: usize,
+    /// The objects that are given to its parameters.
+    pub objects: Listed<usize>,
+    /// The ground atoms that must hold.
+    pub needs: Listed<usize>,
+    /// The ground atoms that hold afterwards.
+    pub adds: Listed<usize>,
+    /// The ground atoms that no longer hold, but for those that are added.
+    pub deletes: Listed<usize>,
+}
+
+/// How many ground actions there may be.
+const LIMIT: usize = 65_536;
+
+/// The instance of a schema for these objects. It fails where memory runs out.
+fn action_of(
+    alloc: Global,
+    atoms: &Atoms,
+    i: usize,
+    schema: &Schema,
+    given: &[usize],
+) -> Result<GroundAction, AllocError>
+    ensures { IfOk result (λ action. action ≡ action_of atoms.now i schema.now given.now) }
+{
+    let objects = copy_of(alloc, given)?;
+    let needs = numbers_of(alloc, atoms, given, schema.pre.as_slice())?;
+    let adds = numbers_of(alloc, atoms, given, schema.adds.as_slice())?;
+    let deletes = numbers_of(alloc, atoms, given, schema.deletes.as_slice())?;
+    Ok(GroundAction {
+        schema: i,
+        objects,
+        needs,
+        adds,
+        deletes,
+    })
+}
+
+/// Adds the instances of a schema for each of these lists of objects.
+fn add_rows(
+    alloc: Global,
+    atoms: &Atoms,
+    i: usize,
+    schema: &Schema,
+    rows: &[Listed<usize>],
+    actions: &mut Listed<GroundAction>,
+) -> Result<(), AllocError>
+    ensures { OnOk result (actions.new ≡ actions.old ++ map (λ given. action_of atoms.now i schema.now given) rows.now) }
+{
+    for row in rows {
+        actions.push(action_of(alloc, atoms, i, schema, row.as_slice())?)?;
+    }
+    Ok(())
+}
+
+/// Adds the ground actions of a schema. `TooManyActions`: there would be more than may be.
+fn add_actions(
+    alloc: Global,
+    statics: &Statics,
+    lifted: &Lifted,
+    atoms: &Atoms,
+    i: usize,
+    schema: &Schema,
+    actions: &mut Listed<GroundAction>,
+) -> Result<(), GroundError>
+    requires statics { AreStatics statics.now lifted.now }
+    requires few { length actions.old ≤ 65536 }
+    ensures added { OnOk result (actions.new ≡ actions.old ++ actions_of lifted.now atoms.now i schema.now) }
+    ensures few { OnOk result (length actions.new ≤ 65536) }
+    ensures full { IfErr result (TellsFull 65536 (actions.old ++ actions_of lifted.now atoms.now i schema.now)) }
+{
+    let search = Search {
+        statics,
+        lifted,
+        atoms: schema.pre.as_slice(),
+        limit: LIMIT - actions.as_slice().len(),
+    };
+    let rows = instances(alloc, &search, schema.params.as_slice())?;
+    add_rows(alloc, atoms, i, schema, rows.as_slice(), actions)?;
+    Ok(())
+}
+
+/// The ground actions of a lifted task: all instances of its schemas by objects of fitting types whose static preconditions hold at
+/// first, schemas in order of the text, and then in the order of their lists of objects, the first most significant. Their atoms have the
+/// numbers that they have among these atoms, which are to be the task's. `TooManyActions`: there are more than 65,536.
+pub fn ground_actions(
+    alloc: Global,
+    lifted: &Lifted,
+    atoms: &Atoms,
+) -> Result<Listed<GroundAction>, GroundError>
+    ensures few { OnOk result (length (ground_actions lifted.now atoms.now) ≤ 65536) }
+    ensures actions { IfOk result (λ actions. actions ≡ ground_actions lifted.now atoms.now) }
+    ensures refused { IfErr result (TellsActions lifted.now atoms.now) }
+{
+    let statics = Statics::of(alloc, lifted)?;
+    let mut actions = Listed::new(alloc);
+    for (i, schema) in lifted.actions.as_slice().iter().enumerate() {
+        add_actions(alloc, &statics, lifted, atoms, i, schema, &mut actions)?;
+    }
+    Ok(actions)
+}

@@ -1,0 +1,53 @@
+ghost use Rattle.std.specs.Prelude.{◌≡◌, length};
+ghost use Rattle.pb_ground.specs.Atoms.{ground_atoms};
+ghost use Rattle.pb_ground.specs.Errors.{told};
+ghost use Rattle.pb_ground.specs.Instances.{fitting, instances};
+ghost use Rattle.pb_ground.specs.Pruning.{AreStatics};
+
+use crate::fitting::is_below;
+use crate::statics::Statics;
+use pb_lifted::Lifted;
+
+/// The greatest number of atoms that is told.
+const MOST: u64 = 4_294_967_295;
+
+/// How many objects fit a parameter of this type.
+fn count_fitting(lifted: &Lifted, wanted: usize) -> usize
+    ensures { result ≡ length (fitting lifted.now wanted) }
+{
+    let types = lifted.types.as_slice();
+    let mut count = 0;
+    for kind in lifted.objects.as_slice() {
+        if is_below(types, *kind, wanted) {
+            count += 1;
+        }
+    }
+    count
+}
+
+/// How many instances parameters of these types have, or the greatest number that is told.
+fn count_instances(lifted: &Lifted, kinds: &[usize]) -> u64
+    ensures { result ≡ told (length (instances lifted.now kinds.now)) }
+{
+    let mut count: u64 = 1;
+    for kind in kinds {
+        count = count
+            .saturating_mul(count_fitting(lifted, *kind) as u64)
+            .min(MOST);
+    }
+    count
+}
+
+/// How many ground atoms there are, or the greatest number that is told. None of them is built.
+pub(crate) fn count_atoms(statics: &Statics, lifted: &Lifted) -> u64
+    requires { AreStatics statics.now lifted.now }
+    ensures { result ≡ told (length (ground_atoms lifted.now)) }
+{
+    let mut count: u64 = 0;
+    for (predicate, kinds) in lifted.predicates.as_slice().iter().enumerate() {
+        if statics.fluent.contains(&predicate) {
+            count = (count + count_instances(lifted, kinds.as_slice())).min(MOST);
+        }
+    }
+    count
+}

@@ -1,0 +1,79 @@
+ghost use Rattle.std.specs.Prelude.{◌≡◌, [], map, IfOk};
+ghost use Rattle.pb_lifted.specs.Facts.{value_of};
+ghost use Rattle.pb_ground.specs.Actions.{numbers_of, is_never};
+ghost use Rattle.pb_ground.specs.Atoms.{grounded, number_in};
+
+use crate::atoms::Atoms;
+use crate::statics::{Statics, may_hold, value_of};
+use pb_lifted::{Argument, Lifted, LiftedAtom};
+use pb_trees::Listed;
+use std::alloc::{AllocError, Global};
+
+/// The objects that arguments stand for, where these are given to the parameters.
+fn values_of(
+    alloc: Global,
+    given: &[usize],
+    arguments: &[Argument],
+) -> Result<Listed<usize>, AllocError>
+    ensures { IfOk result (λ values. values ≡ map (λ a. value_of given.now a) arguments.now) }
+{
+    let mut values = Listed::new(alloc);
+    for argument in arguments {
+        values.push(value_of(given, *argument))?;
+    }
+    Ok(values)
+}
+
+/// The number of what an atom of a schema becomes, or None where that is no ground atom.
+fn number_of(
+    alloc: Global,
+    atoms: &Atoms,
+    given: &[usize],
+    atom: &LiftedAtom,
+) -> Result<Option<usize>, AllocError>
+    ensures { IfOk result (λ number. number ≡ number_in (grounded given.now atom.now) atoms.now) }
+{
+    let objects = values_of(alloc, given, atom.arguments.as_slice())?;
+    Ok(atoms.number(atom.predicate, objects.as_slice()))
+}
+
+/// The numbers of those of a schema's atoms that are ground atoms. It fails where memory runs out.
+pub(crate) fn numbers_of(
+    alloc: Global,
+    atoms: &Atoms,
+    given: &[usize],
+    list: &[LiftedAtom],
+) -> Result<Listed<usize>, AllocError>
+    ensures { IfOk result (λ numbers. numbers ≡ numbers_of atoms.now given.now list.now) }
+{
+    let mut numbers = Listed::new(alloc);
+    for atom in list {
+        if let Some(number) = number_of(alloc, atoms, given, atom)? {
+            numbers.push(number)?;
+        }
+    }
+    Ok(numbers)
+}
+
+/// The numbers of the ground atoms that hold at first, in order of the text. It fails where memory runs out.
+pub fn start(alloc: Global, lifted: &Lifted, atoms: &Atoms) -> Result<Listed<usize>, AllocError>
+    ensures { IfOk result (λ numbers. numbers ≡ numbers_of atoms.now [] lifted.now.init) }
+{
+    numbers_of(alloc, atoms, &[], lifted.init.as_slice())
+}
+
+/// The numbers of the ground atoms of the goal, in order of the text. It fails where memory runs out.
+pub fn goal(alloc: Global, lifted: &Lifted, atoms: &Atoms) -> Result<Listed<usize>, AllocError>
+    ensures { IfOk result (λ numbers. numbers ≡ numbers_of atoms.now [] lifted.now.goal) }
+{
+    numbers_of(alloc, atoms, &[], lifted.goal.as_slice())
+}
+
+/// Whether no state is a goal state, since a static atom of the goal does not hold at first. It fails where memory runs out.
+pub fn is_never(alloc: Global, lifted: &Lifted) -> Result<bool, AllocError>
+    ensures { IfOk result (λ never. never ≡ is_never lifted.now) }
+{
+    let statics = Statics::of(alloc, lifted)?;
+    let holds = may_hold(&statics, lifted, true, lifted.goal.as_slice(), &[])?;
+    Ok(!holds)
+}
