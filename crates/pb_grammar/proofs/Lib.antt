@@ -29,3 +29,6 @@ pub mod DomainPlaces
 pub mod ProblemPlaces
 pub mod Faults
 pub mod Limits
+pub mod TokensOf
+pub mod WordTokens
+pub mod NamesAreWords

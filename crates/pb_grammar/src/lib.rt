@@ -1,5 +1,6 @@
 //! Laws of the definitions in `pb_trees`: what a list of tokens is read as is what the grammar has, an error is at the
-//! first token that can't go on, and the limit on nested parentheses changes neither. It has no code that runs.
+//! first token that can't go on, and the limit on nested parentheses changes neither; a text has one list of tokens, and
+//! the names in its tree are words. It has no code that runs.
 #![tactic(auto)]
 
 ghost use Rattle.std.specs.Prelude.{◌≡◌, ℕ, List, Ok, Err};
@@ -11,6 +12,9 @@ ghost use Rattle.pb_trees.specs.Tokens.{TextTokens};
 ghost use Rattle.pb_trees.specs.Reading.{limited, unlimited, domain_at, problem_at};
 ghost use Rattle.pb_trees.specs.Grammar.{IsDomain, IsProblem};
 ghost use Rattle.pb_trees.specs.Places.{IsFault};
+ghost use Rattle.pb_trees.specs.Trees.{SpellsDomain, SpellsProblem};
+ghost use Rattle.pb_trees.specs.Readings.{tokens_of};
+ghost use Rattle.pb_trees.specs.Words.{DomainHasWords, ProblemHasWords};
 
 /// A law: tokens are read as a domain exactly where the grammar has them as that domain.
 pub fn domain_reading_is_exact()
@@ -36,4 +40,21 @@ pub fn error_is_first()
 pub fn limit_never_decides()
     ensures domain { (text : List ℕ) (ts : List Token) → TextTokens text ts → domain_at unlimited ts ≡ domain_at limited ts }
     ensures problem { (text : List ℕ) (ts : List Token) → TextTokens text ts → problem_at unlimited ts ≡ problem_at limited ts }
+{}
+
+/// A law: each text has tokens, which are those that `tokens_of` gives.
+pub fn texts_have_tokens()
+    ensures { (text : List ℕ) → TextTokens text (tokens_of text) }
+{}
+
+/// A law: a text has no other tokens than those that `tokens_of` gives.
+pub fn tokens_are_unique()
+    ensures { (text : List ℕ) (ts : List Token) → TextTokens text ts → ts ≡ tokens_of text }
+{}
+
+/// A law: where a text spells a tree, the names of its actions and constants, or of its objects, are words: lower-case
+/// letters, digits, `-` and `_` alone.
+pub fn names_are_words()
+    ensures domain { (text : List ℕ) (domain : Domain) → SpellsDomain text domain → DomainHasWords domain }
+    ensures problem { (text : List ℕ) (problem : Problem) → SpellsProblem text problem → ProblemHasWords problem }
 {}

@@ -7,6 +7,8 @@ ghost use Rattle.pb_trees.specs.Tokens.{TextTokens};
 ghost use Rattle.pb_trees.specs.Grammar.{IsDomain, IsProblem};
 ghost use Rattle.pb_trees.specs.Trees.{IsRead, SpellsDomain, SpellsProblem, FirstFault};
 ghost use Rattle.pb_trees.specs.Reading.{Gives, unlimited, domain_at, problem_at};
+ghost use Rattle.pb_trees.specs.Readings.{domain_reading, problem_reading};
+ghost use Rattle.pb_trees.specs.Words.{DomainHasWords, ProblemHasWords};
 
 use crate::domain::domain;
 use crate::problem::problem;
@@ -46,6 +48,10 @@ pub fn read_domain(alloc: Global, text: &[u8]) -> Result<Domain, SyntaxError>
     ensures first { IfErr result (λ e. e ≢ Memory → FirstFault Domain IsDomain text.now e) }
     // It is the one answer that reading from left to right gives, however deep the parentheses.
     ensures exact { IsRead (domain_at unlimited) text.now result }
+    // The same as a function of the text: the answer is its reading, unless memory runs out.
+    ensures reading { Gives (λ d. d) result (domain_reading text.now) }
+    // The names of actions and constants are words: lower-case letters, digits, `-` and `_` alone.
+    ensures words { IfOk result DomainHasWords }
 {
     domain_of(alloc, text)
 }
@@ -62,6 +68,10 @@ pub fn read_problem(alloc: Global, text: &[u8]) -> Result<Problem, SyntaxError>
     ensures first { IfErr result (λ e. e ≢ Memory → FirstFault Problem IsProblem text.now e) }
     // It is the one answer that reading from left to right gives, however deep the parentheses.
     ensures exact { IsRead (problem_at unlimited) text.now result }
+    // The same as a function of the text: the answer is its reading, unless memory runs out.
+    ensures reading { Gives (λ p. p) result (problem_reading text.now) }
+    // The names of objects are words: lower-case letters, digits, `-` and `_` alone.
+    ensures words { IfOk result ProblemHasWords }
 {
     problem_of(alloc, text)
 }

@@ -1,7 +1,13 @@
+use Rattle.std.proofs.lemmas.Result.{IfOk-weaker}
 use Rattle.pb_trees.specs.Reading.{unlimited, domain_at}
+use Rattle.pb_trees.specs.Readings.{tokens_of, domain_reading}
+use Rattle.pb_trees.specs.Trees.{SpellsDomain}
+use Rattle.pb_trees.specs.Words.{DomainHasWords}
 use Rattle.pb_trees.specs.Grammar.{IsDomain}
 use Rattle.pb_grammar.proofs.FormsRead.{domain_is, domain_again}
 use Rattle.pb_grammar.proofs.Faults.{domain_fault}
+use Rattle.pb_grammar.proofs.TokensOf.{texts_have_tokens}
+use Rattle.pb_grammar.proofs.NamesAreWords.{domain_has_words}
 use Rattle.pb_grammar.proofs.Whole.{found, only, none, first}
 use Rattle.pb_syntax.proofs.reader.read_domain.Goals as goal
 
@@ -16,3 +22,12 @@ returns-clause-none c = none (domain_at unlimited) IsDomain c.args.text.now c.do
 
 pub returns-clause-first : goal.returns-clause-first
 returns-clause-first c = first (domain_at unlimited) IsDomain c.args.text.now c.domain_of.result domain_fault c.domain_of.ensures.is
+
+pub returns-clause-reading : goal.returns-clause-reading
+unfolding domain_reading
+returns-clause-reading c = c.domain_of.ensures.only (tokens_of c.args.text.now) (texts_have_tokens c.args.text.now)
+
+pub returns-clause-words : goal.returns-clause-words
+returns-clause-words c =
+    IfOk-weaker c.domain_of.result (SpellsDomain c.args.text.now) DomainHasWords (domain_has_words c.args.text.now)
+    (found (domain_at unlimited) IsDomain c.args.text.now c.domain_of.result domain_is c.domain_of.ensures.is)

@@ -1,7 +1,13 @@
+use Rattle.std.proofs.lemmas.Result.{IfOk-weaker}
 use Rattle.pb_trees.specs.Reading.{unlimited, problem_at}
+use Rattle.pb_trees.specs.Readings.{tokens_of, problem_reading}
+use Rattle.pb_trees.specs.Trees.{SpellsProblem}
+use Rattle.pb_trees.specs.Words.{ProblemHasWords}
 use Rattle.pb_trees.specs.Grammar.{IsProblem}
 use Rattle.pb_grammar.proofs.FormsRead.{problem_is, problem_again}
 use Rattle.pb_grammar.proofs.Faults.{problem_fault}
+use Rattle.pb_grammar.proofs.TokensOf.{texts_have_tokens}
+use Rattle.pb_grammar.proofs.NamesAreWords.{problem_has_words}
 use Rattle.pb_grammar.proofs.Whole.{found, only, none, first}
 use Rattle.pb_syntax.proofs.reader.read_problem.Goals as goal
 
@@ -16,3 +22,12 @@ returns-clause-none c = none (problem_at unlimited) IsProblem c.args.text.now c.
 
 pub returns-clause-first : goal.returns-clause-first
 returns-clause-first c = first (problem_at unlimited) IsProblem c.args.text.now c.problem_of.result problem_fault c.problem_of.ensures.is
+
+pub returns-clause-reading : goal.returns-clause-reading
+unfolding problem_reading
+returns-clause-reading c = c.problem_of.ensures.only (tokens_of c.args.text.now) (texts_have_tokens c.args.text.now)
+
+pub returns-clause-words : goal.returns-clause-words
+returns-clause-words c =
+    IfOk-weaker c.problem_of.result (SpellsProblem c.args.text.now) ProblemHasWords (problem_has_words c.args.text.now)
+    (found (problem_at unlimited) IsProblem c.args.text.now c.problem_of.result problem_is c.problem_of.ensures.is)

@@ -1,0 +1,22 @@
+-- The names in a tree are words: lower-case letters, digits, - and _.
+use Rattle.std.specs.Prelude.{ℕ, Bool, ◌||◌, ◌==◌, IsTrue, List, All}
+use Rattle.pb_trees.specs.declared.tree.Typed.{Typed}
+use Rattle.pb_trees.specs.declared.tree.Action.{Action}
+use Rattle.pb_trees.specs.declared.tree.Domain.{Domain}
+use Rattle.pb_trees.specs.declared.tree.Problem.{Problem}
+use Rattle.pb_trees.specs.Tokens.{is_between}
+
+abbrev pub is_word_byte : ℕ → Bool
+is_word_byte b = is_between 97 122 b || is_between 48 57 b || b == 45 || b == 95
+
+abbrev pub IsWord : List ℕ → Type 0
+IsWord text = All (λ b. IsTrue (is_word_byte b)) text
+
+-- the names of a domain's actions and constants, of which plans are printed
+pub record DomainHasWords (domain : Domain) : Type 0 where
+  pub actions : All (λ (a : Action). IsWord a.name.text) domain.actions
+  pub constants : All (λ (t : Typed). IsWord t.name.text) domain.constants
+
+-- those of a problem's objects
+abbrev pub ProblemHasWords : Problem → Type 0
+ProblemHasWords problem = All (λ (t : Typed). IsWord t.name.text) problem.objects
