@@ -5,3 +5,4 @@ mod Goals
 mod Distinct
 mod Sorted
 mod TwoRows
+pub mod AtHome

@@ -3,3 +3,4 @@ pub mod Traced
 pub mod Listed
 pub mod Stated
 pub mod Saved
+pub mod Laws

@@ -1,8 +1,10 @@
 //! The plan and the certificate of a search that came to its end.
 #![tactic(auto)]
 
+mod blocks;
 mod certificate;
 mod goal;
+mod laws;
 mod lines;
 mod plan;
 mod rows;
@@ -11,6 +13,7 @@ mod store;
 mod tracing;
 
 pub use certificate::Certificate;
+pub use laws::{home_rows_are_whole, shown_rows_can_be_traced};
 pub use plan::Plan;
 pub use store::Store;
 pub use tracing::trace;
