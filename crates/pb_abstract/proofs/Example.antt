@@ -1,11 +1,18 @@
 -- Worked rows of the definitions.
-use Rattle.std.proofs.Common.{◌≡◌, ℕ, ◌*◌, ◌<◌, ◌≤◌, refl, sym, subst, arith}
+use Rattle.std.proofs.Common.{◌≡◌, ◌≢◌, ℕ, zero, suc, ◌*◌, ◌<◌, ◌≤◌, false, IsTrue, List, [], ◌∷◌, None, All, nat_lt, refl, sym, subst, arith, inl, true≢false}
 use Rattle.std.specs.Int.{div_ceil}
+use Rattle.std.specs.List.{AllByRecursion}
 use Rattle.std.proofs.lemmas.Grind.{div_ceil_times}
 use Rattle.std.proofs.Math.Nat.{mul-le-mul_left}
+use Rattle.std.proofs.lemmas.List.Elements.{All-from_recursion}
+use Rattle.pb_model.proofs.Tests.{and_true, below}
 use Rattle.pb_task.specs.declared.parts.GridParts.{GridParts}
+use Rattle.pb_task.specs.declared.parts.GroundAction.{GroundAction}
+use Rattle.pb_task.specs.declared.parts.StripsParts.{StripsParts}
+use Rattle.pb_task.specs.Strips.{strips_step}
 use Rattle.pb_abstract.specs.declared.projection.Projection.TheVariants.{Blank, BlankAndOne, BlankAndTwo}
 use Rattle.pb_abstract.specs.Squares.{IsLeastSide}
+use Rattle.pb_abstract.specs.Tracked.{changers, is_changed, comes_before, AreTracked, tracked_set, tracked_task, IsTrackedEdge}
 use Rattle.pb_abstract.specs.Placings.{placing_count, placing_number, finest_of}
 
 -- ---- boards
@@ -79,3 +86,70 @@ large_map grid w h = record {
       subst (λ n. 4096 < div_ceil n other * div_ceil grid.height other) (sym w)
       (subst (λ n. 4096 < div_ceil 2048 other * div_ceil n other) (sym h) (many_squares (div_ceil 2048 other) (many_parts other some less)));
 }
+
+-- ---- STRIPS
+
+-- an action over six atoms, by the bits of those that it needs, adds and deletes
+abbrev act : (needs adds deletes : ℕ) → GroundAction
+act needs adds deletes = record { name = []; needs = needs; adds = adds; deletes = deletes; cost = 1 }
+
+-- none of the actions changes atom 0, three change atom 1, two each of the atoms 2, 3 and 4, and one atom 5
+abbrev six : StripsParts
+six = record {
+  atoms = 6;
+  actions = act 2 4 2 ∷ (act 4 2 4 ∷ (act 5 8 0 ∷ (act 8 16 8 ∷ (act 0 32 16 ∷ (act 32 2 0 ∷ [])))));
+  start = 3;
+  goal = 32;
+  never = false;
+}
+
+never_changed : changers 0 six.actions ≡ 0
+never_changed = refl
+
+often_changed : changers 1 six.actions ≡ 3
+often_changed = refl
+
+changed_once : changers 5 six.actions ≡ 1
+changed_once = refl
+
+abbrev four_tracked : List ℕ
+four_tracked = 5 ∷ (2 ∷ (3 ∷ (4 ∷ [])))
+
+-- the atoms 1 and 3 as a block, and the atoms 0, 2 and 5
+third_alone : tracked_set four_tracked 10 ≡ 4
+third_alone = refl
+
+first_and_second : tracked_set four_tracked 37 ≡ 3
+first_and_second = refl
+
+-- the action that needs and deletes atom 3, and adds atom 4, leads from the one's block to the other's
+an_edge : IsTrackedEdge six four_tracked 4 8
+an_edge = record { action = 3; cost = 1; steps = refl }
+
+-- the action that needs atom 3 is not applicable where that doesn't hold
+no_step : strips_step (tracked_task four_tracked six) 2 3 ≡ None
+no_step = refl
+
+-- where 16 blocks are wished for, these are the tracked atoms
+tracked : AreTracked six 16 four_tracked
+tracked = record {
+  changed = All-from_recursion (λ atom. IsTrue (is_changed six atom)) four_tracked (refl, (refl, (refl, (refl, tt))));
+  order = (all 5 (2 ∷ (3 ∷ (4 ∷ []))) (refl, (refl, (refl, tt))), (all 2 (3 ∷ (4 ∷ [])) (refl, (refl, tt)), (all 3 (4 ∷ []) (refl, tt), (all 4 [] tt, tt))));
+  first = before;
+  few = omega arith;
+  most = inl (omega arith);
+} where
+  all : (atom : ℕ) (atoms : List ℕ) → AllByRecursion (λ other. IsTrue (comes_before six atom other)) atoms → All (λ other. IsTrue (comes_before six atom other)) atoms
+  all atom atoms each = All-from_recursion (λ other. IsTrue (comes_before six atom other)) atoms each
+
+  before : (other : ℕ) → IsTrue (is_changed six other) → All (λ atom. atom ≢ other) four_tracked → All (λ atom. IsTrue (comes_before six atom other)) four_tracked
+  before zero changed apart = absurd (true≢false (sym changed))
+  before (suc zero) changed apart = All-from_recursion (λ atom. IsTrue (comes_before six atom 1)) four_tracked (refl, (refl, (refl, (refl, tt))))
+  before (suc (suc zero)) changed apart = absurd (apart 1 0 (omega arith) refl)
+  before (suc (suc (suc zero))) changed apart = absurd (apart 2 0 (omega arith) refl)
+  before (suc (suc (suc (suc zero)))) changed apart = absurd (apart 3 0 (omega arith) refl)
+  before (suc (suc (suc (suc (suc zero))))) changed apart = absurd (apart 0 0 (omega arith) refl)
+  before (suc (suc (suc (suc (suc (suc more)))))) changed apart =
+      let other : ℕ = suc (suc (suc (suc (suc (suc more))))) in
+      let known : other < 6 = below other 6 (and_true (nat_lt other 6) (nat_lt 0 (changers other six.actions)) changed).0 in
+      absurd (omega arith)

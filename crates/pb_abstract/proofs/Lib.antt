@@ -1,5 +1,7 @@
+pub mod TrackedSets
 pub mod Has
 pub mod Members
+pub mod Growing
 pub mod Directions
 pub mod Squaring
 pub mod SquareEdges
@@ -8,6 +10,10 @@ pub mod Ranks
 pub mod TileEdges
 pub mod GridSteps
 pub mod TileSteps
+pub mod TrackedSteps
+pub mod Ranking
+pub mod Ordering
+pub mod Changing
 pub mod Walking
 pub mod Sizes
 pub mod Unique

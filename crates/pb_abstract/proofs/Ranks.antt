@@ -7,7 +7,7 @@ use Rattle.pb_task.specs.declared.parts.TilesParts.{TilesParts}
 use Rattle.pb_task.specs.Tiles.{cell_count, IsTiles}
 use Rattle.pb_abstract.specs.declared.placing.Placing.{Placing}
 use Rattle.pb_abstract.specs.declared.projection.Projection.{Projection}
-use Rattle.pb_abstract.specs.declared.projection.Projection.TheVariants.{Squares, Blank, BlankAndOne, BlankAndTwo}
+use Rattle.pb_abstract.specs.declared.projection.Projection.TheVariants.{Squares, Blank, BlankAndOne, BlankAndTwo, Atoms}
 use Rattle.pb_abstract.specs.Placings.{IsPlacing, placing_count, placing_number, placing_after, tile_after, rank_beside, rank_beside_two}
 
 pub four_cells : (tiles : TilesParts) → IsTiles tiles → 4 ≤ cell_count tiles
@@ -51,6 +51,15 @@ Agree (Squares side) one two = Unit {0}
 Agree Blank one two = one.blank ≡ two.blank
 Agree BlankAndOne one two = (one.blank ≡ two.blank) × (one.first ≡ two.first)
 Agree BlankAndTwo one two = (one.blank ≡ two.blank) × (one.first ≡ two.first) × (one.second ≡ two.second)
+Agree (Atoms atoms) one two = Unit {0}
+
+-- the projection is one of boards
+abbrev pub IsOfBoards : Projection → Type 0
+IsOfBoards (Squares side) = ⊥
+IsOfBoards Blank = Unit {0}
+IsOfBoards BlankAndOne = Unit {0}
+IsOfBoards BlankAndTwo = Unit {0}
+IsOfBoards (Atoms atoms) = ⊥
 
 -- the blank and the tile 1 from their number
 pair_once : (count : ℕ) (one two : Placing) → IsPlacing count one → IsPlacing count two
@@ -65,6 +74,7 @@ pub number_once : (count : ℕ) (projection : Projection) (one two : Placing) �
     → Agree projection one two
 number_once count (Squares side) one two p q e = tt
 number_once count Blank one two p q e = e
+number_once count (Atoms atoms) one two p q e = tt
 number_once count BlankAndOne one two p q e = pair_once count one two p q e
 number_once count BlankAndTwo one two p q e =
     let digits = digits_once (count - 2) (one.blank * (count - 1) + rank_beside one.blank one.first) (rank_beside_two one.blank one.first one.second)
@@ -84,6 +94,7 @@ pub moves_agree : (count : ℕ) (projection : Projection) (one two : Placing) (c
     → placing_number count projection (placing_after one cell) ≡ placing_number count projection (placing_after two cell)
 moves_agree count (Squares side) one two cell a = refl
 moves_agree count Blank one two cell a = refl
+moves_agree count (Atoms atoms) one two cell a = refl
 moves_agree count BlankAndOne one two cell a =
     ap (λ n. cell * (count - 1) + rank_beside cell (tile_after n cell one.first)) a.0 ∙ ap (λ n. cell * (count - 1) + rank_beside cell (tile_after two.blank cell n)) a.1
 moves_agree count BlankAndTwo one two cell a =
@@ -91,16 +102,18 @@ moves_agree count BlankAndTwo one two cell a =
     ∙ ap (λ n. (cell * (count - 1) + rank_beside cell (tile_after two.blank cell n)) * (count - 2) + rank_beside_two cell (tile_after two.blank cell n) (tile_after two.blank cell one.second)) a.1
     ∙ ap (λ n. (cell * (count - 1) + rank_beside cell (tile_after two.blank cell two.first)) * (count - 2) + rank_beside_two cell (tile_after two.blank cell two.first) (tile_after two.blank cell n)) a.2
 
--- placings that agree have the blank in one cell, where the projection is one of boards
-pub blanks_agree : (projection : Projection) (one two : Placing) → ((side : ℕ) → projection ≢ Squares side) → Agree projection one two → one.blank ≡ two.blank
-blanks_agree (Squares side) one two tiles a = absurd (tiles side refl)
+-- placings that agree have the blank in one cell
+pub blanks_agree : (projection : Projection) (one two : Placing) → IsOfBoards projection → Agree projection one two → one.blank ≡ two.blank
+blanks_agree (Squares side) one two tiles a = absurd tiles
+blanks_agree (Atoms atoms) one two tiles a = absurd tiles
 blanks_agree Blank one two tiles a = a
 blanks_agree BlankAndOne one two tiles a = a.0
 blanks_agree BlankAndTwo one two tiles a = a.0
 
-pub number_small : (count : ℕ) (projection : Projection) (placing : Placing) → IsPlacing count placing → ((side : ℕ) → projection ≢ Squares side)
+pub number_small : (count : ℕ) (projection : Projection) (placing : Placing) → IsPlacing count placing → IsOfBoards projection
     → placing_number count projection placing < placing_count count projection
-number_small count (Squares side) placing p tiles = absurd (tiles side refl)
+number_small count (Squares side) placing p tiles = absurd tiles
+number_small count (Atoms atoms) placing p tiles = absurd tiles
 number_small count Blank placing p tiles = p.blank
 number_small count BlankAndOne placing p tiles =
     digits_below (count - 1) count placing.blank (rank_beside placing.blank placing.first) p.blank (rank_small count placing.blank placing.first p.blank p.first p.one)

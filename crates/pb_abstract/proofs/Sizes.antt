@@ -1,16 +1,17 @@
 -- The graph of a task has 1 to 4,096 blocks.
-use Rattle.std.proofs.Common.{◌≡◌, ℕ, ◌-◌, ◌*◌, ◌/◌, ◌<◌, ◌≤◌, Bool, true, false, nat_le, if◌then◌else◌, refl, sym, subst, arith}
+use Rattle.std.proofs.Common.{◌≡◌, ℕ, ◌-◌, ◌*◌, ◌/◌, ◌<◌, ◌≤◌, Bool, true, false, length, nat_le, if◌then◌else◌, refl, sym, subst, arith}
 use Rattle.std.specs.Int.{div_ceil}
+use Rattle.std.proofs.Math.Pow.{pow_pos}
 use Rattle.std.proofs.lemmas.Bool.Decides.{nat_tests}
 use Rattle.pb_task.specs.declared.parts.Parts.{Parts}
-use Rattle.pb_task.specs.declared.parts.Parts.TheVariants.{Grid, Tiles}
+use Rattle.pb_task.specs.declared.parts.Parts.TheVariants.{Grid, Tiles, Strips}
 use Rattle.pb_task.specs.declared.parts.GridParts.{GridParts}
 use Rattle.pb_task.specs.Parts.{IsTask}
 use Rattle.pb_task.specs.Grid.{IsGrid}
 use Rattle.pb_task.specs.Tiles.{cell_count}
 use Rattle.pb_task.proofs.Sliding.{few_cells}
 use Rattle.pb_abstract.specs.declared.projection.Projection.{Projection}
-use Rattle.pb_abstract.specs.declared.projection.Projection.TheVariants.{Squares, Blank, BlankAndOne, BlankAndTwo}
+use Rattle.pb_abstract.specs.declared.projection.Projection.TheVariants.{Squares, Blank, BlankAndOne, BlankAndTwo, Atoms}
 use Rattle.pb_abstract.specs.Squares.{square_count}
 use Rattle.pb_abstract.specs.Placings.{placing_count, finest_of}
 use Rattle.pb_abstract.specs.Projection.{block_count, IsFinest}
@@ -49,7 +50,7 @@ within count wish many enough = go (nat_le (count * (count - 1) * (count - 2)) w
   go false true e f = record { some = two; few = at_most (count * (count - 1)) wish f }
   go false false e f = record { some = omega arith; few = enough }
 
--- ---- both
+-- ---- every kind
 
 pub record IsSized (count wish : ℕ) : Type 0 where
   pub some : 1 ≤ count
@@ -60,10 +61,16 @@ sized (Grid grid) is wish least (Squares side) finest = record { some = some_squ
 sized (Grid grid) is wish least Blank finest = absurd finest
 sized (Grid grid) is wish least BlankAndOne finest = absurd finest
 sized (Grid grid) is wish least BlankAndTwo finest = absurd finest
+sized (Grid grid) is wish least (Atoms atoms) finest = absurd finest
 sized (Tiles tiles) is wish least projection finest =
     let w : IsWithin (cell_count tiles) wish projection =
     subst (IsWithin (cell_count tiles) wish) (sym finest) (within (cell_count tiles) wish (four_cells tiles is) (let few : cell_count tiles ≤ 16 = few_cells tiles is in omega (arith, few, least))) in
     record { some = w.some; few = w.few }
+sized (Strips strips) is wish least (Squares side) finest = absurd finest
+sized (Strips strips) is wish least Blank finest = absurd finest
+sized (Strips strips) is wish least BlankAndOne finest = absurd finest
+sized (Strips strips) is wish least BlankAndTwo finest = absurd finest
+sized (Strips strips) is wish least (Atoms atoms) finest = record { some = pow_pos (length atoms); few = finest.few }
 
 pub graph_is : (parts : Parts) → IsTask parts → (wish : ℕ) → 16 ≤ wish → wish ≤ 4096 → (graph : AbstractGraph) → IsGraphOf parts graph → IsFinest parts wish graph.projection → IsGraph graph
 graph_is parts is wish least greatest graph of finest =

@@ -1,16 +1,16 @@
 -- The edges of a block of boards are those that the blank's moves from one of its placings make.
-use Rattle.std.proofs.Common.{◌≡◌, ◌≢◌, ℕ, zero, suc, ◌<◌, true, IsTrue, Option, None, Some, List, [], ◌∷◌, ◌||◌, ◌==◌, ◌↔◌, refl, sym, ap, subst, ◌∙◌, arith, ◌⊎◌, inl, inr}
+use Rattle.std.proofs.Common.{◌≡◌, ℕ, zero, suc, ◌<◌, true, IsTrue, Option, None, Some, List, [], ◌∷◌, ◌||◌, ◌==◌, ◌↔◌, refl, sym, ap, ◌∙◌, arith, ◌⊎◌, inl, inr}
 use Rattle.std.specs.List.{list_any}
 use Rattle.pb_model.proofs.Tests.{equal, equal_self, or_true}
 use Rattle.pb_task.specs.declared.parts.TilesParts.{TilesParts}
 use Rattle.pb_task.specs.Tiles.{cell_count, neighbour}
 use Rattle.pb_abstract.specs.declared.placing.Placing.{Placing}
 use Rattle.pb_abstract.specs.declared.projection.Projection.{Projection}
-use Rattle.pb_abstract.specs.declared.projection.Projection.TheVariants.{Squares}
+use Rattle.pb_abstract.specs.declared.projection.Projection.TheVariants.{Squares, Blank, BlankAndOne, BlankAndTwo, Atoms}
 use Rattle.pb_abstract.specs.Placings.{IsPlacing, placing_count, placing_number, placing_after, number_after, IsTileEdge}
 use Rattle.pb_abstract.specs.Borders.{is_number}
 use Rattle.pb_abstract.proofs.Directions.{or_left, or_right, one_of_four, among_four}
-use Rattle.pb_abstract.proofs.Ranks.{Agree, number_once, moves_agree, blanks_agree}
+use Rattle.pb_abstract.proofs.Ranks.{Agree, IsOfBoards, number_once, moves_agree, blanks_agree}
 
 pub four_moves : (rows cols cell action to : ℕ) → neighbour rows cols cell action ≡ Some to → action < 4
 four_moves rows cols cell zero to e = omega arith
@@ -19,9 +19,13 @@ four_moves rows cols cell (suc (suc zero)) to e = omega arith
 four_moves rows cols cell (suc (suc (suc zero))) to e = omega arith
 four_moves rows cols cell (suc (suc (suc (suc more)))) to e = cc
 
--- a projection with blocks of boards is not one of squares
-pub of_boards : (count : ℕ) (projection : Projection) (block : ℕ) → block < placing_count count projection → (side : ℕ) → projection ≢ Squares side
-of_boards count projection block less side e = let none : block < 0 = subst (λ p. block < placing_count count p) e less in absurd (omega arith)
+-- a projection that has a block of boards is one of boards
+pub of_boards : (count : ℕ) (projection : Projection) (block : ℕ) → block < placing_count count projection → IsOfBoards projection
+of_boards count (Squares side) block less = absurd (omega arith)
+of_boards count Blank block less = tt
+of_boards count BlankAndOne block less = tt
+of_boards count BlankAndTwo block less = tt
+of_boards count (Atoms atoms) block less = absurd (omega arith)
 
 -- the move from a placing of the block is an edge
 pub after_edge : (tiles : TilesParts) (projection : Projection) (block c : ℕ) (placing : Placing) (action : ℕ) → IsPlacing (cell_count tiles) placing → placing_number (cell_count tiles) projection placing ≡ block
@@ -41,7 +45,7 @@ after_edge tiles projection block c placing action is number e = go (neighbour t
 
 -- an edge is the move from each placing of the block
 pub edge_after : (tiles : TilesParts) (projection : Projection) (block c : ℕ) (placing : Placing) → IsPlacing (cell_count tiles) placing → placing_number (cell_count tiles) projection placing ≡ block
-    → ((side : ℕ) → projection ≢ Squares side) → (edge : IsTileEdge tiles projection block c)
+    → IsOfBoards projection → (edge : IsTileEdge tiles projection block c)
     → is_number (number_after (cell_count tiles) projection placing (neighbour tiles.rows tiles.cols placing.blank edge.action)) c ≡ true
 edge_after tiles projection block c placing is number boards edge =
     let agree : Agree projection placing edge.placing = number_once (cell_count tiles) projection placing edge.placing is edge.is (number ∙ sym edge.from) in

@@ -2,15 +2,16 @@
 use Rattle.std.proofs.Common.{◌≡◌, ℕ, ◌<◌, ◌≤◌, List, [], length, sym, ap, subst, ◌∙◌, arith, ◌⊎◌, inl, inr}
 use Rattle.std.proofs.lemmas.List.{get_or_past}
 use Rattle.pb_task.specs.declared.parts.Parts.{Parts}
-use Rattle.pb_task.specs.declared.parts.Parts.TheVariants.{Grid, Tiles}
+use Rattle.pb_task.specs.declared.parts.Parts.TheVariants.{Grid, Tiles, Strips}
 use Rattle.pb_task.specs.declared.parts.GridParts.{GridParts}
 use Rattle.pb_abstract.specs.declared.projection.Projection.{Projection}
-use Rattle.pb_abstract.specs.declared.projection.Projection.TheVariants.{Squares, Blank, BlankAndOne, BlankAndTwo}
+use Rattle.pb_abstract.specs.declared.projection.Projection.TheVariants.{Squares, Blank, BlankAndOne, BlankAndTwo, Atoms}
 use Rattle.pb_abstract.specs.Squares.{square_count, IsLeastSide}
 use Rattle.pb_abstract.specs.Projection.{block_count, IsEdge, IsFinest}
 use Rattle.pb_abstract.specs.Graph.{has, blocks_of}
 use Rattle.pb_abstract.specs.Laws.{GraphsAreUnique}
 use Rattle.pb_abstract.proofs.Members.{same_tests}
+use Rattle.pb_abstract.proofs.Ordering.{tracked_are_unique}
 
 one_least : (grid : GridParts) (wish side other : ℕ) → IsLeastSide grid wish side → IsLeastSide grid wish other → side ≡ other
 one_least grid wish side other a b = go (cases side other) where
@@ -27,10 +28,21 @@ projections_are_unique (Grid grid) wish (Squares side) (Squares other) a b = ap 
 projections_are_unique (Grid grid) wish (Squares side) Blank a b = absurd b
 projections_are_unique (Grid grid) wish (Squares side) BlankAndOne a b = absurd b
 projections_are_unique (Grid grid) wish (Squares side) BlankAndTwo a b = absurd b
+projections_are_unique (Grid grid) wish (Squares side) (Atoms atoms) a b = absurd b
 projections_are_unique (Grid grid) wish Blank other a b = absurd a
 projections_are_unique (Grid grid) wish BlankAndOne other a b = absurd a
 projections_are_unique (Grid grid) wish BlankAndTwo other a b = absurd a
+projections_are_unique (Grid grid) wish (Atoms atoms) other a b = absurd a
 projections_are_unique (Tiles tiles) wish one other a b = a ∙ sym b
+projections_are_unique (Strips strips) wish (Squares side) other a b = absurd a
+projections_are_unique (Strips strips) wish Blank other a b = absurd a
+projections_are_unique (Strips strips) wish BlankAndOne other a b = absurd a
+projections_are_unique (Strips strips) wish BlankAndTwo other a b = absurd a
+projections_are_unique (Strips strips) wish (Atoms atoms) (Squares side) a b = absurd b
+projections_are_unique (Strips strips) wish (Atoms atoms) Blank a b = absurd b
+projections_are_unique (Strips strips) wish (Atoms atoms) BlankAndOne a b = absurd b
+projections_are_unique (Strips strips) wish (Atoms atoms) BlankAndTwo a b = absurd b
+projections_are_unique (Strips strips) wish (Atoms atoms) (Atoms others) a b = ap (λ xs. Atoms xs) (tracked_are_unique strips wish atoms others a b)
 
 pub graphs_are_unique : GraphsAreUnique
 graphs_are_unique parts wish one other of of' finest finest' = (same, counts, scopes) where

@@ -3,20 +3,22 @@ use Rattle.std.proofs.Common.{◌≡◌, ℕ, ◌<◌, ◌≤◌, IsTrue, [], le
 use Rattle.std.proofs.lemmas.List.{get_or_past}
 use Rattle.pb_model.specs.Space.{Steps}
 use Rattle.pb_task.specs.declared.parts.Parts.{Parts}
-use Rattle.pb_task.specs.declared.parts.Parts.TheVariants.{Grid, Tiles}
+use Rattle.pb_task.specs.declared.parts.Parts.TheVariants.{Grid, Tiles, Strips}
 use Rattle.pb_task.specs.Parts.{space_of, IsTask}
 use Rattle.pb_task.specs.Tiles.{cell_count, board_of}
 use Rattle.pb_task.proofs.Grids.{tasks_are_proper}
 use Rattle.pb_task.proofs.Boards.{listed, board_in}
 use Rattle.pb_abstract.specs.declared.projection.Projection.{Projection}
-use Rattle.pb_abstract.specs.declared.projection.Projection.TheVariants.{Squares, Blank, BlankAndOne, BlankAndTwo}
+use Rattle.pb_abstract.specs.declared.projection.Projection.TheVariants.{Squares, Blank, BlankAndOne, BlankAndTwo, Atoms}
 use Rattle.pb_abstract.specs.Projection.{Fits, block_count, block_of, IsEdge}
 use Rattle.pb_abstract.specs.Graph.{AbstractGraph, has, blocks_of, AreKnown, IsGraphOf, home_of}
 use Rattle.pb_abstract.specs.Laws.{EdgesAreSteps, AbstractGraphsAreBlocks}
 use Rattle.pb_abstract.proofs.BoardCells.{is_placing_of}
-use Rattle.pb_abstract.proofs.Ranks.{four_cells, number_small}
+use Rattle.pb_abstract.proofs.Ranks.{IsOfBoards, four_cells, number_small}
+use Rattle.pb_abstract.proofs.TrackedSets.{set_small}
 use Rattle.pb_abstract.proofs.GridSteps as grids
 use Rattle.pb_abstract.proofs.TileSteps as tiles_steps
+use Rattle.pb_abstract.proofs.TrackedSteps as sets
 
 -- ---- edges and steps
 
@@ -31,14 +33,26 @@ step_edge (Grid grid) is (Squares side) fits from action to cost e = grids.step_
 step_edge (Grid grid) is Blank fits from action to cost e = absurd fits
 step_edge (Grid grid) is BlankAndOne fits from action to cost e = absurd fits
 step_edge (Grid grid) is BlankAndTwo fits from action to cost e = absurd fits
+step_edge (Grid grid) is (Atoms atoms) fits from action to cost e = absurd fits
 step_edge (Tiles tiles) is projection fits from action to cost e = tiles_steps.step_edge tiles is projection from action to cost e
+step_edge (Strips strips) is (Squares side) fits from action to cost e = absurd fits
+step_edge (Strips strips) is Blank fits from action to cost e = absurd fits
+step_edge (Strips strips) is BlankAndOne fits from action to cost e = absurd fits
+step_edge (Strips strips) is BlankAndTwo fits from action to cost e = absurd fits
+step_edge (Strips strips) is (Atoms atoms) fits from action to cost e = sets.step_edge strips atoms fits from action to cost e
 
 pub edge_step : (parts : Parts) → IsTask parts → (projection : Projection) → Fits parts projection → (block other : ℕ) → IsEdge parts projection block other → Step parts projection block other
 edge_step (Grid grid) is (Squares side) fits block other edge = grids.edge_step grid is side block other edge
 edge_step (Grid grid) is Blank fits block other edge = absurd fits
 edge_step (Grid grid) is BlankAndOne fits block other edge = absurd fits
 edge_step (Grid grid) is BlankAndTwo fits block other edge = absurd fits
+edge_step (Grid grid) is (Atoms atoms) fits block other edge = absurd fits
 edge_step (Tiles tiles) is projection fits block other edge = tiles_steps.edge_step tiles is projection block other edge
+edge_step (Strips strips) is (Squares side) fits block other edge = absurd fits
+edge_step (Strips strips) is Blank fits block other edge = absurd fits
+edge_step (Strips strips) is BlankAndOne fits block other edge = absurd fits
+edge_step (Strips strips) is BlankAndTwo fits block other edge = absurd fits
+edge_step (Strips strips) is (Atoms atoms) fits block other edge = sets.edge_step strips atoms fits block other edge
 
 pub edges_are_steps : EdgesAreSteps
 edges_are_steps parts is projection fits block other = (edge_step parts is projection fits block other, back) where
@@ -58,13 +72,23 @@ block_small (Grid grid) is (Squares side) fits state e = grids.square_small grid
 block_small (Grid grid) is Blank fits state e = absurd fits
 block_small (Grid grid) is BlankAndOne fits state e = absurd fits
 block_small (Grid grid) is BlankAndTwo fits state e = absurd fits
+block_small (Grid grid) is (Atoms atoms) fits state e = absurd fits
 block_small (Tiles tiles) is projection fits state e =
     let count = cell_count tiles in
     let many : 4 ≤ count = four_cells tiles is in
     number_small count projection _ (is_placing_of count (board_of count state) (listed count (board_of count state) (board_in count state e)) (omega (arith, many))) (boards projection fits)
   where
-    boards : (projection : Projection) → Fits (Tiles tiles) projection → (side : ℕ) → (projection ≡ Squares side) → ⊥
-    boards projection fits side same = subst (Fits (Tiles tiles)) same fits
+    boards : (projection : Projection) → Fits (Tiles tiles) projection → IsOfBoards projection
+    boards (Squares side) fits = absurd fits
+    boards Blank fits = tt
+    boards BlankAndOne fits = tt
+    boards BlankAndTwo fits = tt
+    boards (Atoms atoms) fits = absurd fits
+block_small (Strips strips) is (Squares side) fits state e = absurd fits
+block_small (Strips strips) is Blank fits state e = absurd fits
+block_small (Strips strips) is BlankAndOne fits state e = absurd fits
+block_small (Strips strips) is BlankAndTwo fits state e = absurd fits
+block_small (Strips strips) is (Atoms atoms) fits state e = set_small atoms state
 
 -- an edge leads to a block that there is
 pub edge_small : (parts : Parts) → IsTask parts → (projection : Projection) → Fits parts projection → (block other : ℕ) → IsEdge parts projection block other → other < block_count parts projection

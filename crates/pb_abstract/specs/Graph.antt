@@ -1,4 +1,6 @@
--- The abstract graph of a task, as contracts see it: how states are mapped to blocks, and the scope of each block.
+-- The abstract graph of a task, as contracts see it: how states are mapped to blocks, and the scope of each block (R. Zhou and E. A. Hansen,
+-- "Structured duplicate detection in external-memory graph search", AAAI 2004), by which several workers share a search (E. Burns, S. Lemons,
+-- W. Ruml and R. Zhou, "Best-first heuristic search for multicore machines", Journal of Artificial Intelligence Research 39, 2010).
 use Rattle.std.specs.Prelude.{◌≡◌, ℕ, ◌<◌, ◌≤◌, Bool, IsTrue, ◌↔◌, ◌⊎◌, ◌==◌, List, [], length, slice_index_or}
 use Rattle.std.specs.List.{list_any}
 use Rattle.pb_machine.specs.Blocks.{Blocks, interferes}

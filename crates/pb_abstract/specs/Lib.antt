@@ -1,6 +1,10 @@
+pub mod Padded
 pub mod Squares
 pub mod Placings
+pub mod Tracked
 pub mod Projection
 pub mod Borders
 pub mod Graph
+pub mod Ranking
+pub mod Changes
 pub mod Laws

@@ -5,7 +5,7 @@ use Rattle.pb_task.specs.declared.parts.TilesParts.{TilesParts}
 use Rattle.pb_task.specs.Tiles.{cell_count, neighbour}
 use Rattle.pb_abstract.specs.declared.placing.Placing.{Placing}
 use Rattle.pb_abstract.specs.declared.projection.Projection.{Projection}
-use Rattle.pb_abstract.specs.declared.projection.Projection.TheVariants.{Squares, Blank, BlankAndOne, BlankAndTwo}
+use Rattle.pb_abstract.specs.declared.projection.Projection.TheVariants.{Squares, Blank, BlankAndOne, BlankAndTwo, Atoms}
 
 -- They are three cells of a board that has so many.
 pub record IsPlacing (count : ℕ) (placing : Placing) : Type 0 where
@@ -23,12 +23,13 @@ cell_with board number = unwrap_or (position (λ other. other == number) board) 
 abbrev pub placing_of : (board : List ℕ) → Placing
 placing_of board = record { blank = cell_with board 0; first = cell_with board 1; second = cell_with board 2 }
 
--- how many blocks there are, where a board has `count` cells
+-- how many blocks there are, where a board has `count` cells; 0 where the projection is of another kind
 abbrev pub placing_count : (count : ℕ) → Projection → ℕ
 placing_count count (Squares side) = 0
 placing_count count Blank = count
 placing_count count BlankAndOne = count * (count - 1)
 placing_count count BlankAndTwo = count * (count - 1) * (count - 2)
+placing_count count (Atoms atoms) = 0
 
 -- the rank of a cell among the cells other than `taken`
 abbrev pub rank_beside : (taken cell : ℕ) → ℕ
@@ -38,13 +39,14 @@ rank_beside taken cell = cell - one_if (nat_lt taken cell)
 abbrev pub rank_beside_two : (taken other cell : ℕ) → ℕ
 rank_beside_two taken other cell = cell - (one_if (nat_lt taken cell) + one_if (nat_lt other cell))
 
--- the block of a placing, where a board has `count` cells
+-- the block of a placing, where a board has `count` cells; 0 where the projection is of another kind
 abbrev pub placing_number : (count : ℕ) → Projection → Placing → ℕ
 placing_number count (Squares side) placing = 0
 placing_number count Blank placing = placing.blank
 placing_number count BlankAndOne placing = placing.blank * (count - 1) + rank_beside placing.blank placing.first
 placing_number count BlankAndTwo placing =
     (placing.blank * (count - 1) + rank_beside placing.blank placing.first) * (count - 2) + rank_beside_two placing.blank placing.first placing.second
+placing_number count (Atoms atoms) placing = 0
 
 -- the cell of a tile after the blank moved: that of the blank before, where the two met
 abbrev pub tile_after : (blank to tile : ℕ) → ℕ

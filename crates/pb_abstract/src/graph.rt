@@ -42,8 +42,8 @@ impl AbsGraph {
         ensures finest { IfOk result (λ graph. IsFinest task.now wish graph.projection) }
     {
         let parts = task.parts();
-        let projection = scopes::finest(parts, wish);
-        let scopes = scopes::scopes(alloc, parts, projection)?;
+        let projection = scopes::finest(alloc, parts, wish)?;
+        let scopes = scopes::scopes(alloc, parts, &projection)?;
         let interference = interference(alloc, scopes.as_slice())?;
         Ok(AbsGraph {
             projection,
@@ -63,6 +63,8 @@ impl AbsGraph {
             (Parts::Grid(grid), Projection::Squares { side }) => squares::square(grid, side, state),
             (Parts::Grid(_), _) => unreachable!(),
             (Parts::Tiles(parts), projection) => tiles::block(parts, projection, state),
+            (Parts::Strips(_), Projection::Atoms(atoms)) => atoms.tracked_set(state),
+            (Parts::Strips(_), _) => unreachable!(),
         }
     }
 

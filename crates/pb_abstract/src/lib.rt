@@ -2,9 +2,13 @@
 //! detection, from Zhou and Hansen, "Structured Duplicate Detection in External-Memory Graph Search" (2004), as Burns, Lemons, Ruml and
 //! Zhou use it in "Best-First Heuristic Search for Multicore Machines" (Journal of Artificial Intelligence Research 39, 2010).
 //!
+//! A grid is cut into squares of cells, boards are told apart by the cells of the blank and up to two tiles, and the states of a STRIPS task by
+//! up to 12 ground atoms, those that the fewest ground actions change.
+//!
 //! The projections and the edges between blocks are definitions in `specs`, by the kind of task.
 #![tactic(auto)]
 
+mod changes;
 mod graph;
 mod interference;
 mod laws;
@@ -16,10 +20,15 @@ mod scopes;
 mod squares;
 mod steps;
 mod tiles;
+mod tracked;
+mod tracking;
 
 pub use graph::AbsGraph;
 pub use laws::{abstract_graphs_are_blocks, edges_are_steps, graphs_are_unique};
 pub use projection::Projection;
+pub use tracked::TrackedAtoms;
 
+#[cfg(test)]
+mod strips_tests;
 #[cfg(test)]
 mod tests;

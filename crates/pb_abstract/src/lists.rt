@@ -25,13 +25,14 @@ impl Model for BlockList {
 }
 
 impl BlockList {
-    /// The list that has these numbers, each once. It takes no memory.
+    /// The list that has these numbers, each once. It takes no memory, and gives back what it doesn't need.
     pub fn of(numbers: Vec<u32>) -> BlockList
         ensures { (c : ℕ) → has result c ≡ has numbers.items c }
     {
         let mut numbers = numbers;
         numbers.sort_unstable();
         numbers.dedup();
+        numbers.shrink_to_fit();
         BlockList { numbers }
     }
 

@@ -16,6 +16,7 @@ pub fn placing_count(count: u32, projection: Projection) -> u32
         Projection::Blank => count,
         Projection::BlankAndOne => count * (count - 1),
         Projection::BlankAndTwo => count * (count - 1) * (count - 2),
+        Projection::Atoms(_) => 0,
     }
 }
 
@@ -70,6 +71,7 @@ pub fn placing_number(count: u32, projection: Projection, placing: &Placing) -> 
         Projection::BlankAndTwo => {
             pair * (count - 2) + rank_beside_two(placing.blank, placing.first, placing.second)
         }
+        Projection::Atoms(_) => 0,
     }
 }
 
@@ -137,5 +139,6 @@ pub fn placing_at(count: u32, projection: Projection, block: u32) -> Placing
                 block % (count - 2),
             )
         }
+        Projection::Atoms(_) => unreachable!(),
     }
 }

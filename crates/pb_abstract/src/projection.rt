@@ -1,3 +1,5 @@
+use crate::tracked::TrackedAtoms;
+
 /// How the states of a task are mapped to blocks.
 #[derive(Clone, Copy, Debug, PartialEq, Eq)]
 pub enum Projection {
@@ -12,4 +14,6 @@ pub enum Projection {
     BlankAndOne,
     /// For tiles: by the cells of the blank and the tiles 1 and 2.
     BlankAndTwo,
+    /// For STRIPS: by which of these atoms hold.
+    Atoms(TrackedAtoms),
 }

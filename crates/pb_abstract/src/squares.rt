@@ -1,4 +1,4 @@
-ghost use Rattle.std.specs.Prelude.{◌≡◌, ◌<◌, ◌≤◌, ◌^◌, ◌*◌, ◌↔◌, ◌⊎◌, ℕ, IsTrue, IfOk};
+ghost use Rattle.std.specs.Prelude.{◌≡◌, ◌<◌, ◌≤◌, ◌^◌, ◌*◌, ◌↔◌, ◌⊎◌, ℕ, [], IsTrue, IfOk, length, slice_index_or};
 ghost use Rattle.std.specs.Int.{div_ceil};
 ghost use Rattle.pb_packed.specs.Bits.{bits_of};
 ghost use Rattle.pb_task.specs.Grid.{IsGrid, are_connected, cell_beside, class_of_state, is_passable};
@@ -124,13 +124,8 @@ fn beyond(grid: &GridParts, side: u32, block: u32, action: u32) -> Option<u32>
     Some(y * columns + x)
 }
 
-/// The scope of a square: itself, and those that a cell of it has a cell of its class beside it in.
-pub fn scope(
-    alloc: Global,
-    grid: &GridParts,
-    side: u32,
-    block: u32,
-) -> Result<BlockList, AllocError>
+// The scope of a square: itself, and those that a cell of it has a cell of its class beside it in.
+fn scope(alloc: Global, grid: &GridParts, side: u32, block: u32) -> Result<BlockList, AllocError>
     requires grid { IsGrid grid.now }
     requires side { 1 ≤ side }
     requires small { side ≤ 2048 }
@@ -145,4 +140,20 @@ pub fn scope(
         beyond(grid, side, block, 3),
     ];
     scope_of(alloc, block, beyond)
+}
+
+/// The scopes of all squares, in order of their numbers.
+pub fn scopes(alloc: Global, grid: &GridParts, side: u32) -> Result<Vec<BlockList>, AllocError>
+    requires grid { IsGrid grid.now }
+    requires side { 1 ≤ side }
+    requires small { side ≤ 2048 }
+    requires few { square_count grid.now side ≤ 4096 }
+    ensures count { IfOk result (λ scopes. length scopes.items ≡ square_count grid.now side) }
+    ensures scope { IfOk result (λ scopes. (block other : ℕ) → block < square_count grid.now side → IsTrue (has (slice_index_or scopes.items block []) other) ↔ ((block ≡ other) ⊎ IsSquareEdge grid.now side block other)) }
+{
+    let mut scopes = Vec::new(alloc);
+    for block in 0..square_count(grid, side) {
+        scopes.push(scope(alloc, grid, side, block)?)?;
+    }
+    Ok(scopes)
 }

@@ -72,8 +72,8 @@ fn board(alloc: Global) -> Result<Task, AllocError> {
     Ok(task)
 }
 
-// The scope and the interference of a block, where there is one of this number.
-fn scope(graph: &AbsGraph, block: u32) -> &[u32] {
+/// The scope of a block, where there is one of this number.
+pub fn scope(graph: &AbsGraph, block: u32) -> &[u32] {
     if block < graph.count() {
         graph.scope(block)
     } else {
@@ -81,7 +81,8 @@ fn scope(graph: &AbsGraph, block: u32) -> &[u32] {
     }
 }
 
-fn interference(graph: &AbsGraph, block: u32) -> &[u32] {
+/// The interference of a block, where there is one of this number.
+pub fn interference(graph: &AbsGraph, block: u32) -> &[u32] {
     if block < graph.count() {
         graph.interference(block)
     } else {
@@ -89,8 +90,8 @@ fn interference(graph: &AbsGraph, block: u32) -> &[u32] {
     }
 }
 
-// The block of a state, if it is one.
-fn block(graph: &AbsGraph, task: &Task, state: &Packed) -> Option<u32>
+/// The block of a state, if it is one.
+pub fn block(graph: &AbsGraph, task: &Task, state: &Packed) -> Option<u32>
     requires { IsGraphOf task.now graph.now }
 {
     if task.is_state(state) {

@@ -1,10 +1,10 @@
-ghost use Rattle.std.specs.Prelude.{◌≡◌, ◌*◌, ◌+◌, ◌<◌, ◌≤◌, ◌^◌, ◌↔◌, ◌⊎◌, ℕ, IsTrue, IfOk, IfSome};
+ghost use Rattle.std.specs.Prelude.{◌≡◌, ◌*◌, ◌+◌, ◌<◌, ◌≤◌, ◌^◌, ◌↔◌, ◌⊎◌, ℕ, [], IsTrue, IfOk, IfSome, length, slice_index_or};
 ghost use Rattle.pb_task.specs.Tiles.{IsTiles, cell_count, board_of, is_board_state, neighbour};
 ghost use Rattle.pb_abstract.specs.Placings.{IsPlacing, placing_count, placing_number, placing_of, placing_after, tile_after, number_after, cell_with, IsTileEdge};
 ghost use Rattle.pb_abstract.specs.Graph.{has};
 
 use crate::lists::{BlockList, scope_of};
-use crate::numbers::{placing_at, placing_number};
+use crate::numbers::{placing_at, placing_count, placing_number};
 use crate::placing::Placing;
 use crate::projection::Projection;
 use crate::steps::cell_beside;
@@ -49,28 +49,33 @@ fn placing_after(placing: &Placing, to: u32) -> Placing
 }
 
 // The block that the blank's move in an action's direction leads to.
-fn beyond(tiles: &TilesParts, projection: Projection, placing: &Placing, action: u32) -> Option<u32>
+fn beyond(
+    tiles: &TilesParts,
+    projection: &Projection,
+    placing: &Placing,
+    action: u32,
+) -> Option<u32>
     requires tiles { IsTiles tiles.now }
     requires placing { IsPlacing (cell_count tiles.now) placing.now }
-    ensures { result ≡ number_after (cell_count tiles.now) projection placing.now (neighbour tiles.now.rows tiles.now.cols placing.now.blank action) }
+    ensures { result ≡ number_after (cell_count tiles.now) projection.now placing.now (neighbour tiles.now.rows tiles.now.cols placing.now.blank action) }
 {
     let to = neighbour(tiles, placing.blank, action)?;
     let after = placing_after(placing, to);
-    Some(placing_number(tiles.rows * tiles.cols, projection, &after))
+    Some(placing_number(tiles.rows * tiles.cols, *projection, &after))
 }
 
-/// The scope of a block: itself, and those that the blank's moves lead to.
-pub fn scope(
+// The scope of a block: itself, and those that the blank's moves lead to.
+fn scope(
     alloc: Global,
     tiles: &TilesParts,
-    projection: Projection,
+    projection: &Projection,
     block: u32,
 ) -> Result<BlockList, AllocError>
     requires tiles { IsTiles tiles.now }
-    requires block { block < placing_count (cell_count tiles.now) projection }
-    ensures { IfOk result (λ list. (c : ℕ) → IsTrue (has list c) ↔ ((block ≡ c) ⊎ IsTileEdge tiles.now projection block c)) }
+    requires block { block < placing_count (cell_count tiles.now) projection.now }
+    ensures { IfOk result (λ list. (c : ℕ) → IsTrue (has list c) ↔ ((block ≡ c) ⊎ IsTileEdge tiles.now projection.now block c)) }
 {
-    let placing = placing_at(tiles.rows * tiles.cols, projection, block);
+    let placing = placing_at(tiles.rows * tiles.cols, *projection, block);
     let beyond = [
         beyond(tiles, projection, &placing, 0),
         beyond(tiles, projection, &placing, 1),
@@ -78,6 +83,23 @@ pub fn scope(
         beyond(tiles, projection, &placing, 3),
     ];
     scope_of(alloc, block, beyond)
+}
+
+/// The scopes of all blocks, in order of their numbers.
+pub fn scopes(
+    alloc: Global,
+    tiles: &TilesParts,
+    projection: &Projection,
+) -> Result<Vec<BlockList>, AllocError>
+    requires { IsTiles tiles.now }
+    ensures count { IfOk result (λ scopes. length scopes.items ≡ placing_count (cell_count tiles.now) projection.now) }
+    ensures scope { IfOk result (λ scopes. (block other : ℕ) → block < placing_count (cell_count tiles.now) projection.now → IsTrue (has (slice_index_or scopes.items block []) other) ↔ ((block ≡ other) ⊎ IsTileEdge tiles.now projection.now block other)) }
+{
+    let mut scopes = Vec::new(alloc);
+    for block in 0..placing_count(tiles.rows * tiles.cols, *projection) {
+        scopes.push(scope(alloc, tiles, projection, block)?)?;
+    }
+    Ok(scopes)
 }
 
 // The cell of a board that a number is in, where the number in cell i is the one in the bits 4i to 4i+3. 0 where it is in none.

@@ -8,6 +8,7 @@ use Rattle.pb_check.specs.declared.kind.Kind.TheVariants.{Grid, Tiles, Strips}
 abbrev pub kind_of : Parts → Kind
 kind_of (parts.Grid grid) = Grid
 kind_of (parts.Tiles tiles) = Tiles
+kind_of (parts.Strips strips) = Strips
 
 abbrev pub kind_name : Kind → List ℕ
 kind_name Grid = codes "grid"

@@ -21,5 +21,6 @@ pub fn kind_of(task: &Task) -> Kind
     match task.parts() {
         Parts::Grid(_) => Kind::Grid,
         Parts::Tiles(_) => Kind::Tiles,
+        Parts::Strips(_) => Kind::Strips,
     }
 }

@@ -1,6 +1,10 @@
+ghost use Rattle.std.specs.Prelude.{◌<◌, ◌^◌, IfOk};
+ghost use Rattle.pb_task.specs.Strips.{IsGroundAction};
+
 use crate::{CheckError, Fault, Verdict, check};
 use pb_estimate::Estimator;
-use pb_task::{Cells, Class, GridParts, Task};
+use pb_packed::Packed;
+use pb_task::{ActionName, Actions, Cells, Class, GridParts, GroundAction, StripsParts, Task};
 use std::alloc::{AllocError, Global};
 use std::test::Fail;
 
@@ -216,4 +220,111 @@ fn without_a_way_to_the_goal_there_is_no_plan(rt: HostRuntime) -> Result<(), Fai
         Ok(Verdict::Unsolvable)
     );
     Ok(())
+}
+
+// ---- atoms
+
+// A set of three atoms, as the number in which the bits of its atoms are 1.
+fn set_of(bits: u64) -> Packed
+    requires { bits < 2 ^ 3 }
+    ensures { result < 2 ^ 3 }
+{
+    Packed::zero().with_bits(0, 3, bits)
+}
+
+// An action over three atoms: what it needs, adds and deletes.
+fn action(
+    alloc: Global,
+    name: &str,
+    needs: u64,
+    adds: u64,
+    deletes: u64,
+) -> Result<GroundAction, AllocError>
+    requires needs { needs < 2 ^ 3 }
+    requires adds { adds < 2 ^ 3 }
+    requires deletes { deletes < 2 ^ 3 }
+    ensures { IfOk result (IsGroundAction 3) }
+{
+    Ok(GroundAction {
+        name: ActionName::of(String::from_str(alloc, name)?),
+        needs: set_of(needs),
+        adds: set_of(adds),
+        deletes: set_of(deletes),
+        cost: 1,
+    })
+}
+
+// Two things, atoms 1 and 2, are fetched from a place, atom 0, that can be left for good.
+fn fetching(alloc: Global, is_there: bool) -> Result<Task, AllocError> {
+    let actions = vec![in alloc;
+        action(alloc, "(fetch one)", 1, 2, 0)?,
+        action(alloc, "(fetch other)", 1, 4, 0)?,
+        action(alloc, "(leave)", 1, 0, 1)?,
+    ]?;
+    let task = Task::of_strips(StripsParts {
+        atoms: 3,
+        actions: Actions::of(actions),
+        start: set_of(u64::from(is_there)),
+        goal: set_of(6),
+        never: false,
+    });
+    Ok(task)
+}
+
+// What the checker answers to these lines behind a certificate's weight, parted by slashes.
+fn fetching_answer(alloc: Global, is_there: bool, lines: &str) -> Result<Verdict, CheckError> {
+    let task = fetching(alloc, is_there)?;
+    let mut text = String::new(alloc);
+    for line in ["pbnf-certificate 1", "kind strips", "weight 1 1"] {
+        add_line(&mut text, line)?;
+    }
+    for line in lines.split('/') {
+        add_line(&mut text, line)?;
+    }
+    add_line(&mut text, "end")?;
+    answer(alloc, &task, text.as_bytes())
+}
+
+// Once the place is left, no goal is reached. Before, the estimate is what one thing costs: the least that two cost.
+#[test]
+fn certificates_of_sets_of_atoms_are_judged(rt: HostRuntime) {
+    for (is_there, lines, answer) in [
+        (
+            true,
+            "plan 2/0/1/cost 2/rows 4/*0 1 cut/*1 0 closed/*3 1 cut/*5 1 cut",
+            Ok(Verdict::Bounded { cost: 2, bound: 2 }),
+        ),
+        (false, "none/rows 1/*0 0 cut", Ok(Verdict::Unsolvable)),
+        (
+            true,
+            "plan 2/0/1/cost 2/rows 1/*1 0 cut",
+            Err(CheckError::Fault(Fault::Low { line: 9 })),
+        ),
+        (
+            true,
+            "none/rows 1/*1 0 cut",
+            Err(CheckError::Fault(Fault::Low { line: 6 })),
+        ),
+        (
+            true,
+            "plan 2/0/1/cost 2/rows 5/*0 1 cut/*1 0 closed/*3 1 cut/*5 1 cut/*8 1 cut",
+            Err(CheckError::Fault(Fault::BadState { line: 13 })),
+        ),
+        (
+            true,
+            "plan 2/2/0/cost 2/rows 1/*1 0 cut",
+            Err(CheckError::Fault(Fault::PlanStep { i: 1 })),
+        ),
+        (
+            true,
+            "plan 2/0/1/cost 2/rows 3/*1 0 closed/*3 1 cut/*5 1 cut",
+            Err(CheckError::Fault(Fault::Missing { line: 9, action: 2 })),
+        ),
+    ] {
+        assert_eq!(rt;
+            fetching_answer(rt.alloc(), is_there, lines),
+            answer,
+            "{lines}"
+        );
+    }
 }

@@ -4,3 +4,10 @@ pub mod Homes
 pub mod Ways
 pub mod Estimates
 pub mod Totals
+pub mod Costs
+pub mod Rounds
+pub mod Fixed
+pub mod Reached
+pub mod Lowering
+pub mod Relaxation
+pub mod Lowered

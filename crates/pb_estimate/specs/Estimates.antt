@@ -5,7 +5,8 @@ use Rattle.pb_model.specs.declared.row.Estimate.{Estimate}
 use Rattle.pb_model.specs.declared.row.Estimate.TheVariants.{Cost}
 use Rattle.pb_task.specs.Tiles.{cell_count, board_of}
 use Rattle.pb_task.specs.declared.parts.Parts.{Parts}
-use Rattle.pb_task.specs.declared.parts.Parts.TheVariants.{Grid, Tiles}
+use Rattle.pb_task.specs.declared.parts.Parts.TheVariants.{Grid, Tiles, Strips}
+use Rattle.pb_estimate.specs.Hmax.{hmax}
 
 -- how far two numbers are apart
 abbrev pub apart : (n m : ℕ) → ℕ
@@ -51,3 +52,4 @@ tile_ways cols goal board (suc number) = tile_ways cols goal board number + tile
 abbrev pub estimate_of : Parts → (state : ℕ) → Estimate
 estimate_of (Grid grid) state = Cost (manhattan (cell_of state) grid.goal)
 estimate_of (Tiles tiles) state = Cost (ways_home tiles.cols tiles.goal (board_of (cell_count tiles) state) (cell_count tiles))
+estimate_of (Strips strips) state = hmax strips state

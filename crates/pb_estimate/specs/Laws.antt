@@ -1,5 +1,5 @@
 -- The laws of this crate. Each is proved, as the contract of the public function that has its name.
-use Rattle.std.specs.Prelude.{◌≡◌, ℕ, ◌-◌, IsTrue}
+use Rattle.std.specs.Prelude.{◌≡◌, ℕ, ◌-◌, ◌<◌, ◌≤◌, IsTrue, Option}
 use Rattle.pb_model.specs.Guide.{IsAdmissible}
 use Rattle.pb_model.specs.declared.row.Estimate.TheVariants.{Cost}
 use Rattle.pb_task.specs.declared.parts.Parts.{Parts}
@@ -7,6 +7,9 @@ use Rattle.pb_task.specs.declared.parts.Parts.TheVariants.{Tiles}
 use Rattle.pb_task.specs.declared.parts.TilesParts.{TilesParts}
 use Rattle.pb_task.specs.Parts.{space_of, IsTask}
 use Rattle.pb_task.specs.Tiles.{cell_count, board_of, is_board_state, IsTiles}
+use Rattle.pb_task.specs.declared.parts.StripsParts.{StripsParts}
+use Rattle.pb_task.specs.Strips.{IsStrips}
+use Rattle.pb_estimate.specs.Hmax.{atom_cost, SatisfyHmax}
 use Rattle.pb_estimate.specs.Estimates.{tile_ways, estimate_of}
 
 -- No walk from a state of a task to a goal costs less than the state's estimate (Hart, Nilsson, Raphael 1968).
@@ -18,3 +21,12 @@ abbrev pub EstimatesCountTiles : Type 0
 EstimatesCountTiles =
     (tiles : TilesParts) → IsTiles tiles → (state : ℕ) → IsTrue (is_board_state (cell_count tiles) state)
     → estimate_of (Tiles tiles) state ≡ Cost (tile_ways tiles.cols tiles.goal (board_of (cell_count tiles) state) (cell_count tiles - 1))
+
+-- The costs of the atoms of a STRIPS task after as many rounds as there are atoms satisfy the equation of hmax, no other costs do, and later rounds
+-- don't change them.
+abbrev pub HmaxIsFixed : Type 0
+HmaxIsFixed =
+    (strips : StripsParts) → IsStrips strips → (state : ℕ)
+    → SatisfyHmax strips state (atom_cost strips state strips.atoms)
+    × ((costs : ℕ → Option ℕ) → SatisfyHmax strips state costs → (atom : ℕ) → atom < strips.atoms → costs atom ≡ atom_cost strips state strips.atoms atom)
+    × ((round atom : ℕ) → strips.atoms ≤ round → atom < strips.atoms → atom_cost strips state round atom ≡ atom_cost strips state strips.atoms atom)

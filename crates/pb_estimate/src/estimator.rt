@@ -3,7 +3,8 @@ ghost use Rattle.pb_task.specs.Parts.{space_of};
 ghost use Rattle.pb_estimate.specs.Estimates.{estimate_of};
 ghost use Rattle.pb_estimate.specs.Tables.{tables_of};
 
-use crate::{grid, tiles};
+use crate::relaxed::{RelaxedTask, relaxed_task};
+use crate::{grid, strips, tiles};
 use pb_model::Estimate;
 use pb_packed::Packed;
 use pb_task::{Parts, Task};
@@ -11,12 +12,14 @@ use std::alloc::{AllocError, Global};
 use std::marker::Model;
 
 /// What an estimator keeps of its task, by the kind of task.
-#[derive(Clone, Copy, Debug, PartialEq, Eq)]
+#[derive(Drop)]
 pub enum Tables {
     /// Nothing: the distance on a grid is known from the cells alone.
     Grid,
     /// The cell of each number from 0 to 15 on the goal board, and 0 for a number that it doesn't have.
     Tiles([u8; 16]),
+    /// The task without what its actions delete.
+    Strips(RelaxedTask),
 }
 
 /// Tells the estimates of one task's states. Contracts see what it keeps.
@@ -34,20 +37,17 @@ impl Model for Estimator {
 }
 
 impl Estimator {
-    /// The estimator of a task. All the memory that its estimates use is taken here; on a grid and for tiles
-    /// they use none.
+    /// The estimator of a task. All the memory that its estimates need is taken here; on a grid and for tiles
+    /// they need none.
     pub fn of(alloc: Global, task: &Task) -> Result<Estimator, AllocError>
         ensures { IfOk result (λ estimator. estimator ≡ tables_of task.now) }
     {
-        let _ = alloc;
-        match task.parts() {
-            Parts::Grid(_) => Ok(Estimator {
-                tables: Tables::Grid,
-            }),
-            Parts::Tiles(parts) => Ok(Estimator {
-                tables: Tables::Tiles(tiles::goal_cells(parts.goal.numbers())),
-            }),
-        }
+        let tables = match task.parts() {
+            Parts::Grid(_) => Tables::Grid,
+            Parts::Tiles(parts) => Tables::Tiles(tiles::goal_cells(parts.goal.numbers())),
+            Parts::Strips(parts) => Tables::Strips(relaxed_task(alloc, parts)?),
+        };
+        Ok(Estimator { tables })
     }
 
     /// The estimate of a state of the estimator's own task, in the unit of the task's action costs. It takes no memory.
@@ -62,7 +62,13 @@ impl Estimator {
             (Parts::Tiles(parts), Tables::Tiles(cells)) => {
                 Estimate::Cost(tiles::distance(parts, cells, state))
             }
+            (Parts::Strips(parts), Tables::Strips(relaxed)) => {
+                strips::estimate(parts, relaxed, state)
+            }
             (Parts::Tiles(_), Tables::Grid) => unreachable!(),
+            (Parts::Tiles(_), Tables::Strips(_)) => unreachable!(),
+            (Parts::Strips(_), Tables::Grid) => unreachable!(),
+            (Parts::Strips(_), Tables::Tiles(_)) => unreachable!(),
         }
     }
 }

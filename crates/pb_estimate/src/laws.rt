@@ -1,4 +1,4 @@
-ghost use Rattle.pb_estimate.specs.Laws.{EstimatesAreAdmissible, EstimatesCountTiles};
+ghost use Rattle.pb_estimate.specs.Laws.{EstimatesAreAdmissible, EstimatesCountTiles, HmaxIsFixed};
 
 /// No walk from a state to a goal costs less than the state's estimate.
 pub fn estimates_are_admissible()
@@ -8,4 +8,9 @@ pub fn estimates_are_admissible()
 /// The estimate of a board counts each tile but the blank once.
 pub fn estimates_count_tiles()
     ensures { EstimatesCountTiles }
+{}
+
+/// The costs of hmax satisfy its equation, no others do, and more rounds than there are atoms don't change them.
+pub fn hmax_is_fixed()
+    ensures { HmaxIsFixed }
 {}

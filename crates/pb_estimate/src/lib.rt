@@ -1,17 +1,23 @@
 //! Lower bounds on the cost of every way from a state to a goal: what guides a search, and what a certificate is judged by.
 //!
-//! The estimate of a state is the definition `estimate_of` in `specs`. For grids it is the Manhattan distance to the goal, and for
-//! tiles the Manhattan distances of all tiles from their cells on the goal board, summed.
+//! The estimate of a state is the definition `estimate_of` in `specs`. For grids it is the Manhattan distance to the goal, for tiles the
+//! Manhattan distances of all tiles from their cells on the goal board, summed, and for STRIPS tasks hmax: what the dearest atom of the
+//! goal costs where nothing is deleted.
 #![tactic(auto)]
 
 mod distance;
 mod estimator;
 mod grid;
 mod laws;
+mod relaxed;
+mod strips;
 mod tiles;
 
 pub use estimator::{Estimator, Tables};
-pub use laws::{estimates_are_admissible, estimates_count_tiles};
+pub use laws::{estimates_are_admissible, estimates_count_tiles, hmax_is_fixed};
+pub use relaxed::{AtomList, RelaxedAction, RelaxedActions, RelaxedTask};
 
+#[cfg(test)]
+mod strips_tests;
 #[cfg(test)]
 mod tests;

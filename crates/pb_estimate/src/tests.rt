@@ -19,8 +19,12 @@ fn open_square(alloc: Global) -> Result<Task, AllocError> {
     Ok(task)
 }
 
-// The estimate of a state, if it is one of the task's.
-fn estimate(alloc: Global, task: &Task, state: &Packed) -> Result<Option<Estimate>, AllocError> {
+/// The estimate of a state, if it is one of the task's.
+pub fn estimate(
+    alloc: Global,
+    task: &Task,
+    state: &Packed,
+) -> Result<Option<Estimate>, AllocError> {
     let mut estimator = Estimator::of(alloc, task)?;
     if task.is_state(state) {
         Ok(Some(estimator.estimate(task, state)))

@@ -26,7 +26,7 @@ fn spelled(alloc: Global, map: &[u8], scenario: &[u8], row: u64) -> Result<[u32;
     let task = read_grid(alloc, map, scenario, row)?;
     match task.parts() {
         Parts::Grid(grid) => Ok(numbers(grid)),
-        Parts::Tiles(_) => Err(GridError::Size),
+        Parts::Tiles(_) | Parts::Strips(_) => Err(GridError::Size),
     }
 }
 
@@ -35,7 +35,7 @@ fn class(alloc: Global, map: &[u8], scenario: &[u8], x: u32, y: u32) -> Result<C
     let task = read_grid(alloc, map, scenario, 0)?;
     match task.parts() {
         Parts::Grid(grid) => Ok(grid.class_at(x, y)),
-        Parts::Tiles(_) => Err(GridError::Size),
+        Parts::Tiles(_) | Parts::Strips(_) => Err(GridError::Size),
     }
 }
 

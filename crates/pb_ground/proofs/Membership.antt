@@ -1,5 +1,5 @@
 -- Which instances and which ground atoms there are.
-use Rattle.std.proofs.Common.{◌≡◌, ◌+◌, ◌<◌, ◌≤◌, ℕ, zero, suc, Bool, true, false, cond, ◌&&◌, ◌||◌, nat_eq, nat_lt, List, [], ◌∷◌, ◌++◌, map, length, get_or, slice_get, Option, Some, None, refl, sym, ap, ◌∙◌, arith}
+use Rattle.std.proofs.Common.{◌≡◌, ◌+◌, ◌<◌, ℕ, zero, suc, Bool, true, false, cond, ◌&&◌, ◌||◌, nat_eq, nat_lt, List, [], ◌∷◌, map, length, get_or, slice_get, refl, sym, ap, ◌∙◌, arith}
 use Rattle.std.proofs.lemmas.Bool.Decides.{nat_tests}
 use Rattle.std.proofs.lemmas.List.Folds.{list_any-append}
 use Rattle.std.specs.List.{list_any, flat_map}
@@ -8,7 +8,7 @@ use Rattle.pb_lifted.specs.Tree.{comes_to}
 use Rattle.pb_lifted.specs.declared.lifted.Lifted.{Lifted}
 use Rattle.pb_ground.specs.declared.atoms.GroundAtom.{GroundAtom}
 use Rattle.pb_ground.specs.Atoms.{is_fluent, atom_of, atoms_of, atoms_from, same_atom, ground_atoms}
-use Rattle.pb_ground.specs.Instances.{fitting_from, fitting, choices_of, candidates, instances}
+use Rattle.pb_ground.specs.Instances.{fitting_from, fitting, instances}
 use Rattle.pb_ground.specs.Members.{is_fitting, is_instance, is_instance_of}
 use Rattle.pb_ground.specs.Steps.{is_in}
 

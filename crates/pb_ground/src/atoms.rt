@@ -123,7 +123,7 @@ pub fn ground_atoms(alloc: Global, lifted: &Lifted) -> Result<Atoms, GroundError
     let statics = Statics::of(alloc, lifted)?;
     let n = count_atoms(&statics, lifted);
     if n > LIMIT as u64 {
-        return Err(GroundError::TooManyAtoms { n: n as u32 });
+        return Err(GroundError::TooManyAtoms { n });
     }
     let mut items = Listed::new(alloc);
     for (predicate, kinds) in lifted.predicates.as_slice().iter().enumerate() {

@@ -1,5 +1,6 @@
 -- Rivals and hot marks by the keys of a graph.
-use Rattle.std.proofs.Common.{◌≡◌, ℕ, ◌<◌, Bool, true, false, Option, Some, None, is_some, refl, sym, ap, ◌∙◌, subst, get_or, length, true≢false, List, ◌⊎◌, inl, inr, arith}
+use Rattle.std.proofs.Common.{◌≡◌, ℕ, ◌<◌, Bool, true, false, Option, Some, None, is_some, is_none, not, ◌&&◌, nat_lt, refl, sym, ap, ◌∙◌, subst, get_or, length, true≢false, List, ◌⊎◌, inl, inr, arith}
+use Rattle.std.proofs.lemmas.Bool.Decides.{nat_tests}
 use Rattle.pb_model.specs.declared.key.Key.{Key}
 use Rattle.pb_model.specs.Store.{Rows}
 use Rattle.pb_model.proofs.Keys.{not_both_before}
@@ -19,13 +20,13 @@ use Rattle.pb_machine.specs.declared.event.Event.TheVariants.{Hot, Cold}
 use Rattle.pb_machine.specs.declared.event.Grant.{Grant}
 use Rattle.pb_machine.specs.Legality.{refusal}
 use Rattle.pb_machine.proofs.CountsLaws.{none_end}
-use Rattle.pb_model.proofs.Tests.{and_true, not_true}
+use Rattle.pb_model.proofs.Tests.{and_true, not_true, not_both, by_cases}
 use Rattle.pb_homes.proofs.Lists.{found_at}
 use Rattle.pb_lease.specs.Marking.{may_be_marked, may_be_cooled}
 use Rattle.pb_lease.specs.GraphValue.{GraphValue, counts_in, IsLeaseGraph}
 use Rattle.pb_lease.proofs.NextEvents.{mark_may, cold_may}
 use Rattle.pb_lease.proofs.GraphBasics.{lawful_in}
-use Rattle.pb_lease.specs.Choices.{IsOutranked}
+use Rattle.pb_lease.specs.Choices.{IsOutranked, MayMark}
 use Rattle.pb_lease.specs.Moments.{IsMoment}
 use Rattle.pb_lease.proofs.Lists.{has_at, found_at as item_at}
 
@@ -93,3 +94,36 @@ outranked_by g block near each false none = (
       let at = item_at near outranked.0 (each outranked.0 ∙ outranked.1) in
       absurd (none at.0 0 (omega arith) at.1 (subst (λ n. ((counts_in g).hot n ≡ true) × IsBetterBy (key_at g.homes) n block) (sym at.2) (outranked.2, outranked.3))),
 )
+
+-- ---- what the test of a mark says of the graph
+
+positive : (n : ℕ) → nat_lt 0 n ≡ true → 0 < n
+positive n h = grind (arith, nat_tests)
+
+is_positive : (n : ℕ) → 0 < n → nat_lt 0 n ≡ true
+is_positive n h = grind (arith, nat_tests)
+
+and_is : (a b : Bool) → a ≡ true → b ≡ true → (a && b) ≡ true
+and_is true b h k = k
+and_is false b h k = h
+
+pub marked_may : (g : GraphValue) (worker block : ℕ) (outranked : Bool) → (IsOutranked g block → outranked ≡ true) → may_be_marked g.table worker block outranked ≡ true → MayMark g worker block
+marked_may g worker block outranked shown test =
+    let first = and_true _ _ test in
+    let second = and_true _ _ first.0 in
+    let third = and_true _ _ second.0 in
+    let fourth = and_true _ _ third.0 in
+    let fifth = and_true _ _ fourth.0 in
+    record {
+      no_end = none_end g.table.end fifth.0;
+      not_plain = not_true _ fifth.1;
+      cold = not_true _ fourth.1;
+      busy = third.1;
+      none_better = λ better. not_both outranked (shown better) (not_true _ second.1);
+      room = positive _ first.1;
+    }
+
+pub may_be_marked_is : (g : GraphValue) (worker block : ℕ) (outranked : Bool) → (outranked ≡ true → IsOutranked g block) → MayMark g worker block → may_be_marked g.table worker block outranked ≡ true
+may_be_marked_is g worker block outranked shows may =
+    let none : not outranked ≡ true = by_cases outranked (λ e. absurd (may.none_better (shows e))) (λ e. ap not e) in
+    and_is _ _ (and_is _ _ (and_is _ _ (and_is _ _ (and_is _ _ (ap is_none may.no_end) (ap not may.not_plain)) (ap not may.cold)) may.busy) none) (is_positive _ may.room)

@@ -10,6 +10,20 @@ use Rattle.pb_grid.specs.declared.error.GridError.{GridError}
 use Rattle.pb_grid.specs.declared.error.GridError.TheVariants.{Header, Size, Rows, Cell, Scenario, NoRow, ScenarioSize, Outside, StartBlocked, GoalBlocked, Memory}
 use Rattle.pb_tiles.specs.declared.error.TilesError.{TilesError}
 use Rattle.pb_tiles.specs.declared.error.TilesError.TheVariants as tiles
+use Rattle.pb_trees.specs.declared.error.Want.{Want}
+use Rattle.pb_trees.specs.declared.error.Want.TheVariants as wants
+use Rattle.pb_trees.specs.declared.error.LeftOut.{LeftOut}
+use Rattle.pb_trees.specs.declared.error.LeftOut.TheVariants as left_out
+use Rattle.pb_trees.specs.declared.error.SyntaxError.{SyntaxError}
+use Rattle.pb_trees.specs.declared.error.SyntaxError.TheVariants as syntax
+use Rattle.pb_lifted.specs.declared.refusal.File.{File}
+use Rattle.pb_lifted.specs.declared.refusal.File.TheVariants.{Domain, Problem}
+use Rattle.pb_lifted.specs.declared.refusal.Cause.{Cause}
+use Rattle.pb_lifted.specs.declared.refusal.Cause.TheVariants as causes
+use Rattle.pb_lifted.specs.declared.refusal.Refusal.{Refusal}
+use Rattle.pb_lifted.specs.declared.refusal.Refusal.TheVariants.{Named, TooManyObjects}
+use Rattle.pb_strips.specs.declared.error.StripsError.{StripsError}
+use Rattle.pb_strips.specs.declared.error.StripsError.TheVariants as strips
 use Rattle.pb_check.specs.declared.fault.Verdict.{Verdict}
 use Rattle.pb_check.specs.declared.fault.Verdict.TheVariants.{Bounded, Unsolvable}
 use Rattle.pb_check.specs.declared.fault.Fault.{Fault}
@@ -22,6 +36,10 @@ with_number words number = line (spaced words (decimal number))
 -- a line of words and two numbers
 abbrev pub with_numbers : (words : List ℕ) → (first second : ℕ) → List ℕ
 with_numbers words first second = line (spaced words (spaced (decimal first) (decimal second)))
+
+-- a line of words, two numbers and another word
+abbrev pub with_numbers_and_word : (words : List ℕ) → (first second : ℕ) → (word : List ℕ) → List ℕ
+with_numbers_and_word words first second word = line (spaced words (spaced (decimal first) (spaced (decimal second) word)))
 
 -- ---- a plan
 
@@ -56,7 +74,7 @@ fault_text (Missing at action) = with_numbers (codes "refused Missing") at actio
 fault_text (TooDear at action) = with_numbers (codes "refused TooDear") at action
 fault_text (Low at) = with_number (codes "refused Low") at
 
--- ---- the input
+-- ---- the input: maps and tiles
 
 -- why the texts of a map and a scenario are refused: the error's name and its numbers; want of memory has no text
 abbrev pub input_text : GridError → Option (List ℕ)
@@ -80,3 +98,66 @@ tiles_text (tiles.Count seen wanted) = Some (with_numbers (codes "input Count") 
 tiles_text (tiles.Number at) = Some (with_number (codes "input Number") at)
 tiles_text (tiles.Twice number) = Some (with_number (codes "input Twice") number)
 tiles_text tiles.Memory = None
+
+-- ---- the input: PDDL
+
+-- the number of a file: the domain is named first, and the problem second
+abbrev pub file_number : File → ℕ
+file_number Domain = 1
+file_number Problem = 2
+
+-- what must stand in a token's place, in a word
+abbrev pub want_word : Want → List ℕ
+want_word wants.Paren = codes "Paren"
+want_word wants.Close = codes "Close"
+want_word wants.Word = codes "Word"
+want_word wants.Name = codes "Name"
+want_word wants.Variable = codes "Variable"
+want_word wants.Section = codes "Section"
+want_word wants.Part = codes "Part"
+want_word wants.TypeName = codes "TypeName"
+want_word wants.Group = codes "Group"
+want_word wants.Once = codes "Once"
+want_word wants.Missing = codes "Missing"
+
+-- what of PDDL is left out, in a word
+abbrev pub left_out_word : LeftOut → List ℕ
+left_out_word left_out.Section = codes "Section"
+left_out_word left_out.Part = codes "Part"
+left_out_word left_out.Head = codes "Head"
+left_out_word left_out.Either = codes "Either"
+
+-- why the text of a domain or a problem is refused: the error's name, the number of the file, the place in it, and what was wanted there or is left
+-- out; want of memory has no text
+abbrev pub syntax_text : (file : ℕ) → SyntaxError → Option (List ℕ)
+syntax_text file (syntax.Byte at) = Some (with_numbers (codes "input Byte") file at)
+syntax_text file (syntax.Deep at) = Some (with_numbers (codes "input Deep") file at)
+syntax_text file (syntax.LeftOut at what) = Some (with_numbers_and_word (codes "input LeftOut") file at (left_out_word what))
+syntax_text file (syntax.Expected at want) = Some (with_numbers_and_word (codes "input Expected") file at (want_word want))
+syntax_text file (syntax.Unclosed at) = Some (with_numbers (codes "input Unclosed") file at)
+syntax_text file (syntax.Extra at) = Some (with_numbers (codes "input Extra") file at)
+syntax_text file syntax.Memory = None
+
+-- why a name is refused, in a word
+abbrev pub cause_word : Cause → List ℕ
+cause_word causes.DomainName = codes "DomainName"
+cause_word causes.Twice = codes "Twice"
+cause_word causes.UnknownType = codes "UnknownType"
+cause_word causes.TypeCycle = codes "TypeCycle"
+cause_word causes.UnknownPredicate = codes "UnknownPredicate"
+cause_word causes.Arity = codes "Arity"
+cause_word causes.UnknownObject = codes "UnknownObject"
+cause_word causes.WrongType = codes "WrongType"
+cause_word causes.TooWide = codes "TooWide"
+
+-- why names or objects are refused: the cause, the number of the file and the place of the name in it; or how many objects there are
+abbrev pub refusal_text : Refusal → List ℕ
+refusal_text (Named cause place) = with_numbers (spaced (codes "input") (cause_word cause)) (file_number place.file) place.at
+refusal_text (TooManyObjects count) = with_number (codes "input TooManyObjects") count
+
+-- why a domain and a problem are no task; want of memory has no text
+abbrev pub strips_text : StripsError → Option (List ℕ)
+strips_text (strips.Refused refusal) = Some (refusal_text refusal)
+strips_text (strips.TooManyAtoms count) = Some (with_number (codes "input TooManyAtoms") count)
+strips_text strips.TooManyActions = Some (line (codes "input TooManyActions"))
+strips_text strips.Memory = None

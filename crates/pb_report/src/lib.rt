@@ -3,6 +3,7 @@
 
 mod pieces;
 mod report;
+mod words;
 
 pub use report::Report;
 

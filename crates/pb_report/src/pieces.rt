@@ -38,6 +38,24 @@ pub(crate) fn push_with_numbers(
     push_with_number(out, between, second)
 }
 
+// A line of a text, two numbers and a word, with spaces between them.
+pub(crate) fn push_with_numbers_and_word(
+    out: &mut Vec<u8>,
+    text: &[u8],
+    first: u64,
+    second: u64,
+    word: &[u8],
+) -> Result<(), AllocError>
+    ensures { OnOk result (out.new.items ≡ out.old.items ++ line (text.now ++ spaced (decimal first) (spaced (decimal second) word.now))) }
+{
+    push_text(out, text)?;
+    push_number(out, first)?;
+    push_text(out, b" ")?;
+    push_number(out, second)?;
+    push_text(out, b" ")?;
+    push_line(out, word)
+}
+
 // A line of a text, a number, a space and a number that may be wider.
 pub(crate) fn push_with_wide(
     out: &mut Vec<u8>,

@@ -2,15 +2,22 @@ ghost use Rattle.std.specs.Prelude.{◌≡◌, ◌++◌, ◌^◌, ◌<◌, Some,
 ghost use Rattle.std.specs.Fmt.{decimal};
 ghost use Rattle.pb_model.specs.Texts.{line, spaced, none_report, stopped_report};
 ghost use Rattle.pb_task.specs.Parts.{space_of};
-ghost use Rattle.pb_report.specs.Texts.{AreActions, plan_text, verdict_text, fault_text, input_text, tiles_text};
+ghost use Rattle.pb_lifted.specs.declared.refusal.Refusal.TheVariants.{Named};
+ghost use Rattle.pb_report.specs.Texts.{AreActions, plan_text, verdict_text, fault_text, input_text, tiles_text, file_number, syntax_text, refusal_text, strips_text};
 
-use crate::pieces::{push_steps, push_with_number, push_with_numbers, push_with_wide};
+use crate::pieces::{
+    push_steps, push_with_number, push_with_numbers, push_with_numbers_and_word, push_with_wide,
+};
+use crate::words::{cause_word, file_number, left_out_word, want_word};
 use pb_cert::Plan;
 use pb_check::{Fault, Verdict};
 use pb_grid::GridError;
+use pb_lifted::{Cause, File, Place, Refusal};
 use pb_print::{push_line, push_text};
+use pb_strips::StripsError;
 use pb_task::Task;
 use pb_tiles::TilesError;
+use pb_trees::SyntaxError;
 use std::alloc::{AllocError, Global};
 use std::marker::Model;
 
@@ -149,6 +156,46 @@ impl Report {
         }
     }
 
+    /// That the text of a domain or of a problem is refused, and why: the error's name, the number of the file (1 for the domain, 2 for the problem),
+    /// the place in it, and the word for what must stand there or is left out. Where the error is itself want of memory, so is the answer.
+    pub fn syntax(alloc: Global, file: File, error: &SyntaxError) -> Result<Report, AllocError>
+        ensures { IfOk result (λ report. syntax_text (file_number file) error.now ≡ Some report) }
+    {
+        let file = file_number(file);
+        match *error {
+            SyntaxError::Byte { at } => Report::paired(alloc, b"input Byte ", file, b" ", at),
+            SyntaxError::Deep { at } => Report::paired(alloc, b"input Deep ", file, b" ", at),
+            SyntaxError::LeftOut { at, what } => {
+                let word = left_out_word(what);
+                Report::worded(alloc, b"input LeftOut ", file, at, word)
+            }
+            SyntaxError::Expected { at, want } => {
+                let word = want_word(want);
+                Report::worded(alloc, b"input Expected ", file, at, word)
+            }
+            SyntaxError::Unclosed { at } => {
+                Report::paired(alloc, b"input Unclosed ", file, b" ", at)
+            }
+            SyntaxError::Extra { at } => Report::paired(alloc, b"input Extra ", file, b" ", at),
+            SyntaxError::Memory => Err(AllocError),
+        }
+    }
+
+    /// That a domain and a problem are no task, and why: a cause with the number of the file and the place of the name in it, or what there is too
+    /// much of. Where the error is itself want of memory, so is the answer.
+    pub fn strips_input(alloc: Global, error: &StripsError) -> Result<Report, AllocError>
+        ensures { IfOk result (λ report. strips_text error.now ≡ Some report) }
+    {
+        match *error {
+            StripsError::Refused(refusal) => Report::refusal(alloc, refusal),
+            StripsError::TooManyAtoms { n } => {
+                Report::numbered(alloc, b"input TooManyAtoms ", n)
+            }
+            StripsError::TooManyActions => Report::line(alloc, b"input TooManyActions"),
+            StripsError::Memory => Err(AllocError),
+        }
+    }
+
     /// The bytes of the text.
     pub fn as_slice(&self) -> &[u8]
         ensures { result.now ≡ self.now }
@@ -194,6 +241,44 @@ impl Report {
     {
         let mut bytes = Vec::new(alloc);
         push_with_numbers(&mut bytes, text, first, between, second)?;
+        Ok(Report { bytes })
+    }
+
+    // Why names or objects are refused.
+    fn refusal(alloc: Global, refusal: Refusal) -> Result<Report, AllocError>
+        ensures { IfOk result (λ report. report ≡ refusal_text refusal) }
+    {
+        match refusal {
+            Refusal::Named { cause, place } => Report::named(alloc, cause, place),
+            Refusal::TooManyObjects { n } => {
+                Report::numbered(alloc, b"input TooManyObjects ", n)
+            }
+        }
+    }
+
+    // Why a name is refused, and where it stands.
+    fn named(alloc: Global, cause: Cause, place: Place) -> Result<Report, AllocError>
+        ensures { IfOk result (λ report. report ≡ refusal_text (Named cause place)) }
+    {
+        let mut bytes = Vec::new(alloc);
+        push_text(&mut bytes, b"input ")?;
+        push_text(&mut bytes, cause_word(cause).as_bytes())?;
+        push_with_numbers(&mut bytes, b" ", file_number(place.file), b" ", place.at)?;
+        Ok(Report { bytes })
+    }
+
+    // One line of a text, two numbers and a word.
+    fn worded(
+        alloc: Global,
+        text: &[u8],
+        first: u64,
+        second: u64,
+        word: &str,
+    ) -> Result<Report, AllocError>
+        ensures { IfOk result (λ report. report ≡ line (text.now ++ spaced (decimal first) (spaced (decimal second) word.now))) }
+    {
+        let mut bytes = Vec::new(alloc);
+        push_with_numbers_and_word(&mut bytes, text, first, second, word.as_bytes())?;
         Ok(Report { bytes })
     }
 

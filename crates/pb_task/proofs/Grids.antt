@@ -2,10 +2,13 @@
 use Rattle.std.proofs.Common.{◌≡◌, ℕ, zero, suc, ◌+◌, ◌*◌, ◌^◌, ◌<◌, ◌≤◌, Bool, true, false, IsTrue, Option, None, Some, unwrap_or, nat_lt, ◌&&◌, if◌then◌else◌, slice_get, refl, sym, subst, ap, arith, ◌∙◌}
 use Rattle.std.proofs.lemmas.Bool.Decides.{nat_tests}
 use Rattle.pb_packed.specs.Bits.{bits_of}
-use Rattle.pb_model.specs.Space.{Steps, IsProper}
+use Rattle.pb_model.specs.Space.{Space, Steps, IsProper}
 use Rattle.pb_task.specs.Grid.{is_passable, are_connected, class_at, cell_state, class_of_state, cell_beside, step_to, grid_space, IsGrid}
 use Rattle.pb_task.specs.Laws.{GridsAreProper, TasksAreProper}
-use Rattle.pb_task.specs.declared.parts.Parts.TheVariants.{Grid, Tiles}
+use Rattle.pb_task.specs.declared.parts.Parts.TheVariants.{Grid, Tiles, Strips}
+use Rattle.pb_task.specs.Parts.{greatest_cost}
+use Rattle.pb_task.specs.Tiles.{tiles_space}
+use Rattle.pb_task.proofs.Acting.{strips_are_proper}
 use Rattle.pb_task.proofs.Sliding.{tiles_is_proper, boards_are_small}
 use Rattle.pb_task.specs.declared.parts.GridParts.{GridParts}
 use Rattle.pb_task.specs.declared.parts.Class.{Class}
@@ -114,6 +117,19 @@ grids_are_proper grid is = (grid_is_proper grid is, refl, states_are_small grid)
 
 -- ---- tasks of every kind
 
+costs_within : (space : Space) (least most : ℕ) → least ≤ most → IsProper space least → IsProper space most
+costs_within space least most more proper = record {
+  start = proper.start;
+  action = proper.action;
+  from_state = proper.from_state;
+  to_state = proper.to_state;
+  positive = proper.positive;
+  bounded = λ from action to cost step. let here : cost ≤ least = proper.bounded from action to cost step in omega arith;
+}
+
 pub tasks_are_proper : TasksAreProper
-tasks_are_proper (Grid grid) is = (grid_is_proper grid is, λ state e. let few : state < 2 ^ 22 = states_are_small grid state e in omega arith)
-tasks_are_proper (Tiles tiles) is = (tiles_is_proper tiles is, λ state e. let few : state < 2 ^ 64 = boards_are_small tiles is state e in omega arith)
+tasks_are_proper (Grid grid) is =
+    (costs_within (grid_space grid) 1 greatest_cost (omega arith) (grid_is_proper grid is), λ state e. let few : state < 2 ^ 22 = states_are_small grid state e in omega arith)
+tasks_are_proper (Tiles tiles) is =
+    (costs_within (tiles_space tiles) 1 greatest_cost (omega arith) (tiles_is_proper tiles is), λ state e. let few : state < 2 ^ 64 = boards_are_small tiles is state e in omega arith)
+tasks_are_proper (Strips strips) is = strips_are_proper strips is

@@ -1,7 +1,10 @@
 pub mod Boards
 pub mod Sliding
 pub mod Slides
+pub mod AtomSets
+pub mod Acting
 pub mod Grids
 pub mod Successors
+pub mod Degrees
 pub mod Walks
 pub mod Validation

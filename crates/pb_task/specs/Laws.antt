@@ -1,5 +1,5 @@
 -- The laws of this crate. Each is proved, as the contract of the public function that has its name.
-use Rattle.std.specs.Prelude.{◌≡◌, ℕ, ◌^◌, ◌<◌, ◌≤◌, IsTrue, List, length, slice_index, ◌*◌, ◌↔◌}
+use Rattle.std.specs.Prelude.{◌≡◌, ℕ, ◌^◌, ◌<◌, ◌≤◌, Bool, IsTrue, List, length, slice_index, ◌*◌, ◌↔◌}
 use Rattle.pb_packed.specs.Bits.{bits_of}
 use Rattle.pb_model.specs.Space.{Space, Steps, IsProper, steps}
 use Rattle.pb_model.specs.Plan.{IsPlan}
@@ -11,6 +11,8 @@ use Rattle.pb_task.specs.Faults.{IsFault}
 use Rattle.pb_task.specs.Grid.{grid_space, IsGrid}
 use Rattle.pb_task.specs.Tiles.{cell_count, is_board, board_state, board_of, is_board_state, tiles_space, IsTiles}
 use Rattle.pb_task.specs.Slides.{Slides}
+use Rattle.pb_task.specs.Strips.{has_atom, set_of, strips_space, IsStrips, Acts}
+use Rattle.pb_task.specs.declared.parts.StripsParts.{StripsParts}
 use Rattle.pb_task.specs.Parts.{space_of, IsTask, max_degree_of, greatest_cost}
 
 -- A grid's start is a state, each of its steps is by one of four actions, leads from a state to a state, and costs 1, and its states
@@ -42,6 +44,24 @@ BoardsArePacked =
     → ((board : List ℕ) → IsTrue (is_board count board) → IsTrue (is_board_state count (board_state board)) × (board_of count (board_state board) ≡ board))
     × ((state : ℕ) → IsTrue (is_board_state count state) → IsTrue (is_board count (board_of count state)) × (board_state (board_of count state) ≡ state))
     × ((state cell : ℕ) → cell < count → slice_index (board_of count state) cell ≡ bits_of state (4 * cell) 4)
+
+-- The start of a STRIPS task is a state, each of its steps is by one of its actions, leads from a state to a state, and costs 1 to 2^20, and its
+-- states are numbers below 2^256.
+abbrev pub StripsAreProper : Type 0
+StripsAreProper =
+    (strips : StripsParts) → IsStrips strips
+    → IsProper (strips_space strips) greatest_cost × ((state : ℕ) → IsTrue ((strips_space strips).is_state state) → state < 2 ^ 256)
+
+-- A step of a STRIPS task is one by which an action acts, atom by atom.
+abbrev pub StripsAct : Type 0
+StripsAct = (strips : StripsParts) (from action to cost : ℕ) → Steps (strips_space strips) from action to cost ↔ Acts strips from action to cost
+
+-- A set that is made by a test has those of the first `count` atoms that the test accepts, and no others; and two sets of these atoms are equal
+-- where they have the same.
+abbrev pub SetsAreOfAtoms : Type 0
+SetsAreOfAtoms =
+    ((count : ℕ) (accepts : ℕ → Bool) → (set_of count accepts < 2 ^ count) × ((atom : ℕ) → atom < count → has_atom (set_of count accepts) atom ≡ accepts atom))
+    × ((count one other : ℕ) → one < 2 ^ count → other < 2 ^ count → ((atom : ℕ) → atom < count → has_atom one atom ≡ has_atom other atom) → one ≡ other)
 
 -- The state space of a task is proper: no action costs more than the greatest cost. Its states are numbers of 256 bits.
 abbrev pub TasksAreProper : Type 0

@@ -1,4 +1,4 @@
-ghost use Rattle.pb_task.specs.Laws.{GridsAreProper, TilesAreProper, BoardsArePacked, TilesSlide, TasksAreProper, DegreesAreBounded, FaultsAreUnique, FaultsKeepFromPlans};
+ghost use Rattle.pb_task.specs.Laws.{GridsAreProper, TilesAreProper, BoardsArePacked, TilesSlide, StripsAreProper, StripsAct, SetsAreOfAtoms, TasksAreProper, DegreesAreBounded, FaultsAreUnique, FaultsKeepFromPlans};
 
 /// The steps of a grid are by four actions, lead from states to states and cost 1, and its states have 22 bits.
 pub fn grids_are_proper()
@@ -18,6 +18,23 @@ pub fn boards_are_packed()
 /// The steps of sliding tiles are those that exchange the blank of a board and the tile beside it in the action's direction.
 pub fn tiles_slide()
     ensures { TilesSlide }
+{}
+
+/// The steps of a STRIPS task are by its actions, lead from sets of its atoms to sets of its atoms and cost 1 to 2^20, and its states have
+/// 256 bits.
+pub fn strips_are_proper()
+    ensures { StripsAreProper }
+{}
+
+/// The steps of a STRIPS task are those by which an action acts: what it needs holds before it, and after it hold the atoms that it adds and
+/// those that held and that it doesn't delete.
+pub fn strips_act()
+    ensures { StripsAct }
+{}
+
+/// A set of atoms has those atoms that its test accepts, and is known by its atoms.
+pub fn sets_are_of_atoms()
+    ensures { SetsAreOfAtoms }
 {}
 
 /// The state space of a task is proper.

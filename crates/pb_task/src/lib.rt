@@ -7,16 +7,24 @@ mod grid;
 mod laws;
 mod parts;
 mod plan;
+mod sets;
+mod strips;
 mod task;
 mod tiles;
 
 pub use laws::{
     boards_are_packed, degrees_are_bounded, faults_are_unique, faults_keep_from_plans,
-    grids_are_proper, tasks_are_proper, tiles_are_proper, tiles_slide,
+    grids_are_proper, sets_are_of_atoms, strips_act, strips_are_proper, tasks_are_proper,
+    tiles_are_proper, tiles_slide,
 };
-pub use parts::{Board, Cells, Class, GridParts, Parts, TilesParts};
+pub use parts::{
+    ActionName, Actions, Board, Cells, Class, GridParts, GroundAction, Parts, StripsParts,
+    TilesParts,
+};
 pub use plan::PlanFault;
 pub use task::Task;
 
+#[cfg(test)]
+mod strips_tests;
 #[cfg(test)]
 mod tests;

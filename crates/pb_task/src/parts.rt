@@ -1,5 +1,6 @@
-ghost use Rattle.std.specs.Prelude.{◌≡◌, slice_get};
+ghost use Rattle.std.specs.Prelude.{◌≡◌, slice_get, string_bytes};
 
+use pb_packed::Packed;
 use std::marker::Model;
 
 /// What a cell of a map is.
@@ -102,6 +103,98 @@ pub struct TilesParts {
     pub goal: Board,
 }
 
+/// The name of a ground action, as a plan prints it.
+#[derive(Drop)]
+pub struct ActionName {
+    text: String,
+}
+
+impl Model for ActionName {
+    ghost use Rattle.std.specs.Prelude.{ℕ, List, string_bytes};
+
+    ghost Value = { List ℕ };
+
+    ghost view = { λ n. string_bytes n.text };
+}
+
+impl ActionName {
+    /// The name that has this text.
+    pub fn of(text: String) -> ActionName
+        ensures { result ≡ string_bytes text }
+    {
+        ActionName { text }
+    }
+
+    /// Its text.
+    pub fn as_str(&self) -> &str
+        ensures { result.now ≡ self.now }
+    {
+        self.text.as_str()
+    }
+}
+
+/// A ground action of STRIPS: an action whose parameters are objects. A set of ground atoms is the number in which the bit of each atom in
+/// it is 1.
+#[derive(Drop)]
+pub struct GroundAction {
+    /// What it is called in a plan, as `(name object ..)` in lower case.
+    pub name: ActionName,
+    /// The atoms that must hold before it.
+    pub needs: Packed,
+    /// The atoms that hold after it.
+    pub adds: Packed,
+    /// The atoms that don't hold after it, but for those that it adds.
+    pub deletes: Packed,
+    /// What it costs: 1 to 2^20.
+    pub cost: u64,
+}
+
+/// The ground actions of a STRIPS task, in the order of their numbers.
+#[derive(Drop)]
+pub struct Actions {
+    actions: Vec<GroundAction>,
+}
+
+impl Model for Actions {
+    ghost use Rattle.std.specs.Prelude.{List};
+    ghost use Rattle.pb_task.specs.declared.parts.GroundAction.{GroundAction};
+
+    ghost Value = { List GroundAction };
+
+    ghost view = { λ a. a.actions.items };
+}
+
+impl Actions {
+    /// These actions.
+    pub fn of(actions: Vec<GroundAction>) -> Actions
+        ensures { result ≡ actions.items }
+    {
+        Actions { actions }
+    }
+
+    /// The actions, the one of number 0 first.
+    pub fn as_slice(&self) -> &[GroundAction]
+        ensures { result.now ≡ self.now }
+    {
+        self.actions.as_slice()
+    }
+}
+
+/// A STRIPS task over numbered ground atoms: atom i is bit i of a set.
+#[derive(Drop)]
+pub struct StripsParts {
+    /// How many ground atoms there are: at most 256.
+    pub atoms: u32,
+    /// The ground actions: at most 65,536.
+    pub actions: Actions,
+    /// The atoms that hold at first.
+    pub start: Packed,
+    /// The atoms that must hold in a goal state.
+    pub goal: Packed,
+    /// Whether the goal asks besides for what never holds, so that no state is a goal state.
+    pub never: bool,
+}
+
 /// What a task of each kind is made of.
 #[derive(Drop)]
 pub enum Parts {
@@ -109,4 +202,6 @@ pub enum Parts {
     Grid(GridParts),
     /// Tiles are slid on a board.
     Tiles(TilesParts),
+    /// Ground actions change which ground atoms hold.
+    Strips(StripsParts),
 }

@@ -2,11 +2,12 @@ ghost use Rattle.std.specs.Prelude.{◌≡◌, ◌<◌, ◌≤◌, ◌+◌, ◌+
 ghost use Rattle.pb_model.specs.Space.{steps, successor_list};
 ghost use Rattle.pb_task.specs.Grid.{IsGrid};
 ghost use Rattle.pb_task.specs.Tiles.{IsTiles};
+ghost use Rattle.pb_task.specs.Strips.{IsStrips};
 ghost use Rattle.pb_task.specs.Parts.{space_of, IsTask, action_name, max_degree_of};
-ghost use Rattle.pb_task.specs.declared.parts.Parts.TheVariants.{Grid, Tiles};
+ghost use Rattle.pb_task.specs.declared.parts.Parts.TheVariants.{Grid, Tiles, Strips};
 
-use crate::parts::{GridParts, Parts, TilesParts};
-use crate::{grid, tiles};
+use crate::parts::{GridParts, Parts, StripsParts, TilesParts};
+use crate::{grid, strips, tiles};
 use pb_model::Succ;
 use pb_packed::Packed;
 use std::alloc::{AllocError, Global};
@@ -50,6 +51,16 @@ impl Task {
         }
     }
 
+    /// The task to come by ground actions to a state in which the goal's atoms hold. It takes no memory.
+    pub fn of_strips(parts: StripsParts) -> Task
+        requires { IsStrips parts }
+        ensures { result ≡ Strips parts }
+    {
+        Task {
+            parts: Parts::Strips(parts),
+        }
+    }
+
     /// What the task is made of.
     pub fn parts(&self) -> &Parts
         ensures parts { result.now ≡ self.now }
@@ -66,6 +77,7 @@ impl Task {
         match &self.parts {
             Parts::Grid(parts) => grid::pack(parts.start.0, parts.start.1),
             Parts::Tiles(parts) => tiles::pack(parts.start.numbers()),
+            Parts::Strips(parts) => parts.start,
         }
     }
 
@@ -76,6 +88,7 @@ impl Task {
         match &self.parts {
             Parts::Grid(parts) => grid::is_passable(grid::class_of_state(parts, state)),
             Parts::Tiles(parts) => tiles::is_state(parts, state),
+            Parts::Strips(parts) => strips::is_state(parts, state),
         }
     }
 
@@ -86,6 +99,7 @@ impl Task {
         match &self.parts {
             Parts::Grid(parts) => *state == grid::pack(parts.goal.0, parts.goal.1),
             Parts::Tiles(parts) => *state == tiles::pack(parts.goal.numbers()),
+            Parts::Strips(parts) => strips::is_goal(parts, state),
         }
     }
 
@@ -95,6 +109,7 @@ impl Task {
     {
         match &self.parts {
             Parts::Grid(_) | Parts::Tiles(_) => grid::DIRECTIONS,
+            Parts::Strips(parts) => strips::actions(parts),
         }
     }
 
@@ -115,6 +130,7 @@ impl Task {
         match &self.parts {
             Parts::Grid(parts) => grid::step(parts, from, action),
             Parts::Tiles(parts) => tiles::step(parts, from, action),
+            Parts::Strips(parts) => strips::step(parts, from, action),
         }
     }
 
@@ -140,6 +156,7 @@ impl Task {
     {
         let name = match &self.parts {
             Parts::Grid(_) | Parts::Tiles(_) => grid::direction(action),
+            Parts::Strips(parts) => strips::name(parts, action),
         };
         let text = String::from_str(alloc, name)?;
         Ok(text)

@@ -120,7 +120,7 @@ fn the_parts_are_lent_and_name_start_and_goal(rt: HostRuntime) -> Result<(), Fai
             assert_eq!(rt; grid.cells.get(8), Some(Class::Land));
             assert_eq!(rt; grid.cells.get(9), None);
         }
-        Parts::Tiles(_) => assert!(rt; false),
+        Parts::Tiles(_) | Parts::Strips(_) => assert!(rt; false),
     }
     Ok(())
 }
@@ -280,7 +280,7 @@ fn only_boards_are_states_of_tiles(rt: HostRuntime) -> Result<(), Fail> {
         assert_eq!(rt; text.as_str(), wanted);
     }
     match task.parts() {
-        Parts::Grid(_) => assert!(rt; false),
+        Parts::Grid(_) | Parts::Strips(_) => assert!(rt; false),
         Parts::Tiles(tiles) => {
             assert_eq!(rt; (tiles.rows, tiles.cols), (2, 2));
             assert_eq!(rt; tiles.start.numbers(), [1, 0, 2, 3].as_slice());

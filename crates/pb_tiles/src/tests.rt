@@ -11,7 +11,7 @@ fn spells(
 ) -> Result<(u32, u32, bool), TilesError> {
     let task = read_tiles(alloc, text)?;
     match task.parts() {
-        Parts::Grid(_) => Err(TilesError::Size),
+        Parts::Grid(_) | Parts::Strips(_) => Err(TilesError::Size),
         Parts::Tiles(tiles) => {
             let same = tiles.start.numbers() == start && tiles.goal.numbers() == goal;
             Ok((tiles.rows, tiles.cols, same))

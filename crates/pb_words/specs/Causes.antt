@@ -1,8 +1,9 @@
 -- What the answers of the reader mean.
 use Rattle.std.specs.Prelude.{◌≡◌, ◌++◌, ◌∷◌, ◌-◌, ℕ, List, [], Some, codes, length, option_map, slice_get}
-use Rattle.pb_words.specs.Values.{InputNames, GridNames, Grid, Tiles}
+use Rattle.pb_words.specs.Values.{InputNames, GridNames, StripsNames, Grid, Tiles, Strips}
 use Rattle.pb_words.specs.Meaning.{Meaning, Solve, Check, SolveMeaning, CheckMeaning, Reading, Refused}
 use Rattle.pb_words.specs.declared.command.GridFiles.{GridFiles}
+use Rattle.pb_words.specs.declared.command.StripsFiles.{StripsFiles}
 use Rattle.pb_words.specs.declared.command.Input.{Input}
 use Rattle.pb_words.specs.declared.command.Input.TheVariants as kinds
 use Rattle.pb_words.specs.declared.command.SolveCommand.{SolveCommand}
@@ -17,12 +18,16 @@ use Rattle.pb_words.specs.declared.refusal.Refusal.TheVariants as refusal
 abbrev pub grid_meant : GridFiles → GridNames
 grid_meant g = record { map = g.map.now; scenario = g.scenario.now }
 
+abbrev pub strips_meant : StripsFiles → StripsNames
+strips_meant s = record { domain = s.domain.now; problem = s.problem.now }
+
 abbrev pub input_meant : Input → InputNames
 input_meant (kinds.Grid g) = Grid (grid_meant g)
 input_meant (kinds.Tiles board) = Tiles board.now
+input_meant (kinds.Strips s) = Strips (strips_meant s)
 
 abbrev pub solve_meant : SolveCommand → SolveMeaning
-solve_meant s = record { input = input_meant s.input; row = s.row; budget = s.budget; certificate = option_map (λ t. t.now) s.certificate }
+solve_meant s = record { input = input_meant s.input; row = s.row; budget = s.budget; lot = s.lot; blocks = s.blocks; certificate = option_map (λ t. t.now) s.certificate }
 
 abbrev pub check_meant : CheckCommand → CheckMeaning
 check_meant s = record { input = input_meant s.input; certificate = s.certificate.now; row = s.row }

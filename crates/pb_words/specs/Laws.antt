@@ -2,7 +2,7 @@
 use Rattle.std.specs.Prelude.{◌≡◌, ℕ, List, [], ◌∷◌, None, false, codes}
 use Rattle.std.specs.Str.{bytes_eq}
 use Rattle.clap.specs.Lexer.{long_of, short_of}
-use Rattle.pb_words.specs.Values.{Grid, Tiles}
+use Rattle.pb_words.specs.Values.{Grid, Tiles, Strips}
 use Rattle.pb_words.specs.Meaning.{Read, Refused, Solve, Check, reading_of_words}
 use Rattle.pb_words.specs.declared.refusal.Fault.TheVariants as fault
 
@@ -18,6 +18,8 @@ SolveWithTwoNamesIsRead = (map scenario : List ℕ) → IsName map → IsName sc
       input = Grid (record { map = map; scenario = scenario });
       row = 0;
       budget = 16777216;
+      lot = 256;
+      blocks = 256;
       certificate = None;
     }))
 
@@ -35,6 +37,8 @@ SolveWithOneBoardIsRead = (board : List ℕ) → IsName board
       input = Tiles board;
       row = 0;
       budget = 16777216;
+      lot = 256;
+      blocks = 256;
       certificate = None;
     }))
 
@@ -46,6 +50,25 @@ CheckWithOneBoardIsRead = (certificate board : List ℕ) → IsName certificate 
       row = 0;
     }))
 
+abbrev pub SolveWithDomainAndProblemIsRead : Type 0
+SolveWithDomainAndProblemIsRead = (domain problem : List ℕ) → IsName domain → IsName problem
+    → reading_of_words (codes "solve" ∷ codes "strips" ∷ domain ∷ problem ∷ []) ≡ Read (Solve (record {
+      input = Strips (record { domain = domain; problem = problem });
+      row = 0;
+      budget = 16777216;
+      lot = 256;
+      blocks = 256;
+      certificate = None;
+    }))
+
+abbrev pub CheckWithDomainAndProblemIsRead : Type 0
+CheckWithDomainAndProblemIsRead = (certificate domain problem : List ℕ) → IsName certificate → IsName domain → IsName problem
+    → reading_of_words (codes "check" ∷ codes "strips" ∷ certificate ∷ domain ∷ problem ∷ []) ≡ Read (Check (record {
+      input = Strips (record { domain = domain; problem = problem });
+      certificate = certificate;
+      row = 0;
+    }))
+
 abbrev pub OneFileIsRefused : Type 0
 OneFileIsRefused = (map : List ℕ) → IsName map → reading_of_words (codes "solve" ∷ codes "grid" ∷ map ∷ []) ≡ Refused fault.Files
 
@@ -53,9 +76,12 @@ abbrev pub TwoBoardsAreRefused : Type 0
 TwoBoardsAreRefused = (board other : List ℕ) → IsName board → IsName other
     → reading_of_words (codes "solve" ∷ codes "tiles" ∷ board ∷ other ∷ []) ≡ Refused fault.Files
 
+abbrev pub DomainAloneIsRefused : Type 0
+DomainAloneIsRefused = (domain : List ℕ) → IsName domain → reading_of_words (codes "solve" ∷ codes "strips" ∷ domain ∷ []) ≡ Refused fault.Files
+
 abbrev pub OtherKindIsRefused : Type 0
 OtherKindIsRefused = (kind map : List ℕ) → IsName kind → IsName map → bytes_eq kind (codes "grid") ≡ false → bytes_eq kind (codes "tiles") ≡ false
-    → reading_of_words (codes "solve" ∷ kind ∷ map ∷ []) ≡ Refused fault.Kind
+    → bytes_eq kind (codes "strips") ≡ false → reading_of_words (codes "solve" ∷ kind ∷ map ∷ []) ≡ Refused fault.Kind
 
 abbrev pub HelpIsRefused : Type 0
 HelpIsRefused = (map scenario : List ℕ) → IsName map → IsName scenario

@@ -2,17 +2,20 @@
 use Rattle.std.specs.Prelude.{ℕ, ◌≤◌, List, [], ◌∷◌, Option, None, Some, if◌then◌else◌, codes}
 use Rattle.std.specs.Str.{bytes_eq}
 use Rattle.clap.specs.Words.{Kinds, Row, Text, fault_of, first_of, subcommand_of}
-use Rattle.pb_words.specs.Parser.{the_program, row_option, budget_option}
+use Rattle.pb_words.specs.Parser.{NumberOption, the_program, row_option, budget_option, lot_option, blocks_option}
 use Rattle.pb_words.specs.Values.{InputNames, kind_of_text, input_of, option_of}
 use Rattle.pb_words.specs.declared.command.Kind.{Kind}
 use Rattle.pb_words.specs.declared.refusal.Fault.{Fault}
 use Rattle.pb_words.specs.declared.refusal.Fault.TheVariants as fault
 
--- `solve`: the task, the row of its scenario, the budget of expansions, and the certificate's name, if one is given
+-- `solve`: the task, the row of its scenario, the budget of expansions, how many expansions a lease gets at most, how many blocks the abstract graph has at most,
+-- and the certificate's name, if one is given
 pub record SolveMeaning : Type 0 where
   pub input : InputNames
   pub row : ℕ
   pub budget : ℕ
+  pub lot : ℕ
+  pub blocks : ℕ
   pub certificate : Option Text
 
 -- `check`: the task, the certificate's name and the row of the scenario
@@ -40,14 +43,15 @@ with_input None meaning = Refused fault.Files
 with_input (Some input) meaning = Read (meaning input)
 
 -- clap sees to it that a word that must stand is there, and that a number lies in its range
-abbrev pub solve_with : Option Text → Option Text → Option ℕ → Option ℕ → Option Text → Kind → Reading
-solve_with (Some first) second (Some row) (Some budget) certificate kind =
-    with_input (input_of kind first second) (λ input. Solve (record { input = input; row = row; budget = budget; certificate = certificate }))
-solve_with _ _ _ _ _ kind = Refused fault.Form
+abbrev pub solve_with : Option Text → Option Text → Option ℕ → Option ℕ → Option ℕ → Option ℕ → Option Text → Kind → Reading
+solve_with (Some first) second (Some row) (Some budget) (Some lot) (Some blocks) certificate kind =
+    with_input (input_of kind first second) (λ input. Solve (record { input = input; row = row; budget = budget; lot = lot; blocks = blocks; certificate = certificate }))
+solve_with _ _ _ _ _ _ _ kind = Refused fault.Form
 
 abbrev pub solve_of : List Row → Reading
 solve_of rows = with_kind (kind_of_text (first_of (codes "KIND") rows))
-    (solve_with (first_of (codes "FIRST_FILE") rows) (first_of (codes "SECOND_FILE") rows) (option_of row_option rows) (option_of budget_option rows) (first_of (codes "cert") rows))
+    (solve_with (first_of (codes "FIRST_FILE") rows) (first_of (codes "SECOND_FILE") rows) (option_of row_option rows) (option_of budget_option rows)
+    (option_of lot_option rows) (option_of blocks_option rows) (first_of (codes "cert") rows))
 
 abbrev pub check_with : Option Text → Option Text → Option Text → Option ℕ → Kind → Reading
 check_with (Some certificate) (Some first) second (Some row) kind =
@@ -74,7 +78,11 @@ unless_faulty (k ∷ ks) reading = Refused fault.Form
 abbrev pub reading_of_words : List Text → Reading
 reading_of_words words = unless_faulty (fault_of the_program words) (command_met (subcommand_of the_program words))
 
+-- a number lies in the range of its option
+abbrev pub IsInRangeOf : NumberOption → ℕ → Type 0
+IsInRangeOf o n = (o.least ≤ n) × (n ≤ o.most)
+
 -- the numbers of a command lie in their ranges
 abbrev pub IsInRange : Meaning → Type 0
-IsInRange (Solve solve) = (solve.row ≤ row_option.most) × (budget_option.least ≤ solve.budget) × (solve.budget ≤ budget_option.most)
-IsInRange (Check check) = check.row ≤ row_option.most
+IsInRange (Solve solve) = IsInRangeOf row_option solve.row × IsInRangeOf budget_option solve.budget × IsInRangeOf lot_option solve.lot × IsInRangeOf blocks_option solve.blocks
+IsInRange (Check check) = IsInRangeOf row_option check.row

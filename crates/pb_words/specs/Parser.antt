@@ -30,6 +30,14 @@ row_option = record { name = codes "row"; least = 0; most = 1000000; default = 0
 abbrev pub budget_option : NumberOption
 budget_option = record { name = codes "budget"; least = 1; most = 1099511627776; default = 16777216 }
 
+-- how many expansions a lease gets at most: at most 2^20
+abbrev pub lot_option : NumberOption
+lot_option = record { name = codes "lot"; least = 1; most = 1048576; default = 256 }
+
+-- how many blocks the abstract graph has at most
+abbrev pub blocks_option : NumberOption
+blocks_option = record { name = codes "blocks"; least = 16; most = 4096; default = 256 }
+
 abbrev pub option_rule : NumberOption → Rule
 option_rule o = number_rule o.name o.least o.most
 
@@ -37,10 +45,10 @@ abbrev pub with_rules : App → List Rule → App
 with_rules a [] = a
 with_rules a (r ∷ rs) = with_rules (with_rule a r) rs
 
--- `solve KIND FILE [FILE] [--row K] [--budget B] [--cert NAME]`
+-- `solve KIND FILE [FILE] [--row K] [--budget B] [--lot L] [--blocks C] [--cert NAME]`
 unfoldable pub the_solve : App
 the_solve = with_rules (new_app (codes "solve")) (required_rule (codes "KIND") ∷ required_rule (codes "FIRST_FILE") ∷ new_rule (codes "SECOND_FILE")
-    ∷ option_rule row_option ∷ option_rule budget_option ∷ text_rule (codes "cert") ∷ [])
+    ∷ option_rule row_option ∷ option_rule budget_option ∷ option_rule lot_option ∷ option_rule blocks_option ∷ text_rule (codes "cert") ∷ [])
 
 -- `check KIND CERT FILE [FILE] [--row K]`
 unfoldable pub the_check : App

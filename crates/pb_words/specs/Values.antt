@@ -13,23 +13,31 @@ pub record GridNames : Type 0 where
   pub map : Text
   pub scenario : Text
 
+-- the names of the files of a STRIPS problem
+pub record StripsNames : Type 0 where
+  pub domain : Text
+  pub problem : Text
+
 -- the task that a command names: its kind, with the names of its files, for tiles that of the board's
 pub data InputNames : Type 0 where
   Grid : GridNames → InputNames
   Tiles : Text → InputNames
+  Strips : StripsNames → InputNames
 
 -- the kind that a word names
 abbrev pub kind_of_text : Option Text → Option Kind
 kind_of_text None = None
 kind_of_text (Some word) = if bytes_eq word (codes "grid") then Some kind.Grid
-    else (if bytes_eq word (codes "tiles") then Some kind.Tiles else None)
+    else (if bytes_eq word (codes "tiles") then Some kind.Tiles else (if bytes_eq word (codes "strips") then Some kind.Strips else None))
 
--- a grid has two files, tiles have one
+-- a grid and a STRIPS problem have two files, tiles have one
 abbrev pub input_of : Kind → Text → Option Text → Option InputNames
 input_of kind.Grid first (Some second) = Some (Grid (record { map = first; scenario = second }))
 input_of kind.Grid first None = None
 input_of kind.Tiles first None = Some (Tiles first)
 input_of kind.Tiles first (Some second) = None
+input_of kind.Strips first (Some second) = Some (Strips (record { domain = first; problem = second }))
+input_of kind.Strips first None = None
 
 -- the number that a value writes, if it lies in the range, and the default where there is no value
 abbrev pub number_in : ℕ → ℕ → Option ℕ → Option Text → Option ℕ

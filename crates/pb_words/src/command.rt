@@ -5,6 +5,8 @@ pub(crate) enum Kind {
     Grid,
     // A board of a sliding-tile puzzle.
     Tiles,
+    // A STRIPS problem of a domain and a problem in PDDL.
+    Strips,
 }
 
 /// The names of the files of a grid.
@@ -16,6 +18,15 @@ pub struct GridFiles<'a> {
     pub scenario: &'a str,
 }
 
+/// The names of the files of a STRIPS problem in PDDL.
+#[derive(Clone, Copy, Debug)]
+pub struct StripsFiles<'a> {
+    /// The domain's file.
+    pub domain: &'a str,
+    /// The problem's file.
+    pub problem: &'a str,
+}
+
 /// The kind of the task, with the names of its files.
 #[derive(Clone, Copy, Debug)]
 pub enum Input<'a> {
@@ -23,9 +34,11 @@ pub enum Input<'a> {
     Grid(GridFiles<'a>),
     /// `tiles BOARD`: a sliding-tile puzzle, with the name of the board's file.
     Tiles(&'a str),
+    /// `strips DOMAIN PROBLEM`: a STRIPS problem (Fikes and Nilsson, 1971) in PDDL (McDermott and others, "PDDL, the Planning Domain Definition Language", 1998).
+    Strips(StripsFiles<'a>),
 }
 
-/// `solve KIND FILE [FILE] [--row K] [--budget B] [--cert NAME]`.
+/// `solve KIND FILE [FILE] [--row K] [--budget B] [--lot L] [--blocks C] [--cert NAME]`.
 #[derive(Clone, Copy, Debug)]
 pub struct SolveCommand<'a> {
     /// The task.
@@ -34,6 +47,10 @@ pub struct SolveCommand<'a> {
     pub row: u64,
     /// How many expansions the search may do: 1 to 2^40, and 16,777,216 where none is given.
     pub budget: u64,
+    /// How many expansions a lease gets at most: 1 to 2^20, and 256 where none is given.
+    pub lot: u64,
+    /// How many blocks the abstract graph has at most: 16 to 4,096, and 256 where none is given.
+    pub blocks: u64,
     /// The name under which the certificate is to be saved, where one is given.
     pub certificate: Option<&'a str>,
 }

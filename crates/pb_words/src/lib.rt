@@ -10,9 +10,10 @@ mod reader;
 mod refusal;
 mod values;
 
-pub use command::{CheckCommand, CommandLine, GridFiles, Input, SolveCommand};
+pub use command::{CheckCommand, CommandLine, GridFiles, Input, SolveCommand, StripsFiles};
 pub use laws::{
-    check_with_one_board_is_read, check_with_three_names_is_read, faults_are_found,
+    check_with_domain_and_problem_is_read, check_with_one_board_is_read,
+    check_with_three_names_is_read, faults_are_found, solve_with_domain_and_problem_is_read,
     solve_with_one_board_is_read, solve_with_two_names_is_read,
 };
 pub use reader::read_words;

@@ -4,7 +4,7 @@ ghost use Rattle.clap.specs.Words.{app_of, rule_of, new_rule, with_rule, with_su
 ghost use Rattle.clap.specs.declared.builder.command.Command.TheViews.{out-Command as fields_of};
 ghost use Rattle.pb_words.specs.Parser.{the_program, the_solve, the_check, bare_program, number_rule, text_rule, required_rule};
 
-use crate::values::{BUDGET_MOST, ROW_MOST};
+use crate::values::{BLOCKS_LEAST, BLOCKS_MOST, BUDGET_MOST, LOT_MOST, ROW_MOST};
 use clap::builder::ValueParser;
 use clap::{Arg, Command};
 use std::alloc::{AllocError, Global};
@@ -63,7 +63,12 @@ pub(crate) fn solve<'a>(alloc: Global) -> Result<Command<'a>, AllocError>
     let with_second = add(with_first, optional_word(alloc, "SECOND_FILE"))?;
     let with_row = add(with_second, number_option(alloc, "row", 0, ROW_MOST))?;
     let with_budget = add(with_row, number_option(alloc, "budget", 1, BUDGET_MOST))?;
-    add(with_budget, text_option(alloc, "cert"))
+    let with_lot = add(with_budget, number_option(alloc, "lot", 1, LOT_MOST))?;
+    let with_blocks = add(
+        with_lot,
+        number_option(alloc, "blocks", BLOCKS_LEAST, BLOCKS_MOST),
+    )?;
+    add(with_blocks, text_option(alloc, "cert"))
 }
 
 // `check KIND CERT FILE [FILE]` and its option.

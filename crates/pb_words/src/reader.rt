@@ -8,7 +8,10 @@ ghost use Rattle.pb_words.specs.Causes.{IsCause, IsRefusal, EndsLine, meaning_of
 use crate::command::{CheckCommand, CommandLine, SolveCommand};
 use crate::parser::program;
 use crate::refusal::{Fault, Message, Refusal, refuse};
-use crate::values::{BUDGET_DEFAULT, BUDGET_MOST, ROW_MOST, input_of, known_kind, number, text};
+use crate::values::{
+    BLOCKS_DEFAULT, BLOCKS_LEAST, BLOCKS_MOST, BUDGET_DEFAULT, BUDGET_MOST, LOT_DEFAULT, LOT_MOST,
+    ROW_MOST, input_of, known_kind, number, text,
+};
 use clap::error::ErrorKind;
 use clap::{ArgMatches, Error};
 use std::alloc::{AllocError, Global};
@@ -23,20 +26,26 @@ fn read_solve<'a>(matches: &ArgMatches<'a>) -> Result<SolveCommand<'a>, Fault>
     let second = text(matches, "SECOND_FILE");
     let row = number(matches, "row", 0, ROW_MOST, 0);
     let budget = number(matches, "budget", 1, BUDGET_MOST, BUDGET_DEFAULT);
+    let lot = number(matches, "lot", 1, LOT_MOST, LOT_DEFAULT);
+    let blocks = number(matches, "blocks", BLOCKS_LEAST, BLOCKS_MOST, BLOCKS_DEFAULT);
     let certificate = text(matches, "cert");
     let Some(kind) = kind else {
         return Err(Fault::Kind);
     };
-    match (first, row, budget) {
-        (Some(first), Some(row), Some(budget)) => match input_of(kind, first, second) {
-            Some(input) => Ok(SolveCommand {
-                input,
-                row,
-                budget,
-                certificate,
-            }),
-            None => Err(Fault::Files),
-        },
+    match (first, row, budget, lot, blocks) {
+        (Some(first), Some(row), Some(budget), Some(lot), Some(blocks)) => {
+            match input_of(kind, first, second) {
+                Some(input) => Ok(SolveCommand {
+                    input,
+                    row,
+                    budget,
+                    lot,
+                    blocks,
+                    certificate,
+                }),
+                None => Err(Fault::Files),
+            }
+        }
         _ => Err(Fault::Form),
     }
 }

@@ -111,7 +111,7 @@ pub(crate) fn message_of(
         Fault::Kind => {
             let word = word.unwrap_or("");
             let mistake = format!(in alloc;
-                "invalid value '{word}' for '<KIND>'\n  [possible values: grid, tiles]"
+                "invalid value '{word}' for '<KIND>'\n  [possible values: grid, tiles, strips]"
             )?;
             clap_message(alloc, name, mistake.as_str())
         }

@@ -4,7 +4,7 @@ ghost use Rattle.clap.specs.Words.{first_of, found_of, one_of, rows_of};
 ghost use Rattle.pb_words.specs.Values.{number_in, kind_of_text, input_of};
 ghost use Rattle.pb_words.specs.Causes.{input_meant};
 
-use crate::command::{GridFiles, Input, Kind};
+use crate::command::{GridFiles, Input, Kind, StripsFiles};
 use clap::ArgMatches;
 
 // The greatest row of a scenario that may be asked for.
@@ -15,6 +15,21 @@ pub(crate) const BUDGET_MOST: u64 = 1_099_511_627_776;
 
 // The budget where none is given.
 pub(crate) const BUDGET_DEFAULT: u64 = 16_777_216;
+
+// The greatest lot of a lease, 2^20 expansions.
+pub(crate) const LOT_MOST: u64 = 1_048_576;
+
+// The lot where none is given.
+pub(crate) const LOT_DEFAULT: u64 = 256;
+
+// The least number of blocks that may be asked for.
+pub(crate) const BLOCKS_LEAST: u64 = 16;
+
+// The greatest number of blocks that may be asked for.
+pub(crate) const BLOCKS_MOST: u64 = 4_096;
+
+// The number of blocks where none is given.
+pub(crate) const BLOCKS_DEFAULT: u64 = 256;
 
 // The first value of an argument.
 pub(crate) fn text<'a>(matches: &ArgMatches<'a>, id: &str) -> Option<&'a str>
@@ -55,6 +70,7 @@ pub(crate) fn known_kind(word: Option<&str>) -> Option<Kind>
     match word {
         Some("grid") => Some(Kind::Grid),
         Some("tiles") => Some(Kind::Tiles),
+        Some("strips") => Some(Kind::Strips),
         _ => None,
     }
 }
@@ -63,17 +79,18 @@ pub(crate) fn known_kind(word: Option<&str>) -> Option<Kind>
 pub(crate) fn input_of<'a>(kind: Kind, first: &'a str, second: Option<&'a str>) -> Option<Input<'a>>
     ensures { option_map input_meant result ≡ input_of kind first.entry.now (option_map (λ t. t.now) second.entry) }
 {
-    match kind {
-        Kind::Grid => match second {
-            Some(scenario) => Some(Input::Grid(GridFiles {
-                map: first,
-                scenario,
-            })),
-            None => None,
-        },
-        Kind::Tiles => match second {
-            Some(_) => None,
-            None => Some(Input::Tiles(first)),
-        },
+    match (kind, second) {
+        (Kind::Grid, Some(scenario)) => Some(Input::Grid(GridFiles {
+            map: first,
+            scenario,
+        })),
+        (Kind::Grid, None) => None,
+        (Kind::Tiles, None) => Some(Input::Tiles(first)),
+        (Kind::Tiles, Some(_)) => None,
+        (Kind::Strips, Some(problem)) => Some(Input::Strips(StripsFiles {
+            domain: first,
+            problem,
+        })),
+        (Kind::Strips, None) => None,
     }
 }

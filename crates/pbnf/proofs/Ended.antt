@@ -2,12 +2,10 @@
 use Rattle.std.proofs.Common.{◌≡◌, ◌≢◌, ◌⊎◌, inl, inr, ℕ, Option, None, Some, IfSome, IsSome, List, [], ◌∷◌, map, option_map, Result, Ok, Err, refl, sym, subst, ap, arith, ◌∙◌, true≢false}
 use Rattle.std.proofs.lemmas.List.{append_cancel_left}
 use Rattle.pb_model.specs.Plan.{Plan, HasNoPlan}
-use Rattle.pb_model.specs.Turns.{StopsAfter}
 use Rattle.pb_model.specs.Texts.{none_report, stopped_report}
 use Rattle.pb_task.specs.declared.parts.Parts.{Parts}
 use Rattle.pb_task.specs.Parts.{space_of}
 use Rattle.pb_estimate.specs.Estimates.{estimate_of}
-use Rattle.pb_search.specs.Reached.{guided, unweighted}
 use Rattle.pb_check.specs.declared.fault.Fault.{Fault}
 use Rattle.pb_check.specs.declared.fault.Verdict.{Verdict}
 use Rattle.pb_check.specs.Judging.{checked}
@@ -16,11 +14,16 @@ use Rattle.pb_cert.specs.Saved.{IsPartSaved}
 use Rattle.pb_words.specs.Meaning.{Reading, Refused, Read, Solve, Check, SolveMeaning, CheckMeaning}
 use Rattle.pb_outside.specs.Outside.{Files, IfTold, AppendsPart, Rose, KeepsAll, KeepsOthers}
 use Rattle.pb_check.specs.Shown.{IsAccepted}
-use Rattle.pbnf.specs.Asked.{Wanted, files_of, saved_name, IsFaulty, IsSolve, IfSolve, IsCheck, IfCheck}
-use Rattle.pbnf.specs.Loaded.{loads_of, AreLoaded, solve_task, check_task, OfTexts, OfCheckedTexts, OfTask, OfChecked, SpellTask, SpellChecked, RefusesTexts, RefusesFiles}
+use Rattle.pbnf.specs.Asked.{Wanted, files_of, IsFaulty, IsSolve, IfSolve, IsCheck, IfCheck}
+use Rattle.pbnf.specs.Loaded.{loads_of, AreLoaded, solve_task, check_task, OfTexts, OfCheckedTexts, OfTask, OfChecked, SpellChecked, RefusesTexts, RefusesFiles}
+use Rattle.pbnf.specs.Leases.{settings_of, StopsAtBudget}
 use Rattle.pbnf.specs.Claims.{Saved, Certifies, Solves, PrintsPlan, PrintsLeastCost, SavesPlan, Accepts, Rejects}
 use Rattle.pbnf.specs.Answer.{Said, Says, Saves, IsChecked, AnswersReading, AnswersFiles}
 use Rattle.pbnf.specs.Run.{Prints, TellsPrinted, SavesIn, SavesTold, SavesPartIn, SavesNothing, KeepsUnnamed, SavesPart, IsStatus, IsAnswered, IsBroken, RefusesWords, RefusesInput, IsOfVerdict, DecidesCheck, PrintsPart, HasNoFault, IsWellAsked, IsWellChecked}
+use Rattle.pb_trees.specs.declared.tree.Domain.{Domain}
+use Rattle.pb_trees.specs.declared.tree.Problem.{Problem}
+use Rattle.pbnf.specs.Named.{OfTrees, OfTreeFiles, PrintsNamedPlan, HasNoNamedPlan, AcceptsNamed}
+use Rattle.pbnf.proofs.ByNames.{solved_by_names, none_by_names, accepted_by_names, if_solve_files, is_solve_files, if_check_files}
 use Rattle.pbnf.proofs.Told as told
 
 -- ---- files that are kept, and then something is saved
@@ -149,9 +152,9 @@ module _ (reading : Reading) (files new : Option Files) (old_text new_text : Opt
   pub none_text : said.status ≡ 1 → Prints old_text new_text said.report → Prints old_text new_text none_report
   none_text one prints = prints_it prints none_report (told.none_says answers.0 said reading answers.2 one)
 
-  pub stopped : said.status ≡ 2 → IsSolve reading (λ solve. OfTask files solve (λ parts. StopsAfter (space_of parts) (guided parts) unweighted solve.budget))
-  stopped two = is_task files (λ solve parts. StopsAfter (space_of parts) (guided parts) unweighted solve.budget) answers.0 reading answers.1
-      (told.of_stopped answers.0 said (λ solve. OfTexts solve answers.0 (λ parts. StopsAfter (space_of parts) (guided parts) unweighted solve.budget))
+  pub stopped : said.status ≡ 2 → IsSolve reading (λ solve. OfTask files solve (λ parts. StopsAtBudget parts (settings_of solve)))
+  stopped two = is_task files (λ solve parts. StopsAtBudget parts (settings_of solve)) answers.0 reading answers.1
+      (told.of_stopped answers.0 said (λ solve. OfTexts solve answers.0 (λ parts. StopsAtBudget parts (settings_of solve)))
       (λ solve parts is stop. (parts, is, stop.3)) reading answers.2 two)
 
   pub stopped_text : said.status ≡ 2 → Prints old_text new_text said.report → IsSolve reading (λ solve. Prints old_text new_text (stopped_report solve.budget))
@@ -176,6 +179,23 @@ module _ (reading : Reading) (files new : Option Files) (old_text new_text : Opt
   pub rejected : said.status ≡ 3 → Prints old_text new_text said.report → IsCheck reading (λ check. OfChecked files check (Rejects (Prints old_text new_text)))
   rejected three prints = is_checked files (λ check. Rejects (Prints old_text new_text)) answers.0 reading answers.1
       (told.of_rejected answers.0 said (λ check. Rejects (Prints old_text new_text)) (λ check parts certificate is. (is.0, prints_it prints _ is.1, is.2, is.3)) reading answers.2 three)
+
+  -- ---- by names
+
+  pub named_plan : said.status ≡ 0 → Prints old_text new_text said.report
+      → IfSolve reading (λ solve. OfTreeFiles files (files_of reading) solve.input 0 (PrintsNamedPlan (Prints old_text new_text)))
+  named_plan zero prints = if_solve_files files (files_of reading) answers.0 answers.1 (PrintsNamedPlan (Says said)) (PrintsNamedPlan (Prints old_text new_text))
+      (λ domain problem (actions, says, is, least). (actions, prints_it prints _ says, is, least)) reading
+      (solved_by_names answers.0 (Says said) (Saves said) reading (told.solved answers.0 said reading answers.2 zero))
+
+  pub named_none : said.status ≡ 1 → IsSolve reading (λ solve. OfTreeFiles files (files_of reading) solve.input 0 HasNoNamedPlan)
+  named_none one = is_solve_files files (files_of reading) answers.0 answers.1 HasNoNamedPlan reading (none_by_names answers.0 reading (told.no_plan answers.0 said reading answers.2 one))
+
+  pub named_accepted : said.status ≡ 0 → Prints old_text new_text said.report
+      → IfCheck reading (λ check. OfTreeFiles files (files_of reading) check.input 1 (AcceptsNamed (Prints old_text new_text)))
+  named_accepted zero prints = if_check_files files (files_of reading) answers.0 answers.1 (AcceptsNamed (Says said)) (AcceptsNamed (Prints old_text new_text))
+      (λ domain problem (verdict, says, holds). (verdict, prints_it prints _ says, holds)) reading
+      (accepted_by_names answers.0 (Says said) reading (told.accepted answers.0 said reading answers.2 zero))
 
   -- ---- the causes
 

@@ -1,5 +1,7 @@
 -- Whatever plan is read off a report of a plan is the one that was reported.
-use Rattle.std.proofs.Common.{◌≡◌, ℕ, zero, suc, ◌^◌, ◌<◌, ◌≤◌, List, [], ◌∷◌, Option, Some, length, get_or, map, refl, sym, ap, ◌∙◌, subst, arith}
+use Rattle.std.proofs.Common.{◌≡◌, ◌≢◌, ℕ, zero, suc, ◌^◌, ◌<◌, ◌≤◌, ◌==◌, Bool, true, false, List, [], ◌∷◌, All, Option, None, Some, Result, Ok, Err, IfOk, length, get_or, map, refl, sym, ap, ◌∙◌, subst, arith}
+use Rattle.std.proofs.lemmas.Bool.Decides.{nat_tests}
+use Rattle.std.proofs.lemmas.List.Elements.{All-nil, All-cons}
 use Rattle.std.proofs.lemmas.List.{length-map}
 use Rattle.std.specs.List.{AllByRecursion}
 use Rattle.pb_model.specs.Space.{Space, IsProper}
@@ -7,10 +9,22 @@ use Rattle.pb_model.specs.Plan.{Plan, Walk, IsPlan, NoneCheaper}
 use Rattle.pb_task.specs.declared.parts.Parts.{Parts}
 use Rattle.pb_task.specs.declared.parts.Parts.TheVariants.{Grid, Tiles}
 use Rattle.pb_task.specs.Grid.{direction}
+use Rattle.pb_task.specs.declared.parts.GridParts.{GridParts}
+use Rattle.pb_task.specs.declared.parts.TilesParts.{TilesParts}
+use Rattle.pb_grid.specs.declared.error.GridError.{GridError}
+use Rattle.pb_grid.specs.Reading.{grid_reading, task_of}
+use Rattle.pb_tiles.specs.declared.error.TilesError.{TilesError}
+use Rattle.pb_tiles.specs.Reading.{tiles_reading}
 use Rattle.pb_task.specs.Parts.{space_of, action_name, IsTask, greatest_cost}
+use Rattle.pb_model.proofs.Tests.{not_both, by_cases, equal}
+use Rattle.pb_naming.specs.Names.{AreTellingNames}
 use Rattle.pb_task.proofs.Grids.{tasks_are_proper}
-use Rattle.pb_search.specs.Reached.{unweighted}
-use Rattle.pb_report.specs.Texts.{plan_text}
+use Rattle.pb_report.specs.Texts.{plan_text, input_text, tiles_text}
+use Rattle.pbnf.specs.Loaded.{refused_with, grid_told, grid_task, tiles_told, tiles_task}
+use Rattle.pbnf.specs.Named.{NamesTell}
+use Rattle.pbnf.specs.Files.{GivesTask}
+use Rattle.pbnf.specs.declared.input.NoTask.{NoTask}
+use Rattle.pbnf.specs.Leases.{unweighted}
 use Rattle.pbnf.specs.Claims.{Saved, Certifies, Solves, PrintsLeastCost, SavesPlan}
 use Rattle.pbnf.proofs.Reports.{IsFree, AreFree, report_tells_cost, report_tells_steps}
 
@@ -40,44 +54,86 @@ name_free (suc zero) = (refl, (refl, (refl, (refl, tt))))
 name_free (suc (suc zero)) = (refl, (refl, (refl, (refl, tt))))
 name_free (suc (suc (suc more))) = (refl, (refl, (refl, (refl, (refl, tt)))))
 
--- the actions of every kind are named by their directions
-names_are : (parts : Parts) (action : ℕ) → action_name parts action ≡ direction action
-names_are (Grid grid) action = refl
-names_are (Tiles tiles) action = refl
+-- the four directions tell their actions apart
+directions_tell : AreTellingNames 4 direction
+directions_tell = record { different = names_differ; lines = no_feed }
+  where
+    all : (text : List ℕ) → IsFree 10 text → All (λ c. c ≢ 10) text
+    all [] h = All-nil (λ c. c ≢ 10)
+    all (c ∷ cs) h = All-cons (λ c. c ≢ 10) c cs (λ e. not_both (c == 10) (same c 10 e) h.0) (all cs h.1)
+      where
+        same : (n m : ℕ) → n ≡ m → (n == m) ≡ true
+        same n m e = grind (arith, nat_tests)
 
-four_actions : (parts : Parts) → (space_of parts).actions ≡ 4
-four_actions (Grid grid) = refl
-four_actions (Tiles tiles) = refl
+    no_feed : (action : ℕ) → All (λ c. c ≢ 10) (direction action)
+    no_feed action = all (direction action) (name_free action)
 
-names_free : (parts : Parts) (actions : List ℕ) → AreFree 10 (map (action_name parts) actions)
-names_free parts [] = tt
-names_free parts (action ∷ actions) = (subst (IsFree 10) (sym (names_are parts action)) (name_free action), names_free parts actions)
+-- where the texts of a map and a scenario, or of a board, spell a task, its actions are named by their directions
+pub grid_names : (map_text scenario_text : Option (List ℕ)) (row : ℕ) (task : Parts) → grid_task map_text scenario_text row ≡ Ok task → NamesTell task
+grid_names None scenario_text row task e = cc
+grid_names (Some map_text) None row task e = cc
+grid_names (Some map_text) (Some scenario_text) row task e = at (grid_reading map_text scenario_text row) e
+  where
+    none : (report : Option (List ℕ)) → refused_with report ≡ Ok task → NamesTell task
+    none None f = cc
+    none (Some text) f = cc
+
+    at : (reading : Result GridParts GridError) → grid_told (task_of reading) ≡ Ok task → NamesTell task
+    at (Ok grid) f =
+        let is : Grid grid ≡ task = cc in
+        subst NamesTell is directions_tell
+    at (Err error) f = none (input_text error) f
+
+pub tiles_names : (text : Option (List ℕ)) (task : Parts) → tiles_task text ≡ Ok task → NamesTell task
+tiles_names None task e = cc
+tiles_names (Some text) task e = at (tiles_reading text) e
+  where
+    none : (report : Option (List ℕ)) → refused_with report ≡ Ok task → NamesTell task
+    none None f = cc
+    none (Some report) f = cc
+
+    at : (reading : Result TilesParts TilesError) → tiles_told reading ≡ Ok task → NamesTell task
+    at (Ok tiles) f =
+        let is : Tiles tiles ≡ task = cc in
+        subst NamesTell is directions_tell
+    at (Err error) f = none (tiles_text error) f
+
+-- ---- lists of names
+
+free_of : (text : List ℕ) → All (λ c. c ≢ 10) text → IsFree 10 text
+free_of [] h = tt
+free_of (c ∷ cs) h = (other c (h 0 c (omega arith)), free_of cs (λ k d less. h (suc k) d (omega arith)))
+  where
+    other : (n : ℕ) → n ≢ 10 → (n == 10) ≡ false
+    other n apart = by_cases (n == 10) (λ e. absurd (apart (equal n 10 e))) (λ e. e)
+
+names_free : (parts : Parts) → NamesTell parts → (actions : List ℕ) → AreFree 10 (map (action_name parts) actions)
+names_free parts names [] = tt
+names_free parts names (action ∷ actions) = (free_of (action_name parts action) (names.lines action), names_free parts names actions)
 
 abbrev pub AreActions : Space → List ℕ → Type 0
 AreActions space actions = AllByRecursion (λ action. action < space.actions) actions
 
-same_actions : (parts : Parts) (xs ys : List ℕ) → AreActions (space_of parts) xs → AreActions (space_of parts) ys
+same_actions : (parts : Parts) → NamesTell parts → (xs ys : List ℕ) → AreActions (space_of parts) xs → AreActions (space_of parts) ys
     → map (action_name parts) xs ≡ map (action_name parts) ys → xs ≡ ys
-same_actions parts [] [] h k e = refl
-same_actions parts [] (y ∷ ys) h k e = absurd (none (action_name parts y) (map (action_name parts) ys) e)
+same_actions parts names [] [] h k e = refl
+same_actions parts names [] (y ∷ ys) h k e = absurd (none (action_name parts y) (map (action_name parts) ys) e)
   where
     none : (first : List ℕ) (rest : List (List ℕ)) → ◌≡◌ {A = List (List ℕ)} [] (first ∷ rest) → ⊥
     none first rest e = cc
-same_actions parts (x ∷ xs) [] h k e = absurd (none (action_name parts x) (map (action_name parts) xs) e)
+same_actions parts names (x ∷ xs) [] h k e = absurd (none (action_name parts x) (map (action_name parts) xs) e)
   where
     none : (first : List ℕ) (rest : List (List ℕ)) → ◌≡◌ {A = List (List ℕ)} (first ∷ rest) [] → ⊥
     none first rest e = cc
-same_actions parts (x ∷ xs) (y ∷ ys) h k e =
-    go (split (action_name parts x) (action_name parts y) (map (action_name parts) xs) (map (action_name parts) ys) e) (λ f. same_actions parts xs ys h.1 k.1 f)
+same_actions parts names (x ∷ xs) (y ∷ ys) h k e =
+    go (split (action_name parts x) (action_name parts y) (map (action_name parts) xs) (map (action_name parts) ys) e) (λ f. same_actions parts names xs ys h.1 k.1 f)
   where
     split : (a b : List ℕ) (more others : List (List ℕ)) → a ∷ more ≡ b ∷ others → (a ≡ b) × (more ≡ others)
     split a b more others e = (cc, cc)
 
     go : ((action_name parts x ≡ action_name parts y) × (map (action_name parts) xs ≡ map (action_name parts) ys)) → (map (action_name parts) xs ≡ map (action_name parts) ys → xs ≡ ys) → x ∷ xs ≡ y ∷ ys
     go both more =
-        let x_in : x < 4 = subst (λ n. x < n) (four_actions parts) h.0 in
-        let y_in : y < 4 = subst (λ n. y < n) (four_actions parts) k.0 in
-        let first = names_differ x y x_in y_in (sym (names_are parts x) ∙ both.0 ∙ names_are parts y) in let rest = more both.1 in λ i. first i ∷ rest i
+        let first = names.different x y h.0 k.0 both.0 in let rest = more both.1 in λ i. first i ∷ rest i
 
 -- ---- walks
 
@@ -96,7 +152,7 @@ module _ (space : Space) (most : ℕ) (proper : IsProper space most) where
 
 -- ---- the plan that a report tells
 
-module _ (parts : Parts) (lawful : IsTask parts) (report : List ℕ) (saves : Option Saved → Type 0) (name : Option (List ℕ))
+module _ (parts : Parts) (lawful : IsTask parts) (names : NamesTell parts) (report : List ℕ) (saves : Option Saved → Type 0) (name : Option (List ℕ))
     (solves : Solves (λ text. report ≡ text) saves name parts) where
   proper : IsProper (space_of parts) greatest_cost
   proper = (tasks_are_proper parts lawful).0
@@ -116,11 +172,16 @@ module _ (parts : Parts) (lawful : IsTask parts) (report : List ℕ) (saves : Op
       let known = solves.0 in
       let cost = report_tells_cost (map (action_name parts) known.actions) (map (action_name parts) plan.actions) known.cost solves.1 plan.cost bound solves.7 small (sym solves.2 ∙ says) in
       let steps = report_tells_steps (map (action_name parts) known.actions) (map (action_name parts) plan.actions) known.cost solves.1 plan.cost bound solves.7 small
-      (few known solves.3 solves.7) (few plan is small) (names_free parts known.actions) (names_free parts plan.actions) (sym solves.2 ∙ says) in
-      let actions = same_actions parts known.actions plan.actions
+      (few known solves.3 solves.7) (few plan is small) (names_free parts names known.actions) (names_free parts names plan.actions) (sym solves.2 ∙ says) in
+      let actions = same_actions parts names known.actions plan.actions
       (walk_actions (space_of parts) greatest_cost proper known.actions (space_of parts).start known.cost solves.3.0 solves.3.1)
       (walk_actions (space_of parts) greatest_cost proper plan.actions (space_of parts).start plan.cost is.0 is.1) steps in
       λ i. record { actions = actions i; cost = cost i }
 
   pub saves_plan : SavesPlan (λ text. report ≡ text) saves name parts
   saves_plan plan bound is small says = subst (λ (p : Plan). Certifies saves name parts (Some p)) (same_plan plan bound is small says) solves.6
+
+-- where a task is given only with telling names, what is returned has them
+pub given_names : (result : Result Parts NoTask) (given : Result Parts (List ℕ)) → GivesTask result given → ((task : Parts) → given ≡ Ok task → NamesTell task) → IfOk result NamesTell
+given_names (Ok task) given is tell = tell task is
+given_names (Err error) given is tell = tt

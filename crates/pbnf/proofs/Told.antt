@@ -1,17 +1,16 @@
 -- What is answered of the words and of the texts that were loaded, promise by promise.
 use Rattle.std.proofs.Common.{◌≡◌, ◌⊎◌, inl, inr, ℕ, Option, None, Some, List, Result, Ok, Err, refl, sym, ap, subst, ◌∙◌, arith, []}
 use Rattle.pb_model.specs.Plan.{Plan, HasNoPlan}
-use Rattle.pb_model.specs.Turns.{StopsAfter}
 use Rattle.pb_model.specs.Texts.{none_report, stopped_report}
 use Rattle.pb_task.specs.declared.parts.Parts.{Parts}
 use Rattle.pb_task.specs.Parts.{space_of}
 use Rattle.pb_estimate.specs.Estimates.{estimate_of}
-use Rattle.pb_search.specs.Reached.{guided, unweighted}
 use Rattle.pb_check.specs.Judging.{checked}
 use Rattle.pb_check.specs.Kinds.{kind_of}
 use Rattle.pb_words.specs.Meaning.{Reading, Refused, Read, Solve, Check, SolveMeaning, CheckMeaning}
 use Rattle.pbnf.specs.Asked.{saved_name, IsFaulty, IsSolve, IfSolve, IsCheck, IfCheck}
 use Rattle.pbnf.specs.Loaded.{solve_task, check_task, OfTexts, OfCheckedTexts, RefusesTexts}
+use Rattle.pbnf.specs.Leases.{settings_of, StopsAtBudget}
 use Rattle.pbnf.specs.Claims.{Saved, Certifies, Solves, PrintsPlan, PrintsLeastCost, SavesPlan, Accepts, Rejects}
 use Rattle.pbnf.specs.Answer.{Said, Says, Saves, IsSolved, IsUnsolvable, IsStopped, IsFound, IsChecked, OrRefused, AnswersReading}
 use Rattle.pbnf.specs.Run.{RefusesWords, IsOfVerdict, IsAnswered}
@@ -26,7 +25,7 @@ module _ (texts : List (List ℕ)) (said : Said) where
   known (Refused fault) answers = inr (inr (inr (inr (inl answers.0))))
   known (Read (Solve solve)) answers = go (solve_task solve texts) answers
     where
-      go : (task : Result Parts (List ℕ)) → OrRefused task (IsFound solve.budget solve.certificate) said → IsKnown
+      go : (task : Result Parts (List ℕ)) → OrRefused task (IsFound solve) said → IsKnown
       go (Ok parts) (inl found) = inl found.0
       go (Ok parts) (inr (inl none)) = inr (inl none.0)
       go (Ok parts) (inr (inr stop)) = inr (inr (inl stop.0))
@@ -46,7 +45,7 @@ module _ (texts : List (List ℕ)) (said : Said) where
   of_solved P f (Read (Check check)) answers zero = tt
   of_solved P f (Read (Solve solve)) answers zero = go (solve_task solve texts) refl answers
     where
-      go : (task : Result Parts (List ℕ)) → solve_task solve texts ≡ task → OrRefused task (IsFound solve.budget solve.certificate) said → OfTexts solve texts (P solve)
+      go : (task : Result Parts (List ℕ)) → solve_task solve texts ≡ task → OrRefused task (IsFound solve) said → OfTexts solve texts (P solve)
       go (Ok parts) is (inl found) = (parts, is, f solve parts found)
       go (Ok parts) is (inr (inl none)) = absurd (omega (arith, zero, none.0))
       go (Ok parts) is (inr (inr stop)) = absurd (omega (arith, zero, stop.0))
@@ -63,14 +62,14 @@ module _ (texts : List (List ℕ)) (said : Said) where
       go (Err report) refused = absurd (omega (arith, one, refused.0))
   of_none P f (Read (Solve solve)) answers one = go (solve_task solve texts) refl answers
     where
-      go : (task : Result Parts (List ℕ)) → solve_task solve texts ≡ task → OrRefused task (IsFound solve.budget solve.certificate) said → OfTexts solve texts (P solve)
+      go : (task : Result Parts (List ℕ)) → solve_task solve texts ≡ task → OrRefused task (IsFound solve) said → OfTexts solve texts (P solve)
       go (Ok parts) is (inl found) = absurd (omega (arith, one, found.0))
       go (Ok parts) is (inr (inl none)) = (parts, is, f solve parts none)
       go (Ok parts) is (inr (inr stop)) = absurd (omega (arith, one, stop.0))
       go (Err report) is refused = absurd (omega (arith, one, refused.0))
 
   -- of the stop itself, whatever the task
-  pub of_stopped : (P : SolveMeaning → Type 0) → ((solve : SolveMeaning) (parts : Parts) → solve_task solve texts ≡ Ok parts → IsStopped solve.budget parts said → P solve)
+  pub of_stopped : (P : SolveMeaning → Type 0) → ((solve : SolveMeaning) (parts : Parts) → solve_task solve texts ≡ Ok parts → IsStopped solve parts said → P solve)
       → (reading : Reading) → AnswersReading reading texts said → said.status ≡ 2 → IsSolve reading P
   of_stopped P f (Refused fault) answers two = absurd (omega (arith, two, answers.0))
   of_stopped P f (Read (Check check)) answers two = go (check_task check texts) answers
@@ -81,7 +80,7 @@ module _ (texts : List (List ℕ)) (said : Said) where
       go (Err report) refused = absurd (omega (arith, two, refused.0))
   of_stopped P f (Read (Solve solve)) answers two = go (solve_task solve texts) refl answers
     where
-      go : (task : Result Parts (List ℕ)) → solve_task solve texts ≡ task → OrRefused task (IsFound solve.budget solve.certificate) said → P solve
+      go : (task : Result Parts (List ℕ)) → solve_task solve texts ≡ task → OrRefused task (IsFound solve) said → P solve
       go (Ok parts) is (inl found) = absurd (omega (arith, two, found.0))
       go (Ok parts) is (inr (inl none)) = absurd (omega (arith, two, none.0))
       go (Ok parts) is (inr (inr stop)) = f solve parts is stop
@@ -105,7 +104,7 @@ module _ (texts : List (List ℕ)) (said : Said) where
   of_rejected P f (Refused fault) answers three = absurd (omega (arith, three, answers.0))
   of_rejected P f (Read (Solve solve)) answers three = go (solve_task solve texts) answers
     where
-      go : {A : Type 0} → (task : Result Parts (List ℕ)) → OrRefused task (IsFound solve.budget solve.certificate) said → A
+      go : {A : Type 0} → (task : Result Parts (List ℕ)) → OrRefused task (IsFound solve) said → A
       go (Ok parts) (inl found) = absurd (omega (arith, three, found.0))
       go (Ok parts) (inr (inl none)) = absurd (omega (arith, three, none.0))
       go (Ok parts) (inr (inr stop)) = absurd (omega (arith, three, stop.0))
@@ -135,9 +134,9 @@ module _ (texts : List (List ℕ)) (said : Said) where
 
   -- what is answered of a task that is to be solved
   pub searched : (solve : SolveMeaning) (parts : Parts) → AnswersReading (Read (Solve solve)) texts said → solve_task solve texts ≡ Ok parts → IsAnswered said.status
-  searched solve parts answers is = go (subst (λ (t : Result Parts (List ℕ)). OrRefused t (IsFound solve.budget solve.certificate) said) is answers)
+  searched solve parts answers is = go (subst (λ (t : Result Parts (List ℕ)). OrRefused t (IsFound solve) said) is answers)
     where
-      go : IsFound solve.budget solve.certificate parts said → IsAnswered said.status
+      go : IsFound solve parts said → IsAnswered said.status
       go (inl found) = inl found.0
       go (inr (inl none)) = inr (inl none.0)
       go (inr (inr stop)) = inr (inr (inl stop.0))
@@ -148,7 +147,7 @@ module _ (texts : List (List ℕ)) (said : Said) where
   words_say (Refused fault) answers e = (fault, said.report, refl, answers.1, refl)
   words_say (Read (Solve solve)) answers e = go (solve_task solve texts) answers
     where
-      go : {A : Type 0} → (task : Result Parts (List ℕ)) → OrRefused task (IsFound solve.budget solve.certificate) said → A
+      go : {A : Type 0} → (task : Result Parts (List ℕ)) → OrRefused task (IsFound solve) said → A
       go (Ok parts) (inl found) = absurd (omega (arith, e, found.0))
       go (Ok parts) (inr (inl none)) = absurd (omega (arith, e, none.0))
       go (Ok parts) (inr (inr stop)) = absurd (omega (arith, e, stop.0))
@@ -168,7 +167,7 @@ module _ (texts : List (List ℕ)) (said : Said) where
   input_says (Refused fault) answers e = absurd (omega (arith, e, answers.0))
   input_says (Read (Solve solve)) answers e = go (solve_task solve texts) refl answers
     where
-      go : (task : Result Parts (List ℕ)) → solve_task solve texts ≡ task → OrRefused task (IsFound solve.budget solve.certificate) said → solve_task solve texts ≡ Err said.report
+      go : (task : Result Parts (List ℕ)) → solve_task solve texts ≡ task → OrRefused task (IsFound solve) said → solve_task solve texts ≡ Err said.report
       go (Ok parts) is (inl found) = absurd (omega (arith, e, found.0))
       go (Ok parts) is (inr (inl none)) = absurd (omega (arith, e, none.0))
       go (Ok parts) is (inr (inr stop)) = absurd (omega (arith, e, stop.0))
@@ -183,7 +182,7 @@ module _ (texts : List (List ℕ)) (said : Said) where
   pub input_exact : (reading : Reading) (report : List ℕ) → AnswersReading reading texts said → RefusesTexts reading texts report → said.status ≡ 65
   input_exact (Refused fault) report answers refuses = absurd refuses
   input_exact (Read (Solve solve)) report answers refuses =
-      (subst (λ (t : Result Parts (List ℕ)). OrRefused t (IsFound solve.budget solve.certificate) said) refuses answers).0
+      (subst (λ (t : Result Parts (List ℕ)). OrRefused t (IsFound solve) said) refuses answers).0
   input_exact (Read (Check check)) report answers refuses =
       (subst (λ (t : Result (Parts × List ℕ) (List ℕ)). OrRefused t (λ t. IsChecked t.0 t.1) said) refuses answers).0
 
@@ -193,7 +192,7 @@ module _ (texts : List (List ℕ)) (said : Said) where
   none_saved (Refused fault) answers not_zero not_one = answers.2
   none_saved (Read (Solve solve)) answers not_zero not_one = go (solve_task solve texts) answers
     where
-      go : (task : Result Parts (List ℕ)) → OrRefused task (IsFound solve.budget solve.certificate) said → Saves said None
+      go : (task : Result Parts (List ℕ)) → OrRefused task (IsFound solve) said → Saves said None
       go (Ok parts) (inl found) = absurd (not_zero found.0)
       go (Ok parts) (inr (inl none)) = absurd (not_one none.0)
       go (Ok parts) (inr (inr stop)) = stop.2
@@ -239,7 +238,7 @@ module _ (texts : List (List ℕ)) (said : Said) where
   saves_one (Refused fault) name text answers is = not_both name text answers.2 is
   saves_one (Read (Solve solve)) name text answers is = go (solve_task solve texts) refl answers
     where
-      go : (task : Result Parts (List ℕ)) → solve_task solve texts ≡ task → OrRefused task (IsFound solve.budget solve.certificate) said → SavesOne name text solve
+      go : (task : Result Parts (List ℕ)) → solve_task solve texts ≡ task → OrRefused task (IsFound solve) said → SavesOne name text solve
       go (Ok parts) e (inl found) =
           let one = of_saved parts (Some found.1.0) solve.certificate name text found.1.6 is in
           record { parts = parts; plan = Some found.1.0; task = e; named = one.0; certifies = one.1 }
@@ -296,9 +295,9 @@ module _ (texts : List (List ℕ)) (said : Said) where
     none one = (none_says one, no_plan one)
 
     pub stopped : said.status ≡ 2 → IsSolve reading (λ solve. Says said (stopped_report solve.budget) × Saves said None
-        × OfTexts solve texts (λ parts. StopsAfter (space_of parts) (guided parts) unweighted solve.budget))
+        × OfTexts solve texts (λ parts. StopsAtBudget parts (settings_of solve)))
     stopped = of_stopped (λ solve. Says said (stopped_report solve.budget) × Saves said None
-        × OfTexts solve texts (λ parts. StopsAfter (space_of parts) (guided parts) unweighted solve.budget))
+        × OfTexts solve texts (λ parts. StopsAtBudget parts (settings_of solve)))
         (λ solve parts is stop. (stop.1, stop.2, (parts, is, stop.3))) reading answers
 
     pub accepted : said.status ≡ 0 → IfCheck reading (λ check. OfCheckedTexts check texts (Accepts (Says said)))

@@ -1,18 +1,17 @@
 -- What is answered of a command line and of the texts that were loaded of its files.
-use Rattle.std.specs.Prelude.{◌≡◌, ◌⊎◌, ℕ, Option, None, Some, List, Result, Ok, Err}
+use Rattle.std.specs.Prelude.{◌≡◌, ◌⊎◌, ℕ, Option, None, List, Result, Ok, Err}
 use Rattle.std.specs.Option.{option_map}
 use Rattle.pb_model.specs.Plan.{HasNoPlan}
-use Rattle.pb_model.specs.Turns.{StopsAfter}
 use Rattle.pb_model.specs.Texts.{none_report, stopped_report}
 use Rattle.pb_task.specs.declared.parts.Parts.{Parts}
 use Rattle.pb_task.specs.Parts.{space_of}
-use Rattle.pb_search.specs.Reached.{guided, unweighted}
 use Rattle.pb_cert.specs.Stated.{text_of}
-use Rattle.pb_words.specs.Meaning.{Reading, Refused, Read, Solve, Check, reading_of_words}
+use Rattle.pb_words.specs.Meaning.{Reading, Refused, Read, Solve, Check, SolveMeaning, reading_of_words}
 use Rattle.pb_words.specs.Causes.{IsPrinted}
 use Rattle.pb_outside.specs.Outside.{Files}
 use Rattle.pbnf.specs.Asked.{files_of}
 use Rattle.pbnf.specs.Loaded.{AreLoaded, solve_task, check_task}
+use Rattle.pbnf.specs.Leases.{settings_of, StopsAtBudget}
 use Rattle.pbnf.specs.Claims.{Saved, Certifies, Solves, PrintsLeastCost, SavesPlan, Accepts, Rejects}
 use Rattle.pbnf.specs.declared.answer.Answer.{Answer}
 use Rattle.pbnf.specs.declared.answer.SavedCertificate.{SavedCertificate}
@@ -49,13 +48,13 @@ IsSolved name parts said =
 abbrev pub IsUnsolvable : (name : Option (List ℕ)) → Parts → Said → Type 0
 IsUnsolvable name parts said = (said.status ≡ 1) × Says said none_report × HasNoPlan (space_of parts) × Certifies (Saves said) name parts None
 
--- the budget of expansions was used up, and there is no certificate
-abbrev pub IsStopped : (budget : ℕ) → Parts → Said → Type 0
-IsStopped budget parts said =
-    (said.status ≡ 2) × Says said (stopped_report budget) × Saves said None × StopsAfter (space_of parts) (guided parts) unweighted budget
+-- the search that the words ask for used up its budget of expansions, and there is no certificate
+abbrev pub IsStopped : SolveMeaning → Parts → Said → Type 0
+IsStopped solve parts said =
+    (said.status ≡ 2) × Says said (stopped_report solve.budget) × Saves said None × StopsAtBudget parts (settings_of solve)
 
-abbrev pub IsFound : (budget : ℕ) → (name : Option (List ℕ)) → Parts → Said → Type 0
-IsFound budget name parts said = IsSolved name parts said ⊎ (IsUnsolvable name parts said ⊎ IsStopped budget parts said)
+abbrev pub IsFound : SolveMeaning → Parts → Said → Type 0
+IsFound solve parts said = IsSolved solve.certificate parts said ⊎ (IsUnsolvable solve.certificate parts said ⊎ IsStopped solve parts said)
 
 -- ---- of a certificate that is to be checked
 
@@ -76,7 +75,7 @@ OrRefused (Err report) P said = IsRefused report said
 
 abbrev pub AnswersReading : Reading → (texts : List (List ℕ)) → Said → Type 0
 AnswersReading (Refused fault) texts said = (said.status ≡ 64) × IsPrinted fault said.report × (said.saved ≡ None)
-AnswersReading (Read (Solve solve)) texts said = OrRefused (solve_task solve texts) (IsFound solve.budget solve.certificate) said
+AnswersReading (Read (Solve solve)) texts said = OrRefused (solve_task solve texts) (IsFound solve) said
 AnswersReading (Read (Check check)) texts said = OrRefused (check_task check texts) (λ task. IsChecked task.0 task.1) said
 
 -- this is answered of the words and of the texts that were loaded

@@ -1,6 +1,6 @@
 -- What a command line asks for, and which files it names. A further kind of task is one case more of `input_files`.
-use Rattle.std.specs.Prelude.{ℕ, List, [], ◌∷◌, Option, None, Some, ⊤}
-use Rattle.pb_words.specs.Values.{InputNames, Grid, Tiles}
+use Rattle.std.specs.Prelude.{ℕ, List, [], ◌∷◌, Option, None, ⊤}
+use Rattle.pb_words.specs.Values.{InputNames, Grid, Tiles, Strips}
 use Rattle.pb_words.specs.Meaning.{Reading, Refused, Read, Solve, Check, SolveMeaning, CheckMeaning}
 
 -- how many bytes an input file may have: 16 MiB
@@ -23,6 +23,7 @@ wanted most name = record { name = name; most = most }
 abbrev pub input_files : InputNames → List Wanted
 input_files (Grid names) = wanted longest_input names.map ∷ wanted longest_input names.scenario ∷ []
 input_files (Tiles board) = wanted longest_input board ∷ []
+input_files (Strips names) = wanted longest_input names.domain ∷ wanted longest_input names.problem ∷ []
 
 -- the files that a command line names to be read, in order of its words
 abbrev pub files_of : Reading → List Wanted

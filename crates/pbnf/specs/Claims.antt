@@ -6,13 +6,13 @@ use Rattle.pb_model.specs.Texts.{plan_report, head_1, certificate_text}
 use Rattle.pb_task.specs.declared.parts.Parts.{Parts}
 use Rattle.pb_task.specs.Parts.{space_of}
 use Rattle.pb_estimate.specs.Estimates.{estimate_of}
-use Rattle.pb_search.specs.Reached.{unweighted}
 use Rattle.pb_check.specs.declared.fault.Fault.{Fault}
 use Rattle.pb_check.specs.declared.fault.Verdict.{Verdict}
 use Rattle.pb_check.specs.Judging.{checked}
 use Rattle.pb_check.specs.Kinds.{kind_of, kind_name}
 use Rattle.pb_check.specs.Shown.{IsAccepted, ShowsClaim, VerdictHolds}
 use Rattle.pb_report.specs.Texts.{plan_text, verdict_text, fault_text}
+use Rattle.pbnf.specs.Leases.{unweighted}
 
 -- ---- of a search
 

@@ -1,5 +1,7 @@
 pub mod Asked
 pub mod Loaded
+pub mod Leases
+pub mod Named
 pub mod Claims
 pub mod Answer
 pub mod Run

@@ -1,5 +1,5 @@
--- What loading the files of a command line gives, and which task their texts spell. What depends on the kind of task stands here, in
--- `input_task`, and nowhere else.
+-- What loading the files of a command line gives, and which task their texts spell, or the report that refuses them: that of each kind of task stands
+-- in `input_task`.
 use Rattle.std.specs.Prelude.{◌≡◌, ℕ, ◌+◌, Option, None, Some, IfSome, List, [], ◌∷◌, length, Result, Ok, Err, codes, if◌then◌else◌, nat_le, slice_get, option_map}
 use Rattle.pb_model.specs.Texts.{line}
 use Rattle.pb_task.specs.declared.parts.Parts.{Parts}
@@ -9,11 +9,18 @@ use Rattle.pb_grid.specs.declared.error.GridError.{GridError}
 use Rattle.pb_grid.specs.Reading.{grid_reading, task_of}
 use Rattle.pb_tiles.specs.declared.error.TilesError.{TilesError}
 use Rattle.pb_tiles.specs.Reading.{tiles_reading}
-use Rattle.pb_report.specs.Texts.{input_text, tiles_text}
-use Rattle.pb_words.specs.Values.{InputNames, Grid, Tiles}
+use Rattle.pb_trees.specs.declared.error.SyntaxError.{SyntaxError}
+use Rattle.pb_trees.specs.declared.tree.Domain.{Domain}
+use Rattle.pb_trees.specs.declared.tree.Problem.{Problem}
+use Rattle.pb_trees.specs.Readings.{domain_reading, problem_reading}
+use Rattle.pb_strips.specs.declared.error.StripsError.{StripsError}
+use Rattle.pb_strips.specs.Grounding.{strips_of}
+use Rattle.pb_strips.specs.Refusals.{first_fault}
+use Rattle.pb_report.specs.Texts.{input_text, tiles_text, syntax_text, strips_text}
+use Rattle.pb_words.specs.Values.{InputNames, Grid, Tiles, Strips}
 use Rattle.pb_words.specs.Meaning.{Reading, Refused, Read, Solve, Check, SolveMeaning, CheckMeaning}
 use Rattle.pb_outside.specs.Outside.{Files}
-use Rattle.pbnf.specs.Asked.{Wanted, input_files, files_of}
+use Rattle.pbnf.specs.Asked.{Wanted, files_of}
 
 -- ---- loading
 
@@ -59,10 +66,29 @@ abbrev pub tiles_task : (text : Option (List ℕ)) → Result Parts (List ℕ)
 tiles_task None = Err too_long
 tiles_task (Some text) = tiles_told (tiles_reading text)
 
+abbrev pub strips_told : Domain → Problem → Option StripsError → Result Parts (List ℕ)
+strips_told domain problem None = Ok (parts.Strips (strips_of domain problem))
+strips_told domain problem (Some error) = refused_with (strips_text error)
+
+abbrev pub problem_told : Domain → Result Problem SyntaxError → Result Parts (List ℕ)
+problem_told domain (Ok problem) = strips_told domain problem (first_fault domain problem)
+problem_told domain (Err error) = refused_with (syntax_text 2 error)
+
+-- the domain is read first, then the problem, and then both are grounded
+abbrev pub domain_told : Result Domain SyntaxError → (problem : Result Problem SyntaxError) → Result Parts (List ℕ)
+domain_told (Ok domain) problem = problem_told domain problem
+domain_told (Err error) problem = refused_with (syntax_text 1 error)
+
+abbrev pub strips_task : (domain_text problem_text : Option (List ℕ)) → Result Parts (List ℕ)
+strips_task None problem_text = Err too_long
+strips_task (Some domain_text) None = Err too_long
+strips_task (Some domain_text) (Some problem_text) = domain_told (domain_reading domain_text) (problem_reading problem_text)
+
 -- the task of the texts from this place on
 abbrev pub input_task : InputNames → (row first : ℕ) → (texts : List (List ℕ)) → Result Parts (List ℕ)
 input_task (Grid names) row first texts = grid_task (slice_get texts first) (slice_get texts (first + 1)) row
 input_task (Tiles board) row first texts = tiles_task (slice_get texts first)
+input_task (Strips names) row first texts = strips_task (slice_get texts first) (slice_get texts (first + 1))
 
 -- the task that is to be solved
 abbrev pub solve_task : SolveMeaning → (texts : List (List ℕ)) → Result Parts (List ℕ)

@@ -10,7 +10,7 @@ use Rattle.pb_check.specs.Judging.{checked}
 use Rattle.pb_check.specs.Kinds.{kind_of}
 use Rattle.pb_check.specs.Shown.{IsAccepted}
 use Rattle.pb_words.specs.declared.refusal.Fault.{Fault as WordsFault}
-use Rattle.pb_words.specs.Meaning.{Reading, Refused, Read, Solve, SolveMeaning, CheckMeaning}
+use Rattle.pb_words.specs.Meaning.{Reading, Refused, SolveMeaning, CheckMeaning}
 use Rattle.pb_words.specs.Causes.{IsPrinted}
 use Rattle.pb_outside.specs.Outside.{Files, IfTold, Appends, AppendsPart, KeepsAll, KeepsOthers}
 use Rattle.pb_cert.specs.Saved.{IsPartSaved}

@@ -1,13 +1,13 @@
-ghost use Rattle.std.specs.Prelude.{◌≡◌, ◌≤◌, ◌^◌, IfOk, None, map, string_bytes};
+ghost use Rattle.std.specs.Prelude.{◌≡◌, IfOk, None, map, string_bytes};
 ghost use Rattle.pb_model.specs.Plan.{HasNoPlan};
-ghost use Rattle.pb_model.specs.Turns.{StopsAfter};
 ghost use Rattle.pb_model.specs.Texts.{none_report, stopped_report};
 ghost use Rattle.pb_task.specs.Parts.{space_of};
-ghost use Rattle.pb_search.specs.Reached.{guided, unweighted};
-ghost use Rattle.pb_words.specs.Meaning.{reading_of_words};
+ghost use Rattle.pb_words.specs.Meaning.{reading_of_words, IsInRange, Solve};
 ghost use Rattle.pb_words.specs.Causes.{IsPrinted, solve_meant, check_meant};
 ghost use Rattle.pbnf.specs.Asked.{IsSolve, IfSolve, IfCheck, IsCheck};
 ghost use Rattle.pbnf.specs.Loaded.{solve_task, check_task, OfTexts, OfCheckedTexts};
+ghost use Rattle.pbnf.specs.Leases.{settings_of, StopsAtBudget};
+ghost use Rattle.pbnf.specs.Named.{OfTrees, PrintsNamedPlan, HasNoNamedPlan, AcceptsNamed};
 ghost use Rattle.pbnf.specs.Claims.{Certifies, Solves, PrintsPlan, PrintsLeastCost, SavesPlan, Accepts, Rejects};
 ghost use Rattle.pbnf.specs.Answer.{Answers, IsRefused, IsFound, IsChecked, OrRefused, Says, Saves, said_of};
 
@@ -16,6 +16,7 @@ use crate::input::{NoTask, input_task};
 use crate::searching::solution;
 use crate::texts::Texts;
 use pb_cert::Certificate;
+use pb_outside::Gate;
 use pb_report::Report;
 use pb_words::{CheckCommand, CommandLine, Message, Refusal, SolveCommand, read_words};
 use std::alloc::{AllocError, Global};
@@ -63,16 +64,17 @@ fn refused<'a>(report: Report) -> Answer<'a>
 }
 
 // The answer to a search.
-fn answer_solve<'a>(
+fn answer_solve<'a, G: Gate>(
     alloc: Global,
     solve: SolveCommand<'a>,
     texts: &Texts,
+    gate: &G,
 ) -> Result<Answer<'a>, AllocError>
-    requires { solve.budget ≤ 2 ^ 40 }
-    ensures { IfOk result (λ a. OrRefused (solve_task (solve_meant solve.entry) texts.now) (IsFound solve.entry.budget (solve_meant solve.entry).certificate) (said_of a)) }
+    requires { IsInRange (Solve (solve_meant solve)) }
+    ensures { IfOk result (λ a. OrRefused (solve_task (solve_meant solve.entry) texts.now) (IsFound (solve_meant solve.entry)) (said_of a)) }
 {
     match input_task(alloc, &solve.input, solve.row, texts, 0) {
-        Ok(task) => solution(alloc, &task, solve.budget, solve.certificate),
+        Ok(task) => solution(alloc, task, solve, gate),
         Err(NoTask::Refused(report)) => Ok(refused(report)),
         Err(NoTask::Memory) => Err(AllocError),
     }
@@ -97,11 +99,16 @@ fn answer_check<'a>(
 }
 
 // What is answered of the words and of the texts.
-fn answered<'a>(alloc: Global, words: &'a [String], texts: &Texts) -> Result<Answer<'a>, AllocError>
+fn answered<'a, G: Gate>(
+    alloc: Global,
+    words: &'a [String],
+    texts: &Texts,
+    gate: &G,
+) -> Result<Answer<'a>, AllocError>
     ensures { IfOk result (λ a. Answers (map string_bytes words.entry.now) texts.now (said_of a)) }
 {
     match read_words(alloc, words) {
-        Ok(CommandLine::Solve(solve)) => answer_solve(alloc, solve, texts),
+        Ok(CommandLine::Solve(solve)) => answer_solve(alloc, solve, texts, gate),
         Ok(CommandLine::Check(check)) => answer_check(alloc, check, texts),
         Err(Refusal::Words(_, message)) => faulty(alloc, &message),
         Err(Refusal::Memory) => Err(AllocError),
@@ -112,10 +119,11 @@ fn answered<'a>(alloc: Global, words: &'a [String], texts: &Texts) -> Result<Ans
 /// and the later ones are left out. An error is want of memory.
 ///
 /// This is the whole program but its reading, saving and printing: no clause has a premise on files or output.
-pub fn answer_words<'a>(
+pub fn answer_words<'a, G: Gate>(
     alloc: Global,
     words: &'a [String],
     texts: &Texts,
+    gate: &G,
 ) -> Result<Answer<'a>, AllocError>
     // All of one plan: it is reported with its cost and bound, it is a plan of the task, no plan costs less, and the certificate has it.
     ensures solved { IfOk result (λ a. a.status ≡ 0 → IfSolve (reading_of_words (map string_bytes words.entry.now)) (λ solve.
@@ -136,15 +144,22 @@ pub fn answer_words<'a>(
         OfTexts solve texts.now (λ parts. HasNoPlan (space_of parts)))) }
     // A stop names its cause, and claims nothing.
     ensures stopped { IfOk result (λ a. a.status ≡ 2 → IsSolve (reading_of_words (map string_bytes words.entry.now)) (λ solve.
-        (a.report ≡ stopped_report solve.budget) × Saves (said_of a) None × OfTexts solve texts.now (λ parts. StopsAfter (space_of parts) (guided parts) unweighted solve.budget))) }
+        (a.report ≡ stopped_report solve.budget) × Saves (said_of a) None × OfTexts solve texts.now (λ parts. StopsAtBudget parts (settings_of solve)))) }
     // A certificate is accepted where it is valid, and then what it claims is true; else its first fault is reported.
     ensures accepted { IfOk result (λ a. a.status ≡ 0 → IfCheck (reading_of_words (map string_bytes words.entry.now)) (λ check.
         OfCheckedTexts check texts.now (Accepts (Says (said_of a))))) }
     ensures rejected { IfOk result (λ a. a.status ≡ 3 → IsCheck (reading_of_words (map string_bytes words.entry.now)) (λ check.
         OfCheckedTexts check texts.now (Rejects (Says (said_of a))))) }
+    // Of a domain and a problem in PDDL the same is true by names, over sets of facts and actions with objects: the reported plan is a plan, and none has
+    // fewer actions; where none is reported there is none; and what an accepted certificate claims.
+    ensures named_plan { IfOk result (λ a. a.status ≡ 0 → IfSolve (reading_of_words (map string_bytes words.entry.now)) (λ solve.
+        OfTrees solve.input 0 texts.now (PrintsNamedPlan (Says (said_of a))))) }
+    ensures named_none { IfOk result (λ a. a.status ≡ 1 → IsSolve (reading_of_words (map string_bytes words.entry.now)) (λ solve. OfTrees solve.input 0 texts.now HasNoNamedPlan)) }
+    ensures named_accepted { IfOk result (λ a. a.status ≡ 0 → IfCheck (reading_of_words (map string_bytes words.entry.now)) (λ check.
+        OfTrees check.input 1 texts.now (AcceptsNamed (Says (said_of a))))) }
     // All of it at once, with the refusals of words and texts.
     ensures answer { IfOk result (λ a. Answers (map string_bytes words.entry.now) texts.now (said_of a)) }
 {
-    let answer = answered(alloc, words, texts)?;
+    let answer = answered(alloc, words, texts, gate)?;
     Ok(answer)
 }

@@ -40,6 +40,10 @@ fn push_input<'a>(files: &mut Vec<Wanted<'a>>, input: Input<'a>) -> Result<(), A
             push_file(files, names.scenario, LONGEST_INPUT)
         }
         Input::Tiles(board) => push_file(files, board, LONGEST_INPUT),
+        Input::Strips(names) => {
+            push_file(files, names.domain, LONGEST_INPUT)?;
+            push_file(files, names.problem, LONGEST_INPUT)
+        }
     }
 }
 

@@ -1,13 +1,22 @@
-ghost use Rattle.std.specs.Prelude.{◌≡◌, ◌≤◌, Err, option_map};
+ghost use Rattle.std.specs.Prelude.{◌≡◌, ◌≤◌, Err, IfOk, option_map};
 ghost use Rattle.pb_words.specs.Causes.{input_meant};
-ghost use Rattle.pbnf.specs.Loaded.{grid_task, grid_told, tiles_task, tiles_told, input_task, too_long};
+ghost use Rattle.pb_trees.specs.Words.{DomainHasWords};
+ghost use Rattle.pb_trees.specs.Readings.{problem_reading};
+ghost use Rattle.pb_lifted.specs.declared.refusal.File.TheVariants.{Domain, Problem};
+ghost use Rattle.pbnf.specs.Loaded.{grid_task, grid_told, tiles_task, tiles_told, refused_with, strips_told, problem_told, strips_task, input_task, too_long};
+ghost use Rattle.pb_report.specs.Texts.{file_number, syntax_text, strips_text};
+ghost use Rattle.pbnf.specs.Named.{NamesTell};
 ghost use Rattle.pbnf.specs.Files.{GivesTask, IsRefusal};
 
 use crate::texts::Texts;
 use pb_grid::{GridError, read_grid};
+use pb_lifted::File;
 use pb_report::Report;
+use pb_strips::{StripsError, ground};
+use pb_syntax::{read_domain, read_problem};
 use pb_task::Task;
 use pb_tiles::{TilesError, read_tiles};
+use pb_trees::{Domain, SyntaxError};
 use pb_words::Input;
 use std::alloc::{AllocError, Global};
 
@@ -94,6 +103,58 @@ fn tiles(alloc: Global, text: Option<&[u8]>) -> Result<Task, NoTask>
     }
 }
 
+// The refusal of the text of a domain or a problem.
+fn refused_text(alloc: Global, file: File, error: SyntaxError) -> NoTask
+    ensures { IsRefusal result (refused_with (syntax_text (file_number file) error)) }
+{
+    match Report::syntax(alloc, file, &error) {
+        Ok(report) => NoTask::Refused(report),
+        Err(_) => NoTask::Memory,
+    }
+}
+
+// The refusal of a domain and a problem that are no task.
+fn refused_strips(alloc: Global, error: StripsError) -> NoTask
+    ensures { IsRefusal result (refused_with (strips_text error)) }
+{
+    match Report::strips_input(alloc, &error) {
+        Ok(report) => NoTask::Refused(report),
+        Err(_) => NoTask::Memory,
+    }
+}
+
+// The task of a domain and the text of a problem.
+fn strips_of(alloc: Global, domain: &Domain, text: &[u8]) -> Result<Task, NoTask>
+    requires { DomainHasWords domain.now }
+    ensures task { GivesTask result (problem_told domain.now (problem_reading text.now)) }
+    ensures names { IfOk result NamesTell }
+{
+    match read_problem(alloc, text) {
+        Ok(problem) => match ground(alloc, domain, &problem) {
+            Ok(task) => Ok(task),
+            Err(StripsError::Memory) => Err(NoTask::Memory),
+            Err(error) => Err(refused_strips(alloc, error)),
+        },
+        Err(SyntaxError::Memory) => Err(NoTask::Memory),
+        Err(error) => Err(refused_text(alloc, File::Problem, error)),
+    }
+}
+
+// The task of a domain and a problem.
+fn strips(alloc: Global, domain: Option<&[u8]>, problem: Option<&[u8]>) -> Result<Task, NoTask>
+    ensures task { GivesTask result (strips_task (option_map (λ t. t.now) domain.entry) (option_map (λ t. t.now) problem.entry)) }
+    ensures names { IfOk result NamesTell }
+{
+    match (domain, problem) {
+        (Some(domain), Some(problem)) => match read_domain(alloc, domain) {
+            Ok(domain) => strips_of(alloc, &domain, problem),
+            Err(SyntaxError::Memory) => Err(NoTask::Memory),
+            Err(error) => Err(refused_text(alloc, File::Domain, error)),
+        },
+        _ => Err(too_long(alloc)),
+    }
+}
+
 /// The task that the texts from a place on spell.
 pub fn input_task(
     alloc: Global,
@@ -103,10 +164,12 @@ pub fn input_task(
     first: usize,
 ) -> Result<Task, NoTask>
     requires { first ≤ 1 }
-    ensures { GivesTask result (input_task (input_meant input.now) row first texts.now) }
+    ensures task { GivesTask result (input_task (input_meant input.now) row first texts.now) }
+    ensures names { IfOk result NamesTell }
 {
     match input {
         Input::Grid(_) => grid(alloc, texts.get(first), texts.get(first + 1), row),
         Input::Tiles(_) => tiles(alloc, texts.get(first)),
+        Input::Strips(_) => strips(alloc, texts.get(first), texts.get(first + 1)),
     }
 }

@@ -11,7 +11,7 @@ ghost use Rattle.pbnf.specs.declared.loading.Fault.TheVariants.{ShelfFailed};
 use crate::answer::{Answer, answer_words};
 use crate::files::{Wanted, files_of};
 use crate::texts::Texts;
-use pb_outside::{Load, Shelf};
+use pb_outside::{Gate, Load, Shelf};
 use std::alloc::{AllocError, Global};
 
 /// Why nothing is answered.
@@ -66,10 +66,11 @@ fn load_all<H: Shelf>(alloc: Global, files: &[Wanted<'_>], shelf: &mut H) -> Res
 }
 
 /// Reads the words, loads the files that they name, and answers what they ask.
-pub fn decide<'a, H: Shelf>(
+pub fn decide<'a, H: Shelf, G: Gate>(
     alloc: Global,
     words: &'a [String],
     shelf: &mut H,
+    gate: &G,
 ) -> Result<Answer<'a>, Fault>
     ensures answers { IfOk result (λ a. AnswersFiles (reading_of_words (map string_bytes words.entry.now)) (H.files shelf.old) (said_of a)) }
     ensures asked { result ≡ Err ShelfFailed → IsFaulty (reading_of_words (map string_bytes words.entry.now)) → ⊥ }
@@ -81,6 +82,6 @@ pub fn decide<'a, H: Shelf>(
         Ok(texts) => texts,
         Err(fault) => return Err(fault),
     };
-    let answer = answer_words(alloc, words, &texts)?;
+    let answer = answer_words(alloc, words, &texts, gate)?;
     Ok(answer)
 }

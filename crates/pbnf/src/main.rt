@@ -9,6 +9,7 @@ mod checking;
 mod ending;
 mod files;
 mod input;
+mod leases;
 mod loading;
 mod searching;
 mod start;
@@ -37,5 +38,7 @@ fn main(rt: HostRuntime) -> ExitCode {
     ExitCode::from(status)
 }
 
+#[cfg(test)]
+mod strips_tests;
 #[cfg(test)]
 mod tests;

@@ -1,40 +1,46 @@
-ghost use Rattle.std.specs.Prelude.{◌≡◌, ◌≤◌, ◌^◌, ℕ, Option, IfOk, Some, None, option_map, length, ◌⊎◌};
-ghost use Rattle.pb_model.specs.Plan.{IncumbentHolds};
-ghost use Rattle.pb_model.specs.Store.{IsShown, IsQuiet};
-ghost use Rattle.pb_model.specs.Sound.{IsSound};
-ghost use Rattle.pb_task.specs.Parts.{space_of, IsTask};
-ghost use Rattle.pb_lists.specs.Bundle.{store_of};
-ghost use Rattle.pb_search.specs.Reached.{guided, unweighted};
-ghost use Rattle.pb_check.specs.Kinds.{kind_of, kind_name};
+ghost use Rattle.std.specs.Prelude.{◌≡◌, ◌≤◌, ℕ, IfOk, Some, None, option_map, length, ◌⊎◌};
 ghost use Rattle.pb_model.specs.Certificate.{IsPlanIfAny, IsBackedBy};
+ghost use Rattle.pb_model.specs.Texts.{stopped_report};
+ghost use Rattle.pb_task.specs.Parts.{space_of};
+ghost use Rattle.pb_check.specs.Kinds.{kind_of, kind_name};
+ghost use Rattle.pb_words.specs.Meaning.{IsInRange, Solve};
+ghost use Rattle.pb_words.specs.Causes.{solve_meant};
+ghost use Rattle.pbnf.specs.Leases.{IsBestOf};
+ghost use Rattle.pbnf.specs.Named.{NamesTell};
 ghost use Rattle.pbnf.specs.Claims.{Certifies};
 ghost use Rattle.pbnf.specs.Answer.{IsFound, IsSolved, IsUnsolvable, file_of, said_of};
-ghost use Rattle.pb_model.specs.Texts.{stopped_report};
 
 use crate::answer::{Answer, SavedCertificate};
+use crate::leases::searched;
 use pb_cert::{Certificate, Plan, trace};
 use pb_check::{Kind, kind_of};
-use pb_lists::Bundle;
+use pb_lease::Graph;
+use pb_machine::End;
+use pb_outside::Gate;
 use pb_report::Report;
-use pb_search::{Stop, search};
 use pb_task::Task;
+use pb_words::SolveCommand;
 use std::alloc::{AllocError, Global};
+use std::sync::Arc;
 
-/// Searches a task within a budget of expansions, and makes the report and, where it is to be saved under a name, the certificate. An
-/// error is want of memory.
-pub fn solution<'a>(
+/// Searches a task as the words ask, and makes the report and, where it is to be saved under a name, the certificate. An error is want of
+/// memory.
+pub fn solution<'a, G: Gate>(
     alloc: Global,
-    task: &Task,
-    budget: u64,
-    name: Option<&'a str>,
+    task: Task,
+    solve: SolveCommand<'a>,
+    gate: &G,
 ) -> Result<Answer<'a>, AllocError>
-    requires { budget ≤ 2 ^ 40 }
-    ensures { IfOk result (λ a. IsFound budget (option_map (λ t. t.now) name.entry) task.now (said_of a)) }
+    requires range { IsInRange (Solve (solve_meant solve)) }
+    requires names { NamesTell task }
+    ensures { IfOk result (λ a. IsFound (solve_meant solve.entry) task (said_of a)) }
 {
-    let found = search(alloc, task, budget)?;
-    match found.stop {
-        Stop::Spent => stopped(alloc, budget),
-        Stop::Quiet => quiet(alloc, task, name, &found.bundle, found.incumbent),
+    let task = Arc::new(alloc, task)?;
+    let graph = searched(alloc, &task, &solve, gate)?;
+    match graph.end() {
+        Some(End::Quiet) => quiet(alloc, &task, solve.certificate, &graph),
+        Some(End::Budget) => stopped(alloc, solve.budget),
+        Some(End::Memory) | None => unreachable!(),
     }
 }
 
@@ -54,19 +60,15 @@ fn quiet<'a>(
     alloc: Global,
     task: &Task,
     name: Option<&'a str>,
-    bundle: &Bundle,
-    incumbent: Option<u64>,
+    graph: &Graph,
 ) -> Result<Answer<'a>, AllocError>
-    requires quiet { IsQuiet (store_of bundle.now incumbent) }
-    requires weight { bundle.now.weight ≡ unweighted }
-    requires sound { IsSound (space_of task.now) (guided task.now) (store_of bundle.now incumbent) }
-    requires shown { IsShown (space_of task.now) (guided task.now) (store_of bundle.now incumbent) }
-    requires holds { IncumbentHolds (space_of task.now) unweighted incumbent }
+    requires best { IsBestOf task.now graph.now }
+    requires names { NamesTell task.now }
     ensures { IfOk result (λ a. IsSolved (option_map (λ t. t.now) name.entry) task.now (said_of a) ⊎ IsUnsolvable (option_map (λ t. t.now) name.entry) task.now (said_of a)) }
 {
-    match incumbent {
-        Some(_) => solved(alloc, task, name, bundle),
-        None => unsolvable(alloc, task, name, bundle),
+    match graph.incumbent() {
+        Some(_) => solved(alloc, task, name, graph),
+        None => unsolvable(alloc, task, name, graph),
     }
 }
 
@@ -75,17 +77,17 @@ fn solved<'a>(
     alloc: Global,
     task: &Task,
     name: Option<&'a str>,
-    bundle: &Bundle,
+    graph: &Graph,
 ) -> Result<Answer<'a>, AllocError>
-    requires weight { bundle.now.weight ≡ unweighted }
-    requires known { (cost : ℕ) × IsQuiet (store_of bundle.now (Some cost)) × IsSound (space_of task.now) (guided task.now) (store_of bundle.now (Some cost)) × IsShown (space_of task.now) (guided task.now) (store_of bundle.now (Some cost))
-        × IncumbentHolds (space_of task.now) unweighted (Some cost) }
+    requires best { IsBestOf task.now graph.now }
+    requires names { NamesTell task.now }
+    requires known { (cost : ℕ) × (graph.now.incumbent ≡ Some cost) }
     ensures { IfOk result (λ a. IsSolved (option_map (λ t. t.now) name.entry) task.now (said_of a)) }
 {
     let _lawful = task.max_degree();
-    let plan = trace(alloc, task, bundle)?;
+    let plan = trace(alloc, task, graph)?;
     let report = Report::plan(alloc, task, &plan)?;
-    let saved = certificate(alloc, task, name, Some(plan), bundle)?;
+    let saved = certificate(alloc, task, name, Some(plan), graph)?;
     Ok(Answer {
         status: 0,
         report,
@@ -98,16 +100,14 @@ fn unsolvable<'a>(
     alloc: Global,
     task: &Task,
     name: Option<&'a str>,
-    bundle: &Bundle,
+    graph: &Graph,
 ) -> Result<Answer<'a>, AllocError>
-    requires quiet { IsQuiet (store_of bundle.now None) }
-    requires weight { bundle.now.weight ≡ unweighted }
-    requires sound { IsSound (space_of task.now) (guided task.now) (store_of bundle.now None) }
-    requires holds { IncumbentHolds (space_of task.now) unweighted None }
+    requires best { IsBestOf task.now graph.now }
+    requires none { graph.now.incumbent ≡ None }
     ensures { IfOk result (λ a. IsUnsolvable (option_map (λ t. t.now) name.entry) task.now (said_of a)) }
 {
     let report = Report::none(alloc)?;
-    let saved = certificate(alloc, task, name, None, bundle)?;
+    let saved = certificate(alloc, task, name, None, graph)?;
     Ok(Answer {
         status: 1,
         report,
@@ -121,16 +121,15 @@ fn certificate<'a>(
     task: &Task,
     name: Option<&'a str>,
     plan: Option<Plan>,
-    bundle: &Bundle,
+    graph: &Graph,
 ) -> Result<Option<SavedCertificate<'a>>, AllocError>
-    requires weight { bundle.now.weight ≡ unweighted }
-    ensures { IfOk result (λ saved. (incumbent : Option ℕ) → IsSound (space_of task.now) (guided task.now) (store_of bundle.now incumbent) → IsQuiet (store_of bundle.now incumbent)
-        → IsPlanIfAny (space_of task.now) plan → IsBackedBy incumbent plan
+    requires { IsBestOf task.now graph.now }
+    ensures { IfOk result (λ saved. IsPlanIfAny (space_of task.now) plan → IsBackedBy graph.now.incumbent plan
         → Certifies (λ file. option_map file_of saved ≡ file) (option_map (λ t. t.now) name.entry) task.now plan) }
 {
     match name {
         Some(name) => {
-            let certificate = Certificate::of(alloc, kind(task), 1, 1, plan, bundle)?;
+            let certificate = Certificate::of(alloc, kind(task), 1, 1, plan, graph)?;
             Ok(Some(SavedCertificate { name, certificate }))
         }
         None => Ok(None),

@@ -1,10 +1,12 @@
 //! Whole runs over files and output in memory.
 use crate::start::unread;
 use crate::top::run;
-use pb_outside::{MemShelf, MemSink, OpenGate};
+use pb_outside::{Gate, MemShelf, MemSink, OpenGate};
 use std::alloc::{AllocError, Global};
 use std::io;
+use std::process::Abort;
 use std::sync::Wait;
+use std::sync::atomic::{AtomicU64, Ordering};
 use std::test::Fail;
 use std::thread::Threads;
 
@@ -116,7 +118,7 @@ fn shelf(alloc: Global, map: &str, scenario: &str) -> Result<MemShelf, Fail> {
 }
 
 // The status of a run.
-fn outcome<R: Threads + Wait>(
+pub(crate) fn outcome<R: Threads + Wait>(
     rt: &R,
     alloc: Global,
     line: &str,
@@ -125,6 +127,43 @@ fn outcome<R: Threads + Wait>(
 ) -> Result<u8, Fail> {
     let words = words(alloc, line)?;
     Ok(run(rt, alloc, &words, shelf, sink, &OpenGate))
+}
+
+// Which blocks were leased, as the digits behind a first 1, and how often a lease was to go on or to come back.
+#[derive(Drop)]
+struct CountingGate {
+    leased: AtomicU64,
+    giving: AtomicU64,
+}
+
+impl Gate for CountingGate {
+    fn leased(&self, _worker: u32, block: u32) {
+        let before = self.leased.load(Ordering::SeqCst);
+        let after = before.wrapping_mul(10).wrapping_add(u64::from(block));
+        self.leased.store(after, Ordering::SeqCst);
+    }
+
+    fn giving(&self, _worker: u32, _block: u32) {
+        self.giving.fetch_add(1, Ordering::SeqCst);
+    }
+}
+
+// The map has nine blocks of one cell each. The way leads along the upper and the right side, and then the rows of the two blocks that are
+// left are cut.
+#[test]
+fn the_gate_is_told_of_each_lease(rt: HostRuntime) -> Result<(), Fail> {
+    let gate = CountingGate {
+        leased: AtomicU64::new(1),
+        giving: AtomicU64::new(0),
+    };
+    let words = words(rt.alloc(), "solve grid map scenario")?;
+    let mut files = shelf(rt.alloc(), OPEN_MAP, SCENARIO)?;
+    let mut sink = MemSink::new(rt.alloc(), 4096)?;
+    let status = run(&rt, rt.alloc(), &words, &mut files, &mut sink, &gate);
+    assert_eq!(rt; status, 0);
+    assert_eq!(rt; gate.leased.load(Ordering::SeqCst), 10_125_843);
+    assert_eq!(rt; gate.giving.load(Ordering::SeqCst), 7);
+    Ok(())
 }
 
 #[test]
@@ -290,6 +329,13 @@ fn words_and_files_are_refused_and_budgets_are_kept(rt: HostRuntime) -> Result<(
         ),
         (
             OPEN_MAP,
+            "solve grid map scenario --budget 4 --cert c",
+            2,
+            "stopped budget 4\n",
+        ),
+        (OPEN_MAP, "solve grid map scenario --budget 5", 0, PLAN),
+        (
+            OPEN_MAP,
             "solve grid map scenario --row 1",
             65,
             "input NoRow 1 1\n",
@@ -299,7 +345,7 @@ fn words_and_files_are_refused_and_budgets_are_kept(rt: HostRuntime) -> Result<(
             OPEN_MAP,
             "solve maze map scenario",
             64,
-            "error: invalid value 'maze' for '<KIND>'\n  [possible values: grid, tiles]\n\nUsage: solve [OPTIONS] <KIND> <FIRST_FILE> [SECOND_FILE]\n",
+            "error: invalid value 'maze' for '<KIND>'\n  [possible values: grid, tiles, strips]\n\nUsage: solve [OPTIONS] <KIND> <FIRST_FILE> [SECOND_FILE]\n",
         ),
         (
             OPEN_MAP,
@@ -323,8 +369,7 @@ fn words_and_files_are_refused_and_budgets_are_kept(rt: HostRuntime) -> Result<(
 }
 
 // Each row has a board, a status and what is printed.
-#[test]
-fn boards_are_solved_or_refused(rt: HostRuntime) -> Result<(), Fail> {
+fn expect_boards<R: Abort + Threads + Wait>(rt: &R, alloc: Global, line: &str) -> Result<(), Fail> {
     for (board, status, printed) in [
         ("2 2\n1 0\n2 3\n", 0, "plan 1 1\nleft\nbound 1\n"),
         ("2 2\n0 1\n2 3\n", 0, "plan 0 0\nbound 0\n"),
@@ -338,34 +383,74 @@ fn boards_are_solved_or_refused(rt: HostRuntime) -> Result<(), Fail> {
             0,
             "plan 4 4\nup\nleft\nup\nleft\nbound 4\n",
         ),
+        ("2 2\n0 2\n1 3\n", 1, "none\n"),
         ("2 2\n0 1\n2 2\n", 65, "input Twice 2\n"),
         ("2 2\n0 1\n2\n", 65, "input Count 3 4\n"),
         ("2 2\n0 1\n2 4\n", 65, "input Number 5\n"),
         ("2 5\n0\n", 65, "input Size\n"),
         ("2 2\n0 1\nx 3\n", 65, "input Syntax 3\n"),
     ] {
-        let mut files = MemShelf::new(rt.alloc())?;
+        let mut files = MemShelf::new(alloc)?;
         files.add("board", board.as_bytes())?;
-        let mut sink = MemSink::new(rt.alloc(), 4096)?;
-        let found = outcome(&rt, rt.alloc(), "solve tiles board", &mut files, &mut sink)?;
+        let mut sink = MemSink::new(alloc, 4096)?;
+        let found = outcome(rt, alloc, line, &mut files, &mut sink)?;
         assert_eq!(rt; sink.bytes(), printed.as_bytes());
         assert_eq!(rt; found, status);
     }
     Ok(())
 }
 
-// Each row has a board that can't be solved, and how many boards can be reached from it.
+// By default, over fewer blocks, and in leases of one expansion.
+#[test]
+fn boards_are_solved_or_refused(rt: HostRuntime) -> Result<(), Fail> {
+    for line in [
+        "solve tiles board",
+        "solve tiles board --blocks 16",
+        "solve tiles board --lot 1",
+    ] {
+        expect_boards(&rt, rt.alloc(), line)?;
+    }
+    Ok(())
+}
+
+// The 12 boards that are reached from one that has no plan take 12 expansions.
+#[test]
+fn a_budget_is_kept_over_leases_of_one_expansion(rt: HostRuntime) -> Result<(), Fail> {
+    for (line, status, printed) in [
+        (
+            "solve tiles board --lot 1 --budget 11 --cert c",
+            2,
+            "stopped budget 11\n",
+        ),
+        ("solve tiles board --lot 1 --budget 12", 1, "none\n"),
+    ] {
+        let mut files = MemShelf::new(rt.alloc())?;
+        files.add("board", b"2 2\n0 2\n1 3\n")?;
+        files.reserve("c", 4096)?;
+        let mut sink = MemSink::new(rt.alloc(), 4096)?;
+        let found = outcome(&rt, rt.alloc(), line, &mut files, &mut sink)?;
+        assert_eq!(rt; sink.bytes(), printed.as_bytes());
+        assert_eq!(rt; found, status);
+        assert!(rt; !files.has("c"));
+    }
+    Ok(())
+}
+
+// Each row has a board that can't be solved, a command line, and how many boards can be reached from it.
 #[test]
 fn a_board_without_a_plan_has_a_certificate_that_is_accepted(rt: HostRuntime) -> Result<(), Fail> {
-    for (board, reached) in [
-        ("2 2\n0 2\n1 3\n", 12),
-        ("3 3\n0 2 1\n3 4 5\n6 7 8\n", 181_440),
+    for (board, line, reached) in [
+        ("2 2\n0 2\n1 3\n", "solve tiles board --cert c", 12),
+        (
+            "3 3\n0 2 1\n3 4 5\n6 7 8\n",
+            "solve tiles board --budget 1099511627776 --cert c",
+            181_440,
+        ),
     ] {
         let mut files = MemShelf::new(rt.alloc())?;
         files.add("board", board.as_bytes())?;
         files.reserve("c", 20_000_000)?;
         let mut sink = MemSink::new(rt.alloc(), 4096)?;
-        let line = "solve tiles board --budget 1099511627776 --cert c";
         let status = outcome(&rt, rt.alloc(), line, &mut files, &mut sink)?;
         assert_eq!(rt; status, 1);
         assert_eq!(rt; sink.bytes(), b"none\n".as_slice());

@@ -1,13 +1,13 @@
 ghost use Rattle.std.specs.Prelude.{◌≡◌, ◌⊎◌, ◌≤◌, ℕ, List, IfSome, None, map, string_bytes};
 ghost use Rattle.pb_model.specs.Plan.{HasNoPlan};
-ghost use Rattle.pb_model.specs.Turns.{StopsAfter};
 ghost use Rattle.pb_model.specs.Texts.{none_report, stopped_report};
 ghost use Rattle.pb_task.specs.Parts.{space_of};
-ghost use Rattle.pb_search.specs.Reached.{guided, unweighted};
 ghost use Rattle.pb_words.specs.Meaning.{reading_of_words};
 ghost use Rattle.pb_outside.specs.Outside.{IfTold, Rose, KeepsAll};
-ghost use Rattle.pbnf.specs.Asked.{IsFaulty, IsSolve, IfSolve, IsCheck, IfCheck};
+ghost use Rattle.pbnf.specs.Named.{OfTreeFiles, PrintsNamedPlan, HasNoNamedPlan, AcceptsNamed};
+ghost use Rattle.pbnf.specs.Asked.{files_of, IsFaulty, IsSolve, IfSolve, IsCheck, IfCheck};
 ghost use Rattle.pbnf.specs.Loaded.{OfTask, OfChecked, RefusesFiles};
+ghost use Rattle.pbnf.specs.Leases.{settings_of, StopsAtBudget};
 ghost use Rattle.pbnf.specs.Claims.{Solves, PrintsPlan, PrintsLeastCost, SavesPlan, Certifies, Accepts, Rejects};
 ghost use Rattle.pbnf.specs.Run.{Prints, TellsPrinted, PrintsNothing, SavesTold, SavesNothing, KeepsUnnamed, SavesPart, IsStatus, IsAnswered, IsBroken, RefusesWords, RefusesInput, DecidesCheck, PrintsPart, HasNoFault, IsWellAsked, IsWellChecked};
 
@@ -19,6 +19,8 @@ use std::sync::Wait;
 use std::thread::Threads;
 
 /// Does what the words ask with the files of a shelf, prints on a sink, and answers the exit status.
+/// A search has one worker, who takes no lock and waits for nobody; the gate is told of each lease, and each time before one is renewed or
+/// comes back.
 ///
 /// The clauses speak of what the shelf and the sink tell of their contents; those of the system tell nothing, and then `answer_words`
 /// says the same of the words and of the bytes that were loaded.
@@ -28,7 +30,7 @@ pub fn run<R: Threads + Wait, H: Shelf, K: Sink, G: Gate>(
     words: &[String],
     shelf: &mut H,
     out: &mut K,
-    _gate: &G,
+    gate: &G,
 ) -> u8
     // All of one plan: it is printed with its cost and bound, it is a plan of the task that the files spell, no plan costs less, and the
     // saved certificate has it.
@@ -55,7 +57,7 @@ pub fn run<R: Threads + Wait, H: Shelf, K: Sink, G: Gate>(
 
     // A stop names its cause, and claims nothing.
     ensures stopped { result ≡ 2 → IsSolve (reading_of_words (map string_bytes words.now)) (λ solve. OfTask (H.files shelf.old) solve
-        (λ parts. StopsAfter (space_of parts) (guided parts) unweighted solve.budget)) }
+        (λ parts. StopsAtBudget parts (settings_of solve))) }
     ensures stopped_text { result ≡ 2 → IsSolve (reading_of_words (map string_bytes words.now)) (λ solve. Prints (K.written out.old) (K.written out.new) (stopped_report solve.budget)) }
     ensures nothing_saved { (result ≡ 2) ⊎ (result ≡ 3) ⊎ (result ≡ 64) ⊎ (result ≡ 65) ⊎ (result ≡ 71) → SavesNothing (H.files shelf.old) (H.files shelf.new) }
     ensures silent { (result ≡ 71) ⊎ (result ≡ 73) → PrintsNothing (K.written out.old) (K.written out.new) }
@@ -66,6 +68,14 @@ pub fn run<R: Threads + Wait, H: Shelf, K: Sink, G: Gate>(
     ensures rejected { result ≡ 3 → IsCheck (reading_of_words (map string_bytes words.now)) (λ check. OfChecked (H.files shelf.old) check
         (Rejects (Prints (K.written out.old) (K.written out.new)))) }
     ensures check_exact { IfCheck (reading_of_words (map string_bytes words.now)) (λ check. IfSome (H.files shelf.old) (λ told. DecidesCheck check told result)) }
+
+    // Of a domain and a problem in PDDL the same is true by names, over sets of facts and actions with objects.
+    ensures named_plan { result ≡ 0 → IfSolve (reading_of_words (map string_bytes words.now)) (λ solve.
+        OfTreeFiles (H.files shelf.old) (files_of (reading_of_words (map string_bytes words.now))) solve.input 0 (PrintsNamedPlan (Prints (K.written out.old) (K.written out.new)))) }
+    ensures named_none { result ≡ 1 → IsSolve (reading_of_words (map string_bytes words.now)) (λ solve.
+        OfTreeFiles (H.files shelf.old) (files_of (reading_of_words (map string_bytes words.now))) solve.input 0 HasNoNamedPlan) }
+    ensures named_accepted { result ≡ 0 → IfCheck (reading_of_words (map string_bytes words.now)) (λ check.
+        OfTreeFiles (H.files shelf.old) (files_of (reading_of_words (map string_bytes words.now))) check.input 1 (AcceptsNamed (Prints (K.written out.old) (K.written out.new)))) }
 
     // The causes of the other answers.
     ensures statuses { IsStatus result }
@@ -87,7 +97,7 @@ pub fn run<R: Threads + Wait, H: Shelf, K: Sink, G: Gate>(
     ensures complete_check { HasNoFault (H.faults shelf.old) (H.faults shelf.new) → HasNoFault (K.faults out.old) (K.faults out.new)
         → IfCheck (reading_of_words (map string_bytes words.now)) (λ check. IsWellChecked check (H.files shelf.old) → (result ≡ 0) ⊎ (result ≡ 71)) }
 {
-    match decide(alloc, words, shelf) {
+    match decide(alloc, words, shelf, gate) {
         Ok(answer) => match hand_out(shelf, out, &answer) {
             Ending::Done => answer.status,
             Ending::NotSaved => 73,

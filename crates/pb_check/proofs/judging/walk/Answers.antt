@@ -1,4 +1,4 @@
-use Rattle.std.proofs.Common.{sym, arith, refl, ap}
+use Rattle.std.proofs.Common.{sym, arith, ap}
 use Rattle.pb_task.specs.Parts.{space_of}
 use Rattle.pb_task.proofs.Grids.{tasks_are_proper}
 use Rattle.pb_check.specs.Judging.{walk}

@@ -13,4 +13,6 @@ returns-clause-app c =
     let second = c.in_ok-with_second.ensures.app ∙ ap₂ with_rule first c.optional_word.ensures.rule in
     let row = c.in_ok-with_row.ensures.app ∙ ap₂ with_rule second c.number_option.ensures.rule in
     let budget = c.in_ok-with_budget.ensures.app ∙ ap₂ with_rule row c.number_option-2.ensures.rule in
-    IfOk-weaker c.add-6.result _ _ (λ m h. h ∙ ap₂ with_rule budget c.text_option.ensures.rule) c.add-6.ensures.app
+    let lot = c.in_ok-with_lot.ensures.app ∙ ap₂ with_rule budget c.number_option-3.ensures.rule in
+    let blocks = c.in_ok-with_blocks.ensures.app ∙ ap₂ with_rule lot c.number_option-4.ensures.rule in
+    IfOk-weaker c.add-8.result _ _ (λ m h. h ∙ ap₂ with_rule blocks c.text_option.ensures.rule) c.add-8.ensures.app

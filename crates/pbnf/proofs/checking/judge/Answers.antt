@@ -1,15 +1,14 @@
 use Rattle.std.proofs.Common.{◌≡◌, Result, Ok, Err, inr, refl, subst, sym}
 use Rattle.pb_check.specs.declared.fault.Fault.{Fault}
 use Rattle.pb_check.specs.declared.fault.Verdict.{Verdict}
-use Rattle.pb_check.specs.Faults.{Fails, Gives}
 use Rattle.pbnf.specs.Answer.{Said, IsChecked}
 use Rattle.pbnf.proofs.checking.judge.Goals as goal
 
 not_ok : (verdict : Verdict) (fault : Fault) → ◌≡◌ {A = Result Verdict Fault} (Ok verdict) (Err fault) → ⊥
 not_ok verdict fault e = cc
 
-pub returns-in_ok-refused-in-Err-Fault : goal.returns-in_ok-refused-in-Err-Fault
-returns-in_ok-refused-in-Err-Fault c =
+pub returns-in-Err-Fault : goal.returns-in-Err-Fault
+returns-in-Err-Fault c =
     subst (λ (said : Said). IsChecked c.args.task.now c.args.certificate.now said) (sym c.judged-in-Err-Fault.ensures)
     (inr (
       refl,

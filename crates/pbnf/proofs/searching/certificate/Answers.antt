@@ -3,7 +3,7 @@ use Rattle.pbnf.proofs.Certified.{certifies}
 use Rattle.pbnf.proofs.searching.certificate.Goals as goal
 
 pub returns-in_ok-certificate-in-Some : goal.returns-in_ok-certificate-in-Some
-returns-in_ok-certificate-in-Some c = λ incumbent sound quiet is backs.
+returns-in_ok-certificate-in-Some c = λ is backs.
     rw c.in-Some.is
-    (certifies c.args.task.now c.args.bundle.now c.requires.weight c.in_ok-certificate-in-Some.certificate c.args.plan c.in-Some.name.now c.in-Some.name.now refl
-    (c.in_ok-certificate-in-Some.ensures.kind ∙ c.kind.ensures.kind) c.in_ok-certificate-in-Some.ensures.weight c.in_ok-certificate-in-Some.ensures.plan c.in_ok-certificate-in-Some.ensures.valid incumbent (sound, quiet, is, backs))
+    (certifies c.args.task.now c.args.graph.now c.requires c.in_ok-certificate-in-Some.certificate c.args.plan c.in-Some.name.now c.in-Some.name.now refl
+    (c.in_ok-certificate-in-Some.ensures.kind ∙ c.kind.ensures.kind) c.in_ok-certificate-in-Some.ensures.weight c.in_ok-certificate-in-Some.ensures.plan c.in_ok-certificate-in-Some.ensures.valid is backs)

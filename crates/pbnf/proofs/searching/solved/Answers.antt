@@ -2,15 +2,15 @@ use Rattle.std.proofs.Common.{◌<◌, ℕ, refl}
 use Rattle.std.proofs.lemmas.List.Elements.{All-from_recursion}
 use Rattle.pb_task.specs.Parts.{space_of, greatest_cost}
 use Rattle.pb_task.proofs.Grids.{tasks_are_proper}
-use Rattle.pbnf.specs.Answer.{said_of}
 use Rattle.pbnf.proofs.Groups.{walk_actions}
-use Rattle.pbnf.proofs.Certified.{solved}
+use Rattle.pbnf.proofs.Certified.{can_be_traced, solved}
 use Rattle.pbnf.proofs.searching.solved.Goals as goal
 
+pub trace-requires-clause-sound : goal.trace-requires-clause-sound
+trace-requires-clause-sound c = (can_be_traced c.args.task.now c.args.graph.now c.requires.best c.requires.known.0 c.requires.known.1).0
+
 pub trace-requires-clause-goal : goal.trace-requires-clause-goal
-trace-requires-clause-goal c =
-    let goal = c.requires.known.3 c.requires.known.0 refl in
-    (0, goal.0, goal.2.0, goal.2.1, goal.1)
+trace-requires-clause-goal c = (can_be_traced c.args.task.now c.args.graph.now c.requires.best c.requires.known.0 c.requires.known.1).1
 
 pub plan-requires : goal.plan-requires
 plan-requires c =
@@ -21,6 +21,6 @@ plan-requires c =
 
 pub returns : goal.returns
 returns c =
-    solved c.args.task.now c.args.bundle.now c.requires.weight c.max_degree-lawful.ensures.lawful c.requires.known
-    c.in_ok-plan.plan c.in_ok-plan.ensures.plan (λ at row found. c.in_ok-plan.ensures.cheapest 0 at row found) _ _ refl
+    solved c.args.task.now c.args.graph.now c.requires.best c.max_degree-lawful.ensures.lawful c.requires.names c.requires.known.0 c.requires.known.1
+    c.in_ok-plan.plan c.in_ok-plan.ensures.plan c.in_ok-plan.ensures.cheapest _ _ refl
     c.in_ok-report.ensures.report c.in_ok-report.ensures.fits c.in_ok-saved.ensures

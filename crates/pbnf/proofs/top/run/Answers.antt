@@ -1,8 +1,8 @@
 -- The clauses of `run`.
-use Rattle.std.proofs.Common.{map, string_bytes, Global, inl, inr, refl, Err, ap, ◌∙◌}
+use Rattle.std.proofs.Common.{map, string_bytes, Global, inl, inr, refl}
 use Rattle.pb_words.specs.Meaning.{reading_of_words}
 use Rattle.pbnf.specs.Answer.{said_of, file_of}
-use Rattle.pbnf.proofs.Ended.{saved_after, part_after, solved, plan, cheapest, certified, certified_none, none as no_plan, none_text, stopped, stopped_text, stop_saves_nothing, accepted, rejected, words_say, words_exact, faulty_saves, input, input_answers, check_exact, statuses, not_broken, unnamed_kept, unnamed_part, shelf_left, sink_left, complete, complete_check, check_broken, input_broken, complete_memory, check_memory, kept_unnamed, all_kept_left, no_fault, no_certificate}
+use Rattle.pbnf.proofs.Ended.{saved_after, part_after, solved, named_plan, named_none, named_accepted, plan, cheapest, certified, certified_none, none as no_plan, none_text, stopped, stopped_text, stop_saves_nothing, accepted, rejected, words_say, words_exact, faulty_saves, input, input_answers, check_exact, statuses, not_broken, unnamed_kept, unnamed_part, shelf_left, complete, complete_check, check_broken, input_broken, no_certificate}
 use Rattle.pbnf.proofs.top.run.Goals as goal
 
 pub returns-in-Done-clause-solved : goal.returns-in-Done-clause-solved
@@ -91,3 +91,12 @@ returns-in-Done-clause-shelf_left g c = λ e. absurd (not_broken (reading_of_wor
 
 pub returns-in-Done-clause-sink_left : goal.returns-in-Done-clause-sink_left
 returns-in-Done-clause-sink_left g c = λ e. absurd (not_broken (reading_of_words (map (string_bytes {Z = Global}) c.args.words.now)) (g.H.Shelf.files c.args.shelf.now) (g.H.Shelf.files c.hand_out.new.shelf) (g.K.Sink.written c.args.out.now) (g.K.Sink.written c.hand_out.new.out) (said_of c.in-Ok.answer) c.in-Ok.ensures.answers (inr (inr e)))
+
+pub returns-in-Done-clause-named_plan : goal.returns-in-Done-clause-named_plan
+returns-in-Done-clause-named_plan g c = λ e. named_plan (reading_of_words (map (string_bytes {Z = Global}) c.args.words.now)) (g.H.Shelf.files c.args.shelf.now) (g.H.Shelf.files c.hand_out.new.shelf) (g.K.Sink.written c.args.out.now) (g.K.Sink.written c.hand_out.new.out) (said_of c.in-Ok.answer) c.in-Ok.ensures.answers e (c.hand_out.ensures.done c.in-Done.is)
+
+pub returns-in-Done-clause-named_none : goal.returns-in-Done-clause-named_none
+returns-in-Done-clause-named_none g c = λ e. named_none (reading_of_words (map (string_bytes {Z = Global}) c.args.words.now)) (g.H.Shelf.files c.args.shelf.now) (g.H.Shelf.files c.hand_out.new.shelf) (g.K.Sink.written c.args.out.now) (g.K.Sink.written c.hand_out.new.out) (said_of c.in-Ok.answer) c.in-Ok.ensures.answers e
+
+pub returns-in-Done-clause-named_accepted : goal.returns-in-Done-clause-named_accepted
+returns-in-Done-clause-named_accepted g c = λ e. named_accepted (reading_of_words (map (string_bytes {Z = Global}) c.args.words.now)) (g.H.Shelf.files c.args.shelf.now) (g.H.Shelf.files c.hand_out.new.shelf) (g.K.Sink.written c.args.out.now) (g.K.Sink.written c.hand_out.new.out) (said_of c.in-Ok.answer) c.in-Ok.ensures.answers e (c.hand_out.ensures.done c.in-Done.is)

@@ -3,10 +3,10 @@ use Rattle.pb_model.proofs.Tests.{by_cases}
 use Rattle.pb_machine.specs.declared.event.Event.TheVariants.{Hot}
 use Rattle.pb_lease.specs.Tables.{Table, blocks}
 use Rattle.pb_lease.specs.GraphValue.{GraphValue, counts_in, IsLeaseGraph}
-use Rattle.pb_lease.specs.Choices.{IsOutranked}
+use Rattle.pb_lease.specs.Choices.{IsOutranked, MayMark}
 use Rattle.pb_lease.specs.Steps.{KeepsLeases}
 use Rattle.pb_lease.proofs.GraphKept.{event_kept}
-use Rattle.pb_lease.proofs.Rivals.{hot_is_legal}
+use Rattle.pb_lease.proofs.Rivals.{hot_is_legal, marked_may, may_be_marked_is}
 use Rattle.pb_lease.proofs.MomentNumbers.{marked_next}
 use Rattle.pb_lease.specs.contracts.graph.Graph.{the_view}
 use Rattle.pb_lease.proofs.graph.Graph.mark_hot.Goals as goal
@@ -30,3 +30,14 @@ returns-clause-moment c e =
     let none : IsOutranked t c.args.block → ⊥ = λ outranked. true≢false (sym (c.is_outranked-outranked.ensures.1 (subst (λ (v : GraphValue). IsOutranked v c.args.block) c.self.view_is outranked)) ∙ may.1) in
     subst (λ (v : GraphValue). KeepsLeases v (Hot c.args.worker c.args.block ∷ []) new) c.self.view_is
     (marked_next t c.self.invariant c.args.worker c.args.block new (c.mark_hot.ensures.events e) refl may.0 none)
+
+pub returns-clause-answer : goal.returns-clause-answer
+returns-clause-answer c =
+    let t : GraphValue = the_view c.self.inside in
+    let outranked = c.is_outranked-outranked.result in (
+      λ e. subst (λ (v : GraphValue). MayMark v c.args.worker c.args.block) c.self.view_is
+          (marked_may t c.args.worker c.args.block outranked (λ better. c.is_outranked-outranked.ensures.1 (subst (λ (v : GraphValue). IsOutranked v c.args.block) c.self.view_is better)) (sym c.mark_hot.ensures.answer ∙ e)),
+      λ may. c.mark_hot.ensures.answer
+          ∙ may_be_marked_is t c.args.worker c.args.block outranked (λ e. subst (λ (v : GraphValue). IsOutranked v c.args.block) (sym c.self.view_is) (c.is_outranked-outranked.ensures.0 e))
+          (subst (λ (v : GraphValue). MayMark v c.args.worker c.args.block) (sym c.self.view_is) may),
+    )

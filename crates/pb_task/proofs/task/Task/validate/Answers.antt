@@ -22,11 +22,17 @@ pub returns-in_default-clause-fault : goal.returns-in_default-clause-fault
 returns-in_default-clause-fault c =
     is_fault_at (space_of c.args.self.now) c.args.plan.now c.loop-i.i c.loop-i.cost c.loop-i.state c.loop-i-test.true c.loop-i.invariant.walk (sym c.apply.ensures ∙ c.in_default.is)
 
+pub overflow_add-cost : goal.overflow_add-cost
+overflow_add-cost c =
+    let proper : IsProper (space_of c.args.self.now) greatest_cost = (tasks_are_proper c.args.self.now c.initial-state.ensures.lawful).0 in
+    let bound : c.in-Some.step.1 ≤ greatest_cost = proper.bounded c.loop-i.state _ c.in-Some.step.0 c.in-Some.step.1 (sym c.apply.ensures ∙ c.in-Some.is) in
+    omega arith
+
 pub loop-i-preserved : goal.loop-i-preserved
 loop-i-preserved c =
     let proper : IsProper (space_of c.args.self.now) greatest_cost = (tasks_are_proper c.args.self.now c.initial-state.ensures.lawful).0 in
     let step = sym c.apply.ensures ∙ c.in-Some.is in
-    let bound : c.in-Some.step.1 ≤ 1 = proper.bounded c.loop-i.state _ c.in-Some.step.0 c.in-Some.step.1 step in
+    let bound : c.in-Some.step.1 ≤ greatest_cost = proper.bounded c.loop-i.state _ c.in-Some.step.0 c.in-Some.step.1 step in
     record {
       walk = one_more_step (space_of c.args.self.now) c.args.plan.now c.loop-i.i c.loop-i.cost c.loop-i.state c.in-Some.step.0 c.in-Some.step.1 c.loop-i-test.true c.loop-i.invariant.walk step;
       is_state = proper.to_state c.loop-i.state _ c.in-Some.step.0 c.in-Some.step.1 step;

@@ -1,0 +1,110 @@
+ghost use Rattle.std.specs.Prelude.{◌≡◌, ◌<◌, ◌≤◌, length, IfOk, IfSome, IfNone};
+ghost use Rattle.pb_task.specs.Strips.{IsStrips};
+ghost use Rattle.pb_abstract.specs.Tracked.{changes, changers, AreTracked};
+ghost use Rattle.pb_abstract.specs.Ranking.{AreCounts, is_left, is_fewer, better, IsNext, IsNone};
+
+use crate::tracked::TrackedAtoms;
+use pb_task::{GroundAction, StripsParts};
+use std::alloc::{AllocError, Global};
+
+// Whether an action adds or deletes an atom.
+fn changes(action: &GroundAction, atom: u32) -> bool
+    requires { atom < 256 }
+    ensures { result ≡ changes atom action.now }
+{
+    action.adds.has(atom) || action.deletes.has(atom)
+}
+
+// How many of the actions change an atom.
+fn changers(actions: &[GroundAction], atom: u32) -> u32
+    requires few { length actions.now ≤ 65536 }
+    requires atom { atom < 256 }
+    ensures { result ≡ changers atom actions.now }
+{
+    let mut count = 0;
+    for action in actions {
+        if changes(action, atom) {
+            count += 1;
+        }
+    }
+    count
+}
+
+// How many of the actions change each atom.
+fn counts(alloc: Global, strips: &StripsParts) -> Result<Vec<u32>, AllocError>
+    requires { IsStrips strips.now }
+    ensures { IfOk result (λ counts. AreCounts strips.now counts.items) }
+{
+    let mut counts = Vec::new(alloc);
+    for atom in 0..strips.atoms {
+        counts.push(changers(strips.actions.as_slice(), atom))?;
+    }
+    Ok(counts)
+}
+
+// Whether some action changes an atom, and it isn't tracked yet.
+fn is_left(counts: &[u32], tracked: &TrackedAtoms, atom: u8) -> bool
+    requires { atom < length counts.now }
+    ensures { result ≡ is_left counts.now tracked.now atom }
+{
+    0 < counts[usize::from(atom)] && !tracked.as_slice().contains(&atom)
+}
+
+// Whether fewer actions change an atom than the best one, if there is one.
+fn is_fewer(counts: &[u32], atom: u8, best: Option<u8>) -> bool
+    requires atom { atom < length counts.now }
+    requires best { IfSome best (λ other. other < length counts.now) }
+    ensures { result ≡ is_fewer counts.now atom best }
+{
+    match best {
+        Some(other) => counts[usize::from(atom)] < counts[usize::from(other)],
+        None => true,
+    }
+}
+
+// The better one of an atom and the best one so far.
+fn better(counts: &[u32], tracked: &TrackedAtoms, atom: u8, best: Option<u8>) -> Option<u8>
+    requires atom { atom < length counts.now }
+    requires best { IfSome best (λ other. other < length counts.now) }
+    ensures { result ≡ better counts.now tracked.now atom best }
+{
+    if is_left(counts, tracked, atom) && is_fewer(counts, atom, best) {
+        Some(atom)
+    } else {
+        best
+    }
+}
+
+// The atom to be tracked next: of those that some action changes, and that aren't tracked yet, the one that the fewest change, and of several
+// the least. None where there is none.
+fn next(counts: &[u32], tracked: &TrackedAtoms) -> Option<u8>
+    requires { length counts.now ≤ 256 }
+    ensures next { IfSome result (IsNext counts.now tracked.now) }
+    ensures none { IfNone result (IsNone counts.now tracked.now) }
+{
+    let mut best = None;
+    for atom in 0..counts.len() {
+        best = better(counts, tracked, atom as u8, best);
+    }
+    best
+}
+
+/// The atoms that are tracked where at most so many blocks are wished for.
+pub fn tracked(alloc: Global, strips: &StripsParts, wish: u32) -> Result<TrackedAtoms, AllocError>
+    requires strips { IsStrips strips.now }
+    requires some { 1 ≤ wish }
+    requires few { wish ≤ 4096 }
+    ensures { IfOk result (AreTracked strips.now wish) }
+{
+    let counts = counts(alloc, strips)?;
+    let mut atoms = TrackedAtoms::new();
+    let mut blocks = 1;
+    while 2 * blocks <= wish {
+        let Some(atom) = next(counts.as_slice(), &atoms) else {
+            return Ok(atoms);
+        };
+        atoms.push(atom);
+        blocks *= 2;
+    }
+    Ok(atoms)
+}

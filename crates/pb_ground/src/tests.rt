@@ -1,0 +1,254 @@
+use super::*;
+use pb_lifted::{Argument, Lifted, LiftedAtom, Schema};
+use pb_trees::Listed;
+use std::alloc::Global;
+use std::test::Fail;
+
+// ---- lifted tasks from words
+
+// numbers, as `0 1`
+fn list(alloc: Global, text: &str) -> Result<Listed<usize>, Fail> {
+    let mut all = Listed::new(alloc);
+    for word in text.split_whitespace() {
+        all.push(word.parse::<usize>()?)?;
+    }
+    Ok(all)
+}
+
+// lists of numbers, as `0 1, 0`
+fn lists(alloc: Global, text: &str) -> Result<Listed<Listed<usize>>, Fail> {
+    let mut all = Listed::new(alloc);
+    for piece in text.split(',') {
+        all.push(list(alloc, piece)?)?;
+    }
+    Ok(all)
+}
+
+fn argument(word: &str) -> Result<Argument, Fail> {
+    match word.strip_prefix("?") {
+        Some(rest) => Ok(Argument::Parameter(rest.parse::<usize>()?)),
+        None => Ok(Argument::Object(word.parse::<usize>()?)),
+    }
+}
+
+fn arguments(alloc: Global, text: &str) -> Result<Listed<Argument>, Fail> {
+    let mut all = Listed::new(alloc);
+    for word in text.split_whitespace() {
+        all.push(argument(word)?)?;
+    }
+    Ok(all)
+}
+
+// a predicate and its arguments, as `0 ?0 1`
+fn atom(alloc: Global, text: &str) -> Result<LiftedAtom, Fail> {
+    let (first, rest) = text.split_once(' ').unwrap_or((text, ""));
+    Ok(LiftedAtom {
+        predicate: first.parse::<usize>()?,
+        arguments: arguments(alloc, rest)?,
+    })
+}
+
+// atoms, as `0 ?0 1, 2 ?0`
+fn atoms(alloc: Global, text: &str) -> Result<Listed<LiftedAtom>, Fail> {
+    let mut all = Listed::new(alloc);
+    for piece in text.split(',') {
+        if !piece.is_empty() {
+            all.push(atom(alloc, piece.trim())?)?;
+        }
+    }
+    Ok(all)
+}
+
+// adds a schema to a task
+fn act(
+    alloc: Global,
+    task: &mut Lifted,
+    params: &str,
+    pre: &str,
+    adds: &str,
+    deletes: &str,
+) -> Result<(), Fail> {
+    let schema = Schema {
+        params: list(alloc, params)?,
+        pre: atoms(alloc, pre)?,
+        adds: atoms(alloc, adds)?,
+        deletes: atoms(alloc, deletes)?,
+    };
+    task.actions.push(schema)?;
+    Ok(())
+}
+
+// a task without schemas
+fn lifted(
+    alloc: Global,
+    types: &str,
+    objects: &str,
+    predicates: &str,
+    init: &str,
+    goal: &str,
+) -> Result<Lifted, Fail> {
+    Ok(Lifted {
+        types: list(alloc, types)?,
+        objects: list(alloc, objects)?,
+        predicates: lists(alloc, predicates)?,
+        actions: Listed::new(alloc),
+        init: atoms(alloc, init)?,
+        goal: atoms(alloc, goal)?,
+    })
+}
+
+// ---- blocks
+
+// The predicates are on, ontable, clear, handempty and holding, and the schemas pick-up, put-down, stack and unstack.
+fn blocks(alloc: Global) -> Result<Lifted, Fail> {
+    let init = "2 0, 1 0, 2 1, 1 1, 3";
+    let mut task = lifted(alloc, "0", "0 0", "0 0,0,0,,0", init, "0 1 0")?;
+    act(
+        alloc,
+        &mut task,
+        "0",
+        "2 ?0, 1 ?0, 3",
+        "4 ?0",
+        "1 ?0, 2 ?0, 3",
+    )?;
+    act(alloc, &mut task, "0", "4 ?0", "2 ?0, 3, 1 ?0", "4 ?0")?;
+    act(
+        alloc,
+        &mut task,
+        "0 0",
+        "4 ?0, 2 ?1",
+        "2 ?0, 3, 0 ?0 ?1",
+        "4 ?0, 2 ?1",
+    )?;
+    act(
+        alloc,
+        &mut task,
+        "0 0",
+        "0 ?0 ?1, 2 ?0, 3",
+        "4 ?0, 2 ?1",
+        "2 ?0, 3, 0 ?0 ?1",
+    )?;
+    Ok(task)
+}
+
+// on has the numbers 0 to 3, ontable 4 and 5, clear 6 and 7, handempty 8, holding 9 and 10.
+#[test]
+fn two_blocks_have_eleven_atoms(rt: HostRuntime) -> Result<(), Fail> {
+    let alloc = rt.alloc();
+    let task = blocks(alloc)?;
+    let atoms = ground_atoms(alloc, &task)?;
+    assert_eq!(rt; atoms.as_slice().len(), 11);
+    assert_eq!(rt; atoms.number(0, &[1, 0]), Some(2));
+    assert_eq!(rt; atoms.number(3, &[]), Some(8));
+    assert_eq!(rt; atoms.number(4, &[2]), None);
+    let first = start(alloc, &task, &atoms)?;
+    assert_eq!(rt; first.as_slice(), [6, 4, 7, 5, 8].as_slice());
+    let wanted = goal(alloc, &task, &atoms)?;
+    assert_eq!(rt; wanted.as_slice(), [2].as_slice());
+    assert_eq!(rt; is_never(alloc, &task)?, false);
+    Ok(())
+}
+
+// The seventh stacks the second block on the first.
+#[test]
+fn two_blocks_have_twelve_actions(rt: HostRuntime) -> Result<(), Fail> {
+    let alloc = rt.alloc();
+    let task = blocks(alloc)?;
+    let atoms = ground_atoms(alloc, &task)?;
+    let actions = ground_actions(alloc, &task, &atoms)?;
+    assert_eq!(rt; actions.as_slice().len(), 12);
+    let stack = actions.as_slice().get(6).ok_or("few actions")?;
+    assert_eq!(rt; stack.schema, 2);
+    assert_eq!(rt; stack.objects.as_slice(), [1, 0].as_slice());
+    assert_eq!(rt; stack.needs.as_slice(), [10, 6].as_slice());
+    assert_eq!(rt; stack.adds.as_slice(), [7, 8, 2].as_slice());
+    assert_eq!(rt; stack.deletes.as_slice(), [10, 6].as_slice());
+    Ok(())
+}
+
+// ---- static atoms
+
+// The types are object, vehicle, truck below it, and place; the objects a truck and four places. Predicate 0 says where a vehicle is, and 1
+// that there is a road from one place to another: from the first to the second, and from there to the third. A vehicle drives along roads.
+fn roads(alloc: Global, goal: &str) -> Result<Lifted, Fail> {
+    let init = "0 0 1, 1 1 2, 1 2 3";
+    let mut task = lifted(alloc, "0 0 1 0", "2 3 3 3 3", "1 3,3 3", init, goal)?;
+    act(
+        alloc,
+        &mut task,
+        "1 3 3",
+        "0 ?0 ?1, 1 ?1 ?2",
+        "0 ?0 ?2",
+        "0 ?0 ?1",
+    )?;
+    Ok(task)
+}
+
+#[test]
+fn vehicles_drive_along_roads_alone(rt: HostRuntime) -> Result<(), Fail> {
+    let alloc = rt.alloc();
+    let task = roads(alloc, "0 0 3, 1 1 2")?;
+    let atoms = ground_atoms(alloc, &task)?;
+    assert_eq!(rt; atoms.as_slice().len(), 4);
+    let actions = ground_actions(alloc, &task, &atoms)?;
+    assert_eq!(rt; actions.as_slice().len(), 2);
+    for (action, to) in actions.as_slice().iter().zip([2usize, 3].as_slice()) {
+        assert_eq!(rt; action.objects.as_slice(), [0, *to - 1, *to].as_slice());
+        assert_eq!(rt; action.needs.as_slice().len(), 1);
+    }
+    Ok(())
+}
+
+// The road to the second place is there, and none back.
+#[test]
+fn static_goals_hold_at_first_or_never(rt: HostRuntime) -> Result<(), Fail> {
+    let alloc = rt.alloc();
+    for (text, count, never) in [("0 0 3, 1 1 2", 1, false), ("0 0 3, 1 2 1", 1, true)] {
+        let task = roads(alloc, text)?;
+        let atoms = ground_atoms(alloc, &task)?;
+        let wanted = goal(alloc, &task, &atoms)?;
+        assert_eq!(rt; wanted.as_slice().len(), count);
+        assert_eq!(rt; is_never(alloc, &task)?, never);
+    }
+    Ok(())
+}
+
+// ---- limits
+
+// How many atoms and actions are made of n objects and a schema of these parameters that adds this atom, where predicate 0 has one parameter
+// and 1 has none; or why not.
+fn crowd(
+    alloc: Global,
+    n: usize,
+    params: &str,
+    added: &str,
+) -> Result<Result<(usize, usize), GroundError>, Fail> {
+    let mut task = lifted(alloc, "0", "", "0,", "", "")?;
+    for _ in 0..n {
+        task.objects.push(0)?;
+    }
+    act(alloc, &mut task, params, "", added, "")?;
+    let atoms = match ground_atoms(alloc, &task) {
+        Ok(atoms) => atoms,
+        Err(e) => return Ok(Err(e)),
+    };
+    let count = atoms.as_slice().len();
+    match ground_actions(alloc, &task, &atoms) {
+        Ok(actions) => Ok(Ok((count, actions.as_slice().len()))),
+        Err(e) => Ok(Err(e)),
+    }
+}
+
+// 17 objects in four places are 83,521.
+#[test]
+fn more_than_may_be_are_told(rt: HostRuntime) -> Result<(), Fail> {
+    let alloc = rt.alloc();
+    for (n, params, added, answer) in [
+        (256, "0", "0 ?0", Ok((256, 256))),
+        (257, "0", "0 ?0", Err(GroundError::TooManyAtoms { n: 257 })),
+        (17, "0 0 0 0", "1", Err(GroundError::TooManyActions)),
+    ] {
+        assert_eq!(rt; crowd(alloc, n, params, added)?, answer);
+    }
+    Ok(())
+}

@@ -1,0 +1,150 @@
+-- No two ground actions are of the same schema with the same objects.
+use Rattle.std.proofs.Common.{◌≡◌, ◌<◌, ℕ, suc, Bool, true, false, cond, ◌||◌, ◌&&◌, nat_eq, List, [], ◌∷◌, ◌++◌, length, map, refl, sym, ap, ◌∙◌, subst, arith}
+use Rattle.std.proofs.lemmas.Bool.Decides.{nat_tests}
+use Rattle.std.proofs.lemmas.List.{map-append}
+use Rattle.std.proofs.lemmas.List.Folds.{list_any-append}
+use Rattle.std.specs.List.{list_any, flat_map}
+use Rattle.std.specs.Str.{bytes_eq}
+use Rattle.pb_lifted.specs.Tree.{comes_to}
+use Rattle.pb_lifted.specs.declared.lifted.Lifted.{Lifted}
+use Rattle.pb_lifted.specs.declared.lifted.Schema.{Schema}
+use Rattle.pb_ground.specs.declared.actions.GroundAction.{GroundAction}
+use Rattle.pb_ground.specs.declared.atoms.GroundAtom.{GroundAtom}
+use Rattle.pb_ground.specs.Actions.{action_of, rows_of, actions_of, actions_from, ground_actions}
+use Rattle.pb_ground.specs.Instances.{fitting_from, fitting, instances}
+use Rattle.pb_ground.specs.Statics.{statics_hold}
+use Rattle.pb_naming.proofs.Apart.{AreApart, never, joined, kept_apart}
+
+-- ---- numbers
+
+abbrev pub NumbersApart : List ℕ → Type 0
+NumbersApart [] = Unit {0}
+NumbersApart (x ∷ xs) = (list_any (nat_eq x) xs ≡ false) × NumbersApart xs
+
+other_number : (n i : ℕ) → n < i → nat_eq n i ≡ false
+other_number n i h = grind (arith, nat_tests)
+
+none_before : (types : List ℕ) (wanted n i : ℕ) (kinds : List ℕ) → n < i → list_any (nat_eq n) (fitting_from types wanted i kinds) ≡ false
+none_before types wanted n i [] h = refl
+none_before types wanted n i (kind ∷ kinds) h = at (comes_to types (length types) kind wanted) (none_before types wanted n (suc i) kinds (omega arith))
+  where
+    at : (fits : Bool) → list_any (nat_eq n) (fitting_from types wanted (suc i) kinds) ≡ false
+        → list_any (nat_eq n) (cond fits (i ∷ fitting_from types wanted (suc i) kinds) (fitting_from types wanted (suc i) kinds)) ≡ false
+    at true later = ap (λ b. b || list_any (nat_eq n) (fitting_from types wanted (suc i) kinds)) (other_number n i h) ∙ later
+    at false later = later
+
+fitting_apart : (types : List ℕ) (wanted i : ℕ) (kinds : List ℕ) → NumbersApart (fitting_from types wanted i kinds)
+fitting_apart types wanted i [] = tt
+fitting_apart types wanted i (kind ∷ kinds) = at (comes_to types (length types) kind wanted) (fitting_apart types wanted (suc i) kinds)
+  where
+    at : (fits : Bool) → NumbersApart (fitting_from types wanted (suc i) kinds) → NumbersApart (cond fits (i ∷ fitting_from types wanted (suc i) kinds) (fitting_from types wanted (suc i) kinds))
+    at true rest = (none_before types wanted i (suc i) kinds (omega arith), rest)
+    at false rest = rest
+
+-- ---- rows that begin with a number
+
+-- the row is none without a number
+no_empty : (x : ℕ) (rows : List (List ℕ)) → list_any (bytes_eq []) (map (λ xs. x ∷ xs) rows) ≡ false
+no_empty x [] = refl
+no_empty x (row ∷ rows) = no_empty x rows
+
+nothing_and : (a : Bool) → false ≡ (a && false)
+nothing_and true = refl
+nothing_and false = refl
+
+spread : (a b c : Bool) → ((a && b) || (a && c)) ≡ (a && (b || c))
+spread true b c = refl
+spread false b c = refl
+
+pub with_first : (y x : ℕ) (ys : List ℕ) (rows : List (List ℕ)) → list_any (bytes_eq (y ∷ ys)) (map (λ xs. x ∷ xs) rows) ≡ (nat_eq y x && list_any (bytes_eq ys) rows)
+with_first y x ys [] = nothing_and (nat_eq y x)
+with_first y x ys (row ∷ rows) = ap (λ b. (nat_eq y x && bytes_eq ys row) || b) (with_first y x ys rows) ∙ spread (nat_eq y x) (bytes_eq ys row) (list_any (bytes_eq ys) rows)
+
+and_left : (a b : Bool) → (a && b) ≡ true → a ≡ true
+and_left true b e = refl
+and_left false b e = cc
+
+and_none : (a b : Bool) → b ≡ false → (a && b) ≡ false
+and_none true b e = e
+and_none false b e = refl
+
+pub first_apart : (x : ℕ) (rows : List (List ℕ)) → AreApart rows → AreApart (map (λ xs. x ∷ xs) rows)
+first_apart x [] h = tt
+first_apart x (row ∷ rows) h = (with_first x x row rows ∙ and_none (nat_eq x x) (list_any (bytes_eq row) rows) h.0, first_apart x rows h.1)
+
+-- a row that is among those that begin with x begins with x, and so isn't among those that begin with others
+none_other : (x : ℕ) (rows others : List (List ℕ)) → ((y : ℕ) (ys : List ℕ) → nat_eq y x ≡ true → list_any (bytes_eq (y ∷ ys)) others ≡ false) → (row : List ℕ)
+    → list_any (bytes_eq row) (map (λ xs. x ∷ xs) rows) ≡ true → list_any (bytes_eq row) others ≡ false
+none_other x rows others none [] e = absurd (never (list_any (bytes_eq []) (map (λ xs. x ∷ xs) rows)) e (no_empty x rows))
+none_other x rows others none (y ∷ ys) e = none y ys (and_left (nat_eq y x) (list_any (bytes_eq ys) rows) (sym (with_first y x ys rows) ∙ e))
+
+-- ---- instances
+
+same_number : (y x : ℕ) → nat_eq y x ≡ true → y ≡ x
+same_number y x h = grind (arith, nat_tests)
+
+apart_or : (a b : Bool) → (a || b) ≡ false → (a ≡ false) × (b ≡ false)
+apart_or true b e = cc
+apart_or false b e = (refl, e)
+
+none_spread : (y : ℕ) (ys : List ℕ) (rows : List (List ℕ)) (numbers : List ℕ) → list_any (nat_eq y) numbers ≡ false
+    → list_any (bytes_eq (y ∷ ys)) (flat_map (λ x. map (λ xs. x ∷ xs) rows) numbers) ≡ false
+none_spread y ys rows [] h = refl
+none_spread y ys rows (x ∷ numbers) h =
+    let both = apart_or (nat_eq y x) (list_any (nat_eq y) numbers) h in
+    list_any-append (bytes_eq (y ∷ ys)) (map (λ xs. x ∷ xs) rows) (flat_map (λ z. map (λ xs. z ∷ xs) rows) numbers)
+    ∙ (ap (λ b. b || list_any (bytes_eq (y ∷ ys)) (flat_map (λ z. map (λ xs. z ∷ xs) rows) numbers)) (with_first y x ys rows ∙ ap (λ b. b && list_any (bytes_eq ys) rows) both.0)
+    ∙ none_spread y ys rows numbers both.1)
+
+spread_apart : (rows : List (List ℕ)) (numbers : List ℕ) → AreApart rows → NumbersApart numbers → AreApart (flat_map (λ x. map (λ xs. x ∷ xs) rows) numbers)
+spread_apart rows [] h k = tt
+spread_apart rows (x ∷ numbers) h k =
+    joined (map (λ xs. x ∷ xs) rows) (flat_map (λ z. map (λ xs. z ∷ xs) rows) numbers) (first_apart x rows h) (spread_apart rows numbers h k.1)
+    (none_other x rows (flat_map (λ z. map (λ xs. z ∷ xs) rows) numbers)
+    (λ y ys e. none_spread y ys rows numbers (ap (λ n. list_any (nat_eq n) numbers) (same_number y x e) ∙ k.0)))
+
+instances_apart : (lifted : Lifted) (kinds : List ℕ) → AreApart (instances lifted kinds)
+instances_apart lifted [] = (refl, tt)
+instances_apart lifted (kind ∷ kinds) = spread_apart (instances lifted kinds) (fitting lifted kind) (instances_apart lifted kinds) (fitting_apart lifted.types kind 0 lifted.objects)
+
+-- ---- ground actions
+
+-- the schema's number before those of the objects
+abbrev pub row_of : GroundAction → List ℕ
+row_of action = action.schema ∷ action.objects
+
+rows_are : (atoms : List GroundAtom) (i : ℕ) (schema : Schema) (rows : List (List ℕ)) → map row_of (map (λ given. action_of atoms i schema given) rows) ≡ map (λ xs. i ∷ xs) rows
+rows_are atoms i schema [] = refl
+rows_are atoms i schema (row ∷ rows) = ap (λ list. (i ∷ row) ∷ list) (rows_are atoms i schema rows)
+
+of_schema : (lifted : Lifted) (atoms : List GroundAtom) (i : ℕ) (schema : Schema) → map row_of (actions_of lifted atoms i schema) ≡ map (λ xs. i ∷ xs) (rows_of lifted schema)
+of_schema lifted atoms i schema = rows_are atoms i schema (rows_of lifted schema)
+
+none_earlier : (lifted : Lifted) (atoms : List GroundAtom) (n i : ℕ) (ys : List ℕ) (schemas : List Schema) → n < i → list_any (bytes_eq (n ∷ ys)) (map row_of (actions_from lifted atoms i schemas)) ≡ false
+none_earlier lifted atoms n i ys [] h = refl
+none_earlier lifted atoms n i ys (schema ∷ later) h =
+    ap (λ rows. list_any (bytes_eq (n ∷ ys)) rows) (map-append row_of (actions_of lifted atoms i schema) (actions_from lifted atoms (suc i) later))
+    ∙ (list_any-append (bytes_eq (n ∷ ys)) (map row_of (actions_of lifted atoms i schema)) (map row_of (actions_from lifted atoms (suc i) later))
+    ∙ (ap (λ b. b || list_any (bytes_eq (n ∷ ys)) (map row_of (actions_from lifted atoms (suc i) later)))
+    (ap (λ rows. list_any (bytes_eq (n ∷ ys)) rows) (of_schema lifted atoms i schema)
+    ∙ (with_first n i ys (rows_of lifted schema) ∙ ap (λ b. b && list_any (bytes_eq ys) (rows_of lifted schema)) (other_number n i h)))
+    ∙ none_earlier lifted atoms n (suc i) ys later (omega arith)))
+
+abbrev pub same_rows : {rows others : List (List ℕ)} → rows ≡ others → AreApart others → AreApart rows
+same_rows e h = subst AreApart (sym e) h
+
+actions_apart_from : (lifted : Lifted) (atoms : List GroundAtom) (i : ℕ) (schemas : List Schema) → AreApart (map row_of (actions_from lifted atoms i schemas))
+actions_apart_from lifted atoms i [] = tt
+actions_apart_from lifted atoms i (schema ∷ later) =
+    let here = map row_of (actions_of lifted atoms i schema) in
+    let rest = map row_of (actions_from lifted atoms (suc i) later) in
+    same_rows (map-append row_of (actions_of lifted atoms i schema) (actions_from lifted atoms (suc i) later) ∙ ap (λ rows. rows ++ rest) (of_schema lifted atoms i schema))
+    (joined (map (λ xs. i ∷ xs) (rows_of lifted schema)) rest
+    (first_apart i (rows_of lifted schema) (kept_apart (statics_hold lifted schema.pre) (instances lifted schema.params) (instances_apart lifted schema.params)))
+    (actions_apart_from lifted atoms (suc i) later) (none_other i (rows_of lifted schema) rest (λ y ys e. none_earlier lifted atoms y (suc i) ys later (below y i e))))
+  where
+    below : (y n : ℕ) → nat_eq y n ≡ true → y < suc n
+    below y n e = let same = same_number y n e in omega (arith, same)
+
+pub actions_apart : (lifted : Lifted) (atoms : List GroundAtom) → AreApart (map row_of (ground_actions lifted atoms))
+actions_apart lifted atoms = actions_apart_from lifted atoms 0 lifted.actions

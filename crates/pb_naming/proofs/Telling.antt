@@ -1,0 +1,242 @@
+-- The names of ground actions tell them apart, each in one line.
+use Rattle.std.proofs.Common.{◌≡◌, ◌≢◌, ◌<◌, ◌≤◌, ℕ, zero, suc, true, false, nat_lt, List, [], ◌∷◌, ◌++◌, All, length, map, Option, Some, None, slice_get, refl, sym, ap, ◌∙◌, subst, arith}
+use Rattle.std.proofs.lemmas.Bool.Decides.{nat_tests}
+use Rattle.std.proofs.lemmas.List.{length-map}
+use Rattle.std.proofs.lemmas.List.Elements.{All-nil, All-append}
+use Rattle.pb_trees.specs.declared.tree.Typed.{Typed}
+use Rattle.pb_trees.specs.declared.tree.Action.{Action}
+use Rattle.pb_trees.specs.declared.tree.Domain.{Domain}
+use Rattle.pb_trees.specs.declared.tree.Problem.{Problem}
+use Rattle.pb_trees.specs.Words.{IsWord, DomainHasWords, ProblemHasWords}
+use Rattle.pb_lifted.specs.declared.lifted.Lifted.{Lifted}
+use Rattle.pb_lifted.specs.declared.refusal.Refusal.{Refusal}
+use Rattle.pb_lifted.specs.Names.{number_of, repeated}
+use Rattle.pb_lifted.specs.Types.{name_text, declared_types}
+use Rattle.pb_lifted.specs.Objects.{objects_of}
+use Rattle.pb_lifted.specs.Facts.{name_at}
+use Rattle.pb_lifted.specs.Lifted.{lifted_of}
+use Rattle.pb_lifted.specs.Refusals.{first_refusal, causes_in_order, action_name, typed_name, predicate_name, repeated_params}
+use Rattle.pb_lifted.specs.Typing.{object_names, named, AreDistinct, IsWellTyped}
+use Rattle.pb_lifted.proofs.DistinctNames.{distinct_on, text_of}
+use Rattle.pb_lifted.proofs.Faultless.{faultless, nil_left, nil_right}
+use Rattle.pb_lifted.proofs.FittingObjects.{at_mapped}
+use Rattle.pb_lifted.proofs.WellTyped.{accepted_is_well_typed}
+use Rattle.pb_ground.specs.declared.actions.GroundAction as instance
+use Rattle.pb_ground.specs.Atoms.{ground_atoms}
+use Rattle.pb_ground.specs.Actions.{ground_actions}
+use Rattle.pb_ground.specs.Members.{is_fitting, is_instance}
+use Rattle.pb_task.specs.Strips.{name_of, name_in}
+use Rattle.pb_strips.specs.Names.{action_word, action_bytes}
+use Rattle.pb_strips.specs.Grounding.{packed_action, strips_of}
+use Rattle.pb_strips.specs.Refusals.{first_fault, or_too_many}
+use Rattle.pb_strips.proofs.Instances.{IsInstance, is_instance_at}
+use Rattle.pb_model.proofs.Tests.{and_true, by_cases}
+use Rattle.pb_naming.specs.Names.{AreTellingNames, NamesTellActions}
+use Rattle.pb_naming.proofs.Apart.{same_place}
+use Rattle.pb_naming.proofs.DifferentRows.{row_of, actions_apart}
+use Rattle.pb_naming.proofs.Texts.{IsPlain, ArePlain, plain, same_parts, IsOfLine, text_of_line, text_is}
+
+-- ---- lists
+
+element : {A : Type 0} (xs : List A) (k : ℕ) → k < length xs → (x : A) × (slice_get xs k ≡ Some x)
+element [] k less = absurd (omega arith)
+element (x ∷ xs) zero less = (x, refl)
+element (x ∷ xs) (suc k) less = element xs k (omega arith)
+
+below : {A : Type 0} (xs : List A) (k : ℕ) (x : A) → slice_get xs k ≡ Some x → k < length xs
+below [] k x e = cc
+below (y ∷ xs) zero x e = omega arith
+below (y ∷ xs) (suc k) x e = let rest = below xs k x e in omega (arith, rest)
+
+-- ---- names are words
+
+pub plain_at : (names : List (List ℕ)) → ArePlain names → (k : ℕ) → IsPlain (name_at names k)
+plain_at [] h k = tt
+plain_at (name ∷ names) h zero = h.0
+plain_at (name ∷ names) h (suc k) = plain_at names h.1 k
+
+pub actions_plain : (actions : List Action) → All (λ (a : Action). IsWord a.name.text) actions → ArePlain (map action_word actions)
+actions_plain [] h = tt
+actions_plain (a ∷ actions) h = (plain a.name.text (h 0 a (omega arith)), actions_plain actions (λ k d less. h (suc k) d (omega arith)))
+
+typed_plain : (list : List Typed) → All (λ (t : Typed). IsWord t.name.text) list → ArePlain (map name_text list)
+typed_plain [] h = tt
+typed_plain (t ∷ list) h = (plain t.name.text (h 0 t (omega arith)), typed_plain list (λ k d less. h (suc k) d (omega arith)))
+
+objects_plain : (names : List (List ℕ)) → ArePlain names → (given : List ℕ) → ArePlain (map (λ i. name_at names i) given)
+objects_plain names h [] = tt
+objects_plain names h (i ∷ given) = (plain_at names h i, objects_plain names h given)
+
+-- ---- names tell numbers
+
+same_number : (names : List (List ℕ)) (i j : ℕ) → AreDistinct names → i < length names → j < length names → name_at names i ≡ name_at names j → i ≡ j
+same_number names i j each less more e =
+    let same : Some i ≡ Some j = sym (each i less) ∙ (ap (λ t. number_of t names) e ∙ each j more) in
+    cc
+
+same_numbers : (names : List (List ℕ)) (xs ys : List ℕ) → AreDistinct names → All (λ i. i < length names) xs → All (λ i. i < length names) ys
+    → map (λ i. name_at names i) xs ≡ map (λ i. name_at names i) ys → xs ≡ ys
+same_numbers names [] [] each h k e = refl
+same_numbers names [] (y ∷ ys) each h k e = absurd (none (name_at names y) (map (λ i. name_at names i) ys) e)
+  where
+    none : (first : List ℕ) (rest : List (List ℕ)) → ◌≡◌ {A = List (List ℕ)} [] (first ∷ rest) → ⊥
+    none first rest f = cc
+same_numbers names (x ∷ xs) [] each h k e = absurd (none (name_at names x) (map (λ i. name_at names i) xs) e)
+  where
+    none : (first : List ℕ) (rest : List (List ℕ)) → ◌≡◌ {A = List (List ℕ)} (first ∷ rest) [] → ⊥
+    none first rest f = cc
+same_numbers names (x ∷ xs) (y ∷ ys) each h k e =
+    let both = parts (name_at names x) (name_at names y) (map (λ i. name_at names i) xs) (map (λ i. name_at names i) ys) e in
+    let first = same_number names x y each (h 0 x (omega arith)) (k 0 y (omega arith)) both.0 in
+    let rest = same_numbers names xs ys each (λ n d less. h (suc n) d (omega arith)) (λ n d less. k (suc n) d (omega arith)) both.1 in
+    λ i. first i ∷ rest i
+  where
+    parts : (a b : List ℕ) (more others : List (List ℕ)) → a ∷ more ≡ b ∷ others → (a ≡ b) × (more ≡ others)
+    parts a b more others f = (cc, cc)
+
+-- ---- what isn't refused
+
+none_refused : (refusal : Option Refusal) (lifted : Lifted) → or_too_many refusal lifted ≡ None → refusal ≡ None
+none_refused None lifted e = refl
+none_refused (Some refusal) lifted e = cc
+
+words_again : (actions : List Action) → map text_of (map action_name actions) ≡ map action_word actions
+words_again [] = refl
+words_again (a ∷ actions) = ap (λ names. a.name.text ∷ names) (words_again actions)
+
+none_distinct : AreDistinct []
+none_distinct i less = absurd (omega arith)
+
+actions_distinct : (domain : Domain) (problem : Problem) → first_refusal domain problem ≡ None → AreDistinct (map action_word domain.actions)
+actions_distinct domain problem accepted =
+    let twice = (faultless causes_in_order domain problem accepted).1.0.0 in
+    let types = repeated [] (map typed_name (declared_types domain.types)) in
+    let constants = repeated [] (map typed_name domain.constants) in
+    let predicates = repeated [] (map predicate_name domain.predicates) in
+    let actions = repeated [] (map action_name domain.actions) in
+    let front = nil_left (types ++ constants ++ predicates ++ actions) (repeated_params domain.actions) twice in
+    let once = nil_right (types ++ constants ++ predicates) actions front in
+    subst AreDistinct (words_again domain.actions) (distinct_on [] (map action_name domain.actions) once none_distinct)
+
+-- ---- an instance's objects are there
+
+fitting_below : (lifted : Lifted) (kinds given : List ℕ) → is_instance lifted kinds given ≡ true → All (λ i. i < length lifted.objects) given
+fitting_below lifted [] [] h = All-nil (λ i. i < length lifted.objects)
+fitting_below lifted [] (i ∷ given) h = cc
+fitting_below lifted (kind ∷ kinds) [] h = cc
+fitting_below lifted (kind ∷ kinds) (i ∷ given) h =
+    let both = and_true (is_fitting lifted kind i) (is_instance lifted kinds given) h in
+    let there = and_true (nat_lt i (length lifted.objects)) _ both.0 in
+    first (fitting_below lifted kinds given both.1) (small i (length lifted.objects) there.0)
+  where
+    small : (n m : ℕ) → nat_lt n m ≡ true → n < m
+    small n m e = grind (arith, nat_tests)
+
+    first : All (λ n. n < length lifted.objects) given → i < length lifted.objects → All (λ n. n < length lifted.objects) (i ∷ given)
+    first rest less zero d within = less
+    first rest less (suc k) d within = rest k d (omega arith)
+
+-- ---- the actions
+
+lengths_agree : (domain : Domain) (problem : Problem) → length (lifted_of domain problem).objects ≡ length (object_names domain problem)
+lengths_agree domain problem = length-map (objects_of domain problem) _ ∙ sym (length-map (objects_of domain problem) name_text)
+
+schemas_agree : (domain : Domain) (problem : Problem) → length (lifted_of domain problem).actions ≡ length (map action_word domain.actions)
+schemas_agree domain problem = length-map domain.actions _ ∙ sym (length-map domain.actions action_word)
+
+module _ (domain : Domain) (problem : Problem) (accepted : first_fault domain problem ≡ None) (words : DomainHasWords domain) (others : ProblemHasWords problem) where
+  abbrev pub lifted : Lifted
+  lifted = lifted_of domain problem
+
+  abbrev pub actions : List instance.GroundAction
+  actions = ground_actions lifted (ground_atoms lifted)
+
+  abbrev pub bytes_of : instance.GroundAction → List ℕ
+  bytes_of a = action_bytes domain (a.schema, named domain problem a.objects)
+
+  known : first_refusal domain problem ≡ None
+  known = none_refused (first_refusal domain problem) lifted accepted
+
+  typed : IsWellTyped domain problem
+  typed = accepted_is_well_typed domain problem known
+
+  word_plain : (a : instance.GroundAction) → IsPlain (name_at (map action_word domain.actions) a.schema)
+  word_plain a = plain_at (map action_word domain.actions) (actions_plain domain.actions words.actions) a.schema
+
+  objects_are_plain : (a : instance.GroundAction) → ArePlain (named domain problem a.objects)
+  objects_are_plain a =
+      objects_plain (object_names domain problem)
+      (typed_plain (objects_of domain problem) (All-append (λ (t : Typed). IsWord t.name.text) domain.constants problem.objects words.constants others)) a.objects
+
+  of_line : (a : instance.GroundAction) → All IsOfLine (bytes_of a)
+  of_line a = text_of_line (name_at (map action_word domain.actions) a.schema) (named domain problem a.objects) (word_plain a) (objects_are_plain a)
+
+  name_is : (k : ℕ) (a : instance.GroundAction) → slice_get actions k ≡ Some a → name_in (strips_of domain problem).actions k ≡ bytes_of a
+  name_is k a e = ap name_of (at_mapped (packed_action domain problem (length (ground_atoms lifted))) actions k a e) ∙ text_is (bytes_of a) (of_line a)
+
+  schema_below : (k : ℕ) (a : instance.GroundAction) → slice_get actions k ≡ Some a → a.schema < length (map action_word domain.actions)
+  schema_below k a e =
+      let is : IsInstance lifted (ground_atoms lifted) a = is_instance_at lifted (ground_atoms lifted) k a e in
+      let there = below lifted.actions is.i is.schema is.declared in
+      let same : a.schema ≡ is.i = ap (λ (g : instance.GroundAction). g.schema) is.is in
+      omega (arith, there, same, schemas_agree domain problem)
+
+  objects_below : (k : ℕ) (a : instance.GroundAction) → slice_get actions k ≡ Some a → All (λ i. i < length (object_names domain problem)) a.objects
+  objects_below k a e =
+      let is : IsInstance lifted (ground_atoms lifted) a = is_instance_at lifted (ground_atoms lifted) k a e in
+      let same : a.objects ≡ is.given = ap (λ (g : instance.GroundAction). g.objects) is.is in
+      subst (λ n. All (λ i. i < n) a.objects) (lengths_agree domain problem)
+      (subst (λ given. All (λ i. i < length lifted.objects) given) (sym same) (fitting_below lifted is.schema.params is.given is.fits))
+
+  same_row : (one other : ℕ) (a b : instance.GroundAction) → slice_get actions one ≡ Some a → slice_get actions other ≡ Some b → bytes_of a ≡ bytes_of b → row_of a ≡ row_of b
+  same_row one other a b at_one at_other e =
+      let parts =
+      same_parts (name_at (map action_word domain.actions) a.schema) (name_at (map action_word domain.actions) b.schema) (named domain problem a.objects) (named domain problem b.objects)
+      (word_plain a) (word_plain b) (objects_are_plain a) (objects_are_plain b) e in
+      let schema =
+      same_number (map action_word domain.actions) a.schema b.schema (actions_distinct domain problem known) (schema_below one a at_one) (schema_below other b at_other) parts.0 in
+      let objects = same_numbers (object_names domain problem) a.objects b.objects typed.distinct (objects_below one a at_one) (objects_below other b at_other) parts.1 in
+      λ i. schema i ∷ objects i
+
+  same_action : (one other : ℕ) → one < length actions → other < length actions
+      → name_in (strips_of domain problem).actions one ≡ name_in (strips_of domain problem).actions other → one ≡ other
+  same_action one other less more e =
+      let a = element actions one less in
+      let b = element actions other more in
+      let row = same_row one other a.0 b.0 a.1 b.1 (sym (name_is one a.0 a.1) ∙ (e ∙ name_is other b.0 b.1)) in
+      same_place (map row_of actions) one other (row_of a.0) (actions_apart lifted (ground_atoms lifted)) (at_mapped row_of actions one a.0 a.1)
+      (at_mapped row_of actions other b.0 b.1 ∙ ap (λ r. Some r) (sym row))
+
+  count_is : length (strips_of domain problem).actions ≡ length actions
+  count_is = length-map actions (packed_action domain problem (length (ground_atoms lifted)))
+
+  beyond : (k : ℕ) → (k < length actions → ⊥) → slice_get (strips_of domain problem).actions k ≡ None
+  beyond k none = outside (strips_of domain problem).actions k (λ less. let count = count_is in none (omega (arith, less, count)))
+    where
+      outside : {A : Type 0} (xs : List A) (n : ℕ) → (n < length xs → ⊥) → slice_get xs n ≡ None
+      outside [] n none = refl
+      outside (x ∷ xs) zero none = absurd (none (omega arith))
+      outside (x ∷ xs) (suc n) none = outside xs n (λ less. none (omega (arith, less)))
+
+  no_feeds : (k : ℕ) → All (λ c. c ≢ 10) (name_in (strips_of domain problem).actions k)
+  no_feeds k = by_cases (nat_lt k (length actions)) inside outside
+    where
+      inside : nat_lt k (length actions) ≡ true → All (λ c. c ≢ 10) (name_in (strips_of domain problem).actions k)
+      inside e =
+          let less : k < length actions = grind (arith, nat_tests) in
+          let a = element actions k less in
+          subst (λ text. All (λ c. c ≢ 10) text) (sym (name_is k a.0 a.1)) (λ n d within. (of_line a.0 n d within).1)
+
+      outside : nat_lt k (length actions) ≡ false → All (λ c. c ≢ 10) (name_in (strips_of domain problem).actions k)
+      outside e =
+          let more : length actions ≤ k = grind (arith, nat_tests) in
+          subst (λ text. All (λ c. c ≢ 10) text) (sym (ap name_of (beyond k (λ less. omega (arith, less, more))))) (All-nil (λ c. c ≢ 10))
+
+  pub tells : AreTellingNames (length (strips_of domain problem).actions) (name_in (strips_of domain problem).actions)
+  tells = record {
+    different = λ one other less more e. let count = count_is in same_action one other (omega (arith, less, count)) (omega (arith, more, count)) e;
+    lines = no_feeds;
+  }
+
+pub names_tell_actions : NamesTellActions
+names_tell_actions domain problem accepted words others = tells domain problem accepted words others

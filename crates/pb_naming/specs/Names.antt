@@ -1,0 +1,27 @@
+-- The names under which ground actions are printed tell them apart, and each is one line.
+use Rattle.std.specs.Prelude.{◌≡◌, ◌≢◌, ℕ, ◌<◌, List, map, length, All, None}
+use Rattle.pb_trees.specs.declared.tree.Domain.{Domain}
+use Rattle.pb_trees.specs.declared.tree.Problem.{Problem}
+use Rattle.pb_trees.specs.Words.{DomainHasWords, ProblemHasWords}
+use Rattle.pb_lifted.specs.Plans.{NamedAction, IsPlan}
+use Rattle.pb_task.specs.Strips.{name_in}
+use Rattle.pb_strips.specs.Names.{action_bytes, action_text}
+use Rattle.pb_strips.specs.Grounding.{strips_of}
+use Rattle.pb_strips.specs.Refusals.{first_fault}
+
+-- no two actions have one name, and no name has a line feed
+pub record AreTellingNames (count : ℕ) (name : ℕ → List ℕ) : Type 0 where
+  pub different : (one other : ℕ) → one < count → other < count → name one ≡ name other → one ≡ other
+  pub lines : (action : ℕ) → All (λ c. c ≢ 10) (name action)
+
+-- Where a domain and a problem whose names are words are a task, its ground actions are told apart by the names that are printed, each in one line.
+abbrev pub NamesTellActions : Type 0
+NamesTellActions =
+    (domain : Domain) (problem : Problem) → first_fault domain problem ≡ None → DomainHasWords domain → ProblemHasWords problem
+    → AreTellingNames (length (strips_of domain problem).actions) (name_in (strips_of domain problem).actions)
+
+-- The actions of a plan by names are printed as they are called: `(name object ..)`, each the bytes of the names themselves.
+abbrev pub NamesArePrinted : Type 0
+NamesArePrinted =
+    (domain : Domain) (problem : Problem) (actions : List NamedAction) → DomainHasWords domain → ProblemHasWords problem → IsPlan domain problem actions
+    → map (action_text domain) actions ≡ map (action_bytes domain) actions

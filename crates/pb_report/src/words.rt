@@ -1,0 +1,63 @@
+ghost use Rattle.std.specs.Prelude.{◌≡◌};
+ghost use Rattle.pb_report.specs.Texts.{file_number, want_word, left_out_word, cause_word};
+
+use pb_lifted::{Cause, File};
+use pb_trees::{LeftOut, Want};
+
+// The number of a file.
+pub(crate) fn file_number(file: File) -> u64
+    ensures { result ≡ file_number file }
+{
+    match file {
+        File::Domain => 1,
+        File::Problem => 2,
+    }
+}
+
+// What must stand in a token's place.
+pub(crate) fn want_word(want: Want) -> &'static str
+    ensures { result.now ≡ want_word want }
+{
+    match want {
+        Want::Paren => "Paren",
+        Want::Close => "Close",
+        Want::Word => "Word",
+        Want::Name => "Name",
+        Want::Variable => "Variable",
+        Want::Section => "Section",
+        Want::Part => "Part",
+        Want::TypeName => "TypeName",
+        Want::Group => "Group",
+        Want::Once => "Once",
+        Want::Missing => "Missing",
+    }
+}
+
+// What of PDDL is left out.
+pub(crate) fn left_out_word(what: LeftOut) -> &'static str
+    ensures { result.now ≡ left_out_word what }
+{
+    match what {
+        LeftOut::Section => "Section",
+        LeftOut::Part => "Part",
+        LeftOut::Head => "Head",
+        LeftOut::Either => "Either",
+    }
+}
+
+// Why a name is refused.
+pub(crate) fn cause_word(cause: Cause) -> &'static str
+    ensures { result.now ≡ cause_word cause }
+{
+    match cause {
+        Cause::DomainName => "DomainName",
+        Cause::Twice => "Twice",
+        Cause::UnknownType => "UnknownType",
+        Cause::TypeCycle => "TypeCycle",
+        Cause::UnknownPredicate => "UnknownPredicate",
+        Cause::Arity => "Arity",
+        Cause::UnknownObject => "UnknownObject",
+        Cause::WrongType => "WrongType",
+        Cause::TooWide => "TooWide",
+    }
+}

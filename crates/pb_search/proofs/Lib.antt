@@ -1,4 +1,0 @@
-pub mod Turned
-pub mod Known
-pub mod Fewer
-pub mod Tasks

@@ -1,0 +1,11 @@
+pub mod AtomSets
+pub mod Below
+pub mod Bridges
+pub mod Instances
+pub mod Numbered
+pub mod Packed
+pub mod PlansAgree
+pub mod StatesAgree
+pub mod StepsAgree
+pub mod TaskParts
+pub mod Words

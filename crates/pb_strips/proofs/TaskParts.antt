@@ -1,0 +1,57 @@
+-- The parts that are put together are those of the task.
+use Rattle.std.proofs.Common.{◌≡◌, ◌≤◌, ℕ, Bool, List, [], length, map, All, sym, ap, ◌∙◌, subst}
+use Rattle.pb_trees.specs.declared.tree.Domain.{Domain}
+use Rattle.pb_trees.specs.declared.tree.Problem.{Problem}
+use Rattle.pb_lifted.specs.declared.lifted.Lifted.{Lifted}
+use Rattle.pb_lifted.specs.declared.lifted.LiftedAtom.{LiftedAtom}
+use Rattle.pb_lifted.specs.Lifted.{lifted_of}
+use Rattle.pb_ground.specs.declared.actions.GroundAction as instance
+use Rattle.pb_ground.specs.declared.atoms.GroundAtom.{GroundAtom}
+use Rattle.pb_ground.specs.Atoms.{ground_atoms}
+use Rattle.pb_ground.specs.Actions.{numbers_of, ground_actions, is_never}
+use Rattle.pb_task.specs.declared.parts.GroundAction.{GroundAction}
+use Rattle.pb_task.specs.declared.parts.StripsParts.{StripsParts}
+use Rattle.pb_strips.specs.Grounding.{numbered_set, packed_action, strips_of}
+use Rattle.pb_strips.specs.Packing.{AreAtoms, HasAtoms}
+use Rattle.pb_strips.proofs.Below.{numbers_below, actions_have}
+
+abbrev parts : ℕ → List GroundAction → ℕ → ℕ → Bool → StripsParts
+parts atoms actions start goal never = record { atoms = atoms; actions = actions; start = start; goal = goal; never = never }
+
+same_parts : (n m : ℕ) (actions others : List GroundAction) (start first goal last : ℕ) (never ever : Bool) → n ≡ m → actions ≡ others → start ≡ first → goal ≡ last → never ≡ ever
+    → parts n actions start goal never ≡ parts m others first last ever
+same_parts n m actions others start first goal last never ever a b c d e =
+    ap (λ k. parts k actions start goal never) a ∙ (ap (λ k. parts m k start goal never) b
+    ∙ (ap (λ k. parts m others k goal never) c ∙ (ap (λ k. parts m others first k never) d ∙ ap (λ k. parts m others first last k) e)))
+
+-- what a set of numbers is, whatever the number of atoms
+abbrev pub Packs : List ℕ → ℕ → Type 0
+Packs numbers set = (count : ℕ) → count ≤ 256 → AreAtoms count numbers → set ≡ numbered_set count numbers
+
+set_is : (atoms all : List GroundAtom) (list other : List LiftedAtom) (numbers : List ℕ) (set : ℕ) → length atoms ≤ 256 → numbers ≡ numbers_of atoms [] list → atoms ≡ all → list ≡ other → Packs numbers set
+    → set ≡ numbered_set (length all) (numbers_of all [] other)
+set_is atoms all list other numbers set few is same alike packs =
+    packs (length atoms) few (subst (AreAtoms (length atoms)) (sym is) (numbers_below atoms [] list))
+    ∙ (ap (numbered_set (length atoms)) is
+    ∙ (ap (λ xs. numbered_set (length xs) (numbers_of xs [] list)) same ∙ ap (λ xs. numbered_set (length all) (numbers_of all [] xs)) alike))
+
+pub parts_are : (domain : Domain) (problem : Problem) (lifted : Lifted) (atoms seen : List GroundAtom) (actions : List instance.GroundAction) (packed : List GroundAction) (first wanted : List ℕ)
+    (start goal : ℕ) (never : Bool)
+    → lifted ≡ lifted_of domain problem → atoms ≡ ground_atoms lifted → length atoms ≤ 256 → actions ≡ ground_actions lifted atoms → seen ≡ atoms
+    → ((count : ℕ) → count ≤ 256 → All (HasAtoms count) actions → packed ≡ map (packed_action domain problem count) actions)
+    → first ≡ numbers_of atoms [] lifted.init → Packs first start → wanted ≡ numbers_of atoms [] lifted.goal → Packs wanted goal → never ≡ is_never lifted
+    → parts (length seen) packed start goal never ≡ strips_of domain problem
+parts_are domain problem lifted atoms seen actions packed first wanted start goal never lifted_is atoms_are few actions_are seen_is packs first_is start_is wanted_is goal_is never_is =
+    let task : Lifted = lifted_of domain problem in
+    let all : List GroundAtom = ground_atoms task in
+    let instances : List instance.GroundAction = ground_actions task all in
+    let same_atoms : atoms ≡ all = atoms_are ∙ ap ground_atoms lifted_is in
+    let same_actions : actions ≡ instances = actions_are ∙ (ap (λ l. ground_actions l atoms) lifted_is ∙ ap (λ xs. ground_actions task xs) same_atoms) in
+    let have : All (HasAtoms (length atoms)) actions =
+    subst (λ (xs : List instance.GroundAction). All (HasAtoms (length atoms)) xs) (sym actions_are) (actions_have lifted atoms 0 lifted.actions) in
+    same_parts (length seen) (length all) packed (map (packed_action domain problem (length all)) instances) start _ goal _ never (is_never task)
+    (ap (λ xs. length xs) (seen_is ∙ same_atoms))
+    (packs (length atoms) few have ∙ (ap (λ xs. map (packed_action domain problem (length atoms)) xs) same_actions ∙ ap (λ xs. map (packed_action domain problem (length xs)) instances) same_atoms))
+    (set_is atoms all lifted.init task.init first start few first_is same_atoms (ap (λ l. l.init) lifted_is) start_is)
+    (set_is atoms all lifted.goal task.goal wanted goal few wanted_is same_atoms (ap (λ l. l.goal) lifted_is) goal_is)
+    (never_is ∙ ap is_never lifted_is)

@@ -1,0 +1,80 @@
+-- The task by bits and the task by names are the same: states, steps, their costs and names, the start, goals, and plans. By names a state is a set
+-- of facts and an action a schema with objects (`pb_lifted`'s Space); neither numbers of atoms nor bits occur there.
+use Rattle.std.specs.Prelude.{◌≡◌, ◌↔◌, ℕ, ◌<◌, ◌^◌, Bool, false, IsTrue, ◌&&◌, if◌then◌else◌, List, length, map, Option, Some, None}
+use Rattle.pb_model.specs.Space.{Steps}
+use Rattle.pb_model.specs.Plan as packed
+use Rattle.pb_trees.specs.declared.tree.Domain.{Domain}
+use Rattle.pb_trees.specs.declared.tree.Problem.{Problem}
+use Rattle.pb_lifted.specs.declared.lifted.Lifted.{Lifted}
+use Rattle.pb_lifted.specs.Lifted.{lifted_of}
+use Rattle.pb_lifted.specs.Space.{Fact, State, IsStep, start_of, IsGoal}
+use Rattle.pb_lifted.specs.Steps.{GroundFact, is_of_task, by_number}
+use Rattle.pb_lifted.specs.Plans.{NamedAction, IsPlan}
+use Rattle.pb_ground.specs.Atoms.{is_fluent, atom_of, number_in, ground_atoms}
+use Rattle.pb_ground.specs.Statics.{is_initial}
+use Rattle.pb_task.specs.Strips.{has_atom, strips_space, name_in}
+use Rattle.pb_strips.specs.Grounding.{strips_of}
+use Rattle.pb_strips.specs.Names.{action_text}
+use Rattle.pb_strips.specs.Refusals.{first_fault}
+
+-- ---- the state by names that a packed state stands for
+
+abbrev pub holds_by_number : (state : ℕ) → Option ℕ → Bool
+holds_by_number state None = false
+holds_by_number state (Some atom) = has_atom state atom
+
+-- a fact of a fluent predicate holds where its ground atom is in the set, and one of a static predicate where it holds at first
+abbrev pub holds_in : Lifted → (state : ℕ) → GroundFact → Bool
+holds_in lifted state fact =
+    if is_fluent lifted fact.predicate then holds_by_number state (number_in (atom_of fact.predicate fact.objects) (ground_atoms lifted))
+    else is_initial lifted (atom_of fact.predicate fact.objects)
+
+abbrev pub facts_of_state : Domain → Problem → (state : ℕ) → State
+facts_of_state domain problem state fact = is_of_task domain problem fact && holds_in (lifted_of domain problem) state (by_number domain problem fact)
+
+-- ---- steps
+
+-- A step by bits is one by names, at cost 1, under the name that is printed.
+abbrev pub PackedStepsAreSteps : Type 0
+PackedStepsAreSteps =
+    (domain : Domain) (problem : Problem) (from action to cost : ℕ) → first_fault domain problem ≡ None → Steps (strips_space (strips_of domain problem)) from action to cost
+    → (named : NamedAction) × IsStep domain problem (facts_of_state domain problem from) named.0 named.1 (facts_of_state domain problem to)
+    × (name_in (strips_of domain problem).actions action ≡ action_text domain named) × (cost ≡ 1)
+
+-- A step by names is one by bits, at cost 1, under the name that is printed, and leads to the same state.
+abbrev pub StepsArePackedSteps : Type 0
+StepsArePackedSteps =
+    (domain : Domain) (problem : Problem) (from : ℕ) (named : NamedAction) (next : State) → first_fault domain problem ≡ None → from < 2 ^ (strips_of domain problem).atoms
+    → IsStep domain problem (facts_of_state domain problem from) named.0 named.1 next
+    → (action : ℕ) × (to : ℕ) × Steps (strips_space (strips_of domain problem)) from action to 1
+    × (name_in (strips_of domain problem).actions action ≡ action_text domain named) × ((f : Fact) → next f ≡ facts_of_state domain problem to f)
+
+-- ---- start and goals
+
+-- Both start with the same facts.
+abbrev pub StartsAgree : Type 0
+StartsAgree =
+    (domain : Domain) (problem : Problem) (f : Fact) → first_fault domain problem ≡ None
+    → facts_of_state domain problem (strips_of domain problem).start f ≡ start_of problem f
+
+-- A packed state is a goal exactly where the state by names is one.
+abbrev pub GoalsAgree : Type 0
+GoalsAgree =
+    (domain : Domain) (problem : Problem) (state : ℕ) → first_fault domain problem ≡ None → state < 2 ^ (strips_of domain problem).atoms
+    → IsTrue ((strips_space (strips_of domain problem)).is_goal state) ↔ IsGoal problem (facts_of_state domain problem state)
+
+-- ---- plans
+
+-- A plan by numbers is one by names, whose actions have the names that are printed; it costs as much as it has actions.
+abbrev pub PackedPlansArePlans : Type 0
+PackedPlansArePlans =
+    (domain : Domain) (problem : Problem) (plan : packed.Plan) → first_fault domain problem ≡ None → packed.IsPlan (strips_space (strips_of domain problem)) plan
+    → (actions : List NamedAction) × IsPlan domain problem actions × (map (action_text domain) actions ≡ map (name_in (strips_of domain problem).actions) plan.actions)
+    × (plan.cost ≡ length actions)
+
+-- A plan by names is one by numbers.
+abbrev pub PlansArePackedPlans : Type 0
+PlansArePackedPlans =
+    (domain : Domain) (problem : Problem) (actions : List NamedAction) → first_fault domain problem ≡ None → IsPlan domain problem actions
+    → (numbers : List ℕ) × packed.IsPlan (strips_space (strips_of domain problem)) (record { actions = numbers; cost = length actions })
+    × (map (name_in (strips_of domain problem).actions) numbers ≡ map (action_text domain) actions)

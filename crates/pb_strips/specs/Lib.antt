@@ -1,0 +1,5 @@
+pub mod Names
+pub mod Grounding
+pub mod Refusals
+pub mod Correspondence
+pub mod Packing

@@ -1,0 +1,29 @@
+-- Lists of numbers of atoms, and the errors of the layers below.
+use Rattle.std.specs.Prelude.{◌<◌, ℕ, List, All}
+use Rattle.pb_lifted.specs.declared.refusal.LiftedError.{LiftedError}
+use Rattle.pb_lifted.specs.declared.refusal.LiftedError.TheVariants as lifted
+use Rattle.pb_ground.specs.declared.actions.GroundAction.{GroundAction}
+use Rattle.pb_ground.specs.declared.error.GroundError.{GroundError}
+use Rattle.pb_ground.specs.declared.error.GroundError.TheVariants as grounding
+use Rattle.pb_strips.specs.declared.error.StripsError.{StripsError}
+use Rattle.pb_strips.specs.declared.error.StripsError.TheVariants as errors
+
+-- these are numbers of the first `count` atoms
+abbrev pub AreAtoms : (count : ℕ) → List ℕ → Type 0
+AreAtoms count numbers = All (λ n. n < count) numbers
+
+pub record HasAtoms (count : ℕ) (action : GroundAction) : Type 0 where
+  pub needs : AreAtoms count action.needs
+  pub adds : AreAtoms count action.adds
+  pub deletes : AreAtoms count action.deletes
+
+-- ---- errors of the layers below
+
+abbrev pub of_lifted : LiftedError → StripsError
+of_lifted (lifted.Refused refusal) = errors.Refused refusal
+of_lifted lifted.Memory = errors.Memory
+
+abbrev pub of_ground : GroundError → StripsError
+of_ground (grounding.TooManyAtoms n) = errors.TooManyAtoms n
+of_ground grounding.TooManyActions = errors.TooManyActions
+of_ground grounding.Memory = errors.Memory

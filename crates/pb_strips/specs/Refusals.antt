@@ -1,0 +1,34 @@
+-- Why a domain and a problem are no task: the first cause in order.
+use Rattle.std.specs.Prelude.{◌≡◌, nat_lt, if◌then◌else◌, length, Option, Some, None}
+use Rattle.pb_trees.specs.declared.tree.Domain.{Domain}
+use Rattle.pb_trees.specs.declared.tree.Problem.{Problem}
+use Rattle.pb_lifted.specs.declared.lifted.Lifted.{Lifted}
+use Rattle.pb_lifted.specs.declared.refusal.Refusal.{Refusal}
+use Rattle.pb_lifted.specs.Lifted.{lifted_of}
+use Rattle.pb_lifted.specs.Refusals.{first_refusal}
+use Rattle.pb_ground.specs.Atoms.{ground_atoms}
+use Rattle.pb_ground.specs.Actions.{ground_actions}
+use Rattle.pb_ground.specs.Errors.{told}
+use Rattle.pb_strips.specs.declared.error.StripsError.{StripsError}
+use Rattle.pb_strips.specs.declared.error.StripsError.TheVariants as errors
+
+-- more than 256 ground atoms, or else more than 65,536 ground actions
+abbrev pub too_many : Lifted → Option StripsError
+too_many lifted =
+    if nat_lt 256 (length (ground_atoms lifted)) then Some (errors.TooManyAtoms (told (length (ground_atoms lifted))))
+    else (if nat_lt 65536 (length (ground_actions lifted (ground_atoms lifted))) then Some errors.TooManyActions else None)
+
+abbrev pub or_too_many : Option Refusal → Lifted → Option StripsError
+or_too_many (Some refusal) lifted = Some (errors.Refused refusal)
+or_too_many None lifted = too_many lifted
+
+-- the names and their types are judged first, and then how much there is
+abbrev pub first_fault : Domain → Problem → Option StripsError
+first_fault domain problem = or_too_many (first_refusal domain problem) (lifted_of domain problem)
+
+-- an error tells the first fault, unless memory ran out
+abbrev pub Tells : Option StripsError → StripsError → Type 0
+Tells fault (errors.Refused refusal) = fault ≡ Some (errors.Refused refusal)
+Tells fault (errors.TooManyAtoms n) = fault ≡ Some (errors.TooManyAtoms n)
+Tells fault errors.TooManyActions = fault ≡ Some errors.TooManyActions
+Tells fault errors.Memory = Unit {0}

@@ -1,0 +1,51 @@
+ghost use Rattle.std.specs.Prelude.{◌≡◌};
+ghost use Rattle.pb_strips.specs.Packing.{of_lifted, of_ground};
+ghost use Rattle.pb_strips.specs.declared.error.StripsError.TheVariants.{Memory};
+
+use pb_ground::GroundError;
+use pb_lifted::{LiftedError, Refusal};
+use std::alloc::{AllocError, AllocFailed};
+
+/// Why a domain and a problem are no task, the first cause in the order of these variants.
+#[derive(Clone, Copy, Debug, PartialEq, Eq)]
+pub enum StripsError {
+    /// A name is at fault, or there are too many objects.
+    Refused(Refusal),
+    /// There are more than 256 ground atoms: n, or 4,294,967,295 where there are more than that.
+    TooManyAtoms { n: u64 },
+    /// There are more than 65,536 ground actions.
+    TooManyActions,
+    /// Memory ran out.
+    Memory,
+}
+
+impl From<LiftedError> for StripsError {
+    ghost from_gives = { λ error e. e ≡ of_lifted error };
+
+    fn from(error: LiftedError) -> Self {
+        match error {
+            LiftedError::Refused(refusal) => StripsError::Refused(refusal),
+            LiftedError::Memory => StripsError::Memory,
+        }
+    }
+}
+
+impl From<GroundError> for StripsError {
+    ghost from_gives = { λ error e. e ≡ of_ground error };
+
+    fn from(error: GroundError) -> Self {
+        match error {
+            GroundError::TooManyAtoms { n } => StripsError::TooManyAtoms { n },
+            GroundError::TooManyActions => StripsError::TooManyActions,
+            GroundError::Memory => StripsError::Memory,
+        }
+    }
+}
+
+impl From<AllocError> for StripsError {
+    ghost from_gives = { λ _ e. e ≡ Memory };
+
+    fn from(_: AllocError) -> Self {
+        StripsError::Memory
+    }
+}

@@ -1,0 +1,30 @@
+ghost use Rattle.std.specs.Prelude.{◌≡◌, None, OnOk, IfOk, IfErr};
+ghost use Rattle.pb_task.specs.declared.parts.Parts.TheVariants.{Strips};
+ghost use Rattle.pb_strips.specs.Grounding.{strips_of};
+ghost use Rattle.pb_strips.specs.Refusals.{first_fault, Tells};
+
+use crate::error::StripsError;
+use crate::parts::parts_of;
+use pb_ground::{ground_actions, ground_atoms};
+use pb_lifted::resolve;
+use pb_task::Task;
+use pb_trees::{Domain, Problem};
+use std::alloc::Global;
+
+/// The task of a domain and a problem: its atoms are the ground atoms in their order, and its actions the ground actions in theirs, under the
+/// names that plans print. Else the first fault: that of a name or of too many objects, then too many atoms, then too many actions. Both limits
+/// are looked at before what they bound is built. At Memory nothing is said.
+pub fn ground(alloc: Global, domain: &Domain, problem: &Problem) -> Result<Task, StripsError>
+    // The two are a task.
+    ensures accepted { OnOk result (first_fault domain.now problem.now ≡ None) }
+    // It is this task.
+    ensures task { IfOk result (λ task. task ≡ Strips (strips_of domain.now problem.now)) }
+    // This is the first fault, unless memory ran out.
+    ensures refused { IfErr result (Tells (first_fault domain.now problem.now)) }
+{
+    let lifted = resolve(alloc, domain, problem)?;
+    let atoms = ground_atoms(alloc, &lifted)?;
+    let actions = ground_actions(alloc, &lifted, &atoms)?;
+    let parts = parts_of(alloc, domain, problem, &lifted, &atoms, actions.as_slice())?;
+    Ok(Task::of_strips(parts))
+}

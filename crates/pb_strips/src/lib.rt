@@ -1,0 +1,16 @@
+//! STRIPS tasks from PDDL trees: a domain and a problem are typed, grounded and packed, and what comes out is the task by names.
+#![tactic(auto)]
+
+mod error;
+mod grounding;
+mod laws;
+mod names;
+mod parts;
+mod sets;
+
+pub use error::StripsError;
+pub use grounding::ground;
+pub use laws::{plans_are_lifted, steps_are_lifted, texts_keep_names};
+
+#[cfg(test)]
+mod tests;

@@ -1,0 +1,88 @@
+ghost use Rattle.std.specs.Prelude.{◌≡◌, ◌≤◌, ℕ, All, map, length, IfOk};
+ghost use Rattle.pb_lifted.specs.Lifted.{lifted_of};
+ghost use Rattle.pb_ground.specs.Atoms.{ground_atoms};
+ghost use Rattle.pb_ground.specs.Actions.{ground_actions};
+ghost use Rattle.pb_strips.specs.Grounding.{packed_action, strips_of};
+ghost use Rattle.pb_strips.specs.Packing.{HasAtoms};
+
+use crate::names::name_of;
+use crate::sets::set_of;
+use pb_ground::{Atoms, GroundAction, goal, is_never, start};
+use pb_lifted::Lifted;
+use pb_task::{Actions, StripsParts};
+use pb_trees::{Domain, Problem};
+use std::alloc::{AllocError, Global};
+
+/// What each ground action costs.
+const COST: u64 = 1;
+
+/// A ground action with its name and its sets.
+fn packed_action(
+    alloc: Global,
+    domain: &Domain,
+    problem: &Problem,
+    action: &GroundAction,
+) -> Result<pb_task::GroundAction, AllocError>
+    requires { HasAtoms 256 action.now }
+    ensures { IfOk result (λ packed. (count : ℕ) → count ≤ 256 → HasAtoms count action.now → packed ≡ packed_action domain.now problem.now count action.now) }
+{
+    let name = name_of(
+        alloc,
+        domain,
+        problem,
+        action.schema,
+        action.objects.as_slice(),
+    )?;
+    Ok(pb_task::GroundAction {
+        name,
+        needs: set_of(action.needs.as_slice()),
+        adds: set_of(action.adds.as_slice()),
+        deletes: set_of(action.deletes.as_slice()),
+        cost: COST,
+    })
+}
+
+/// The ground actions with their names and their sets.
+fn packed_actions(
+    alloc: Global,
+    domain: &Domain,
+    problem: &Problem,
+    actions: &[GroundAction],
+) -> Result<Actions, AllocError>
+    requires { All (HasAtoms 256) actions.now }
+    ensures { IfOk result (λ all. (count : ℕ) → count ≤ 256 → All (HasAtoms count) actions.now → all ≡ map (packed_action domain.now problem.now count) actions.now) }
+{
+    let mut all = Vec::new(alloc);
+    for action in actions {
+        all.push(packed_action(alloc, domain, problem, action)?)?;
+    }
+    Ok(Actions::of(all))
+}
+
+/// The task of a domain and a problem, from its ground atoms and ground actions.
+pub(crate) fn parts_of(
+    alloc: Global,
+    domain: &Domain,
+    problem: &Problem,
+    lifted: &Lifted,
+    atoms: &Atoms,
+    actions: &[GroundAction],
+) -> Result<StripsParts, AllocError>
+    requires lifted { lifted.now ≡ lifted_of domain.now problem.now }
+    requires atoms { atoms.now ≡ ground_atoms lifted.now }
+    requires few { length atoms.now ≤ 256 }
+    requires actions { actions.now ≡ ground_actions lifted.now atoms.now }
+    ensures { IfOk result (λ parts. parts ≡ strips_of domain.now problem.now) }
+{
+    let first = start(alloc, lifted, atoms)?;
+    let wanted = goal(alloc, lifted, atoms)?;
+    let never = is_never(alloc, lifted)?;
+    let actions = packed_actions(alloc, domain, problem, actions)?;
+    Ok(StripsParts {
+        atoms: atoms.as_slice().len() as u32,
+        actions,
+        start: set_of(first.as_slice()),
+        goal: set_of(wanted.as_slice()),
+        never,
+    })
+}

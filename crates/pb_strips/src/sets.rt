@@ -1,0 +1,17 @@
+ghost use Rattle.std.specs.Prelude.{◌≡◌, ◌≤◌, ℕ};
+ghost use Rattle.pb_strips.specs.Grounding.{numbered_set};
+ghost use Rattle.pb_strips.specs.Packing.{AreAtoms};
+
+use pb_packed::Packed;
+
+/// The set of the atoms of these numbers.
+pub(crate) fn set_of(numbers: &[usize]) -> Packed
+    requires { AreAtoms 256 numbers.now }
+    ensures { (count : ℕ) → count ≤ 256 → AreAtoms count numbers.now → result ≡ numbered_set count numbers.now }
+{
+    let mut set = Packed::zero();
+    for n in numbers {
+        set = set.with(*n as u32, true);
+    }
+    set
+}

@@ -1,0 +1,271 @@
+-- Sets of atoms as numbers: by their bits, and by words of 64 bits.
+use Rattle.std.proofs.Common.{◌≡◌, ℕ, zero, suc, ◌+◌, ◌-◌, ◌*◌, ◌/◌, ◌%◌, ◌^◌, ◌<◌, ◌≤◌, Bool, true, false, not, IsTrue, nat_eq, ◌==◌, ◌&&◌, ◌||◌, inl, inr, refl, sym, subst, ap, arith, ◌∙◌, bit_and, bit_or, min, max, lit<, ◌↔◌}
+use Rattle.std.proofs.Math.Nat.{div-eq_of_lt, pow-le-pow_right, pow-suc}
+use Rattle.std.specs.Int.{bit_at, bit_not, w64}
+use Rattle.std.proofs.lemmas.Bool.{eqb-true, eq-eqb, cases_lt, false≢true, and_parts, and_from}
+use Rattle.std.proofs.lemmas.Nat.{pow-add, pow_pos, mod_below, and_le_l, shr-shr, shr_split, mul-add-lt}
+use Rattle.std.proofs.lemmas.Nat.Bits.{bit_at_and, bit_at_or, bit_at_not, bit_at-lt, bit_at_above, bit_at_cat_low, bit_at_cat_high, same_from_bits_below}
+use Rattle.pb_packed.specs.Bits.{bits_of, with_bits_of, bit_number}
+use Rattle.pb_task.specs.Strips.{has_atom, set_of, is_within}
+use Rattle.pb_task.specs.Laws.{SetsAreOfAtoms}
+
+-- ---- an atom is in a set where its bit is 1
+
+as_number : (bit : ℕ) → bit < 2 → bit ≡ bit_number (bit == 1)
+as_number zero small = refl
+as_number (suc zero) small = refl
+as_number (suc (suc more)) small = absurd (omega arith)
+
+pub bit_is : (set atom : ℕ) → bit_at set atom ≡ bit_number (has_atom set atom)
+bit_is set atom = as_number (bit_at set atom) (bit_at-lt set atom)
+
+number_tells : (one other : Bool) → bit_number one ≡ bit_number other → one ≡ other
+number_tells true true e = refl
+number_tells false false e = refl
+number_tells true false e = absurd (omega arith)
+number_tells false true e = absurd (omega arith)
+
+pub not_above : (set count atom : ℕ) → set < 2 ^ count → count ≤ atom → has_atom set atom ≡ false
+not_above set count atom small above = ap (λ bit. bit == 1) (bit_at_above set count atom small above)
+
+-- a set above another, of which it takes `count` bits
+pub placed_below : (high count low atom : ℕ) → atom < count → has_atom (high * 2 ^ count + low) atom ≡ has_atom low atom
+placed_below high count low atom less = ap (λ bit. bit == 1) (bit_at_cat_low high count low atom less)
+
+pub placed_above : (high count low atom : ℕ) → low < 2 ^ count → has_atom (high * 2 ^ count + low) (count + atom) ≡ has_atom high atom
+placed_above high count low atom small =
+    let place : count + atom - count ≡ atom = omega arith in
+    ap (λ bit. bit == 1) (bit_at_cat_high high count low (count + atom) small (omega arith) ∙ ap (λ i. bit_at high i) place)
+
+-- ---- a set that is made by a test, and sets that have the same atoms
+
+has_first : (bit : Bool) → has_atom (bit_number bit) 0 ≡ bit
+has_first true = refl
+has_first false = refl
+
+small_number : (bit : Bool) → bit_number bit < 2
+small_number true = omega arith
+small_number false = omega arith
+
+record IsSetOf (count : ℕ) (accepts : ℕ → Bool) (set : ℕ) : Type 0 where
+  pub small : set < 2 ^ count
+  pub atoms : (atom : ℕ) → atom < count → has_atom set atom ≡ accepts atom
+
+one_more : (count : ℕ) (accepts : ℕ → Bool) (set : ℕ) → IsSetOf count accepts set → IsSetOf (suc count) accepts (set + bit_number (accepts count) * 2 ^ count)
+one_more count accepts set is =
+    let turned : bit_number (accepts count) * 2 ^ count + set ≡ set + bit_number (accepts count) * 2 ^ count = omega arith in
+    subst (IsSetOf (suc count) accepts) turned (record {
+      small = subst (λ power. bit_number (accepts count) * 2 ^ count + set < power) (sym (pow-suc 2 count))
+          (mul-add-lt (bit_number (accepts count)) (2 ^ count) set 2 (small_number (accepts count)) is.small);
+      atoms = atoms;
+    }) where
+      atoms : (atom : ℕ) → atom < suc count → has_atom (bit_number (accepts count) * 2 ^ count + set) atom ≡ accepts atom
+      atoms atom less = elim (cases_lt atom count) [
+        | inl lower ↦ placed_below (bit_number (accepts count)) count set atom lower ∙ is.atoms atom lower
+        | inr last ↦
+            let same : count + 0 ≡ atom = omega (arith, last, less) in
+            let here : count ≡ atom = omega (arith, last, less) in
+            ap (λ a. has_atom (bit_number (accepts count) * 2 ^ count + set) a) (sym same) ∙ placed_above (bit_number (accepts count)) count set 0 is.small
+            ∙ has_first (accepts count) ∙ ap accepts here
+      ]
+
+made : (count : ℕ) (accepts : ℕ → Bool) → IsSetOf count accepts (set_of count accepts)
+made zero accepts = record { small = omega arith; atoms = λ atom less. absurd (omega arith) }
+made (suc count) accepts = one_more count accepts (set_of count accepts) (made count accepts)
+
+pub same_atoms : (count one other : ℕ) → one < 2 ^ count → other < 2 ^ count → ((atom : ℕ) → atom < count → has_atom one atom ≡ has_atom other atom) → one ≡ other
+same_atoms count one other first second same =
+    same_from_bits_below count one other first second (λ atom less. bit_is one atom ∙ ap bit_number (same atom less) ∙ sym (bit_is other atom))
+
+pub sets_are_of_atoms : SetsAreOfAtoms
+sets_are_of_atoms = (λ count accepts. ((made count accepts).small, (made count accepts).atoms), same_atoms)
+
+-- ---- one set within another
+
+abbrev pub Within : (count small large : ℕ) → Type 0
+Within count small large = (atom : ℕ) → atom < count → IsTrue (has_atom small atom) → IsTrue (has_atom large atom)
+
+tells : (small large : Bool) → (not small || large) ≡ true → small ≡ true → large ≡ true
+tells true large e is = e
+tells false large e is = absurd (false≢true is)
+
+told : (small large : Bool) → (small ≡ true → large ≡ true) → (not small || large) ≡ true
+told true large e = e refl
+told false large e = refl
+
+pub from_within : (count small large : ℕ) → is_within count small large ≡ true → Within count small large
+from_within zero small large e atom less is = absurd (omega arith)
+from_within (suc count) small large e atom less is =
+    let both : (is_within count small large ≡ true) × ((not (has_atom small count) || has_atom large count) ≡ true) = and_parts (is_within count small large) _ e in
+    elim (cases_lt atom count) [
+      | inl lower ↦ from_within count small large both.0 atom lower is
+      | inr last ↦
+          let here : count ≡ atom = omega (arith, last, less) in
+          subst (λ a. has_atom large a ≡ true) here (tells (has_atom small count) (has_atom large count) both.1 (subst (λ a. has_atom small a ≡ true) (sym here) is))
+    ]
+
+pub to_within : (count small large : ℕ) → Within count small large → is_within count small large ≡ true
+to_within zero small large all = refl
+to_within (suc count) small large all =
+    and_from (is_within count small large) _ (to_within count small large (λ atom less. all atom (omega (arith, less))))
+    (told (has_atom small count) (has_atom large count) (all count (omega arith)))
+
+pub within_is : (answer : Bool) (count small large : ℕ) → count ≤ 256 → small < 2 ^ count → IsTrue answer ↔ Within 256 small large → answer ≡ is_within count small large
+within_is answer count small large few fits (forth, back) = same_answer answer (is_within count small large)
+    (λ e. to_within count small large (λ atom less. forth e atom (omega (arith, less, few))))
+    (λ e. back (λ atom less is. elim (cases_lt atom count) [
+      | inl lower ↦ from_within count small large e atom lower is
+      | inr above ↦ absurd (false≢true (sym (not_above small count atom fits above) ∙ is))
+    ])) where
+      same_answer : (one other : Bool) → (one ≡ true → other ≡ true) → (other ≡ true → one ≡ true) → one ≡ other
+      same_answer true other to from = sym (to refl)
+      same_answer false true to from = from refl
+      same_answer false false to from = refl
+
+-- ---- words of 64 bits
+
+-- an atom of a word is an atom of the set
+pub word_atom : (set at atom : ℕ) → atom < 64 → has_atom (bits_of set at 64) atom ≡ has_atom set (at + atom)
+word_atom set at atom less =
+    ap (λ bit. bit == 1) (sym (bit_at_cat_low (set / 2 ^ at / 2 ^ 64) 64 (set / 2 ^ at % 2 ^ 64) atom less)
+    ∙ ap (λ n. bit_at n atom) (shr_split (set / 2 ^ at) 64) ∙ ap (λ n. n % 2) (shr-shr set at atom))
+
+pub word_small : (set at : ℕ) → bits_of set at 64 < 2 ^ 64
+word_small set at = mod_below (set / 2 ^ at) (2 ^ 64) (pow_pos 64)
+
+least : (one other : Bool) → min (bit_number one) (bit_number other) ≡ bit_number (one && other)
+least true true = refl
+least true false = refl
+least false true = refl
+least false false = refl
+
+greatest : (one other : Bool) → max (bit_number one) (bit_number other) ≡ bit_number (one || other)
+greatest true true = refl
+greatest true false = refl
+greatest false true = refl
+greatest false false = refl
+
+turned : (one : Bool) → 1 - bit_number one ≡ bit_number (not one)
+turned true = refl
+turned false = refl
+
+both_atoms : (one other atom : ℕ) → has_atom (bit_and one other) atom ≡ (has_atom one atom && has_atom other atom)
+both_atoms one other atom = number_tells _ _
+    (sym (bit_is (bit_and one other) atom) ∙ bit_at_and one other atom ∙ ap (λ b. min b (bit_at other atom)) (bit_is one atom)
+    ∙ ap (λ b. min (bit_number (has_atom one atom)) b) (bit_is other atom) ∙ least (has_atom one atom) (has_atom other atom))
+
+any_atom : (one other atom : ℕ) → has_atom (bit_or one other) atom ≡ (has_atom one atom || has_atom other atom)
+any_atom one other atom = number_tells _ _
+    (sym (bit_is (bit_or one other) atom) ∙ bit_at_or one other atom ∙ ap (λ b. max b (bit_at other atom)) (bit_is one atom)
+    ∙ ap (λ b. max (bit_number (has_atom one atom)) b) (bit_is other atom) ∙ greatest (has_atom one atom) (has_atom other atom))
+
+no_atom : (word atom : ℕ) → word < 2 ^ 64 → atom < 64 → has_atom (bit_not w64 word) atom ≡ not (has_atom word atom)
+no_atom word atom small less = number_tells _ _
+    (sym (bit_is (bit_not w64 word) atom) ∙ bit_at_not w64 word atom small less ∙ ap (λ b. 1 - b) (bit_is word atom) ∙ turned (has_atom word atom))
+
+-- the word of the set that has the atoms of one set, and those of another that are not in a third
+pub word_changed : (adds state deletes at atom : ℕ) → atom < 64
+    → has_atom (bit_or (bits_of adds at 64) (bit_and (bits_of state at 64) (2 ^ 64 - 1 - bits_of deletes at 64))) atom
+    ≡ (has_atom adds (at + atom) || (has_atom state (at + atom) && not (has_atom deletes (at + atom))))
+word_changed adds state deletes at atom less =
+    any_atom (bits_of adds at 64) _ atom
+    ∙ ap (λ b. has_atom (bits_of adds at 64) atom || b) (both_atoms (bits_of state at 64) _ atom)
+    ∙ ap (λ b. has_atom (bits_of adds at 64) atom || (has_atom (bits_of state at 64) atom && b)) (no_atom (bits_of deletes at 64) atom (word_small deletes at) less)
+    ∙ ap (λ b. b || (has_atom (bits_of state at 64) atom && not (has_atom (bits_of deletes at 64) atom))) (word_atom adds at atom less)
+    ∙ ap (λ b. has_atom adds (at + atom) || (b && not (has_atom (bits_of deletes at 64) atom))) (word_atom state at atom less)
+    ∙ ap (λ b. has_atom adds (at + atom) || (has_atom state (at + atom) && not b)) (word_atom deletes at atom less)
+
+-- a word is within another where their common bits are its own
+abbrev pub WordWithin : (small large at : ℕ) → Type 0
+WordWithin small large at = (atom : ℕ) → atom < 64 → IsTrue (has_atom small (at + atom)) → IsTrue (has_atom large (at + atom))
+
+pub from_common : (small large at : ℕ) → bit_and (bits_of small at 64) (bits_of large at 64) ≡ bits_of small at 64 → WordWithin small large at
+from_common small large at same atom less is =
+    let first : has_atom (bits_of small at 64) atom ≡ true = word_atom small at atom less ∙ is in
+    let both : (has_atom (bits_of small at 64) atom && has_atom (bits_of large at 64) atom) ≡ true =
+    sym (both_atoms (bits_of small at 64) (bits_of large at 64) atom) ∙ ap (λ word. has_atom word atom) same ∙ first in
+    sym (word_atom large at atom less) ∙ (and_parts (has_atom (bits_of small at 64) atom) (has_atom (bits_of large at 64) atom) both).1
+
+pub to_common : (small large at : ℕ) → WordWithin small large at → bit_and (bits_of small at 64) (bits_of large at 64) ≡ bits_of small at 64
+to_common small large at all =
+    same_atoms 64 (bit_and (bits_of small at 64) (bits_of large at 64)) (bits_of small at 64) (omega (arith, and_le_l (bits_of small at 64) (bits_of large at 64), word_small small at))
+    (word_small small at) (λ atom less. both_atoms (bits_of small at 64) (bits_of large at 64) atom
+    ∙ absorbed (has_atom (bits_of small at 64) atom) (has_atom (bits_of large at 64) atom)
+    (λ is. word_atom large at atom less ∙ all atom less (sym (word_atom small at atom less) ∙ is))) where
+      absorbed : (one other : Bool) → (one ≡ true → other ≡ true) → (one && other) ≡ one
+      absorbed true other more = more refl
+      absorbed false other more = refl
+
+pub word_within_is : (small large at word other : ℕ) → word ≡ bits_of small at 64 → other ≡ bits_of large at 64 → IsTrue (nat_eq (bit_and word other) word) ↔ WordWithin small large at
+word_within_is small large at word other first second = (
+  λ e. from_common small large at (rw (sym first, sym second) (eqb-true (bit_and word other) word e)),
+  λ all. eq-eqb (bit_and word other) word (rw (first, second) (to_common small large at all)),
+)
+
+pub by_words : (small large : ℕ) → WordWithin small large 0 → WordWithin small large 64 → WordWithin small large 128 → WordWithin small large 192 → Within 256 small large
+by_words small large first second third fourth atom less =
+    elim (cases_lt atom 64) [
+      | inl a ↦ at 0 first (omega (arith, a)) (omega (arith, a))
+      | inr a ↦ elim (cases_lt atom 128) [
+        | inl b ↦ at 64 second (omega (arith, a)) (omega (arith, a, b))
+        | inr b ↦ elim (cases_lt atom 192) [
+          | inl d ↦ at 128 third (omega (arith, b)) (omega (arith, b, d))
+          | inr d ↦ at 192 fourth (omega (arith, d)) (omega (arith, d, less))
+        ]
+      ]
+    ] where
+      at : (from : ℕ) → WordWithin small large from → from ≤ atom → atom - from < 64 → IsTrue (has_atom small atom) → IsTrue (has_atom large atom)
+      at from word low high =
+          let place : from + (atom - from) ≡ atom = omega (arith, low) in
+          subst (λ a. IsTrue (has_atom small a) → IsTrue (has_atom large a)) place (word (atom - from) high)
+
+pub of_words : (small large at : ℕ) → at + 64 ≤ 256 → Within 256 small large → WordWithin small large at
+of_words small large at room all atom less is = all (at + atom) (omega (arith, room, less)) is
+
+-- ---- a set that is filled word by word
+
+-- the atoms below a place are those that a test accepts, and there are no others
+pub record IsFilled (accepts : ℕ → Bool) (set at : ℕ) : Type 0 where
+  pub small : set < 2 ^ at
+  pub atoms : (atom : ℕ) → atom < at → has_atom set atom ≡ accepts atom
+
+pub nothing : (accepts : ℕ → Bool) → IsFilled accepts 0 0
+nothing accepts = record { small = omega arith; atoms = λ atom less. absurd (omega (arith, less)) }
+
+placed : (set at word : ℕ) → set < 2 ^ at → word * 2 ^ at + set ≡ with_bits_of set at 64 word
+placed set at word small =
+    let none : bits_of set at 64 ≡ 0 = ap (λ n. n % 2 ^ 64) (div-eq_of_lt small) in
+    let gone : bits_of set at 64 * 2 ^ at ≡ 0 * 2 ^ at = ap (λ n. n * 2 ^ at) none in
+    omega (arith, gone)
+
+pub next_word : (accepts : ℕ → Bool) (set at word : ℕ) → IsFilled accepts set at → word < 2 ^ 64
+    → ((atom : ℕ) → atom < 64 → has_atom word atom ≡ accepts (at + atom)) → IsFilled accepts (with_bits_of set at 64 word) (at + 64)
+next_word accepts set at word filled fits has =
+    subst (λ s. IsFilled accepts s (at + 64)) (placed set at word filled.small) (record {
+      small = subst (λ power. word * 2 ^ at + set < power) (sym (pow-add 2 at 64)) (mul-add-lt word (2 ^ at) set (2 ^ 64) fits filled.small);
+      atoms = λ atom less. elim (cases_lt atom at) [
+        | inl lower ↦ placed_below word at set atom lower ∙ filled.atoms atom lower
+        | inr above ↦
+            let place : at + (atom - at) ≡ atom = omega (arith, above) in
+            subst (λ a. has_atom (word * 2 ^ at + set) a ≡ accepts a) place
+            (placed_above word at set (atom - at) filled.small ∙ has (atom - at) (omega (arith, less, above)))
+      ];
+    })
+
+pub next_is : (accepts : ℕ → Bool) (set at word filled : ℕ) → filled ≡ with_bits_of set at 64 word → IsFilled accepts set at → word < 2 ^ 64
+    → ((atom : ℕ) → atom < 64 → has_atom word atom ≡ accepts (at + atom)) → IsFilled accepts filled (at + 64)
+next_is accepts set at word filled is before fits has = subst (λ s. IsFilled accepts s (at + 64)) (sym is) (next_word accepts set at word before fits has)
+
+pub more_than : (count : ℕ) → count ≤ 256 → 2 ^ count ≤ 2 ^ 256
+more_than count few = pow-le-pow_right {n = 2} (lit< tt) {i = count} {j = 256} few
+
+-- a set that has no atoms from `count` on, filled up to 256, is the set of the first `count`
+pub filled_is : (accepts : ℕ → Bool) (set count : ℕ) → count ≤ 256 → set < 2 ^ 256 → ((atom : ℕ) → atom < 256 → has_atom set atom ≡ accepts atom)
+    → ((atom : ℕ) → count ≤ atom → accepts atom ≡ false) → set ≡ set_of count accepts
+filled_is accepts set count few small has none =
+    let made_small : set_of count accepts < 2 ^ count = (made count accepts).small in
+    same_atoms 256 set (set_of count accepts) small (omega (arith, made_small, more_than count few))
+    (λ atom less. has atom less ∙ elim (cases_lt atom count) [
+      | inl lower ↦ sym ((made count accepts).atoms atom lower)
+      | inr above ↦ none atom above ∙ sym (not_above (set_of count accepts) count atom made_small above)
+    ])

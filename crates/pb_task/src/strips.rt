@@ -1,0 +1,53 @@
+ghost use Rattle.std.specs.Prelude.{◌≡◌, ◌<◌, ◌≤◌, IsTrue, length};
+ghost use Rattle.pb_task.specs.Strips.{IsStrips, is_atom_set, is_strips_goal, strips_step, name_in};
+
+use crate::parts::StripsParts;
+use crate::sets;
+use pb_packed::Packed;
+
+/// Whether a state is a set of the task's atoms.
+pub fn is_state(strips: &StripsParts, state: &Packed) -> bool
+    requires { IsStrips strips.now }
+    ensures { result ≡ is_atom_set strips.now.atoms state.now }
+{
+    sets::is_atom_set(strips.atoms, state)
+}
+
+/// Whether all atoms of the goal hold in a state, and the goal asks for nothing that never holds.
+pub fn is_goal(strips: &StripsParts, state: &Packed) -> bool
+    requires { IsStrips strips.now }
+    ensures { result ≡ is_strips_goal strips.now state.now }
+{
+    let may_hold = !strips.never;
+    may_hold && sets::is_within(&strips.goal, state)
+}
+
+/// How many actions there are.
+pub fn actions(strips: &StripsParts) -> u32
+    requires { IsStrips strips.now }
+    ensures { result ≡ length strips.now.actions }
+{
+    strips.actions.as_slice().len() as u32
+}
+
+/// The step from a state by an action.
+pub fn step(strips: &StripsParts, from: &Packed, action: u32) -> Option<(Packed, u64)>
+    requires strips { IsStrips strips.now }
+    requires state { IsTrue (is_atom_set strips.now.atoms from.now) }
+    ensures { result ≡ strips_step strips.now from.now action }
+{
+    let action = strips.actions.as_slice().get(action as usize)?;
+    if sets::is_within(&action.needs, from) {
+        Some((sets::after(action, from), action.cost))
+    } else {
+        None
+    }
+}
+
+/// The name of an action.
+pub fn name(strips: &StripsParts, action: u32) -> &str
+    requires { action < length strips.now.actions }
+    ensures { result.now ≡ name_in strips.now.actions action }
+{
+    strips.actions.as_slice()[action as usize].name.as_str()
+}

@@ -1,0 +1,208 @@
+-- What is claimed of a STRIPS task by names follows from what is claimed of its packed task.
+use Rattle.std.proofs.Common.{◌≡◌, ℕ, ◌+◌, ◌*◌, ◌≤◌, Option, None, Some, IfSome, List, length, map, slice_get, Result, Ok, Err, refl, sym, ap, ◌∙◌, subst, arith}
+use Rattle.pb_model.specs.Plan.{Plan, IsPlan as IsPackedPlan, HasNoPlan, NoneCheaper, IsBound}
+use Rattle.pb_model.specs.Texts.{plan_report}
+use Rattle.pb_task.specs.declared.parts.Parts.{Parts}
+use Rattle.pb_task.specs.declared.parts.Parts.TheVariants as parts
+use Rattle.pb_task.specs.Parts.{space_of, action_name}
+use Rattle.pb_task.specs.Strips.{strips_space, name_in}
+use Rattle.pb_trees.specs.declared.error.SyntaxError.{SyntaxError}
+use Rattle.pb_trees.specs.declared.tree.Domain.{Domain}
+use Rattle.pb_trees.specs.declared.tree.Problem.{Problem}
+use Rattle.pb_trees.specs.Readings.{domain_reading, problem_reading}
+use Rattle.pb_lifted.specs.Plans.{NamedAction, IsPlan}
+use Rattle.pb_strips.specs.declared.error.StripsError.{StripsError}
+use Rattle.pb_trees.specs.Reading.{unlimited, domain_at, problem_at}
+use Rattle.pb_trees.specs.Readings.{tokens_of}
+use Rattle.pb_trees.specs.Words.{DomainHasWords, ProblemHasWords}
+use Rattle.pb_grammar.proofs.FormsRead.{domain_is, problem_is}
+use Rattle.pb_grammar.proofs.TokensOf.{texts_have_tokens}
+use Rattle.pb_grammar.proofs.NamesAreWords.{domain_has_words, problem_has_words}
+use Rattle.pb_strips.specs.Names.{action_bytes, action_text}
+use Rattle.pb_naming.proofs.Printed.{names_are_printed}
+use Rattle.pb_strips.specs.Grounding.{strips_of}
+use Rattle.pb_strips.specs.Refusals.{first_fault}
+use Rattle.pb_strips.specs.Correspondence.{PackedPlansArePlans, PlansArePackedPlans}
+use Rattle.pb_strips.proofs.PlansAgree.{packed_plans_are_plans, plans_are_packed_plans}
+use Rattle.pb_check.specs.declared.fault.Verdict.{Verdict}
+use Rattle.pb_check.specs.declared.fault.Verdict.TheVariants.{Bounded, Unsolvable}
+use Rattle.pb_check.specs.Shown.{VerdictHolds}
+use Rattle.pb_report.specs.Texts.{plan_text, syntax_text, strips_text}
+use Rattle.pb_outside.specs.Outside.{Files}
+use Rattle.pb_words.specs.Values.{InputNames, Grid, Tiles, Strips}
+use Rattle.pb_words.specs.Meaning.{Reading, Refused, Read, Solve, Check, SolveMeaning, CheckMeaning}
+use Rattle.pbnf.specs.Asked.{Wanted, IsSolve, IfSolve, IfCheck}
+use Rattle.pbnf.specs.Loaded.{loads_of, AreLoaded, refused_with, strips_told, problem_told, domain_told, strips_task, input_task, with_certificate, check_task, solve_task, OfTexts, OfCheckedTexts}
+use Rattle.pbnf.specs.Leases.{unweighted}
+use Rattle.pbnf.specs.Claims.{Saved, Solves, Accepts}
+use Rattle.pbnf.specs.Named.{SpellTrees, OfTrees, OfTreeFiles, NoneShorter, HasNoNamedPlan, PrintsNamedPlan, NamedVerdict, AcceptsNamed}
+
+-- ---- the trees of a task
+
+domain_words : (text : List ℕ) (domain : Domain) → domain_reading text ≡ Ok domain → DomainHasWords domain
+unfolding domain_reading
+domain_words text domain reads = domain_has_words text domain (tokens_of text, texts_have_tokens text, domain_is (tokens_of text) domain reads)
+
+problem_words : (text : List ℕ) (problem : Problem) → problem_reading text ≡ Ok problem → ProblemHasWords problem
+unfolding problem_reading
+problem_words text problem reads = problem_has_words text problem (tokens_of text, texts_have_tokens text, problem_is (tokens_of text) problem reads)
+
+-- they are a task, and their names are words
+pub record AreTask (domain : Domain) (problem : Problem) : Type 0 where
+  pub accepted : first_fault domain problem ≡ None
+  pub words : DomainHasWords domain
+  pub others : ProblemHasWords problem
+
+pub record Trees (domain_text problem_text : Option (List ℕ)) (task : Parts) : Type 0 where
+  pub domain : Domain
+  pub problem : Problem
+  pub spelled : SpellTrees domain_text problem_text domain problem
+  pub are : AreTask domain problem
+  pub is : task ≡ parts.Strips (strips_of domain problem)
+
+trees_of : (domain_text problem_text : Option (List ℕ)) (task : Parts) → strips_task domain_text problem_text ≡ Ok task → Trees domain_text problem_text task
+trees_of None problem_text task e = cc
+trees_of (Some domain_text) None task e = cc
+trees_of (Some domain_text) (Some problem_text) task e = at_domain (domain_reading domain_text) refl e
+  where
+    none : {A : Type 0} → (report : Option (List ℕ)) → refused_with report ≡ Ok task → A
+    none None f = cc
+    none (Some report) f = cc
+
+    at_fault : (domain : Domain) (problem : Problem) → domain_reading domain_text ≡ Ok domain → problem_reading problem_text ≡ Ok problem → (fault : Option StripsError)
+        → first_fault domain problem ≡ fault → strips_told domain problem fault ≡ Ok task → Trees (Some domain_text) (Some problem_text) task
+    at_fault domain problem reads also None accepted f =
+        let is : task ≡ parts.Strips (strips_of domain problem) = cc in
+        record {
+          domain = domain;
+          problem = problem;
+          spelled = (reads, also);
+          are = record { accepted = accepted; words = domain_words domain_text domain reads; others = problem_words problem_text problem also };
+          is = is;
+        }
+    at_fault domain problem reads also (Some error) accepted f = none (strips_text error) f
+
+    at_problem : (domain : Domain) → domain_reading domain_text ≡ Ok domain → (reading : Result Problem SyntaxError) → problem_reading problem_text ≡ reading
+        → problem_told domain reading ≡ Ok task → Trees (Some domain_text) (Some problem_text) task
+    at_problem domain reads (Ok problem) also f = at_fault domain problem reads also (first_fault domain problem) refl f
+    at_problem domain reads (Err error) also f = none (syntax_text 2 error) f
+
+    at_domain : (reading : Result Domain SyntaxError) → domain_reading domain_text ≡ reading → domain_told reading (problem_reading problem_text) ≡ Ok task
+        → Trees (Some domain_text) (Some problem_text) task
+    at_domain (Ok domain) reads f = at_problem domain reads (problem_reading problem_text) refl f
+    at_domain (Err error) reads f = none (syntax_text 1 error) f
+
+-- what follows for every domain and problem from what holds of their task holds of the trees that the texts spell
+by_trees : (P : Parts → Type 0) (Q : Domain → Problem → Type 0) → ((domain : Domain) (problem : Problem) → AreTask domain problem → P (parts.Strips (strips_of domain problem)) → Q domain problem)
+    → (input : InputNames) (row first : ℕ) (texts : List (List ℕ)) (task : Parts) → input_task input row first texts ≡ Ok task → P task → OfTrees input first texts Q
+by_trees P Q f (Grid names) row first texts task is holds = tt
+by_trees P Q f (Tiles board) row first texts task is holds = tt
+by_trees P Q f (Strips names) row first texts task is holds =
+    let trees : Trees (slice_get texts first) (slice_get texts (first + 1)) task = trees_of (slice_get texts first) (slice_get texts (first + 1)) task is in
+    (trees.domain, trees.problem, trees.spelled, f trees.domain trees.problem trees.are (subst P trees.is holds))
+
+checked_input : (certificate : Option (List ℕ)) (task : Result Parts (List ℕ)) (of : Parts) (text : List ℕ) → with_certificate certificate task ≡ Ok (of, text) → task ≡ Ok of
+checked_input None task of text e = cc
+checked_input (Some certificate) (Err report) of text e = cc
+checked_input (Some certificate) (Ok task) of text e =
+    let same = unwrap (task, certificate) (of, text) e in
+    ap (λ (pair : Parts × List ℕ). Ok pair.0) same
+  where
+    unwrap : (a b : Parts × List ℕ) → ◌≡◌ {A = Result (Parts × List ℕ) (List ℕ)} (Ok a) (Ok b) → a ≡ b
+    unwrap a b f = cc
+
+-- ---- plans
+
+module _ (domain : Domain) (problem : Problem) (are : AreTask domain problem) where
+  abbrev pub task : Parts
+  task = parts.Strips (strips_of domain problem)
+
+  -- a plan by names has no fewer actions than a packed plan that none is cheaper than costs
+  none_shorter : (cost bound : ℕ) → bound ≤ cost → ((plan : Plan) → IsPackedPlan (space_of task) plan → cost ≤ plan.cost) → NoneShorter domain problem bound
+  none_shorter cost bound less least others is =
+      let packed = plans_are_packed_plans domain problem others are.accepted is in
+      let short = least (record { actions = packed.0; cost = length others }) packed.1 in
+      omega (arith, less, short)
+
+  pub no_named_plan : HasNoPlan (space_of task) → HasNoNamedPlan domain problem
+  no_named_plan none actions is =
+      let packed = plans_are_packed_plans domain problem actions are.accepted is in
+      none (record { actions = packed.0; cost = length actions }) packed.1
+
+  pub prints_named_plan : (says : List ℕ → Type 0) (saves : Option Saved → Type 0) (name : Option (List ℕ)) → Solves says saves name task → PrintsNamedPlan says domain problem
+  prints_named_plan says saves name (plan, bound, text, is, bounded, least, saved, fits) =
+      let named = packed_plans_are_plans domain problem plan are.accepted is in
+      let cost : plan.cost ≡ length named.0 = named.3 in
+      let names = sym named.2 ∙ names_are_printed domain problem named.0 are.words are.others named.1 in
+      let over = bounded.enough in
+      let under = bounded.least plan.cost (omega arith) in
+      let bound_is : bound ≡ length named.0 = omega (arith, over, under, cost) in (
+        named.0,
+        subst says
+            (ap (λ steps. plan_report steps plan.cost bound) names
+            ∙ (ap (λ n. plan_report (map (action_bytes domain) named.0) n bound) cost ∙ ap (λ n. plan_report (map (action_bytes domain) named.0) (length named.0) n) bound_is)) text,
+        named.1,
+        none_shorter plan.cost (length named.0) (omega (arith, cost)) (λ other other_is. let cheap = least other other_is in omega (arith, cheap)),
+      )
+
+  pub named_verdict : (verdict : Verdict) → VerdictHolds (space_of task) verdict → NamedVerdict domain problem verdict
+  named_verdict Unsolvable none = no_named_plan none
+  named_verdict (Bounded cost bound) ((plan, is, costs), least) =
+      let named = packed_plans_are_plans domain problem plan are.accepted is in
+      ((named.0, named.1, sym named.3 ∙ costs), none_shorter bound bound (omega arith) least)
+
+-- ---- of what is answered
+
+module _ (texts : List (List ℕ)) where
+  pub solved_by_names : (says : List ℕ → Type 0) (saves : Option Saved → Type 0) (reading : Reading) → IfSolve reading (λ solve. OfTexts solve texts (Solves says saves solve.certificate))
+      → IfSolve reading (λ solve. OfTrees solve.input 0 texts (PrintsNamedPlan says))
+  solved_by_names says saves (Refused fault) h = tt
+  solved_by_names says saves (Read (Check check)) h = tt
+  solved_by_names says saves (Read (Solve solve)) (task, is, holds) =
+      by_trees (Solves says saves solve.certificate) (PrintsNamedPlan says) (λ domain problem are solves. prints_named_plan domain problem are says saves solve.certificate solves) solve.input solve.row
+      0 texts task is holds
+
+  pub none_by_names : (reading : Reading) → IsSolve reading (λ solve. OfTexts solve texts (λ task. HasNoPlan (space_of task))) → IsSolve reading (λ solve. OfTrees solve.input 0 texts HasNoNamedPlan)
+  none_by_names (Refused fault) h = h
+  none_by_names (Read (Check check)) h = h
+  none_by_names (Read (Solve solve)) (task, is, holds) = by_trees (λ t. HasNoPlan (space_of t)) HasNoNamedPlan no_named_plan solve.input solve.row 0 texts task is holds
+
+  pub accepted_by_names : (says : List ℕ → Type 0) (reading : Reading) → IfCheck reading (λ check. OfCheckedTexts check texts (Accepts says)) → IfCheck reading (λ check. OfTrees check.input 1 texts (AcceptsNamed says))
+  accepted_by_names says (Refused fault) h = tt
+  accepted_by_names says (Read (Solve solve)) h = tt
+  accepted_by_names says (Read (Check check)) (task, certificate, is, holds) =
+      by_trees (λ t. Accepts says t certificate) (AcceptsNamed says) (λ domain problem are claims. (claims.0, claims.1, named_verdict domain problem are claims.0 claims.5)) check.input check.row 1 texts
+      task (checked_input (slice_get texts 0) (input_task check.input check.row 1 texts) task certificate is) holds
+
+-- ---- of the files
+
+more_of_trees : (P Q : Domain → Problem → Type 0) → ((domain : Domain) (problem : Problem) → P domain problem → Q domain problem) → (input : InputNames) (first : ℕ) (texts : List (List ℕ))
+    → OfTrees input first texts P → OfTrees input first texts Q
+more_of_trees P Q f (Grid names) first texts h = tt
+more_of_trees P Q f (Tiles board) first texts h = tt
+more_of_trees P Q f (Strips names) first texts (domain, problem, spelled, holds) = (domain, problem, spelled, f domain problem holds)
+
+of_files : (files : Option Files) (wanted : List Wanted) (texts : List (List ℕ)) → AreLoaded files wanted texts → (P Q : Domain → Problem → Type 0)
+    → ((domain : Domain) (problem : Problem) → P domain problem → Q domain problem) → (input : InputNames) (first : ℕ) → OfTrees input first texts P → OfTreeFiles files wanted input first Q
+of_files None wanted texts loaded P Q f input first h = tt
+of_files (Some shelf) wanted texts loaded P Q f input first h = (texts, loaded, more_of_trees P Q f input first texts h)
+
+pub if_solve_files : (files : Option Files) (wanted : List Wanted) (texts : List (List ℕ)) → AreLoaded files wanted texts → (P Q : Domain → Problem → Type 0)
+    → ((domain : Domain) (problem : Problem) → P domain problem → Q domain problem) → (reading : Reading) → IfSolve reading (λ solve. OfTrees solve.input 0 texts P)
+    → IfSolve reading (λ solve. OfTreeFiles files wanted solve.input 0 Q)
+if_solve_files files wanted texts loaded P Q f (Refused fault) h = tt
+if_solve_files files wanted texts loaded P Q f (Read (Check check)) h = tt
+if_solve_files files wanted texts loaded P Q f (Read (Solve solve)) h = of_files files wanted texts loaded P Q f solve.input 0 h
+
+pub is_solve_files : (files : Option Files) (wanted : List Wanted) (texts : List (List ℕ)) → AreLoaded files wanted texts → (P : Domain → Problem → Type 0) → (reading : Reading)
+    → IsSolve reading (λ solve. OfTrees solve.input 0 texts P) → IsSolve reading (λ solve. OfTreeFiles files wanted solve.input 0 P)
+is_solve_files files wanted texts loaded P (Refused fault) h = h
+is_solve_files files wanted texts loaded P (Read (Check check)) h = h
+is_solve_files files wanted texts loaded P (Read (Solve solve)) h = of_files files wanted texts loaded P P (λ domain problem holds. holds) solve.input 0 h
+
+pub if_check_files : (files : Option Files) (wanted : List Wanted) (texts : List (List ℕ)) → AreLoaded files wanted texts → (P Q : Domain → Problem → Type 0)
+    → ((domain : Domain) (problem : Problem) → P domain problem → Q domain problem) → (reading : Reading) → IfCheck reading (λ check. OfTrees check.input 1 texts P)
+    → IfCheck reading (λ check. OfTreeFiles files wanted check.input 1 Q)
+if_check_files files wanted texts loaded P Q f (Refused fault) h = tt
+if_check_files files wanted texts loaded P Q f (Read (Solve solve)) h = tt
+if_check_files files wanted texts loaded P Q f (Read (Check check)) h = of_files files wanted texts loaded P Q f check.input 1 h

@@ -1,0 +1,76 @@
+-- A search by leases that the words ask for, from its opening to its end.
+use Rattle.std.proofs.Common.{◌≡◌, false, None, Some, refl, ap, ◌∙◌, subst}
+use Rattle.pb_model.specs.Weight.{Weight}
+use Rattle.pb_model.specs.Work.{Comes, opening_store}
+use Rattle.pb_task.specs.declared.parts.Parts.{Parts}
+use Rattle.pb_task.specs.Parts.{greatest_cost}
+use Rattle.pb_machine.specs.declared.event.End.TheVariants.{Budget}
+use Rattle.pb_machine.specs.Settings.{weight_of}
+use Rattle.pb_machine.specs.Counts.{Counts, is_any_out}
+use Rattle.pb_machine.specs.Machine.{Setup, IsSetup, opening_machine}
+use Rattle.pb_machine.specs.Turns.{RunsInOrder}
+use Rattle.pb_machine.specs.Lawful.{IsLawful}
+use Rattle.pb_machine.proofs.MomentLaws.{budget_ends_are_spent}
+use Rattle.pb_abstract.specs.Projection.{IsFinest}
+use Rattle.pb_abstract.specs.Graph.{AbstractGraph, IsGraphOf}
+use Rattle.pb_lease.specs.Leased.{setup_of}
+use Rattle.pb_lease.specs.GraphValue.{GraphValue, setup_in, counts_in, IsLeaseGraph}
+use Rattle.pb_lease.specs.Choices.{is_out_in}
+use Rattle.pb_lease.proofs.GraphBasics.{setup_is}
+use Rattle.pb_workers.specs.Runs.{IsSameSearch, IsAnyMoment, RunsOn}
+use Rattle.pb_workers.specs.Ends.{IsBestEnd}
+use Rattle.pb_words.specs.Meaning.{SolveMeaning}
+use Rattle.pbnf.specs.Leases.{settings_of, IsOpening, IsBestOf, StopsAtBudget}
+
+module _ (parts : Parts) (graph : AbstractGraph) (solve : SolveMeaning) (old : GraphValue) (opening : IsOpening parts graph (settings_of solve) old) where
+  abbrev setup : Setup
+  setup = setup_of parts graph (settings_of solve) 0
+
+  pub opening_is_moment : IsAnyMoment old
+  opening_is_moment = (λ worker home state. None, opening_machine (setup_in old), opening.moment)
+
+  pub none_out : is_out_in old ≡ false
+  none_out = λ i. is_any_out (opening.settings_are i).workers (opening.none_out i).leases
+
+  pub none_signed_off : (counts_in old).signed_off 0 ≡ false
+  none_signed_off = ap (λ (c : Counts). c.signed_off 0) opening.none_out
+
+  old_setup : setup_in old ≡ setup
+  old_setup = λ i. setup_of (opening.task i) (opening.graph_is i) (opening.settings_are i) 0
+
+  module _ (new : GraphValue) (same : IsSameSearch old new) where
+    new_setup : setup_in new ≡ setup
+    new_setup = (λ i. setup_of (same.task i) (same.graph i) (same.settings i) 0) ∙ old_setup
+
+    pub is_best : is_out_in new ≡ false → IsBestEnd new → IsBestOf parts new
+    is_best home best = record {
+      task = same.task ∙ opening.task;
+      weight = ap weight_of (same.settings ∙ opening.settings_are);
+      home = home;
+      best = best;
+    }
+
+    pub stops : IsLeaseGraph new → RunsOn old new → IsGraphOf parts graph → IsFinest parts solve.blocks graph.projection → new.table.end ≡ Some Budget → StopsAtBudget parts (settings_of solve)
+    stops k run graph_of finest ended =
+        let last = run (λ worker home state. None) (opening_machine (setup_in old)) opening.moment in
+        let to = last.1 in
+        let lawful : IsLawful setup last.0 = subst (λ (s : Setup). IsLawful s last.0) new_setup to.moment.lawful in
+        let proper : IsSetup setup greatest_cost = subst (λ (s : Setup). IsSetup s greatest_cost) new_setup (setup_is new k) in
+        let end = ap (λ (c : Counts). c.end) to.moment.counts ∙ ended in
+        let all = budget_ends_are_spent setup greatest_cost last.0 proper lawful end in
+        record {
+          graph = graph;
+          graph_of = graph_of;
+          finest = finest;
+          moves = to.moves;
+          machine = last.0;
+          run = subst (λ (s : Setup). RunsInOrder s (opening_machine s) to.moves last.0) old_setup to.run;
+          lawful = lawful;
+          end = end;
+          works = all.1;
+          comes = subst (λ (w : Weight). Comes setup.space setup.guide all.1 (opening_store setup.space setup.guide w) last.0.store) (all.8 refl) all.3;
+          all = all.4;
+          none_broken = all.5;
+          one_run = all.6;
+          opened = all.9;
+        }

@@ -1,0 +1,65 @@
+-- The search that the words ask for: what it is run with, and what a stop by its budget means.
+use Rattle.std.specs.Prelude.{◌≡◌, ℕ, false, IsFalse, List, None, Some}
+use Rattle.pb_model.specs.Weight.{Weight}
+use Rattle.pb_model.specs.Store.{HasOpened}
+use Rattle.pb_model.specs.Work.{Work, Comes, expansions, broken_expansions, reopenings, opening_store}
+use Rattle.pb_machine.specs.declared.event.End.TheVariants.{Budget}
+use Rattle.pb_machine.specs.declared.settings.Settings.{Settings}
+use Rattle.pb_machine.specs.Settings.{weight_of}
+use Rattle.pb_machine.specs.Counts.{opening_counts}
+use Rattle.pb_machine.specs.Machine.{Machine, Move, opening_machine}
+use Rattle.pb_machine.specs.Turns.{RunsInOrder}
+use Rattle.pb_machine.specs.Lawful.{IsLawful}
+use Rattle.pb_task.specs.declared.parts.Parts.{Parts}
+use Rattle.pb_task.specs.Parts.{space_of}
+use Rattle.pb_abstract.specs.Projection.{IsFinest}
+use Rattle.pb_abstract.specs.Graph.{AbstractGraph, IsGraphOf}
+use Rattle.pb_lease.specs.Leased.{guide_of, setup_of}
+use Rattle.pb_lease.specs.GraphValue.{GraphValue, setup_in, counts_in}
+use Rattle.pb_lease.specs.Choices.{is_out_in}
+use Rattle.pb_lease.specs.Moments.{IsMoment}
+use Rattle.pb_workers.specs.Ends.{IsBestEnd}
+use Rattle.pb_words.specs.Meaning.{SolveMeaning}
+
+-- the weight 1
+abbrev pub unweighted : Weight
+unweighted = record { num = 1; den = 1 }
+
+-- one worker, at weight 1, with the budget, the lot and the number of blocks that the words give or that stand where they give none
+abbrev pub settings_of : SolveMeaning → Settings
+settings_of solve = record { workers = 1; num = 1; den = 1; budget = solve.budget; lot = solve.lot; wish = solve.blocks; plain = false }
+
+-- the graph is that of a search of this task by this abstract graph, with these settings, that begins: the start alone has a row
+pub record IsOpening (parts : Parts) (abstraction : AbstractGraph) (settings : Settings) (graph : GraphValue) : Type 0 where
+  pub task : graph.task ≡ parts
+  pub graph_is : graph.table.graph ≡ abstraction
+  pub settings_are : graph.table.settings ≡ settings
+  pub none_out : counts_in graph ≡ opening_counts settings 0
+  pub moment : IsMoment graph (λ worker home state. None) (opening_machine (setup_in graph))
+
+-- A search of this task at weight 1 came to a quiet end with this graph, all of whose rows are at home: they are a sound store without an Opened
+-- row. The incumbent is shown by a goal's row, some plan costs no more, and no plan costs less; without an incumbent there is no plan.
+pub record IsBestOf (parts : Parts) (graph : GraphValue) : Type 0 where
+  pub task : graph.task ≡ parts
+  pub weight : weight_of graph.table.settings ≡ unweighted
+  pub home : IsFalse (is_out_in graph)
+  pub best : IsBestEnd graph
+
+-- A search by leases of this task, with these settings, came to the end of its budget: over the finest abstract graph of the task that has no
+-- more blocks than are wished for, a run in order leads from the machine that has the start's row alone to a lawful one, whose end is that. So
+-- exactly as many expansions as the budget allows, none of them broken off, lead from the start's row alone to its rows, of which one is Opened.
+pub record StopsAtBudget (parts : Parts) (settings : Settings) : Type 0 where
+  pub graph : AbstractGraph
+  pub graph_of : IsGraphOf parts graph
+  pub finest : IsFinest parts settings.wish graph.projection
+  pub moves : List Move
+  pub machine : Machine
+  pub run : RunsInOrder (setup_of parts graph settings 0) (opening_machine (setup_of parts graph settings 0)) moves machine
+  pub lawful : IsLawful (setup_of parts graph settings 0) machine
+  pub end : machine.counts.end ≡ Some Budget
+  pub works : List Work
+  pub comes : Comes (space_of parts) (guide_of parts graph) works (opening_store (space_of parts) (guide_of parts graph) (weight_of settings)) machine.store
+  pub all : expansions works ≡ settings.budget
+  pub none_broken : broken_expansions works ≡ 0
+  pub one_run : reopenings works ≡ 0
+  pub opened : (block : ℕ) × HasOpened (machine.store.rows block)
