@@ -1,18 +1,18 @@
 -- Names of which none is declared twice are distinct.
-use Rattle.std.proofs.Common.{◌≡◌, ◌<◌, ◌+◌, ℕ, zero, suc, Bool, true, false, not, cond, nat_lt, Some, None, List, [], ◌∷◌, ◌++◌, length, map, refl, sym, ap, ◌∙◌, subst, arith}
+use Rattle.std.proofs.Common.{◌≡◌, ◌<◌, ◌+◌, ℕ, zero, suc, Bool, true, false, not, cond, nat_lt, Some, None, List, [], ◌∷◌, ◌++◌, length, map, refl, sym, ap, ◌∙◌, subst, arith, ◌||◌, option_map, Option}
 use Rattle.std.specs.Str.{bytes_eq}
 use Rattle.std.proofs.lemmas.Bool.Decides.{nat_tests}
 use Rattle.std.proofs.lemmas.List.{append-nil, append_assoc, map-append, length_push}
 use Rattle.pb_trees.specs.declared.tree.Name.{Name}
 use Rattle.pb_trees.specs.declared.tree.Typed.{Typed}
-use Rattle.pb_lifted.specs.Names.{number_of, is_among, repeated}
+use Rattle.pb_lifted.specs.Names.{number_of, is_among, repeated, fault_if}
 use Rattle.pb_lifted.specs.Types.{name_text}
 use Rattle.pb_lifted.specs.Refusals.{typed_name}
 use Rattle.pb_lifted.specs.Facts.{name_at}
 use Rattle.pb_lifted.specs.Typing.{AreDistinct}
 use Rattle.pb_lifted.proofs.Numbering.{or_else, number_added, absent_is}
 use Rattle.pb_lifted.proofs.TypeTree.{self_text}
-use Rattle.pb_lifted.proofs.Faultless.{nil_left, nil_right, no_fault}
+use Rattle.pb_lifted.proofs.Faultless.{nil_left, nil_right, both_nil, no_fault}
 
 front_name : (names more : List (List ℕ)) (i : ℕ) → i < length names → name_at (names ++ more) i ≡ name_at names i
 front_name [] more i less = absurd (omega arith)
@@ -54,9 +54,10 @@ distinct_on before (name ∷ names) h each =
     (distinct_on (before ++ name.text ∷ []) names (nil_right _ (repeated (before ++ name.text ∷ []) names) h)
     (one_more before name.text each (no_fault (is_among name.text before) name.at (nil_left _ (repeated (before ++ name.text ∷ []) names) h))))
 
-names_again : (list : List Typed) → map text_of (map typed_name list) ≡ map name_text list
-names_again [] = refl
-names_again (t ∷ list) = ap (λ names. name_text t ∷ names) (names_again list)
+-- the texts of the names of a list
+pub texts : {A : Type 0} (name_of : A → Name) (list : List A) → map text_of (map name_of list) ≡ map (λ a. (name_of a).text) list
+texts name_of [] = refl
+texts name_of (x ∷ list) = ap (λ names. (name_of x).text ∷ names) (texts name_of list)
 
 none_distinct : AreDistinct []
 none_distinct i less = absurd (omega arith)
@@ -64,5 +65,58 @@ none_distinct i less = absurd (omega arith)
 pub objects_distinct : (constants objects : List Typed) → repeated [] (map typed_name constants) ≡ [] → repeated (map name_text constants) (map typed_name objects) ≡ []
     → AreDistinct (map name_text (constants ++ objects))
 objects_distinct constants objects once again =
-    subst AreDistinct (ap (λ names. map name_text constants ++ names) (names_again objects) ∙ sym (map-append name_text constants objects))
-    (distinct_on (map name_text constants) (map typed_name objects) again (subst AreDistinct (names_again constants) (distinct_on [] (map typed_name constants) once none_distinct)))
+    subst AreDistinct (ap (λ names. map name_text constants ++ names) (texts typed_name objects) ∙ sym (map-append name_text constants objects))
+    (distinct_on (map name_text constants) (map typed_name objects) again (subst AreDistinct (texts typed_name constants) (distinct_on [] (map typed_name constants) once none_distinct)))
+
+-- what is declared in one list
+pub declared_once : {A : Type 0} (name_of : A → Name) (list : List A) → repeated [] (map name_of list) ≡ [] → AreDistinct (map (λ a. (name_of a).text) list)
+declared_once name_of list once = subst AreDistinct (texts name_of list) (distinct_on [] (map name_of list) once none_distinct)
+
+-- ---- and distinct names are not declared twice
+
+name_here : (before more : List (List ℕ)) (name : List ℕ) → name_at (before ++ name ∷ more) (length before) ≡ name
+name_here [] more name = refl
+name_here (x ∷ before) more name = name_here before more name
+
+fewer_before : (before more : List (List ℕ)) (name : List ℕ) → length before < length (before ++ name ∷ more)
+fewer_before [] more name = omega arith
+fewer_before (x ∷ before) more name = let less : length before < length (before ++ name ∷ more) = fewer_before before more name in omega arith
+
+suc_same : (m n : ℕ) → Some (suc m) ≡ Some (suc n) → m ≡ n
+suc_same m n e = cc
+
+-- a name whose number comes behind a list is not in it
+not_before : (before more : List (List ℕ)) (name : List ℕ) → number_of name (before ++ more) ≡ Some (length before) → is_among name before ≡ false
+not_before [] more name h = refl
+not_before (x ∷ before) more name h = at (bytes_eq name x) (number_of name (before ++ more)) h (not_before before more name)
+  where
+    at : (here : Bool) (n : Option ℕ) → cond here (Some 0) (option_map suc n) ≡ Some (suc (length before)) → (n ≡ Some (length before) → is_among name before ≡ false)
+        → (here || is_among name before) ≡ false
+    at true n e rest = cc
+    at false None e rest = cc
+    at false (Some m) e rest = rest (ap Some (suc_same m (length before) e))
+
+pub none_repeated : (before : List (List ℕ)) (names : List Name) (more : List (List ℕ)) → AreDistinct (before ++ (map text_of names ++ more)) → repeated before names ≡ []
+none_repeated before [] more each = refl
+none_repeated before (name ∷ names) more each =
+    let later : List (List ℕ) = map text_of names ++ more in
+    let number : number_of name.text (before ++ name.text ∷ later) ≡ Some (length before) =
+    ap (λ t. number_of t (before ++ name.text ∷ later)) (sym (name_here before later name.text)) ∙ each (length before) (fewer_before before later name.text) in
+    both_nil (fault_if (is_among name.text before) name.at) (repeated (before ++ name.text ∷ []) names)
+    (ap (λ b. fault_if b name.at) (not_before before (name.text ∷ later) name.text number))
+    (none_repeated (before ++ name.text ∷ []) names more (subst AreDistinct (sym (append_assoc before (name.text ∷ []) later)) each))
+
+-- what is declared in one list
+pub none_twice : {A : Type 0} (name_of : A → Name) (list : List A) → AreDistinct (map (λ a. (name_of a).text) list) → repeated [] (map name_of list) ≡ []
+none_twice name_of list each = none_repeated [] (map name_of list) [] (subst AreDistinct (sym (append-nil (map text_of (map name_of list)) ∙ texts name_of list)) each)
+
+pub no_constant_twice : (constants objects : List Typed) → AreDistinct (map name_text (constants ++ objects)) → repeated [] (map typed_name constants) ≡ []
+no_constant_twice constants objects each =
+    none_repeated [] (map typed_name constants) (map name_text objects)
+    (subst AreDistinct (map-append name_text constants objects ∙ ap (λ names. names ++ map name_text objects) (sym (texts typed_name constants))) each)
+
+pub no_object_twice : (constants objects : List Typed) → AreDistinct (map name_text (constants ++ objects)) → repeated (map name_text constants) (map typed_name objects) ≡ []
+no_object_twice constants objects each =
+    none_repeated (map name_text constants) (map typed_name objects) []
+    (subst AreDistinct
+    (map-append name_text constants objects ∙ ap (λ names. map name_text constants ++ names) (sym (append-nil (map text_of (map typed_name objects)) ∙ texts typed_name objects))) each)

@@ -1,5 +1,5 @@
--- Where nothing is refused, no cause has a place.
-use Rattle.std.proofs.Common.{◌≡◌, ◌<◌, ℕ, zero, suc, Bool, true, false, not, Option, Some, None, List, [], ◌∷◌, ◌++◌, length, flat_map, get_or, refl, arith}
+-- Nothing is refused exactly where no cause has a place.
+use Rattle.std.proofs.Common.{◌≡◌, ◌<◌, ℕ, zero, suc, Bool, true, false, not, Option, Some, None, List, [], ◌∷◌, ◌++◌, length, flat_map, get_or, refl, ap, ◌∙◌, arith}
 use Rattle.pb_trees.specs.declared.tree.Domain.{Domain}
 use Rattle.pb_trees.specs.declared.tree.Problem.{Problem}
 use Rattle.pb_lifted.specs.declared.refusal.Cause.{Cause}
@@ -28,6 +28,13 @@ pub each_nil : {A B : Type 0} (f : A → List B) (xs : List A) → flat_map f xs
 each_nil f [] h k d less = absurd (omega arith)
 each_nil f (x ∷ xs) h zero d less = nil_left (f x) (flat_map f xs) h
 each_nil f (x ∷ xs) h (suc k) d less = each_nil f xs (nil_right (f x) (flat_map f xs) h) k d (omega arith)
+
+pub both_nil : {A : Type 0} (xs ys : List A) → xs ≡ [] → ys ≡ [] → xs ++ ys ≡ []
+both_nil xs ys a b = ap (λ zs. zs ++ ys) a ∙ b
+
+pub all_nil : {A B : Type 0} (f : A → List B) (xs : List A) → ((k : ℕ) (d : A) → k < length xs → f (get_or xs k d) ≡ []) → flat_map f xs ≡ []
+all_nil f [] h = refl
+all_nil f (x ∷ xs) h = both_nil (f x) (flat_map f xs) (h 0 x (omega arith)) (all_nil f xs (λ k d less. h (suc k) d (omega arith)))
 
 pub no_fault : (b : Bool) (at : ℕ) → fault_if b at ≡ [] → b ≡ false
 no_fault true at h = cc
@@ -60,3 +67,10 @@ faultless (cause ∷ later) domain problem h = at (first_place cause domain prob
         → or_refusal cause p (first_among later domain problem) ≡ None → AllFaultless (cause ∷ later) domain problem
     at (Some place) e rest h = cc
     at None e rest h = (none e, rest h)
+
+pub not_refused : (order : List Cause) (domain : Domain) (problem : Problem) → AllFaultless order domain problem → first_among order domain problem ≡ None
+not_refused [] domain problem free = free
+not_refused (cause ∷ later) domain problem free =
+    let nowhere : first_place cause domain problem ≡ None =
+    ap (λ xs. place_in (earliest None xs) (earliest None (in_problem cause domain problem))) free.0.0 ∙ ap (λ xs. place_in None (earliest None xs)) free.0.1 in
+    ap (λ p. or_refusal cause p (first_among later domain problem)) nowhere ∙ not_refused later domain problem free.1

@@ -1,6 +1,7 @@
 -- What is not refused is well typed.
-use Rattle.std.proofs.Common.{◌≡◌, ◌≤◌, ℕ, zero, suc, Bool, true, false, not, nat_eq, nat_lt, cond, Option, Some, None, List, [], ◌∷◌, ◌++◌, length, get_or, All, refl, arith}
+use Rattle.std.proofs.Common.{◌≡◌, ◌≤◌, ℕ, zero, suc, Bool, true, false, not, nat_eq, nat_lt, cond, Option, Some, None, List, [], ◌∷◌, ◌++◌, length, map, get_or, All, true≢false, refl, sym, ap, ◌∙◌, arith}
 use Rattle.std.specs.Prelude.{is_none}
+use Rattle.std.specs.Str.{bytes_eq}
 use Rattle.std.proofs.lemmas.Bool.Decides.{nat_tests}
 use Rattle.pb_trees.specs.declared.tree.Name.{Name}
 use Rattle.pb_trees.specs.declared.tree.Typed.{Typed}
@@ -14,14 +15,15 @@ use Rattle.pb_trees.specs.declared.tree.Problem.{Problem}
 use Rattle.pb_lifted.specs.declared.refusal.Cause.{Cause}
 use Rattle.pb_lifted.specs.declared.refusal.Cause.TheVariants as causes
 use Rattle.pb_lifted.specs.declared.refusal.Refusal.TheVariants.{TooManyObjects}
-use Rattle.pb_lifted.specs.Names.{is_among, fault_if}
-use Rattle.pb_lifted.specs.Types.{kind_or, kind_text, type_names, unknown_kind, unknown_kinds, is_cyclic}
+use Rattle.pb_lifted.specs.Names.{is_among, fault_if, repeated}
+use Rattle.pb_lifted.specs.Types.{object, is_object, name_text, kind_or, kind_text, declared_types, type_names, unknown_kind, unknown_kinds, ancestor, height, is_cyclic}
 use Rattle.pb_lifted.specs.Objects.{objects_of, predicate_of, entry_of_term}
 use Rattle.pb_lifted.specs.Refusals as refusals
 use Rattle.pb_lifted.specs.Space.{FitsParameter}
-use Rattle.pb_lifted.specs.Typing.{AreDistinct, object_names, PredicateFits, ArgumentsFit, AtomFits, KindIsKnown, ActionFits, AcceptedIsWellTyped}
+use Rattle.pb_lifted.specs.Typing.{AreDistinct, object_names, PredicateFits, ArgumentsFit, AtomFits, IsRooted, KindIsKnown, ActionFits, AcceptedIsWellTyped}
 use Rattle.pb_lifted.proofs.Faultless.{nil_left, nil_right, each_nil, no_fault, not_false, AllFaultless, faultless}
-use Rattle.pb_lifted.proofs.DistinctNames.{objects_distinct}
+use Rattle.pb_lifted.proofs.DistinctNames.{objects_distinct, declared_once}
+use Rattle.pb_lifted.proofs.TypeTree.{same_text, self_text}
 
 -- ---- types
 
@@ -120,11 +122,12 @@ left_none f g none = (nil_left _ _ none.0, nil_left _ _ none.1, nil_left _ _ non
 abbrev pub right_none : (f g : Cause → List ℕ) → NoneIn (λ c. f c ++ g c) → NoneIn g
 right_none f g none = (nil_right _ _ none.0, nil_right _ _ none.1, nil_right _ _ none.2, nil_right _ _ none.3)
 
-action_fits : (domain : Domain) (problem : Problem) (action : Action) → refusals.too_wide action.name action.params ≡ [] → unknown_kinds domain.types action.params ≡ []
+action_fits : (domain : Domain) (problem : Problem) (action : Action) → repeated [] (map refusals.typed_name action.params) ≡ [] → refusals.too_wide action.name action.params ≡ [] → unknown_kinds domain.types action.params ≡ []
     → NoneIn (λ c. refusals.in_atoms c domain problem action.params action.pre ++ refusals.in_effect c domain problem action.params action.effect) → ActionFits domain problem action
-action_fits domain problem action narrow kinds none =
+action_fits domain problem action once narrow kinds none =
     record {
       narrow = narrow_enough action.name action.params narrow;
+      distinct = declared_once refusals.typed_name action.params once;
       params = known_kinds domain.types action.params kinds;
       pre =
           atoms_fit domain problem action.params action.pre
@@ -134,10 +137,10 @@ action_fits domain problem action narrow kinds none =
           (right_none (λ c. refusals.in_atoms c domain problem action.params action.pre) (λ c. refusals.in_effect c domain problem action.params action.effect) none);
     }
 
-actions_fit : (domain : Domain) (problem : Problem) → refusals.in_actions causes.TooWide domain problem ≡ [] → refusals.in_actions causes.UnknownType domain problem ≡ [] → NoneIn (λ c. refusals.in_actions c domain problem)
+actions_fit : (domain : Domain) (problem : Problem) → refusals.repeated_params domain.actions ≡ [] → refusals.in_actions causes.TooWide domain problem ≡ [] → refusals.in_actions causes.UnknownType domain problem ≡ [] → NoneIn (λ c. refusals.in_actions c domain problem)
     → All (ActionFits domain problem) domain.actions
-actions_fit domain problem narrow kinds none k d less =
-    action_fits domain problem (get_or domain.actions k d) (each_nil (λ a. refusals.in_action causes.TooWide domain problem a) domain.actions narrow k d less)
+actions_fit domain problem once narrow kinds none k d less =
+    action_fits domain problem (get_or domain.actions k d) (each_nil (λ (a : Action). repeated [] (map refusals.typed_name a.params)) domain.actions once k d less) (each_nil (λ a. refusals.in_action causes.TooWide domain problem a) domain.actions narrow k d less)
     (each_nil (λ a. refusals.in_action causes.UnknownType domain problem a) domain.actions kinds k d less) (
       each_nil (λ a. refusals.in_action causes.UnknownPredicate domain problem a) domain.actions none.0 k d less,
       each_nil (λ a. refusals.in_action causes.Arity domain problem a) domain.actions none.1 k d less,
@@ -175,21 +178,44 @@ predicates_fit domain problem free k d less =
           (each_nil (λ p. refusals.in_predicate causes.UnknownType domain.types p) domain.predicates (nil_right _ _ (nil_left _ _ free.1.1.0.0)) k d less);
     }
 
-rooted : (domain : Domain) (problem : Problem) → fault_free domain problem → All (λ t. is_cyclic domain.types t ≡ false) domain.types
+comes_to_object : (types : List Typed) (t : Typed) → is_cyclic types t ≡ false → IsRooted types t
+comes_to_object types t h = at (is_object (name_text t)) refl h
+  where
+    at : (b : Bool) → is_object (name_text t) ≡ b → cond b (not (is_object (kind_text t))) (not (is_object (ancestor types (height types) (name_text t)))) ≡ false → IsRooted types t
+    at true e h =
+        record { steps = 0; up = same_text (name_text t) object e; root = λ _. same_text (kind_text t) object (not_false (is_object (kind_text t)) h) }
+    at false e h =
+        record {
+          steps = height types;
+          up = same_text (ancestor types (height types) (name_text t)) object (not_false (is_object (ancestor types (height types) (name_text t))) h);
+          root = λ same. let it_is : is_object (name_text t) ≡ true = ap is_object same ∙ self_text object in absurd (true≢false (sym it_is ∙ e));
+        }
+
+rooted : (domain : Domain) (problem : Problem) → fault_free domain problem → All (IsRooted domain.types) domain.types
 rooted domain problem free k d less =
     let t : Typed = get_or domain.types k d in
-    no_fault (is_cyclic domain.types t) t.name.at (each_nil (λ t. fault_if (is_cyclic domain.types t) t.name.at) domain.types free.1.1.1.0.0 k d less)
+    comes_to_object domain.types t
+    (no_fault (is_cyclic domain.types t) t.name.at (each_nil (λ t. fault_if (is_cyclic domain.types t) t.name.at) domain.types free.1.1.1.0.0 k d less))
+
+same_domain : (domain : Domain) (problem : Problem) → fault_free domain problem → problem.domain.text ≡ domain.name.text
+same_domain domain problem free =
+    same_text problem.domain.text domain.name.text
+    (not_false (bytes_eq problem.domain.text domain.name.text) (no_fault (not (bytes_eq problem.domain.text domain.name.text)) problem.domain.at free.0.1))
 
 pub accepted_is_well_typed : AcceptedIsWellTyped
 accepted_is_well_typed domain problem accepted =
     let free : fault_free domain problem = faultless refusals.causes_in_order domain problem accepted in
     record {
+      same_domain = same_domain domain problem free;
       few = few_enough (length (objects_of domain problem)) free.1.1.1.1.1.1.1.1.1;
       rooted = rooted domain problem free;
+      distinct_types = declared_once refusals.typed_name (declared_types domain.types) (nil_left _ _ (nil_left _ _ (nil_left _ _ (nil_left _ _ free.1.0.0))));
+      distinct_predicates = declared_once refusals.predicate_name domain.predicates (nil_right _ _ (nil_left _ _ (nil_left _ _ free.1.0.0)));
+      distinct_actions = declared_once refusals.action_name domain.actions (nil_right _ _ (nil_left _ _ free.1.0.0));
       distinct = distinct domain problem free;
       objects = known_objects domain problem free;
       predicates = predicates_fit domain problem free;
-      actions = actions_fit domain problem (nil_right _ _ free.1.1.1.1.1.1.1.1.0.0) (nil_right _ _ free.1.1.0.0) (domain_atoms domain problem free);
+      actions = actions_fit domain problem (nil_right _ _ free.1.0.0) (nil_right _ _ free.1.1.1.1.1.1.1.1.0.0) (nil_right _ _ free.1.1.0.0) (domain_atoms domain problem free);
       init =
           atoms_fit domain problem [] problem.init
           (left_none (λ c. refusals.in_atoms c domain problem [] problem.init) (λ c. refusals.in_atoms c domain problem [] problem.goal) (problem_atoms domain problem free));

@@ -3,7 +3,7 @@ ghost use Rattle.pb_lifted.specs.InstanceTypes.{InstancesAreTyped, StartIsTyped,
 ghost use Rattle.pb_lifted.specs.WaysUp.{MoreStepsChangeNothing, MoreStepsOfNumbersChangeNothing, ObjectIsReached, BelowIsReflexive, BelowIsTransitive};
 ghost use Rattle.pb_lifted.specs.WorkedRows.{SubtypeIsBelow, CycleIsFound, RepeatedNamesAreFound, DomainComesFirst, TurningIsLifted, WrongTypeIsRefused, DeletedAndAddedHolds};
 ghost use Rattle.pb_lifted.specs.Facts.{NumbersKeepFacts};
-ghost use Rattle.pb_lifted.specs.Typing.{AcceptedIsWellTyped, FittingAtomsKeepFacts};
+ghost use Rattle.pb_lifted.specs.Typing.{AcceptedIsWellTyped, WellTypedIsAccepted, FittingAtomsKeepFacts};
 ghost use Rattle.pb_lifted.specs.Steps.{GroundStepsAreSteps, StepsAreGroundSteps, GroundStartIsStart, GroundGoalIsGoal};
 
 /// An atom of known names stands for one fact, by numbers and by names, whatever objects are given to the parameters.
@@ -11,11 +11,17 @@ pub fn numbers_keep_facts()
     ensures { NumbersKeepFacts }
 {}
 
-/// Where nothing is refused, the limits are kept, all types lead to `object`, no two objects have one name, names are known, arguments are as
-/// many as parameters, and each is of its parameter's type or of one below. So each atom stands for one fact, by numbers and by names.
+/// Where nothing is refused, the problem is of this domain, the limits are kept, all types lead to `object`, no two types, objects, predicates
+/// or actions have one name, nor two parameters of one action, names are known, arguments are as many as parameters, and each is of its
+/// parameter's type or of one below. So each atom stands for one fact, by numbers and by names.
 pub fn accepted_is_well_typed()
     ensures typed { AcceptedIsWellTyped }
     ensures facts { FittingAtomsKeepFacts }
+{}
+
+/// A domain and a problem of which all that is so are refused for nothing. So they are refused exactly where they are not well typed.
+pub fn well_typed_is_accepted()
+    ensures { WellTypedIsAccepted }
 {}
 
 /// Where nothing is refused, the lifted task has the same start, steps and goals by numbers as the domain and the problem by names.

@@ -19,7 +19,7 @@ mod tree;
 pub use checking::resolve;
 pub use laws::{
     accepted_is_well_typed, instances_are_typed, numbers_keep_facts, numbers_keep_plans,
-    numbers_keep_steps, ways_up_are_far_enough, worked_rows,
+    numbers_keep_steps, ways_up_are_far_enough, well_typed_is_accepted, worked_rows,
 };
 pub use lifted::{Argument, Lifted, LiftedAtom, Schema};
 pub use refusal::{Cause, File, LiftedError, Place, Refusal};
