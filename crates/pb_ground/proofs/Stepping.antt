@@ -1,5 +1,5 @@
 -- Steps by atoms and by numbers.
-use Rattle.std.proofs.Common.{◌≡◌, ℕ, zero, suc, Bool, true, false, cond, not, ◌&&◌, ◌||◌, nat_eq, List, [], ◌∷◌, ◌++◌, map, Option, Some, None, is_some, option_map, slice_get, refl, sym, ap, ◌∙◌, arith}
+use Rattle.std.proofs.Common.{◌≡◌, ℕ, zero, suc, Bool, true, false, cond, not, ◌&&◌, ◌||◌, nat_eq, List, [], ◌∷◌, map, Option, Some, None, is_some, option_map, slice_get, refl, sym, ap, ◌∙◌, arith}
 use Rattle.std.proofs.lemmas.Bool.Decides.{nat_tests}
 use Rattle.std.proofs.lemmas.List.Folds.{list_any-append}
 use Rattle.std.proofs.lemmas.Slice.Eq.{bytes_eq-Decides}
@@ -9,9 +9,10 @@ use Rattle.pb_lifted.specs.declared.lifted.Lifted.{Lifted}
 use Rattle.pb_lifted.specs.declared.lifted.LiftedAtom.{LiftedAtom}
 use Rattle.pb_lifted.specs.declared.lifted.Schema.{Schema}
 use Rattle.pb_ground.specs.declared.atoms.GroundAtom.{GroundAtom}
-use Rattle.pb_ground.specs.Actions.{numbers_of, number_list}
+use Rattle.pb_ground.specs.Actions.{numbers_of}
 use Rattle.pb_ground.specs.Atoms.{is_fluent, same_atom, grounded, number_in, atom_of, predicate_of, changed_by}
 use Rattle.pb_ground.specs.Statics.{is_initial, statics_hold}
+use Rattle.pb_ground.proofs.Once.{number_list, repeated, all_append, any_once, all_once}
 use Rattle.pb_ground.specs.Steps.{Facts, Bits, all_grounded, is_in, facts_after, Packs, KeepsStatics, AreNumbered, Corresponds}
 
 nat_same : (m n : ℕ) → nat_eq m n ≡ true → m ≡ n
@@ -74,21 +75,17 @@ alike f g atoms n e = at (same_atom f g) (number_in g atoms) refl refl
             let same : f ≡ g = one_number f g atoms n e (q ∙ ap (λ k. Some k) (sym (nat_same n m r))) in
             let bad : true ≡ false = sym (atom_itself f g same) ∙ p in cc
 
+all_alike : (f : GroundAtom) (atoms : List GroundAtom) (n : ℕ) (given : List ℕ) (list : List LiftedAtom) → number_in f atoms ≡ Some n
+    → list_any (nat_eq n) (repeated atoms given list) ≡ is_in f (all_grounded given list)
+all_alike f atoms n given [] e = refl
+all_alike f atoms n given (a ∷ list) e =
+    list_any-append (nat_eq n) (number_list (number_in (grounded given a) atoms)) (repeated atoms given list)
+    ∙ (ap (λ b. b || list_any (nat_eq n) (repeated atoms given list)) (alike f (grounded given a) atoms n e)
+    ∙ ap (λ b. same_atom f (grounded given a) || b) (all_alike f atoms n given list e))
+
 pub numbers_alike : (f : GroundAtom) (atoms : List GroundAtom) (n : ℕ) (given : List ℕ) (list : List LiftedAtom) → number_in f atoms ≡ Some n
     → list_any (nat_eq n) (numbers_of atoms given list) ≡ is_in f (all_grounded given list)
-numbers_alike f atoms n given [] e = refl
-numbers_alike f atoms n given (a ∷ list) e =
-    list_any-append (nat_eq n) (number_list (number_in (grounded given a) atoms)) (numbers_of atoms given list)
-    ∙ (ap (λ b. b || list_any (nat_eq n) (numbers_of atoms given list)) (alike f (grounded given a) atoms n e)
-    ∙ ap (λ b. same_atom f (grounded given a) || b) (numbers_alike f atoms n given list e))
-
-all_append : (p : ℕ → Bool) (xs ys : List ℕ) → list_all p (xs ++ ys) ≡ (list_all p xs && list_all p ys)
-all_append p [] ys = refl
-all_append p (x ∷ xs) ys = ap (λ b. p x && b) (all_append p xs ys) ∙ and_again (p x) (list_all p xs) (list_all p ys)
-  where
-    and_again : (a b c : Bool) → (a && (b && c)) ≡ ((a && b) && c)
-    and_again true b c = refl
-    and_again false b c = refl
+numbers_alike f atoms n given list e = any_once (nat_eq n) atoms given list ∙ all_alike f atoms n given list e
 
 -- one precondition
 one_holds : (lifted : Lifted) (atoms : List GroundAtom) (state : Facts) (bits : Bits) (given : List ℕ) (a : LiftedAtom) → Packs atoms state bits → KeepsStatics lifted state
@@ -120,16 +117,21 @@ regroup true false true b = refl
 regroup true false false b = refl
 regroup false n s b = refl
 
-all_hold : (lifted : Lifted) (atoms : List GroundAtom) (state : Facts) (bits : Bits) (given : List ℕ) (list : List LiftedAtom) → Packs atoms state bits → KeepsStatics lifted state
-    → AreNumbered lifted atoms given list → list_all state (all_grounded given list) ≡ (statics_hold lifted list given && list_all bits (numbers_of atoms given list))
-all_hold lifted atoms state bits given [] packs keeps numbered = refl
-all_hold lifted atoms state bits given (a ∷ list) packs keeps numbered =
+repeated_hold : (lifted : Lifted) (atoms : List GroundAtom) (state : Facts) (bits : Bits) (given : List ℕ) (list : List LiftedAtom) → Packs atoms state bits → KeepsStatics lifted state
+    → AreNumbered lifted atoms given list → list_all state (all_grounded given list) ≡ (statics_hold lifted list given && list_all bits (repeated atoms given list))
+repeated_hold lifted atoms state bits given [] packs keeps numbered = refl
+repeated_hold lifted atoms state bits given (a ∷ list) packs keeps numbered =
     let test = is_fluent lifted a.predicate || is_initial lifted (grounded given a) in
     let here = list_all bits (number_list (number_in (grounded given a) atoms)) in
     ap (λ b. b && list_all state (all_grounded given list)) (one_holds lifted atoms state bits given a packs keeps numbered.0)
-    ∙ (ap (λ b. (test && here) && b) (all_hold lifted atoms state bits given list packs keeps numbered.1)
-    ∙ (regroup test here (statics_hold lifted list given) (list_all bits (numbers_of atoms given list))
-    ∙ ap (λ b. (test && statics_hold lifted list given) && b) (sym (all_append bits (number_list (number_in (grounded given a) atoms)) (numbers_of atoms given list)))))
+    ∙ (ap (λ b. (test && here) && b) (repeated_hold lifted atoms state bits given list packs keeps numbered.1)
+    ∙ (regroup test here (statics_hold lifted list given) (list_all bits (repeated atoms given list))
+    ∙ ap (λ b. (test && statics_hold lifted list given) && b) (sym (all_append bits (number_list (number_in (grounded given a) atoms)) (repeated atoms given list)))))
+
+all_hold : (lifted : Lifted) (atoms : List GroundAtom) (state : Facts) (bits : Bits) (given : List ℕ) (list : List LiftedAtom) → Packs atoms state bits → KeepsStatics lifted state
+    → AreNumbered lifted atoms given list → list_all state (all_grounded given list) ≡ (statics_hold lifted list given && list_all bits (numbers_of atoms given list))
+all_hold lifted atoms state bits given list packs keeps numbered =
+    repeated_hold lifted atoms state bits given list packs keeps numbered ∙ ap (λ b. statics_hold lifted list given && b) (sym (all_once bits atoms given list))
 
 pub correspond : (lifted : Lifted) (atoms : List GroundAtom) (state : Facts) (bits : Bits) (i : ℕ) (schema : Schema) (given : List ℕ) → Packs atoms state bits → KeepsStatics lifted state
     → AreNumbered lifted atoms given schema.pre → Corresponds lifted atoms state bits i schema given

@@ -7,4 +7,5 @@ pub mod Errors
 pub mod Members
 pub mod Pruning
 pub mod Search
+pub mod Supports
 pub mod Count

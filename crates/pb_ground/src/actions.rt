@@ -19,7 +19,7 @@ pub struct GroundAction {
     pub schema: usize,
     /// The objects that are given to its parameters.
     pub objects: Listed<usize>,
-    /// The ground atoms that must hold.
+    /// The ground atoms that must hold, each once, as are those of the other two lists.
     pub needs: Listed<usize>,
     /// The ground atoms that hold afterwards.
     pub adds: Listed<usize>,

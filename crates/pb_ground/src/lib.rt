@@ -10,6 +10,7 @@ mod laws;
 mod numbers;
 mod search;
 mod statics;
+mod supports;
 
 pub use actions::{GroundAction, ground_actions};
 pub use atoms::{Atoms, GroundAtom, ground_atoms};

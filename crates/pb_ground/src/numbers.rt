@@ -1,6 +1,7 @@
-ghost use Rattle.std.specs.Prelude.{◌≡◌, [], map, IfOk};
+ghost use Rattle.std.specs.Prelude.{◌≡◌, [], nat_eq, map, IfOk, OnOk};
+ghost use Rattle.std.specs.List.{list_any};
 ghost use Rattle.pb_lifted.specs.Facts.{value_of};
-ghost use Rattle.pb_ground.specs.Actions.{numbers_of, is_never};
+ghost use Rattle.pb_ground.specs.Actions.{with_number, numbers_of, is_never};
 ghost use Rattle.pb_ground.specs.Atoms.{grounded, number_in};
 
 use crate::atoms::Atoms;
@@ -37,7 +38,29 @@ fn number_of(
     Ok(atoms.number(atom.predicate, objects.as_slice()))
 }
 
-/// The numbers of those of a schema's atoms that are ground atoms. It fails where memory runs out.
+/// Whether a number is one of these.
+fn is_among(number: usize, numbers: &[usize]) -> bool
+    ensures { result ≡ list_any (nat_eq number) numbers.now }
+{
+    for n in numbers {
+        if number == *n {
+            return true;
+        }
+    }
+    false
+}
+
+/// Adds a number, unless it is there: a list so never gets longer than there are atoms. It fails where memory runs out.
+fn add_number(numbers: &mut Listed<usize>, number: usize) -> Result<(), AllocError>
+    ensures { OnOk result (numbers.new ≡ with_number numbers.old number) }
+{
+    if !is_among(number, numbers.as_slice()) {
+        numbers.push(number)?;
+    }
+    Ok(())
+}
+
+/// The numbers of those of a schema's atoms that are ground atoms, each once. It fails where memory runs out.
 pub(crate) fn numbers_of(
     alloc: Global,
     atoms: &Atoms,
@@ -49,20 +72,20 @@ pub(crate) fn numbers_of(
     let mut numbers = Listed::new(alloc);
     for atom in list {
         if let Some(number) = number_of(alloc, atoms, given, atom)? {
-            numbers.push(number)?;
+            add_number(&mut numbers, number)?;
         }
     }
     Ok(numbers)
 }
 
-/// The numbers of the ground atoms that hold at first, in order of the text. It fails where memory runs out.
+/// The numbers of the ground atoms that hold at first, each once, in order of the text. It fails where memory runs out.
 pub fn start(alloc: Global, lifted: &Lifted, atoms: &Atoms) -> Result<Listed<usize>, AllocError>
     ensures { IfOk result (λ numbers. numbers ≡ numbers_of atoms.now [] lifted.now.init) }
 {
     numbers_of(alloc, atoms, &[], lifted.init.as_slice())
 }
 
-/// The numbers of the ground atoms of the goal, in order of the text. It fails where memory runs out.
+/// The numbers of the ground atoms of the goal, each once, in order of the text. It fails where memory runs out.
 pub fn goal(alloc: Global, lifted: &Lifted, atoms: &Atoms) -> Result<Listed<usize>, AllocError>
     ensures { IfOk result (λ numbers. numbers ≡ numbers_of atoms.now [] lifted.now.goal) }
 {

@@ -166,6 +166,37 @@ fn two_blocks_have_twelve_actions(rt: HostRuntime) -> Result<(), Fail> {
     Ok(())
 }
 
+// ---- repeated atoms
+
+// There are two atoms. The same atom stands twice in the text, or two atoms of the text become one where the parameter has an object.
+#[test]
+fn repeated_atoms_are_numbered_once(rt: HostRuntime) -> Result<(), Fail> {
+    let alloc = rt.alloc();
+    let mut task = lifted(alloc, "0", "0 0", "0", "0 0, 0 0, 0 1", "0 1, 0 1")?;
+    act(
+        alloc,
+        &mut task,
+        "0",
+        "0 ?0, 0 ?0",
+        "0 0, 0 ?0, 0 0",
+        "0 ?0, 0 1",
+    )?;
+    let atoms = ground_atoms(alloc, &task)?;
+    let actions = ground_actions(alloc, &task, &atoms)?;
+    assert_eq!(rt; actions.as_slice().len(), 2);
+    let first = actions.as_slice().get(0).ok_or("no action")?;
+    assert_eq!(rt; first.needs.as_slice(), [0].as_slice());
+    assert_eq!(rt; first.adds.as_slice(), [0].as_slice());
+    assert_eq!(rt; first.deletes.as_slice(), [0, 1].as_slice());
+    let second = actions.as_slice().get(1).ok_or("one action")?;
+    assert_eq!(rt; second.needs.as_slice(), [1].as_slice());
+    assert_eq!(rt; second.adds.as_slice(), [0, 1].as_slice());
+    assert_eq!(rt; second.deletes.as_slice(), [1].as_slice());
+    assert_eq!(rt; start(alloc, &task, &atoms)?.as_slice(), [0, 1].as_slice());
+    assert_eq!(rt; goal(alloc, &task, &atoms)?.as_slice(), [1].as_slice());
+    Ok(())
+}
+
 // ---- static atoms
 
 // The types are object, vehicle, truck below it, and place; the objects a truck and four places. Predicate 0 says where a vehicle is, and 1
@@ -250,5 +281,22 @@ fn more_than_may_be_are_told(rt: HostRuntime) -> Result<(), Fail> {
     ] {
         assert_eq!(rt; crowd(alloc, n, params, added)?, answer);
     }
+    Ok(())
+}
+
+// The last of sixteen parameters needs the static predicate 0, which no object has: nothing is sought among 1,000 objects at sixteen places.
+#[test]
+fn without_support_nothing_is_sought(rt: HostRuntime) -> Result<(), Fail> {
+    let alloc = rt.alloc();
+    let mut task = lifted(alloc, "0", "", "0,", "", "")?;
+    for _ in 0..1_000 {
+        task.objects.push(0)?;
+    }
+    let params = "0 0 0 0 0 0 0 0 0 0 0 0 0 0 0 0";
+    act(alloc, &mut task, params, "0 ?15", "1", "")?;
+    let atoms = ground_atoms(alloc, &task)?;
+    assert_eq!(rt; atoms.as_slice().len(), 1);
+    let actions = ground_actions(alloc, &task, &atoms)?;
+    assert_eq!(rt; actions.as_slice().len(), 0);
     Ok(())
 }

@@ -1,7 +1,8 @@
 -- The numbers of ground atoms are below their count, so the task of a domain and a problem is one.
-use Rattle.std.proofs.Common.{◌≡◌, ◌<◌, ◌≤◌, ℕ, suc, Bool, true, false, cond, List, [], ◌∷◌, length, map, All, Option, Some, None, option_map, refl, arith}
+use Rattle.std.proofs.Common.{◌≡◌, ◌<◌, ◌≤◌, ℕ, suc, Bool, true, false, cond, nat_eq, List, [], ◌∷◌, ◌++◌, length, map, All, Option, Some, None, option_map, refl, arith}
 use Rattle.std.proofs.lemmas.List.{length-map}
 use Rattle.std.proofs.lemmas.List.Elements.{All-nil, All-cons, All-append, All-weaker}
+use Rattle.std.specs.List.{list_any}
 use Rattle.pb_trees.specs.declared.tree.Domain.{Domain}
 use Rattle.pb_trees.specs.declared.tree.Problem.{Problem}
 use Rattle.pb_lifted.specs.declared.lifted.Lifted.{Lifted}
@@ -11,7 +12,7 @@ use Rattle.pb_lifted.specs.Lifted.{lifted_of}
 use Rattle.pb_ground.specs.declared.actions.GroundAction as instance
 use Rattle.pb_ground.specs.declared.atoms.GroundAtom.{GroundAtom}
 use Rattle.pb_ground.specs.Atoms.{ground_atoms, grounded, number_in, same_atom}
-use Rattle.pb_ground.specs.Actions.{number_list, numbers_of, action_of, actions_of, actions_from, ground_actions, rows_of}
+use Rattle.pb_ground.specs.Actions.{with_number_in, numbers_with, numbers_of, action_of, actions_of, actions_from, ground_actions, rows_of}
 use Rattle.pb_task.specs.Strips.{IsGroundAction, IsStrips}
 use Rattle.pb_strips.specs.Grounding.{packed_action, strips_of}
 use Rattle.pb_strips.specs.Packing.{AreAtoms, HasAtoms}
@@ -28,15 +29,23 @@ number_below atom (first ∷ atoms) n e = at (same_atom atom first) (number_in a
     at false None below h = cc
     at false (Some k) below h = let one_more : suc k ≡ n = cc in let less : k < length atoms = below k refl in omega arith
 
-pub numbers_below : (atoms : List GroundAtom) (given : List ℕ) (list : List LiftedAtom) → AreAtoms (length atoms) (numbers_of atoms given list)
-numbers_below atoms given [] = All-nil (λ n. n < length atoms)
-numbers_below atoms given (a ∷ list) =
-    All-append (λ n. n < length atoms) (number_list (number_in (grounded given a) atoms)) (numbers_of atoms given list) (one (number_in (grounded given a) atoms) refl)
-    (numbers_below atoms given list)
+-- the numbers of a list's atoms, behind some that are below the count
+all_below : (atoms : List GroundAtom) (given numbers : List ℕ) (list : List LiftedAtom) → AreAtoms (length atoms) numbers
+    → AreAtoms (length atoms) (numbers_with atoms given numbers list)
+all_below atoms given numbers [] below = below
+all_below atoms given numbers (a ∷ list) below =
+    all_below atoms given (with_number_in numbers (number_in (grounded given a) atoms)) list (one (number_in (grounded given a) atoms) refl)
   where
-    one : (number : Option ℕ) → number_in (grounded given a) atoms ≡ number → All (λ n. n < length atoms) (number_list number)
-    one None e = All-nil (λ n. n < length atoms)
-    one (Some n) e = All-cons (λ k. k < length atoms) n [] (number_below (grounded given a) atoms n e) (All-nil (λ k. k < length atoms))
+    one : (number : Option ℕ) → number_in (grounded given a) atoms ≡ number → AreAtoms (length atoms) (with_number_in numbers number)
+    one None e = below
+    one (Some n) e = at (list_any (nat_eq n) numbers)
+      where
+        at : (there : Bool) → AreAtoms (length atoms) (cond there numbers (numbers ++ n ∷ []))
+        at true = below
+        at false = All-append (λ k. k < length atoms) numbers (n ∷ []) below (All-cons (λ k. k < length atoms) n [] (number_below (grounded given a) atoms n e) (All-nil (λ k. k < length atoms)))
+
+pub numbers_below : (atoms : List GroundAtom) (given : List ℕ) (list : List LiftedAtom) → AreAtoms (length atoms) (numbers_of atoms given list)
+numbers_below atoms given list = all_below atoms given [] list (All-nil (λ n. n < length atoms))
 
 pub are_below : (few count : ℕ) (numbers : List ℕ) → few ≤ count → AreAtoms few numbers → AreAtoms count numbers
 are_below few count numbers less = All-weaker (λ n. n < few) (λ n. n < count) (λ n below. omega arith) numbers
