@@ -6,8 +6,7 @@ use pb_machine::End;
 pub enum Answer {
     /// It has this lease, of the first choice.
     Leased(Lease),
-    /// No end stands, some lease is out, and no block may be leased as long as that is so: the worker asks again when a lease came
-    /// back.
+    /// No end stands, some lease is out, and no block may be leased as things are: the worker asks again when something changed.
     NotYet,
     /// The search is over: this end stands.
     Over(End),

@@ -16,14 +16,14 @@ use crate::graph::Graph;
 use crate::lease::Lease;
 use pb_homes::Room;
 use pb_machine::End;
-use std::alloc::{AllocError, Global};
+use std::alloc::AllocError;
 
 impl Graph {
     /// The worker asks for a lease. It gets one of the first choice. The search is over exactly where an end stands, or no lease is out and
     /// no row is Opened, or some row is and nothing is left of the budget; then the end comes now. The worker is to wait exactly where no
     /// end stands, some lease is out, and no block may be leased; nothing changes then. All memory is taken first: for the list of the
     /// bundles, and in the journal for 65 events. At want of memory nothing changes either.
-    pub fn lease(&mut self, alloc: Global, worker: u32) -> Answer
+    pub fn lease(&mut self, worker: u32) -> Answer
         requires worker { worker < self.old.table.settings.workers }
         requires vacant { (counts_in self.old).leases worker ≡ None }
         requires stays { IsFalse ((counts_in self.old).signed_off worker) }
@@ -41,7 +41,7 @@ impl Graph {
             return Answer::Over(end);
         }
         match self.choice() {
-            Some(block) => match self.lease_block(alloc, worker, block) {
+            Some(block) => match self.lease_block(worker, block) {
                 Ok(lease) => Answer::Leased(lease),
                 Err(_) => Answer::Memory,
             },
@@ -64,7 +64,7 @@ impl Graph {
     }
 
     // Leases the first choice to the worker.
-    fn lease_block(&mut self, alloc: Global, worker: u32, block: u32) -> Result<Lease, AllocError>
+    fn lease_block(&mut self, worker: u32, block: u32) -> Result<Lease, AllocError>
         requires worker { worker < self.old.table.settings.workers }
         requires vacant { (counts_in self.old).leases worker ≡ None }
         requires stays { IsFalse ((counts_in self.old).signed_off worker) }
@@ -73,7 +73,7 @@ impl Graph {
         ensures moment { IfOk result (λ lease. LeasesNext self.old lease self.new) }
         ensures err { OnErr result (self.new ≡ self.old) }
     {
-        let room = Room::new(alloc, self.tables.graph().scope(block).len())?;
+        let room = Room::new(self.alloc, self.tables.graph().scope(block).len())?;
         let quota = self.tables.lease(worker, block)?;
         let parts = self.homes.take_out(self.tables.graph().scope(block), room);
         let settings = self.tables.settings();

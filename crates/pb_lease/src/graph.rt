@@ -37,6 +37,8 @@ pub struct Graph {
     pub(crate) tables: Tables,
     pub(crate) homes: Homes,
     pub(crate) incumbent: Option<u64>,
+    // the allocator of the lists of bundles that leave with leases
+    pub(crate) alloc: Global,
 }
 
 impl Model for Graph {
@@ -84,6 +86,7 @@ impl Graph {
             tables,
             homes,
             incumbent: None,
+            alloc,
         })
     }
 

@@ -51,14 +51,14 @@ enum Told {
 }
 
 // What is seen while worker 0 has a lease: its block, what worker 1 is told, and how many events the journal has. The lease comes back.
-fn ask_twice(alloc: Global, graph: &mut Graph) -> Option<(u32, Told, usize)>
+fn ask_twice(graph: &mut Graph) -> Option<(u32, Told, usize)>
     requires opening { counts_in graph.old ≡ opening_counts graph.old.table.settings 0 }
     requires workers { graph.old.table.settings.workers ≡ 2 }
 {
-    match graph.lease(alloc, 0) {
+    match graph.lease(0) {
         Answer::Leased(lease) => {
             let block = lease.block();
-            let told = ask(alloc, graph);
+            let told = ask(graph);
             let events = graph.journal().len();
             graph.release(lease, false);
             Some((block, told, events))
@@ -68,13 +68,13 @@ fn ask_twice(alloc: Global, graph: &mut Graph) -> Option<(u32, Told, usize)>
 }
 
 // What worker 1 is told that asks for a lease. If it gets one, that comes back at once.
-fn ask(alloc: Global, graph: &mut Graph) -> Told
+fn ask(graph: &mut Graph) -> Told
     requires worker { 1 < graph.old.table.settings.workers }
     requires vacant { (counts_in graph.old).leases 1 ≡ None }
     requires stays { IsFalse ((counts_in graph.old).signed_off 1) }
     ensures others { (lease : LeaseValue) → IsFalse (lease.worker == 1) → IsOfGraph graph.old lease → IsOfGraph graph.new lease }
 {
-    match graph.lease(alloc, 1) {
+    match graph.lease(1) {
         Answer::Leased(lease) => {
             graph.release(lease, false);
             Told::Lease
@@ -88,11 +88,18 @@ fn ask(alloc: Global, graph: &mut Graph) -> Told
 #[test]
 fn a_second_worker_waits(rt: HostRuntime) -> Result<(), Fail> {
     let task = corridor(rt.alloc())?;
+    let settings = Settings {
+        workers: 2,
+        num: 1,
+        den: 1,
+        budget: 1000,
+        lot: 256,
+        wish: 256,
+        plain: false,
+    };
     if let Some(mut graph) = graph(rt.alloc(), task, 1000, 256)? {
-        assert_eq!(rt;
-            ask_twice(rt.alloc(), &mut graph),
-            Some((22, Told::Wait, 1))
-        );
+        assert_eq!(rt; graph.settings(), &settings);
+        assert_eq!(rt; ask_twice(&mut graph), Some((22, Told::Wait, 1)));
         assert_eq!(rt; graph.journal().len(), 2);
         return Ok(());
     }
@@ -132,21 +139,22 @@ fn mark_one(graph: &mut Graph, block: u32, hot: bool) -> bool
     }
 }
 
-// The rival of worker 0's lease, what its marks are answered, and the room that is left.
-fn mark_with_lease(alloc: Global, graph: &mut Graph) -> Option<(Option<u32>, [bool; 6], u32)>
+// The block of worker 0's lease, its rival, what the worker's marks are answered, and the room that is left.
+fn mark_with_lease(graph: &mut Graph) -> Option<(u32, Option<u32>, [bool; 6], u32)>
     requires opening { counts_in graph.old ≡ opening_counts graph.old.table.settings 0 }
     requires workers { graph.old.table.settings.workers ≡ 2 }
 {
     if graph.abstraction().count() != 9 {
         return None;
     }
-    match graph.lease(alloc, 0) {
+    match graph.lease(0) {
         Answer::Leased(lease) => {
+            let block = lease.block();
             let rival = graph.rival(&lease);
             let answers = mark(graph);
             let room = graph.room(0);
             graph.release(lease, false);
-            Some((rival, answers, room))
+            Some((block, rival, answers, room))
         }
         Answer::NotYet | Answer::Over(_) | Answer::Memory => None,
     }
@@ -157,8 +165,8 @@ fn a_better_hot_block_outranks(rt: HostRuntime) -> Result<(), Fail> {
     let task = nine_cells(rt.alloc())?;
     if let Some(mut graph) = graph(rt.alloc(), task, 1000, 256)? {
         let answers = [true, false, false, false, true, false];
-        let seen = mark_with_lease(rt.alloc(), &mut graph);
-        assert_eq!(rt; seen, Some((None, answers, 61)));
+        let seen = mark_with_lease(&mut graph);
+        assert_eq!(rt; seen, Some((0, None, answers, 61)));
         assert_eq!(rt; graph.journal().len(), 4);
         assert_eq!(rt; graph.end(), None);
         return Ok(());
@@ -168,11 +176,11 @@ fn a_better_hot_block_outranks(rt: HostRuntime) -> Result<(), Fail> {
 }
 
 // A lease that counts an expansion, goes on where it may, and comes back: whether it went on, and the end.
-fn use_up(alloc: Global, graph: &mut Graph) -> Option<(bool, Option<End>)>
+fn use_up(graph: &mut Graph) -> Option<(bool, Option<End>)>
     requires opening { counts_in graph.old ≡ opening_counts graph.old.table.settings 0 }
     requires workers { graph.old.table.settings.workers ≡ 2 }
 {
-    match graph.lease(alloc, 0) {
+    match graph.lease(0) {
         Answer::Leased(lease) => {
             let went_on = spend_one(graph, lease);
             Some((went_on, graph.end()))
@@ -203,7 +211,7 @@ fn a_lease_goes_on_while_something_is_left(rt: HostRuntime) -> Result<(), Fail> 
     for (budget, goes_on) in [(1, false), (2, true)] {
         let task = nine_cells(rt.alloc())?;
         if let Some(mut graph) = graph(rt.alloc(), task, budget, 1)? {
-            assert_eq!(rt; use_up(rt.alloc(), &mut graph), Some((goes_on, None)));
+            assert_eq!(rt; use_up(&mut graph), Some((goes_on, None)));
         } else {
             assert!(rt; false);
         }

@@ -184,6 +184,14 @@ fn free_blocks(tables: &Tables) -> u64 {
     bits
 }
 
+// How many leased blocks and how many hot ones interfere with the block.
+fn near(tables: &Tables, block: u32) -> Option<(u32, u32)> {
+    if block >= tables.graph().count() {
+        return None;
+    }
+    Some((tables.leased_near(block), tables.hot_near(block)))
+}
+
 #[test]
 fn a_hot_block_waits_for_its_neighbours(rt: HostRuntime) -> Result<(), Fail> {
     let task = nine_cells(rt.alloc())?;
@@ -236,6 +244,33 @@ fn a_lease_takes_its_whole_scope(rt: HostRuntime) -> Result<(), Fail> {
         assert_eq!(rt; tables.spent(), 259);
         assert_eq!(rt; tables.end(), Some(End::Memory));
         assert_eq!(rt; tables.journal().len(), 11);
+        return Ok(());
+    }
+    assert!(rt; false);
+    Ok(())
+}
+
+// Of the last row's blocks, 18 to 26, those interfere that lie at most two apart.
+#[test]
+fn leased_and_hot_blocks_are_counted_near_each_block(rt: HostRuntime) -> Result<(), Fail> {
+    let task = corridor(rt.alloc())?;
+    let calls = [
+        (Call::Lease(0, 20), Some(256)),
+        (Call::Lease(1, 24), Some(256)),
+        (Call::Hot(1, 22, false), Some(1)),
+    ];
+    let counts = [
+        (18, (1, 0)),
+        (20, (0, 1)),
+        (21, (1, 1)),
+        (22, (2, 0)),
+        (26, (1, 0)),
+    ];
+    if let Some(mut tables) = tables(rt.alloc(), &task, 1000, 256)? {
+        assert_eq!(rt; play_all(&mut tables, calls.as_slice())?, 3);
+        for (block, wanted) in counts {
+            assert_eq!(rt; near(&tables, block), Some(wanted));
+        }
         return Ok(());
     }
     assert!(rt; false);

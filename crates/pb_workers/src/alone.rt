@@ -53,21 +53,12 @@ pub fn run_alone<G: Gate>(
     let _ = graph.abstraction();
     let mut estimator = Estimator::of(alloc, task)?;
     let mut succs = Vec::with_capacity(alloc, task.max_degree() as usize)?;
-    let end = search(
-        alloc,
-        task,
-        &mut estimator,
-        abstraction,
-        graph,
-        gate,
-        &mut succs,
-    );
+    let end = search(task, &mut estimator, abstraction, graph, gate, &mut succs);
     sign_off(graph, end)
 }
 
 // Leases blocks and works on them until the search ends, and answers the end, or none where memory is wanted for a lease.
 fn search<G: Gate>(
-    alloc: Global,
     task: &Task,
     estimator: &mut Estimator,
     abstraction: &AbsGraph,
@@ -90,7 +81,7 @@ fn search<G: Gate>(
     ensures end { graph.new.table.end ≡ result }
 {
     'leases: loop {
-        match graph.lease(alloc, 0) {
+        match graph.lease(0) {
             Answer::Leased(lease) => {
                 gate.leased(0, lease.block());
                 hold(task, estimator, abstraction, graph, gate, succs, lease);
