@@ -1,5 +1,5 @@
 -- A search by leases that the words ask for, from its opening to its end.
-use Rattle.std.proofs.Common.{◌≡◌, false, None, Some, refl, ap, ◌∙◌, subst}
+use Rattle.std.proofs.Common.{rules, ◌≡◌, true, false, None, Some, IsSome, refl, sym, ap, ◌∙◌, subst, arith}
 use Rattle.pb_model.specs.Weight.{Weight}
 use Rattle.pb_model.specs.Work.{Comes, opening_store}
 use Rattle.pb_task.specs.declared.parts.Parts.{Parts}
@@ -7,6 +7,7 @@ use Rattle.pb_task.specs.Parts.{greatest_cost}
 use Rattle.pb_machine.specs.declared.event.End.TheVariants.{Budget}
 use Rattle.pb_machine.specs.Settings.{weight_of}
 use Rattle.pb_machine.specs.Counts.{Counts, is_any_out}
+use Rattle.pb_machine.specs.History.{AreFinished}
 use Rattle.pb_machine.specs.Machine.{Setup, IsSetup, opening_machine}
 use Rattle.pb_machine.specs.Turns.{RunsInOrder}
 use Rattle.pb_machine.specs.Lawful.{IsLawful}
@@ -21,6 +22,13 @@ use Rattle.pb_workers.specs.Runs.{IsSameSearch, IsAnyMoment, RunsOn}
 use Rattle.pb_workers.specs.Ends.{IsBestEnd}
 use Rattle.pb_words.specs.Meaning.{SolveMeaning}
 use Rattle.pbnf.specs.Leases.{settings_of, IsOpening, IsBestOf, StopsAtBudget}
+
+-- an end stands, and the one worker has signed off
+are_finished : (solve : SolveMeaning) (counts : Counts) → counts.end ≡ Some Budget → counts.signed_off 0 ≡ true → AreFinished (settings_of solve) counts
+are_finished solve counts end off = record {
+  end = subst IsSome (sym end) (search rules);
+  signed_off = λ worker less. let first : worker ≡ 0 = omega (arith, less) in subst (λ k. counts.signed_off k ≡ true) (sym first) off;
+}
 
 module _ (parts : Parts) (graph : AbstractGraph) (solve : SolveMeaning) (old : GraphValue) (opening : IsOpening parts graph (settings_of solve) old) where
   abbrev setup : Setup
@@ -50,8 +58,8 @@ module _ (parts : Parts) (graph : AbstractGraph) (solve : SolveMeaning) (old : G
       best = best;
     }
 
-    pub stops : IsLeaseGraph new → RunsOn old new → IsGraphOf parts graph → IsFinest parts solve.blocks graph.projection → new.table.end ≡ Some Budget → StopsAtBudget parts (settings_of solve)
-    stops k run graph_of finest ended =
+    pub stops : IsLeaseGraph new → RunsOn old new → (counts_in new).signed_off 0 ≡ true → IsGraphOf parts graph → IsFinest parts solve.blocks graph.projection → new.table.end ≡ Some Budget → StopsAtBudget parts (settings_of solve)
+    stops k run off graph_of finest ended =
         let last = run (λ worker home state. None) (opening_machine (setup_in old)) opening.moment in
         let to = last.1 in
         let lawful : IsLawful setup last.0 = subst (λ (s : Setup). IsLawful s last.0) new_setup to.moment.lawful in
@@ -67,6 +75,7 @@ module _ (parts : Parts) (graph : AbstractGraph) (solve : SolveMeaning) (old : G
           run = subst (λ (s : Setup). RunsInOrder s (opening_machine s) to.moves last.0) old_setup to.run;
           lawful = lawful;
           end = end;
+          finished = are_finished solve last.0.counts end (ap (λ (c : Counts). c.signed_off 0) to.moment.counts ∙ off);
           works = all.1;
           comes = subst (λ (w : Weight). Comes setup.space setup.guide all.1 (opening_store setup.space setup.guide w) last.0.store) (all.8 refl) all.3;
           all = all.4;

@@ -446,6 +446,11 @@ fn a_board_without_a_plan_has_a_certificate_that_is_accepted(rt: HostRuntime) ->
             "solve tiles board --budget 1099511627776 --cert c",
             181_440,
         ),
+        (
+            "3 3\n0 2 1\n3 4 5\n6 7 8\n",
+            "solve tiles board --blocks 16 --cert c",
+            181_440,
+        ),
     ] {
         let mut files = MemShelf::new(rt.alloc())?;
         files.add("board", board.as_bytes())?;

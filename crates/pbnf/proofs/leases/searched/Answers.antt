@@ -28,4 +28,4 @@ returns-clause-budget g c = λ ended.
     (subst (λ (a : AbstractGraph). IsFinest c.deref.result.now c.settings-settings.result.wish a.projection) (sym c.in_ok-abstraction.ensures.ok) c.in_ok-of.ensures.finest)) in
     stops (arc_value c.args.task.now) (arc_value c.in_ok-abstraction.abstraction) (solve_meant c.args.solve.now) c.in_ok-graph.graph
     (subst (λ (s : Settings). IsOpening (arc_value c.args.task.now) (arc_value c.in_ok-abstraction.abstraction) s c.in_ok-graph.graph) c.settings-settings.ensures.settings c.in_ok-graph.ensures)
-    c.run_alone.new.graph c.run_alone.ensures.same c.abstraction-lawful.ensures.lawful c.run_alone.ensures.run graph_of finest ended
+    c.run_alone.new.graph c.run_alone.ensures.same c.abstraction-lawful.ensures.lawful c.run_alone.ensures.run c.in_ok-run_alone.ensures.signed_off graph_of finest ended
