@@ -1,10 +1,10 @@
-/// Is told when a worker has got a lease and when it gives the lease back. A call may hold the worker up, and
+/// Is told when a worker has got a lease, and each time before its lease goes on or comes back. A call may hold the worker up, and
 /// changes nothing else: tests use it to bring workers together.
 pub trait Gate: Sync {
     /// The worker has got a lease of the block.
     fn leased(&self, worker: u32, block: u32);
 
-    /// The worker is about to give back its lease of the block.
+    /// The worker is about to renew its lease of the block or to give it back.
     fn giving(&self, worker: u32, block: u32);
 }
 
