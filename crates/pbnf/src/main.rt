@@ -42,3 +42,5 @@ fn main(rt: HostRuntime) -> ExitCode {
 mod strips_tests;
 #[cfg(test)]
 mod tests;
+#[cfg(test)]
+mod tiles_tests;
