@@ -81,3 +81,6 @@ texts_have_tokens text = tokens_are (suc (length text)) start text (omega arith)
 pub tokens_are_unique : (text : List ℕ) (ts : List Token) → TextTokens text ts → ts ≡ tokens_of text
 unfolding tokens_of
 tokens_are_unique text ts are = tokens_same (suc (length text)) start text ts (omega arith) are
+
+pub same_tokens : (text : List ℕ) (ts us : List Token) → TextTokens text ts → TextTokens text us → ts ≡ us
+same_tokens text ts us one other = tokens_are_unique text ts one ∙ sym (tokens_are_unique text us other)

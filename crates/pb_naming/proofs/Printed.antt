@@ -28,7 +28,7 @@ object_plain types (t ∷ list) text param words fits =
   where
     at : (same : Bool) → bytes_eq text (name_text t) ≡ same → (FitsParameter types (entry_of list text) param → IsPlain text)
         → FitsParameter types (if same then Some t else entry_of list text) param → IsPlain text
-    at true e rest f = subst IsPlain (sym ((bytes_eq-Decides text (name_text t)).0 e)) (plain t.name.text (words 0 t (omega arith)))
+    at true e rest f = subst IsPlain (sym ((bytes_eq-Decides text (name_text t)).0 e)) (plain t.name.text (words 0 t (omega arith)).1)
     at false e rest f = rest f
 
 module _ (domain : Domain) (problem : Problem) (words : DomainHasWords domain) (others : ProblemHasWords problem) where

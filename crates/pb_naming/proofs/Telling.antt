@@ -57,11 +57,11 @@ plain_at (name ∷ names) h (suc k) = plain_at names h.1 k
 
 pub actions_plain : (actions : List Action) → All (λ (a : Action). IsWord a.name.text) actions → ArePlain (map action_word actions)
 actions_plain [] h = tt
-actions_plain (a ∷ actions) h = (plain a.name.text (h 0 a (omega arith)), actions_plain actions (λ k d less. h (suc k) d (omega arith)))
+actions_plain (a ∷ actions) h = (plain a.name.text (h 0 a (omega arith)).1, actions_plain actions (λ k d less. h (suc k) d (omega arith)))
 
 typed_plain : (list : List Typed) → All (λ (t : Typed). IsWord t.name.text) list → ArePlain (map name_text list)
 typed_plain [] h = tt
-typed_plain (t ∷ list) h = (plain t.name.text (h 0 t (omega arith)), typed_plain list (λ k d less. h (suc k) d (omega arith)))
+typed_plain (t ∷ list) h = (plain t.name.text (h 0 t (omega arith)).1, typed_plain list (λ k d less. h (suc k) d (omega arith)))
 
 objects_plain : (names : List (List ℕ)) → ArePlain names → (given : List ℕ) → ArePlain (map (λ i. name_at names i) given)
 objects_plain names h [] = tt

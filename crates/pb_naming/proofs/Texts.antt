@@ -5,7 +5,7 @@ use Rattle.std.proofs.lemmas.List.Elements.{All-nil, All-cons, All-append}
 use Rattle.std.proofs.lemmas.Str.{IsUtf8-from_ascii, utf8_lossy-IsUtf8}
 use Rattle.std.proofs.lemmas.Str.Ascii.{IsAscii-from_all}
 use Rattle.std.specs.Str.Lossy.{utf8_lossy}
-use Rattle.pb_trees.specs.Words.{is_word_byte, IsWord}
+use Rattle.pb_trees.specs.Words.{is_word_byte, AreWordBytes}
 use Rattle.pb_strips.specs.Names.{spaced}
 use Rattle.pb_naming.proofs.Apart.{never}
 
@@ -19,7 +19,7 @@ abbrev pub ArePlain : List (List ℕ) → Type 0
 ArePlain [] = Unit {0}
 ArePlain (word ∷ words) = IsPlain word × ArePlain words
 
-pub plain : (text : List ℕ) → IsWord text → IsPlain text
+pub plain : (text : List ℕ) → AreWordBytes text → IsPlain text
 plain [] h = tt
 plain (c ∷ cs) h = (h 0 c (omega arith), plain cs (λ k d less. h (suc k) d (omega arith)))
 

@@ -1,5 +1,5 @@
 -- The list of a text's tokens, one after another.
-use Rattle.std.proofs.Common.{◌≡◌, ℕ, Bool, true, false, List, [], ◌∷◌, length, drop, refl, sym, ap, subst, ◌∙◌}
+use Rattle.std.proofs.Common.{◌≡◌, ℕ, true, false, List, [], ◌∷◌, length, drop, refl, sym, ap, subst, ◌∙◌}
 use Rattle.pb_trees.specs.Tokens.{gap_len, token_at, is_last, AreTokens, moved, behind}
 use Rattle.pb_trees.specs.declared.token.Token.{Token}
 use Rattle.pb_trees.specs.declared.token.Cursor.{Cursor}
@@ -39,22 +39,3 @@ module _ (h : Cursor) (bytes : List ℕ) (gap len : ℕ) (rest : List ℕ) (t : 
       let seen : AreTokens (behind (moved gap h) t) (drop (length t.text) (drop gap bytes)) more =
       subst (λ (x : Cursor). AreTokens x (drop (length t.text) (drop gap bytes)) more) here_is (subst (λ r. AreTokens here r more) (after_is ∙ ap (drop (length t.text)) (rest_is ∙ back)) are) in
       next_token h bytes gap t more (gap_is ∙ len_is) plain last seen
-
--- a text has one list of tokens
-pub one_list : (h : Cursor) (bytes : List ℕ) (ts us : List Token) → AreTokens h bytes ts → AreTokens h bytes us → ts ≡ us
-unfolding AreTokens
-one_list h bytes [] us p q = absurd p
-one_list h bytes (t ∷ ts) [] p q = absurd q
-one_list h bytes (t ∷ ts) (u ∷ us) p q =
-    let same : t ≡ u = p.0 ∙ sym q.0 in
-    let b : Bool = is_last t.kind in
-    let cases : (v : Bool) → is_last t.kind ≡ v → ts ≡ us = λ v. elim v as (λ v. is_last t.kind ≡ v → ts ≡ us) [
-      | true ↦ λ e. p.1 e ∙ sym (q.1 (ap (λ (x : Token). is_last x.kind) (sym same) ∙ e))
-      | false ↦ λ e.
-          let here = moved (gap_len false bytes) h in
-          let rest = drop (gap_len false bytes) bytes in
-          one_list (behind here t) (drop (length t.text) rest) ts us (p.2 e)
-          (subst (λ (x : Token). AreTokens (behind here x) (drop (length x.text) rest) us) (sym same) (q.2 (ap (λ (x : Token). is_last x.kind) (sym same) ∙ e)))
-    ] in
-    let rest_same : ts ≡ us = cases b refl in
-    ap (λ (x : Token). x ∷ ts) same ∙ ap (λ (xs : List Token). u ∷ xs) rest_same
