@@ -1,10 +1,10 @@
 //! What a worker does to the bundles of its lease.
-ghost use Rattle.std.specs.Prelude.{◌≡◌, ◌<◌, Some, IsSome, IfSome, IfNone, OnOk, OnErr};
+ghost use Rattle.std.specs.Prelude.{◌≡◌, ◌<◌, Some, IsSome, IfSome, IfNone, OnOk, OnErr, option_map};
 ghost use Rattle.pb_model.specs.Store.{HasOpened};
 ghost use Rattle.pb_model.specs.Key.{IsFirstRow};
 ghost use Rattle.pb_model.specs.declared.row.Status.TheVariants.{Closed, Cut};
 ghost use Rattle.pb_lists.specs.Bundle.{IsOpened};
-ghost use Rattle.pb_homes.specs.Parts.{content_in};
+ghost use Rattle.pb_homes.specs.Parts.{content_in, away_rows};
 ghost use Rattle.pb_lease.specs.LeaseValue.{HasWeights};
 ghost use Rattle.pb_expand.specs.Turned.{own_rows};
 ghost use Rattle.pb_expand.specs.Rows.{ChangesRows, SetsStatusAt, OffersAt, own_opened};
@@ -26,6 +26,17 @@ pub fn first(lease: &Lease) -> Option<(Packed, Row)>
     match bundle.row(&state) {
         Some(row) => Some((state, *row)),
         None => unreachable!(),
+    }
+}
+
+/// The estimate that a state's row has in the bundle of a block. None where the state has no row there.
+pub fn known_estimate(lease: &Lease, block: u32, state: &Packed) -> Option<Estimate>
+    requires { IsSome (content_in lease.now.parts block) }
+    ensures { result ≡ option_map (λ row. row.estimate) (away_rows lease.now.parts block state.now) }
+{
+    match lease.bundle(block).row(state) {
+        Some(row) => Some(row.estimate),
+        None => None,
     }
 }
 

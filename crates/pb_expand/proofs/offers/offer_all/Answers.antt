@@ -1,7 +1,12 @@
-use Rattle.std.proofs.Common.{◌≤◌, sym, subst, arith, IsSome}
+use Rattle.std.proofs.Common.{◌≤◌, ◌+◌, ℕ, Option, Some, sym, subst, arith, IsSome}
+use Rattle.pb_model.specs.declared.row.Estimate.{Estimate}
+use Rattle.pb_model.specs.declared.row.Succ.{Succ}
 use Rattle.pb_task.specs.Parts.{space_of, greatest_cost}
+use Rattle.pb_estimate.specs.Estimates.{estimate_of}
 use Rattle.pb_homes.specs.Parts.{content_in}
 use Rattle.pb_lease.specs.Leased.{guide_of}
+use Rattle.pb_expand.specs.Rows.{OffersAt}
+use Rattle.pb_expand.proofs.Estimates.{same_offer}
 use Rattle.pb_expand.proofs.Listed.{step_at}
 use Rattle.pb_expand.proofs.Same.{still_there, changes_on}
 use Rattle.pb_expand.proofs.Turned.{offers_next}
@@ -13,9 +18,15 @@ overflow_add-cost c =
     c.requires.proper.bounded _ _ _ _ (step_at (space_of c.args.task.now) c.args.parent.now c.args.succs.now c.loop-succ.succ-index c.succ-item.result c.requires.succs c.loop-succ-test.true c.succ-item.is) in
     omega (arith, low, c.requires.cheap)
 
-pub estimate-estimate-requires-clause-state : goal.estimate-estimate-requires-clause-state
-estimate-estimate-requires-clause-state c =
+pub offered_estimate-estimate-requires-clause-state : goal.offered_estimate-estimate-requires-clause-state
+offered_estimate-estimate-requires-clause-state c =
     c.requires.proper.to_state _ _ _ _ (step_at (space_of c.args.task.now) c.args.parent.now c.args.succs.now c.loop-succ.succ-index c.succ-item.result c.requires.succs c.loop-succ-test.true c.succ-item.is)
+
+pub offered_estimate-estimate-requires-clause-there : goal.offered_estimate-estimate-requires-clause-there
+offered_estimate-estimate-requires-clause-there c =
+    subst (λ block. IsSome (content_in c.loop-succ.lease.parts block)) (sym c.block-block.ensures.block)
+    (still_there c.args.lease.now.parts c.loop-succ.lease.parts _ c.loop-succ.invariant.changes.places
+    (c.requires.there _ _ _ (step_at (space_of c.args.task.now) c.args.parent.now c.args.succs.now c.loop-succ.succ-index c.succ-item.result c.requires.succs c.loop-succ-test.true c.succ-item.is)))
 
 pub block-block-requires-clause-state : goal.block-block-requires-clause-state
 block-block-requires-clause-state c =
@@ -28,9 +39,18 @@ offer-requires c =
     (c.requires.there _ _ _ (step_at (space_of c.args.task.now) c.args.parent.now c.args.succs.now c.loop-succ.succ-index c.succ-item.result c.requires.succs c.loop-succ-test.true c.succ-item.is)))
 
 pub loop-succ-preserved : goal.loop-succ-preserved
-loop-succ-preserved c = record {
-  offers = offers_next (guide_of c.args.task.now c.args.graph.now) c.args.parent.now c.args.g c.args.succs.now c.loop-succ.succ-index c.succ-item.result c.args.lease.now c.loop-succ.lease c.offer.new.lease
-      c.loop-succ-test.true c.succ-item.is c.loop-succ.invariant.offers (rw c.block-block.ensures.block at rw c.estimate-estimate.ensures.estimate at c.in_ok-offer.ensures.rows);
-  changes = changes_on c.args.lease.now c.loop-succ.lease c.offer.new.lease c.loop-succ.invariant.changes c.in_ok-offer.ensures.changes;
-  tables = c.estimate-estimate.ensures.task;
-}
+loop-succ-preserved c =
+    let succ : Succ = c.succ-item.result in
+    let cost : ℕ = c.args.g + succ.cost in
+    let parent : Option ℕ = Some c.args.parent.now in
+    let estimate : Estimate = estimate_of c.args.task.now succ.state in
+    let offered : OffersAt c.loop-succ.lease c.offer.new.lease c.block-block.result succ.state cost estimate parent succ.action =
+    same_offer cost c.offered_estimate-estimate.result estimate parent succ.action c.loop-succ.lease c.offer.new.lease c.block-block.result succ.state c.offered_estimate-estimate.ensures.new
+    c.in_ok-offer.ensures.rows in
+    record {
+      offers = offers_next (guide_of c.args.task.now c.args.graph.now) c.args.parent.now c.args.g c.args.succs.now c.loop-succ.succ-index succ c.args.lease.now c.loop-succ.lease c.offer.new.lease
+          c.loop-succ-test.true c.succ-item.is c.loop-succ.invariant.offers
+          (subst (λ block. OffersAt c.loop-succ.lease c.offer.new.lease block succ.state cost estimate parent succ.action) c.block-block.ensures.block offered);
+      changes = changes_on c.args.lease.now c.loop-succ.lease c.offer.new.lease c.loop-succ.invariant.changes c.in_ok-offer.ensures.changes;
+      tables = c.offered_estimate-estimate.ensures.tables;
+    }
