@@ -1,4 +1,4 @@
--- A token that is a word has one or more lower-case letters, digits, - and _, and nothing else.
+-- A token that is a word has lower-case letters, digits, - and _ alone, and begins with a letter or a digit.
 use Rattle.std.proofs.Common.{◌≡◌, ℕ, suc, Bool, true, false, ◌||◌, ◌==◌, IsTrue, List, [], ◌∷◌, length, take, drop, map, refl, sym, subst, arith, inl, inr}
 use Rattle.std.specs.Prelude.{if◌then◌else◌}
 use Rattle.std.proofs.lemmas.List.Elements.{All-cons, All-nil}
@@ -7,7 +7,7 @@ use Rattle.pb_trees.specs.declared.token.Kind.TheVariants as kinds
 use Rattle.pb_trees.specs.declared.token.Token.{Token}
 use Rattle.pb_trees.specs.declared.token.Cursor.{Cursor}
 use Rattle.pb_trees.specs.Tokens.{begins_word, goes_on_word, lower, gap_len, run_len, kind_of, kind_inside, word_first, len_of, token_at, is_last, AreTokens, moved, behind}
-use Rattle.pb_trees.specs.Words.{is_word_byte, AreWordBytes, IsWord}
+use Rattle.pb_trees.specs.Words.{is_first_byte, is_word_byte, AreWordBytes, IsWord}
 use Rattle.pb_grammar.proofs.AtomsRead.{or_first}
 use Rattle.pb_grammar.proofs.CondsRead.{if_cases, if_true, if_false}
 
@@ -16,6 +16,10 @@ use Rattle.pb_grammar.proofs.CondsRead.{if_cases, if_true, if_false}
 lower_word : (b : ℕ) → goes_on_word b ≡ true → IsTrue (is_word_byte (lower b))
 unfolding goes_on_word begins_word lower
 lower_word b e = grind (arith, e)
+
+lower_first : (b : ℕ) → begins_word b ≡ true → IsTrue (is_first_byte (lower b))
+unfolding begins_word lower
+lower_first b e = grind (arith, e)
 
 abbrev is_test : ℕ → Type 0
 is_test b = IsTrue (is_word_byte b)
@@ -79,7 +83,7 @@ token_word h [] e = absurd cc
 token_word h (b ∷ bs) e =
     let begins : begins_word b ≡ true = word_begins b (word_first bs) (word_inside (length h.nest) (kind_of b (word_first bs)) e) in
     subst (λ (k : Kind). IsWord (map lower (take (len_of k bs) (b ∷ bs)))) (sym e)
-    (omega arith, All-cons is_test (lower b) (map lower (take (run_len bs) bs)) (lower_word b (or_first (begins_word b || b == 45) (b == 95) (or_first (begins_word b) (b == 45) begins))) (run_words bs))
+    (lower_first b begins, All-cons is_test (lower b) (map lower (take (run_len bs) bs)) (lower_word b (or_first (begins_word b || b == 45) (b == 95) (or_first (begins_word b) (b == 45) begins))) (run_words bs))
 
 -- ---- the tokens of a text
 

@@ -52,8 +52,8 @@ pub fn tokens_are_unique()
     ensures { (text : List ℕ) (ts : List Token) → TextTokens text ts → ts ≡ tokens_of text }
 {}
 
-/// A law: where a text spells a tree, the names of its actions and constants, or of its objects, are words: one or more lower-case
-/// letters, digits, `-` and `_` alone.
+/// A law: where a text spells a tree, the names of its actions and constants, or of its objects, are words: lower-case letters,
+/// digits, `-` and `_` alone, of which the first is a letter or a digit.
 pub fn names_are_words()
     ensures domain { (text : List ℕ) (domain : Domain) → SpellsDomain text domain → DomainHasWords domain }
     ensures problem { (text : List ℕ) (problem : Problem) → SpellsProblem text problem → ProblemHasWords problem }

@@ -1,19 +1,27 @@
--- The names in a tree are words: one or more lower-case letters, digits, - and _.
-use Rattle.std.specs.Prelude.{ℕ, ◌<◌, Bool, ◌||◌, ◌==◌, IsTrue, List, length, All}
+-- The names in a tree are words: lower-case letters, digits, - and _, of which the first is a letter or a digit.
+use Rattle.std.specs.Prelude.{ℕ, Bool, ◌||◌, ◌==◌, IsTrue, List, [], ◌∷◌, All}
 use Rattle.pb_trees.specs.declared.tree.Typed.{Typed}
 use Rattle.pb_trees.specs.declared.tree.Action.{Action}
 use Rattle.pb_trees.specs.declared.tree.Domain.{Domain}
 use Rattle.pb_trees.specs.declared.tree.Problem.{Problem}
 use Rattle.pb_trees.specs.Tokens.{is_between}
 
+-- a lower-case letter or a digit
+abbrev pub is_first_byte : ℕ → Bool
+is_first_byte b = is_between 97 122 b || is_between 48 57 b
+
 abbrev pub is_word_byte : ℕ → Bool
-is_word_byte b = is_between 97 122 b || is_between 48 57 b || b == 45 || b == 95
+is_word_byte b = is_first_byte b || b == 45 || b == 95
 
 abbrev pub AreWordBytes : List ℕ → Type 0
 AreWordBytes bytes = All (λ b. IsTrue (is_word_byte b)) bytes
 
+abbrev pub BeginsWord : List ℕ → Type 0
+BeginsWord [] = ⊥
+BeginsWord (first ∷ rest) = IsTrue (is_first_byte first)
+
 abbrev pub IsWord : List ℕ → Type 0
-IsWord text = (0 < length text) × AreWordBytes text
+IsWord text = BeginsWord text × AreWordBytes text
 
 -- the names of a domain's actions and constants, of which plans are printed
 pub record DomainHasWords (domain : Domain) : Type 0 where
