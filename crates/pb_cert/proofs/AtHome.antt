@@ -4,9 +4,9 @@ use Rattle.pb_cert.specs.Laws.{HomeRowsAreWhole, ShownRowsCanBeTraced}
 
 pub home_rows_are_whole : HomeRowsAreWhole
 home_rows_are_whole g recorded machine k home m = λ i. record {
-  rows = λ block state. all_rows g k recorded machine m home block state i;
+  rows = λ block state. all_rows g k recorded machine m.at home block state i;
   incumbent = m.incumbent i;
-  weight = m.lawful.weight i;
+  weight = m.at.lawful.weight i;
 }
 
 pub shown_rows_can_be_traced : ShownRowsCanBeTraced

@@ -15,9 +15,9 @@ use Rattle.pb_task.specs.declared.parts.Parts.{Parts}
 use Rattle.pb_task.specs.Parts.{space_of, greatest_cost}
 use Rattle.pb_abstract.specs.Graph.{AbstractGraph, blocks_of}
 use Rattle.pb_homes.specs.Parts.{content_in}
-use Rattle.pb_lease.specs.LeaseValue.{LeaseValue, leased_store, HasWeights}
+use Rattle.pb_lease.specs.LeaseValue.{LeaseValue, leased_store, HasWeights, IsSameLease}
 use Rattle.pb_lease.specs.Leased.{guide_of, setup_of, grant_of, HasScope, IsOut, IsInTurns}
-use Rattle.pb_expand.specs.Turned.{own_rows, IsAtWork, reads_none, HasTurned, IsSameLease}
+use Rattle.pb_expand.specs.Turned.{own_rows, IsAtWork, reads_none, HasTurned}
 use Rattle.pb_expand.specs.Rows.{LeadsInto}
 use Rattle.pb_expand.proofs.Same.{same_places}
 use Rattle.pb_expand.proofs.Turned.{turned_on}
@@ -43,7 +43,7 @@ module _ (task : Parts) (graph : AbstractGraph) (lease : LeaseValue) (at : IsAtW
 
   -- the block is one that there is
   block_is_known : lease.block < (blocks_of graph).count
-  block_is_known = (at.lawful.counts.known lease.worker (grant_of lease) at.out.leased).1
+  block_is_known = (at.lawful.counts.known lease.worker (grant_of lease) at.leased).1
 
   -- the lease has the bundle of its block
   pub own_there : IsSome (content_in lease.parts lease.block)
@@ -57,15 +57,15 @@ module _ (task : Parts) (graph : AbstractGraph) (lease : LeaseValue) (at : IsAtW
 
   whole_sound : IsSound (space_of task) (guide_of task graph) (merged setup greatest_cost at.is_setup at.machine (grant_of lease) (leased_store lease))
   whole_sound =
-      let there = works_there setup greatest_cost at.is_setup at.machine lease.worker (grant_of lease) lease.used 0 (leased_store lease) at.lawful at.out.leased at.out.work in
-      (work_keeps_sound (space_of task) greatest_cost (guide_of task graph) at.lawful.reached.first_weight (at.lawful.reached.works ++ at.out.work.works)
+      let there = works_there setup greatest_cost at.is_setup at.machine lease.worker (grant_of lease) lease.used 0 (leased_store lease) at.lawful at.leased at.work in
+      (work_keeps_sound (space_of task) greatest_cost (guide_of task graph) at.lawful.reached.first_weight (at.lawful.reached.works ++ at.work.works)
       (merged setup greatest_cost at.is_setup at.machine (grant_of lease) (leased_store lease)) at.is_setup.space at.lawful.reached.is_weight
-      (comes_append (space_of task) (guide_of task graph) at.lawful.reached.works at.out.work.works _ at.machine.store _ at.lawful.reached.comes there)).0
+      (comes_append (space_of task) (guide_of task graph) at.lawful.reached.works at.work.works _ at.machine.store _ at.lawful.reached.comes there)).0
 
   module _ (state : ℕ) (row : Row) (found : own_rows lease state ≡ Some row) where
     place : (lease.block ≡ (guide_of task graph).home state) × IsTrue ((space_of task).is_state state) × (row.estimate ≡ (guide_of task graph).estimate state)
     place = whole_sound.place lease.block state row
-        (row_there setup greatest_cost at.is_setup at.machine lease.worker (grant_of lease) lease.used 0 (leased_store lease) at.lawful at.out.leased at.out.work lease.block state row found)
+        (row_there setup greatest_cost at.is_setup at.machine lease.worker (grant_of lease) lease.used 0 (leased_store lease) at.lawful at.leased at.work lease.block state row found)
 
     -- a row of the block is that of a state at home there
     pub row_is_home : (guide_of task graph).home state ≡ lease.block
@@ -76,7 +76,7 @@ module _ (task : Parts) (graph : AbstractGraph) (lease : LeaseValue) (at : IsAtW
 
     pub row_is_cheap : lease.used ≤ lease.quota → row.g < 2 ^ 61
     row_is_cheap within =
-        let low : row.g ≤ 2 ^ 61 - 1 = lease_costs_fit setup at.machine lease.worker lease.used 0 (grant_of lease) (leased_store lease) (greater_costs setup at.is_setup) at.in_range at.lawful at.out.leased at.out.work within
+        let low : row.g ≤ 2 ^ 61 - 1 = lease_costs_fit setup at.machine lease.worker lease.used 0 at.known (grant_of lease) (leased_store lease) (greater_costs setup at.is_setup) at.in_range at.lawful at.leased at.work within
         lease.block state row found in
         omega (arith, low)
 
@@ -92,7 +92,7 @@ module _ (task : Parts) (graph : AbstractGraph) (settings : Settings) (reopening
         (work : IsWorked (space_of task) (guide_of task graph) block used broken (machine.known worker) (lent_store out_setup block machine.store (machine.given worker)) (leased_store new))
         × (IsInTurns out_setup machine 0 old before → AreLeaseTurns (space_of task) (guide_of task graph) work.works (lent_store out_setup block machine.store (machine.given worker)))
 
-    done : HasTurned (space_of task) (guide_of task graph) old.block more broken (leased_store old) (leased_store new) → Done old.worker old.block (old.used + more)
+    done : HasTurned (space_of task) (guide_of task graph) reads_none old.block more broken (leased_store old) (leased_store new) → Done old.worker old.block (old.used + more)
     done turned =
         let lent : Store = lent_store out_setup old.block machine.store (machine.given old.worker) in
         let second = lease_work_stays (space_of task) (guide_of task graph) old.block more broken broken reads_none (machine.known old.worker) (leased_store old) (leased_store new) turned.work (omega arith)
@@ -105,7 +105,7 @@ module _ (task : Parts) (graph : AbstractGraph) (settings : Settings) (reopening
               (lease_turns_go_on (space_of task) (guide_of task graph) before.work.works turned.work.works lent (leased_store old) before.work.comes turns turned.turns),
         )
 
-    pub out_on : HasTurned (space_of task) (guide_of task graph) old.block more broken (leased_store old) (leased_store new) → IsSameLease old new → new.used ≡ old.used + more
+    pub out_on : HasTurned (space_of task) (guide_of task graph) reads_none old.block more broken (leased_store old) (leased_store new) → IsSameLease old new → new.used ≡ old.used + more
         → (after : IsOut out_setup machine broken new) × (IsInTurns out_setup machine 0 old before → IsInTurns out_setup machine broken new after)
     out_on turned same used =
         let here : Done old.worker old.block new.used = subst (λ n. Done old.worker old.block n) (sym used) (done turned) in
@@ -126,33 +126,44 @@ module _ (task : Parts) (graph : AbstractGraph) (old new : LeaseValue) (more : �
     weights = weights;
   }
 
-  pub at_work_on : HasTurned (space_of task) (guide_of task graph) old.block more 0 (leased_store old) (leased_store new) → IsSameLease old new → new.used ≡ old.used + more → HasWeights new
+  pub at_work_on : HasTurned (space_of task) (guide_of task graph) reads_none old.block more 0 (leased_store old) (leased_store new) → IsSameLease old new → new.used ≡ old.used + more → HasWeights new
       → IsAtWork task graph new
-  at_work_on turned same used weights = record {
-    settings = at.settings;
-    reopenings = at.reopenings;
-    machine = at.machine;
-    is_setup = at.is_setup;
-    in_range = at.in_range;
-    lawful = at.lawful;
-    out = (out_on task graph at.settings at.reopenings at.machine old new more 0 at.out turned same used).0;
-    scope = scope_on same weights;
-  }
+  at_work_on turned same used weights =
+      let given : ℕ → ℕ → Store = λ block worker. lent_store (setup_of task graph at.settings at.reopenings) block at.machine.store (at.machine.given worker) in
+      let second = lease_work_stays (space_of task) (guide_of task graph) old.block more 0 0 reads_none at.known (leased_store old) (leased_store new) turned.work (omega arith)
+      (λ incumbent known. absurd (true≢false (sym known))) in
+      let both : IsWorked (space_of task) (guide_of task graph) old.block (old.used + more) 0 at.known (given old.block old.worker) (leased_store new) =
+      (lease_work_goes_on (space_of task) (guide_of task graph) old.block old.used more 0 at.known at.known (given old.block old.worker) (leased_store old) (leased_store new)
+      at.work second.0 (λ incumbent known. known)).0 in
+      record {
+        settings = at.settings;
+        reopenings = at.reopenings;
+        machine = at.machine;
+        is_setup = at.is_setup;
+        in_range = at.in_range;
+        lawful = at.lawful;
+        leased = ap at.machine.counts.leases same.worker ∙ at.leased ∙ λ i. Some (record { block = sym same.block i; quota = sym same.quota i });
+        known = at.known;
+        work = subst (λ n. IsWorked (space_of task) (guide_of task graph) new.block n 0 at.known (given new.block new.worker) (leased_store new)) (sym used)
+            (subst (λ b. IsWorked (space_of task) (guide_of task graph) b (old.used + more) 0 at.known (given b new.worker) (leased_store new)) (sym same.block)
+            (subst (λ w. IsWorked (space_of task) (guide_of task graph) old.block (old.used + more) 0 at.known (given old.block w) (leased_store new)) (sym same.worker) both));
+        scope = scope_on same weights;
+      }
 
 -- turns of a lease go on
 module _ (task : Parts) (graph : AbstractGraph) (first old new : LeaseValue) (same : IsSameLease first old) where
-  pub turned_then : (used more broken : ℕ) → HasTurned (space_of task) (guide_of task graph) first.block used 0 (leased_store first) (leased_store old)
-      → HasTurned (space_of task) (guide_of task graph) old.block more broken (leased_store old) (leased_store new)
-      → HasTurned (space_of task) (guide_of task graph) first.block (used + more) broken (leased_store first) (leased_store new)
+  pub turned_then : (used more broken : ℕ) → HasTurned (space_of task) (guide_of task graph) reads_none first.block used 0 (leased_store first) (leased_store old)
+      → HasTurned (space_of task) (guide_of task graph) reads_none old.block more broken (leased_store old) (leased_store new)
+      → HasTurned (space_of task) (guide_of task graph) reads_none first.block (used + more) broken (leased_store first) (leased_store new)
   turned_then used more broken before turned =
       turned_on (space_of task) (guide_of task graph) first.block used more broken (leased_store first) (leased_store old) (leased_store new) before
-      (subst (λ block. HasTurned (space_of task) (guide_of task graph) block more broken (leased_store old) (leased_store new)) same.block turned)
+      (subst (λ block. HasTurned (space_of task) (guide_of task graph) reads_none block more broken (leased_store old) (leased_store new)) same.block turned)
 
   -- so the count of expansions tells how many there were
-  pub worked_on : (more broken : ℕ) → HasTurned (space_of task) (guide_of task graph) first.block (old.used - first.used) 0 (leased_store first) (leased_store old) → first.used ≤ old.used
-      → HasTurned (space_of task) (guide_of task graph) old.block more broken (leased_store old) (leased_store new) → new.used ≡ old.used + more
-      → HasTurned (space_of task) (guide_of task graph) first.block (new.used - first.used) broken (leased_store first) (leased_store new)
+  pub worked_on : (more broken : ℕ) → HasTurned (space_of task) (guide_of task graph) reads_none first.block (old.used - first.used) 0 (leased_store first) (leased_store old) → first.used ≤ old.used
+      → HasTurned (space_of task) (guide_of task graph) reads_none old.block more broken (leased_store old) (leased_store new) → new.used ≡ old.used + more
+      → HasTurned (space_of task) (guide_of task graph) reads_none first.block (new.used - first.used) broken (leased_store first) (leased_store new)
   worked_on more broken before counted turned used =
       let sum : (old.used - first.used) + more ≡ new.used - first.used = omega (arith, used, counted) in
-      subst (λ n. HasTurned (space_of task) (guide_of task graph) first.block n broken (leased_store first) (leased_store new)) sum
+      subst (λ n. HasTurned (space_of task) (guide_of task graph) reads_none first.block n broken (leased_store first) (leased_store new)) sum
       (turned_then (old.used - first.used) more broken before turned)

@@ -1,5 +1,5 @@
 -- Turns of a lease.
-use Rattle.std.proofs.Common.{◌≡◌, ℕ, ◌+◌, ◌<◌, cond, List, [], ◌∷◌, ◌++◌, length, take, get_or, Some, IsTrue, refl, sym, ap, ◌∙◌, subst, arith, inl, inr}
+use Rattle.std.proofs.Common.{◌≡◌, ℕ, ◌+◌, ◌<◌, cond, List, [], ◌∷◌, ◌++◌, length, take, get_or, Bool, Option, Some, IsTrue, refl, sym, ap, ◌∙◌, subst, arith, inl, inr}
 use Rattle.std.specs.List.{AllByRecursion}
 use Rattle.std.proofs.lemmas.List.{take_more}
 use Rattle.pb_model.specs.declared.row.Status.{Status}
@@ -22,12 +22,12 @@ use Rattle.pb_machine.proofs.LeaseTurns.{lease_turns_go_on}
 use Rattle.pb_lists.specs.Bundle.{IsOpened}
 use Rattle.pb_homes.specs.Parts.{away_rows}
 use Rattle.pb_lease.specs.LeaseValue.{LeaseValue, leased_store}
-use Rattle.pb_expand.specs.Turned.{own_rows, reads_none, HasTurned, IsNext}
+use Rattle.pb_expand.specs.Turned.{own_rows, HasTurned, IsNext}
 use Rattle.pb_expand.specs.Rows.{ChangesRows, SetsStatusAt, OffersAt, HasOffers, IsBrokenOff}
 
-module _ (space : Space) (guide : Guide) (block : ℕ) where
+module _ (space : Space) (guide : Guide) {known : Option ℕ → Bool} (block : ℕ) where
   -- nothing was done
-  pub turned_none : (store : Store) → HasTurned space guide block 0 0 store store
+  pub turned_none : (store : Store) → HasTurned space guide known block 0 0 store store
   turned_none store = record {
     work = record { works = []; on = tt; comes = refl; used_is = refl; few_broken = omega arith; stops = tt };
     broken_is = refl;
@@ -35,10 +35,10 @@ module _ (space : Space) (guide : Guide) (block : ℕ) where
   }
 
   -- turns go on where others stopped
-  pub turned_on : (used more broken : ℕ) (old mid new : Store) → HasTurned space guide block used 0 old mid → HasTurned space guide block more broken mid new
-      → HasTurned space guide block (used + more) broken old new
+  pub turned_on : (used more broken : ℕ) (old mid new : Store) → HasTurned space guide known block used 0 old mid → HasTurned space guide known block more broken mid new
+      → HasTurned space guide known block (used + more) broken old new
   turned_on used more broken old mid new first second =
-      let both = lease_work_goes_on space guide block used more broken reads_none reads_none old mid new first.work second.work (λ incumbent known. known) in
+      let both = lease_work_goes_on space guide block used more broken known known old mid new first.work second.work (λ incumbent k. k) in
       record {
         work = both.0;
         broken_is =
@@ -50,9 +50,9 @@ module _ (space : Space) (guide : Guide) (block : ℕ) where
       }
 
   -- one turn
-  one_turn : (work : Work) (used broken : ℕ) (old new : Store) → IsOn guide block reads_none work → May space guide work old → IsLeaseTurn guide old work
+  one_turn : (work : Work) (used broken : ℕ) (old new : Store) → IsOn guide block known work → May space guide work old → IsLeaseTurn guide old work
       → new ≡ store_after space guide work old → expansions (work ∷ []) ≡ used → broken_expansions (work ∷ []) ≡ broken → BreaksLast (work ∷ [])
-      → HasTurned space guide block used broken old new
+      → HasTurned space guide known block used broken old new
   one_turn work used broken old new on may turn after used_is broken_is stops = record {
     work = record { works = work ∷ []; on = (on, tt); comes = (may, after); used_is = used_is; few_broken = omega (arith, broken_is); stops = stops };
     broken_is = broken_is;
@@ -86,19 +86,19 @@ module _ (space : Space) (guide : Guide) (block : ℕ) (old : LeaseValue) (state
     status_rows from to status set = subst (λ k. SetsStatusAt from to k state status) (sym home) set
 
     -- a row was cut that may be cut
-    pub cut_turned : (new : LeaseValue) → MayBeCut old.weight old.incumbent row.g row.estimate → SetsStatusAt old new block state Cut → ChangesRows old new
-        → HasTurned space guide block 0 0 (leased_store old) (leased_store new)
-    cut_turned new may set changes =
-        one_turn space guide block (cut state) 0 0 (leased_store old) (leased_store new) home (row, at_home.found, at_home.opened, may) (row, at_home)
+    pub cut_turned : {known : Option ℕ → Bool} → (new : LeaseValue) → MayBeCut old.weight old.incumbent row.g row.estimate → SetsStatusAt old new block state Cut → ChangesRows old new
+        → HasTurned space guide known block 0 0 (leased_store old) (leased_store new)
+    cut_turned {known = known} new may set changes =
+        one_turn space guide {known = known} block (cut state) 0 0 (leased_store old) (leased_store new) home (row, at_home.found, at_home.opened, may) (row, at_home)
         (store_is space guide (cut state) row.g old new g_is (status_rows old new Cut set) (ap (λ (l : LeaseValue). l.incumbent) changes.others) (ap (λ (l : LeaseValue). l.weight) changes.others))
         refl refl tt
 
     -- a goal's row was taken
-    pub take_turned : (new : LeaseValue) → ¬ MayBeCut old.weight old.incumbent row.g row.estimate → IsTrue (space.is_goal state)
+    pub take_turned : {known : Option ℕ → Bool} → (new : LeaseValue) → ¬ MayBeCut old.weight old.incumbent row.g row.estimate → IsTrue (space.is_goal state)
         → SetsStatusAt (record old { incumbent = lesser old.incumbent (Some row.g) }) new block state Cut → ChangesRows (record old { incumbent = lesser old.incumbent (Some row.g) }) new
-        → HasTurned space guide block 0 0 (leased_store old) (leased_store new)
-    take_turned new kept goal set changes =
-        one_turn space guide block (take_goal state) 0 0 (leased_store old) (leased_store new) home ((row, at_home.found, at_home.opened), goal) (row, at_home, kept)
+        → HasTurned space guide known block 0 0 (leased_store old) (leased_store new)
+    take_turned {known = known} new kept goal set changes =
+        one_turn space guide {known = known} block (take_goal state) 0 0 (leased_store old) (leased_store new) home ((row, at_home.found, at_home.opened), goal) (row, at_home, kept)
         (store_is space guide (take_goal state) row.g old new g_is (status_rows (record old { incumbent = lesser old.incumbent (Some row.g) }) new Cut set)
         (ap (λ (l : LeaseValue). l.incumbent) changes.others) (ap (λ (l : LeaseValue). l.weight) changes.others))
         refl refl tt
@@ -121,19 +121,19 @@ module _ (space : Space) (guide : Guide) (block : ℕ) (old : LeaseValue) (state
     broken_keeps_opened new broken = own_left (take broken.0 (steps space state)) new (all_take (IsStep space state) broken.0 (steps space state) (are_steps space state)) broken.2
 
     -- the row was expanded
-    pub expand_turned : (mid new : LeaseValue) → HasOffers guide state row.g (steps space state) old mid → ChangesRows old mid → SetsStatusAt mid new block state Closed → ChangesRows mid new
-        → (counted : LeaseValue) → counted ≡ record new { used = new.used + 1 } → HasTurned space guide block 1 0 (leased_store old) (leased_store counted)
-    expand_turned mid new has first set second counted is =
-        one_turn space guide block (expand state) 1 0 (leased_store old) (leased_store counted) home ((row, (at_home next.first).found, (at_home next.first).opened), next.no_goal) (row, at_home next.first, next.kept)
+    pub expand_turned : {known : Option ℕ → Bool} → (mid new : LeaseValue) → HasOffers guide state row.g (steps space state) old mid → ChangesRows old mid → SetsStatusAt mid new block state Closed → ChangesRows mid new
+        → (counted : LeaseValue) → counted ≡ record new { used = new.used + 1 } → HasTurned space guide known block 1 0 (leased_store old) (leased_store counted)
+    expand_turned {known = known} mid new has first set second counted is =
+        one_turn space guide {known = known} block (expand state) 1 0 (leased_store old) (leased_store counted) home ((row, (at_home next.first).found, (at_home next.first).opened), next.no_goal) (row, at_home next.first, next.kept)
         (ap leased_store is ∙ store_is space guide (expand state) row.g old new (g_is next.first)
         (λ other_home other. status_rows next.first mid new Closed set other_home other ∙ ap (row_after_status guide state Closed other_home other) (has other_home other))
         (ap (λ (l : LeaseValue). l.incumbent) second.others ∙ ap (λ (l : LeaseValue). l.incumbent) first.others) (ap (λ (l : LeaseValue). l.weight) second.others ∙ ap (λ (l : LeaseValue). l.weight) first.others))
         refl refl tt
 
     -- the expansion was broken off
-    pub break_turned : (new : LeaseValue) → IsBrokenOff guide state row.g (steps space state) old new → ChangesRows old new → HasTurned space guide block 0 1 (leased_store old) (leased_store new)
-    break_turned new broken changes =
-        one_turn space guide block (break_off state broken.0) 0 1 (leased_store old) (leased_store new) home ((row, (at_home next.first).found, (at_home next.first).opened), next.no_goal, broken.1)
+    pub break_turned : {known : Option ℕ → Bool} → (new : LeaseValue) → IsBrokenOff guide state row.g (steps space state) old new → ChangesRows old new → HasTurned space guide known block 0 1 (leased_store old) (leased_store new)
+    break_turned {known = known} new broken changes =
+        one_turn space guide {known = known} block (break_off state broken.0) 0 1 (leased_store old) (leased_store new) home ((row, (at_home next.first).found, (at_home next.first).opened), next.no_goal, broken.1)
         (row, at_home next.first, next.kept)
         (store_is space guide (break_off state broken.0) row.g old new (g_is next.first) broken.2
         (ap (λ (l : LeaseValue). l.incumbent) changes.others) (ap (λ (l : LeaseValue). l.weight) changes.others))

@@ -1,29 +1,28 @@
 -- What a worker may do with a lease, and what it has done.
-use Rattle.std.specs.Prelude.{◌≡◌, ℕ, Bool, false, Option, IsFalse}
-use Rattle.std.specs.Map.{keys_of}
+use Rattle.std.specs.Prelude.{◌≡◌, ℕ, Bool, false, Option, Some, IsFalse}
 use Rattle.pb_model.specs.declared.row.Row.{Row}
 use Rattle.pb_model.specs.Space.{Space}
 use Rattle.pb_model.specs.Guide.{Guide}
-use Rattle.pb_model.specs.Store.{Part, Store, AtMost, MayBeCut}
+use Rattle.pb_model.specs.Store.{Part, Store, MayBeCut}
 use Rattle.pb_model.specs.Key.{IsFirstRow}
 use Rattle.pb_model.specs.Work.{broken_expansions}
 use Rattle.pb_machine.specs.declared.settings.Settings.{Settings}
 use Rattle.pb_machine.specs.Settings.{AreInRange}
-use Rattle.pb_machine.specs.Machine.{IsSetup, Machine, IsWorked}
+use Rattle.pb_machine.specs.Machine.{IsSetup, Machine, IsWorked, lent_store}
 use Rattle.pb_machine.specs.Turns.{AreLeaseTurns}
 use Rattle.pb_machine.specs.Lawful.{IsLawful}
 use Rattle.pb_task.specs.declared.parts.Parts.{Parts}
-use Rattle.pb_task.specs.Parts.{greatest_cost}
+use Rattle.pb_task.specs.Parts.{space_of, greatest_cost}
 use Rattle.pb_abstract.specs.Graph.{AbstractGraph}
 use Rattle.pb_lease.specs.LeaseValue.{LeaseValue, leased_store}
-use Rattle.pb_lease.specs.Leased.{setup_of, HasScope, IsOut}
+use Rattle.pb_lease.specs.Leased.{setup_of, guide_of, grant_of, HasScope}
 
 -- the rows of the lease's own block
 abbrev pub own_rows : LeaseValue → Part
 own_rows lease = (leased_store lease).rows lease.block
 
--- The lease is out in the machine of a lawful moment of a search for this task by the blocks of this graph, and no expansion of it was
--- broken off.
+-- The lease is out in the machine of a lawful moment of a search for this task by the blocks of this graph, and its rows come from those that it
+-- was given or last renewed with, where no expansion was broken off. What its worker has read as the incumbent may be younger than that moment.
 pub record IsAtWork (task : Parts) (graph : AbstractGraph) (lease : LeaseValue) : Type 0 where
   pub settings : Settings
   pub reopenings : ℕ
@@ -31,7 +30,10 @@ pub record IsAtWork (task : Parts) (graph : AbstractGraph) (lease : LeaseValue) 
   pub is_setup : IsSetup (setup_of task graph settings reopenings) greatest_cost
   pub in_range : AreInRange settings
   pub lawful : IsLawful (setup_of task graph settings reopenings) machine
-  pub out : IsOut (setup_of task graph settings reopenings) machine 0 lease
+  pub leased : machine.counts.leases lease.worker ≡ Some (grant_of lease)
+  pub known : Option ℕ → Bool
+  pub work : IsWorked (space_of task) (guide_of task graph) lease.block lease.used 0 known
+      (lent_store (setup_of task graph settings reopenings) lease.block machine.store (machine.given lease.worker)) (leased_store lease)
   pub scope : HasScope graph lease
 
 -- a worker that reads no incumbent
@@ -39,9 +41,9 @@ abbrev pub reads_none : Option ℕ → Bool
 reads_none incumbent = false
 
 -- From the one store to the other a worker did turns of a lease of this block: exactly `used` expansions, exactly `broken` that
--- were broken off, and any number of cuts and of goals. It read no incumbent.
-pub record HasTurned (space : Space) (guide : Guide) (block used broken : ℕ) (old new : Store) : Type 0 where
-  pub work : IsWorked space guide block used broken reads_none old new
+-- were broken off, and any number of cuts and of goals. What it read as the incumbent is known.
+pub record HasTurned (space : Space) (guide : Guide) (known : Option ℕ → Bool) (block used broken : ℕ) (old new : Store) : Type 0 where
+  pub work : IsWorked space guide block used broken known old new
   pub broken_is : broken_expansions work.works ≡ broken
   pub turns : AreLeaseTurns space guide work.works old
 
@@ -50,13 +52,3 @@ pub record IsNext (space : Space) (lease : LeaseValue) (state : ℕ) (row : Row)
   pub first : IsFirstRow lease.weight (own_rows lease) state row
   pub kept : ¬ MayBeCut lease.weight lease.incumbent row.g row.estimate
   pub no_goal : IsFalse (space.is_goal state)
-
--- It is a lease of the same block for the same worker, with the same quota and weight and with bundles of the same blocks. The
--- incumbent is no greater.
-pub record IsSameLease (old new : LeaseValue) : Type 0 where
-  pub worker : new.worker ≡ old.worker
-  pub block : new.block ≡ old.block
-  pub quota : new.quota ≡ old.quota
-  pub weight : new.weight ≡ old.weight
-  pub places : keys_of new.parts ≡ keys_of old.parts
-  pub incumbent : AtMost new.incumbent old.incumbent

@@ -6,9 +6,9 @@ ghost use Rattle.pb_task.specs.Parts.{space_of, max_degree_of};
 ghost use Rattle.pb_estimate.specs.Tables.{tables_of};
 ghost use Rattle.pb_abstract.specs.Graph.{AbstractGraph, IsGraphOf};
 ghost use Rattle.pb_homes.specs.Parts.{content_in};
-ghost use Rattle.pb_lease.specs.LeaseValue.{leased_store, HasWeights};
+ghost use Rattle.pb_lease.specs.LeaseValue.{leased_store, HasWeights, IsSameLease};
 ghost use Rattle.pb_lease.specs.Leased.{guide_of};
-ghost use Rattle.pb_expand.specs.Turned.{own_rows, IsAtWork, HasTurned, IsNext, IsSameLease};
+ghost use Rattle.pb_expand.specs.Turned.{own_rows, IsAtWork, HasTurned, IsNext, reads_none};
 ghost use Rattle.pb_expand.specs.Rows.{own_opened};
 
 use crate::bundles::{close, cut, first};
@@ -26,7 +26,7 @@ use std::alloc::AllocError;
 fn settle_row(task: &Task, lease: &mut Lease, state: &Packed, row: &Row) -> bool
     requires first { IsFirstRow lease.old.weight (own_rows lease.old) state.now row.now }
     ensures turned { (graph : AbstractGraph) → IsAtWork task.now graph lease.old
-        → HasTurned (space_of task.now) (guide_of task.now graph) lease.old.block 0 0 (leased_store lease.old) (leased_store lease.new) }
+        → HasTurned (space_of task.now) (guide_of task.now graph) reads_none lease.old.block 0 0 (leased_store lease.old) (leased_store lease.new) }
     ensures same { IsSameLease lease.old lease.new }
     ensures used { lease.new.used ≡ lease.old.used }
     ensures weights { HasWeights lease.old → HasWeights lease.new }
@@ -50,7 +50,7 @@ pub fn settle(task: &Task, lease: &mut Lease) -> Option<(Packed, Row)>
     requires own { IsSome (content_in lease.old.parts lease.old.block) }
     requires weights { HasWeights lease.old }
     ensures turned { (graph : AbstractGraph) → IsAtWork task.now graph lease.old
-        → HasTurned (space_of task.now) (guide_of task.now graph) lease.old.block 0 0 (leased_store lease.old) (leased_store lease.new) }
+        → HasTurned (space_of task.now) (guide_of task.now graph) reads_none lease.old.block 0 0 (leased_store lease.old) (leased_store lease.new) }
     ensures same { IsSameLease lease.old lease.new }
     ensures used { lease.new.used ≡ lease.old.used }
     ensures weights { HasWeights lease.new }
@@ -82,9 +82,9 @@ pub fn expand(
     requires at_work { IsAtWork task.now graph.now lease.old }
     requires next { IsNext (space_of task.now) lease.old state.now row.now }
     requires left { lease.old.used < lease.old.quota }
-    ensures turned { OnOk result (HasTurned (space_of task.now) (guide_of task.now graph.now) lease.old.block 1 0 (leased_store lease.old) (leased_store lease.new)) }
+    ensures turned { OnOk result (HasTurned (space_of task.now) (guide_of task.now graph.now) reads_none lease.old.block 1 0 (leased_store lease.old) (leased_store lease.new)) }
     ensures used { OnOk result (lease.new.used ≡ lease.old.used + 1) }
-    ensures broken { OnErr result (HasTurned (space_of task.now) (guide_of task.now graph.now) lease.old.block 0 1 (leased_store lease.old) (leased_store lease.new)) }
+    ensures broken { OnErr result (HasTurned (space_of task.now) (guide_of task.now graph.now) reads_none lease.old.block 0 1 (leased_store lease.old) (leased_store lease.new)) }
     ensures unused { OnErr result (lease.new.used ≡ lease.old.used) }
     ensures opened { OnErr result (HasOpened (own_rows lease.new)) }
     ensures same { IsSameLease lease.old lease.new }

@@ -6,9 +6,9 @@ ghost use Rattle.pb_machine.specs.Machine.{Machine};
 ghost use Rattle.pb_task.specs.Parts.{space_of, max_degree_of};
 ghost use Rattle.pb_estimate.specs.Tables.{tables_of};
 ghost use Rattle.pb_abstract.specs.Graph.{IsGraphOf};
-ghost use Rattle.pb_lease.specs.LeaseValue.{leased_store};
+ghost use Rattle.pb_lease.specs.LeaseValue.{leased_store, IsSameLease};
 ghost use Rattle.pb_lease.specs.Leased.{guide_of, setup_of, HasScope, IsOut, IsInTurns};
-ghost use Rattle.pb_expand.specs.Turned.{own_rows, IsAtWork, HasTurned, IsNext, IsSameLease};
+ghost use Rattle.pb_expand.specs.Turned.{own_rows, IsAtWork, HasTurned, IsNext, reads_none};
 ghost use Rattle.pb_expand.specs.Worked.{broken_by};
 ghost use Rattle.pb_expand.specs.declared.working.Worked.TheVariants.{Spent, Empty, Memory};
 
@@ -46,7 +46,7 @@ pub fn work(
     requires at_work { IsAtWork task.now graph.now lease.old }
 
     // What was done: as many expansions as are counted, and one that was broken off where memory was wanted.
-    ensures turned { HasTurned (space_of task.now) (guide_of task.now graph.now) lease.old.block (lease.new.used - lease.old.used) (broken_by result)
+    ensures turned { HasTurned (space_of task.now) (guide_of task.now graph.now) reads_none lease.old.block (lease.new.used - lease.old.used) (broken_by result)
         (leased_store lease.old) (leased_store lease.new) }
     ensures counted { lease.old.used ≤ lease.new.used }
     ensures within { lease.new.used ≤ lease.new.quota }

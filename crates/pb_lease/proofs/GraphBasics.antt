@@ -22,7 +22,7 @@ use Rattle.pb_lease.specs.Leasing.{can_be_leased}
 use Rattle.pb_lease.specs.Leased.{guide_of}
 use Rattle.pb_lease.specs.GraphValue.{GraphValue, setup_in, counts_in, IsLeaseGraph}
 use Rattle.pb_lease.specs.Choices.{IsChoice, is_out_in}
-use Rattle.pb_lease.specs.Moments.{IsMoment}
+use Rattle.pb_lease.specs.Moments.{IsMomentAt}
 use Rattle.pb_lease.proofs.Away.{taken_home, none_away}
 use Rattle.pb_lease.proofs.LeasingLaws.{none_out_can_be_leased}
 
@@ -90,7 +90,7 @@ module _ (g : GraphValue) (k : IsLeaseGraph g) where
 
   -- ---- at a moment
 
-  module _ (recorded : (worker : ℕ) → Rows) (machine : Machine) (m : IsMoment g recorded machine) where
+  module _ (recorded : (worker : ℕ) → Rows) (machine : Machine) (m : IsMomentAt g recorded machine) where
     -- with no lease out the rows at home are those of the whole store
     pub all_rows : is_out_in g ≡ false → (block state : ℕ) → machine.store.rows block state ≡ home_rows g.homes block state
     all_rows home = (all_is_home (setup_in g) machine.counts machine.store (home_rows g.homes) recorded m.lawful.counts

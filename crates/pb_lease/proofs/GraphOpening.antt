@@ -31,7 +31,7 @@ use Rattle.pb_homes.proofs.ByRows.{keys_at_home_are_best}
 use Rattle.pb_lease.specs.Tables.{Table, blocks, counts_of}
 use Rattle.pb_lease.specs.Leased.{guide_of}
 use Rattle.pb_lease.specs.GraphValue.{GraphValue, setup_in, IsLeaseGraph}
-use Rattle.pb_lease.specs.Moments.{IsMoment}
+use Rattle.pb_lease.specs.Moments.{IsMomentAt, IsMoment}
 use Rattle.pb_lease.proofs.Away.{none_away}
 use Rattle.pb_lease.proofs.GraphBasics.{setup_is}
 
@@ -146,14 +146,16 @@ module _ (task : Parts) (table : Table) (homes : HomeTable) (o : IsOpening task 
   lawful : IsLawful (setup_in New) (opening_machine (setup_in New))
   lawful = opening_is_lawful (setup_in New) greatest_cost (setup_is New opening_kept) refl
 
-  pub opening_moment : (recorded : (worker : ℕ) → Rows) → IsMoment New recorded (opening_machine (setup_in New))
-  opening_moment recorded = record {
+  opening_at : (recorded : (worker : ℕ) → Rows) → IsMomentAt New recorded (opening_machine (setup_in New))
+  opening_at recorded = record {
     lawful = lawful;
     counts = sym o.counts;
     whole = (all_is_home (setup_in New) (opening_counts table.settings 0) (opening_store (space_of task) (guide_of task table.graph) (weight_of table.settings)) (home_rows homes) recorded lawful.counts
         (any_false table.settings.workers (λ worker. false) (λ worker. refl))).1 (λ block state. sym (opened.0 block state));
-    incumbent = refl;
+    incumbent = λ worker. refl;
     keys = subst (λ (s : Store). HasKeys s (key_at homes)) (λ i. record { rows = λ home state. opened.0 home state i; incumbent = None; weight = weight_of table.settings })
         (keys_at_home_are_best homes None (weight_of table.settings) (o.keys ∙ sym places) o.noted (λ block lt. opened.1 block (omega (arith, lt, places))));
-    untold = λ worker. refl;
   }
+
+  pub opening_moment : (recorded : (worker : ℕ) → Rows) → IsMoment New recorded (opening_machine (setup_in New))
+  opening_moment recorded = record { at = opening_at recorded; incumbent = refl; untold = λ worker. refl }

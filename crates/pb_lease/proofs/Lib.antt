@@ -22,3 +22,6 @@ pub mod Rivals
 pub mod Renewals
 pub mod Holders
 pub mod StaysOut
+pub mod InOrder
+pub mod WorkedOut
+pub mod MomentsStay

@@ -6,10 +6,9 @@ use Rattle.pb_machine.specs.declared.event.End.{End}
 use Rattle.pb_machine.specs.declared.event.End.TheVariants.{Quiet, Budget, Memory}
 use Rattle.pb_machine.specs.declared.event.Event.{Event}
 use Rattle.pb_machine.specs.declared.event.Event.TheVariants.{Hot, Cold, Off, Ended}
-use Rattle.pb_machine.specs.declared.event.Grant.{Grant}
 use Rattle.pb_machine.specs.Counts.{Counts, counts_after}
 use Rattle.pb_machine.specs.Legality.{refusal}
-use Rattle.pb_machine.specs.Machine.{Setup, Machine, RowPart, event_move}
+use Rattle.pb_machine.specs.Machine.{Machine, RowPart, event_move}
 use Rattle.pb_machine.specs.Turns.{IsInOrder, RunsInOrder}
 use Rattle.pb_machine.specs.Whole.{IsWhole}
 use Rattle.pb_machine.proofs.LegalEvents.{ends_are_legal}
@@ -21,10 +20,9 @@ use Rattle.pb_homes.specs.Stores.{HasKeys}
 use Rattle.pb_homes.proofs.ByKey.{opened_is_by_key, betters_are_by_key}
 use Rattle.pb_lease.specs.Tables.{blocks}
 use Rattle.pb_lease.specs.Events.{Adds, counts_along, ending}
-use Rattle.pb_lease.specs.Leased.{IsOutInTurns}
 use Rattle.pb_lease.specs.GraphValue.{GraphValue, setup_in, counts_in, IsLeaseGraph}
 use Rattle.pb_lease.specs.Choices.{is_out_in, IsDone, IsOutranked}
-use Rattle.pb_lease.specs.Moments.{IsMoment, moves_of}
+use Rattle.pb_lease.specs.Moments.{IsMomentAt, moves_of}
 use Rattle.pb_lease.specs.Steps.{KeepsLeases, end_events}
 use Rattle.pb_lease.proofs.GraphBasics.{setup_is}
 use Rattle.pb_lease.proofs.MomentSteps.{same_setup, moment_as, may_then}
@@ -35,24 +33,24 @@ module _ (old : GraphValue) (k : IsLeaseGraph old) (events : List Event) (new : 
   After machine = record machine { counts = counts_along (blocks old.table) old.table.settings machine.counts events }
 
   -- these events run, and change no lease
-  pub keeps_next : ((recorded : (worker : ℕ) → Rows) (machine : Machine) → IsMoment old recorded machine → RunsInOrder (setup_in old) machine (moves_of events) (After machine))
+  pub keeps_next : ((recorded : (worker : ℕ) → Rows) (machine : Machine) → IsMomentAt old recorded machine → RunsInOrder (setup_in old) machine (moves_of events) (After machine))
       → ((counts : Counts) → (counts_along (blocks old.table) old.table.settings counts events).leases ≡ counts.leases) → KeepsLeases old events new
   keeps_next runs leases recorded machine m = (
     After machine,
     record {
       setup = setup;
-      moves = runs recorded machine m;
+      moves = ordered_runs_are_runs (setup_in old) (moves_of events) machine (After machine) (runs recorded machine m);
       moment = moment_as old new recorded (After machine) setup
           (runs_are_lawful (setup_in old) greatest_cost (moves_of events) machine (After machine) (setup_is old k) m.lawful (ordered_runs_are_runs (setup_in old) (moves_of events) machine (After machine) (runs recorded machine m)))
           (ap (λ (c : Counts). counts_along (blocks old.table) old.table.settings c events) m.counts ∙ sym adds.counts)
           (subst (λ (h : HomeTable). IsWhole (setup_in old) (After machine).counts (home_rows h) recorded machine.store) (sym (ap (λ (g : GraphValue). g.homes) rest))
           (others_keep_whole (setup_in old) machine.counts (After machine).counts machine.store machine.store (home_rows old.homes) recorded (leases machine.counts) refl m.whole))
-          (m.incumbent ∙ sym (ap (λ (g : GraphValue). g.incumbent) rest))
-          (subst (λ (h : HomeTable). HasKeys machine.store (key_at h)) (sym (ap (λ (g : GraphValue). g.homes) rest)) m.keys)
-          m.untold;
+          (λ worker. ap (λ (g : GraphValue). machine.known worker g.incumbent) rest ∙ m.incumbent worker)
+          (subst (λ (h : HomeTable). HasKeys machine.store (key_at h)) (sym (ap (λ (g : GraphValue). g.homes) rest)) m.keys);
     },
-    λ lease most_broken out. subst (λ (s : Setup). IsOutInTurns s (After machine) most_broken lease) (sym setup)
-        (record { leased = ap (λ (l : ℕ → Option Grant). l lease.worker) (leases machine.counts) ∙ out.0.leased; work = out.0.work }, out.1),
+    (refl, refl, refl, refl, refl),
+    leases machine.counts,
+    runs recorded machine m,
   )
     where
       setup : setup_in new ≡ setup_in old
@@ -60,7 +58,7 @@ module _ (old : GraphValue) (k : IsLeaseGraph old) (events : List Event) (new : 
 
 -- ---- one event that may come
 
-module _ (old : GraphValue) (event : Event) (may : refusal (blocks old.table) old.table.settings (counts_in old) event ≡ None) (recorded : (worker : ℕ) → Rows) (machine : Machine) (m : IsMoment old recorded machine) where
+module _ (old : GraphValue) (event : Event) (may : refusal (blocks old.table) old.table.settings (counts_in old) event ≡ None) (recorded : (worker : ℕ) → Rows) (machine : Machine) (m : IsMomentAt old recorded machine) where
   one_runs : RowPart (setup_in old) machine event (record machine { counts = counts_after (blocks old.table) old.table.settings machine.counts event })
       → IsInOrder (setup_in old) machine (event_move event) (record machine { counts = counts_after (blocks old.table) old.table.settings machine.counts event })
       → RunsInOrder (setup_in old) machine (moves_of (event ∷ [])) (record machine { counts = counts_after (blocks old.table) old.table.settings machine.counts event })
@@ -99,7 +97,7 @@ pub ended_next : (old : GraphValue) → IsLeaseGraph old → (end : End) (new : 
 ended_next old k end new adds rest none home done = keeps_next old k (Ended end ∷ []) new adds rest
     (λ recorded machine m. one_runs old (Ended end) (ended_is_legal old end none home done) recorded machine m (rows end recorded machine m done) tt) (λ counts. refl)
   where
-    rows : (e : End) (recorded : (worker : ℕ) → Rows) (machine : Machine) → IsMoment old recorded machine → IsDone old e
+    rows : (e : End) (recorded : (worker : ℕ) → Rows) (machine : Machine) → IsMomentAt old recorded machine → IsDone old e
         → RowPart (setup_in old) machine (Ended e) (record machine { counts = counts_after (blocks old.table) old.table.settings machine.counts (Ended e) })
     rows Quiet recorded machine m d = ((opened_is_by_key machine.store (key_at old.homes) m.keys).2.0 d, (refl, refl, refl, refl, refl))
     rows Budget recorded machine m d = ((opened_is_by_key machine.store (key_at old.homes) m.keys).1.0 d.0, (refl, refl, refl, refl, refl))
@@ -108,7 +106,7 @@ ended_next old k end new adds rest none home done = keeps_next old k (Ended end 
 -- an end that stood changes nothing
 pub stood_next : (old : GraphValue) → IsLeaseGraph old → (end standing : End) → old.table.end ≡ Some standing → KeepsLeases old (end_events old.table.end end) old
 stood_next old k end standing stands = subst (λ (o : Option End). KeepsLeases old (end_events o end) old) (sym stands)
-    (λ recorded machine m. (machine, record { setup = refl; moves = refl; moment = m }, λ lease most_broken out. out))
+    (λ recorded machine m. (machine, record { setup = refl; moves = refl; moment = m }, (refl, refl, refl, refl, refl), refl, refl))
 
 -- ---- a worker that signs off
 

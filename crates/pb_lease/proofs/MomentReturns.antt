@@ -15,11 +15,10 @@ use Rattle.pb_machine.specs.Blocks.{Blocks}
 use Rattle.pb_machine.specs.Counts.{Counts, quota_of, with_quota, counts_after}
 use Rattle.pb_machine.specs.Choice.{IsFirstChoice, counts_with_lease_home}
 use Rattle.pb_machine.specs.Legality.{refusal}
-use Rattle.pb_machine.specs.Machine.{Setup, Machine, with_incumbent, lent_store, RowPart, event_move, CameBack}
+use Rattle.pb_machine.specs.Machine.{Setup, Machine, with_incumbent, lent_store, RowPart, event_move, CameBack, Moves, Runs}
 use Rattle.pb_machine.specs.Turns.{IsInOrder, RunsInOrder}
 use Rattle.pb_machine.specs.Whole.{IsWhole}
 use Rattle.pb_machine.proofs.TableLaws.{entry_here}
-use Rattle.pb_machine.proofs.Known.{known_new}
 use Rattle.pb_machine.proofs.LegalEvents.{ends_are_legal}
 use Rattle.pb_machine.proofs.Moments.{runs_are_lawful}
 use Rattle.pb_machine.proofs.LeaseTurns.{ordered_runs_are_runs}
@@ -34,16 +33,16 @@ use Rattle.pb_lease.specs.Tables.{blocks}
 use Rattle.pb_lease.specs.Leasing.{can_be_leased}
 use Rattle.pb_lease.specs.Events.{counts_along, ending}
 use Rattle.pb_lease.specs.LeaseValue.{LeaseValue, leased_store}
-use Rattle.pb_lease.specs.Leased.{grant_of, IsOutInTurns}
+use Rattle.pb_lease.specs.Leased.{grant_of, IsOut, IsInTurns, IsOutInTurns}
 use Rattle.pb_lease.specs.GraphValue.{GraphValue, setup_in, counts_in, IsLeaseGraph, IsOfGraph}
-use Rattle.pb_lease.specs.Moments.{IsMoment, Follows, moves_of}
+use Rattle.pb_lease.specs.Moments.{IsMomentAt, Follows, moves_of, ShowsTold, IsKnownThen}
 use Rattle.pb_homes.proofs.Lists.{past}
 use Rattle.pb_homes.proofs.ByKey.{first_choices_are_by_key}
 use Rattle.pb_lease.specs.Choices.{IsChoiceWithHome}
 use Rattle.pb_lease.specs.Steps.{ChoosesByRows, IsReleased, ReleasesNext, IsRenewed, RenewsNext, renewed_quota}
 use Rattle.pb_lease.proofs.NextEvents.{release_may, renewal_may}
 use Rattle.pb_lease.proofs.GraphBasics.{setup_is, lawful_in, passes_from, passes_to}
-use Rattle.pb_lease.proofs.MomentSteps.{same_setup, moment_as, may_then, none_told}
+use Rattle.pb_lease.proofs.MomentSteps.{same_setup, moment_as, may_then}
 
 pub or_some : (found other : Option Content) → is_some found ≡ true → option_or found other ≡ found
 or_some None other e = absurd (true≢false (sym e))
@@ -100,19 +99,16 @@ module _ (old : GraphValue) (k : IsLeaseGraph old) (lease : LeaseValue) (of : Is
   in_none : (block : ℕ) → Scope block ≡ false → content_in lease.parts block ≡ None
   in_none block out = none_there (content_in lease.parts block) (of.scope.blocks block ∙ out)
 
-  module _ (recorded : (worker : ℕ) → Rows) (machine : Machine) (m : IsMoment old recorded machine) where
-    abbrev came : (broken : ℕ) → IsOutInTurns (setup_in old) machine broken lease → CameBack (setup_in old) machine lease.worker lease.used broken (Merged machine)
-    came broken out = record {
+  module _ (recorded : (worker : ℕ) → Rows) (machine : Machine) (m : IsMomentAt old recorded machine) where
+    abbrev came : (broken : ℕ) → IsOut (setup_in old) machine broken lease → ShowsTold old machine lease → CameBack (setup_in old) machine lease.worker lease.used broken (Merged machine)
+    came broken out shows = record {
       grant = grant_of lease;
       worked = leased_store lease;
-      leased = out.0.leased;
-      work = out.0.work;
+      leased = out.leased;
+      work = out.work;
       back = refl;
-      shown = λ cost told. absurd (true≢false (sym (ap is_some (sym (m.untold lease.worker) ∙ told))));
+      shown = shows;
     }
-
-    merged_incumbent : (Merged machine).incumbent ≡ lesser old.incumbent lease.incumbent
-    merged_incumbent = ap (λ o. lesser o lease.incumbent) m.incumbent
 
     merged_keys : (keys : List (Option _)) → NotesKeys lease.parts old.homes.keys keys → HasKeys (Merged machine) (λ block. get_or keys block None)
     merged_keys keys noted = noted_keys_are_best machine.store (leased_store lease) Scope lease.parts old.homes.keys keys m.keys noted
@@ -146,7 +142,7 @@ module _ (old : GraphValue) (k : IsLeaseGraph old) (lease : LeaseValue) (of : Is
       setup : setup_in new ≡ setup_in old
       setup = same_setup old new r.task r.events.graph r.events.settings
 
-      module _ (recorded : (worker : ℕ) → Rows) (machine : Machine) (m : IsMoment old recorded machine) where
+      module _ (recorded : (worker : ℕ) → Rows) (machine : Machine) (m : IsMomentAt old recorded machine) (out : IsOut (setup_in old) machine (one_if trouble) lease) (shows : ShowsTold old machine lease) where
         abbrev Home : Bool → Machine
         Home t = record machine {
           counts = counts_after (blocks old.table) old.table.settings machine.counts (Release lease.worker lease.used t);
@@ -156,13 +152,13 @@ module _ (old : GraphValue) (k : IsLeaseGraph old) (lease : LeaseValue) (of : Is
           broken = cond t (with_entry machine.broken lease.worker true) machine.broken;
         }
 
-        rows : (t : Bool) → IsOutInTurns (setup_in old) machine (one_if t) lease → RowPart (setup_in old) machine (Release lease.worker lease.used t) (Home t)
-        rows false out = (came recorded machine m 0 out, refl, refl, refl, refl)
-        rows true out = (came recorded machine m 1 out, refl, refl, refl, refl)
+        rows : (t : Bool) → IsOut (setup_in old) machine (one_if t) lease → RowPart (setup_in old) machine (Release lease.worker lease.used t) (Home t)
+        rows false o = (came recorded machine m 0 o shows, refl, refl, refl, refl)
+        rows true o = (came recorded machine m 1 o shows, refl, refl, refl, refl)
 
-        order : (t : Bool) → IsOutInTurns (setup_in old) machine (one_if t) lease → IsInOrder (setup_in old) machine (event_move (Release lease.worker lease.used t)) (Home t)
-        order false out = (came recorded machine m 0 out, out.1)
-        order true out = (came recorded machine m 1 out, out.1)
+        order : (t : Bool) (o : IsOut (setup_in old) machine (one_if t) lease) → IsInTurns (setup_in old) machine (one_if t) lease o → IsInOrder (setup_in old) machine (event_move (Release lease.worker lease.used t)) (Home t)
+        order false o turns = (came recorded machine m 0 o shows, turns)
+        order true o turns = (came recorded machine m 1 o shows, turns)
 
         abbrev Last : Machine
         Last = record (Home trouble) { counts = counts_along (blocks old.table) old.table.settings (Home trouble).counts (ending trouble old.table.end) }
@@ -170,13 +166,17 @@ module _ (old : GraphValue) (k : IsLeaseGraph old) (lease : LeaseValue) (of : Is
         home_counts : (Home trouble).counts ≡ counts_after (blocks old.table) old.table.settings (counts_in old) (Release lease.worker lease.used trouble)
         home_counts = ap (λ (c : Counts). counts_after (blocks old.table) old.table.settings c (Release lease.worker lease.used trouble)) m.counts
 
-        runs : IsOutInTurns (setup_in old) machine (one_if trouble) lease → RunsInOrder (setup_in old) machine (moves_of (Release lease.worker lease.used trouble ∷ ending trouble old.table.end)) Last
-        runs out = (
-          Home trouble,
-          record { may = may_then old new machine (Release lease.worker lease.used trouble) m.counts release_is_legal; counts = refl; rows = rows trouble out },
-          order trouble out,
-          then_ended (setup_in old) trouble (counts_after (blocks old.table) old.table.settings (counts_in old) (Release lease.worker lease.used trouble)) (Home trouble) home_counts refl,
-        )
+        ends : RunsInOrder (setup_in old) (Home trouble) (moves_of (ending trouble old.table.end)) Last
+        ends = then_ended (setup_in old) trouble (counts_after (blocks old.table) old.table.settings (counts_in old) (Release lease.worker lease.used trouble)) (Home trouble) home_counts refl
+
+        comes : Moves (setup_in old) machine (event_move (Release lease.worker lease.used trouble)) (Home trouble)
+        comes = record { may = may_then old new machine (Release lease.worker lease.used trouble) m.counts release_is_legal; counts = refl; rows = rows trouble out }
+
+        runs : Runs (setup_in old) machine (moves_of (Release lease.worker lease.used trouble ∷ ending trouble old.table.end)) Last
+        runs = (Home trouble, comes, ordered_runs_are_runs (setup_in old) (moves_of (ending trouble old.table.end)) (Home trouble) Last ends)
+
+        ordered : IsInTurns (setup_in old) machine (one_if trouble) lease out → RunsInOrder (setup_in old) machine (moves_of (Release lease.worker lease.used trouble ∷ ending trouble old.table.end)) Last
+        ordered turns = (Home trouble, comes, order trouble out turns, ends)
 
         whole : IsWhole (setup_in old) Last.counts (home_rows new.homes) recorded (Merged machine)
         whole = others_keep_whole (setup_in old) (Home trouble).counts Last.counts (Merged machine) (Merged machine) (home_rows new.homes) recorded
@@ -187,18 +187,20 @@ module _ (old : GraphValue) (k : IsLeaseGraph old) (lease : LeaseValue) (of : Is
             (λ home state out. ap (λ o. rows_in o state) (r.home home ∙ or_none (content_in lease.parts home) (content_at old.homes home) (of.scope.blocks home ∙ not_true _ out))))
 
       pub released_next : ReleasesNext old lease trouble new
-      released_next recorded machine m out = (
-        Last recorded machine m,
+      released_next recorded machine m out shows known = (
+        Last recorded machine m out shows,
         record {
           setup = setup;
-          moves = runs recorded machine m out;
-          moment = moment_as old new recorded (Last recorded machine m) setup
-              (runs_are_lawful (setup_in old) greatest_cost (moves_of (Release lease.worker lease.used trouble ∷ ending trouble old.table.end)) machine (Last recorded machine m) (setup_is old k) m.lawful
-              (ordered_runs_are_runs (setup_in old) (moves_of (Release lease.worker lease.used trouble ∷ ending trouble old.table.end)) machine (Last recorded machine m) (runs recorded machine m out)))
+          moves = runs recorded machine m out shows;
+          moment = moment_as old new recorded (Last recorded machine m out shows) setup
+              (runs_are_lawful (setup_in old) greatest_cost (moves_of (Release lease.worker lease.used trouble ∷ ending trouble old.table.end)) machine (Last recorded machine m out shows) (setup_is old k) m.lawful
+              (runs recorded machine m out shows))
               (ap (λ (c : Counts). counts_along (blocks old.table) old.table.settings c (Release lease.worker lease.used trouble ∷ ending trouble old.table.end)) m.counts ∙ sym r.events.counts)
-              (whole recorded machine m) (merged_incumbent recorded machine m ∙ sym r.incumbent) (merged_keys recorded machine m new.homes.keys r.noted)
-              (none_told machine.told lease.worker m.untold);
+              (whole recorded machine m out shows) known (merged_keys recorded machine m new.homes.keys r.noted);
         },
+        refl,
+        refl,
+        ordered recorded machine m out shows,
       )
 
   -- ---- a lease that goes on
@@ -215,27 +217,28 @@ module _ (old : GraphValue) (k : IsLeaseGraph old) (lease : LeaseValue) (of : Is
       setup_too : setup_in new ≡ setup_in old
       setup_too = same_setup old new n.task n.events.graph n.events.settings
 
-      module _ (recorded : (worker : ℕ) → Rows) (machine : Machine) (m : IsMoment old recorded machine) (out : IsOutInTurns (setup_in old) machine 0 lease) where
+      module _ (recorded : (worker : ℕ) → Rows) (machine : Machine) (m : IsMomentAt old recorded machine) (out : IsOut (setup_in old) machine 0 lease) (shows : ShowsTold old machine lease) (known : IsKnownThen machine lease new.incumbent) where
         abbrev Next : Machine
         Next = record machine {
           counts = counts_after (blocks old.table) old.table.settings machine.counts (Renew lease.worker lease.used (renewed_quota old lease));
           store = Merged machine;
-          given = with_entry machine.given lease.worker (Merged machine).incumbent;
+          given = with_entry machine.given lease.worker new.incumbent;
           told = with_entry machine.told lease.worker None;
           known = with_incumbent machine.known (Merged machine).incumbent;
         }
 
-        goes : RunsInOrder (setup_in old) machine (moves_of (Renew lease.worker lease.used (renewed_quota old lease) ∷ [])) Next
-        goes = (
-          Next,
-          record {
-            may = may_then old new machine (Renew lease.worker lease.used (renewed_quota old lease)) m.counts renewal_is_legal;
-            counts = refl;
-            rows = (came recorded machine m 0 out, ((Merged machine).incumbent, known_new (machine.known lease.worker) (Merged machine).incumbent, refl), refl, refl, refl);
-          },
-          (came recorded machine m 0 out, out.1),
-          refl,
-        )
+        moves : Moves (setup_in old) machine (event_move (Renew lease.worker lease.used (renewed_quota old lease))) Next
+        moves = record {
+          may = may_then old new machine (Renew lease.worker lease.used (renewed_quota old lease)) m.counts renewal_is_legal;
+          counts = refl;
+          rows = (came recorded machine m 0 out shows, (new.incumbent, known lease.worker, refl), refl, refl, refl);
+        }
+
+        goes : Runs (setup_in old) machine (moves_of (Renew lease.worker lease.used (renewed_quota old lease) ∷ [])) Next
+        goes = (Next, moves, refl)
+
+        goes_in_order : IsInTurns (setup_in old) machine 0 lease out → RunsInOrder (setup_in old) machine (moves_of (Renew lease.worker lease.used (renewed_quota old lease) ∷ [])) Next
+        goes_in_order turns = (Next, moves, (came recorded machine m 0 out shows, turns), refl)
 
         whole_still : IsWhole (setup_in old) Next.counts (home_rows old.homes) (with_entry recorded lease.worker (away_rows lease.parts)) (Merged machine)
         whole_still = renewing_keeps_whole (setup_in old) greatest_cost machine.counts machine.store (leased_store lease) (home_rows old.homes) recorded lease.worker lease.used (renewed_quota old lease) (grant_of lease)
@@ -246,7 +249,7 @@ module _ (old : GraphValue) (k : IsLeaseGraph old) (lease : LeaseValue) (of : Is
             ∙ ap (with_quota (renewed_quota old lease)) (leased_then recorded machine m)
 
         given : Next.given lease.worker ≡ Kept.incumbent
-        given = entry_here machine.given lease.worker lease.worker (Merged machine).incumbent (equal_self lease.worker) ∙ merged_incumbent recorded machine m
+        given = entry_here machine.given lease.worker lease.worker new.incumbent (equal_self lease.worker) ∙ n.incumbent
 
         begins : leased_store Kept ≡ lent_store (setup_in old) lease.block (Merged machine) (Next.given lease.worker)
         begins = λ i. record {
@@ -264,16 +267,23 @@ module _ (old : GraphValue) (k : IsLeaseGraph old) (lease : LeaseValue) (of : Is
           setup = setup_too;
           moves = goes;
           moment = moment_as old new (with_entry recorded lease.worker (away_rows lease.parts)) Next setup_too
-              (runs_are_lawful (setup_in old) greatest_cost (moves_of (Renew lease.worker lease.used (renewed_quota old lease) ∷ [])) machine Next (setup_is old k) m.lawful
-              (ordered_runs_are_runs (setup_in old) (moves_of (Renew lease.worker lease.used (renewed_quota old lease) ∷ [])) machine Next goes))
+              (runs_are_lawful (setup_in old) greatest_cost (moves_of (Renew lease.worker lease.used (renewed_quota old lease) ∷ [])) machine Next (setup_is old k) m.lawful goes)
               (ap (λ (c : Counts). counts_after (blocks old.table) old.table.settings c (Renew lease.worker lease.used (renewed_quota old lease))) m.counts ∙ sym n.events.counts)
               (subst (λ (bs : List (Option Content)). IsWhole (setup_in old) Next.counts (λ home. rows_in (get_or bs home None)) (with_entry recorded lease.worker (away_rows lease.parts)) (Merged machine)) (sym n.bundles) whole_still)
-              (merged_incumbent recorded machine m ∙ sym n.incumbent) (merged_keys recorded machine m new.homes.keys n.noted) (none_told machine.told lease.worker m.untold);
+              known (merged_keys recorded machine m new.homes.keys n.noted);
         }
 
       renewed_to : RenewsNext old lease Kept new
-      renewed_to recorded machine m out =
-          (Next recorded machine m out, goes_on recorded machine m out, given recorded machine m out, subst (λ (s : Setup). IsOutInTurns s (Next recorded machine m out) 0 Kept) (sym setup_too) (still_out recorded machine m out))
+      renewed_to recorded machine m out shows known = (
+        Next recorded machine m out shows known,
+        goes_on recorded machine m out shows known,
+        given recorded machine m out shows known,
+        subst (λ (s : Setup). IsOutInTurns s (Next recorded machine m out shows known) 0 Kept) (sym setup_too) (still_out recorded machine m out shows known),
+        refl,
+        refl,
+        goes_in_order recorded machine m out shows known,
+        begins recorded machine m out shows known,
+      )
 
     pub renewed_next : (kept : LeaseValue) (new : GraphValue) → IsRenewed old lease kept new → RenewsNext old lease kept new
     renewed_next kept new n = subst (λ (v : LeaseValue). RenewsNext old lease v new) (sym n.kept_is) (renewed_to new (subst (λ (v : LeaseValue). IsRenewed old lease v new) n.kept_is n))

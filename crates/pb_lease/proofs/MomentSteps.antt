@@ -1,5 +1,5 @@
 -- From one moment of a graph to the next: a lease, a renewal, a release.
-use Rattle.std.proofs.Common.{◌≡◌, ◌==◌, ℕ, ◌<◌, Bool, false, cond, List, [], ◌∷◌, Option, Some, None, refl, sym, ap, ◌∙◌, arith, subst, get_or}
+use Rattle.std.proofs.Common.{◌≡◌, ◌==◌, ℕ, ◌<◌, Bool, true, false, cond, List, [], ◌∷◌, Option, Some, None, refl, sym, ap, ◌∙◌, arith, subst, get_or}
 use Rattle.pb_model.specs.declared.key.Key.{Key}
 use Rattle.pb_model.specs.Store.{Rows}
 use Rattle.pb_model.proofs.Tests.{by_cases, equal_self, not_true}
@@ -23,7 +23,7 @@ use Rattle.pb_lease.specs.Tables.{blocks}
 use Rattle.pb_lease.specs.LeaseValue.{LeaseValue, leased_store}
 use Rattle.pb_lease.specs.Leased.{setup_of, grant_of, IsOutInTurns}
 use Rattle.pb_lease.specs.GraphValue.{GraphValue, setup_in, counts_in, IsLeaseGraph}
-use Rattle.pb_lease.specs.Moments.{IsMoment, Follows}
+use Rattle.pb_lease.specs.Moments.{IsMomentAt, Follows}
 use Rattle.pb_lease.specs.Steps.{IsLeased, LeasesNext}
 use Rattle.pb_lease.proofs.NextEvents.{lease_may}
 use Rattle.pb_lease.proofs.GraphBasics.{setup_is, chosen_known, has_opened, choice_is}
@@ -33,15 +33,14 @@ module _ (old new : GraphValue) where
   same_setup task graph settings = λ i. setup_of (task i) (graph i) (settings i) 0
 
   pub moment_as : (recorded : (worker : ℕ) → Rows) (next : Machine) → setup_in new ≡ setup_in old → IsLawful (setup_in old) next → next.counts ≡ counts_in new
-      → IsWhole (setup_in old) next.counts (home_rows new.homes) recorded next.store → next.store.incumbent ≡ new.incumbent → HasKeys next.store (key_at new.homes)
-      → ((worker : ℕ) → next.told worker ≡ None) → IsMoment new recorded next
-  moment_as recorded next setup lawful counts whole incumbent keys untold = record {
+      → IsWhole (setup_in old) next.counts (home_rows new.homes) recorded next.store → ((worker : ℕ) → next.known worker new.incumbent ≡ true) → HasKeys next.store (key_at new.homes)
+      → IsMomentAt new recorded next
+  moment_as recorded next setup lawful counts whole incumbent keys = record {
     lawful = subst (λ (s : Setup). IsLawful s next) (sym setup) lawful;
     counts = counts;
     whole = subst (λ (s : Setup). IsWhole s next.counts (home_rows new.homes) recorded next.store) (sym setup) whole;
     incumbent = incumbent;
     keys = keys;
-    untold = untold;
   }
 
   pub may_then : (machine : Machine) (event : Event) → machine.counts ≡ counts_in old → refusal (blocks old.table) old.table.settings (counts_in old) event ≡ None
@@ -66,11 +65,11 @@ module _ (old : GraphValue) (k : IsLeaseGraph old) (lease : LeaseValue) (new : G
   setup : setup_in new ≡ setup_in old
   setup = same_setup old new l.task l.events.graph l.events.settings
 
-  module _ (recorded : (worker : ℕ) → Rows) (machine : Machine) (m : IsMoment old recorded machine) where
+  module _ (recorded : (worker : ℕ) → Rows) (machine : Machine) (m : IsMomentAt old recorded machine) where
     abbrev Next : Machine
     Next = record machine {
       counts = counts_after (blocks old.table) old.table.settings machine.counts (Lease lease.worker lease.block lease.quota);
-      given = with_entry machine.given lease.worker machine.store.incumbent;
+      given = with_entry machine.given lease.worker old.incumbent;
       told = with_entry machine.told lease.worker None;
     }
 
@@ -81,7 +80,7 @@ module _ (old : GraphValue) (k : IsLeaseGraph old) (lease : LeaseValue) (new : G
     moved = record {
       may = legal;
       counts = refl;
-      rows = (has_opened old k recorded machine m lease.block l.first.0.1, refl, (machine.store.incumbent, m.lawful.is_known lease.worker, refl), refl, refl, refl);
+      rows = (has_opened old k recorded machine m lease.block l.first.0.1, refl, (old.incumbent, m.incumbent lease.worker, refl), refl, refl, refl);
     }
 
     whole : IsWhole (setup_in old) Next.counts (home_rows new.homes) (with_entry recorded lease.worker (away_rows lease.parts)) machine.store
@@ -96,7 +95,7 @@ module _ (old : GraphValue) (k : IsLeaseGraph old) (lease : LeaseValue) (new : G
     granted = entry_here machine.counts.leases lease.worker lease.worker (Some (grant_of lease)) (equal_self lease.worker)
 
     given : Next.given lease.worker ≡ lease.incumbent
-    given = entry_here machine.given lease.worker lease.worker machine.store.incumbent (equal_self lease.worker) ∙ m.incumbent ∙ sym l.lent_incumbent
+    given = entry_here machine.given lease.worker lease.worker old.incumbent (equal_self lease.worker) ∙ sym l.lent_incumbent
 
     weight : lease.weight ≡ machine.store.weight
     weight = l.of_graph.weight ∙ ap weight_of l.events.settings ∙ sym m.lawful.weight
@@ -124,13 +123,20 @@ module _ (old : GraphValue) (k : IsLeaseGraph old) (lease : LeaseValue) (new : G
     follows : Follows old machine (Lease lease.worker lease.block lease.quota ∷ []) new (with_entry recorded lease.worker (away_rows lease.parts)) Next
     follows = record {
       setup = setup;
-      moves = (Next, moved, choice_is old k recorded machine m lease.block l.first, refl);
+      moves = (Next, moved, refl);
       moment = moment_as old new (with_entry recorded lease.worker (away_rows lease.parts)) Next setup
           (moves_keep_lawful (setup_in old) greatest_cost (event_move (Lease lease.worker lease.block lease.quota)) machine Next (setup_is old k) m.lawful moved)
-          counts whole (m.incumbent ∙ sym l.incumbent) (subst (λ (ks : List (Option Key)). HasKeys machine.store (λ block. get_or ks block None)) (sym l.keys) m.keys)
-          (none_told machine.told lease.worker m.untold);
+          counts whole (λ worker. ap (machine.known worker) l.incumbent ∙ m.incumbent worker) (subst (λ (ks : List (Option Key)). HasKeys machine.store (λ block. get_or ks block None)) (sym l.keys) m.keys);
     }
 
   pub leases_next : LeasesNext old lease new
-  leases_next recorded machine m =
-      (Next recorded machine m, follows recorded machine m, given recorded machine m, subst (λ (s : Setup). IsOutInTurns s (Next recorded machine m) 0 lease) (sym setup) (out recorded machine m))
+  leases_next recorded machine m = (
+    Next recorded machine m,
+    follows recorded machine m,
+    given recorded machine m,
+    subst (λ (s : Setup). IsOutInTurns s (Next recorded machine m) 0 lease) (sym setup) (out recorded machine m),
+    refl,
+    refl,
+    (Next recorded machine m, moved recorded machine m, choice_is old k recorded machine m lease.block l.first, refl),
+    begins recorded machine m,
+  )

@@ -27,14 +27,14 @@ use Rattle.pb_lease.specs.GraphValue.{GraphValue, counts_in, IsLeaseGraph}
 use Rattle.pb_lease.proofs.NextEvents.{mark_may, cold_may}
 use Rattle.pb_lease.proofs.GraphBasics.{lawful_in}
 use Rattle.pb_lease.specs.Choices.{IsOutranked, MayMark}
-use Rattle.pb_lease.specs.Moments.{IsMoment}
+use Rattle.pb_lease.specs.Moments.{IsMomentAt}
 use Rattle.pb_lease.proofs.Lists.{has_at, found_at as item_at}
 
 pub rival_near : (g : GraphValue) (block : ℕ) (near : List ℕ) (result : Option ℕ) → ((c : ℕ) → has near c ≡ interferes (blocks g.table) block c) → IsRivalBy (is_among near) (key_at g.homes) block result
     → IsRivalBy (interferes (blocks g.table) block) (key_at g.homes) block result
 rival_near g block near result each rival = subst (λ (n : ℕ → Bool). IsRivalBy n (key_at g.homes) block result) (λ i c. each c i) rival
 
-pub rival_is : (g : GraphValue) (block : ℕ) (result : Option ℕ) → IsRivalBy (interferes (blocks g.table) block) (key_at g.homes) block result → (recorded : (worker : ℕ) → Rows) (machine : Machine) → IsMoment g recorded machine
+pub rival_is : (g : GraphValue) (block : ℕ) (result : Option ℕ) → IsRivalBy (interferes (blocks g.table) block) (key_at g.homes) block result → (recorded : (worker : ℕ) → Rows) (machine : Machine) → IsMomentAt g recorded machine
     → IsRival (blocks g.table) machine.store block result
 rival_is g block result rival recorded machine m = (rivals_are_by_key (blocks g.table) machine.store (key_at g.homes) (interferes (blocks g.table) block) block result m.keys (λ other. refl)
     (λ other near. interferes_known g.table.graph.scopes block other near)).0 rival

@@ -1,17 +1,22 @@
 -- The laws of this crate: what the tests by numbers mean for the choice of a block, and that leases stay out. Each is proved, as the contract of
 -- the public function that has its name.
-use Rattle.std.specs.Prelude.{◌≡◌, ℕ, ◌<◌, IsTrue, IsFalse, None, ◌↔◌}
-use Rattle.pb_model.specs.Store.{Store, HasOpened}
+use Rattle.std.specs.Prelude.{◌≡◌, ℕ, ◌<◌, Bool, ◌==◌, IsTrue, IsFalse, List, Option, None, ◌↔◌}
+use Rattle.pb_model.specs.Store.{Rows, Store, HasOpened}
 use Rattle.pb_machine.specs.declared.event.Event.{Event}
 use Rattle.pb_machine.specs.declared.settings.Settings.{Settings}
+use Rattle.pb_machine.specs.Views.{AreBy}
 use Rattle.pb_machine.specs.Blocks.{Blocks}
 use Rattle.pb_machine.specs.Counts.{Counts, AreLawful, is_any_out}
 use Rattle.pb_machine.specs.Choice.{MayBeLeased}
-use Rattle.pb_machine.specs.History.{is_event_of}
-use Rattle.pb_machine.specs.Machine.{Setup, IsSetup, Machine, Happens}
+use Rattle.pb_machine.specs.Machine.{Setup, IsSetup, Machine, IsWorked, Move, tell_move, Moves, Runs, AreOfOthers}
+use Rattle.pb_machine.specs.Turns.{AreLeaseTurns}
 use Rattle.pb_machine.specs.Lawful.{IsLawful}
-use Rattle.pb_lease.specs.LeaseValue.{LeaseValue}
-use Rattle.pb_lease.specs.Leased.{IsOutInTurns}
+use Rattle.pb_homes.specs.Parts.{away_rows}
+use Rattle.pb_lease.specs.LeaseValue.{LeaseValue, leased_store, IsSameLease}
+use Rattle.pb_lease.specs.Leased.{IsOut, IsInTurns}
+use Rattle.pb_lease.specs.GraphValue.{GraphValue, setup_in, IsLeaseGraph, IsOfGraph}
+use Rattle.pb_lease.specs.Choices.{is_out_in}
+use Rattle.pb_lease.specs.Moments.{IsMomentAt, IsMoment, moves_of}
 use Rattle.pb_lease.specs.Leasing.{can_be_leased}
 
 -- A block with an Opened row may be leased exactly where it can be, by the numbers.
@@ -27,9 +32,37 @@ NoneOutCanBeLeased =
     → IsFalse (is_any_out settings.workers counts.leases) → counts.end ≡ None → 0 < counts.left
     → IsTrue (can_be_leased of settings counts block)
 
--- While events of other workers come, a lease that is out stays so, and its work stays done in turns.
+-- While events of other workers come, and while these tell costs, a lease that is out stays so, and its work stays done in turns where it was.
 abbrev pub LeasesStayOut : Type 0
 LeasesStayOut =
-    (setup : Setup) (greatest_cost : ℕ) (event : Event) (machine next : Machine) → IsSetup setup greatest_cost → IsLawful setup machine → Happens setup machine event next
-    → (lease : LeaseValue) (most_broken : ℕ) → IsFalse (is_event_of lease.worker event) → IsOutInTurns setup machine most_broken lease
-    → IsOutInTurns setup next most_broken lease
+    (setup : Setup) (greatest_cost : ℕ) (moves : List Move) (machine next : Machine) → IsSetup setup greatest_cost → IsLawful setup machine → Runs setup machine moves next
+    → (lease : LeaseValue) (most_broken : ℕ) → AreOfOthers lease.worker moves → (out : IsOut setup machine most_broken lease)
+    → (after : IsOut setup next most_broken lease) × (IsInTurns setup machine most_broken lease out → IsInTurns setup next most_broken lease after)
+
+-- A lease that was worked on is out at whatever moment the graph is by now, where what the lease was lent with is recorded for its worker and
+-- was given to it, and its worker can have read by then what it read. Its work was done in turns where it was so from what was lent.
+abbrev pub WorkedLeasesAreOut : Type 0
+WorkedLeasesAreOut =
+    (g : GraphValue) (recorded : (worker : ℕ) → Rows) (machine : Machine) → IsMomentAt g recorded machine
+    → (lent lease : LeaseValue) (most_broken : ℕ) (known : Option ℕ → Bool) → IsOfGraph g lent → IsSameLease lent lease
+    → recorded lent.worker ≡ away_rows lent.parts → machine.given lent.worker ≡ lent.incumbent
+    → ((incumbent : Option ℕ) → IsTrue (known incumbent) → IsTrue (machine.known lent.worker incumbent))
+    → (work : IsWorked (setup_in g).space (setup_in g).guide lent.block lease.used most_broken known (leased_store lent) (leased_store lease))
+    → (out : IsOut (setup_in g) machine most_broken lease)
+    × (AreLeaseTurns (setup_in g).space (setup_in g).guide work.works (leased_store lent) → IsInTurns (setup_in g) machine most_broken lease out)
+
+-- Where a worker tells a cost, the graph is a moment as before, whatever it has as its incumbent.
+abbrev pub TellsKeepMoments : Type 0
+TellsKeepMoments =
+    (g : GraphValue) (recorded : (worker : ℕ) → Rows) (machine next : Machine) (worker cost : ℕ) → IsLeaseGraph g → IsMomentAt g recorded machine
+    → Moves (setup_in g) machine (tell_move worker cost) next → IsMomentAt g recorded next
+
+-- With no lease out a graph that has its machine's incumbent has nothing that was told and is still to be shown.
+abbrev pub NoneOutIsMoment : Type 0
+NoneOutIsMoment =
+    (g : GraphValue) (recorded : (worker : ℕ) → Rows) (machine : Machine) → IsMomentAt g recorded machine → IsFalse (is_out_in g)
+    → machine.store.incumbent ≡ g.incumbent → IsMoment g recorded machine
+
+-- Events of one worker, or of nobody, are no moves of another.
+abbrev pub EventsLeaveOthers : Type 0
+EventsLeaveOthers = (worker other : ℕ) (events : List Event) → AreBy worker events → IsFalse (other == worker) → AreOfOthers other (moves_of events)

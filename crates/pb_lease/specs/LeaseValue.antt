@@ -1,7 +1,8 @@
 -- What a contract sees of a lease.
 use Rattle.std.specs.Prelude.{◌≡◌, ◌^◌, ◌≤◌, ℕ, List, Option, Some}
+use Rattle.std.specs.Map.{keys_of}
 use Rattle.pb_model.specs.Weight.{Weight, IsWeight}
-use Rattle.pb_model.specs.Store.{Store}
+use Rattle.pb_model.specs.Store.{Store, AtMost}
 use Rattle.pb_lists.specs.Bundle.{Content}
 use Rattle.pb_homes.specs.Parts.{content_in, with_content, away_rows}
 
@@ -33,3 +34,13 @@ pub record IsLease (lease : LeaseValue) : Type 0 where
   pub weight : IsWeight lease.weight
   pub within : lease.used ≤ lease.quota
   pub few : lease.quota ≤ 2 ^ 20
+
+-- It is a lease of the same block for the same worker, with the same quota and weight and with bundles of the same blocks. The
+-- incumbent is no greater.
+pub record IsSameLease (old new : LeaseValue) : Type 0 where
+  pub worker : new.worker ≡ old.worker
+  pub block : new.block ≡ old.block
+  pub quota : new.quota ≡ old.quota
+  pub weight : new.weight ≡ old.weight
+  pub places : keys_of new.parts ≡ keys_of old.parts
+  pub incumbent : AtMost new.incumbent old.incumbent

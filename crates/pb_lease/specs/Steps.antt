@@ -8,17 +8,18 @@ use Rattle.pb_machine.specs.declared.event.Event.{Event}
 use Rattle.pb_machine.specs.declared.event.Event.TheVariants.{Lease, Renew, Release, Off, Ended}
 use Rattle.pb_machine.specs.Tables.{with_entry, one_if}
 use Rattle.pb_machine.specs.Choice.{IsFirstChoice, counts_with_lease_home}
-use Rattle.pb_machine.specs.Machine.{Machine}
+use Rattle.pb_machine.specs.Machine.{Machine, lent_store, KeepsRows}
+use Rattle.pb_machine.specs.Turns.{RunsInOrder}
 use Rattle.pb_homes.specs.Parts.{content_in, away_rows}
 use Rattle.pb_homes.specs.Homes.{content_at}
 use Rattle.pb_homes.specs.Moves.{NotesKeys}
 use Rattle.pb_lease.specs.Tables.{blocks, rooms}
 use Rattle.pb_lease.specs.Events.{Adds, ending}
 use Rattle.pb_lease.specs.LeaseValue.{LeaseValue, leased_store}
-use Rattle.pb_lease.specs.Leased.{IsOutInTurns}
+use Rattle.pb_lease.specs.Leased.{IsOut, IsInTurns, IsOutInTurns}
 use Rattle.pb_lease.specs.GraphValue.{GraphValue, setup_in, IsOfGraph}
 use Rattle.pb_lease.specs.Choices.{IsChoice, IsChoiceWithHome}
-use Rattle.pb_lease.specs.Moments.{IsMoment, Follows}
+use Rattle.pb_lease.specs.Moments.{IsMomentAt, Follows, ShowsTold, IsKnownThen, brought_incumbent, moves_of}
 
 -- ---- a lease
 
@@ -41,12 +42,15 @@ pub record IsLeased (old : GraphValue) (worker : ℕ) (lease : LeaseValue) (new 
   pub incumbent : new.incumbent ≡ old.incumbent
 
 -- From each moment of the old graph the lease leads to one of the new graph, where what the lease has is recorded for it, and where it
--- has done nothing yet.
+-- has done nothing yet: it has the rows that it was lent. The event is in order.
 abbrev pub LeasesNext : (old : GraphValue) → LeaseValue → (new : GraphValue) → Type 0
 LeasesNext old lease new =
-    (recorded : (worker : ℕ) → Rows) (machine : Machine) → IsMoment old recorded machine
+    (recorded : (worker : ℕ) → Rows) (machine : Machine) → IsMomentAt old recorded machine
     → (next : Machine) × Follows old machine (Lease lease.worker lease.block lease.quota ∷ []) new (with_entry recorded lease.worker (away_rows lease.parts)) next
     × (next.given lease.worker ≡ lease.incumbent) × IsOutInTurns (setup_in new) next 0 lease
+    × (next.store ≡ machine.store) × (next.told ≡ with_entry machine.told lease.worker None)
+    × RunsInOrder (setup_in old) machine (moves_of (Lease lease.worker lease.block lease.quota ∷ [])) next
+    × (leased_store lease ≡ lent_store (setup_in old) lease.block next.store (next.given lease.worker))
 
 -- ---- an end
 
@@ -62,12 +66,13 @@ pub record IsEnded (old : GraphValue) (end : End) (new : GraphValue) : Type 0 wh
   pub room : rooms new.table ≡ rooms old.table
   pub rest : new ≡ record old { table = new.table }
 
--- from each moment of the old graph these events lead to one of the new graph, and the leases that are out stay as they are
+-- From each moment of the old graph these events, which are in order, lead to one of the new graph. No row changes, and the leases that are
+-- out stay as they are.
 abbrev pub KeepsLeases : (old : GraphValue) → List Event → (new : GraphValue) → Type 0
 KeepsLeases old events new =
-    (recorded : (worker : ℕ) → Rows) (machine : Machine) → IsMoment old recorded machine
-    → (next : Machine) × Follows old machine events new recorded next
-    × ((lease : LeaseValue) (most_broken : ℕ) → IsOutInTurns (setup_in old) machine most_broken lease → IsOutInTurns (setup_in new) next most_broken lease)
+    (recorded : (worker : ℕ) → Rows) (machine : Machine) → IsMomentAt old recorded machine
+    → (next : Machine) × Follows old machine events new recorded next × KeepsRows machine next × (next.counts.leases ≡ machine.counts.leases)
+    × RunsInOrder (setup_in old) machine (moves_of events) next
 
 -- ---- marks, and workers that sign off
 
@@ -96,12 +101,17 @@ pub record IsReleased (old : GraphValue) (lease : LeaseValue) (trouble : Bool) (
   pub task : new.task ≡ old.task
   pub incumbent : new.incumbent ≡ lesser old.incumbent lease.incumbent
 
--- From each moment of the old graph at which the lease is out, with at most so many expansions broken off, these events lead to one of
--- the new graph.
+-- From each moment of the old graph at which the lease is out, with at most so many expansions broken off, shows what its worker told, and
+-- where each worker can then have read the new graph's incumbent, these events lead to one of the new graph. They are in order where the
+-- lease has worked in turns.
 abbrev pub ReleasesNext : (old : GraphValue) → LeaseValue → (trouble : Bool) → (new : GraphValue) → Type 0
 ReleasesNext old lease trouble new =
-    (recorded : (worker : ℕ) → Rows) (machine : Machine) → IsMoment old recorded machine → IsOutInTurns (setup_in old) machine (one_if trouble) lease
+    (recorded : (worker : ℕ) → Rows) (machine : Machine) → IsMomentAt old recorded machine → (out : IsOut (setup_in old) machine (one_if trouble) lease)
+    → ShowsTold old machine lease → IsKnownThen machine lease new.incumbent
     → (next : Machine) × Follows old machine (Release lease.worker lease.used trouble ∷ ending trouble old.table.end) new recorded next
+    × (next.store.incumbent ≡ brought_incumbent machine lease) × (next.told ≡ with_entry machine.told lease.worker None)
+    × (IsInTurns (setup_in old) machine (one_if trouble) lease out
+    → RunsInOrder (setup_in old) machine (moves_of (Release lease.worker lease.used trouble ∷ ending trouble old.table.end)) next)
 
 -- the quota that a lease is renewed with: a lot, or all that is left with what it didn't use
 abbrev pub renewed_quota : GraphValue → LeaseValue → ℕ
@@ -119,13 +129,17 @@ pub record IsRenewed (old : GraphValue) (lease kept : LeaseValue) (new : GraphVa
   pub task : new.task ≡ old.task
   pub incumbent : new.incumbent ≡ lesser old.incumbent lease.incumbent
 
--- From each moment of the old graph at which the lease is out the renewal leads to one of the new graph, where what the lease has is
--- recorded for it, and where it has done nothing yet.
+-- From each such moment of the old graph the renewal leads to one of the new graph, where what the lease has is recorded for it, and where
+-- it has done nothing yet: it has the rows that it is lent again. It is in order where the lease has worked in turns.
 abbrev pub RenewsNext : (old : GraphValue) → (lease kept : LeaseValue) → (new : GraphValue) → Type 0
 RenewsNext old lease kept new =
-    (recorded : (worker : ℕ) → Rows) (machine : Machine) → IsMoment old recorded machine → IsOutInTurns (setup_in old) machine 0 lease
+    (recorded : (worker : ℕ) → Rows) (machine : Machine) → IsMomentAt old recorded machine → (out : IsOut (setup_in old) machine 0 lease)
+    → ShowsTold old machine lease → IsKnownThen machine lease new.incumbent
     → (next : Machine) × Follows old machine (Renew lease.worker lease.used kept.quota ∷ []) new (with_entry recorded lease.worker (away_rows kept.parts)) next
     × (next.given kept.worker ≡ kept.incumbent) × IsOutInTurns (setup_in new) next 0 kept
+    × (next.store.incumbent ≡ brought_incumbent machine lease) × (next.told ≡ with_entry machine.told lease.worker None)
+    × (IsInTurns (setup_in old) machine 0 lease out → RunsInOrder (setup_in old) machine (moves_of (Renew lease.worker lease.used kept.quota ∷ [])) next)
+    × (leased_store kept ≡ lent_store (setup_in old) kept.block next.store (next.given kept.worker))
 
 -- The lease is renewed exactly where, with it home, its block is the first choice, and room is left: else it came back.
 abbrev pub GoesOn : (old : GraphValue) → LeaseValue → (new : GraphValue) → Type 0
@@ -135,7 +149,7 @@ GoesOn old lease new = IsChoiceWithHome old lease new (Some lease.block) × (0 <
 -- by the rows that the whole store has with the lease's.
 abbrev pub ChoosesByRows : (old : GraphValue) → LeaseValue → (new : GraphValue) → Type 0
 ChoosesByRows old lease new =
-    (recorded : (worker : ℕ) → Rows) (machine : Machine) → IsMoment old recorded machine
+    (recorded : (worker : ℕ) → Rows) (machine : Machine) → IsMomentAt old recorded machine
     → IsChoiceWithHome old lease new (Some lease.block)
     ↔ IsFirstChoice (blocks old.table) old.table.settings (counts_with_lease_home machine.counts lease.worker lease.used)
     (merged_store ((blocks old.table).scope lease.block) (leased_store lease) machine.store) lease.block

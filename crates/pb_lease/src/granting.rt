@@ -8,7 +8,7 @@ ghost use Rattle.pb_lease.specs.Tables.{blocks};
 ghost use Rattle.pb_lease.specs.LeaseValue.{LeaseValue};
 ghost use Rattle.pb_lease.specs.GraphValue.{counts_in};
 ghost use Rattle.pb_lease.specs.Choices.{IsChoice, is_out_in, IsOver, IsToWait, IsDone};
-ghost use Rattle.pb_lease.specs.Moments.{IsMoment};
+ghost use Rattle.pb_lease.specs.Moments.{IsMomentAt};
 ghost use Rattle.pb_lease.specs.Steps.{IsLeased, LeasesNext, IsEnded, KeepsLeases, end_events};
 
 use crate::answer::Answer;
@@ -34,7 +34,7 @@ impl Graph {
         ensures same { (result ≡ NotYet) ⊎ (result ≡ Memory) → self.new ≡ self.old }
         ensures leased_moment { (lease : LeaseValue) → result ≡ Leased lease → LeasesNext self.old lease self.new }
         ensures ended_moment { (end : _) → result ≡ Over end → KeepsLeases self.old (end_events self.old.table.end end) self.new }
-        ensures not_yet_moment { result ≡ NotYet → (recorded : (worker : ℕ) → Rows) (machine : Machine) → IsMoment self.old recorded machine
+        ensures not_yet_moment { result ≡ NotYet → (recorded : (worker : ℕ) → Rows) (machine : Machine) → IsMomentAt self.old recorded machine
             → (block : ℕ) → MayBeLeased (blocks self.old.table) self.old.table.settings machine.counts machine.store block → ⊥ }
     {
         if let Some(end) = self.tables.end() {

@@ -15,7 +15,7 @@ ghost use Rattle.pb_homes.specs.Homes.{content_at, home_rows};
 ghost use Rattle.pb_lease.specs.Tables.{blocks, rooms};
 ghost use Rattle.pb_lease.specs.GraphValue.{setup_in, counts_in, IsLeaseGraph};
 ghost use Rattle.pb_lease.specs.Choices.{is_out_in};
-ghost use Rattle.pb_lease.specs.Moments.{IsMoment};
+ghost use Rattle.pb_lease.specs.Moments.{IsMomentAt, IsMoment};
 
 use crate::tables::Tables;
 use pb_abstract::AbsGraph;
@@ -144,7 +144,7 @@ impl Graph {
         requires block { block < (blocks self.now.table).count }
         ensures bundle { content_at self.now.homes block ≡ Some result.now }
         ensures weight { result.now.weight ≡ weight_of self.now.table.settings }
-        ensures moment { (recorded : (worker : ℕ) → Rows) (machine : Machine) → IsMoment self.now recorded machine → (state : ℕ) → machine.store.rows block state ≡ row_of result.now state }
+        ensures moment { (recorded : (worker : ℕ) → Rows) (machine : Machine) → IsMomentAt self.now recorded machine → (state : ℕ) → machine.store.rows block state ≡ row_of result.now state }
     {
         self.homes.bundle(block)
     }

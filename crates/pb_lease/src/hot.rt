@@ -12,7 +12,7 @@ ghost use Rattle.pb_lease.specs.Tables.{blocks, rooms};
 ghost use Rattle.pb_lease.specs.Leased.{grant_of};
 ghost use Rattle.pb_lease.specs.GraphValue.{counts_in};
 ghost use Rattle.pb_lease.specs.Choices.{MayMark, MayCool, IsOutranked};
-ghost use Rattle.pb_lease.specs.Moments.{IsMoment};
+ghost use Rattle.pb_lease.specs.Moments.{IsMomentAt};
 ghost use Rattle.pb_lease.specs.Steps.{IsMarked, KeepsLeases};
 
 use crate::graph::Graph;
@@ -24,7 +24,7 @@ impl Graph {
     pub fn rival(&self, lease: &Lease) -> Option<u32>
         requires { (counts_in self.now).leases lease.now.worker ≡ Some (grant_of lease.now) }
         ensures rival { IsRivalBy (interferes (blocks self.now.table) lease.now.block) (key_at self.now.homes) lease.now.block result }
-        ensures moment { (recorded : (worker : ℕ) → Rows) (machine : Machine) → IsMoment self.now recorded machine → IsRival (blocks self.now.table) machine.store lease.now.block result }
+        ensures moment { (recorded : (worker : ℕ) → Rows) (machine : Machine) → IsMomentAt self.now recorded machine → IsRival (blocks self.now.table) machine.store lease.now.block result }
     {
         self.homes
             .rival(lease.block, self.tables.graph().interference(lease.block))

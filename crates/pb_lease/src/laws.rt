@@ -1,5 +1,5 @@
 //! What the tests by numbers mean for the choice of a block, and that leases stay out. Each law is the contract of a function without a body.
-ghost use Rattle.pb_lease.specs.Laws.{OpenedBlocksMayBeLeased, NoneOutCanBeLeased, LeasesStayOut};
+ghost use Rattle.pb_lease.specs.Laws.{OpenedBlocksMayBeLeased, NoneOutCanBeLeased, LeasesStayOut, WorkedLeasesAreOut, TellsKeepMoments, NoneOutIsMoment, EventsLeaveOthers};
 
 /// A block with an Opened row may be leased exactly where it can be, by the numbers.
 pub fn opened_blocks_may_be_leased()
@@ -11,7 +11,27 @@ pub fn none_out_can_be_leased()
     ensures { NoneOutCanBeLeased }
 {}
 
-/// While events of other workers come, a lease that is out stays so, and its work stays done in turns.
+/// While events of other workers come, and these tell costs, a lease that is out stays so, and its work stays done in turns.
 pub fn leases_stay_out()
     ensures { LeasesStayOut }
+{}
+
+/// A lease that was worked on is out at whatever moment the graph is by now, where what it was lent with is recorded for its worker.
+pub fn worked_leases_are_out()
+    ensures { WorkedLeasesAreOut }
+{}
+
+/// Where a worker tells a cost, the graph is a moment as before.
+pub fn tells_keep_moments()
+    ensures { TellsKeepMoments }
+{}
+
+/// With no lease out a graph that has its machine's incumbent has nothing that was told and is still to be shown.
+pub fn none_out_is_moment()
+    ensures { NoneOutIsMoment }
+{}
+
+/// Events of one worker, or of nobody, are no moves of another.
+pub fn events_leave_others()
+    ensures { EventsLeaveOthers }
 {}

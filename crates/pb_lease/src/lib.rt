@@ -22,7 +22,10 @@ mod tables;
 
 pub use answer::{Answer, Renewed};
 pub use graph::Graph;
-pub use laws::{leases_stay_out, none_out_can_be_leased, opened_blocks_may_be_leased};
+pub use laws::{
+    events_leave_others, leases_stay_out, none_out_can_be_leased, none_out_is_moment,
+    opened_blocks_may_be_leased, tells_keep_moments, worked_leases_are_out,
+};
 pub use lease::Lease;
 pub use leasing::ROOM;
 pub use seat::Seat;

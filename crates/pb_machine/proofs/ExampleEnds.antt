@@ -210,5 +210,5 @@ one_broken = refl
 -- no g of the lease, as it broke off, exceeds that of the budget's two expansions and a broken one
 pub broken_costs_small : CostsAtMost (worked (break_off 0 0) m1) 3
 broken_costs_small =
-    lease_costs_stay_small setup 1 m1 0 0 1 (record { block = 0; quota = 1 }) (worked (break_off 0 0) m1) is_setup
+    lease_costs_stay_small setup 1 m1 0 0 1 (m1.known 0) (record { block = 0; quota = 1 }) (worked (break_off 0 0) m1) is_setup
     (run_keeps setup 1 is_setup (event_move (Lease 0 0 1) ∷ []) m0 m1 (opening_keeps setup 1 is_setup refl) (m1, leased, refl)) refl broken_work (omega arith)

@@ -16,7 +16,7 @@ use Rattle.pb_machine.specs.JournalLaws.{HistoriesAreLawful, HistoriesGrow, Begi
 use Rattle.pb_machine.proofs.TableLaws.{any_none, sum_zero}
 use Rattle.pb_machine.proofs.CountsLaws.{none_leased, passes, no_trouble, event_keeps, opening_lawful}
 
-some_counts : (x y : Counts) → ◌≡◌ {A = Option Counts} (Some x) (Some y) → x ≡ y
+pub some_counts : (x y : Counts) → ◌≡◌ {A = Option Counts} (Some x) (Some y) → x ≡ y
 some_counts x y h = cc
 
 module _ (blocks : Blocks) (settings : Settings) where
@@ -25,7 +25,7 @@ module _ (blocks : Blocks) (settings : Settings) where
   replay_first c e es may = ap (λ r. cond (is_none r) (replay blocks settings (counts_after blocks settings c e) es) None) may
 
   -- a legal history begins with an event that may come, or is empty
-  first_may : (c d : Counts) (e : Event) (es : List Event) → replay blocks settings c (e ∷ es) ≡ Some d → refusal blocks settings c e ≡ None
+  pub first_may : (c d : Counts) (e : Event) (es : List Event) → replay blocks settings c (e ∷ es) ≡ Some d → refusal blocks settings c e ≡ None
   first_may c d e es is = go (refusal blocks settings c e) refl
     where
       go : (r : Option Refusal) → refusal blocks settings c e ≡ r → refusal blocks settings c e ≡ None

@@ -11,7 +11,7 @@ use Rattle.pb_model.proofs.Tests.{by_cases, not_true}
 use Rattle.pb_model.proofs.Incumbents.{lesser_same}
 use Rattle.pb_model.proofs.Locality.{row_outside, work_is_local, work_goes_on}
 use Rattle.pb_machine.specs.declared.event.Grant.{Grant}
-use Rattle.pb_machine.specs.Machine.{Setup, IsSetup, Machine, IsOn, BreaksLast, lent_store, HasWorked}
+use Rattle.pb_machine.specs.Machine.{Setup, IsSetup, Machine, IsOn, BreaksLast, lent_store, IsWorked}
 use Rattle.pb_machine.specs.Lawful.{IsLawful}
 use Rattle.pb_machine.specs.Whole.{AreGone}
 use Rattle.pb_machine.specs.Laws.{LeaseWorkGoesOn, LeaseWorkStays, LeaseWorkStands, ReturnsLeaveIncumbents}
@@ -110,9 +110,11 @@ module _ (p : Setup) (greatest_cost : ℕ) (is_setup : IsSetup p greatest_cost) 
   abbrev pub merged : (m : Machine) → Grant → Store → Store
   merged m grant worked = merged_store (p.blocks.scope grant.block) worked m.store
 
-  module _ (m : Machine) (i : ℕ) (grant : Grant) (used few : ℕ) (worked : Store) (l : IsLawful p m) (leased : m.counts.leases i ≡ Some grant) (work : HasWorked p m i grant used few worked) where
+  -- whatever the worker may have read
+  module _ (m : Machine) (i : ℕ) (grant : Grant) (used few : ℕ) {known : Option ℕ → Bool} (worked : Store) (l : IsLawful p m) (leased : m.counts.leases i ≡ Some grant)
+      (work : IsWorked p.space p.guide grant.block used few known (lent_store p grant.block m.store (m.given i)) worked) where
     pub within : AllByRecursion (IsWithin p.space p.guide (p.blocks.scope grant.block)) work.works
-    within = on_scope grant.block (m.known i) work.works (l.counts.known i grant leased).1 work.on
+    within = on_scope grant.block known work.works (l.counts.known i grant leased).1 work.on
 
     -- what a lease has done may be done in the whole store
     pub works_there : Comes p.space p.guide work.works m.store (merged m grant worked)
@@ -164,7 +166,7 @@ lease_work_stays space guide block used most_broken more_broken known later give
 )
 
 pub lease_work_stands : LeaseWorkStands
-lease_work_stands setup greatest_cost machine worker used few grant worked is lawful leased work =
+lease_work_stands setup greatest_cost machine worker used few known grant worked is lawful leased work =
     (works_there setup greatest_cost is machine worker grant used few worked lawful leased work, none_outside setup greatest_cost is machine worker grant used few worked lawful leased work)
 
 pub returns_leave_incumbents : ReturnsLeaveIncumbents

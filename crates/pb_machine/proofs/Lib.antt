@@ -18,6 +18,8 @@ pub mod Showing
 pub mod MomentLaws
 pub mod Reopening
 pub mod WholeStore
+pub mod OwnMoves
+pub mod EndsTold
 pub mod Example
 pub mod ExampleEnds
 pub mod ExampleTwo

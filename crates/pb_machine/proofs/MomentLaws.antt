@@ -165,7 +165,7 @@ pub costs_fit : CostsFit
 costs_fit setup machine is range l home state row found = let low = costs_stay_small setup (2 ^ 20) machine is l home state row found in omega (arith, low, range.budget.1, range.workers.1)
 
 pub lease_costs_stay_small : LeaseCostsStaySmall
-lease_costs_stay_small setup greatest_cost machine worker used few grant worked is l leased work low home state row found =
+lease_costs_stay_small setup greatest_cost machine worker used few known grant worked is l leased work low home state row found =
     let lt = (l.counts.known worker grant leased).0 in
     let out = out_less setup.settings.workers worker machine.counts.leases grant lt leased in
     let sums = sum_with_entry quota_of setup.settings.workers worker machine.counts.leases None lt in
@@ -174,8 +174,8 @@ lease_costs_stay_small setup greatest_cost machine worker used few grant worked 
     (mul-le-mul_left greatest_cost (omega (arith, l.counts.sum, few_broken setup machine l, out, sums, quota, low)))
 
 pub lease_costs_fit : LeaseCostsFit
-lease_costs_fit setup machine worker used few grant worked is range l leased work within home state row found =
-    let low = lease_costs_stay_small setup (2 ^ 20) machine worker used few grant worked is l leased work within home state row found in
+lease_costs_fit setup machine worker used few known grant worked is range l leased work within home state row found =
+    let low = lease_costs_stay_small setup (2 ^ 20) machine worker used few known grant worked is l leased work within home state row found in
     omega (arith, low, range.budget.1, range.workers.1)
 
 pub quiet_ends_are_best : QuietEndsAreBest

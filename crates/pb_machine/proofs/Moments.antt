@@ -19,7 +19,7 @@ use Rattle.pb_machine.specs.Tables.{with_entry, count_below}
 use Rattle.pb_machine.specs.Settings.{weight_of}
 use Rattle.pb_machine.specs.Counts.{Counts, is_any_out, with_quota, counts_after}
 use Rattle.pb_machine.specs.Legality.{refusal}
-use Rattle.pb_machine.specs.Machine.{IsOn, Setup, IsSetup, is_same, with_known, with_incumbent, Machine, opening_machine, HasWorked, CameBack, KeepsRows, Happens, Tells, Move, event_move, tell_move, Moves, Runs}
+use Rattle.pb_machine.specs.Machine.{IsOn, Setup, IsSetup, is_same, with_known, with_incumbent, Machine, opening_machine, HasWorked, IsWorked, lent_store, CameBack, KeepsRows, Happens, Tells, Move, event_move, tell_move, Moves, Runs}
 use Rattle.pb_machine.specs.Lawful.{broken_leases, AreReported, IsRead, IsReached, IsTold, IsLawful}
 use Rattle.pb_machine.specs.Laws.{OpeningIsLawful, MovesKeepLawful, RunsAreLawful}
 use Rattle.pb_machine.proofs.TableLaws.{entry_here, entry_else}
@@ -127,9 +127,10 @@ module _ (p : Setup) (greatest_cost : ℕ) (is_setup : IsSetup p greatest_cost) 
       goals_are_plans p.space greatest_cost p.guide together is_setup.space both.0 u (goal_there p greatest_cost is_setup m i grant used few worked l leased work u g)
 
   -- the g of a lease's row, as it has worked so far
-  pub worked_costs : (m : Machine) (i : ℕ) (grant : Grant) (used few : ℕ) (worked : Store) → IsLawful p m → m.counts.leases i ≡ Some grant → HasWorked p m i grant used few worked
+  pub worked_costs : (m : Machine) (i : ℕ) (grant : Grant) (used few : ℕ) {known : Option ℕ → Bool} (worked : Store) → IsLawful p m → m.counts.leases i ≡ Some grant
+      → IsWorked p.space p.guide grant.block used few known (lent_store p grant.block m.store (m.given i)) worked
       → CostsAtMost worked (greatest_cost * (m.counts.spent + used + broken_leases p m + 1))
-  worked_costs m i grant used few worked l leased work home state row found =
+  worked_costs m i grant used few {known = known} worked l leased work home state row found =
       let together : Store = merged p greatest_cost is_setup m grant worked in
       let all = work_goes_on p.space p.guide l.reached.works work.works (opening_store p.space p.guide l.reached.first_weight) m.store together l.reached.comes
       (works_there p greatest_cost is_setup m i grant used few worked l leased work) in

@@ -1,5 +1,6 @@
 -- Journals of events, as histories of the lease machine.
 use Rattle.std.specs.Prelude.{◌≡◌, ℕ, ◌+◌, ◌<◌, ◌≤◌, length, Bool, true, false, IsTrue, IsSome, if◌then◌else◌, ◌==◌, is_none, List, [], ◌∷◌, ◌++◌, filter, Option, Some, None}
+use Rattle.pb_machine.specs.declared.event.End.{End}
 use Rattle.pb_machine.specs.declared.event.Event.{Event}
 use Rattle.pb_machine.specs.declared.event.Event.TheVariants.{Lease, Renew, Hot, Cold, Release, Off, Ended}
 use Rattle.pb_machine.specs.declared.event.Refusal.{Refusal}
@@ -75,6 +76,12 @@ abbrev pub is_report : Event → Bool
 is_report (Release by used memory) = memory
 is_report (Off by memory) = memory
 is_report event = false
+
+-- the end that the journal has, which is its first one, or none
+abbrev pub end_in : List Event → Option End
+end_in [] = None
+end_in (Ended end ∷ events) = Some end
+end_in (event ∷ events) = end_in events
 
 -- the expansions that the event settles
 abbrev pub used_of : Event → ℕ

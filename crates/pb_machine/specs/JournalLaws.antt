@@ -5,18 +5,21 @@ use Rattle.std.specs.List.{list_any, AllByRecursion}
 use mathlib.Core.Option.{some}
 use lib.ListN.{get_elem?}
 use Rattle.pb_model.specs.Store.{Store}
+use Rattle.pb_model.specs.Weight.{Weight, IsWeight}
+use Rattle.pb_machine.specs.declared.event.End.{End}
 use Rattle.pb_machine.specs.declared.event.End.TheVariants.{Quiet, Budget, Memory}
 use Rattle.pb_machine.specs.declared.event.Event.{Event}
 use Rattle.pb_machine.specs.declared.event.Event.TheVariants.{Lease, Renew, Hot, Cold, Release, Off, Ended}
 use Rattle.pb_machine.specs.declared.event.Refusal.{Refusal}
 use Rattle.pb_machine.specs.declared.event.Grant.{Grant}
 use Rattle.pb_machine.specs.declared.settings.Settings.{Settings}
+use Rattle.pb_machine.specs.Settings.{settings_with_weight}
 use Rattle.pb_machine.specs.Tables.{with_entry, one_if}
 use Rattle.pb_machine.specs.Blocks.{Blocks, interferes}
 use Rattle.pb_machine.specs.Counts.{Counts, counts_after, is_any_out, is_busy, is_near_hot, AreLawful}
 use Rattle.pb_machine.specs.Counters.{busy_count, hot_count, ChangesBusy, ChangesHot}
 use Rattle.pb_machine.specs.Legality.{is_stranger, refusal}
-use Rattle.pb_machine.specs.History.{replay, IsHistory, AreFinished, IsFirstRefused, first_refused, StartsWith, events_of, is_off, is_report, used_in}
+use Rattle.pb_machine.specs.History.{replay, IsHistory, AreFinished, IsFirstRefused, first_refused, StartsWith, events_of, is_off, is_report, end_in, used_in}
 use Rattle.pb_machine.specs.Choice.{IsRival, MayBeLeased, IsFirstChoice, counts_with_lease_home}
 use Rattle.pb_machine.specs.Views.{View, IsShareOf, HasWorker, AreTrueOf, AreBy, first_view, spent_view, view_after, with_one_more, next_view, met_view}
 use Rattle.pb_machine.specs.Worked.{IsFinishedHistory, IsUnfinishedHistory, AreRefused, nine_cells, one_worker, nine_cells_journal, with_hot, visit, later_visits, ending, refused_journals, corridor, short_budget, corridor_journal, two_workers, two_workers_journal, both_report, refused_in_corridor, refused_of_two}
@@ -75,6 +78,28 @@ SignedOffIsFinished =
     → IsHistory blocks settings before journal counts → IsFalse counts.trouble
     → ((worker : ℕ) → worker < settings.workers → IsTrue (list_any is_off (events_of worker journal)))
     → AreFinished settings counts
+
+-- After a legal history the end that stands is the one that its journal has.
+abbrev pub EndsAreTold : Type 0
+EndsAreTold = (blocks : Blocks) (settings : Settings) (before : ℕ) (journal : List Event) (counts : Counts)
+    → IsHistory blocks settings before journal counts → counts.end ≡ end_in journal
+
+-- The end that a journal has stays so while the journal grows.
+abbrev pub EndsStand : Type 0
+EndsStand = (journal more : List Event) (end : End) → end_in journal ≡ Some end → end_in (journal ++ more) ≡ Some end
+
+-- Where every worker has signed off, no lease is out.
+abbrev pub AllOffNoneOut : Type 0
+AllOffNoneOut =
+    (blocks : Blocks) (settings : Settings) (counts : Counts) → AreLawful blocks settings counts
+    → ((worker : ℕ) → worker < settings.workers → IsTrue (counts.signed_off worker)) → IsFalse (is_any_out settings.workers counts.leases)
+
+-- A legal history is one under any weight: no event depends on it.
+abbrev pub HistoriesHaveAnyWeight : Type 0
+HistoriesHaveAnyWeight =
+    (blocks : Blocks) (settings : Settings) (weight : Weight) (before : ℕ) (journal : List Event) (counts : Counts)
+    → IsWeight weight → IsHistory blocks settings before journal counts
+    → IsHistory blocks (settings_with_weight settings weight) before journal counts
 
 -- A journal is judged event by event: a line and a reason are given exactly where the event on that line is the first that may
 -- not come, for that reason; and none exactly where all may come. The first event is on line `from`.

@@ -17,7 +17,7 @@ use Rattle.pb_machine.specs.Counts.{Counts, opening_counts, counts_after, is_any
 use Rattle.pb_machine.specs.Legality.{refusal}
 use Rattle.pb_machine.specs.History.{IsHistory}
 use Rattle.pb_machine.specs.Choice.{MayBeLeased}
-use Rattle.pb_machine.specs.Machine.{Setup, IsSetup, Machine, opening_machine, lent_store, IsWorked, HasWorked, CameBack, Move, Moves, Runs, journal_of}
+use Rattle.pb_machine.specs.Machine.{Setup, IsSetup, Machine, opening_machine, lent_store, IsWorked, HasWorked, CameBack, Move, Moves, Runs, journal_of, AreOfOthers}
 use Rattle.pb_machine.specs.Turns.{AreLeaseTurns, AreOnFirst, RunsInOrder}
 use Rattle.pb_machine.specs.Lawful.{broken_leases, IsLawful, IsOnlyReporter, reopened_machine, reopened_setup}
 use Rattle.pb_machine.specs.Whole.{AreGone, IsWhole}
@@ -71,6 +71,12 @@ abbrev pub KnownStays : Type 0
 KnownStays = (setup : Setup) (moves : List Move) (old new : Machine) → Runs setup old moves new
     → (worker : ℕ) (incumbent : Option ℕ) → IsTrue (old.known worker incumbent) → IsTrue (new.known worker incumbent)
 
+-- Moves of other workers, or of nobody, leave a worker's lease as it is, the incumbent that it was given, and the cost that it told.
+abbrev pub OthersAreLeft : Type 0
+OthersAreLeft =
+    (setup : Setup) (moves : List Move) (old new : Machine) (worker : ℕ) → Runs setup old moves new → AreOfOthers worker moves
+    → (new.counts.leases worker ≡ old.counts.leases worker) × (new.given worker ≡ old.given worker) × (new.told worker ≡ old.told worker)
+
 -- No g exceeds the greatest cost of an action times the number of expansions so far: those settled, and a broken one for each worker
 -- whose lease was released with want of memory.
 abbrev pub CostsGrowByExpansions : Type 0
@@ -91,20 +97,23 @@ CostsFit =
     → CostsAtMost machine.store (2 ^ 61 - 1)
 
 -- No g of a lease at work exceeds the greatest cost of an action times the number of expansions of the budget, and a broken one for
--- each worker, where the lease has made no more expansions than its quota, and perhaps a broken one.
+-- each worker, where the lease has made no more expansions than its quota, and perhaps a broken one. It is so whatever the worker may have
+-- read.
 abbrev pub LeaseCostsStaySmall : Type 0
 LeaseCostsStaySmall =
-    (setup : Setup) (greatest_cost : ℕ) (machine : Machine) (worker used most_broken : ℕ) (grant : Grant) (worked : Store)
+    (setup : Setup) (greatest_cost : ℕ) (machine : Machine) (worker used most_broken : ℕ) (known : Option ℕ → Bool) (grant : Grant) (worked : Store)
     → IsSetup setup greatest_cost → IsLawful setup machine → machine.counts.leases worker ≡ Some grant
-    → HasWorked setup machine worker grant used most_broken worked → used ≤ grant.quota
+    → IsWorked setup.space setup.guide grant.block used most_broken known (lent_store setup grant.block machine.store (machine.given worker)) worked
+    → used ≤ grant.quota
     → CostsAtMost worked (greatest_cost * (setup.settings.budget + setup.settings.workers))
 
 -- So no g of such a lease leaves 61 bits either, where the settings are in range and no action costs more than 2 ^ 20.
 abbrev pub LeaseCostsFit : Type 0
 LeaseCostsFit =
-    (setup : Setup) (machine : Machine) (worker used most_broken : ℕ) (grant : Grant) (worked : Store)
+    (setup : Setup) (machine : Machine) (worker used most_broken : ℕ) (known : Option ℕ → Bool) (grant : Grant) (worked : Store)
     → IsSetup setup (2 ^ 20) → AreInRange setup.settings → IsLawful setup machine → machine.counts.leases worker ≡ Some grant
-    → HasWorked setup machine worker grant used most_broken worked → used ≤ grant.quota
+    → IsWorked setup.space setup.guide grant.block used most_broken known (lent_store setup grant.block machine.store (machine.given worker)) worked
+    → used ≤ grant.quota
     → CostsAtMost worked (2 ^ 61 - 1)
 
 -- No block is in the scopes of two leases.
@@ -121,6 +130,11 @@ NoneOutMayLease =
     (setup : Setup) (greatest_cost : ℕ) (machine : Machine) → IsSetup setup greatest_cost → IsLawful setup machine
     → IsFalse (is_any_out setup.settings.workers machine.counts.leases) → machine.counts.end ≡ None → 0 < machine.counts.left
     → (block : ℕ) → HasOpened (machine.store.rows block) → MayBeLeased setup.blocks setup.settings machine.counts machine.store block
+
+-- With no lease out nobody has told a cost that is still to be shown.
+abbrev pub NoneOutUntold : Type 0
+NoneOutUntold = (setup : Setup) (machine : Machine) → IsLawful setup machine
+    → IsFalse (is_any_out setup.settings.workers machine.counts.leases) → (worker : ℕ) → machine.told worker ≡ None
 
 -- With no lease out the incumbent is shown by a goal's row, where a plan is traced from.
 abbrev pub NoneOutIsShown : Type 0
@@ -191,12 +205,13 @@ LeaseTurnsGoOn =
 
 -- The frame lemma. What a lease has done on the rows that it was given may be done, piece by piece, in the whole store as it
 -- stands now, whatever other leases did meanwhile; the whole store then has the lease's rows in the block's scope, and all other
--- rows as they were. The lease has no row outside the scope.
+-- rows as they were. The lease has no row outside the scope. It is so whatever the worker may have read.
 abbrev pub LeaseWorkStands : Type 0
 LeaseWorkStands =
-    (setup : Setup) (greatest_cost : ℕ) (machine : Machine) (worker used most_broken : ℕ) (grant : Grant) (worked : Store)
+    (setup : Setup) (greatest_cost : ℕ) (machine : Machine) (worker used most_broken : ℕ) (known : Option ℕ → Bool) (grant : Grant) (worked : Store)
     → IsSetup setup greatest_cost → IsLawful setup machine
-    → machine.counts.leases worker ≡ Some grant → (work : HasWorked setup machine worker grant used most_broken worked)
+    → machine.counts.leases worker ≡ Some grant
+    → (work : IsWorked setup.space setup.guide grant.block used most_broken known (lent_store setup grant.block machine.store (machine.given worker)) worked)
     → Comes setup.space setup.guide work.works machine.store (merged_store (setup.blocks.scope grant.block) worked machine.store)
     × AreGone (λ block. not (setup.blocks.scope grant.block block)) worked.rows
 
@@ -282,6 +297,13 @@ OthersKeepWhole =
     (setup : Setup) (counts after : Counts) (store later : Store) (home : Rows) (recorded : ℕ → Rows) → after.leases ≡ counts.leases
     → later.rows ≡ store.rows
     → IsWhole setup counts home recorded store → IsWhole setup after home recorded later
+
+-- What is recorded for a worker without a lease is of no account.
+abbrev pub RecordedWhereLeased : Type 0
+RecordedWhereLeased =
+    (setup : Setup) (counts : Counts) (store : Store) (home : Rows) (recorded other : ℕ → Rows)
+    → ((worker : ℕ) (grant : Grant) → counts.leases worker ≡ Some grant → other worker ≡ recorded worker)
+    → IsWhole setup counts home recorded store → IsWhole setup counts home other store
 
 -- With no lease out, the rows at home are those of the whole store, and no others.
 abbrev pub AllIsHome : Type 0

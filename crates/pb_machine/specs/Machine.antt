@@ -18,6 +18,7 @@ use Rattle.pb_machine.specs.Blocks.{Blocks, AreBlocks, interferes}
 use Rattle.pb_machine.specs.Settings.{weight_of}
 use Rattle.pb_machine.specs.Counts.{Counts, opening_counts, counts_after}
 use Rattle.pb_machine.specs.Legality.{refusal}
+use Rattle.pb_machine.specs.History.{is_event_of}
 use Rattle.pb_machine.specs.Choice.{IsBetter}
 
 -- what is searched, and with what
@@ -189,3 +190,12 @@ abbrev pub journal_of : List Move → List Event
 journal_of [] = []
 journal_of (event_move event ∷ moves) = event ∷ journal_of moves
 journal_of (tell_move worker cost ∷ moves) = journal_of moves
+
+-- whether the move is one of this worker's: an event of its own, or a cost that it told
+abbrev pub is_move_of : (worker : ℕ) → Move → Bool
+is_move_of worker (event_move event) = is_event_of worker event
+is_move_of worker (tell_move by cost) = by == worker
+
+-- no move is one of this worker's
+abbrev pub AreOfOthers : (worker : ℕ) → List Move → Type 0
+AreOfOthers worker moves = AllByRecursion (λ move. is_move_of worker move ≡ false) moves

@@ -1,4 +1,4 @@
-ghost use Rattle.pb_machine.specs.JournalLaws.{HistoriesAreLawful, HistoriesGrow, BeginningsAreHistories, SigningOffIsTold, FinishedWorkersSignOff, RefusalsAreFirst, RefusedJournalsFail, NoneOutNoneHot, InterferenceIsMutual, BusyIsCounted, HotIsCounted, CountersFit, EventsChangeBusy, EventsChangeHot, MarksChangeHot, FirstChoicesAreUnique, RivalsAreUnique, ChosenLeasesAreLegal, ChosenRenewalsAreLegal, FirstViewsAreTrue, HoldingKeepsViews, SplittingKeepsViews, MeetingKeepsViews, LastViewsTellAll, WorkedJournalsAreLegal, WorkedJournalsAreRefused, LeasesAreOfWorkers, ReleasesAreLegal, MarksAreLegal, SignOffsAreLegal, EndsAreLegal, MemoryEndsAreReported, ReportsEndSearches, SignedOffIsFinished, LastViewsSignOff, CountersBeginAtNone, LeasedAreNeverHot, SpentIsUsed, UsedFitsBudget, ChoicesOutliveReleases, ReleasesCoolNear};
+ghost use Rattle.pb_machine.specs.JournalLaws.{HistoriesAreLawful, HistoriesGrow, BeginningsAreHistories, SigningOffIsTold, FinishedWorkersSignOff, RefusalsAreFirst, RefusedJournalsFail, NoneOutNoneHot, InterferenceIsMutual, BusyIsCounted, HotIsCounted, CountersFit, EventsChangeBusy, EventsChangeHot, MarksChangeHot, FirstChoicesAreUnique, RivalsAreUnique, ChosenLeasesAreLegal, ChosenRenewalsAreLegal, FirstViewsAreTrue, HoldingKeepsViews, SplittingKeepsViews, MeetingKeepsViews, LastViewsTellAll, WorkedJournalsAreLegal, WorkedJournalsAreRefused, LeasesAreOfWorkers, ReleasesAreLegal, MarksAreLegal, SignOffsAreLegal, EndsAreLegal, MemoryEndsAreReported, ReportsEndSearches, SignedOffIsFinished, LastViewsSignOff, CountersBeginAtNone, LeasedAreNeverHot, SpentIsUsed, UsedFitsBudget, EndsAreTold, EndsStand, AllOffNoneOut, HistoriesHaveAnyWeight, ChoicesOutliveReleases, ReleasesCoolNear};
 
 /// A legal history leads to counts that are lawful.
 pub fn histories_are_lawful()
@@ -33,6 +33,26 @@ pub fn signing_off_is_told()
 /// In a finished history every worker's own events have its signing off.
 pub fn finished_workers_sign_off()
     ensures { FinishedWorkersSignOff }
+{}
+
+/// After a legal history the end that stands is the one that its journal has.
+pub fn ends_are_told()
+    ensures { EndsAreTold }
+{}
+
+/// The end that a journal has stays so while the journal grows.
+pub fn ends_stand()
+    ensures { EndsStand }
+{}
+
+/// Where every worker has signed off, no lease is out.
+pub fn all_off_none_out()
+    ensures { AllOffNoneOut }
+{}
+
+/// A legal history is one under any weight.
+pub fn histories_have_any_weight()
+    ensures { HistoriesHaveAnyWeight }
 {}
 
 /// A journal is judged event by event: the reason that is given is that of the first event that may not come.

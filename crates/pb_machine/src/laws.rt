@@ -1,4 +1,4 @@
-ghost use Rattle.pb_machine.specs.Laws.{OpeningIsLawful, MovesKeepLawful, RunsAreLawful, JournalsAreHistories, LawfulStoresAreSound, IncumbentsArePlans, IncumbentsFall, KnownStays, CostsGrowByExpansions, CostsStaySmall, CostsFit, ScopesAreApart, NoneOutMayLease, QuietEndsAreBest, ReopeningIsLawful, LeaseWorkGoesOn, LeaseWorkStays, WaitingReportsAreOne, LeaseWorkStands, TurnsCarryOver, OrderedRunsAreRuns, ReturnsLeaveIncumbents, LeasingKeepsWhole, RenewingKeepsWhole, ReleasingKeepsWhole, OthersKeepWhole, AllIsHome, RecordedRowsAreLent, BudgetEndsAreSpent, NoneOutIsShown, ReturnsShowWork, LeaseTurnsGoOn, LeaseCostsStaySmall, LeaseCostsFit, RunsGoOn};
+ghost use Rattle.pb_machine.specs.Laws.{OpeningIsLawful, MovesKeepLawful, RunsAreLawful, JournalsAreHistories, LawfulStoresAreSound, IncumbentsArePlans, IncumbentsFall, KnownStays, OthersAreLeft, RecordedWhereLeased, CostsGrowByExpansions, CostsStaySmall, CostsFit, ScopesAreApart, NoneOutMayLease, QuietEndsAreBest, ReopeningIsLawful, LeaseWorkGoesOn, LeaseWorkStays, WaitingReportsAreOne, LeaseWorkStands, TurnsCarryOver, OrderedRunsAreRuns, ReturnsLeaveIncumbents, LeasingKeepsWhole, RenewingKeepsWhole, ReleasingKeepsWhole, OthersKeepWhole, AllIsHome, RecordedRowsAreLent, BudgetEndsAreSpent, NoneOutIsShown, NoneOutUntold, ReturnsShowWork, LeaseTurnsGoOn, LeaseCostsStaySmall, LeaseCostsFit, RunsGoOn};
 
 /// The machine is lawful when it opens.
 pub fn opening_is_lawful()
@@ -38,6 +38,11 @@ pub fn incumbents_fall()
 /// What a worker can have read as the incumbent it can have read later too.
 pub fn known_stays()
     ensures { KnownStays }
+{}
+
+/// Moves of others leave a worker's lease, what it was given, and what it told.
+pub fn others_are_left()
+    ensures { OthersAreLeft }
 {}
 
 /// No g exceeds the greatest cost of an action times the number of expansions so far.
@@ -151,6 +156,11 @@ pub fn others_keep_whole()
     ensures { OthersKeepWhole }
 {}
 
+/// What is recorded for a worker without a lease is of no account.
+pub fn recorded_where_leased()
+    ensures { RecordedWhereLeased }
+{}
+
 /// With no lease out, the rows at home are those of the whole store.
 pub fn all_is_home()
     ensures { AllIsHome }
@@ -169,6 +179,11 @@ pub fn budget_ends_are_spent()
 /// With no lease out the incumbent is shown by a goal's row.
 pub fn none_out_is_shown()
     ensures { NoneOutIsShown }
+{}
+
+/// With no lease out nobody has told a cost that is still to be shown.
+pub fn none_out_untold()
+    ensures { NoneOutUntold }
 {}
 
 /// A lease that made an expansion never brings back the rows that were there before.

@@ -13,10 +13,11 @@ mod settings;
 
 pub use event::{End, Event, Grant, Refusal};
 pub use journal_laws::{
-    beginnings_are_histories, busy_is_counted, choices_outlive_releases, chosen_leases_are_legal,
-    chosen_renewals_are_legal, counters_begin_at_none, counters_fit, ends_are_legal,
-    events_change_busy, events_change_hot, finished_workers_sign_off, first_choices_are_unique,
-    first_views_are_true, histories_are_lawful, histories_grow, holding_keeps_views,
+    all_off_none_out, beginnings_are_histories, busy_is_counted, choices_outlive_releases,
+    chosen_leases_are_legal, chosen_renewals_are_legal, counters_begin_at_none, counters_fit,
+    ends_are_legal, ends_are_told, ends_stand, events_change_busy, events_change_hot,
+    finished_workers_sign_off, first_choices_are_unique, first_views_are_true,
+    histories_are_lawful, histories_grow, histories_have_any_weight, holding_keeps_views,
     hot_is_counted, interference_is_mutual, last_views_sign_off, last_views_tell_all,
     leased_are_never_hot, leases_are_of_workers, marks_are_legal, marks_change_hot,
     meeting_keeps_views, memory_ends_are_reported, none_out_none_hot, refusals_are_first,
@@ -30,10 +31,10 @@ pub use laws::{
     incumbents_are_plans, incumbents_fall, journals_are_histories, known_stays,
     lawful_stores_are_sound, lease_costs_fit, lease_costs_stay_small, lease_turns_go_on,
     lease_work_goes_on, lease_work_stands, lease_work_stays, leasing_keeps_whole,
-    moves_keep_lawful, none_out_is_shown, none_out_may_lease, opening_is_lawful,
-    ordered_runs_are_runs, others_keep_whole, quiet_ends_are_best, recorded_rows_are_lent,
-    releasing_keeps_whole, renewing_keeps_whole, reopening_is_lawful, returns_leave_incumbents,
-    returns_show_work, runs_are_lawful, runs_go_on, scopes_are_apart, turns_carry_over,
-    waiting_reports_are_one,
+    moves_keep_lawful, none_out_is_shown, none_out_may_lease, none_out_untold, opening_is_lawful,
+    ordered_runs_are_runs, others_are_left, others_keep_whole, quiet_ends_are_best,
+    recorded_rows_are_lent, recorded_where_leased, releasing_keeps_whole, renewing_keeps_whole,
+    reopening_is_lawful, returns_leave_incumbents, returns_show_work, runs_are_lawful, runs_go_on,
+    scopes_are_apart, turns_carry_over, waiting_reports_are_one,
 };
 pub use settings::Settings;

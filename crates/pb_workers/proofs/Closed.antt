@@ -29,7 +29,7 @@ module _ (old : GraphValue) (trouble : Bool) (new : GraphValue) (s : IsSignedOff
   closed_signed = ap (λ (c : Counts). c.signed_off 0) s.events.counts ∙ ending_same (λ c. c.signed_off 0) (blocks old.table) old.table.settings Gone trouble old.table.end (λ c. refl)
 
   pub closed_runs : KeepsLeases old (Off 0 trouble ∷ ending trouble old.table.end) new → RunsOn old new
-  closed_runs keeps = keeping_runs old (Off 0 trouble ∷ ending trouble old.table.end) new keeps s.events.journal
+  closed_runs keeps = keeping_runs old (Off 0 trouble ∷ ending trouble old.table.end) new keeps (ap (λ (v : GraphValue). v.incumbent) s.rest) s.events.journal
 
 pub closed_end : (old new : GraphValue) → IsSignedOff old 0 false new → new.table.end ≡ old.table.end
 closed_end old new s = ap (λ (c : Counts). c.end) s.events.counts

@@ -23,28 +23,28 @@ use Rattle.pb_workers.specs.Ends.{home_store, IsBestEnd, IsSpentEnd}
 module _ (g : GraphValue) (k : IsLeaseGraph g) (home : is_out_in g ≡ false) (recorded : (worker : ℕ) → Rows) (machine : Machine) (m : IsMoment g recorded machine) where
   store_is : machine.store ≡ home_store g
   store_is = λ i. record {
-    rows = λ block state. all_rows g k recorded machine m home block state i;
+    rows = λ block state. all_rows g k recorded machine m.at home block state i;
     incumbent = m.incumbent i;
-    weight = m.lawful.weight i;
+    weight = m.at.lawful.weight i;
   }
 
   out : is_any_out g.table.settings.workers machine.counts.leases ≡ false
-  out = ap (λ (c : Counts). is_any_out g.table.settings.workers c.leases) m.counts ∙ home
+  out = ap (λ (c : Counts). is_any_out g.table.settings.workers c.leases) m.at.counts ∙ home
 
   pub best_end : g.table.end ≡ Some Quiet → IsBestEnd g
   best_end quiet =
-      let end = ap (λ (c : Counts). c.end) m.counts ∙ quiet in
+      let end = ap (λ (c : Counts). c.end) m.at.counts ∙ quiet in
       record {
-        sound = subst (λ (s : Store). IsSound (space_of g.task) (guide_of g.task g.table.graph) s) store_is (lawful_stores_are_sound (setup_in g) greatest_cost machine (setup_is g k) m.lawful);
-        quiet = subst (λ (s : Store). IsQuiet s) store_is (m.lawful.quiet end);
-        shown = subst (λ (s : Store). IsShown (space_of g.task) (guide_of g.task g.table.graph) s) store_is (none_out_is_shown (setup_in g) greatest_cost machine (setup_is g k) m.lawful out);
+        sound = subst (λ (s : Store). IsSound (space_of g.task) (guide_of g.task g.table.graph) s) store_is (lawful_stores_are_sound (setup_in g) greatest_cost machine (setup_is g k) m.at.lawful);
+        quiet = subst (λ (s : Store). IsQuiet s) store_is (m.at.lawful.quiet end);
+        shown = subst (λ (s : Store). IsShown (space_of g.task) (guide_of g.task g.table.graph) s) store_is (none_out_is_shown (setup_in g) greatest_cost machine (setup_is g k) m.at.lawful out);
         holds = subst (λ o. IncumbentHolds (space_of g.task) (weight_of g.table.settings) o) m.incumbent
-            (quiet_ends_are_best (setup_in g) greatest_cost machine (setup_is g k) m.lawful end (estimates_are_admissible g.task k.is_task));
+            (quiet_ends_are_best (setup_in g) greatest_cost machine (setup_is g k) m.at.lawful end (estimates_are_admissible g.task k.is_task));
       }
 
   pub spent_end : g.table.end ≡ Some Budget → IsSpentEnd g
   spent_end budget =
-      let all = budget_ends_are_spent (setup_in g) greatest_cost machine (setup_is g k) m.lawful (ap (λ (c : Counts). c.end) m.counts ∙ budget) in
+      let all = budget_ends_are_spent (setup_in g) greatest_cost machine (setup_is g k) m.at.lawful (ap (λ (c : Counts). c.end) m.at.counts ∙ budget) in
       record {
         works = all.1;
         comes = subst (λ (s : Store). Comes (space_of g.task) (guide_of g.task g.table.graph) all.1 (opening_store (space_of g.task) (guide_of g.task g.table.graph) (weight_of g.table.settings)) s) store_is

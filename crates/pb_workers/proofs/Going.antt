@@ -12,8 +12,9 @@ use Rattle.pb_homes.specs.Homes.{home_rows}
 use Rattle.pb_lease.specs.Leased.{setup_of}
 use Rattle.pb_lease.specs.GraphValue.{GraphValue, setup_in}
 use Rattle.pb_lease.specs.Choices.{is_out_in}
-use Rattle.pb_lease.specs.Moments.{IsMoment, Follows, moves_of}
+use Rattle.pb_lease.specs.Moments.{IsMoment, FollowsInOrder, moves_of}
 use Rattle.pb_lease.specs.Steps.{KeepsLeases}
+use Rattle.pb_lease.proofs.InOrder.{keeps_in_order}
 use Rattle.pb_workers.specs.Runs.{IsSameSearch, RunsTo, RunsOn}
 
 -- ---- the same search
@@ -39,7 +40,7 @@ run_none g recorded machine m = record { moves = []; run = refl; events = sym (a
 
 -- what follows by events is a run
 pub run_one : (old : GraphValue) (machine : Machine) (events : List Event) (new : GraphValue) (recorded : (worker : ℕ) → Rows) (next : Machine)
-    → Follows old machine events new recorded next → new.table.journal ≡ old.table.journal ++ events → RunsTo old machine new recorded next
+    → FollowsInOrder old machine events new recorded next → new.table.journal ≡ old.table.journal ++ events → RunsTo old machine new recorded next
 run_one old machine events new recorded next f journal = record {
   moves = moves_of events;
   run = f.moves;
@@ -65,14 +66,17 @@ run_then old mid new machine next last recorded after same first second =
 -- it doesn't matter what was recorded
 pub moment_home : (g : GraphValue) (recorded other : (worker : ℕ) → Rows) (machine : Machine) → is_out_in g ≡ false → IsMoment g recorded machine → IsMoment g other machine
 moment_home g recorded other machine home m =
-    let out = ap (λ (c : Counts). is_any_out g.table.settings.workers c.leases) m.counts ∙ home in
+    let out = ap (λ (c : Counts). is_any_out g.table.settings.workers c.leases) m.at.counts ∙ home in
     record {
-      lawful = m.lawful;
-      counts = m.counts;
-      whole = (all_is_home (setup_in g) machine.counts machine.store (home_rows g.homes) other m.lawful.counts out).1
-          ((all_is_home (setup_in g) machine.counts machine.store (home_rows g.homes) recorded m.lawful.counts out).0 m.whole);
+      at = record {
+        lawful = m.at.lawful;
+        counts = m.at.counts;
+        whole = (all_is_home (setup_in g) machine.counts machine.store (home_rows g.homes) other m.at.lawful.counts out).1
+            ((all_is_home (setup_in g) machine.counts machine.store (home_rows g.homes) recorded m.at.lawful.counts out).0 m.at.whole);
+        keys = m.at.keys;
+        incumbent = m.at.incumbent;
+      };
       incumbent = m.incumbent;
-      keys = m.keys;
       untold = m.untold;
     }
 
@@ -81,9 +85,9 @@ pub run_home : (old : GraphValue) (machine : Machine) (new : GraphValue) (record
 run_home old machine new recorded other next home r = record { moves = r.moves; run = r.run; events = r.events; moment = moment_home new recorded other next home r.moment }
 
 -- events that keep the leases are a run
-pub keeping_runs : (old : GraphValue) (events : List Event) (new : GraphValue) → KeepsLeases old events new → new.table.journal ≡ old.table.journal ++ events → RunsOn old new
-keeping_runs old events new keeps journal recorded machine m =
-    let next = keeps recorded machine m in
+pub keeping_runs : (old : GraphValue) (events : List Event) (new : GraphValue) → KeepsLeases old events new → new.incumbent ≡ old.incumbent → new.table.journal ≡ old.table.journal ++ events → RunsOn old new
+keeping_runs old events new keeps same journal recorded machine m =
+    let next = keeps_in_order old events new keeps same recorded machine m in
     (next.0, run_one old machine events new recorded next.0 next.1 journal)
 
 pub on_none : (g : GraphValue) → RunsOn g g

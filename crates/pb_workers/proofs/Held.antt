@@ -15,12 +15,13 @@ use Rattle.pb_homes.specs.Parts.{away_rows}
 use Rattle.pb_homes.specs.Homes.{key_at}
 use Rattle.pb_lease.specs.Tables.{rooms}
 use Rattle.pb_lease.specs.Events.{ending}
-use Rattle.pb_lease.specs.LeaseValue.{LeaseValue, leased_store}
+use Rattle.pb_lease.specs.LeaseValue.{LeaseValue, leased_store, IsSameLease}
 use Rattle.pb_lease.specs.Leased.{setup_of, grant_of, HasScope, IsOut, IsInTurns, IsOutInTurns}
 use Rattle.pb_lease.specs.GraphValue.{GraphValue, setup_in, counts_in, IsLeaseGraph, IsOfGraph}
 use Rattle.pb_lease.specs.Steps.{IsReleased, ReleasesNext, IsRenewed, RenewsNext, GoesOn, renewed_quota}
 use Rattle.pb_lease.proofs.GraphBasics.{setup_is}
-use Rattle.pb_expand.specs.Turned.{IsAtWork, IsSameLease}
+use Rattle.pb_lease.proofs.InOrder.{releases_in_order, renews_in_order}
+use Rattle.pb_expand.specs.Turned.{IsAtWork}
 use Rattle.pb_workers.specs.Runs.{IsSameSearch}
 use Rattle.pb_workers.specs.Holding.{IsHeld, RunsOut, RunsHome, left_with, IsNearer, IsMarkedAtMost}
 use Rattle.pb_workers.proofs.Going.{same_then, run_one, run_then}
@@ -42,13 +43,15 @@ module _ (g : GraphValue) (lease : LeaseValue) (held : IsHeld g lease) (task : P
     machine = held.machine;
     is_setup = setup_is g k;
     in_range = k.legal.range;
-    lawful = held.moment.lawful;
-    out = held.out.0;
+    lawful = held.moment.at.lawful;
+    leased = held.out.0.leased;
+    known = held.machine.known lease.worker;
+    work = held.out.0.work;
     scope = held.of_graph.scope;
   }))
 
   some_quota : 0 < lease.quota
-  some_quota = (held.moment.lawful.counts.quota lease.worker (grant_of lease) held.out.0.leased).0
+  some_quota = (held.moment.at.lawful.counts.quota lease.worker (grant_of lease) held.out.0.leased).0
 
   module _ (worked : LeaseValue) (same : IsSameLease lease worked) (scope : HasScope graph worked) where
     pub worked_of_graph : IsOfGraph g worked
@@ -70,7 +73,7 @@ module _ (g : GraphValue) (lease : LeaseValue) (held : IsHeld g lease) (task : P
     pub returned_home : (trouble : Bool) → Works task graph lease worked (one_if trouble) → (new : GraphValue) → IsReleased g worked trouble new → ReleasesNext g worked trouble new
         → RunsHome g lease new
     returned_home trouble works new r next recorded machine m out =
-        let step = next recorded machine m (worked_out (one_if trouble) works machine out) in
+        let step = releases_in_order g worked new r.incumbent recorded machine m trouble next (worked_out (one_if trouble) works machine out) in
         (recorded, step.0, run_one g machine (Release worked.worker worked.used trouble ∷ ending trouble g.table.end) new recorded step.0 step.1 r.events.journal)
 
     pub vacant_then : (old : GraphValue) (trouble : Bool) (new : GraphValue) → IsReleased old worked trouble new → (counts_in new).leases lease.worker ≡ None
@@ -108,7 +111,7 @@ module _ (g : GraphValue) (lease : LeaseValue) (held : IsHeld g lease) (task : P
       pub given_home : Works task graph lease worked 0 → (new : GraphValue) → IsReleased marked worked false new → ReleasesNext marked worked false new → RunsHome g lease new
       given_home works new r next recorded machine m out =
           let along = marked_runs g worked.worker marked mark recorded machine m in
-          let step = next recorded along.0 along.1.moment (along.2 worked 0 (worked_out 0 works machine out)) in (
+          let step = releases_in_order marked worked new r.incumbent recorded along.0 along.1.moment false next (along.2 worked 0 (worked_out 0 works machine out)) in (
             recorded,
             step.0,
             run_then g marked new machine along.0 step.0 recorded recorded (marked_same g worked.worker marked mark) along.1
@@ -158,7 +161,7 @@ module _ (g : GraphValue) (lease : LeaseValue) (held : IsHeld g lease) (task : P
         pub kept_out : Works task graph lease worked 0 → RenewsNext marked worked kept new → RunsOut g lease new kept
         kept_out works next recorded machine m out =
             let along = marked_runs g worked.worker marked mark recorded machine m in
-            let step = next recorded along.0 along.1.moment (along.2 worked 0 (worked_out 0 works machine out)) in
+            let step = renews_in_order marked worked new n.incumbent recorded along.0 along.1.moment kept next (along.2 worked 0 (worked_out 0 works machine out)) in
             let after = with_entry recorded worked.worker (away_rows kept.parts) in (
               after,
               step.0,

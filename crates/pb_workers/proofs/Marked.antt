@@ -13,6 +13,7 @@ use Rattle.pb_lease.specs.GraphValue.{GraphValue, setup_in, counts_in}
 use Rattle.pb_lease.specs.Choices.{MayMark}
 use Rattle.pb_lease.specs.Moments.{IsMoment}
 use Rattle.pb_lease.specs.Steps.{IsMarked, KeepsLeases}
+use Rattle.pb_lease.proofs.InOrder.{keeps_in_order}
 use Rattle.pb_workers.specs.Runs.{IsSameSearch, RunsTo}
 use Rattle.pb_workers.specs.Holding.{MarksWhereMay, IsMarkedAtMost}
 use Rattle.pb_workers.proofs.Going.{run_none, run_one}
@@ -67,7 +68,7 @@ module _ (old : GraphValue) (worker : ℕ) (new : GraphValue) where
         λ lease most_broken out. subst (λ (u : GraphValue). IsOutInTurns (setup_in u) machine most_broken lease) (sym same) out,
       )
   marked_runs (inr mark) recorded machine m =
-      let step = mark.2 recorded machine m in
+      let step = keeps_in_order old (Hot worker mark.0 ∷ []) new mark.2 (ap (λ (v : GraphValue). v.incumbent) mark.1.rest) recorded machine m in
       (step.0, run_one old machine (Hot worker mark.0 ∷ []) new recorded step.0 step.1 mark.1.events.journal, step.2)
 
 -- what a mark by this worker answers

@@ -103,10 +103,10 @@ module _ (old : GraphValue) (k : IsLeaseGraph old) (lease : LeaseValue) (of : Is
     where
       go : (o : Option Content) → content_in lease.parts block ≡ o → is_some (key_at old.homes block) ≡ true
       go None is = ap is_some (sym (r.noted.others block is)) ∙ there
-      go (Some content) is = ((opened_is_by_key machine.store (key_at old.homes) m.keys).0 block).1 (inside block (lent block (brought block content is there)))
+      go (Some content) is = ((opened_is_by_key machine.store (key_at old.homes) m.at.keys).0 block).1 (inside block (lent block (brought block content is there)))
 
   block_known : lease.block < (blocks old.table).count
-  block_known = (m.lawful.counts.known lease.worker (grant_of lease) out.0.leased).1
+  block_known = (m.at.lawful.counts.known lease.worker (grant_of lease) out.0.leased).1
 
   own_there : is_some (content_in lease.parts lease.block) ≡ true
   own_there = of.scope.blocks lease.block ∙ (setup_is old k).blocks.own lease.block block_known

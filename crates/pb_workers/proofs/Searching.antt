@@ -17,6 +17,7 @@ use Rattle.pb_lease.specs.GraphValue.{GraphValue, counts_in}
 use Rattle.pb_lease.specs.Choices.{is_out_in, IsOver}
 use Rattle.pb_lease.specs.Steps.{IsLeased, LeasesNext, IsEnded, KeepsLeases, end_events}
 use Rattle.pb_lease.proofs.GraphBasics.{passes_from}
+use Rattle.pb_lease.proofs.InOrder.{leases_in_order}
 use Rattle.pb_workers.specs.Runs.{IsSameSearch, IsAnyMoment, RunsOn}
 use Rattle.pb_workers.specs.Holding.{IsHeld, RunsHome, left_with, opened_blocks, IsNearer}
 use Rattle.pb_workers.proofs.Going.{run_one, run_then, run_home, on_then, keeping_runs}
@@ -58,7 +59,7 @@ module _ (old : GraphValue) (worker : ℕ) (lease : LeaseValue) (new : GraphValu
 
   pub leased_held : LeasesNext old lease new → IsAnyMoment old → IsHeld new lease
   leased_held next any =
-      let step = next any.0 any.1 any.2 in
+      let step = leases_in_order old lease new next l.incumbent any.0 any.1 any.2 in
       record {
         of_graph = l.of_graph;
         no_end = ap (λ (c : Counts). c.end) l.events.counts ∙ none_ended;
@@ -74,7 +75,7 @@ pub leased_runs : (first old mid new : GraphValue) (worker : ℕ) (lease : Lease
     → is_out_in new ≡ false → RunsOn first old → RunsOn first new
 leased_runs first old mid new worker lease l next back same home before recorded machine m =
     let a = before recorded machine m in
-    let b = next recorded a.0 a.1.moment in
+    let b = leases_in_order old lease mid next l.incumbent recorded a.0 a.1.moment in
     let after = with_entry recorded lease.worker (away_rows lease.parts) in
     let c = back after b.0 b.1.moment b.3 in
     let leased = run_one old a.0 (Lease lease.worker lease.block lease.quota ∷ []) mid after b.0 b.1
@@ -153,7 +154,7 @@ module _ (old : GraphValue) (end : End) (new : GraphValue) (e : IsEnded old end 
       here (Some standing) none = absurd (true≢false (ap is_some none))
 
   pub ended_runs : (first : GraphValue) → IsSameSearch first old → RunsOn first old → KeepsLeases old (end_events old.table.end end) new → RunsOn first new
-  ended_runs first same before keeps = on_then first old new same before (keeping_runs old (end_events old.table.end end) new keeps e.events.journal)
+  ended_runs first same before keeps = on_then first old new same before (keeping_runs old (end_events old.table.end end) new keeps (ap (λ (v : GraphValue). v.incumbent) e.rest) e.events.journal)
 
 -- no end stands where the search isn't over
 pub none_stands : (g : GraphValue) → ((end : End) → IsOver g end → ⊥) → g.table.end ≡ None

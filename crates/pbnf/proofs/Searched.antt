@@ -11,6 +11,7 @@ use Rattle.pb_machine.specs.History.{AreFinished}
 use Rattle.pb_machine.specs.Machine.{Setup, IsSetup, opening_machine}
 use Rattle.pb_machine.specs.Turns.{RunsInOrder}
 use Rattle.pb_machine.specs.Lawful.{IsLawful}
+use Rattle.pb_machine.proofs.LeaseTurns.{ordered_runs_are_runs}
 use Rattle.pb_machine.proofs.MomentLaws.{budget_ends_are_spent}
 use Rattle.pb_abstract.specs.Projection.{IsFinest}
 use Rattle.pb_abstract.specs.Graph.{AbstractGraph, IsGraphOf}
@@ -62,9 +63,10 @@ module _ (parts : Parts) (graph : AbstractGraph) (solve : SolveMeaning) (old : G
     stops k run off graph_of finest ended =
         let last = run (λ worker home state. None) (opening_machine (setup_in old)) opening.moment in
         let to = last.1 in
-        let lawful : IsLawful setup last.0 = subst (λ (s : Setup). IsLawful s last.0) new_setup to.moment.lawful in
+        let lawful : IsLawful setup last.0 = subst (λ (s : Setup). IsLawful s last.0) new_setup to.moment.at.lawful in
         let proper : IsSetup setup greatest_cost = subst (λ (s : Setup). IsSetup s greatest_cost) new_setup (setup_is new k) in
-        let end = ap (λ (c : Counts). c.end) to.moment.counts ∙ ended in
+        let end = ap (λ (c : Counts). c.end) to.moment.at.counts ∙ ended in
+        let ordered : RunsInOrder setup (opening_machine setup) to.moves last.0 = subst (λ (s : Setup). RunsInOrder s (opening_machine s) to.moves last.0) old_setup to.run in
         let all = budget_ends_are_spent setup greatest_cost last.0 proper lawful end in
         record {
           graph = graph;
@@ -72,10 +74,11 @@ module _ (parts : Parts) (graph : AbstractGraph) (solve : SolveMeaning) (old : G
           finest = finest;
           moves = to.moves;
           machine = last.0;
-          run = subst (λ (s : Setup). RunsInOrder s (opening_machine s) to.moves last.0) old_setup to.run;
+          run = ordered_runs_are_runs setup to.moves (opening_machine setup) last.0 ordered;
+          in_order = λ alone. ordered;
           lawful = lawful;
           end = end;
-          finished = are_finished solve last.0.counts end (ap (λ (c : Counts). c.signed_off 0) to.moment.counts ∙ off);
+          finished = are_finished solve last.0.counts end (ap (λ (c : Counts). c.signed_off 0) to.moment.at.counts ∙ off);
           works = all.1;
           comes = subst (λ (w : Weight). Comes setup.space setup.guide all.1 (opening_store setup.space setup.guide w) last.0.store) (all.8 refl) all.3;
           all = all.4;

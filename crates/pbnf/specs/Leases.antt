@@ -8,7 +8,7 @@ use Rattle.pb_machine.specs.declared.settings.Settings.{Settings}
 use Rattle.pb_machine.specs.Settings.{weight_of}
 use Rattle.pb_machine.specs.Counts.{opening_counts}
 use Rattle.pb_machine.specs.History.{AreFinished}
-use Rattle.pb_machine.specs.Machine.{Machine, Move, opening_machine}
+use Rattle.pb_machine.specs.Machine.{Machine, Move, Runs, opening_machine}
 use Rattle.pb_machine.specs.Turns.{RunsInOrder}
 use Rattle.pb_machine.specs.Lawful.{IsLawful}
 use Rattle.pb_task.specs.declared.parts.Parts.{Parts}
@@ -47,16 +47,17 @@ pub record IsBestOf (parts : Parts) (graph : GraphValue) : Type 0 where
   pub best : IsBestEnd graph
 
 -- A search by leases of this task, with these settings, came to the end of its budget: over the finest abstract graph of the task that has no
--- more blocks than are wished for, a run in order leads from the machine that has the start's row alone to a lawful one, whose end is that, and
--- where every worker has signed off. So exactly as many expansions as the budget allows, none of them broken off, lead from the start's row
--- alone to its rows, of which one is Opened.
+-- more blocks than are wished for, a run leads from the machine that has the start's row alone to a lawful one, whose end is that, and where
+-- every worker has signed off. With one worker the run is in order. So exactly as many expansions as the budget allows, none of them broken off,
+-- lead from the start's row alone to its rows, of which one is Opened.
 pub record StopsAtBudget (parts : Parts) (settings : Settings) : Type 0 where
   pub graph : AbstractGraph
   pub graph_of : IsGraphOf parts graph
   pub finest : IsFinest parts settings.wish graph.projection
   pub moves : List Move
   pub machine : Machine
-  pub run : RunsInOrder (setup_of parts graph settings 0) (opening_machine (setup_of parts graph settings 0)) moves machine
+  pub run : Runs (setup_of parts graph settings 0) (opening_machine (setup_of parts graph settings 0)) moves machine
+  pub in_order : settings.workers ≡ 1 → RunsInOrder (setup_of parts graph settings 0) (opening_machine (setup_of parts graph settings 0)) moves machine
   pub lawful : IsLawful (setup_of parts graph settings 0) machine
   pub end : machine.counts.end ≡ Some Budget
   pub finished : AreFinished settings machine.counts

@@ -2,15 +2,15 @@ use Rattle.std.proofs.Common.{◌≡◌, IsSome}
 use Rattle.pb_task.specs.Parts.{space_of}
 use Rattle.pb_abstract.specs.Graph.{AbstractGraph}
 use Rattle.pb_homes.specs.Parts.{content_in}
-use Rattle.pb_lease.specs.LeaseValue.{leased_store, HasWeights}
+use Rattle.pb_lease.specs.LeaseValue.{leased_store, HasWeights, IsSameLease}
 use Rattle.pb_lease.specs.Leased.{guide_of}
-use Rattle.pb_expand.specs.Turned.{IsAtWork, HasTurned, IsSameLease}
+use Rattle.pb_expand.specs.Turned.{IsAtWork, HasTurned, reads_none}
 use Rattle.pb_expand.specs.Rows.{own_opened}
 use Rattle.pb_expand.proofs.turns.settle.Given as goal
 
 abbrev pub invariant-loop-state : goal.invariant-loop-state
 invariant-loop-state l = record {
-  turned : (graph : AbstractGraph) → IsAtWork l.task graph l.initial.lease → HasTurned (space_of l.task) (guide_of l.task graph) l.initial.lease.block 0 0 (leased_store l.initial.lease) (leased_store l.lease);
+  turned : (graph : AbstractGraph) → IsAtWork l.task graph l.initial.lease → HasTurned (space_of l.task) (guide_of l.task graph) reads_none l.initial.lease.block 0 0 (leased_store l.initial.lease) (leased_store l.lease);
   same : IsSameLease l.initial.lease l.lease;
   used : l.lease.used ≡ l.initial.lease.used;
   own : IsSome (content_in l.lease.parts l.lease.block);

@@ -2,7 +2,7 @@ use Rattle.std.proofs.Common.{refl, subst, arith}
 use Rattle.pb_task.specs.Parts.{space_of}
 use Rattle.pb_lease.specs.LeaseValue.{leased_store}
 use Rattle.pb_lease.specs.Leased.{guide_of}
-use Rattle.pb_expand.specs.Turned.{HasTurned}
+use Rattle.pb_expand.specs.Turned.{HasTurned, reads_none}
 use Rattle.pb_expand.proofs.Same.{same_none}
 use Rattle.pb_expand.proofs.Known.{own_there}
 use Rattle.pb_expand.proofs.Turned.{turned_none}
@@ -11,7 +11,7 @@ use Rattle.pb_expand.proofs.working.work.Goals as goal
 
 pub loop-state-init : goal.loop-state-init
 loop-state-init c = record {
-  turned = subst (λ n. HasTurned (space_of c.args.task.now) (guide_of c.args.task.now c.args.graph.now) c.args.lease.now.block n 0 (leased_store c.args.lease.now) (leased_store c.args.lease.now)) (omega arith)
+  turned = subst (λ n. HasTurned (space_of c.args.task.now) (guide_of c.args.task.now c.args.graph.now) reads_none c.args.lease.now.block n 0 (leased_store c.args.lease.now) (leased_store c.args.lease.now)) (omega arith)
       (turned_none (space_of c.args.task.now) (guide_of c.args.task.now c.args.graph.now) c.args.lease.now.block (leased_store c.args.lease.now));
   counted = omega arith;
   within = c.quota-quota.ensures.within;

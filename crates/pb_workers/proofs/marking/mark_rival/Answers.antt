@@ -3,7 +3,7 @@ use Rattle.pb_workers.proofs.Marked.{marks_where_may, marked_at_most}
 use Rattle.pb_workers.proofs.marking.mark_rival.Goals as goal
 
 pub mark_hot-requires-clause-block : goal.mark_hot-requires-clause-block
-mark_hot-requires-clause-block c = (c.in-Some.ensures.moment c.requires.moment.0 c.requires.moment.1 c.requires.moment.2).0.known
+mark_hot-requires-clause-block c = (c.in-Some.ensures.moment c.requires.moment.0 c.requires.moment.1 c.requires.moment.2.at).0.known
 
 pub returns-in-Some-clause-rival : goal.returns-in-Some-clause-rival
 returns-in-Some-clause-rival c = inr (

@@ -5,7 +5,7 @@ use Rattle.pb_machine.specs.Settings.{weight_of}
 use Rattle.pb_lease.specs.Tables.{blocks}
 use Rattle.pb_lease.specs.GraphValue.{GraphValue}
 use Rattle.pb_lease.specs.Choices.{is_out_in}
-use Rattle.pb_lease.specs.Moments.{IsMoment}
+use Rattle.pb_lease.specs.Moments.{IsMomentAt}
 use Rattle.pb_lease.proofs.GraphBasics.{all_home, all_rows}
 use Rattle.pb_lease.specs.contracts.graph.Graph.{the_view}
 use Rattle.pb_lease.proofs.graph.Graph.bundle.Goals as goal
@@ -26,5 +26,5 @@ pub returns-clause-moment : goal.returns-clause-moment
 returns-clause-moment c recorded machine m state =
     let t : GraphValue = the_view c.self.inside in
     let home = subst (λ (v : GraphValue). is_out_in v ≡ false) (sym c.self.view_is) c.requires.home in
-    all_rows t c.self.invariant recorded machine (subst (λ (v : GraphValue). IsMoment v recorded machine) (sym c.self.view_is) m) home c.args.block state
+    all_rows t c.self.invariant recorded machine (subst (λ (v : GraphValue). IsMomentAt v recorded machine) (sym c.self.view_is) m) home c.args.block state
     ∙ ap (λ (o : Option Content). rows_in o state) c.bundle.ensures

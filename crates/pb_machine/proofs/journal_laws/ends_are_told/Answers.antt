@@ -1,0 +1,5 @@
+use Rattle.pb_machine.proofs.EndsTold as law
+use Rattle.pb_machine.proofs.journal_laws.ends_are_told.Goals as goal
+
+pub returns : goal.returns
+returns c = law.ends_are_told
