@@ -3,8 +3,8 @@ use Rattle.std.proofs.Common.{◌≡◌, ℕ, ◌-◌, ◌*◌, ◌/◌, ◌<◌
 use Rattle.std.specs.Int.{div_ceil}
 use Rattle.std.proofs.Math.Pow.{pow_pos}
 use Rattle.std.proofs.lemmas.Bool.Decides.{nat_tests}
-use Rattle.pb_task.specs.declared.parts.Parts.{Parts}
-use Rattle.pb_task.specs.declared.parts.Parts.TheVariants.{Grid, Tiles, Strips}
+use Rattle.pb_task.specs.declared.parts.TaskParts.{TaskParts}
+use Rattle.pb_task.specs.declared.parts.TaskParts.TheVariants.{Grid, Tiles, Strips}
 use Rattle.pb_task.specs.declared.parts.GridParts.{GridParts}
 use Rattle.pb_task.specs.Parts.{IsTask}
 use Rattle.pb_task.specs.Grid.{IsGrid}
@@ -56,7 +56,7 @@ pub record IsSized (count wish : ℕ) : Type 0 where
   pub some : 1 ≤ count
   pub few : count ≤ wish
 
-pub sized : (parts : Parts) → IsTask parts → (wish : ℕ) → 16 ≤ wish → (projection : Projection) → IsFinest parts wish projection → IsSized (block_count parts projection) wish
+pub sized : (parts : TaskParts) → IsTask parts → (wish : ℕ) → 16 ≤ wish → (projection : Projection) → IsFinest parts wish projection → IsSized (block_count parts projection) wish
 sized (Grid grid) is wish least (Squares side) finest = record { some = some_squares grid side is finest.positive; few = finest.enough }
 sized (Grid grid) is wish least Blank finest = absurd finest
 sized (Grid grid) is wish least BlankAndOne finest = absurd finest
@@ -72,7 +72,7 @@ sized (Strips strips) is wish least BlankAndOne finest = absurd finest
 sized (Strips strips) is wish least BlankAndTwo finest = absurd finest
 sized (Strips strips) is wish least (Atoms atoms) finest = record { some = pow_pos (length atoms); few = finest.few }
 
-pub graph_is : (parts : Parts) → IsTask parts → (wish : ℕ) → 16 ≤ wish → wish ≤ 4096 → (graph : AbstractGraph) → IsGraphOf parts graph → IsFinest parts wish graph.projection → IsGraph graph
+pub graph_is : (parts : TaskParts) → IsTask parts → (wish : ℕ) → 16 ≤ wish → wish ≤ 4096 → (graph : AbstractGraph) → IsGraphOf parts graph → IsFinest parts wish graph.projection → IsGraph graph
 graph_is parts is wish least greatest graph of finest =
     let s : IsSized (block_count parts graph.projection) wish = sized parts is wish least graph.projection finest in
     record {

@@ -1,8 +1,8 @@
 -- A task has one graph at most for a wish.
 use Rattle.std.proofs.Common.{◌≡◌, ℕ, ◌<◌, ◌≤◌, List, [], length, sym, ap, subst, ◌∙◌, arith, ◌⊎◌, inl, inr}
 use Rattle.std.proofs.lemmas.List.{get_or_past}
-use Rattle.pb_task.specs.declared.parts.Parts.{Parts}
-use Rattle.pb_task.specs.declared.parts.Parts.TheVariants.{Grid, Tiles, Strips}
+use Rattle.pb_task.specs.declared.parts.TaskParts.{TaskParts}
+use Rattle.pb_task.specs.declared.parts.TaskParts.TheVariants.{Grid, Tiles, Strips}
 use Rattle.pb_task.specs.declared.parts.GridParts.{GridParts}
 use Rattle.pb_abstract.specs.declared.projection.Projection.{Projection}
 use Rattle.pb_abstract.specs.declared.projection.Projection.TheVariants.{Squares, Blank, BlankAndOne, BlankAndTwo, Atoms}
@@ -23,7 +23,7 @@ one_least grid wish side other a b = go (cases side other) where
   go (inr (inl same)) = same
   go (inr (inr more)) = let less : wish < square_count grid other = a.least other b.positive more in absurd (omega (arith, less, b.enough))
 
-projections_are_unique : (parts : Parts) (wish : ℕ) (one other : Projection) → IsFinest parts wish one → IsFinest parts wish other → one ≡ other
+projections_are_unique : (parts : TaskParts) (wish : ℕ) (one other : Projection) → IsFinest parts wish one → IsFinest parts wish other → one ≡ other
 projections_are_unique (Grid grid) wish (Squares side) (Squares other) a b = ap (λ n. Squares n) (one_least grid wish side other a b)
 projections_are_unique (Grid grid) wish (Squares side) Blank a b = absurd b
 projections_are_unique (Grid grid) wish (Squares side) BlankAndOne a b = absurd b

@@ -2,8 +2,8 @@
 use Rattle.std.proofs.Common.{◌≡◌, ℕ, ◌<◌, ◌≤◌, IsTrue, [], length, refl, sym, ap, subst, ◌∙◌, arith, ◌⊎◌, inl, inr, true≢false}
 use Rattle.std.proofs.lemmas.List.{get_or_past}
 use Rattle.pb_model.specs.Space.{Steps}
-use Rattle.pb_task.specs.declared.parts.Parts.{Parts}
-use Rattle.pb_task.specs.declared.parts.Parts.TheVariants.{Grid, Tiles, Strips}
+use Rattle.pb_task.specs.declared.parts.TaskParts.{TaskParts}
+use Rattle.pb_task.specs.declared.parts.TaskParts.TheVariants.{Grid, Tiles, Strips}
 use Rattle.pb_task.specs.Parts.{space_of, IsTask}
 use Rattle.pb_task.specs.Tiles.{cell_count, board_of}
 use Rattle.pb_task.proofs.Grids.{tasks_are_proper}
@@ -22,12 +22,12 @@ use Rattle.pb_abstract.proofs.TrackedSteps as sets
 
 -- ---- edges and steps
 
-abbrev pub Step : Parts → Projection → (block other : ℕ) → Type 0
+abbrev pub Step : TaskParts → Projection → (block other : ℕ) → Type 0
 Step parts projection block other =
     (from : ℕ) × (action : ℕ) × (to : ℕ) × (cost : ℕ) × Steps (space_of parts) from action to cost × (block_of parts projection from ≡ block) × (block_of parts projection to ≡ other)
 
 -- a step is an edge
-pub step_edge : (parts : Parts) → IsTask parts → (projection : Projection) → Fits parts projection → (from action to cost : ℕ) → Steps (space_of parts) from action to cost
+pub step_edge : (parts : TaskParts) → IsTask parts → (projection : Projection) → Fits parts projection → (from action to cost : ℕ) → Steps (space_of parts) from action to cost
     → IsEdge parts projection (block_of parts projection from) (block_of parts projection to)
 step_edge (Grid grid) is (Squares side) fits from action to cost e = grids.step_edge grid is side from action to cost e
 step_edge (Grid grid) is Blank fits from action to cost e = absurd fits
@@ -41,7 +41,7 @@ step_edge (Strips strips) is BlankAndOne fits from action to cost e = absurd fit
 step_edge (Strips strips) is BlankAndTwo fits from action to cost e = absurd fits
 step_edge (Strips strips) is (Atoms atoms) fits from action to cost e = sets.step_edge strips atoms fits from action to cost e
 
-pub edge_step : (parts : Parts) → IsTask parts → (projection : Projection) → Fits parts projection → (block other : ℕ) → IsEdge parts projection block other → Step parts projection block other
+pub edge_step : (parts : TaskParts) → IsTask parts → (projection : Projection) → Fits parts projection → (block other : ℕ) → IsEdge parts projection block other → Step parts projection block other
 edge_step (Grid grid) is (Squares side) fits block other edge = grids.edge_step grid is side block other edge
 edge_step (Grid grid) is Blank fits block other edge = absurd fits
 edge_step (Grid grid) is BlankAndOne fits block other edge = absurd fits
@@ -66,7 +66,7 @@ edges_are_steps parts is projection fits block other = (edge_step parts is proje
 -- ---- blocks
 
 -- the block of a state is one that there is
-pub block_small : (parts : Parts) → IsTask parts → (projection : Projection) → Fits parts projection → (state : ℕ) → IsTrue ((space_of parts).is_state state)
+pub block_small : (parts : TaskParts) → IsTask parts → (projection : Projection) → Fits parts projection → (state : ℕ) → IsTrue ((space_of parts).is_state state)
     → block_of parts projection state < block_count parts projection
 block_small (Grid grid) is (Squares side) fits state e = grids.square_small grid side state (omega (arith, fits)) e
 block_small (Grid grid) is Blank fits state e = absurd fits
@@ -91,14 +91,14 @@ block_small (Strips strips) is BlankAndTwo fits state e = absurd fits
 block_small (Strips strips) is (Atoms atoms) fits state e = set_small atoms state
 
 -- an edge leads to a block that there is
-pub edge_small : (parts : Parts) → IsTask parts → (projection : Projection) → Fits parts projection → (block other : ℕ) → IsEdge parts projection block other → other < block_count parts projection
+pub edge_small : (parts : TaskParts) → IsTask parts → (projection : Projection) → Fits parts projection → (block other : ℕ) → IsEdge parts projection block other → other < block_count parts projection
 edge_small parts is projection fits block other edge = at (edge_step parts is projection fits block other edge) where
   at : Step parts projection block other → other < block_count parts projection
   at (from, action, to, cost, step, e, f) =
       subst (λ n. n < block_count parts projection) f (block_small parts is projection fits to ((tasks_are_proper parts is).0.to_state from action to cost step))
 
 -- the scopes of a task's graph are of blocks that there are
-pub scopes_known : (parts : Parts) → IsTask parts → (graph : AbstractGraph) → IsGraphOf parts graph → AreKnown graph.scopes
+pub scopes_known : (parts : TaskParts) → IsTask parts → (graph : AbstractGraph) → IsGraphOf parts graph → AreKnown graph.scopes
 scopes_known parts is graph of block other e = go (cases block (length graph.scopes)) where
   cases : (a b : ℕ) → (a < b) ⊎ (b ≤ a)
   cases a b = grind arith
@@ -111,7 +111,7 @@ scopes_known parts is graph of block other e = go (cases block (length graph.sco
   go (inl less) = within less ((of.scope block other (subst (λ n. block < n) of.count less)).0 e)
   go (inr past) = absurd (true≢false (sym e ∙ ap (λ xs. has xs other) (get_or_past graph.scopes block [] past)))
 
-pub own_scope : (parts : Parts) (graph : AbstractGraph) → IsGraphOf parts graph → (block : ℕ) → block < length graph.scopes → IsTrue ((blocks_of graph).scope block block)
+pub own_scope : (parts : TaskParts) (graph : AbstractGraph) → IsGraphOf parts graph → (block : ℕ) → block < length graph.scopes → IsTrue ((blocks_of graph).scope block block)
 own_scope parts graph of block less = (of.scope block block (subst (λ n. block < n) of.count less)).1 (inl refl)
 
 pub abstract_graphs_are_blocks : AbstractGraphsAreBlocks

@@ -4,7 +4,7 @@
 use Rattle.std.specs.Prelude.{◌≡◌, ℕ, ◌<◌, ◌≤◌, Bool, IsTrue, ◌↔◌, ◌⊎◌, ◌==◌, List, [], length, slice_index_or}
 use Rattle.std.specs.List.{list_any}
 use Rattle.pb_machine.specs.Blocks.{Blocks, interferes}
-use Rattle.pb_task.specs.declared.parts.Parts.{Parts}
+use Rattle.pb_task.specs.declared.parts.TaskParts.{TaskParts}
 use Rattle.pb_abstract.specs.declared.projection.Projection.{Projection}
 use Rattle.pb_abstract.specs.Projection.{Fits, block_count, block_of, IsEdge}
 
@@ -46,12 +46,12 @@ pub record AreInterference (scopes lists : List (List ℕ)) : Type 0 where
   pub each : (block other : ℕ) → block < length scopes → has (slice_index_or lists block []) other ≡ interferes (blocks_in scopes) block other
 
 -- It is the graph of a task by its projection, whatever was wished for: the scope of a block is the block and those that an edge leads to from it.
-pub record IsGraphOf (parts : Parts) (graph : AbstractGraph) : Type 0 where
+pub record IsGraphOf (parts : TaskParts) (graph : AbstractGraph) : Type 0 where
   pub fits : Fits parts graph.projection
   pub count : (blocks_of graph).count ≡ block_count parts graph.projection
   pub scope : (block other : ℕ) → block < block_count parts graph.projection
       → IsTrue ((blocks_of graph).scope block other) ↔ ((block ≡ other) ⊎ IsEdge parts graph.projection block other)
 
 -- the home of a task's state in a graph of the task
-abbrev pub home_of : Parts → AbstractGraph → (state : ℕ) → ℕ
+abbrev pub home_of : TaskParts → AbstractGraph → (state : ℕ) → ℕ
 home_of parts graph state = block_of parts graph.projection state

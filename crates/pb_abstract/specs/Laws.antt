@@ -3,7 +3,7 @@ use Rattle.std.specs.Prelude.{◌≡◌, ℕ, ◌↔◌}
 use Rattle.pb_model.specs.Space.{Steps}
 use Rattle.pb_model.specs.Guide.{Guide}
 use Rattle.pb_machine.specs.Blocks.{AreBlocks}
-use Rattle.pb_task.specs.declared.parts.Parts.{Parts}
+use Rattle.pb_task.specs.declared.parts.TaskParts.{TaskParts}
 use Rattle.pb_task.specs.Parts.{space_of, IsTask}
 use Rattle.pb_abstract.specs.declared.projection.Projection.{Projection}
 use Rattle.pb_abstract.specs.Projection.{Fits, block_of, IsEdge, IsFinest}
@@ -13,13 +13,13 @@ use Rattle.pb_abstract.specs.Graph.{AbstractGraph, blocks_of, IsGraphOf, home_of
 -- into the scope of the block that it begins in.
 abbrev pub AbstractGraphsAreBlocks : Type 0
 AbstractGraphsAreBlocks =
-    (parts : Parts) → IsTask parts → (graph : AbstractGraph) → IsGraphOf parts graph → (guide : Guide) → ((state : ℕ) → guide.home state ≡ home_of parts graph state)
+    (parts : TaskParts) → IsTask parts → (graph : AbstractGraph) → IsGraphOf parts graph → (guide : Guide) → ((state : ℕ) → guide.home state ≡ home_of parts graph state)
     → AreBlocks (space_of parts) guide (blocks_of graph)
 
 -- An edge leads from one block to another exactly where some state of the one has a successor in the other.
 abbrev pub EdgesAreSteps : Type 0
 EdgesAreSteps =
-    (parts : Parts) → IsTask parts → (projection : Projection) → Fits parts projection → (block other : ℕ)
+    (parts : TaskParts) → IsTask parts → (projection : Projection) → Fits parts projection → (block other : ℕ)
     → IsEdge parts projection block other
     ↔ ((from : ℕ) × (action : ℕ) × (to : ℕ) × (cost : ℕ) × Steps (space_of parts) from action to cost
     × (block_of parts projection from ≡ block) × (block_of parts projection to ≡ other))
@@ -27,5 +27,5 @@ EdgesAreSteps =
 -- A task has one graph at most for a wish: two have the same projection, as many blocks, and the same scopes.
 abbrev pub GraphsAreUnique : Type 0
 GraphsAreUnique =
-    (parts : Parts) (wish : ℕ) (one other : AbstractGraph) → IsGraphOf parts one → IsGraphOf parts other → IsFinest parts wish one.projection → IsFinest parts wish other.projection
+    (parts : TaskParts) (wish : ℕ) (one other : AbstractGraph) → IsGraphOf parts one → IsGraphOf parts other → IsFinest parts wish one.projection → IsFinest parts wish other.projection
     → (one.projection ≡ other.projection) × ((blocks_of one).count ≡ (blocks_of other).count) × ((block c : ℕ) → (blocks_of one).scope block c ≡ (blocks_of other).scope block c)

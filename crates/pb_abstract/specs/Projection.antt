@@ -1,8 +1,8 @@
 -- The projection of a task's states to blocks, and the edges between blocks. A further kind of task is one case more of each definition.
 use Rattle.std.specs.Prelude.{◌≡◌, ℕ, ◌^◌, ◌≤◌, length}
 use Rattle.pb_packed.specs.Bits.{bits_of}
-use Rattle.pb_task.specs.declared.parts.Parts.{Parts}
-use Rattle.pb_task.specs.declared.parts.Parts.TheVariants.{Grid, Tiles, Strips}
+use Rattle.pb_task.specs.declared.parts.TaskParts.{TaskParts}
+use Rattle.pb_task.specs.declared.parts.TaskParts.TheVariants.{Grid, Tiles, Strips}
 use Rattle.pb_task.specs.Tiles.{cell_count, board_of}
 use Rattle.pb_abstract.specs.declared.projection.Projection.{Projection}
 use Rattle.pb_abstract.specs.declared.projection.Projection.TheVariants.{Squares, Blank, BlankAndOne, BlankAndTwo, Atoms}
@@ -11,7 +11,7 @@ use Rattle.pb_abstract.specs.Tracked.{AreTracked, AreAtoms, tracked_set, IsTrack
 use Rattle.pb_abstract.specs.Placings.{placing_count, placing_number, placing_of, IsTileEdge, finest_of}
 
 -- the projection is one of states of this kind
-abbrev pub Fits : Parts → Projection → Type 0
+abbrev pub Fits : TaskParts → Projection → Type 0
 Fits (Grid grid) (Squares side) = 1 ≤ side
 Fits (Grid grid) Blank = ⊥
 Fits (Grid grid) BlankAndOne = ⊥
@@ -29,7 +29,7 @@ Fits (Strips strips) BlankAndTwo = ⊥
 Fits (Strips strips) (Atoms atoms) = AreAtoms strips atoms
 
 -- how many blocks there are; 0 where the projection is of another kind
-abbrev pub block_count : Parts → Projection → ℕ
+abbrev pub block_count : TaskParts → Projection → ℕ
 block_count (Grid grid) (Squares side) = square_count grid side
 block_count (Grid grid) Blank = 0
 block_count (Grid grid) BlankAndOne = 0
@@ -43,7 +43,7 @@ block_count (Strips strips) BlankAndTwo = 0
 block_count (Strips strips) (Atoms atoms) = 2 ^ length atoms
 
 -- the block of a state; 0 where the projection is of another kind
-abbrev pub block_of : Parts → Projection → (state : ℕ) → ℕ
+abbrev pub block_of : TaskParts → Projection → (state : ℕ) → ℕ
 block_of (Grid grid) (Squares side) state = square_of grid side (bits_of state 0 11) (bits_of state 11 11)
 block_of (Grid grid) Blank state = 0
 block_of (Grid grid) BlankAndOne state = 0
@@ -57,7 +57,7 @@ block_of (Strips strips) BlankAndTwo state = 0
 block_of (Strips strips) (Atoms atoms) state = tracked_set atoms state
 
 -- an edge leads from the one block to the other
-abbrev pub IsEdge : Parts → Projection → (block other : ℕ) → Type 0
+abbrev pub IsEdge : TaskParts → Projection → (block other : ℕ) → Type 0
 IsEdge (Grid grid) (Squares side) block other = IsSquareEdge grid side block other
 IsEdge (Grid grid) Blank block other = ⊥
 IsEdge (Grid grid) BlankAndOne block other = ⊥
@@ -72,7 +72,7 @@ IsEdge (Strips strips) (Atoms atoms) block other = IsTrackedEdge strips atoms bl
 
 -- It is the finest projection that has at most `wish` blocks: the least side of squares, the most tiles that are followed, or
 -- the most atoms that are tracked.
-abbrev pub IsFinest : Parts → (wish : ℕ) → Projection → Type 0
+abbrev pub IsFinest : TaskParts → (wish : ℕ) → Projection → Type 0
 IsFinest (Grid grid) wish (Squares side) = IsLeastSide grid wish side
 IsFinest (Grid grid) wish Blank = ⊥
 IsFinest (Grid grid) wish BlankAndOne = ⊥

@@ -10,7 +10,7 @@ use crate::lists::BlockList;
 use crate::projection::Projection;
 use crate::{scopes, squares, tiles};
 use pb_packed::Packed;
-use pb_task::{Parts, Task};
+use pb_task::{Task, TaskParts};
 use std::alloc::{AllocError, Global};
 use std::marker::Model;
 
@@ -60,11 +60,13 @@ impl AbsGraph {
         ensures below { result < (blocks_of self.now).count }
     {
         match (task.parts(), self.projection) {
-            (Parts::Grid(grid), Projection::Squares { side }) => squares::square(grid, side, state),
-            (Parts::Grid(_), _) => unreachable!(),
-            (Parts::Tiles(parts), projection) => tiles::block(parts, projection, state),
-            (Parts::Strips(_), Projection::Atoms(atoms)) => atoms.tracked_set(state),
-            (Parts::Strips(_), _) => unreachable!(),
+            (TaskParts::Grid(grid), Projection::Squares { side }) => squares::square(
+                grid, side, state,
+            ),
+            (TaskParts::Grid(_), _) => unreachable!(),
+            (TaskParts::Tiles(parts), projection) => tiles::block(parts, projection, state),
+            (TaskParts::Strips(_), Projection::Atoms(atoms)) => atoms.tracked_set(state),
+            (TaskParts::Strips(_), _) => unreachable!(),
         }
     }
 

@@ -7,11 +7,11 @@ ghost use Rattle.pb_abstract.specs.declared.projection.Projection.TheVariants.{S
 use crate::lists::BlockList;
 use crate::projection::Projection;
 use crate::{changes, numbers, squares, tiles, tracking};
-use pb_task::Parts;
+use pb_task::TaskParts;
 use std::alloc::{AllocError, Global};
 
 /// The finest projection of a task's states that has at most so many blocks.
-pub fn finest(alloc: Global, parts: &Parts, wish: u32) -> Result<Projection, AllocError>
+pub fn finest(alloc: Global, parts: &TaskParts, wish: u32) -> Result<Projection, AllocError>
     requires task { IsTask parts.now }
     requires least { 16 ≤ wish }
     requires greatest { wish ≤ 4096 }
@@ -20,11 +20,11 @@ pub fn finest(alloc: Global, parts: &Parts, wish: u32) -> Result<Projection, All
     ensures side { IfOk result (λ projection. (side : ℕ) → projection ≡ Squares side → side ≤ 2048) }
 {
     match parts {
-        Parts::Grid(grid) => Ok(Projection::Squares {
+        TaskParts::Grid(grid) => Ok(Projection::Squares {
             side: squares::least_side(grid, wish),
         }),
-        Parts::Tiles(tiles) => Ok(numbers::finest(tiles.rows * tiles.cols, wish)),
-        Parts::Strips(strips) => {
+        TaskParts::Tiles(tiles) => Ok(numbers::finest(tiles.rows * tiles.cols, wish)),
+        TaskParts::Strips(strips) => {
             let atoms = tracking::tracked(alloc, strips, wish)?;
             Ok(Projection::Atoms(atoms))
         }
@@ -34,7 +34,7 @@ pub fn finest(alloc: Global, parts: &Parts, wish: u32) -> Result<Projection, All
 /// The scopes of all blocks, in order of their numbers: of each the block itself, and those that an edge leads to.
 pub fn scopes(
     alloc: Global,
-    parts: &Parts,
+    parts: &TaskParts,
     projection: &Projection,
 ) -> Result<Vec<BlockList>, AllocError>
     requires task { IsTask parts.now }
@@ -45,10 +45,14 @@ pub fn scopes(
     ensures scope { IfOk result (λ scopes. (block other : ℕ) → block < block_count parts.now projection.now → IsTrue (has (slice_index_or scopes.items block []) other) ↔ ((block ≡ other) ⊎ IsEdge parts.now projection.now block other)) }
 {
     match (parts, projection) {
-        (Parts::Grid(grid), Projection::Squares { side }) => squares::scopes(alloc, grid, *side),
-        (Parts::Grid(_), _) => unreachable!(),
-        (Parts::Tiles(tiles), projection) => tiles::scopes(alloc, tiles, projection),
-        (Parts::Strips(strips), Projection::Atoms(atoms)) => changes::scopes(alloc, strips, atoms),
-        (Parts::Strips(_), _) => unreachable!(),
+        (TaskParts::Grid(grid), Projection::Squares { side }) => squares::scopes(
+            alloc, grid, *side,
+        ),
+        (TaskParts::Grid(_), _) => unreachable!(),
+        (TaskParts::Tiles(tiles), projection) => tiles::scopes(alloc, tiles, projection),
+        (TaskParts::Strips(strips), Projection::Atoms(atoms)) => changes::scopes(
+            alloc, strips, atoms,
+        ),
+        (TaskParts::Strips(_), _) => unreachable!(),
     }
 }

@@ -7,7 +7,7 @@ use Rattle.pb_model.specs.Store.{Rows, IsShown}
 use Rattle.pb_model.specs.Sound.{IsSound}
 use Rattle.pb_machine.specs.Settings.{weight_of}
 use Rattle.pb_machine.specs.Machine.{Machine}
-use Rattle.pb_homes.specs.Homes.{home_rows}
+use Rattle.pb_bundles.specs.Homes.{home_rows}
 use Rattle.pb_lease.specs.GraphValue.{GraphValue, IsLeaseGraph}
 use Rattle.pb_lease.specs.Choices.{is_out_in}
 use Rattle.pb_lease.specs.Moments.{IsMoment}

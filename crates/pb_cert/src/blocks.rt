@@ -2,18 +2,18 @@
 ghost use Rattle.std.specs.Prelude.{◌≡◌, IsFalse};
 ghost use Rattle.pb_machine.specs.Settings.{weight_of};
 ghost use Rattle.pb_abstract.specs.Graph.{home_of};
-ghost use Rattle.pb_homes.specs.Homes.{home_rows};
+ghost use Rattle.pb_bundles.specs.Homes.{home_rows};
 ghost use Rattle.pb_lease.specs.Tables.{blocks};
 ghost use Rattle.pb_lease.specs.Choices.{is_out_in};
 
 use crate::Store;
-use pb_lease::Graph;
+use pb_lease::LeaseGraph;
 use pb_lists::Bundle;
 use pb_packed::Packed;
 use pb_task::Task;
 
 /// A graph that gives out leases is a store of a part for each block of its abstract graph. It can be read while no lease is out.
-impl Store for Graph {
+impl Store for LeaseGraph {
     ghost parts = { λ g. (blocks g.table).count };
 
     ghost rows = { λ g. home_rows g.homes };

@@ -3,7 +3,7 @@ ghost use Rattle.std.specs.Prelude.{◌≡◌, ◌<◌, ℕ, IsTrue, ⊤};
 ghost use Rattle.pb_model.specs.Store.{Rows};
 ghost use Rattle.pb_model.specs.Weight.{Weight};
 ghost use Rattle.pb_lists.specs.Bundle.{row_of};
-ghost use Rattle.pb_task.specs.declared.parts.Parts.{Parts};
+ghost use Rattle.pb_task.specs.declared.parts.TaskParts.{TaskParts};
 ghost use Rattle.pb_task.specs.Parts.{space_of};
 ghost use Rattle.pb_cert.specs.Store.{HasNoneFrom, one_part_rows};
 
@@ -21,7 +21,7 @@ pub trait Store {
     ghost rows: { Self → Rows };
 
     /// The home of each state of a task: the number of the part in which its row stands, if it has one.
-    ghost home: { Self → Parts → ℕ → ℕ };
+    ghost home: { Self → TaskParts → ℕ → ℕ };
 
     /// The weight of the search.
     ghost weight: { Self → Weight };
@@ -30,7 +30,7 @@ pub trait Store {
     ghost is_whole: { Self → Type 0 } = { λ _. ⊤ };
 
     /// That the store is one of a search of this task.
-    ghost is_of: { Self → Parts → Type 0 } = { λ _ _. ⊤ };
+    ghost is_of: { Self → TaskParts → Type 0 } = { λ _ _. ⊤ };
 
     /// How many parts there are. They are numbered from 0.
     fn parts(&self) -> u32

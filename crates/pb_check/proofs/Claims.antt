@@ -9,7 +9,7 @@ use Rattle.pb_model.specs.Weight.{Weight, IsWeight}
 use Rattle.pb_model.specs.Plan.{Plan}
 use Rattle.pb_model.specs.Certificate.{ClaimHolds}
 use Rattle.pb_model.proofs.Certificates.{valid_certificates_hold}
-use Rattle.pb_check.specs.declared.kind.Kind.{Kind}
+use Rattle.pb_check.specs.declared.kind.TaskKind.{TaskKind}
 use Rattle.pb_check.specs.declared.fault.Verdict.{Verdict}
 use Rattle.pb_check.specs.declared.fault.CheckError.{CheckError}
 use Rattle.pb_check.specs.Judging.{verdict_of, bound_of}
@@ -27,7 +27,7 @@ holds : (space : Space) (weight : Weight) (plan : Option Plan) → IsWeight weig
 holds space weight None is claim = claim
 holds space weight (Some plan) is claim = ((plan, claim.0, refl), λ other also. bounded weight plan.cost other.cost is (claim.1 other also))
 
-shown : (space : Space) (estimate : ℕ → Estimate) (kind : Kind) (bytes : List ℕ) (verdict : Verdict) → IsAdmissible space estimate → IsAccepted space estimate kind bytes verdict → ShowsClaim space kind bytes verdict
+shown : (space : Space) (estimate : ℕ → Estimate) (kind : TaskKind) (bytes : List ℕ) (verdict : Verdict) → IsAdmissible space estimate → IsAccepted space estimate kind bytes verdict → ShowsClaim space kind bytes verdict
 shown space estimate kind bytes verdict admissible is = record {
   certificate = is.certificate;
   spelled = is.spelled;
@@ -36,12 +36,12 @@ shown space estimate kind bytes verdict admissible is = record {
   verdict_is = is.verdict_is;
 }
 
-pub claims : (space : Space) (estimate : ℕ → Estimate) (kind : Kind) (bytes : List ℕ) (r : Result Verdict CheckError) → IsAdmissible space estimate → IfOk r (λ verdict. IsAccepted space estimate kind bytes verdict)
+pub claims : (space : Space) (estimate : ℕ → Estimate) (kind : TaskKind) (bytes : List ℕ) (r : Result Verdict CheckError) → IsAdmissible space estimate → IfOk r (λ verdict. IsAccepted space estimate kind bytes verdict)
     → IfOk r (λ verdict. ShowsClaim space kind bytes verdict)
 claims space estimate kind bytes (Ok verdict) admissible is = shown space estimate kind bytes verdict admissible is
 claims space estimate kind bytes (Err e) admissible is = tt
 
-pub verdicts : (space : Space) (kind : Kind) (bytes : List ℕ) (r : Result Verdict CheckError) → IfOk r (λ verdict. ShowsClaim space kind bytes verdict) → IfOk r (λ verdict. VerdictHolds space verdict)
+pub verdicts : (space : Space) (kind : TaskKind) (bytes : List ℕ) (r : Result Verdict CheckError) → IfOk r (λ verdict. ShowsClaim space kind bytes verdict) → IfOk r (λ verdict. VerdictHolds space verdict)
 verdicts space kind bytes (Ok verdict) is = subst (VerdictHolds space) (sym is.verdict_is) (holds space is.certificate.weight is.certificate.plan is.weight is.claim)
 verdicts space kind bytes (Err e) is = tt
 

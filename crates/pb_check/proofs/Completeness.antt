@@ -13,10 +13,10 @@ use Rattle.pb_model.specs.Weight.{Weight, IsWeight}
 use Rattle.pb_model.specs.Plan.{Plan, Walk, IsPlan}
 use Rattle.pb_model.specs.Store.{MayBeCut}
 use Rattle.pb_model.specs.Certificate.{Line, Ascends, HasLineWithin, IsPlanIfAny, IsClosedLine, IsValid, cost_of}
-use Rattle.pb_check.specs.declared.kind.Kind.{Kind}
-use Rattle.pb_check.specs.declared.kind.Kind.TheVariants.{Grid, Tiles, Strips}
-use Rattle.pb_check.specs.declared.fault.Fault.{Fault}
-use Rattle.pb_check.specs.declared.fault.Fault.TheVariants as faults
+use Rattle.pb_check.specs.declared.kind.TaskKind.{TaskKind}
+use Rattle.pb_check.specs.declared.kind.TaskKind.TheVariants.{Grid, Tiles, Strips}
+use Rattle.pb_check.specs.declared.fault.CertificateFault.{CertificateFault}
+use Rattle.pb_check.specs.declared.fault.CertificateFault.TheVariants as faults
 use Rattle.pb_check.specs.declared.fault.Verdict.{Verdict}
 use Rattle.pb_check.specs.declared.fault.CheckError.{CheckError}
 use Rattle.pb_check.specs.Shown.{IsAccepted}
@@ -27,7 +27,7 @@ use Rattle.pb_check.proofs.Halving.{equal_at}
 use Rattle.pb_check.proofs.Readable.{readable}
 use Rattle.pb_check.proofs.Written.{spells}
 
-kind_same : (a : Kind) → same_kind a a ≡ true
+kind_same : (a : TaskKind) → same_kind a a ≡ true
 kind_same Grid = refl
 kind_same Tiles = refl
 kind_same Strips = refl
@@ -43,7 +43,7 @@ weight_ok weight w = both (leb 1 weight.den) (leb weight.den weight.num && leb w
 self : (n : ℕ) → eqb n n ≡ true
 self n = grind (arith, nat_tests)
 
-pair : (to from cost total : ℕ) → to ≡ from → cost ≡ total → ◌≡◌ {A = Result (ℕ × ℕ) Fault} (Ok (from, cost)) (Ok (to, total))
+pair : (to from cost total : ℕ) → to ≡ from → cost ≡ total → ◌≡◌ {A = Result (ℕ × ℕ) CertificateFault} (Ok (from, cost)) (Ok (to, total))
 pair to from cost total a b = cc
 
 walked : (space : Space) (from done cost : ℕ) (actions : List ℕ) (rest to : ℕ) → Walk space from actions rest to → walk space from done cost actions ≡ Ok (to, cost + rest)
@@ -88,7 +88,7 @@ rows_order_ok : (line : ℕ) (rows : List Line) → Rise rows → rows_order_fau
 rows_order_ok line [] h = refl
 rows_order_ok line (row ∷ rows) h = order_ok (line + 1) row.state rows h
 
-each_ok : (fault : (line : ℕ) → Line → Option Fault) (P : Line → Type 0) (line : ℕ) (rows : List Line) → ((k : ℕ) (row : Line) → P row → fault k row ≡ None) → All P rows → first_fault_by fault line rows ≡ None
+each_ok : (fault : (line : ℕ) → Line → Option CertificateFault) (P : Line → Type 0) (line : ℕ) (rows : List Line) → ((k : ℕ) (row : Line) → P row → fault k row ≡ None) → All P rows → first_fault_by fault line rows ≡ None
 unfolding first_fault_by
 each_ok fault P line [] so h = refl
 each_ok fault P line (row ∷ rows) so h =
@@ -139,7 +139,7 @@ module _ (space : Space) (estimate : ℕ → Estimate) (weight : Weight) (best :
 
 -- ---- all together
 
-judged_ok : (space : Space) (estimate : ℕ → Estimate) (kind : Kind) (text : Text) → text.kind ≡ kind → IsValid space estimate text.certificate → judged space estimate kind text ≡ Ok (verdict_of text.certificate.weight text.certificate.plan)
+judged_ok : (space : Space) (estimate : ℕ → Estimate) (kind : TaskKind) (text : Text) → text.kind ≡ kind → IsValid space estimate text.certificate → judged space estimate kind text ≡ Ok (verdict_of text.certificate.weight text.certificate.plan)
 unfolding judged
 judged_ok space estimate kind text is valid =
     let lines = text.certificate.lines in
@@ -156,12 +156,12 @@ judged_ok space estimate kind text is valid =
     let e7 : first_fault_by (row_fault space estimate weight best lines) text.first lines ≡ None = rows_ok space estimate weight best lines rise text.first lines valid.closed valid.cut in
     rw (e1, e2, e3, e4, e5, e6, e7) refl
 
-accepts : (space : Space) (estimate : ℕ → Estimate) (kind : Kind) (bytes : List ℕ) (verdict : Verdict) → IsAccepted space estimate kind bytes verdict → checked space estimate kind bytes ≡ Ok verdict
+accepts : (space : Space) (estimate : ℕ → Estimate) (kind : TaskKind) (bytes : List ℕ) (verdict : Verdict) → IsAccepted space estimate kind bytes verdict → checked space estimate kind bytes ≡ Ok verdict
 unfolding checked
 accepts space estimate kind bytes verdict is =
     let text : Text = record { kind = kind; certificate = is.certificate; first = 5 + plan_lines is.certificate.plan } in
     ap (λ r. r >>= λ text. judged space estimate kind text) (readable bytes text (spells bytes text is.spelled refl)) ∙ judged_ok space estimate kind text refl is.valid ∙ ap (λ (v : Verdict). Ok v) (sym is.verdict_is)
 
-pub gives_accepted : (space : Space) (estimate : ℕ → Estimate) (kind : Kind) (bytes : List ℕ) (r : Result Verdict CheckError) → Gives (λ x. x) r (checked space estimate kind bytes)
+pub gives_accepted : (space : Space) (estimate : ℕ → Estimate) (kind : TaskKind) (bytes : List ℕ) (r : Result Verdict CheckError) → Gives (λ x. x) r (checked space estimate kind bytes)
     → (verdict : Verdict) → IsAccepted space estimate kind bytes verdict → Gives (λ x. x) r (Ok verdict)
 gives_accepted space estimate kind bytes r e verdict is = subst (Gives (λ x. x) r) (accepts space estimate kind bytes verdict is) e

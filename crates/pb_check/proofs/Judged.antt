@@ -3,9 +3,9 @@ use Rattle.std.proofs.Common.{◌≡◌, ℕ, Bool, Result, Ok, refl, sym, ap, �
 use Rattle.pb_model.specs.declared.row.Estimate.{Estimate}
 use Rattle.pb_model.specs.Space.{Space}
 use Rattle.pb_model.specs.Certificate.{cost_of}
-use Rattle.pb_check.specs.declared.kind.Kind.{Kind}
-use Rattle.pb_check.specs.declared.fault.Fault.{Fault}
-use Rattle.pb_check.specs.declared.fault.Fault.TheVariants as faults
+use Rattle.pb_check.specs.declared.kind.TaskKind.{TaskKind}
+use Rattle.pb_check.specs.declared.fault.CertificateFault.{CertificateFault}
+use Rattle.pb_check.specs.declared.fault.CertificateFault.TheVariants as faults
 use Rattle.pb_check.specs.declared.fault.Verdict.{Verdict}
 use Rattle.pb_check.specs.declared.fault.CheckError.{CheckError}
 use Rattle.pb_check.specs.declared.fault.CheckError.TheVariants as errors
@@ -13,15 +13,15 @@ use Rattle.pb_check.specs.Faults.{◌>>=◌, Fails}
 use Rattle.pb_check.specs.Reading.{Text}
 use Rattle.pb_check.specs.Judging.{passes, unless, same_kind, is_weight, plan_fault_if_any, rows_order_fault, first_fault_by, state_fault, g_of, is_zero, row_fault, verdict_of, judged}
 
-fails_on : (e : CheckError) (first : Result Bool Fault) (rest : Bool → Result Verdict Fault) → Fails e first → Fails e (first >>= rest)
+fails_on : (e : CheckError) (first : Result Bool CertificateFault) (rest : Bool → Result Verdict CertificateFault) → Fails e first → Fails e (first >>= rest)
 fails_on errors.Memory first rest is = tt
 fails_on (errors.Fault fault) first rest is = ap (λ r. r >>= rest) is
 
-module _ (space : Space) (estimate : ℕ → Estimate) (kind : Kind) (text : Text) where
-  abbrev rows_judged : Result Bool Fault
+module _ (space : Space) (estimate : ℕ → Estimate) (kind : TaskKind) (text : Text) where
+  abbrev rows_judged : Result Bool CertificateFault
   rows_judged = passes (first_fault_by (row_fault space estimate text.certificate.weight (cost_of text.certificate.plan) text.certificate.lines) text.first text.certificate.lines)
 
-  abbrev last : Bool → Result Verdict Fault
+  abbrev last : Bool → Result Verdict CertificateFault
   last rows = Ok (verdict_of text.certificate.weight text.certificate.plan)
 
   -- what has passed before the last step

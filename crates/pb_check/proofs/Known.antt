@@ -2,7 +2,7 @@
 use Rattle.std.proofs.Common.{List, ℕ, Result, Ok, Err}
 use Rattle.std.specs.Prelude.{IfOk}
 use Rattle.pb_task.specs.Parts.{space_of, IsTask, greatest_cost}
-use Rattle.pb_task.specs.declared.parts.Parts.{Parts}
+use Rattle.pb_task.specs.declared.parts.TaskParts.{TaskParts}
 use Rattle.pb_task.proofs.Grids.{tasks_are_proper}
 use Rattle.pb_estimate.specs.Estimates.{estimate_of}
 use Rattle.pb_estimate.proofs.Estimates.{estimates_are_admissible}
@@ -16,15 +16,15 @@ use Rattle.pb_check.specs.Shown.{IsAccepted, ShowsClaim}
 use Rattle.pb_check.proofs.Validity.{if_accepted}
 use Rattle.pb_check.proofs.Claims.{claims}
 
-if_proper : (task : Parts) (r : Result Verdict CheckError) → IfOk r (λ verdict. IsTask task) → IfOk r (λ verdict. IsProper (space_of task) greatest_cost)
+if_proper : (task : TaskParts) (r : Result Verdict CheckError) → IfOk r (λ verdict. IsTask task) → IfOk r (λ verdict. IsProper (space_of task) greatest_cost)
 if_proper task (Ok verdict) lawful = (tasks_are_proper task lawful).0
 if_proper task (Err e) lawful = tt
 
-pub accepted : (task : Parts) (bytes : List ℕ) (r : Result Verdict CheckError) → IfOk r (λ verdict. IsTask task) → Gives (λ x. x) r (checked (space_of task) (estimate_of task) (kind_of task) bytes)
+pub accepted : (task : TaskParts) (bytes : List ℕ) (r : Result Verdict CheckError) → IfOk r (λ verdict. IsTask task) → Gives (λ x. x) r (checked (space_of task) (estimate_of task) (kind_of task) bytes)
     → IfOk r (λ verdict. IsAccepted (space_of task) (estimate_of task) (kind_of task) bytes verdict)
 accepted task bytes r lawful exact = if_accepted (space_of task) greatest_cost (estimate_of task) (kind_of task) bytes r (if_proper task r lawful) exact
 
-pub claimed : (task : Parts) (bytes : List ℕ) (r : Result Verdict CheckError) → IfOk r (λ verdict. IsTask task) → Gives (λ x. x) r (checked (space_of task) (estimate_of task) (kind_of task) bytes)
+pub claimed : (task : TaskParts) (bytes : List ℕ) (r : Result Verdict CheckError) → IfOk r (λ verdict. IsTask task) → Gives (λ x. x) r (checked (space_of task) (estimate_of task) (kind_of task) bytes)
     → IfOk r (λ verdict. ShowsClaim (space_of task) (kind_of task) bytes verdict)
 claimed task bytes (Ok verdict) lawful exact =
     claims (space_of task) (estimate_of task) (kind_of task) bytes (Ok verdict) (estimates_are_admissible task lawful) (accepted task bytes (Ok verdict) lawful exact)

@@ -4,8 +4,8 @@ use Rattle.std.specs.List.{list_all}
 use Rattle.pb_model.specs.Weight.{Weight}
 use Rattle.pb_model.specs.Plan.{Plan}
 use Rattle.pb_model.specs.Certificate.{Line}
-use Rattle.pb_check.specs.declared.kind.Kind.{Kind}
-use Rattle.pb_check.specs.declared.kind.Kind.TheVariants.{Grid, Tiles, Strips}
+use Rattle.pb_check.specs.declared.kind.TaskKind.{TaskKind}
+use Rattle.pb_check.specs.declared.kind.TaskKind.TheVariants.{Grid, Tiles, Strips}
 use Rattle.pb_check.specs.Words.{is_digit, is_padded, hex_value}
 use Rattle.pb_check.specs.Reading.{Text, plan_lines}
 
@@ -40,7 +40,7 @@ BeginsWith text line rest = text ≡ line ++ 10 ∷ rest
 abbrev pub BeginsWithNumber : (text piece : List ℕ) (n : ℕ) (rest : List ℕ) → Type 0
 BeginsWithNumber text piece n rest = (word : List ℕ) × IsNumberWord word n × BeginsWith text (piece ++ word) rest
 
-abbrev pub kind_text : Kind → List ℕ
+abbrev pub kind_text : TaskKind → List ℕ
 kind_text Grid = codes "kind grid"
 kind_text Tiles = codes "kind tiles"
 kind_text Strips = codes "kind strips"

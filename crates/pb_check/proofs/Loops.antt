@@ -2,23 +2,23 @@
 use Rattle.std.proofs.Common.{◌≡◌, ℕ, suc, ◌-◌, ◌+◌, ◌≤◌, ◌<◌, List, [], ◌∷◌, ◌++◌, Result, Ok, Err, refl, sym, ap, ◌∙◌, append_assoc, arith}
 use Rattle.std.proofs.lemmas.List.{append-nil}
 use Rattle.pb_model.specs.Certificate.{Line}
-use Rattle.pb_check.specs.declared.fault.Fault.{Fault}
+use Rattle.pb_check.specs.declared.fault.CertificateFault.{CertificateFault}
 use Rattle.pb_check.specs.declared.fault.CheckError.{CheckError}
 use Rattle.pb_check.specs.declared.fault.CheckError.TheVariants as errors
 use Rattle.pb_check.specs.Faults.{◌>>=◌, Fails}
 use Rattle.pb_check.specs.Reading.{number_at, actions_at, row_at, rows_at}
 
 -- what was read before, and what is still read
-abbrev pub with_front : {A : Type 0} → List A → Result (List A × List ℕ) Fault → Result (List A × List ℕ) Fault
+abbrev pub with_front : {A : Type 0} → List A → Result (List A × List ℕ) CertificateFault → Result (List A × List ℕ) CertificateFault
 with_front front read = read >>= λ x. Ok (front ++ x.0, x.1)
 
-regroup : {A : Type 0} (front : List A) (n : A) (read : Result (List A × List ℕ) Fault) → with_front front (read >>= λ x. Ok (n ∷ x.0, x.1)) ≡ with_front (front ++ n ∷ []) read
+regroup : {A : Type 0} (front : List A) (n : A) (read : Result (List A × List ℕ) CertificateFault) → with_front front (read >>= λ x. Ok (n ∷ x.0, x.1)) ≡ with_front (front ++ n ∷ []) read
 regroup {A} front n (Ok x) = ap (λ (ns : List A). Ok (ns, x.1)) (simp append_assoc)
 regroup front n (Err f) = refl
 
 -- ---- actions
 
-pub action_read : (front : List ℕ) (count i line : ℕ) (text : List ℕ) (n : ℕ) (after : List ℕ) (total : Result (List ℕ × List ℕ) Fault) → i < count → number_at (line + i) [] text ≡ Ok (n, after)
+pub action_read : (front : List ℕ) (count i line : ℕ) (text : List ℕ) (n : ℕ) (after : List ℕ) (total : Result (List ℕ × List ℕ) CertificateFault) → i < count → number_at (line + i) [] text ≡ Ok (n, after)
     → with_front front (actions_at (count - i) (line + i) text) ≡ total → with_front (front ++ n ∷ []) (actions_at (count - (i + 1)) (line + (i + 1)) after) ≡ total
 unfolding actions_at
 action_read front count i line text n after total lt h so_far =
@@ -27,7 +27,7 @@ action_read front count i line text n after total lt h so_far =
     let one : with_front front (actions_at (count - i) (line + i) text) ≡ with_front (front ++ n ∷ []) (actions_at (count - (i + 1)) (line + i + 1) after) = rw (k, h) (regroup front n (actions_at (count - (i + 1)) (line + i + 1) after)) in
     rw l (sym one ∙ so_far)
 
-pub action_fails : (e : CheckError) (front : List ℕ) (count i line : ℕ) (text : List ℕ) (total : Result (List ℕ × List ℕ) Fault) → i < count → Fails e (number_at (line + i) [] text)
+pub action_fails : (e : CheckError) (front : List ℕ) (count i line : ℕ) (text : List ℕ) (total : Result (List ℕ × List ℕ) CertificateFault) → i < count → Fails e (number_at (line + i) [] text)
     → with_front front (actions_at (count - i) (line + i) text) ≡ total → Fails e total
 unfolding actions_at
 action_fails errors.Memory front count i line text total lt h so_far = tt
@@ -36,7 +36,7 @@ action_fails (errors.Fault f) front count i line text total lt h so_far =
     let one : with_front front (actions_at (count - i) (line + i) text) ≡ Err f = rw (k, h) refl in
     sym so_far ∙ one
 
-pub actions_done : (front : List ℕ) (count i line : ℕ) (text : List ℕ) (total : Result (List ℕ × List ℕ) Fault) → count ≤ i → with_front front (actions_at (count - i) (line + i) text) ≡ total → total ≡ Ok (front, text)
+pub actions_done : (front : List ℕ) (count i line : ℕ) (text : List ℕ) (total : Result (List ℕ × List ℕ) CertificateFault) → count ≤ i → with_front front (actions_at (count - i) (line + i) text) ≡ total → total ≡ Ok (front, text)
 unfolding actions_at
 actions_done front count i line text total le so_far =
     let k : count - i ≡ 0 = omega arith in
@@ -45,7 +45,7 @@ actions_done front count i line text total le so_far =
 
 -- ---- rows
 
-pub row_read : (front : List Line) (count i line : ℕ) (text : List ℕ) (n : Line) (after : List ℕ) (total : Result (List Line × List ℕ) Fault) → i < count → row_at (line + i) text ≡ Ok (n, after)
+pub row_read : (front : List Line) (count i line : ℕ) (text : List ℕ) (n : Line) (after : List ℕ) (total : Result (List Line × List ℕ) CertificateFault) → i < count → row_at (line + i) text ≡ Ok (n, after)
     → with_front front (rows_at (count - i) (line + i) text) ≡ total → with_front (front ++ n ∷ []) (rows_at (count - (i + 1)) (line + (i + 1)) after) ≡ total
 unfolding rows_at
 row_read front count i line text n after total lt h so_far =
@@ -54,7 +54,7 @@ row_read front count i line text n after total lt h so_far =
     let one : with_front front (rows_at (count - i) (line + i) text) ≡ with_front (front ++ n ∷ []) (rows_at (count - (i + 1)) (line + i + 1) after) = rw (k, h) (regroup front n (rows_at (count - (i + 1)) (line + i + 1) after)) in
     rw l (sym one ∙ so_far)
 
-pub row_fails : (e : CheckError) (front : List Line) (count i line : ℕ) (text : List ℕ) (total : Result (List Line × List ℕ) Fault) → i < count → Fails e (row_at (line + i) text)
+pub row_fails : (e : CheckError) (front : List Line) (count i line : ℕ) (text : List ℕ) (total : Result (List Line × List ℕ) CertificateFault) → i < count → Fails e (row_at (line + i) text)
     → with_front front (rows_at (count - i) (line + i) text) ≡ total → Fails e total
 unfolding rows_at
 row_fails errors.Memory front count i line text total lt h so_far = tt
@@ -63,7 +63,7 @@ row_fails (errors.Fault f) front count i line text total lt h so_far =
     let one : with_front front (rows_at (count - i) (line + i) text) ≡ Err f = rw (k, h) refl in
     sym so_far ∙ one
 
-pub rows_done : (front : List Line) (count i line : ℕ) (text : List ℕ) (total : Result (List Line × List ℕ) Fault) → count ≤ i → with_front front (rows_at (count - i) (line + i) text) ≡ total → total ≡ Ok (front, text)
+pub rows_done : (front : List Line) (count i line : ℕ) (text : List ℕ) (total : Result (List Line × List ℕ) CertificateFault) → count ≤ i → with_front front (rows_at (count - i) (line + i) text) ≡ total → total ≡ Ok (front, text)
 unfolding rows_at
 rows_done front count i line text total le so_far =
     let k : count - i ≡ 0 = omega arith in

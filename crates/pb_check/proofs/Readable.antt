@@ -8,10 +8,10 @@ use Rattle.std.proofs.lemmas.Bool.Decides.{nat_tests}
 use Rattle.pb_model.specs.Weight.{Weight}
 use Rattle.pb_model.specs.Plan.{Plan}
 use Rattle.pb_model.specs.Certificate.{Line}
-use Rattle.pb_check.specs.declared.kind.Kind.{Kind}
-use Rattle.pb_check.specs.declared.kind.Kind.TheVariants.{Grid, Tiles, Strips}
-use Rattle.pb_check.specs.declared.fault.Fault.{Fault}
-use Rattle.pb_check.specs.declared.fault.Fault.TheVariants.{Syntax}
+use Rattle.pb_check.specs.declared.kind.TaskKind.{TaskKind}
+use Rattle.pb_check.specs.declared.kind.TaskKind.TheVariants.{Grid, Tiles, Strips}
+use Rattle.pb_check.specs.declared.fault.CertificateFault.{CertificateFault}
+use Rattle.pb_check.specs.declared.fault.CertificateFault.TheVariants.{Syntax}
 use Rattle.pb_check.specs.Words.{place_of, behind, is_digit, is_padded, number_after, number_of, hex_value, hex_after, state_of}
 use Rattle.pb_check.specs.Faults.{◌>>=◌, wanted}
 use Rattle.pb_check.specs.Reading.{part, line_at, is_all, is_text, number_behind, kind_in, weight_in, closed_in, row_in, fixed_at, number_at, kind_at, weight_at, row_at, actions_at, rows_at, steps_at, plan_at, plan_lines, Text, end_at, body_at, text_of}
@@ -116,7 +116,7 @@ state_has_none byte (b ∷ bs) small e = let c = conjuncts (ltb (hex_value b) 16
 
 -- ---- lines
 
-abbrev fine : {A : Type 0} → A → Result A Fault
+abbrev fine : {A : Type 0} → A → Result A CertificateFault
 fine x = Ok x
 
 line_again : (line : ℕ) (text first rest : List ℕ) → BeginsWith text first rest → has_none 10 first ≡ true → line_at line text ≡ Ok (first, rest)
@@ -139,19 +139,19 @@ number_line_again line piece text n rest none is =
 
 -- ---- what a line says
 
-abbrev fine_weight : (num den : ℕ) → Result Weight Fault
+abbrev fine_weight : (num den : ℕ) → Result Weight CertificateFault
 fine_weight num den = Ok (record { num = num; den = den })
 
-abbrev fine_row : (state g : ℕ) → Bool → Result Line Fault
+abbrev fine_row : (state g : ℕ) → Bool → Result Line CertificateFault
 fine_row state g is_closed = Ok (record { state = state; g = g; is_closed = is_closed })
 
-kind_again : (line : ℕ) (k : Kind) → kind_in line (kind_text k) ≡ Ok k
+kind_again : (line : ℕ) (k : TaskKind) → kind_in line (kind_text k) ≡ Ok k
 unfolding kind_in behind
 kind_again line Grid = refl
 kind_again line Tiles = refl
 kind_again line Strips = refl
 
-kind_none : (k : Kind) → has_none 10 (kind_text k) ≡ true
+kind_none : (k : TaskKind) → has_none 10 (kind_text k) ≡ true
 kind_none Grid = refl
 kind_none Tiles = refl
 kind_none Strips = refl
@@ -184,7 +184,7 @@ weight_none text w is = ap (has_none 10) is.line_is
 row_again : (line : ℕ) (text : List ℕ) (row : Line) → IsRowLine text row → row_in line text ≡ Ok row
 unfolding row_in
 row_again line text row is =
-    let end_of = λ (state g : ℕ) (r : Result Bool Fault). r >>= λ is_closed. fine_row state g is_closed in
+    let end_of = λ (state g : ℕ) (r : Result Bool CertificateFault). r >>= λ is_closed. fine_row state g is_closed in
     let g_of = λ (state : ℕ) (o : Option ℕ). wanted line o >>= λ g. end_of state g (closed_in line (closed_text row.is_closed)) in
     let state_of_word = λ (o : Option ℕ). wanted line o >>= λ state. g_of state (number_of is.g) in
     let back_of = λ (o : Option (List ℕ × List ℕ)). wanted line o >>= λ back. wanted line (state_of is.state) >>= λ state. wanted line (number_of back.0) >>= λ g. end_of state g (closed_in line back.1) in
@@ -233,7 +233,7 @@ plan_again line text None rest is =
 plan_again line text (Some plan) rest is =
     let word = is.2.0 in
     let first = codes "plan " ++ word in
-    let after = λ (r : Result ℕ Fault). r >>= λ count. steps_at count (line + 1) is.0 >>= λ plan. fine (Some plan.0, plan.1) in
+    let after = λ (r : Result ℕ CertificateFault). r >>= λ count. steps_at count (line + 1) is.0 >>= λ plan. fine (Some plan.0, plan.1) in
     let steps : steps_at (length plan.actions) (line + 1) is.0 ≡ Ok (plan, rest) =
     ap (λ r. r >>= λ actions. number_at (line + 1 + length actions.0) (codes "cost ") actions.1 >>= λ cost. fine (record { actions = actions.0; cost = cost.0 }, cost.1)) (actions_again (line + 1) is.0 plan.actions is.1 is.3)
     ∙ ap (λ r. r >>= λ cost. fine (record { actions = plan.actions; cost = cost.0 }, cost.1)) (number_line_again (line + 1 + length plan.actions) (codes "cost ") is.1 plan.cost rest refl is.4) in

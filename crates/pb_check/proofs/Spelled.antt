@@ -7,16 +7,16 @@ use Rattle.std.proofs.lemmas.Bool.{eqb-true, ltb-true}
 use Rattle.pb_model.specs.Weight.{Weight}
 use Rattle.pb_model.specs.Plan.{Plan}
 use Rattle.pb_model.specs.Certificate.{Line}
-use Rattle.pb_check.specs.declared.kind.Kind.{Kind}
-use Rattle.pb_check.specs.declared.kind.Kind.TheVariants.{Grid, Tiles, Strips}
-use Rattle.pb_check.specs.declared.fault.Fault.{Fault}
-use Rattle.pb_check.specs.declared.fault.Fault.TheVariants.{Syntax}
+use Rattle.pb_check.specs.declared.kind.TaskKind.{TaskKind}
+use Rattle.pb_check.specs.declared.kind.TaskKind.TheVariants.{Grid, Tiles, Strips}
+use Rattle.pb_check.specs.declared.fault.CertificateFault.{CertificateFault}
+use Rattle.pb_check.specs.declared.fault.CertificateFault.TheVariants.{Syntax}
 use Rattle.pb_check.specs.Words.{place_of, behind, is_digit, is_padded, number_after, number_of, hex_value, hex_after, state_of}
 use Rattle.pb_check.specs.Faults.{◌>>=◌, wanted}
 use Rattle.pb_check.specs.Reading.{part, line_at, is_all, is_text, number_behind, kind_in, weight_in, closed_in, row_in, fixed_at, number_at, kind_at, weight_at, row_at, actions_at, rows_at, steps_at, plan_at, plan_lines, Text, end_at, body_at, text_of}
 use Rattle.pb_check.proofs.Lines.{value_after, hex_value_after, IsNumberWord, IsStateWord, BeginsWith, BeginsWithNumber, kind_text, closed_text, IsWeightLine, IsRowLine, AreActionLines, AreRowLines, ArePlanLines, Spells}
 
-bind_ok : {A B : Type 0} (r : Result A Fault) (f : A → Result B Fault) (y : B) → (r >>= f) ≡ Ok y → (x : A) × (r ≡ Ok x) × (f x ≡ Ok y)
+bind_ok : {A B : Type 0} (r : Result A CertificateFault) (f : A → Result B CertificateFault) (y : B) → (r >>= f) ≡ Ok y → (x : A) × (r ≡ Ok x) × (f x ≡ Ok y)
 bind_ok (Ok x) f y e = (x, refl, e)
 bind_ok (Err d) f y e = absurd cc
 
@@ -24,16 +24,16 @@ wanted_ok : {A : Type 0} (line : ℕ) (o : Option A) (x : A) → wanted line o �
 wanted_ok line None x e = absurd cc
 wanted_ok {A} line (Some y) x e = ap (λ (z : A). Some z) (go y x e)
   where
-    go : (y x : A) → ◌≡◌ {A = Result A Fault} (Ok y) (Ok x) → y ≡ x
+    go : (y x : A) → ◌≡◌ {A = Result A CertificateFault} (Ok y) (Ok x) → y ≡ x
     go y x e = cc
 
-ok_is : {A : Type 0} (x y : A) → ◌≡◌ {A = Result A Fault} (Ok x) (Ok y) → x ≡ y
+ok_is : {A : Type 0} (x y : A) → ◌≡◌ {A = Result A CertificateFault} (Ok x) (Ok y) → x ≡ y
 ok_is x y e = cc
 
 some_is : {A : Type 0} (x y : A) → ◌≡◌ {A = Option A} (Some x) (Some y) → x ≡ y
 some_is x y e = cc
 
-guard_ok : {A : Type 0} (b : Bool) (d : Fault) (x y : A) → cond b (Ok x) (Err d) ≡ Ok y → (b ≡ true) × (x ≡ y)
+guard_ok : {A : Type 0} (b : Bool) (d : CertificateFault) (x y : A) → cond b (Ok x) (Err d) ≡ Ok y → (b ≡ true) × (x ≡ y)
 guard_ok true d x y e = (refl, ok_is x y e)
 guard_ok false d x y e = absurd cc
 
@@ -159,7 +159,7 @@ closed_is line text c e = go (is_text (codes "closed") text) (is_text (codes "cu
     go false true x y e = text_is (codes "cut") text y ∙ ap closed_text (ok_is false c e)
     go false false x y e = absurd cc
 
-kind_is : (line : ℕ) (text : List ℕ) (k : Kind) → kind_in line text ≡ Ok k → text ≡ kind_text k
+kind_is : (line : ℕ) (text : List ℕ) (k : TaskKind) → kind_in line text ≡ Ok k → text ≡ kind_text k
 unfolding kind_in
 kind_is line text k e = go (is_text (codes "kind grid") text) (is_text (codes "kind tiles") text) (is_text (codes "kind strips") text) refl refl refl e
   where
@@ -203,12 +203,12 @@ row_is line text row e =
       g_is = number_is b.0.0 d.0 (wanted_ok line (number_of b.0.0) d.0 d.1);
     })
 
-kind_line_is : (line : ℕ) (text : List ℕ) (x : Kind × List ℕ) → kind_at line text ≡ Ok x → BeginsWith text (kind_text x.0) x.1
+kind_line_is : (line : ℕ) (text : List ℕ) (x : TaskKind × List ℕ) → kind_at line text ≡ Ok x → BeginsWith text (kind_text x.0) x.1
 unfolding kind_at
 kind_line_is line text x e =
     let b = bind_ok (line_at line text) _ x e in
     let c = bind_ok (kind_in line b.0.0) _ x b.2 in
-    subst (λ (y : Kind × List ℕ). BeginsWith text (kind_text y.0) y.1) (ok_is (c.0, b.0.1) x c.2) (line_is line text b.0 b.1 ∙ ap (λ (t : List ℕ). t ++ 10 ∷ b.0.1) (kind_is line b.0.0 c.0 c.1))
+    subst (λ (y : TaskKind × List ℕ). BeginsWith text (kind_text y.0) y.1) (ok_is (c.0, b.0.1) x c.2) (line_is line text b.0 b.1 ∙ ap (λ (t : List ℕ). t ++ 10 ∷ b.0.1) (kind_is line b.0.0 c.0 c.1))
 
 weight_line_is : (line : ℕ) (text : List ℕ) (x : Weight × List ℕ) → weight_at line text ≡ Ok x → (words : List ℕ) × BeginsWith text words x.1 × IsWeightLine words x.0
 unfolding weight_at

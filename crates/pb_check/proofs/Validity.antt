@@ -14,10 +14,10 @@ use Rattle.pb_model.specs.Weight.{Weight, IsWeight}
 use Rattle.pb_model.specs.Plan.{Plan, Walk, IsPlan}
 use Rattle.pb_model.specs.Store.{MayBeCut}
 use Rattle.pb_model.specs.Certificate.{Line, Ascends, HasLineWithin, IsPlanIfAny, IsClosedLine, IsValid, cost_of}
-use Rattle.pb_check.specs.declared.kind.Kind.{Kind}
-use Rattle.pb_check.specs.declared.kind.Kind.TheVariants.{Grid, Tiles, Strips}
-use Rattle.pb_check.specs.declared.fault.Fault.{Fault}
-use Rattle.pb_check.specs.declared.fault.Fault.TheVariants as faults
+use Rattle.pb_check.specs.declared.kind.TaskKind.{TaskKind}
+use Rattle.pb_check.specs.declared.kind.TaskKind.TheVariants.{Grid, Tiles, Strips}
+use Rattle.pb_check.specs.declared.fault.CertificateFault.{CertificateFault}
+use Rattle.pb_check.specs.declared.fault.CertificateFault.TheVariants as faults
 use Rattle.pb_check.specs.declared.fault.Verdict.{Verdict}
 use Rattle.std.specs.Prelude.{IfOk}
 use Rattle.pb_check.specs.declared.fault.CheckError.{CheckError}
@@ -32,19 +32,19 @@ use Rattle.pb_check.proofs.Written.{is_spelled}
 
 -- ---- steps of a chain that did not fail
 
-bind_ok : {A B : Type 0} (r : Result A Fault) (f : A → Result B Fault) (y : B) → (r >>= f) ≡ Ok y → (x : A) × (r ≡ Ok x) × (f x ≡ Ok y)
+bind_ok : {A B : Type 0} (r : Result A CertificateFault) (f : A → Result B CertificateFault) (y : B) → (r >>= f) ≡ Ok y → (x : A) × (r ≡ Ok x) × (f x ≡ Ok y)
 bind_ok (Ok x) f y e = (x, refl, e)
 bind_ok (Err d) f y e = absurd cc
 
-passed : (fault : Option Fault) (x : Bool) → passes fault ≡ Ok x → fault ≡ None
+passed : (fault : Option CertificateFault) (x : Bool) → passes fault ≡ Ok x → fault ≡ None
 passed None x e = refl
 passed (Some f) x e = absurd cc
 
-holds : (b : Bool) (f : Fault) → unless b f ≡ None → b ≡ true
+holds : (b : Bool) (f : CertificateFault) → unless b f ≡ None → b ≡ true
 holds true f e = refl
 holds false f e = absurd cc
 
-first_none : (a b : Option Fault) → or_then a b ≡ None → (a ≡ None) × (b ≡ None)
+first_none : (a b : Option CertificateFault) → or_then a b ≡ None → (a ≡ None) × (b ≡ None)
 first_none None b e = (refl, e)
 first_none (Some f) b e = absurd cc
 
@@ -55,12 +55,12 @@ conjuncts false b e = absurd cc
 some_is : {A : Type 0} (x y : A) → ◌≡◌ {A = Option A} (Some x) (Some y) → x ≡ y
 some_is x y e = cc
 
-ok_is : {A : Type 0} (x y : A) → ◌≡◌ {A = Result A Fault} (Ok x) (Ok y) → x ≡ y
+ok_is : {A : Type 0} (x y : A) → ◌≡◌ {A = Result A CertificateFault} (Ok x) (Ok y) → x ≡ y
 ok_is x y e = cc
 
 -- ---- kind and weight
 
-kinds_same : (a b : Kind) → same_kind a b ≡ true → b ≡ a
+kinds_same : (a b : TaskKind) → same_kind a b ≡ true → b ≡ a
 kinds_same Grid Grid e = refl
 kinds_same Tiles Tiles e = refl
 kinds_same Strips Strips e = refl
@@ -124,7 +124,7 @@ unfolding IsStrictlySortedBy
 ascends [] h = tt
 ascends (row ∷ rows) h = (all_above row.state rows h, ascends_above row.state rows h)
 
-each : (fault : (line : ℕ) → Line → Option Fault) (P : Line → Type 0) (line : ℕ) (rows : List Line) → ((k : ℕ) (row : Line) → fault k row ≡ None → P row) → first_fault_by fault line rows ≡ None → All P rows
+each : (fault : (line : ℕ) → Line → Option CertificateFault) (P : Line → Type 0) (line : ℕ) (rows : List Line) → ((k : ℕ) (row : Line) → fault k row ≡ None → P row) → first_fault_by fault line rows ≡ None → All P rows
 unfolding first_fault_by
 each fault P line [] so e = All-nil P
 each fault P line (row ∷ rows) so e =
@@ -192,11 +192,11 @@ module _ (space : Space) (greatest : ℕ) (estimate : ℕ → Estimate) (weight 
             on_target rows line action to (row.g + cost) (sym (ap (step_fault rows line row.g action) step) ∙ p);
       }
     where
-      then_is : (b : Bool) (x y : Option Fault) → b ≡ true → cond b x y ≡ None → x ≡ None
+      then_is : (b : Bool) (x y : Option CertificateFault) → b ≡ true → cond b x y ≡ None → x ≡ None
       then_is true x y b e = e
       then_is false x y b e = absurd cc
 
-      no_goal : (b : Bool) (f : Fault) (rest : Option Fault) → cond b (Some f) rest ≡ None → (b ≡ false) × (rest ≡ None)
+      no_goal : (b : Bool) (f : CertificateFault) (rest : Option CertificateFault) → cond b (Some f) rest ≡ None → (b ≡ false) × (rest ≡ None)
       no_goal true f rest e = absurd cc
       no_goal false f rest e = (refl, e)
 
@@ -206,13 +206,13 @@ module _ (space : Space) (greatest : ℕ) (estimate : ℕ → Estimate) (weight 
       cuts weight best row.g (estimate row.state) (holds (may_be_cut weight best row.g (estimate row.state)) (faults.Low line)
       (else_is row.is_closed (cond (space.is_goal row.state) (Some (faults.GoalClosed line)) (steps_fault space rows line row.g row.state space.actions)) (unless (may_be_cut weight best row.g (estimate row.state)) (faults.Low line)) is_open e))
     where
-      else_is : (b : Bool) (x y : Option Fault) → b ≡ false → cond b x y ≡ None → y ≡ None
+      else_is : (b : Bool) (x y : Option CertificateFault) → b ≡ false → cond b x y ≡ None → y ≡ None
       else_is false x y b e = e
       else_is true x y b e = absurd cc
 
 -- ---- all together
 
-pub judged_valid : (space : Space) (greatest : ℕ) (estimate : ℕ → Estimate) (kind : Kind) (text : Text) (verdict : Verdict) → IsProper space greatest → judged space estimate kind text ≡ Ok verdict
+pub judged_valid : (space : Space) (greatest : ℕ) (estimate : ℕ → Estimate) (kind : TaskKind) (text : Text) (verdict : Verdict) → IsProper space greatest → judged space estimate kind text ≡ Ok verdict
     → (text.kind ≡ kind) × IsValid space estimate text.certificate × (verdict ≡ verdict_of text.certificate.weight text.certificate.plan)
 unfolding judged
 judged_valid space greatest estimate kind text verdict proper e =
@@ -239,7 +239,7 @@ judged_valid space greatest estimate kind text verdict proper e =
       sym (ok_is (verdict_of weight text.certificate.plan) verdict b7.2),
     )
 
-pub accepted : (space : Space) (greatest : ℕ) (estimate : ℕ → Estimate) (kind : Kind) (bytes : List ℕ) (verdict : Verdict) → IsProper space greatest → checked space estimate kind bytes ≡ Ok verdict → IsAccepted space estimate kind bytes verdict
+pub accepted : (space : Space) (greatest : ℕ) (estimate : ℕ → Estimate) (kind : TaskKind) (bytes : List ℕ) (verdict : Verdict) → IsProper space greatest → checked space estimate kind bytes ≡ Ok verdict → IsAccepted space estimate kind bytes verdict
 unfolding checked
 accepted space greatest estimate kind bytes verdict proper e =
     let b = bind_ok (text_of bytes) (λ text. judged space estimate kind text) verdict e in
@@ -251,7 +251,7 @@ accepted space greatest estimate kind bytes verdict proper e =
       verdict_is = v.2;
     }
 
-pub if_accepted : (space : Space) (greatest : ℕ) (estimate : ℕ → Estimate) (kind : Kind) (bytes : List ℕ) (r : Result Verdict CheckError) → IfOk r (λ verdict. IsProper space greatest) → Gives (λ x. x) r (checked space estimate kind bytes)
+pub if_accepted : (space : Space) (greatest : ℕ) (estimate : ℕ → Estimate) (kind : TaskKind) (bytes : List ℕ) (r : Result Verdict CheckError) → IfOk r (λ verdict. IsProper space greatest) → Gives (λ x. x) r (checked space estimate kind bytes)
     → IfOk r (λ verdict. IsAccepted space estimate kind bytes verdict)
 if_accepted space greatest estimate kind bytes (Ok verdict) proper e = accepted space greatest estimate kind bytes verdict proper e
 if_accepted space greatest estimate kind bytes (Err fault) proper e = tt

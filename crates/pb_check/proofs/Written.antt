@@ -8,8 +8,8 @@ use Rattle.pb_model.specs.Weight.{Weight}
 use Rattle.pb_model.specs.Plan.{Plan}
 use Rattle.pb_model.specs.Certificate.{Line, Certificate}
 use Rattle.pb_model.specs.Texts as texts
-use Rattle.pb_check.specs.declared.kind.Kind.{Kind}
-use Rattle.pb_check.specs.declared.kind.Kind.TheVariants.{Grid, Tiles, Strips}
+use Rattle.pb_check.specs.declared.kind.TaskKind.{TaskKind}
+use Rattle.pb_check.specs.declared.kind.TaskKind.TheVariants.{Grid, Tiles, Strips}
 use Rattle.pb_check.specs.Kinds.{kind_name}
 use Rattle.pb_check.specs.Reading.{Text, plan_lines}
 use Rattle.pb_check.specs.Spelling.{PlanFitsIfAny, IsSpelled, ReadAsSpelled}
@@ -150,7 +150,7 @@ line_of_weight weight small = record {
 
 -- ---- all together
 
-kind_is : (kind : Kind) → kind_text kind ≡ codes "kind " ++ kind_name kind
+kind_is : (kind : TaskKind) → kind_text kind ≡ codes "kind " ++ kind_name kind
 kind_is Grid = refl
 kind_is Tiles = refl
 kind_is Strips = refl
@@ -194,10 +194,10 @@ from_plan c = texts.plan_text c.plan ++ from_count c
 abbrev from_weight : Certificate → List ℕ
 from_weight c = weight_words c ++ 10 ∷ from_plan c
 
-abbrev from_kind : Kind → Certificate → List ℕ
+abbrev from_kind : TaskKind → Certificate → List ℕ
 from_kind kind c = (codes "kind " ++ kind_name kind) ++ 10 ∷ from_weight c
 
-whole : (kind : Kind) (c : Certificate) → texts.certificate_text (texts.head_1 (kind_name kind)) 64 c ≡ codes "pbnf-certificate 1" ++ 10 ∷ from_kind kind c
+whole : (kind : TaskKind) (c : Certificate) → texts.certificate_text (texts.head_1 (kind_name kind)) 64 c ≡ codes "pbnf-certificate 1" ++ 10 ∷ from_kind kind c
 whole kind c = cat (codes "pbnf-certificate 1") (codes "kind " ++ kind_name kind) (weight_words c) (texts.plan_text c.plan) (count_words c) (row_lines c) end_line
 
 pub is_spelled : (bytes : List ℕ) (text : Text) → Spells bytes text → IsSpelled bytes text.kind text.certificate

@@ -6,30 +6,30 @@ use Rattle.pb_model.specs.Space.{Space}
 use Rattle.pb_model.specs.Weight.{Weight}
 use Rattle.pb_model.specs.Plan.{Plan}
 use Rattle.pb_model.specs.Certificate.{Line, cost_of}
-use Rattle.pb_check.specs.declared.kind.Kind.{Kind}
-use Rattle.pb_check.specs.declared.kind.Kind.TheVariants.{Grid, Tiles, Strips}
-use Rattle.pb_check.specs.declared.fault.Fault.{Fault}
-use Rattle.pb_check.specs.declared.fault.Fault.TheVariants as faults
+use Rattle.pb_check.specs.declared.kind.TaskKind.{TaskKind}
+use Rattle.pb_check.specs.declared.kind.TaskKind.TheVariants.{Grid, Tiles, Strips}
+use Rattle.pb_check.specs.declared.fault.CertificateFault.{CertificateFault}
+use Rattle.pb_check.specs.declared.fault.CertificateFault.TheVariants as faults
 use Rattle.pb_check.specs.declared.fault.Verdict.{Verdict}
 use Rattle.pb_check.specs.declared.fault.Verdict.TheVariants.{Bounded, Unsolvable}
 use Rattle.pb_check.specs.Faults.{◌>>=◌}
 use Rattle.pb_check.specs.Reading.{Text, text_of}
 
 -- no fault, or this one
-abbrev pub passes : Option Fault → Result Bool Fault
+abbrev pub passes : Option CertificateFault → Result Bool CertificateFault
 passes None = Ok true
 passes (Some fault) = Err fault
 
 -- the first of two faults
-abbrev pub or_then : Option Fault → Option Fault → Option Fault
+abbrev pub or_then : Option CertificateFault → Option CertificateFault → Option CertificateFault
 or_then None other = other
 or_then (Some fault) other = Some fault
 
-abbrev pub unless : Bool → Fault → Option Fault
+abbrev pub unless : Bool → CertificateFault → Option CertificateFault
 unless true fault = None
 unless false fault = Some fault
 
-abbrev pub same_kind : Kind → Kind → Bool
+abbrev pub same_kind : TaskKind → TaskKind → Bool
 same_kind Grid Grid = true
 same_kind Tiles Tiles = true
 same_kind Strips Strips = true
@@ -46,42 +46,42 @@ is_weight weight = nat_le 1 weight.den && (nat_le weight.den weight.num && nat_l
 -- ---- the plan
 
 -- goes on behind a step, if it is one
-abbrev pub after_step : (done : ℕ) → ((next first : ℕ) → Result (ℕ × ℕ) Fault) → Option (ℕ × ℕ) → Result (ℕ × ℕ) Fault
+abbrev pub after_step : (done : ℕ) → ((next first : ℕ) → Result (ℕ × ℕ) CertificateFault) → Option (ℕ × ℕ) → Result (ℕ × ℕ) CertificateFault
 after_step done rest None = Err (faults.PlanStep done)
 after_step done rest (Some step) = rest step.0 step.1
 
 -- where the actions lead, and at what cost, behind so many steps of this cost; or the first step that is none
-unfoldable pub walk : Space → (from done cost : ℕ) → List ℕ → Result (ℕ × ℕ) Fault
+unfoldable pub walk : Space → (from done cost : ℕ) → List ℕ → Result (ℕ × ℕ) CertificateFault
 walk space from done cost [] = Ok (from, cost)
 walk space from done cost (action ∷ actions) = after_step done (λ next first. walk space next (done + 1) (cost + first) actions) (space.step from action)
 
-unfoldable pub plan_fault : Space → Plan → Result Bool Fault
+unfoldable pub plan_fault : Space → Plan → Result Bool CertificateFault
 plan_fault space plan = do
   walked ← walk space space.start 0 0 plan.actions
   goal ← passes (unless (space.is_goal walked.0) faults.NotGoal)
   passes (unless (plan.cost == walked.1) (faults.Cost plan.cost walked.1))
 
-abbrev pub plan_fault_if_any : Space → Option Plan → Result Bool Fault
+abbrev pub plan_fault_if_any : Space → Option Plan → Result Bool CertificateFault
 plan_fault_if_any space None = Ok true
 plan_fault_if_any space (Some plan) = plan_fault space plan
 
 -- ---- the rows
 
 -- the first row whose state is not above that of the row before it
-unfoldable pub order_fault : (line before : ℕ) → List Line → Option Fault
+unfoldable pub order_fault : (line before : ℕ) → List Line → Option CertificateFault
 order_fault line before [] = None
 order_fault line before (row ∷ rows) = if nat_lt before row.state then order_fault (line + 1) row.state rows else Some (faults.RowOrder line)
 
-abbrev pub rows_order_fault : (line : ℕ) → List Line → Option Fault
+abbrev pub rows_order_fault : (line : ℕ) → List Line → Option CertificateFault
 rows_order_fault line [] = None
 rows_order_fault line (row ∷ rows) = order_fault (line + 1) row.state rows
 
 -- the first fault of the rows, by what is the fault of a row in its line
-unfoldable pub first_fault_by : ((line : ℕ) → Line → Option Fault) → (line : ℕ) → List Line → Option Fault
+unfoldable pub first_fault_by : ((line : ℕ) → Line → Option CertificateFault) → (line : ℕ) → List Line → Option CertificateFault
 first_fault_by fault line [] = None
 first_fault_by fault line (row ∷ rows) = or_then (fault line row) (first_fault_by fault (line + 1) rows)
 
-abbrev pub state_fault : Space → (line : ℕ) → Line → Option Fault
+abbrev pub state_fault : Space → (line : ℕ) → Line → Option CertificateFault
 state_fault space line row = unless (space.is_state row.state) (faults.BadState line)
 
 -- the states of the rows rise, from above this one on
@@ -103,16 +103,16 @@ is_zero None = false
 is_zero (Some g) = g == 0
 
 -- the fault of a step to a state that has this g, if it has a row
-abbrev pub target_fault : (line action most : ℕ) → Option ℕ → Option Fault
+abbrev pub target_fault : (line action most : ℕ) → Option ℕ → Option CertificateFault
 target_fault line action most None = Some (faults.Missing line action)
 target_fault line action most (Some g) = unless (nat_le g most) (faults.TooDear line action)
 
-abbrev pub step_fault : (rows : List Line) → (line g action : ℕ) → Option (ℕ × ℕ) → Option Fault
+abbrev pub step_fault : (rows : List Line) → (line g action : ℕ) → Option (ℕ × ℕ) → Option CertificateFault
 step_fault rows line g action None = None
 step_fault rows line g action (Some step) = target_fault line action (g + step.1) (g_of rows step.0)
 
 -- the fault of the first action below a number that has one
-unfoldable pub steps_fault : Space → (rows : List Line) → (line g state count : ℕ) → Option Fault
+unfoldable pub steps_fault : Space → (rows : List Line) → (line g state count : ℕ) → Option CertificateFault
 steps_fault space rows line g state zero = None
 steps_fault space rows line g state (suc action) = or_then (steps_fault space rows line g state action) (step_fault rows line g action (space.step state action))
 
@@ -122,7 +122,7 @@ may_be_cut weight None g (Cost h) = false
 may_be_cut weight (Some best) g (Cost h) = nat_le (weight.den * best) (weight.num * (g + h))
 
 -- the fault of a row, judged against all rows
-unfoldable pub row_fault : Space → (estimate : ℕ → Estimate) → Weight → (best : Option ℕ) → (rows : List Line) → (line : ℕ) → Line → Option Fault
+unfoldable pub row_fault : Space → (estimate : ℕ → Estimate) → Weight → (best : Option ℕ) → (rows : List Line) → (line : ℕ) → Line → Option CertificateFault
 row_fault space estimate weight best rows line row =
     if row.is_closed
     then (if space.is_goal row.state then Some (faults.GoalClosed line) else steps_fault space rows line row.g row.state space.actions)
@@ -138,7 +138,7 @@ abbrev pub verdict_of : Weight → Option Plan → Verdict
 verdict_of weight None = Unsolvable
 verdict_of weight (Some plan) = Bounded plan.cost (bound_of weight plan.cost)
 
-unfoldable pub judged : Space → (estimate : ℕ → Estimate) → (kind : Kind) → Text → Result Verdict Fault
+unfoldable pub judged : Space → (estimate : ℕ → Estimate) → (kind : TaskKind) → Text → Result Verdict CertificateFault
 judged space estimate kind text = do
   kinds ← passes (unless (same_kind kind text.kind) faults.Kind)
   weights ← passes (unless (is_weight text.certificate.weight) faults.Weight)
@@ -150,5 +150,5 @@ judged space estimate kind text = do
   Ok (verdict_of text.certificate.weight text.certificate.plan)
 
 -- the verdict on the bytes, or their first fault
-unfoldable pub checked : Space → (estimate : ℕ → Estimate) → (kind : Kind) → (bytes : List ℕ) → Result Verdict Fault
+unfoldable pub checked : Space → (estimate : ℕ → Estimate) → (kind : TaskKind) → (bytes : List ℕ) → Result Verdict CertificateFault
 checked space estimate kind bytes = text_of bytes >>= λ text. judged space estimate kind text

@@ -3,10 +3,10 @@ use Rattle.std.specs.Prelude.{ℕ, zero, suc, ◌+◌, Bool, true, false, Option
 use Rattle.pb_model.specs.Weight.{Weight}
 use Rattle.pb_model.specs.Plan.{Plan}
 use Rattle.pb_model.specs.Certificate.{Line, Certificate}
-use Rattle.pb_check.specs.declared.kind.Kind.{Kind}
-use Rattle.pb_check.specs.declared.kind.Kind.TheVariants.{Grid, Tiles, Strips}
-use Rattle.pb_check.specs.declared.fault.Fault.{Fault}
-use Rattle.pb_check.specs.declared.fault.Fault.TheVariants.{Syntax}
+use Rattle.pb_check.specs.declared.kind.TaskKind.{TaskKind}
+use Rattle.pb_check.specs.declared.kind.TaskKind.TheVariants.{Grid, Tiles, Strips}
+use Rattle.pb_check.specs.declared.fault.CertificateFault.{CertificateFault}
+use Rattle.pb_check.specs.declared.fault.CertificateFault.TheVariants.{Syntax}
 use Rattle.pb_check.specs.Faults.{◌>>=◌, wanted}
 use Rattle.pb_check.specs.Words.{place_of, behind, number_of, state_of}
 
@@ -15,7 +15,7 @@ abbrev pub part : (byte : ℕ) → List ℕ → Option (List ℕ × List ℕ)
 part byte text = if nat_lt (place_of byte text) (length text) then Some (take (place_of byte text) text, drop (place_of byte text + 1) text) else None
 
 -- a line and the text after it; a last line without an end is none
-abbrev pub line_at : (line : ℕ) → List ℕ → Result (List ℕ × List ℕ) Fault
+abbrev pub line_at : (line : ℕ) → List ℕ → Result (List ℕ × List ℕ) CertificateFault
 line_at line text = wanted line (part 10 text)
 
 -- ---- what a line says
@@ -29,16 +29,16 @@ abbrev pub is_text : (piece text : List ℕ) → Bool
 is_text piece text = is_all (behind piece text)
 
 -- the number behind this piece
-abbrev pub number_behind : (line : ℕ) → (piece text : List ℕ) → Result ℕ Fault
+abbrev pub number_behind : (line : ℕ) → (piece text : List ℕ) → Result ℕ CertificateFault
 number_behind line piece text = wanted line (behind piece text) >>= λ word. wanted line (number_of word)
 
-unfoldable pub kind_in : (line : ℕ) → List ℕ → Result Kind Fault
+unfoldable pub kind_in : (line : ℕ) → List ℕ → Result TaskKind CertificateFault
 kind_in line text =
     if is_text (codes "kind grid") text then Ok Grid
     else (if is_text (codes "kind tiles") text then Ok Tiles
     else (if is_text (codes "kind strips") text then Ok Strips else Err (Syntax line)))
 
-unfoldable pub weight_in : (line : ℕ) → List ℕ → Result Weight Fault
+unfoldable pub weight_in : (line : ℕ) → List ℕ → Result Weight CertificateFault
 weight_in line text = do
   words ← wanted line (behind (codes "weight ") text)
   parts ← wanted line (part 32 words)
@@ -46,10 +46,10 @@ weight_in line text = do
   den ← wanted line (number_of parts.1)
   Ok (record { num = num; den = den })
 
-unfoldable pub closed_in : (line : ℕ) → List ℕ → Result Bool Fault
+unfoldable pub closed_in : (line : ℕ) → List ℕ → Result Bool CertificateFault
 closed_in line text = if is_text (codes "closed") text then Ok true else (if is_text (codes "cut") text then Ok false else Err (Syntax line))
 
-unfoldable pub row_in : (line : ℕ) → List ℕ → Result Line Fault
+unfoldable pub row_in : (line : ℕ) → List ℕ → Result Line CertificateFault
 row_in line text = do
   front ← wanted line (part 32 text)
   back ← wanted line (part 32 front.1)
@@ -60,37 +60,37 @@ row_in line text = do
 
 -- ---- the lines of a text, one after another: what was read, and the text after it
 
-unfoldable pub fixed_at : (line : ℕ) → (piece text : List ℕ) → Result (List ℕ) Fault
+unfoldable pub fixed_at : (line : ℕ) → (piece text : List ℕ) → Result (List ℕ) CertificateFault
 fixed_at line piece text = do
   first ← line_at line text
   if is_text piece first.0 then Ok first.1 else Err (Syntax line)
 
-unfoldable pub number_at : (line : ℕ) → (piece text : List ℕ) → Result (ℕ × List ℕ) Fault
+unfoldable pub number_at : (line : ℕ) → (piece text : List ℕ) → Result (ℕ × List ℕ) CertificateFault
 number_at line piece text = do
   first ← line_at line text
   n ← number_behind line piece first.0
   Ok (n, first.1)
 
-unfoldable pub kind_at : (line : ℕ) → List ℕ → Result (Kind × List ℕ) Fault
+unfoldable pub kind_at : (line : ℕ) → List ℕ → Result (TaskKind × List ℕ) CertificateFault
 kind_at line text = do
   first ← line_at line text
   kind ← kind_in line first.0
   Ok (kind, first.1)
 
-unfoldable pub weight_at : (line : ℕ) → List ℕ → Result (Weight × List ℕ) Fault
+unfoldable pub weight_at : (line : ℕ) → List ℕ → Result (Weight × List ℕ) CertificateFault
 weight_at line text = do
   first ← line_at line text
   weight ← weight_in line first.0
   Ok (weight, first.1)
 
-unfoldable pub row_at : (line : ℕ) → List ℕ → Result (Line × List ℕ) Fault
+unfoldable pub row_at : (line : ℕ) → List ℕ → Result (Line × List ℕ) CertificateFault
 row_at line text = do
   first ← line_at line text
   row ← row_in line first.0
   Ok (row, first.1)
 
 -- that many actions, one a line
-unfoldable pub actions_at : (count line : ℕ) → List ℕ → Result (List ℕ × List ℕ) Fault
+unfoldable pub actions_at : (count line : ℕ) → List ℕ → Result (List ℕ × List ℕ) CertificateFault
 actions_at zero line text = Ok ([], text)
 actions_at (suc count) line text = do
   first ← number_at line [] text
@@ -98,7 +98,7 @@ actions_at (suc count) line text = do
   Ok (first.0 ∷ others.0, others.1)
 
 -- that many rows, one a line
-unfoldable pub rows_at : (count line : ℕ) → List ℕ → Result (List Line × List ℕ) Fault
+unfoldable pub rows_at : (count line : ℕ) → List ℕ → Result (List Line × List ℕ) CertificateFault
 rows_at zero line text = Ok ([], text)
 rows_at (suc count) line text = do
   first ← row_at line text
@@ -106,14 +106,14 @@ rows_at (suc count) line text = do
   Ok (first.0 ∷ others.0, others.1)
 
 -- a plan of that many steps, and its cost
-unfoldable pub steps_at : (count line : ℕ) → List ℕ → Result (Plan × List ℕ) Fault
+unfoldable pub steps_at : (count line : ℕ) → List ℕ → Result (Plan × List ℕ) CertificateFault
 steps_at count line text = do
   actions ← actions_at count line text
   cost ← number_at (line + length actions.0) (codes "cost ") actions.1
   Ok (record { actions = actions.0; cost = cost.0 }, cost.1)
 
 -- the plan, or none
-unfoldable pub plan_at : (line : ℕ) → List ℕ → Result (Option Plan × List ℕ) Fault
+unfoldable pub plan_at : (line : ℕ) → List ℕ → Result (Option Plan × List ℕ) CertificateFault
 plan_at line text = do
   first ← line_at line text
   if is_text (codes "none") first.0 then Ok (None, first.1) else (do
@@ -128,18 +128,18 @@ plan_lines (Some plan) = length plan.actions + 2
 
 -- what a text says: the kind of its task, the certificate, and the number of its first row's line
 pub record Text : Type 0 where
-  pub kind : Kind
+  pub kind : TaskKind
   pub certificate : Certificate
   pub first : ℕ
 
 -- the end, with nothing behind it
-unfoldable pub end_at : (line : ℕ) → List ℕ → Result Bool Fault
+unfoldable pub end_at : (line : ℕ) → List ℕ → Result Bool CertificateFault
 end_at line text = do
   rest ← fixed_at line (codes "end") text
   if length rest == 0 then Ok true else Err (Syntax (line + 1))
 
 -- the rows and the end
-unfoldable pub body_at : (line : ℕ) → List ℕ → Result (List Line) Fault
+unfoldable pub body_at : (line : ℕ) → List ℕ → Result (List Line) CertificateFault
 body_at line text = do
   count ← number_at line (codes "rows ") text
   rows ← rows_at count.0 (line + 1) count.1
@@ -147,7 +147,7 @@ body_at line text = do
   Ok rows.0
 
 -- all of the bytes
-unfoldable pub text_of : List ℕ → Result Text Fault
+unfoldable pub text_of : List ℕ → Result Text CertificateFault
 text_of bytes = do
   rest ← fixed_at 1 (codes "pbnf-certificate 1") bytes
   kind ← kind_at 2 rest

@@ -5,14 +5,14 @@ use Rattle.pb_model.specs.Space.{Space}
 use Rattle.pb_model.specs.Weight.{Weight, IsWeight}
 use Rattle.pb_model.specs.Plan.{Plan, IsPlan, HasNoPlan, IsBound}
 use Rattle.pb_model.specs.Certificate.{Certificate, IsValid, ClaimHolds}
-use Rattle.pb_check.specs.declared.kind.Kind.{Kind}
+use Rattle.pb_check.specs.declared.kind.TaskKind.{TaskKind}
 use Rattle.pb_check.specs.declared.fault.Verdict.{Verdict}
 use Rattle.pb_check.specs.declared.fault.Verdict.TheVariants.{Bounded, Unsolvable}
 use Rattle.pb_check.specs.Spelling.{IsSpelled}
 use Rattle.pb_check.specs.Judging.{verdict_of, bound_of}
 
 -- the bytes spell a certificate of this kind that is valid, and this is its verdict
-pub record IsAccepted (space : Space) (estimate : ℕ → Estimate) (kind : Kind) (bytes : List ℕ) (verdict : Verdict) : Type 0 where
+pub record IsAccepted (space : Space) (estimate : ℕ → Estimate) (kind : TaskKind) (bytes : List ℕ) (verdict : Verdict) : Type 0 where
   pub certificate : Certificate
   pub spelled : IsSpelled bytes kind certificate
   pub valid : IsValid space estimate certificate
@@ -20,7 +20,7 @@ pub record IsAccepted (space : Space) (estimate : ℕ → Estimate) (kind : Kind
 
 -- the bytes spell a certificate with this verdict whose claim is true of the space: every plan of a cost f has num * f >= den * C, where
 -- C is the cost of the certificate's plan and num / den its weight; or there is no plan
-pub record ShowsClaim (space : Space) (kind : Kind) (bytes : List ℕ) (verdict : Verdict) : Type 0 where
+pub record ShowsClaim (space : Space) (kind : TaskKind) (bytes : List ℕ) (verdict : Verdict) : Type 0 where
   pub certificate : Certificate
   pub spelled : IsSpelled bytes kind certificate
   pub weight : IsWeight certificate.weight

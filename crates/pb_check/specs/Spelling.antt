@@ -3,7 +3,7 @@ use Rattle.std.specs.Prelude.{◌≡◌, ℕ, ◌+◌, ◌^◌, ◌<◌, List, l
 use Rattle.pb_model.specs.Plan.{Plan}
 use Rattle.pb_model.specs.Certificate.{Certificate}
 use Rattle.pb_model.specs.Texts.{certificate_text, head_1}
-use Rattle.pb_check.specs.declared.kind.Kind.{Kind}
+use Rattle.pb_check.specs.declared.kind.TaskKind.{TaskKind}
 use Rattle.pb_check.specs.Kinds.{kind_name}
 use Rattle.pb_check.specs.Reading.{Text, plan_lines, text_of}
 
@@ -29,7 +29,7 @@ pub record Fits (certificate : Certificate) : Type 0 where
   pub lines : All (λ line. (line.state < 2 ^ 256) × IsNumber line.g) certificate.lines
 
 -- the bytes are the text of the certificate, for a task of this kind
-pub record IsSpelled (bytes : List ℕ) (kind : Kind) (certificate : Certificate) : Type 0 where
+pub record IsSpelled (bytes : List ℕ) (kind : TaskKind) (certificate : Certificate) : Type 0 where
   pub text : bytes ≡ certificate_text (head_1 (kind_name kind)) 64 certificate
   pub fits : Fits certificate
 

@@ -6,7 +6,7 @@ use std::alloc::{AllocError, AllocFailed};
 /// Why a certificate is refused. Where it has several faults, the first in the order of these names is told, and of one
 /// name the first row or action. Lines are counted from 1.
 #[derive(Clone, Copy, Debug, PartialEq, Eq)]
-pub enum Fault {
+pub enum CertificateFault {
     /// The first line that is not spelled as a certificate's; a line that is missing is the one after the last.
     Syntax { line: u64 },
     /// It is for a task of another kind.
@@ -39,7 +39,7 @@ pub enum Fault {
 #[derive(Clone, Copy, Debug, PartialEq, Eq)]
 pub enum CheckError {
     /// The certificate is not valid for the task: its first fault.
-    Fault(Fault),
+    Fault(CertificateFault),
     /// There was not enough memory to tell.
     Memory,
 }

@@ -10,8 +10,8 @@ ghost use Rattle.pb_check.specs.Reading.{Text};
 ghost use Rattle.pb_check.specs.Kinds.{kind_of};
 ghost use Rattle.pb_check.specs.Judging.{passes, unless, same_kind, is_weight, walk, plan_fault, plan_fault_if_any, order_fault, rows_order_fault, first_fault_by, state_fault, g_of, is_zero, target_fault, step_fault, steps_fault, may_be_cut, row_fault, bound_of, verdict_of, judged, Rise};
 
-use crate::fault::{CheckError, Fault, Verdict};
-use crate::kind::{Kind, kind_of};
+use crate::fault::{CertificateFault, CheckError, Verdict};
+use crate::kind::{TaskKind, kind_of};
 use crate::stated::{StatedPlan, StatedRow, StatedWeight};
 use pb_estimate::Estimator;
 use pb_model::Estimate;
@@ -19,7 +19,7 @@ use pb_packed::Packed;
 use pb_task::Task;
 use std::cmp::Ordering;
 
-fn pass(fault: Option<Fault>) -> Result<bool, CheckError>
+fn pass(fault: Option<CertificateFault>) -> Result<bool, CheckError>
     ensures gives { Gives (λ x. x) result (passes fault) }
     ensures none { IfOk result (λ x. fault ≡ None) }
 {
@@ -29,14 +29,14 @@ fn pass(fault: Option<Fault>) -> Result<bool, CheckError>
     }
 }
 
-fn unless(holds: bool, fault: Fault) -> Option<Fault>
+fn unless(holds: bool, fault: CertificateFault) -> Option<CertificateFault>
     ensures { result ≡ unless holds fault }
 {
     if holds { None } else { Some(fault) }
 }
 
 // Goes on only where this holds.
-fn need(holds: bool, fault: Fault) -> Result<bool, CheckError>
+fn need(holds: bool, fault: CertificateFault) -> Result<bool, CheckError>
     ensures gives { Gives (λ x. x) result (passes (unless holds fault)) }
     ensures holds { IfOk result (λ x. holds ≡ true) }
 {
@@ -47,12 +47,13 @@ fn need(holds: bool, fault: Fault) -> Result<bool, CheckError>
     }
 }
 
-fn same_kind(one: Kind, two: Kind) -> bool
+fn same_kind(one: TaskKind, two: TaskKind) -> bool
     ensures { result ≡ same_kind one two }
 {
     match (one, two) {
-        (Kind::Grid, Kind::Grid) | (Kind::Tiles, Kind::Tiles) | (Kind::Strips, Kind::Strips) =>
-            true,
+        (TaskKind::Grid, TaskKind::Grid)
+        | (TaskKind::Tiles, TaskKind::Tiles)
+        | (TaskKind::Strips, TaskKind::Strips) => true,
         _ => false,
     }
 }
@@ -89,7 +90,7 @@ fn walk(task: &Task, actions: &[u64]) -> Result<(Packed, u128), CheckError>
     let mut cost: u128 = 0;
     for i in 0..actions.len() {
         match step(task, &at, actions[i]) {
-            None => return Err(CheckError::Fault(Fault::PlanStep { i: i as u64 })),
+            None => return Err(CheckError::Fault(CertificateFault::PlanStep { i: i as u64 })),
             Some((next, first)) => {
                 at = next;
                 cost += u128::from(first);
@@ -105,10 +106,10 @@ fn judge_plan(task: &Task, plan: &StatedPlan) -> Result<bool, CheckError>
     ensures { Gives (λ x. x) result (plan_fault (space_of task.now) plan.now) }
 {
     let (goal, cost) = walk(task, &plan.actions)?;
-    need(task.is_goal(&goal), Fault::NotGoal)?;
+    need(task.is_goal(&goal), CertificateFault::NotGoal)?;
     need(
         u128::from(plan.cost) == cost,
-        Fault::Cost {
+        CertificateFault::Cost {
             said: plan.cost,
             real: cost,
         },
@@ -128,7 +129,7 @@ fn judge_plan_if_any(task: &Task, plan: &Option<StatedPlan>) -> Result<bool, Che
 // ---- the rows
 
 // The first row whose state is not above that of the row before it.
-fn rows_order_fault(line: u64, rows: &[StatedRow]) -> Option<Fault>
+fn rows_order_fault(line: u64, rows: &[StatedRow]) -> Option<CertificateFault>
     requires { line + length rows.now < 2 ^ 64 }
     ensures fault { result ≡ rows_order_fault line rows.now }
     ensures rises { result ≡ None → Rise rows.now }
@@ -136,7 +137,7 @@ fn rows_order_fault(line: u64, rows: &[StatedRow]) -> Option<Fault>
     first_in_order(line, rows)
 }
 
-fn first_in_order(line: u64, rows: &[StatedRow]) -> Option<Fault>
+fn first_in_order(line: u64, rows: &[StatedRow]) -> Option<CertificateFault>
     requires { line + length rows.now < 2 ^ 64 }
     ensures { result ≡ rows_order_fault line rows.now }
 {
@@ -153,7 +154,7 @@ fn is_above(state: &Packed, other: &Packed) -> bool
     state.cmp(other) == Ordering::Greater
 }
 
-fn order_fault(line: u64, before: Packed, rows: &[StatedRow]) -> Option<Fault>
+fn order_fault(line: u64, before: Packed, rows: &[StatedRow]) -> Option<CertificateFault>
     requires { line + length rows.now < 2 ^ 64 }
     ensures { result ≡ order_fault line before rows.now }
 {
@@ -161,7 +162,7 @@ fn order_fault(line: u64, before: Packed, rows: &[StatedRow]) -> Option<Fault>
     let mut last = before;
     for row in rows {
         if !is_above(&row.state, &last) {
-            return Some(Fault::RowOrder { line: at });
+            return Some(CertificateFault::RowOrder { line: at });
         }
         last = row.state;
         at += 1;
@@ -170,13 +171,16 @@ fn order_fault(line: u64, before: Packed, rows: &[StatedRow]) -> Option<Fault>
 }
 
 // The first row whose state is no state of the task.
-fn states_fault(task: &Task, line: u64, rows: &[StatedRow]) -> Option<Fault>
+fn states_fault(task: &Task, line: u64, rows: &[StatedRow]) -> Option<CertificateFault>
     requires { line + length rows.now < 2 ^ 64 }
     ensures { result ≡ first_fault_by (state_fault (space_of task.now)) line rows.now }
 {
     let mut at = line;
     for row in rows {
-        let fault = unless(task.is_state(&row.state), Fault::BadState { line: at });
+        let fault = unless(
+            task.is_state(&row.state),
+            CertificateFault::BadState { line: at },
+        );
         if fault.is_some() {
             return fault;
         }
@@ -207,12 +211,15 @@ fn g_of(rows: &[StatedRow], state: &Packed) -> Option<u64>
     }
 }
 
-fn target_fault(line: u64, action: u32, most: u128, g: Option<u64>) -> Option<Fault>
+fn target_fault(line: u64, action: u32, most: u128, g: Option<u64>) -> Option<CertificateFault>
     ensures { result ≡ target_fault line action most g }
 {
     match g {
-        None => Some(Fault::Missing { line, action }),
-        Some(g) => unless(u128::from(g) <= most, Fault::TooDear { line, action }),
+        None => Some(CertificateFault::Missing { line, action }),
+        Some(g) => unless(
+            u128::from(g) <= most,
+            CertificateFault::TooDear { line, action },
+        ),
     }
 }
 
@@ -222,7 +229,7 @@ fn step_fault(
     g: u64,
     action: u32,
     step: Option<(Packed, u64)>,
-) -> Option<Fault>
+) -> Option<CertificateFault>
     requires { Rise rows.now }
     ensures { result ≡ step_fault rows.now line g action step }
 {
@@ -238,7 +245,13 @@ fn step_fault(
 }
 
 // The fault of the first action that has one.
-fn steps_fault(task: &Task, rows: &[StatedRow], line: u64, g: u64, state: &Packed) -> Option<Fault>
+fn steps_fault(
+    task: &Task,
+    rows: &[StatedRow],
+    line: u64,
+    g: u64,
+    state: &Packed,
+) -> Option<CertificateFault>
     requires rise { Rise rows.now }
     requires state { IsTrue ((space_of task.now).is_state state.now) }
     ensures { result ≡ steps_fault (space_of task.now) rows.now line g state.now (space_of task.now).actions }
@@ -278,7 +291,7 @@ fn row_fault(
     rows: &[StatedRow],
     line: u64,
     row: &StatedRow,
-) -> Option<Fault>
+) -> Option<CertificateFault>
     requires task { estimator.old ≡ tables_of task.now }
     requires weight { is_weight (record { num = weight.now.num; den = weight.now.den }) ≡ true }
     requires rise { Rise rows.now }
@@ -288,7 +301,7 @@ fn row_fault(
 {
     if row.is_closed {
         if task.is_goal(&row.state) {
-            Some(Fault::GoalClosed { line })
+            Some(CertificateFault::GoalClosed { line })
         } else {
             steps_fault(task, rows, line, row.g, &row.state)
         }
@@ -296,7 +309,7 @@ fn row_fault(
         let estimate = estimator.estimate(task, &row.state);
         unless(
             may_be_cut(weight, best, row.g, estimate),
-            Fault::Low { line },
+            CertificateFault::Low { line },
         )
     }
 }
@@ -309,7 +322,7 @@ fn rows_fault(
     best: Option<u64>,
     rows: &[StatedRow],
     line: u64,
-) -> Option<Fault>
+) -> Option<CertificateFault>
     requires task { estimator.old ≡ tables_of task.now }
     requires weight { is_weight (record { num = weight.now.num; den = weight.now.den }) ≡ true }
     requires rise { Rise rows.now }
@@ -397,7 +410,7 @@ fn need_rows(
 pub fn judge(
     task: &Task,
     estimator: &mut Estimator,
-    kind: Kind,
+    kind: TaskKind,
     weight: &StatedWeight,
     plan: &Option<StatedPlan>,
     rows: &[StatedRow],
@@ -410,12 +423,12 @@ pub fn judge(
     ensures task { estimator.new ≡ tables_of task.now }
 {
     let start = task.initial();
-    need(same_kind(kind_of(task), kind), Fault::Kind)?;
-    need(is_weight(weight), Fault::Weight)?;
+    need(same_kind(kind_of(task), kind), CertificateFault::Kind)?;
+    need(is_weight(weight), CertificateFault::Weight)?;
     judge_plan_if_any(task, plan)?;
     pass(rows_order_fault(first, rows))?;
     pass(states_fault(task, first, rows))?;
-    need(is_zero(g_of(rows, &start)), Fault::NoStart)?;
+    need(is_zero(g_of(rows, &start)), CertificateFault::NoStart)?;
     need_rows(task, estimator, weight, plan, rows, first)?;
     Ok(verdict_of(weight, plan))
 }

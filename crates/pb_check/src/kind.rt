@@ -1,11 +1,11 @@
 ghost use Rattle.std.specs.Prelude.{◌≡◌};
 ghost use Rattle.pb_check.specs.Kinds.{kind_of};
 
-use pb_task::{Parts, Task};
+use pb_task::{Task, TaskParts};
 
 /// The kinds of tasks that a certificate can state.
 #[derive(Clone, Copy, Debug, PartialEq, Eq)]
-pub enum Kind {
+pub enum TaskKind {
     /// A way on a map.
     Grid,
     /// A sliding-tile puzzle.
@@ -15,12 +15,12 @@ pub enum Kind {
 }
 
 /// The kind of a task.
-pub fn kind_of(task: &Task) -> Kind
+pub fn kind_of(task: &Task) -> TaskKind
     ensures { result ≡ kind_of task.now }
 {
     match task.parts() {
-        Parts::Grid(_) => Kind::Grid,
-        Parts::Tiles(_) => Kind::Tiles,
-        Parts::Strips(_) => Kind::Strips,
+        TaskParts::Grid(_) => TaskKind::Grid,
+        TaskParts::Tiles(_) => TaskKind::Tiles,
+        TaskParts::Strips(_) => TaskKind::Strips,
     }
 }

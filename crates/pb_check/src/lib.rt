@@ -13,8 +13,8 @@ mod stated;
 mod words;
 
 pub use checker::check;
-pub use fault::{CheckError, Fault, Verdict};
-pub use kind::{Kind, kind_of};
+pub use fault::{CertificateFault, CheckError, Verdict};
+pub use kind::{TaskKind, kind_of};
 pub use laws::{bounds_are_least, read_as_spelled};
 
 #[cfg(test)]

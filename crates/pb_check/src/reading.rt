@@ -6,8 +6,8 @@ ghost use Rattle.pb_check.specs.Words.{number_of, behind, state_of};
 ghost use Rattle.pb_check.specs.Faults.{Gives, wanted};
 ghost use Rattle.pb_check.specs.Reading.{Text, plan_lines, part, line_at, is_text, number_behind, kind_in, weight_in, closed_in, row_in, fixed_at, number_at, kind_at, weight_at, row_at, actions_at, rows_at, steps_at, plan_at, end_at, body_at, text_of};
 
-use crate::fault::{CheckError, Fault};
-use crate::kind::Kind;
+use crate::fault::{CertificateFault, CheckError};
+use crate::kind::TaskKind;
 use crate::stated::{StatedPlan, StatedRow, StatedText, StatedWeight};
 use crate::words::{behind, number_of, place_of, state_of};
 use pb_packed::Packed;
@@ -36,7 +36,7 @@ fn line_at(line: u64, text: &[u8]) -> Result<(&[u8], &[u8]), CheckError>
 {
     match part(text, b'\n') {
         Some((front, rest)) => Ok((front, rest)),
-        None => Err(CheckError::Fault(Fault::Syntax { line })),
+        None => Err(CheckError::Fault(CertificateFault::Syntax { line })),
     }
 }
 
@@ -55,7 +55,7 @@ fn number_in(line: u64, text: &[u8]) -> Result<u64, CheckError>
 {
     match number_of(text) {
         Some(n) => Ok(n),
-        None => Err(CheckError::Fault(Fault::Syntax { line })),
+        None => Err(CheckError::Fault(CertificateFault::Syntax { line })),
     }
 }
 
@@ -65,22 +65,22 @@ fn number_behind(line: u64, text: &[u8], piece: &[u8]) -> Result<u64, CheckError
 {
     match behind(text, piece) {
         Some(word) => number_in(line, word),
-        None => Err(CheckError::Fault(Fault::Syntax { line })),
+        None => Err(CheckError::Fault(CertificateFault::Syntax { line })),
     }
 }
 
 #[tactic(auto, unfolding(crate::specs::Reading::kind_in))]
-fn kind_in(line: u64, text: &[u8]) -> Result<Kind, CheckError>
+fn kind_in(line: u64, text: &[u8]) -> Result<TaskKind, CheckError>
     ensures { Gives (λ x. x) result (kind_in line text.now) }
 {
     if is_text(text, b"kind grid") {
-        Ok(Kind::Grid)
+        Ok(TaskKind::Grid)
     } else if is_text(text, b"kind tiles") {
-        Ok(Kind::Tiles)
+        Ok(TaskKind::Tiles)
     } else if is_text(text, b"kind strips") {
-        Ok(Kind::Strips)
+        Ok(TaskKind::Strips)
     } else {
-        Err(CheckError::Fault(Fault::Syntax { line }))
+        Err(CheckError::Fault(CertificateFault::Syntax { line }))
     }
 }
 
@@ -89,7 +89,7 @@ fn part_in(line: u64, text: &[u8], byte: u8) -> Result<(&[u8], &[u8]), CheckErro
 {
     match part(text, byte) {
         Some((front, rest)) => Ok((front, rest)),
-        None => Err(CheckError::Fault(Fault::Syntax { line })),
+        None => Err(CheckError::Fault(CertificateFault::Syntax { line })),
     }
 }
 
@@ -98,7 +98,7 @@ fn behind_in<'a>(line: u64, text: &'a [u8], piece: &[u8]) -> Result<&'a [u8], Ch
 {
     match behind(text, piece) {
         Some(rest) => Ok(rest),
-        None => Err(CheckError::Fault(Fault::Syntax { line })),
+        None => Err(CheckError::Fault(CertificateFault::Syntax { line })),
     }
 }
 
@@ -107,7 +107,7 @@ fn state_in(line: u64, text: &[u8]) -> Result<Packed, CheckError>
 {
     match state_of(text) {
         Some(state) => Ok(state),
-        None => Err(CheckError::Fault(Fault::Syntax { line })),
+        None => Err(CheckError::Fault(CertificateFault::Syntax { line })),
     }
 }
 
@@ -131,7 +131,7 @@ fn closed_in(line: u64, text: &[u8]) -> Result<bool, CheckError>
     } else if is_text(text, b"cut") {
         Ok(false)
     } else {
-        Err(CheckError::Fault(Fault::Syntax { line }))
+        Err(CheckError::Fault(CertificateFault::Syntax { line }))
     }
 }
 
@@ -162,7 +162,7 @@ fn fixed_at<'a>(line: u64, text: &'a [u8], piece: &[u8]) -> Result<&'a [u8], Che
     if is_text(first, piece) {
         Ok(rest)
     } else {
-        Err(CheckError::Fault(Fault::Syntax { line }))
+        Err(CheckError::Fault(CertificateFault::Syntax { line }))
     }
 }
 
@@ -178,7 +178,7 @@ fn number_at<'a>(line: u64, text: &'a [u8], piece: &[u8]) -> Result<(u64, &'a [u
 }
 
 #[tactic(auto, unfolding(crate::specs::Reading::kind_at))]
-fn kind_at(line: u64, text: &[u8]) -> Result<(Kind, &[u8]), CheckError>
+fn kind_at(line: u64, text: &[u8]) -> Result<(TaskKind, &[u8]), CheckError>
     ensures gives { Gives (λ x. (x.0, x.1.now)) result (kind_at line text.now) }
     ensures shorter { IfOk result (λ x. length x.1.now + 1 ≤ length text.now) }
 {
@@ -292,7 +292,7 @@ fn end_at(line: u64, text: &[u8]) -> Result<bool, CheckError>
     if rest.len() == 0 {
         Ok(true)
     } else {
-        Err(CheckError::Fault(Fault::Syntax { line: line + 1 }))
+        Err(CheckError::Fault(CertificateFault::Syntax { line: line + 1 }))
     }
 }
 

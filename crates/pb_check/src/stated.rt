@@ -1,6 +1,6 @@
 ghost use Rattle.std.specs.Prelude.{◌≡◌};
 
-use crate::kind::Kind;
+use crate::kind::TaskKind;
 use pb_packed::Packed;
 use std::marker::Model;
 
@@ -45,7 +45,7 @@ impl Model for StatedPlan {
 /// All that a certificate says: contracts see what a text says.
 #[derive(Debug, Drop)]
 pub struct StatedText {
-    pub kind: Kind,
+    pub kind: TaskKind,
     pub weight: StatedWeight,
     pub plan: Option<StatedPlan>,
     pub rows: Vec<StatedRow>,

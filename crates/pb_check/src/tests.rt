@@ -1,7 +1,7 @@
 ghost use Rattle.std.specs.Prelude.{◌<◌, ◌^◌, IfOk};
 ghost use Rattle.pb_task.specs.Strips.{IsGroundAction};
 
-use crate::{CheckError, Fault, Verdict, check};
+use crate::{CertificateFault, CheckError, Verdict, check};
 use pb_estimate::Estimator;
 use pb_packed::Packed;
 use pb_task::{ActionName, Actions, Cells, Class, GridParts, GroundAction, StripsParts, Task};
@@ -107,7 +107,7 @@ fn a_changed_certificate_is_refused_at_its_first_fault(rt: HostRuntime) {
         (
             (10, "rows 6"),
             (15, ""),
-            Fault::Missing {
+            CertificateFault::Missing {
                 line: 12,
                 action: 1,
             },
@@ -115,62 +115,90 @@ fn a_changed_certificate_is_refused_at_its_first_fault(rt: HostRuntime) {
         (
             (14, "*800 2 cut"),
             (0, ""),
-            Fault::TooDear {
+            CertificateFault::TooDear {
                 line: 11,
                 action: 1,
             },
         ),
-        ((14, "*800 0 cut"), (0, ""), Fault::Low { line: 14 }),
+        (
+            (14, "*800 0 cut"),
+            (0, ""),
+            CertificateFault::Low { line: 14 },
+        ),
         (
             (11, "*1 1 closed"),
             (12, "*0 0 closed"),
-            Fault::RowOrder { line: 12 },
+            CertificateFault::RowOrder { line: 12 },
         ),
         (
             (17, "*1002 4 closed"),
             (0, ""),
-            Fault::GoalClosed { line: 17 },
+            CertificateFault::GoalClosed { line: 17 },
         ),
-        ((10, "rows 6"), (11, ""), Fault::NoStart),
-        ((9, "cost 5"), (0, ""), Fault::Cost { said: 5, real: 4 }),
-        ((18, ""), (0, ""), Fault::Syntax { line: 18 }),
+        ((10, "rows 6"), (11, ""), CertificateFault::NoStart),
+        (
+            (9, "cost 5"),
+            (0, ""),
+            CertificateFault::Cost { said: 5, real: 4 },
+        ),
+        ((18, ""), (0, ""), CertificateFault::Syntax { line: 18 }),
         (
             (14, "*800 0 cut"),
             (17, "*1002 4 closed"),
-            Fault::Low { line: 14 },
+            CertificateFault::Low { line: 14 },
         ),
-        ((2, "kind tiles"), (0, ""), Fault::Kind),
-        ((3, "weight 1 2"), (0, ""), Fault::Weight),
-        ((5, "0"), (0, ""), Fault::PlanStep { i: 0 }),
-        ((5, "4294967296"), (0, ""), Fault::PlanStep { i: 0 }),
-        ((4, "plan 3"), (8, ""), Fault::NotGoal),
+        ((2, "kind tiles"), (0, ""), CertificateFault::Kind),
+        ((3, "weight 1 2"), (0, ""), CertificateFault::Weight),
+        ((5, "0"), (0, ""), CertificateFault::PlanStep { i: 0 }),
+        (
+            (5, "4294967296"),
+            (0, ""),
+            CertificateFault::PlanStep { i: 0 },
+        ),
+        ((4, "plan 3"), (8, ""), CertificateFault::NotGoal),
         (
             (10, "rows 9223372036854775807"),
             (0, ""),
-            Fault::Syntax { line: 18 },
+            CertificateFault::Syntax { line: 18 },
         ),
         (
             (10, "rows 8"),
             (13, "*2 2 closed/*3 1 closed"),
-            Fault::BadState { line: 14 },
+            CertificateFault::BadState { line: 14 },
         ),
         (
             (10, "rows 8"),
             (16, "*802 3 closed/*1000 9223372036854775807 closed"),
-            Fault::Missing {
+            CertificateFault::Missing {
                 line: 17,
                 action: 3,
             },
         ),
-        ((3, "weight 01 1"), (0, ""), Fault::Syntax { line: 3 }),
+        (
+            (3, "weight 01 1"),
+            (0, ""),
+            CertificateFault::Syntax { line: 3 },
+        ),
         (
             (4, "plan 9223372036854775808"),
             (0, ""),
-            Fault::Syntax { line: 4 },
+            CertificateFault::Syntax { line: 4 },
         ),
-        ((12, "*A 1 closed"), (0, ""), Fault::Syntax { line: 12 }),
-        ((14, "800 1 cut"), (0, ""), Fault::Syntax { line: 14 }),
-        ((18, "end/end"), (0, ""), Fault::Syntax { line: 19 }),
+        (
+            (12, "*A 1 closed"),
+            (0, ""),
+            CertificateFault::Syntax { line: 12 },
+        ),
+        (
+            (14, "800 1 cut"),
+            (0, ""),
+            CertificateFault::Syntax { line: 14 },
+        ),
+        (
+            (18, "end/end"),
+            (0, ""),
+            CertificateFault::Syntax { line: 19 },
+        ),
     ] {
         assert_eq!(rt;
             changed_answer(rt.alloc(), &[one, two]),
@@ -298,27 +326,27 @@ fn certificates_of_sets_of_atoms_are_judged(rt: HostRuntime) {
         (
             true,
             "plan 2/0/1/cost 2/rows 1/*1 0 cut",
-            Err(CheckError::Fault(Fault::Low { line: 9 })),
+            Err(CheckError::Fault(CertificateFault::Low { line: 9 })),
         ),
         (
             true,
             "none/rows 1/*1 0 cut",
-            Err(CheckError::Fault(Fault::Low { line: 6 })),
+            Err(CheckError::Fault(CertificateFault::Low { line: 6 })),
         ),
         (
             true,
             "plan 2/0/1/cost 2/rows 5/*0 1 cut/*1 0 closed/*3 1 cut/*5 1 cut/*8 1 cut",
-            Err(CheckError::Fault(Fault::BadState { line: 13 })),
+            Err(CheckError::Fault(CertificateFault::BadState { line: 13 })),
         ),
         (
             true,
             "plan 2/2/0/cost 2/rows 1/*1 0 cut",
-            Err(CheckError::Fault(Fault::PlanStep { i: 1 })),
+            Err(CheckError::Fault(CertificateFault::PlanStep { i: 1 })),
         ),
         (
             true,
             "plan 2/0/1/cost 2/rows 3/*1 0 closed/*3 1 cut/*5 1 cut",
-            Err(CheckError::Fault(Fault::Missing { line: 9, action: 2 })),
+            Err(CheckError::Fault(CertificateFault::Missing { line: 9, action: 2 })),
         ),
     ] {
         assert_eq!(rt;

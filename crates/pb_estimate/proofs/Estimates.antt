@@ -1,5 +1,5 @@
 -- Estimates of every kind of task.
-use Rattle.pb_task.specs.declared.parts.Parts.TheVariants.{Grid, Tiles, Strips}
+use Rattle.pb_task.specs.declared.parts.TaskParts.TheVariants.{Grid, Tiles, Strips}
 use Rattle.pb_estimate.specs.Laws.{EstimatesAreAdmissible}
 use Rattle.pb_estimate.proofs.Grids.{no_way_is_shorter}
 use Rattle.pb_estimate.proofs.Ways.{no_slides_are_fewer}

@@ -4,8 +4,8 @@ use Rattle.pb_packed.specs.Bits.{bits_of}
 use Rattle.pb_model.specs.declared.row.Estimate.{Estimate}
 use Rattle.pb_model.specs.declared.row.Estimate.TheVariants.{Cost}
 use Rattle.pb_task.specs.Tiles.{cell_count, board_of}
-use Rattle.pb_task.specs.declared.parts.Parts.{Parts}
-use Rattle.pb_task.specs.declared.parts.Parts.TheVariants.{Grid, Tiles, Strips}
+use Rattle.pb_task.specs.declared.parts.TaskParts.{TaskParts}
+use Rattle.pb_task.specs.declared.parts.TaskParts.TheVariants.{Grid, Tiles, Strips}
 use Rattle.pb_estimate.specs.Hmax.{hmax}
 
 -- how far two numbers are apart
@@ -49,7 +49,7 @@ tile_ways cols goal board zero = 0
 tile_ways cols goal board (suc number) = tile_ways cols goal board number + tile_way cols goal board (suc number)
 
 -- the estimate of a state of a task
-abbrev pub estimate_of : Parts → (state : ℕ) → Estimate
+abbrev pub estimate_of : TaskParts → (state : ℕ) → Estimate
 estimate_of (Grid grid) state = Cost (manhattan (cell_of state) grid.goal)
 estimate_of (Tiles tiles) state = Cost (ways_home tiles.cols tiles.goal (board_of (cell_count tiles) state) (cell_count tiles))
 estimate_of (Strips strips) state = hmax strips state

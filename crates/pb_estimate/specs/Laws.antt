@@ -2,8 +2,8 @@
 use Rattle.std.specs.Prelude.{◌≡◌, ℕ, ◌-◌, ◌<◌, ◌≤◌, IsTrue, Option}
 use Rattle.pb_model.specs.Guide.{IsAdmissible}
 use Rattle.pb_model.specs.declared.row.Estimate.TheVariants.{Cost}
-use Rattle.pb_task.specs.declared.parts.Parts.{Parts}
-use Rattle.pb_task.specs.declared.parts.Parts.TheVariants.{Tiles}
+use Rattle.pb_task.specs.declared.parts.TaskParts.{TaskParts}
+use Rattle.pb_task.specs.declared.parts.TaskParts.TheVariants.{Tiles}
 use Rattle.pb_task.specs.declared.parts.TilesParts.{TilesParts}
 use Rattle.pb_task.specs.Parts.{space_of, IsTask}
 use Rattle.pb_task.specs.Tiles.{cell_count, board_of, is_board_state, IsTiles}
@@ -14,7 +14,7 @@ use Rattle.pb_estimate.specs.Estimates.{tile_ways, estimate_of}
 
 -- No walk from a state of a task to a goal costs less than the state's estimate (Hart, Nilsson, Raphael 1968).
 abbrev pub EstimatesAreAdmissible : Type 0
-EstimatesAreAdmissible = (parts : Parts) → IsTask parts → IsAdmissible (space_of parts) (estimate_of parts)
+EstimatesAreAdmissible = (parts : TaskParts) → IsTask parts → IsAdmissible (space_of parts) (estimate_of parts)
 
 -- The estimate of a board is the sum over all tiles, from 1 to the last, of the distance between the tile's cells on the board and on the goal board.
 abbrev pub EstimatesCountTiles : Type 0

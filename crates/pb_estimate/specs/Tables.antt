@@ -3,8 +3,8 @@ use Rattle.std.specs.Prelude.{ℕ, zero, suc, List, [], ◌∷◌, ◌++◌, map
 use Rattle.std.specs.List.{range_with_len}
 use Rattle.pb_task.specs.declared.parts.GroundAction.{GroundAction}
 use Rattle.pb_task.specs.declared.parts.StripsParts.{StripsParts}
-use Rattle.pb_task.specs.declared.parts.Parts.{Parts}
-use Rattle.pb_task.specs.declared.parts.Parts.TheVariants as parts
+use Rattle.pb_task.specs.declared.parts.TaskParts.{TaskParts}
+use Rattle.pb_task.specs.declared.parts.TaskParts.TheVariants as parts
 use Rattle.pb_task.specs.Strips.{has_atom}
 use Rattle.pb_estimate.specs.Estimates.{cell_with}
 use Rattle.pb_estimate.specs.declared.relaxed.RelaxedAction.{RelaxedAction}
@@ -29,7 +29,7 @@ relaxed_action count action = record { needs = atoms_in action.needs count; adds
 abbrev pub relaxed_task : StripsParts → RelaxedTask
 relaxed_task strips = record { actions = map (relaxed_action strips.atoms) strips.actions; goal = atoms_in strips.goal strips.atoms }
 
-abbrev pub tables_of : Parts → Tables
+abbrev pub tables_of : TaskParts → Tables
 tables_of (parts.Grid grid) = tables.Grid
 tables_of (parts.Tiles tiles) = tables.Tiles (goal_cells tiles.goal)
 tables_of (parts.Strips strips) = tables.Strips (relaxed_task strips)

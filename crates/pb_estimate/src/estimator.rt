@@ -7,7 +7,7 @@ use crate::relaxed::{RelaxedTask, relaxed_task};
 use crate::{grid, strips, tiles};
 use pb_model::Estimate;
 use pb_packed::Packed;
-use pb_task::{Parts, Task};
+use pb_task::{Task, TaskParts};
 use std::alloc::{AllocError, Global};
 use std::marker::Model;
 
@@ -43,9 +43,9 @@ impl Estimator {
         ensures { IfOk result (λ estimator. estimator ≡ tables_of task.now) }
     {
         let tables = match task.parts() {
-            Parts::Grid(_) => Tables::Grid,
-            Parts::Tiles(parts) => Tables::Tiles(tiles::goal_cells(parts.goal.numbers())),
-            Parts::Strips(parts) => Tables::Strips(relaxed_task(alloc, parts)?),
+            TaskParts::Grid(_) => Tables::Grid,
+            TaskParts::Tiles(parts) => Tables::Tiles(tiles::goal_cells(parts.goal.numbers())),
+            TaskParts::Strips(parts) => Tables::Strips(relaxed_task(alloc, parts)?),
         };
         Ok(Estimator { tables })
     }
@@ -58,17 +58,17 @@ impl Estimator {
         ensures task { self.new ≡ tables_of task.now }
     {
         match (task.parts(), &self.tables) {
-            (Parts::Grid(parts), _) => Estimate::Cost(grid::distance(parts, state)),
-            (Parts::Tiles(parts), Tables::Tiles(cells)) => {
+            (TaskParts::Grid(parts), _) => Estimate::Cost(grid::distance(parts, state)),
+            (TaskParts::Tiles(parts), Tables::Tiles(cells)) => {
                 Estimate::Cost(tiles::distance(parts, cells, state))
             }
-            (Parts::Strips(parts), Tables::Strips(relaxed)) => {
+            (TaskParts::Strips(parts), Tables::Strips(relaxed)) => {
                 strips::estimate(parts, relaxed, state)
             }
-            (Parts::Tiles(_), Tables::Grid) => unreachable!(),
-            (Parts::Tiles(_), Tables::Strips(_)) => unreachable!(),
-            (Parts::Strips(_), Tables::Grid) => unreachable!(),
-            (Parts::Strips(_), Tables::Tiles(_)) => unreachable!(),
+            (TaskParts::Tiles(_), Tables::Grid) => unreachable!(),
+            (TaskParts::Tiles(_), Tables::Strips(_)) => unreachable!(),
+            (TaskParts::Strips(_), Tables::Grid) => unreachable!(),
+            (TaskParts::Strips(_), Tables::Tiles(_)) => unreachable!(),
         }
     }
 }

@@ -11,7 +11,7 @@ use Rattle.pb_model.specs.Store.{Part, HasOpened}
 use Rattle.pb_model.specs.Work.{with_status, offered_row}
 use Rattle.pb_model.proofs.Tests.{by_cases, equal, equal_self, equal_swap, not_both}
 use Rattle.pb_lists.specs.Bundle.{Content, row_of, put, SetsRow, SetsStatus, IsOpened}
-use Rattle.pb_homes.specs.Parts.{content_in, with_content, rows_in, away_rows}
+use Rattle.pb_bundles.specs.Parts.{content_in, with_content, rows_in, away_rows}
 use Rattle.pb_lease.specs.LeaseValue.{LeaseValue, with_bundle}
 use Rattle.pb_expand.specs.Turned.{own_rows}
 use Rattle.pb_expand.specs.Rows.{ChangesRows, SetsStatusAt, OffersAt, own_opened, opened_in}

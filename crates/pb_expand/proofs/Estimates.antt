@@ -5,7 +5,7 @@ use Rattle.pb_model.specs.declared.row.Estimate.{Estimate}
 use Rattle.pb_model.specs.declared.row.Row.{Row}
 use Rattle.pb_model.specs.Work.{offered_row}
 use Rattle.pb_model.proofs.Tests.{and_true, equal}
-use Rattle.pb_homes.specs.Parts.{away_rows}
+use Rattle.pb_bundles.specs.Parts.{away_rows}
 use Rattle.pb_lease.specs.LeaseValue.{LeaseValue}
 use Rattle.pb_expand.specs.Rows.{OffersAt}
 

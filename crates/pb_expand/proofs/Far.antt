@@ -2,7 +2,7 @@
 use Rattle.std.proofs.Common.{◌≡◌, ℕ, ◌+◌, ◌-◌, ◌≤◌, arith}
 use Rattle.pb_machine.specs.declared.settings.Settings.{Settings}
 use Rattle.pb_machine.specs.Machine.{Machine}
-use Rattle.pb_task.specs.declared.parts.Parts.{Parts}
+use Rattle.pb_task.specs.declared.parts.TaskParts.{TaskParts}
 use Rattle.pb_task.specs.Parts.{space_of}
 use Rattle.pb_abstract.specs.Graph.{AbstractGraph}
 use Rattle.pb_lease.specs.LeaseValue.{LeaseValue, leased_store, HasWeights, IsSameLease}
@@ -11,7 +11,7 @@ use Rattle.pb_expand.specs.Turned.{IsAtWork, HasTurned, reads_none}
 use Rattle.pb_expand.proofs.Same.{same_on}
 use Rattle.pb_expand.proofs.Known.{scope_on, out_on, at_work_on, worked_on}
 
-module _ (task : Parts) (graph : AbstractGraph) (first lease : LeaseValue) where
+module _ (task : TaskParts) (graph : AbstractGraph) (first lease : LeaseValue) where
   -- from the first lease to this one turns were done, as many expansions as are counted
   pub record IsFar : Type 0 where
     pub turned : HasTurned (space_of task) (guide_of task graph) reads_none first.block (lease.used - first.used) 0 (leased_store first) (leased_store lease)
@@ -19,7 +19,7 @@ module _ (task : Parts) (graph : AbstractGraph) (first lease : LeaseValue) where
     pub at_work : IsAtWork task graph lease
     pub same : IsSameLease first lease
 
-module _ (task : Parts) (graph : AbstractGraph) (first old new : LeaseValue) (far : IsFar task graph first old) (more broken : ℕ)
+module _ (task : TaskParts) (graph : AbstractGraph) (first old new : LeaseValue) (far : IsFar task graph first old) (more broken : ℕ)
     (turned : HasTurned (space_of task) (guide_of task graph) reads_none old.block more broken (leased_store old) (leased_store new))
     (same : IsSameLease old new) (used : new.used ≡ old.used + more) (weights : HasWeights new) where
   pub whole_turned : HasTurned (space_of task) (guide_of task graph) reads_none first.block (new.used - first.used) broken (leased_store first) (leased_store new)
@@ -41,7 +41,7 @@ module _ (task : Parts) (graph : AbstractGraph) (first old new : LeaseValue) (fa
       out_on task graph settings reopenings machine first new (new.used - first.used) broken before whole_turned whole_same (omega (arith, whole_counted))
 
 -- where none was broken off, the work goes on
-module _ (task : Parts) (graph : AbstractGraph) (first old new : LeaseValue) (far : IsFar task graph first old) (more : ℕ)
+module _ (task : TaskParts) (graph : AbstractGraph) (first old new : LeaseValue) (far : IsFar task graph first old) (more : ℕ)
     (turned : HasTurned (space_of task) (guide_of task graph) reads_none old.block more 0 (leased_store old) (leased_store new))
     (same : IsSameLease old new) (used : new.used ≡ old.used + more) (weights : HasWeights new) where
   pub farther : IsFar task graph first new

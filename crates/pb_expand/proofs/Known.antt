@@ -11,10 +11,10 @@ use Rattle.pb_machine.specs.Turns.{AreLeaseTurns}
 use Rattle.pb_machine.proofs.LeaseWork.{merged, works_there, row_there, lease_work_goes_on, lease_work_stays}
 use Rattle.pb_machine.proofs.LeaseTurns.{lease_turns_go_on}
 use Rattle.pb_machine.proofs.MomentLaws.{lease_costs_fit}
-use Rattle.pb_task.specs.declared.parts.Parts.{Parts}
+use Rattle.pb_task.specs.declared.parts.TaskParts.{TaskParts}
 use Rattle.pb_task.specs.Parts.{space_of, greatest_cost}
 use Rattle.pb_abstract.specs.Graph.{AbstractGraph, blocks_of}
-use Rattle.pb_homes.specs.Parts.{content_in}
+use Rattle.pb_bundles.specs.Parts.{content_in}
 use Rattle.pb_lease.specs.LeaseValue.{LeaseValue, leased_store, HasWeights, IsSameLease}
 use Rattle.pb_lease.specs.Leased.{guide_of, setup_of, grant_of, HasScope, IsOut, IsInTurns}
 use Rattle.pb_expand.specs.Turned.{own_rows, IsAtWork, reads_none, HasTurned}
@@ -37,7 +37,7 @@ greater_costs setup is = record {
   weight = is.weight;
 }
 
-module _ (task : Parts) (graph : AbstractGraph) (lease : LeaseValue) (at : IsAtWork task graph lease) where
+module _ (task : TaskParts) (graph : AbstractGraph) (lease : LeaseValue) (at : IsAtWork task graph lease) where
   abbrev setup : Setup
   setup = setup_of task graph at.settings at.reopenings
 
@@ -81,7 +81,7 @@ module _ (task : Parts) (graph : AbstractGraph) (lease : LeaseValue) (at : IsAtW
         omega (arith, low)
 
 -- a lease that is out still is after turns, and is in turns where it was
-module _ (task : Parts) (graph : AbstractGraph) (settings : Settings) (reopenings : ℕ) (machine : Machine) (old new : LeaseValue) (more broken : ℕ) where
+module _ (task : TaskParts) (graph : AbstractGraph) (settings : Settings) (reopenings : ℕ) (machine : Machine) (old new : LeaseValue) (more broken : ℕ) where
   abbrev out_setup : Setup
   out_setup = setup_of task graph settings reopenings
 
@@ -119,7 +119,7 @@ module _ (task : Parts) (graph : AbstractGraph) (settings : Settings) (reopening
         )
 
 -- a lease is at work after turns of which none was broken off
-module _ (task : Parts) (graph : AbstractGraph) (old new : LeaseValue) (more : ℕ) (at : IsAtWork task graph old) where
+module _ (task : TaskParts) (graph : AbstractGraph) (old new : LeaseValue) (more : ℕ) (at : IsAtWork task graph old) where
   pub scope_on : IsSameLease old new → HasWeights new → HasScope graph new
   scope_on same weights = record {
     blocks = λ block. same_places old.parts new.parts block same.places ∙ at.scope.blocks block ∙ ap (λ own. (blocks_of graph).scope own block) (sym same.block);
@@ -151,7 +151,7 @@ module _ (task : Parts) (graph : AbstractGraph) (old new : LeaseValue) (more : �
       }
 
 -- turns of a lease go on
-module _ (task : Parts) (graph : AbstractGraph) (first old new : LeaseValue) (same : IsSameLease first old) where
+module _ (task : TaskParts) (graph : AbstractGraph) (first old new : LeaseValue) (same : IsSameLease first old) where
   pub turned_then : (used more broken : ℕ) → HasTurned (space_of task) (guide_of task graph) reads_none first.block used 0 (leased_store first) (leased_store old)
       → HasTurned (space_of task) (guide_of task graph) reads_none old.block more broken (leased_store old) (leased_store new)
       → HasTurned (space_of task) (guide_of task graph) reads_none first.block (used + more) broken (leased_store first) (leased_store new)

@@ -4,7 +4,7 @@ use Rattle.std.specs.Map.{keys_of}
 use Rattle.pb_model.specs.Store.{AtMost}
 use Rattle.pb_model.proofs.Incumbents.{at_most_self, at_most_trans}
 use Rattle.pb_lists.specs.Bundle.{Content}
-use Rattle.pb_homes.specs.Parts.{content_in}
+use Rattle.pb_bundles.specs.Parts.{content_in}
 use Rattle.pb_lease.specs.LeaseValue.{LeaseValue, IsSameLease}
 use Rattle.pb_expand.specs.Rows.{ChangesRows}
 

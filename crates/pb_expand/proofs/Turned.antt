@@ -20,7 +20,7 @@ use Rattle.pb_machine.specs.Turns.{IsLeaseTurn, AreLeaseTurns}
 use Rattle.pb_machine.proofs.LeaseWork.{lease_work_goes_on}
 use Rattle.pb_machine.proofs.LeaseTurns.{lease_turns_go_on}
 use Rattle.pb_lists.specs.Bundle.{IsOpened}
-use Rattle.pb_homes.specs.Parts.{away_rows}
+use Rattle.pb_bundles.specs.Parts.{away_rows}
 use Rattle.pb_lease.specs.LeaseValue.{LeaseValue, leased_store}
 use Rattle.pb_expand.specs.Turned.{own_rows, HasTurned, IsNext}
 use Rattle.pb_expand.specs.Rows.{ChangesRows, SetsStatusAt, OffersAt, HasOffers, IsBrokenOff}

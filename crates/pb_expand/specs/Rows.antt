@@ -10,7 +10,7 @@ use Rattle.pb_model.specs.Space.{Space, Steps}
 use Rattle.pb_model.specs.Guide.{Guide}
 use Rattle.pb_model.specs.Work.{with_status, offered_row, row_after_offers}
 use Rattle.pb_lists.specs.Bundle.{Content}
-use Rattle.pb_homes.specs.Parts.{content_in, away_rows}
+use Rattle.pb_bundles.specs.Parts.{content_in, away_rows}
 use Rattle.pb_lease.specs.LeaseValue.{LeaseValue, HasWeights}
 
 -- Rows of the lease's bundles may have changed, and nothing else did: each block has a bundle that had one, and each has the lease's

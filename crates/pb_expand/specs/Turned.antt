@@ -11,7 +11,7 @@ use Rattle.pb_machine.specs.Settings.{AreInRange}
 use Rattle.pb_machine.specs.Machine.{IsSetup, Machine, IsWorked, lent_store}
 use Rattle.pb_machine.specs.Turns.{AreLeaseTurns}
 use Rattle.pb_machine.specs.Lawful.{IsLawful}
-use Rattle.pb_task.specs.declared.parts.Parts.{Parts}
+use Rattle.pb_task.specs.declared.parts.TaskParts.{TaskParts}
 use Rattle.pb_task.specs.Parts.{space_of, greatest_cost}
 use Rattle.pb_abstract.specs.Graph.{AbstractGraph}
 use Rattle.pb_lease.specs.LeaseValue.{LeaseValue, leased_store}
@@ -23,7 +23,7 @@ own_rows lease = (leased_store lease).rows lease.block
 
 -- The lease is out in the machine of a lawful moment of a search for this task by the blocks of this graph, and its rows come from those that it
 -- was given or last renewed with, where no expansion was broken off. What its worker has read as the incumbent may be younger than that moment.
-pub record IsAtWork (task : Parts) (graph : AbstractGraph) (lease : LeaseValue) : Type 0 where
+pub record IsAtWork (task : TaskParts) (graph : AbstractGraph) (lease : LeaseValue) : Type 0 where
   pub settings : Settings
   pub reopenings : ℕ
   pub machine : Machine

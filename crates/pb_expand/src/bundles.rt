@@ -4,7 +4,7 @@ ghost use Rattle.pb_model.specs.Store.{HasOpened};
 ghost use Rattle.pb_model.specs.Key.{IsFirstRow};
 ghost use Rattle.pb_model.specs.declared.row.Status.TheVariants.{Closed, Cut};
 ghost use Rattle.pb_lists.specs.Bundle.{IsOpened};
-ghost use Rattle.pb_homes.specs.Parts.{content_in, away_rows};
+ghost use Rattle.pb_bundles.specs.Parts.{content_in, away_rows};
 ghost use Rattle.pb_lease.specs.LeaseValue.{HasWeights};
 ghost use Rattle.pb_expand.specs.Turned.{own_rows};
 ghost use Rattle.pb_expand.specs.Rows.{ChangesRows, SetsStatusAt, OffersAt, own_opened};

@@ -5,7 +5,7 @@ ghost use Rattle.pb_task.specs.Parts.{space_of, greatest_cost};
 ghost use Rattle.pb_estimate.specs.Estimates.{estimate_of};
 ghost use Rattle.pb_estimate.specs.Tables.{tables_of};
 ghost use Rattle.pb_abstract.specs.Graph.{IsGraphOf};
-ghost use Rattle.pb_homes.specs.Parts.{content_in, away_rows};
+ghost use Rattle.pb_bundles.specs.Parts.{content_in, away_rows};
 ghost use Rattle.pb_lease.specs.Leased.{guide_of};
 ghost use Rattle.pb_expand.specs.Rows.{ChangesRows, HasOffers, IsBrokenOff, LeadsInto};
 

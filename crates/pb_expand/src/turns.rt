@@ -5,7 +5,7 @@ ghost use Rattle.pb_model.specs.Key.{IsFirstRow};
 ghost use Rattle.pb_task.specs.Parts.{space_of, max_degree_of};
 ghost use Rattle.pb_estimate.specs.Tables.{tables_of};
 ghost use Rattle.pb_abstract.specs.Graph.{AbstractGraph, IsGraphOf};
-ghost use Rattle.pb_homes.specs.Parts.{content_in};
+ghost use Rattle.pb_bundles.specs.Parts.{content_in};
 ghost use Rattle.pb_lease.specs.LeaseValue.{leased_store, HasWeights, IsSameLease};
 ghost use Rattle.pb_lease.specs.Leased.{guide_of};
 ghost use Rattle.pb_expand.specs.Turned.{own_rows, IsAtWork, HasTurned, IsNext, reads_none};
@@ -33,7 +33,7 @@ fn settle_row(task: &Task, lease: &mut Lease, state: &Packed, row: &Row) -> bool
     ensures fewer { result ≡ true → own_opened lease.new < own_opened lease.old }
     ensures next { result ≡ false → IsNext (space_of task.now) lease.new state.now row.now }
 {
-    if may_be_cut(lease.weight(), lease.bound(), row.g, row.estimate) {
+    if may_be_cut(lease.weight(), lease.incumbent(), row.g, row.estimate) {
         cut(lease, state);
         true
     } else if task.is_goal(state) {

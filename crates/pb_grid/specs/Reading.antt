@@ -5,8 +5,8 @@ use Rattle.std.specs.Str.{bytes_eq}
 use Rattle.pb_task.specs.declared.parts.Class.{Class}
 use Rattle.pb_task.specs.declared.parts.Class.TheVariants.{Land, Water, Blocked}
 use Rattle.pb_task.specs.declared.parts.GridParts.{GridParts}
-use Rattle.pb_task.specs.declared.parts.Parts.{Parts}
-use Rattle.pb_task.specs.declared.parts.Parts.TheVariants.{Grid}
+use Rattle.pb_task.specs.declared.parts.TaskParts.{TaskParts}
+use Rattle.pb_task.specs.declared.parts.TaskParts.TheVariants.{Grid}
 use Rattle.pb_task.specs.Grid.{class_at, is_passable}
 use Rattle.pb_grid.specs.declared.error.GridError.{GridError}
 use Rattle.pb_grid.specs.declared.error.GridError.TheVariants as errors
@@ -182,6 +182,6 @@ grid_reading map_text scenario_text row = do
   grid_of_parts map scenario
 
 -- the task of a grid that was read
-abbrev pub task_of : Result GridParts GridError → Result Parts GridError
+abbrev pub task_of : Result GridParts GridError → Result TaskParts GridError
 task_of (Ok grid) = Ok (Grid grid)
 task_of (Err error) = Err error

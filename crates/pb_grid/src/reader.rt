@@ -1,6 +1,6 @@
 ghost use Rattle.std.specs.Prelude.{◌≡◌, ◌≢◌, IfOk, IfErr, Ok, Err};
 ghost use Rattle.pb_task.specs.declared.parts.GridParts.{GridParts};
-ghost use Rattle.pb_task.specs.declared.parts.Parts.TheVariants.{Grid};
+ghost use Rattle.pb_task.specs.declared.parts.TaskParts.TheVariants.{Grid};
 ghost use Rattle.pb_grid.specs.declared.error.GridError.{GridError};
 ghost use Rattle.pb_grid.specs.declared.error.GridError.TheVariants.{Memory};
 ghost use Rattle.pb_grid.specs.Cases.{IsCaseOf};

@@ -1,5 +1,5 @@
 use crate::{GridError, read_grid};
-use pb_task::{Class, GridParts, Parts};
+use pb_task::{Class, GridParts, TaskParts};
 use std::alloc::Global;
 use std::test::Fail;
 
@@ -25,8 +25,8 @@ fn numbers(grid: &GridParts) -> [u32; 6] {
 fn spelled(alloc: Global, map: &[u8], scenario: &[u8], row: u64) -> Result<[u32; 6], GridError> {
     let task = read_grid(alloc, map, scenario, row)?;
     match task.parts() {
-        Parts::Grid(grid) => Ok(numbers(grid)),
-        Parts::Tiles(_) | Parts::Strips(_) => Err(GridError::Size),
+        TaskParts::Grid(grid) => Ok(numbers(grid)),
+        TaskParts::Tiles(_) | TaskParts::Strips(_) => Err(GridError::Size),
     }
 }
 
@@ -34,8 +34,8 @@ fn spelled(alloc: Global, map: &[u8], scenario: &[u8], row: u64) -> Result<[u32;
 fn class(alloc: Global, map: &[u8], scenario: &[u8], x: u32, y: u32) -> Result<Class, GridError> {
     let task = read_grid(alloc, map, scenario, 0)?;
     match task.parts() {
-        Parts::Grid(grid) => Ok(grid.class_at(x, y)),
-        Parts::Tiles(_) | Parts::Strips(_) => Err(GridError::Size),
+        TaskParts::Grid(grid) => Ok(grid.class_at(x, y)),
+        TaskParts::Tiles(_) | TaskParts::Strips(_) => Err(GridError::Size),
     }
 }
 

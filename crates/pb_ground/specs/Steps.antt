@@ -5,7 +5,7 @@ use Rattle.std.specs.List.{list_any, list_all}
 use Rattle.pb_lifted.specs.declared.lifted.Lifted.{Lifted}
 use Rattle.pb_lifted.specs.declared.lifted.LiftedAtom.{LiftedAtom}
 use Rattle.pb_lifted.specs.declared.lifted.Schema.{Schema}
-use Rattle.pb_ground.specs.declared.actions.GroundAction.{GroundAction}
+use Rattle.pb_ground.specs.declared.actions.ActionInstance.{ActionInstance}
 use Rattle.pb_ground.specs.declared.atoms.GroundAtom.{GroundAtom}
 use Rattle.pb_ground.specs.Actions.{action_of}
 use Rattle.pb_ground.specs.Atoms.{is_fluent, same_atom, grounded, number_in}
@@ -29,7 +29,7 @@ is_in fact facts = list_any (same_atom fact) facts
 abbrev pub facts_after : Facts → List GroundAtom → List GroundAtom → Facts
 facts_after state gone come fact = is_in fact come || (state fact && not (is_in fact gone))
 
-abbrev pub bits_after : Bits → GroundAction → Bits
+abbrev pub bits_after : Bits → ActionInstance → Bits
 bits_after bits action n = list_any (nat_eq n) action.adds || (bits n && not (list_any (nat_eq n) action.deletes))
 
 -- the bits say of each of these atoms whether it holds

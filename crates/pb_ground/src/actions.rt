@@ -9,12 +9,12 @@ use crate::numbers::numbers_of;
 use crate::search::{Search, copy_of, instances};
 use crate::statics::Statics;
 use pb_lifted::{Lifted, Schema};
-use pb_trees::Listed;
+use pb_pddl::Listed;
 use std::alloc::{AllocError, Global};
 
 /// An instance of an action schema. Atoms are named by their numbers. It costs 1.
 #[derive(Debug, Drop)]
-pub struct GroundAction {
+pub struct ActionInstance {
     /// The number of the schema.
     pub schema: usize,
     /// The objects that are given to its parameters.
@@ -37,14 +37,14 @@ fn action_of(
     i: usize,
     schema: &Schema,
     given: &[usize],
-) -> Result<GroundAction, AllocError>
+) -> Result<ActionInstance, AllocError>
     ensures { IfOk result (λ action. action ≡ action_of atoms.now i schema.now given.now) }
 {
     let objects = copy_of(alloc, given)?;
     let needs = numbers_of(alloc, atoms, given, schema.pre.as_slice())?;
     let adds = numbers_of(alloc, atoms, given, schema.adds.as_slice())?;
     let deletes = numbers_of(alloc, atoms, given, schema.deletes.as_slice())?;
-    Ok(GroundAction {
+    Ok(ActionInstance {
         schema: i,
         objects,
         needs,
@@ -60,7 +60,7 @@ fn add_rows(
     i: usize,
     schema: &Schema,
     rows: &[Listed<usize>],
-    actions: &mut Listed<GroundAction>,
+    actions: &mut Listed<ActionInstance>,
 ) -> Result<(), AllocError>
     ensures { OnOk result (actions.new ≡ actions.old ++ map (λ given. action_of atoms.now i schema.now given) rows.now) }
 {
@@ -78,7 +78,7 @@ fn add_actions(
     atoms: &Atoms,
     i: usize,
     schema: &Schema,
-    actions: &mut Listed<GroundAction>,
+    actions: &mut Listed<ActionInstance>,
 ) -> Result<(), GroundError>
     requires statics { AreStatics statics.now lifted.now }
     requires few { length actions.old ≤ 65536 }
@@ -104,7 +104,7 @@ pub fn ground_actions(
     alloc: Global,
     lifted: &Lifted,
     atoms: &Atoms,
-) -> Result<Listed<GroundAction>, GroundError>
+) -> Result<Listed<ActionInstance>, GroundError>
     ensures few { OnOk result (length (ground_actions lifted.now atoms.now) ≤ 65536) }
     ensures actions { IfOk result (λ actions. actions ≡ ground_actions lifted.now atoms.now) }
     ensures refused { IfErr result (TellsActions lifted.now atoms.now) }

@@ -9,7 +9,7 @@ use crate::error::GroundError;
 use crate::search::{Search, copy_of, instances};
 use crate::statics::Statics;
 use pb_lifted::Lifted;
-use pb_trees::Listed;
+use pb_pddl::Listed;
 use std::alloc::{AllocError, Global};
 use std::marker::Model;
 

@@ -3,7 +3,7 @@ ghost use Rattle.pb_lifted.specs.Tree.{comes_to};
 ghost use Rattle.pb_ground.specs.Instances.{fitting, candidates};
 
 use pb_lifted::Lifted;
-use pb_trees::Listed;
+use pb_pddl::Listed;
 use std::alloc::{AllocError, Global};
 
 /// The type above a type. Behind the end there is `object` above each.

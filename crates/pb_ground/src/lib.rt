@@ -12,7 +12,7 @@ mod search;
 mod statics;
 mod supports;
 
-pub use actions::{GroundAction, ground_actions};
+pub use actions::{ActionInstance, ground_actions};
 pub use atoms::{Atoms, GroundAtom, ground_atoms};
 pub use error::GroundError;
 pub use laws::{atoms_are_all, instances_are_all, statics_are_kept, steps_correspond};

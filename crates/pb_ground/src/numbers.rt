@@ -7,7 +7,7 @@ ghost use Rattle.pb_ground.specs.Atoms.{grounded, number_in};
 use crate::atoms::Atoms;
 use crate::statics::{Statics, may_hold, value_of};
 use pb_lifted::{Argument, Lifted, LiftedAtom};
-use pb_trees::Listed;
+use pb_pddl::Listed;
 use std::alloc::{AllocError, Global};
 
 /// The objects that arguments stand for, where these are given to the parameters.

@@ -7,7 +7,7 @@ ghost use Rattle.pb_ground.specs.Supports.{stands_at, is_parameter, is_supported
 use crate::fitting::candidates;
 use crate::statics::{Statics, place_row};
 use pb_lifted::{Argument, Lifted, LiftedAtom};
-use pb_trees::Listed;
+use pb_pddl::Listed;
 use std::alloc::{AllocError, Global};
 
 /// Whether an argument is this parameter.

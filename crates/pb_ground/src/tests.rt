@@ -1,6 +1,6 @@
 use super::*;
 use pb_lifted::{Argument, Lifted, LiftedAtom, Schema};
-use pb_trees::Listed;
+use pb_pddl::Listed;
 use std::alloc::Global;
 use std::test::Fail;
 

@@ -8,9 +8,9 @@ use Rattle.pb_machine.specs.Counts.{Counts}
 use Rattle.pb_machine.proofs.TableLaws.{entry_here}
 use Rattle.pb_abstract.specs.Graph.{AbstractGraph, blocks_of, has}
 use Rattle.pb_lists.specs.Bundle.{Content}
-use Rattle.pb_homes.specs.Parts.{content_in}
-use Rattle.pb_homes.specs.Homes.{HomeTable, content_at}
-use Rattle.pb_homes.specs.Moves.{vacated}
+use Rattle.pb_bundles.specs.Parts.{content_in}
+use Rattle.pb_bundles.specs.Homes.{HomeTable, content_at}
+use Rattle.pb_bundles.specs.Moves.{vacated}
 use Rattle.pb_lease.specs.Tables.{Table, blocks, rooms}
 use Rattle.pb_lease.specs.Events.{Adds}
 use Rattle.pb_lease.specs.LeaseValue.{LeaseValue}

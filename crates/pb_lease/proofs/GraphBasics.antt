@@ -14,9 +14,9 @@ use Rattle.pb_machine.proofs.CountsLaws.{none_end}
 use Rattle.pb_machine.proofs.Histories.{histories_are_lawful}
 use Rattle.pb_machine.proofs.WholeStore.{all_is_home}
 use Rattle.pb_abstract.proofs.Walking.{abstract_graphs_are_blocks}
-use Rattle.pb_homes.specs.Homes.{content_at, key_at, home_rows}
-use Rattle.pb_homes.proofs.Lists.{past, some_within}
-use Rattle.pb_homes.proofs.ByKey.{first_choices_are_by_key, opened_is_by_key}
+use Rattle.pb_bundles.specs.Homes.{content_at, key_at, home_rows}
+use Rattle.pb_bundles.proofs.Lists.{past, some_within}
+use Rattle.pb_bundles.proofs.ByKey.{first_choices_are_by_key, opened_is_by_key}
 use Rattle.pb_lease.specs.Tables.{blocks}
 use Rattle.pb_lease.specs.Leasing.{can_be_leased}
 use Rattle.pb_lease.specs.Leased.{guide_of}

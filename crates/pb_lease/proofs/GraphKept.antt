@@ -15,10 +15,10 @@ use Rattle.pb_machine.proofs.TableLaws.{entry_here}
 use Rattle.pb_machine.proofs.Histories.{histories_grow}
 use Rattle.pb_abstract.specs.Graph.{AbstractGraph, IsGraphOf, blocks_of, has}
 use Rattle.pb_lists.specs.Bundle.{Content}
-use Rattle.pb_homes.specs.Homes.{HomeTable, content_at}
-use Rattle.pb_homes.specs.Parts.{content_in}
-use Rattle.pb_homes.specs.Moves.{vacated, IsVacant}
-use Rattle.pb_homes.proofs.Moving.{vacated_length}
+use Rattle.pb_bundles.specs.Homes.{HomeTable, content_at}
+use Rattle.pb_bundles.specs.Parts.{content_in}
+use Rattle.pb_bundles.specs.Moves.{vacated, IsVacant}
+use Rattle.pb_bundles.proofs.Moving.{vacated_length}
 use Rattle.pb_lease.specs.Tables.{Table, blocks, counts_of}
 use Rattle.pb_lease.specs.Events.{Adds, counts_along, ending}
 use Rattle.pb_lease.specs.LeaseValue.{LeaseValue}

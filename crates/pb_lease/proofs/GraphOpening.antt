@@ -6,7 +6,7 @@ use Rattle.pb_model.specs.declared.key.Key.{Key}
 use Rattle.pb_model.specs.declared.row.Estimate.{Estimate}
 use Rattle.pb_model.specs.Store.{Rows, Store}
 use Rattle.pb_model.specs.Work.{opening_store}
-use Rattle.pb_task.specs.declared.parts.Parts.{Parts}
+use Rattle.pb_task.specs.declared.parts.TaskParts.{TaskParts}
 use Rattle.pb_task.specs.Parts.{space_of, IsTask, greatest_cost}
 use Rattle.pb_estimate.specs.Estimates.{estimate_of}
 use Rattle.pb_machine.specs.declared.event.Event.{Event}
@@ -21,13 +21,13 @@ use Rattle.pb_machine.proofs.Moments.{opening_is_lawful}
 use Rattle.pb_machine.proofs.WholeStore.{all_is_home}
 use Rattle.pb_abstract.specs.Graph.{AbstractGraph, IsGraphOf, blocks_of, home_of}
 use Rattle.pb_lists.specs.Bundle.{Content}
-use Rattle.pb_homes.specs.Homes.{HomeTable, content_at, key_at, home_rows, empty_homes, with_start, AreNoted}
-use Rattle.pb_homes.specs.Moves.{NotesKey}
-use Rattle.pb_homes.specs.Stores.{HasKeys}
-use Rattle.pb_homes.proofs.Lists.{some_within, set_at}
+use Rattle.pb_bundles.specs.Homes.{HomeTable, content_at, key_at, home_rows, empty_homes, with_start, AreNoted}
+use Rattle.pb_bundles.specs.Moves.{NotesKey}
+use Rattle.pb_bundles.specs.Stores.{HasKeys}
+use Rattle.pb_bundles.proofs.Lists.{some_within, set_at}
 use Rattle.pb_model.proofs.Tests.{equal_self}
-use Rattle.pb_homes.proofs.Opening.{opening_rows_are_home}
-use Rattle.pb_homes.proofs.ByRows.{keys_at_home_are_best}
+use Rattle.pb_bundles.proofs.Opening.{opening_rows_are_home}
+use Rattle.pb_bundles.proofs.ByRows.{keys_at_home_are_best}
 use Rattle.pb_lease.specs.Tables.{Table, blocks, counts_of}
 use Rattle.pb_lease.specs.Leased.{guide_of}
 use Rattle.pb_lease.specs.GraphValue.{GraphValue, setup_in, IsLeaseGraph}
@@ -39,7 +39,7 @@ some_content : (a b : Content) → Some a ≡ Some b → a ≡ b
 some_content a b e = cc
 
 -- what the parts of such a graph are
-pub record IsOpening (task : Parts) (table : Table) (homes : HomeTable) : Type 0 where
+pub record IsOpening (task : TaskParts) (table : Table) (homes : HomeTable) : Type 0 where
   pub is_task : IsTask task
   pub graph_of : IsGraphOf task table.graph
   pub range : AreInRange table.settings
@@ -51,7 +51,7 @@ pub record IsOpening (task : Parts) (table : Table) (homes : HomeTable) : Type 0
   pub keys : length homes.keys ≡ (blocks table).count
   pub noted : AreNoted homes
 
-module _ (task : Parts) (is_task : IsTask task) (graph : AbstractGraph) (graph_of : IsGraphOf task graph) (settings : Settings) (range : AreInRange settings) (table : Table) (same_graph : table.graph ≡ graph)
+module _ (task : TaskParts) (is_task : IsTask task) (graph : AbstractGraph) (graph_of : IsGraphOf task graph) (settings : Settings) (range : AreInRange settings) (table : Table) (same_graph : table.graph ≡ graph)
     (same_settings : table.settings ≡ settings) (counts : counts_of table ≡ opening_counts settings 0) (journal : table.journal ≡ []) (start : ℕ) (start_is : start ≡ (space_of task).start)
     (block : ℕ) (block_is : block ≡ home_of task graph start) (below : block < (blocks_of graph).count) (count : ℕ) (count_is : count ≡ (blocks_of graph).count)
     (estimate : Estimate) (estimate_is : estimate ≡ estimate_of task (space_of task).start) (first homes : HomeTable) (first_is : first ≡ empty_homes count (weight_of settings))
@@ -105,7 +105,7 @@ module _ (task : Parts) (is_task : IsTask task) (graph : AbstractGraph) (graph_o
     noted = noted;
   }
 
-module _ (task : Parts) (table : Table) (homes : HomeTable) (o : IsOpening task table homes) where
+module _ (task : TaskParts) (table : Table) (homes : HomeTable) (o : IsOpening task table homes) where
   abbrev New : GraphValue
   New = record { task = task; table = table; homes = homes; incumbent = None }
 

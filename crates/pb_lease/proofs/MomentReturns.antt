@@ -24,11 +24,11 @@ use Rattle.pb_machine.proofs.Moments.{runs_are_lawful}
 use Rattle.pb_machine.proofs.LeaseTurns.{ordered_runs_are_runs}
 use Rattle.pb_machine.proofs.WholeStore.{renewing_keeps_whole, releasing_keeps_whole, recorded_rows_are_lent, others_keep_whole}
 use Rattle.pb_lists.specs.Bundle.{Content}
-use Rattle.pb_homes.specs.Parts.{content_in, rows_in, away_rows}
-use Rattle.pb_homes.specs.Homes.{content_at, key_at, home_rows}
-use Rattle.pb_homes.specs.Stores.{HasKeys}
-use Rattle.pb_homes.specs.Moves.{NotesKeys}
-use Rattle.pb_homes.proofs.ByRows.{among_found, noted_keys_are_best}
+use Rattle.pb_bundles.specs.Parts.{content_in, rows_in, away_rows}
+use Rattle.pb_bundles.specs.Homes.{content_at, key_at, home_rows}
+use Rattle.pb_bundles.specs.Stores.{HasKeys}
+use Rattle.pb_bundles.specs.Moves.{NotesKeys}
+use Rattle.pb_bundles.proofs.ByRows.{among_found, noted_keys_are_best}
 use Rattle.pb_lease.specs.Tables.{blocks}
 use Rattle.pb_lease.specs.Leasing.{can_be_leased}
 use Rattle.pb_lease.specs.Events.{counts_along, ending}
@@ -36,8 +36,8 @@ use Rattle.pb_lease.specs.LeaseValue.{LeaseValue, leased_store}
 use Rattle.pb_lease.specs.Leased.{grant_of, IsOut, IsInTurns, IsOutInTurns}
 use Rattle.pb_lease.specs.GraphValue.{GraphValue, setup_in, counts_in, IsLeaseGraph, IsOfGraph}
 use Rattle.pb_lease.specs.Moments.{IsMomentAt, Follows, moves_of, ShowsTold, IsKnownThen}
-use Rattle.pb_homes.proofs.Lists.{past}
-use Rattle.pb_homes.proofs.ByKey.{first_choices_are_by_key}
+use Rattle.pb_bundles.proofs.Lists.{past}
+use Rattle.pb_bundles.proofs.ByKey.{first_choices_are_by_key}
 use Rattle.pb_lease.specs.Choices.{IsChoiceWithHome}
 use Rattle.pb_lease.specs.Steps.{ChoosesByRows, IsReleased, ReleasesNext, IsRenewed, RenewsNext, renewed_quota}
 use Rattle.pb_lease.proofs.NextEvents.{release_may, renewal_may}

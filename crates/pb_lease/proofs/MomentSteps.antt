@@ -16,9 +16,9 @@ use Rattle.pb_machine.specs.Whole.{IsWhole}
 use Rattle.pb_machine.proofs.TableLaws.{entry_here, entry_else}
 use Rattle.pb_machine.proofs.Moments.{moves_keep_lawful}
 use Rattle.pb_machine.proofs.WholeStore.{leasing_keeps_whole, recorded_rows_are_lent}
-use Rattle.pb_homes.specs.Parts.{rows_in, away_rows}
-use Rattle.pb_homes.specs.Homes.{content_at, key_at, home_rows}
-use Rattle.pb_homes.specs.Stores.{HasKeys}
+use Rattle.pb_bundles.specs.Parts.{rows_in, away_rows}
+use Rattle.pb_bundles.specs.Homes.{content_at, key_at, home_rows}
+use Rattle.pb_bundles.specs.Stores.{HasKeys}
 use Rattle.pb_lease.specs.Tables.{blocks}
 use Rattle.pb_lease.specs.LeaseValue.{LeaseValue, leased_store}
 use Rattle.pb_lease.specs.Leased.{setup_of, grant_of, IsOutInTurns}

@@ -11,8 +11,8 @@ use Rattle.pb_machine.proofs.Moments.{moves_keep_lawful}
 use Rattle.pb_machine.proofs.MomentLaws.{known_stays}
 use Rattle.pb_machine.proofs.OwnMoves.{none_out_untold}
 use Rattle.pb_machine.proofs.WholeStore.{others_keep_whole}
-use Rattle.pb_homes.specs.Homes.{key_at, home_rows}
-use Rattle.pb_homes.specs.Stores.{HasKeys}
+use Rattle.pb_bundles.specs.Homes.{key_at, home_rows}
+use Rattle.pb_bundles.specs.Stores.{HasKeys}
 use Rattle.pb_lease.specs.GraphValue.{setup_in}
 use Rattle.pb_lease.specs.Moments.{moves_of}
 use Rattle.pb_lease.specs.Laws.{TellsKeepMoments, NoneOutIsMoment, EventsLeaveOthers}

@@ -9,11 +9,11 @@ use Rattle.pb_machine.specs.declared.event.Event.TheVariants.{Renew}
 use Rattle.pb_machine.specs.Tables.{with_entry}
 use Rattle.pb_machine.specs.Choice.{counts_with_lease_home}
 use Rattle.pb_lists.specs.Bundle.{Content, row_of}
-use Rattle.pb_homes.specs.Parts.{content_in}
-use Rattle.pb_homes.specs.Homes.{HomeTable, key_at}
-use Rattle.pb_homes.specs.Moves.{NotesKeys}
-use Rattle.pb_homes.specs.Choosing.{IsFirstBy}
-use Rattle.pb_homes.proofs.Lists.{found_at}
+use Rattle.pb_bundles.specs.Parts.{content_in}
+use Rattle.pb_bundles.specs.Homes.{HomeTable, key_at}
+use Rattle.pb_bundles.specs.Moves.{NotesKeys}
+use Rattle.pb_bundles.specs.Choosing.{IsFirstBy}
+use Rattle.pb_bundles.proofs.Lists.{found_at}
 use Rattle.pb_lease.specs.Tables.{blocks, rooms}
 use Rattle.pb_lease.specs.Leasing.{can_be_leased}
 use Rattle.pb_lease.specs.Events.{Adds}

@@ -11,17 +11,17 @@ use Rattle.std.specs.Bool.{MatchBool}
 use Rattle.std.specs.List.{HoldsAt, AllWithin}
 use Rattle.pb_abstract.specs.Graph.{has}
 use Rattle.pb_abstract.proofs.Has.{interferes_known}
-use Rattle.pb_homes.specs.Homes.{key_at}
-use Rattle.pb_homes.specs.Moves.{is_among}
-use Rattle.pb_homes.specs.Choosing.{IsBestOf, IsBetterBy, IsRivalBy}
-use Rattle.pb_homes.proofs.ByKey.{rivals_are_by_key}
+use Rattle.pb_bundles.specs.Homes.{key_at}
+use Rattle.pb_bundles.specs.Moves.{is_among}
+use Rattle.pb_bundles.specs.Choosing.{IsBestOf, IsBetterBy, IsRivalBy}
+use Rattle.pb_bundles.proofs.ByKey.{rivals_are_by_key}
 use Rattle.pb_lease.specs.Tables.{blocks}
 use Rattle.pb_machine.specs.declared.event.Event.TheVariants.{Hot, Cold}
 use Rattle.pb_machine.specs.declared.event.Grant.{Grant}
 use Rattle.pb_machine.specs.Legality.{refusal}
 use Rattle.pb_machine.proofs.CountsLaws.{none_end}
 use Rattle.pb_model.proofs.Tests.{and_true, not_true, not_both, by_cases}
-use Rattle.pb_homes.proofs.Lists.{found_at}
+use Rattle.pb_bundles.proofs.Lists.{found_at}
 use Rattle.pb_lease.specs.Marking.{may_be_marked, may_be_cooled}
 use Rattle.pb_lease.specs.GraphValue.{GraphValue, counts_in, IsLeaseGraph}
 use Rattle.pb_lease.proofs.NextEvents.{mark_may, cold_may}

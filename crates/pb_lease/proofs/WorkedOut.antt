@@ -7,8 +7,8 @@ use Rattle.pb_machine.specs.Machine.{Machine, IsWorked, lent_store}
 use Rattle.pb_machine.specs.Turns.{AreLeaseTurns}
 use Rattle.pb_machine.proofs.LeaseWork.{lease_work_stays}
 use Rattle.pb_machine.proofs.WholeStore.{recorded_rows_are_lent}
-use Rattle.pb_homes.specs.Parts.{away_rows}
-use Rattle.pb_homes.specs.Homes.{home_rows}
+use Rattle.pb_bundles.specs.Parts.{away_rows}
+use Rattle.pb_bundles.specs.Homes.{home_rows}
 use Rattle.pb_lease.specs.LeaseValue.{LeaseValue, leased_store, IsSameLease}
 use Rattle.pb_lease.specs.Leased.{grant_of, IsOut, IsInTurns}
 use Rattle.pb_lease.specs.GraphValue.{GraphValue, setup_in, IsOfGraph}

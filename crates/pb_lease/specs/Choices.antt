@@ -5,8 +5,8 @@ use Rattle.pb_machine.specs.declared.event.End.TheVariants.{Quiet, Budget, Memor
 use Rattle.pb_machine.specs.Blocks.{interferes}
 use Rattle.pb_machine.specs.Counts.{is_any_out, is_busy}
 use Rattle.pb_machine.specs.Choice.{counts_with_lease_home}
-use Rattle.pb_homes.specs.Homes.{key_at}
-use Rattle.pb_homes.specs.Choosing.{IsBetterBy, IsFirstBy}
+use Rattle.pb_bundles.specs.Homes.{key_at}
+use Rattle.pb_bundles.specs.Choosing.{IsBetterBy, IsFirstBy}
 use Rattle.pb_lease.specs.Tables.{blocks, rooms}
 use Rattle.pb_lease.specs.Leasing.{can_be_leased}
 use Rattle.pb_lease.specs.LeaseValue.{LeaseValue}

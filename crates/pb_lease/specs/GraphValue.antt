@@ -5,17 +5,17 @@ use Rattle.pb_machine.specs.Counts.{Counts}
 use Rattle.pb_machine.specs.History.{IsHistory}
 use Rattle.pb_machine.specs.Machine.{Setup}
 use Rattle.pb_machine.specs.Whole.{is_away}
-use Rattle.pb_task.specs.declared.parts.Parts.{Parts}
+use Rattle.pb_task.specs.declared.parts.TaskParts.{TaskParts}
 use Rattle.pb_task.specs.Parts.{IsTask}
 use Rattle.pb_lists.specs.Bundle.{Content}
 use Rattle.pb_abstract.specs.Graph.{IsGraphOf}
-use Rattle.pb_homes.specs.Homes.{HomeTable, content_at}
+use Rattle.pb_bundles.specs.Homes.{HomeTable, content_at}
 use Rattle.pb_lease.specs.Tables.{Table, blocks, counts_of}
 use Rattle.pb_lease.specs.LeaseValue.{LeaseValue}
 use Rattle.pb_lease.specs.Leased.{setup_of, grant_of, HasScope}
 
 pub record GraphValue : Type 0 where
-  pub task : Parts
+  pub task : TaskParts
   pub table : Table  -- the numbers, with the abstract graph, the settings and the journal
   pub homes : HomeTable  -- the bundles at home and the keys that were noted
   pub incumbent : Option ℕ

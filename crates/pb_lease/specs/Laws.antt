@@ -11,7 +11,7 @@ use Rattle.pb_machine.specs.Choice.{MayBeLeased}
 use Rattle.pb_machine.specs.Machine.{Setup, IsSetup, Machine, IsWorked, Move, tell_move, Moves, Runs, AreOfOthers}
 use Rattle.pb_machine.specs.Turns.{AreLeaseTurns}
 use Rattle.pb_machine.specs.Lawful.{IsLawful}
-use Rattle.pb_homes.specs.Parts.{away_rows}
+use Rattle.pb_bundles.specs.Parts.{away_rows}
 use Rattle.pb_lease.specs.LeaseValue.{LeaseValue, leased_store, IsSameLease}
 use Rattle.pb_lease.specs.Leased.{IsOut, IsInTurns}
 use Rattle.pb_lease.specs.GraphValue.{GraphValue, setup_in, IsLeaseGraph, IsOfGraph}

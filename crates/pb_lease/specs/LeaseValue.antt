@@ -4,7 +4,7 @@ use Rattle.std.specs.Map.{keys_of}
 use Rattle.pb_model.specs.Weight.{Weight, IsWeight}
 use Rattle.pb_model.specs.Store.{Store, AtMost}
 use Rattle.pb_lists.specs.Bundle.{Content}
-use Rattle.pb_homes.specs.Parts.{content_in, with_content, away_rows}
+use Rattle.pb_bundles.specs.Parts.{content_in, with_content, away_rows}
 
 -- The worker that has it, the block that it is of, how many expansions it may make and has made, the least cost at which a goal is
 -- known to be reached, or none, the weight of the search, and the bundles of the block's scope.

@@ -6,8 +6,8 @@ use Rattle.pb_machine.specs.Machine.{Machine, Move, event_move, Runs, with_incum
 use Rattle.pb_machine.specs.Turns.{RunsInOrder}
 use Rattle.pb_machine.specs.Lawful.{IsLawful}
 use Rattle.pb_machine.specs.Whole.{IsWhole}
-use Rattle.pb_homes.specs.Homes.{key_at, home_rows}
-use Rattle.pb_homes.specs.Stores.{HasKeys}
+use Rattle.pb_bundles.specs.Homes.{key_at, home_rows}
+use Rattle.pb_bundles.specs.Stores.{HasKeys}
 use Rattle.pb_lease.specs.LeaseValue.{LeaseValue, leased_store}
 use Rattle.pb_lease.specs.GraphValue.{GraphValue, setup_in, counts_in}
 

@@ -10,9 +10,9 @@ use Rattle.pb_machine.specs.Tables.{with_entry, one_if}
 use Rattle.pb_machine.specs.Choice.{IsFirstChoice, counts_with_lease_home}
 use Rattle.pb_machine.specs.Machine.{Machine, lent_store, KeepsRows}
 use Rattle.pb_machine.specs.Turns.{RunsInOrder}
-use Rattle.pb_homes.specs.Parts.{content_in, away_rows}
-use Rattle.pb_homes.specs.Homes.{content_at}
-use Rattle.pb_homes.specs.Moves.{NotesKeys}
+use Rattle.pb_bundles.specs.Parts.{content_in, away_rows}
+use Rattle.pb_bundles.specs.Homes.{content_at}
+use Rattle.pb_bundles.specs.Moves.{NotesKeys}
 use Rattle.pb_lease.specs.Tables.{blocks, rooms}
 use Rattle.pb_lease.specs.Events.{Adds, ending}
 use Rattle.pb_lease.specs.LeaseValue.{LeaseValue, leased_store}

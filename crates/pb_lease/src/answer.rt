@@ -3,7 +3,7 @@ use crate::lease::Lease;
 use pb_machine::End;
 
 /// What a worker is answered that asks for a lease.
-pub enum Answer {
+pub enum LeaseReply {
     /// It has this lease, of the first choice.
     Leased(Lease),
     /// No end stands, some lease is out, and no block may be leased as things are: the worker asks again when something changed.

@@ -5,9 +5,9 @@ ghost use Rattle.pb_lease.specs.Events.{ending};
 ghost use Rattle.pb_lease.specs.GraphValue.{counts_in};
 ghost use Rattle.pb_lease.specs.Steps.{IsSignedOff, KeepsLeases};
 
-use crate::graph::Graph;
+use crate::graph::LeaseGraph;
 
-impl Graph {
+impl LeaseGraph {
     /// The worker signs off: it takes no further part. Where it reports want of memory and no end stands, the search ends by that.
     pub fn sign_off(&mut self, worker: u32, trouble: bool)
         requires worker { worker < self.old.table.settings.workers }

@@ -8,10 +8,10 @@ ghost use Rattle.pb_lease.specs.Tables.{counts_of, rooms};
 ghost use Rattle.pb_lease.specs.Events.{Adds, ending, end_after};
 
 use crate::seat::Seat;
-use crate::tables::Tables;
+use crate::tables::MachineTables;
 use pb_machine::{End, Event};
 
-impl Tables {
+impl MachineTables {
     /// The worker signs off. Where it reports want of memory and no end stands, the search ends by that.
     pub fn sign_off(&mut self, worker: u32, memory: bool)
         requires worker { worker < self.old.settings.workers }

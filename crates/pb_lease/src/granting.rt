@@ -3,7 +3,7 @@ ghost use Rattle.std.specs.Prelude.{◌≡◌, ◌↔◌, ◌<◌, ◌⊎◌, �
 ghost use Rattle.pb_model.specs.Store.{Rows};
 ghost use Rattle.pb_machine.specs.Machine.{Machine};
 ghost use Rattle.pb_machine.specs.Choice.{MayBeLeased};
-ghost use Rattle.pb_lease.specs.declared.answer.Answer.TheVariants.{Leased, NotYet, Over, Memory};
+ghost use Rattle.pb_lease.specs.declared.answer.LeaseReply.TheVariants.{Leased, NotYet, Over, Memory};
 ghost use Rattle.pb_lease.specs.Tables.{blocks};
 ghost use Rattle.pb_lease.specs.LeaseValue.{LeaseValue};
 ghost use Rattle.pb_lease.specs.GraphValue.{counts_in};
@@ -11,19 +11,19 @@ ghost use Rattle.pb_lease.specs.Choices.{IsChoice, is_out_in, IsOver, IsToWait, 
 ghost use Rattle.pb_lease.specs.Moments.{IsMomentAt};
 ghost use Rattle.pb_lease.specs.Steps.{IsLeased, LeasesNext, IsEnded, KeepsLeases, end_events};
 
-use crate::answer::Answer;
-use crate::graph::Graph;
+use crate::answer::LeaseReply;
+use crate::graph::LeaseGraph;
 use crate::lease::Lease;
-use pb_homes::Room;
+use pb_bundles::BundleRoom;
 use pb_machine::End;
 use std::alloc::AllocError;
 
-impl Graph {
+impl LeaseGraph {
     /// The worker asks for a lease. It gets one of the first choice. The search is over exactly where an end stands, or no lease is out and
     /// no row is Opened, or some row is and nothing is left of the budget; then the end comes now. The worker is to wait exactly where no
     /// end stands, some lease is out, and no block may be leased; nothing changes then. All memory is taken first: for the list of the
     /// bundles, and in the journal for 65 events. At want of memory nothing changes either.
-    pub fn lease(&mut self, worker: u32) -> Answer
+    pub fn lease(&mut self, worker: u32) -> LeaseReply
         requires worker { worker < self.old.table.settings.workers }
         requires vacant { (counts_in self.old).leases worker ≡ None }
         requires stays { IsFalse ((counts_in self.old).signed_off worker) }
@@ -38,18 +38,18 @@ impl Graph {
             → (block : ℕ) → MayBeLeased (blocks self.old.table) self.old.table.settings machine.counts machine.store block → ⊥ }
     {
         if let Some(end) = self.tables.end() {
-            return Answer::Over(end);
+            return LeaseReply::Over(end);
         }
         match self.choice() {
             Some(block) => match self.lease_block(worker, block) {
-                Ok(lease) => Answer::Leased(lease),
-                Err(_) => Answer::Memory,
+                Ok(lease) => LeaseReply::Leased(lease),
+                Err(_) => LeaseReply::Memory,
             },
             None => {
                 if self.tables.is_any_out() {
-                    Answer::NotYet
+                    LeaseReply::NotYet
                 } else {
-                    Answer::Over(self.end_now())
+                    LeaseReply::Over(self.end_now())
                 }
             }
         }
@@ -73,7 +73,7 @@ impl Graph {
         ensures moment { IfOk result (λ lease. LeasesNext self.old lease self.new) }
         ensures err { OnErr result (self.new ≡ self.old) }
     {
-        let room = Room::new(self.alloc, self.tables.graph().scope(block).len())?;
+        let room = BundleRoom::new(self.alloc, self.tables.graph().scope(block).len())?;
         let quota = self.tables.lease(worker, block)?;
         let parts = self.homes.take_out(self.tables.graph().scope(block), room);
         let settings = self.tables.settings();
@@ -82,7 +82,7 @@ impl Graph {
             block,
             quota,
             used: 0,
-            bound: self.incumbent,
+            incumbent: self.incumbent,
             num: settings.num,
             den: settings.den,
             parts,

@@ -11,15 +11,15 @@ ghost use Rattle.pb_task.specs.Parts.{space_of};
 ghost use Rattle.pb_estimate.specs.Estimates.{estimate_of};
 ghost use Rattle.pb_abstract.specs.Graph.{IsGraphOf};
 ghost use Rattle.pb_lists.specs.Bundle.{row_of};
-ghost use Rattle.pb_homes.specs.Homes.{content_at, home_rows};
+ghost use Rattle.pb_bundles.specs.Homes.{content_at, home_rows};
 ghost use Rattle.pb_lease.specs.Tables.{blocks, rooms};
 ghost use Rattle.pb_lease.specs.GraphValue.{setup_in, counts_in, IsLeaseGraph};
 ghost use Rattle.pb_lease.specs.Choices.{is_out_in};
 ghost use Rattle.pb_lease.specs.Moments.{IsMomentAt, IsMoment};
 
-use crate::tables::Tables;
+use crate::tables::MachineTables;
 use pb_abstract::AbsGraph;
-use pb_homes::Homes;
+use pb_bundles::Homes;
 use pb_lists::Bundle;
 use pb_machine::{End, Event, Settings};
 use pb_model::Estimate;
@@ -32,16 +32,16 @@ use std::sync::Arc;
 /// reached, and the numbers and the journal of the lease machine. Each call that changes it is one event of that machine, or an event and
 /// the end that follows from it.
 #[derive(Drop)]
-pub struct Graph {
+pub struct LeaseGraph {
     pub(crate) task: Arc<Task>,
-    pub(crate) tables: Tables,
+    pub(crate) tables: MachineTables,
     pub(crate) homes: Homes,
     pub(crate) incumbent: Option<u64>,
     // the allocator of the lists of bundles that leave with leases
     pub(crate) alloc: Global,
 }
 
-impl Model for Graph {
+impl Model for LeaseGraph {
     ghost use Rattle.std.specs.Arc.{arc_value};
     ghost use Rattle.pb_lease.specs.GraphValue.{GraphValue, IsLeaseGraph};
 
@@ -52,7 +52,7 @@ impl Model for Graph {
     ghost invariant = { λ g. IsLeaseGraph (record { task = arc_value g.task; table = g.tables; homes = g.homes; incumbent = g.incumbent }) };
 }
 
-impl Graph {
+impl LeaseGraph {
     /// The graph of a search that begins: the start alone has a row, which is Opened, nothing is leased, all of the budget is left, no cost
     /// is known, and the journal is empty. It takes room for all blocks and workers, for every worker's signing off and for one end. The
     /// estimate is the start's. An error is want of memory.
@@ -62,7 +62,7 @@ impl Graph {
         graph: Arc<AbsGraph>,
         estimate: Estimate,
         settings: Settings,
-    ) -> Result<Graph, AllocError>
+    ) -> Result<LeaseGraph, AllocError>
         requires graph { IsGraphOf (arc_value task) (arc_value graph) }
         requires estimate { estimate ≡ estimate_of (arc_value task) (space_of (arc_value task)).start }
         requires settings { AreInRange settings }
@@ -80,8 +80,8 @@ impl Graph {
         let block = graph.block(&task, &start);
         let mut homes = Homes::new(alloc, graph.count(), settings.num, settings.den)?;
         homes.offer_start(block, start, estimate)?;
-        let tables = Tables::new(alloc, graph, settings)?;
-        Ok(Graph {
+        let tables = MachineTables::new(alloc, graph, settings)?;
+        Ok(LeaseGraph {
             task,
             tables,
             homes,

@@ -7,7 +7,7 @@ ghost use Rattle.pb_lease.specs.Tables.{blocks};
 ghost use Rattle.pb_lease.specs.GraphValue.{counts_in, IsOfGraph};
 
 use crate::tests::{corridor, nine_cells};
-use crate::{Answer, Graph, Lease, Renewed};
+use crate::{Lease, LeaseGraph, LeaseReply, Renewed};
 use pb_abstract::AbsGraph;
 use pb_estimate::Estimator;
 use pb_machine::{End, Settings};
@@ -17,7 +17,7 @@ use std::sync::Arc;
 use std::test::Fail;
 
 // The graph of a search of the task by two workers.
-fn graph(alloc: Global, task: Task, budget: u64, lot: u64) -> Result<Option<Graph>, AllocError>
+fn graph(alloc: Global, task: Task, budget: u64, lot: u64) -> Result<Option<LeaseGraph>, AllocError>
     ensures { IfOk result (λ found. MatchOption found ⊤ (λ g. (counts_in g ≡ opening_counts g.table.settings 0) × (g.table.settings.workers ≡ 2))) }
 {
     let abstraction = AbsGraph::of(alloc, &task, 256)?;
@@ -38,7 +38,7 @@ fn graph(alloc: Global, task: Task, budget: u64, lot: u64) -> Result<Option<Grap
     };
     let task = Arc::new(alloc, task)?;
     let abstraction = Arc::new(alloc, abstraction)?;
-    Ok(Some(Graph::new(alloc, task, abstraction, estimate, settings)?))
+    Ok(Some(LeaseGraph::new(alloc, task, abstraction, estimate, settings)?))
 }
 
 // What a worker is told that asks for a lease.
@@ -51,37 +51,37 @@ enum Told {
 }
 
 // What is seen while worker 0 has a lease: its block, what worker 1 is told, and how many events the journal has. The lease comes back.
-fn ask_twice(graph: &mut Graph) -> Option<(u32, Told, usize)>
+fn ask_twice(graph: &mut LeaseGraph) -> Option<(u32, Told, usize)>
     requires opening { counts_in graph.old ≡ opening_counts graph.old.table.settings 0 }
     requires workers { graph.old.table.settings.workers ≡ 2 }
 {
     match graph.lease(0) {
-        Answer::Leased(lease) => {
+        LeaseReply::Leased(lease) => {
             let block = lease.block();
             let told = ask(graph);
             let events = graph.journal().len();
             graph.release(lease, false);
             Some((block, told, events))
         }
-        Answer::NotYet | Answer::Over(_) | Answer::Memory => None,
+        LeaseReply::NotYet | LeaseReply::Over(_) | LeaseReply::Memory => None,
     }
 }
 
 // What worker 1 is told that asks for a lease. If it gets one, that comes back at once.
-fn ask(graph: &mut Graph) -> Told
+fn ask(graph: &mut LeaseGraph) -> Told
     requires worker { 1 < graph.old.table.settings.workers }
     requires vacant { (counts_in graph.old).leases 1 ≡ None }
     requires stays { IsFalse ((counts_in graph.old).signed_off 1) }
     ensures others { (lease : LeaseValue) → IsFalse (lease.worker == 1) → IsOfGraph graph.old lease → IsOfGraph graph.new lease }
 {
     match graph.lease(1) {
-        Answer::Leased(lease) => {
+        LeaseReply::Leased(lease) => {
             graph.release(lease, false);
             Told::Lease
         }
-        Answer::NotYet => Told::Wait,
-        Answer::Over(end) => Told::Over(end),
-        Answer::Memory => Told::Memory,
+        LeaseReply::NotYet => Told::Wait,
+        LeaseReply::Over(end) => Told::Over(end),
+        LeaseReply::Memory => Told::Memory,
     }
 }
 
@@ -108,7 +108,7 @@ fn a_second_worker_waits(rt: HostRuntime) -> Result<(), Fail> {
 }
 
 // What worker 0 is answered that has a lease: marks of the blocks 1, 1, 8 and 3, and the mark of block 1 taken away twice.
-fn mark(graph: &mut Graph) -> [bool; 6]
+fn mark(graph: &mut LeaseGraph) -> [bool; 6]
     requires count { (blocks graph.old.table).count ≡ 9 }
     requires leased { IsSome ((counts_in graph.old).leases 0) }
     ensures leases { (lease : LeaseValue) → IsOfGraph graph.old lease → IsOfGraph graph.new lease }
@@ -125,7 +125,7 @@ fn mark(graph: &mut Graph) -> [bool; 6]
 }
 
 // What worker 0 is answered that marks the block hot, or takes its mark away.
-fn mark_one(graph: &mut Graph, block: u32, hot: bool) -> bool
+fn mark_one(graph: &mut LeaseGraph, block: u32, hot: bool) -> bool
     requires block { block < (blocks graph.old.table).count }
     requires leased { IsSome ((counts_in graph.old).leases 0) }
     ensures leases { (lease : LeaseValue) → IsOfGraph graph.old lease → IsOfGraph graph.new lease }
@@ -140,7 +140,7 @@ fn mark_one(graph: &mut Graph, block: u32, hot: bool) -> bool
 }
 
 // The block of worker 0's lease, its rival, what the worker's marks are answered, and the room that is left.
-fn mark_with_lease(graph: &mut Graph) -> Option<(u32, Option<u32>, [bool; 6], u32)>
+fn mark_with_lease(graph: &mut LeaseGraph) -> Option<(u32, Option<u32>, [bool; 6], u32)>
     requires opening { counts_in graph.old ≡ opening_counts graph.old.table.settings 0 }
     requires workers { graph.old.table.settings.workers ≡ 2 }
 {
@@ -148,7 +148,7 @@ fn mark_with_lease(graph: &mut Graph) -> Option<(u32, Option<u32>, [bool; 6], u3
         return None;
     }
     match graph.lease(0) {
-        Answer::Leased(lease) => {
+        LeaseReply::Leased(lease) => {
             let block = lease.block();
             let rival = graph.rival(&lease);
             let answers = mark(graph);
@@ -156,7 +156,7 @@ fn mark_with_lease(graph: &mut Graph) -> Option<(u32, Option<u32>, [bool; 6], u3
             graph.release(lease, false);
             Some((block, rival, answers, room))
         }
-        Answer::NotYet | Answer::Over(_) | Answer::Memory => None,
+        LeaseReply::NotYet | LeaseReply::Over(_) | LeaseReply::Memory => None,
     }
 }
 
@@ -176,21 +176,21 @@ fn a_better_hot_block_outranks(rt: HostRuntime) -> Result<(), Fail> {
 }
 
 // A lease that counts an expansion, goes on where it may, and comes back: whether it went on, and the end.
-fn use_up(graph: &mut Graph) -> Option<(bool, Option<End>)>
+fn use_up(graph: &mut LeaseGraph) -> Option<(bool, Option<End>)>
     requires opening { counts_in graph.old ≡ opening_counts graph.old.table.settings 0 }
     requires workers { graph.old.table.settings.workers ≡ 2 }
 {
     match graph.lease(0) {
-        Answer::Leased(lease) => {
+        LeaseReply::Leased(lease) => {
             let went_on = spend_one(graph, lease);
             Some((went_on, graph.end()))
         }
-        Answer::NotYet | Answer::Over(_) | Answer::Memory => None,
+        LeaseReply::NotYet | LeaseReply::Over(_) | LeaseReply::Memory => None,
     }
 }
 
 // An expansion of the lease is counted, and it goes on where it may; it comes back then.
-fn spend_one(graph: &mut Graph, lease: Lease) -> bool
+fn spend_one(graph: &mut LeaseGraph, lease: Lease) -> bool
     requires { IsOfGraph graph.old lease }
 {
     let mut lease = lease;

@@ -6,8 +6,8 @@ ghost use Rattle.pb_machine.specs.Tables.{with_entry};
 ghost use Rattle.pb_machine.specs.Blocks.{interferes};
 ghost use Rattle.pb_machine.specs.Machine.{Machine};
 ghost use Rattle.pb_machine.specs.Choice.{IsRival};
-ghost use Rattle.pb_homes.specs.Homes.{key_at};
-ghost use Rattle.pb_homes.specs.Choosing.{IsRivalBy};
+ghost use Rattle.pb_bundles.specs.Homes.{key_at};
+ghost use Rattle.pb_bundles.specs.Choosing.{IsRivalBy};
 ghost use Rattle.pb_lease.specs.Tables.{blocks, rooms};
 ghost use Rattle.pb_lease.specs.Leased.{grant_of};
 ghost use Rattle.pb_lease.specs.GraphValue.{counts_in};
@@ -15,10 +15,10 @@ ghost use Rattle.pb_lease.specs.Choices.{MayMark, MayCool, IsOutranked};
 ghost use Rattle.pb_lease.specs.Moments.{IsMomentAt};
 ghost use Rattle.pb_lease.specs.Steps.{IsMarked, KeepsLeases};
 
-use crate::graph::Graph;
+use crate::graph::LeaseGraph;
 use crate::lease::Lease;
 
-impl Graph {
+impl LeaseGraph {
     /// The rival of the lease's block: the best block of its interference that is better than it, as the keys were noted when each was
     /// last home, leased or renewed. None exactly where no such block is better.
     pub fn rival(&self, lease: &Lease) -> Option<u32>

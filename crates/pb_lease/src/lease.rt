@@ -2,10 +2,10 @@ ghost use Rattle.std.specs.Prelude.{◌≡◌, ◌+◌, ◌<◌, ◌≤◌, ◌^
 ghost use Rattle.std.specs.Borrow.{sem};
 ghost use Rattle.pb_model.specs.Store.{lesser};
 ghost use Rattle.pb_model.specs.Weight.{IsWeight};
-ghost use Rattle.pb_homes.specs.Parts.{content_in};
+ghost use Rattle.pb_bundles.specs.Parts.{content_in};
 ghost use Rattle.pb_lease.specs.Lending.{LendsBundle};
 
-use pb_homes::Parts;
+use pb_bundles::LentBundles;
 use pb_lists::Bundle;
 use std::marker::Model;
 
@@ -16,10 +16,10 @@ pub struct Lease {
     pub(crate) block: u32,
     pub(crate) quota: u64,
     pub(crate) used: u64,
-    pub(crate) bound: Option<u64>,
+    pub(crate) incumbent: Option<u64>,
     pub(crate) num: u64,
     pub(crate) den: u64,
-    pub(crate) parts: Parts,
+    pub(crate) parts: LentBundles,
 }
 
 impl Model for Lease {
@@ -32,7 +32,7 @@ impl Model for Lease {
       block = l.block;
       quota = l.quota;
       used = l.used;
-      incumbent = l.bound;
+      incumbent = l.incumbent;
       weight = record { num = l.num; den = l.den };
       parts = l.parts;
     } };
@@ -42,7 +42,7 @@ impl Model for Lease {
       block = l.block;
       quota = l.quota;
       used = l.used;
-      incumbent = l.bound;
+      incumbent = l.incumbent;
       weight = record { num = l.num; den = l.den };
       parts = l.parts;
     }) };
@@ -81,10 +81,10 @@ impl Lease {
     }
 
     /// The least cost at which a goal is known to be reached, in the unit of the task's action costs. None where no cost is known.
-    pub fn bound(&self) -> Option<u64>
+    pub fn incumbent(&self) -> Option<u64>
         ensures { result ≡ self.now.incumbent }
     {
-        self.bound
+        self.incumbent
     }
 
     /// The numerator and the denominator of the search's weight.
@@ -124,9 +124,9 @@ impl Lease {
     pub fn take_bound(&mut self, cost: u64)
         ensures { self.new ≡ record self.old { incumbent = lesser self.old.incumbent (Some cost) } }
     {
-        self.bound = match self.bound {
+        self.incumbent = match self.incumbent {
             None => Some(cost),
-            Some(bound) => Some(bound.min(cost)),
+            Some(incumbent) => Some(incumbent.min(cost)),
         };
     }
 }

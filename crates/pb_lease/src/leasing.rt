@@ -12,14 +12,14 @@ use crate::counters::{count_of, lower, raise};
 use crate::ending::end_by_report;
 use crate::seat::Seat;
 use crate::seats::{is_any_out, is_leased};
-use crate::tables::Tables;
+use crate::tables::MachineTables;
 use pb_machine::{Event, Grant};
 use std::alloc::AllocError;
 
 /// For how many renewals, hot marks and marks taken away a lease takes room in the journal.
 pub const ROOM: u32 = 63;
 
-impl Tables {
+impl MachineTables {
     /// Whether some worker has a lease.
     pub fn is_any_out(&self) -> bool
         ensures { result ≡ is_any_out self.now.settings.workers (counts_of self.now).leases }

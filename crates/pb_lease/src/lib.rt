@@ -20,8 +20,8 @@ mod seat;
 mod seats;
 mod tables;
 
-pub use answer::{Answer, Renewed};
-pub use graph::Graph;
+pub use answer::{LeaseReply, Renewed};
+pub use graph::LeaseGraph;
 pub use laws::{
     events_leave_others, leases_stay_out, none_out_can_be_leased, none_out_is_moment,
     opened_blocks_may_be_leased, tells_keep_moments, worked_leases_are_out,
@@ -29,7 +29,7 @@ pub use laws::{
 pub use lease::Lease;
 pub use leasing::ROOM;
 pub use seat::Seat;
-pub use tables::Tables;
+pub use tables::MachineTables;
 
 #[cfg(test)]
 mod graph_tests;

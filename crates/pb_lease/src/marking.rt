@@ -7,10 +7,10 @@ ghost use Rattle.pb_lease.specs.Events.{Adds};
 ghost use Rattle.pb_lease.specs.Marking.{may_be_marked, may_be_cooled};
 
 use crate::seat::Seat;
-use crate::tables::Tables;
+use crate::tables::MachineTables;
 use pb_machine::Event;
 
-impl Tables {
+impl MachineTables {
     /// Whether the worker may mark the block hot, where the caller tells whether a better block of its interference is hot.
     pub fn may_be_marked(&self, worker: u32, block: u32, outranked: bool) -> bool
         requires leased { IsSome ((counts_of self.now).leases worker) }

@@ -13,10 +13,10 @@ ghost use Rattle.pb_lease.specs.Events.{Adds};
 ghost use Rattle.pb_lease.specs.Steps.{IsReleased, ReleasesNext, IsRenewed, RenewsNext, GoesOn, ChoosesByRows, renewed_quota};
 
 use crate::answer::Renewed;
-use crate::graph::Graph;
+use crate::graph::LeaseGraph;
 use crate::lease::Lease;
 
-impl Graph {
+impl LeaseGraph {
     /// The worker's lease comes back: its bundles go home. With a report of want of memory the search ends by that, where no end stands.
     pub fn release(&mut self, lease: Lease, trouble: bool)
         requires { IsOfGraph self.old lease }
@@ -28,14 +28,14 @@ impl Graph {
             block: _,
             quota: _,
             used,
-            bound,
+            incumbent,
             num: _,
             den: _,
             parts,
         } = lease;
         self.tables.release(worker, used, trouble);
         self.homes.bring_back(parts);
-        self.incumbent = least(self.incumbent, bound);
+        self.incumbent = least(self.incumbent, incumbent);
     }
 
     /// The worker asks to go on with its lease. It does exactly where, with the lease home, its block is the first choice and the room of
@@ -89,14 +89,14 @@ impl Graph {
         ensures rest { self.new ≡ record self.old { table = self.new.table; incumbent = lesser self.old.incumbent lease.incumbent } }
     {
         let quota = self.tables.renew(lease.worker, lease.used);
-        let bound = least(self.incumbent, lease.bound);
-        self.incumbent = bound;
+        let incumbent = least(self.incumbent, lease.incumbent);
+        self.incumbent = incumbent;
         let Lease {
             worker,
             block,
             quota: _,
             used: _,
-            bound: _,
+            incumbent: _,
             num,
             den,
             parts,
@@ -106,7 +106,7 @@ impl Graph {
             block,
             quota,
             used: 0,
-            bound,
+            incumbent,
             num,
             den,
             parts,

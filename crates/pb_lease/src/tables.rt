@@ -18,7 +18,7 @@ use std::sync::Arc;
 /// The numbers of the lease machine and its journal: who has which lease, what is left of the budget, which blocks are hot, who has
 /// signed off, and every event so far. Each call that changes them adds its events to the journal.
 #[derive(Drop)]
-pub struct Tables {
+pub struct MachineTables {
     pub(crate) graph: Arc<AbsGraph>,
     pub(crate) settings: Settings,
     pub(crate) seats: Vec<Seat>,
@@ -33,7 +33,7 @@ pub struct Tables {
     pub(crate) promised: usize,
 }
 
-impl Model for Tables {
+impl Model for MachineTables {
     ghost use Rattle.std.specs.Prelude.{◌-◌, vec_len, vec_capacity};
     ghost use Rattle.std.specs.Arc.{arc_value};
     ghost use Rattle.pb_lease.specs.Tables.{Table};
@@ -64,14 +64,14 @@ impl Model for Tables {
     }) t.busy.items t.marks.near.items t.promised (vec_capacity t.journal - vec_len t.journal) };
 }
 
-impl Tables {
+impl MachineTables {
     /// Tables of a search that begins: nothing is leased, all of the budget is left, and the journal is empty. It has room for every
     /// worker's signing off and for one end. An error is want of memory.
     pub fn new(
         alloc: Global,
         graph: Arc<AbsGraph>,
         settings: Settings,
-    ) -> Result<Tables, AllocError>
+    ) -> Result<MachineTables, AllocError>
         requires { AreInRange settings }
         ensures counts { IfOk result (λ t. counts_of t ≡ opening_counts settings 0) }
         ensures journal { IfOk result (λ t. t.journal ≡ []) }
@@ -82,7 +82,7 @@ impl Tables {
         let blocks = graph.count() as usize;
         let workers = settings.workers as usize;
         let promised = workers + 1;
-        Ok(Tables {
+        Ok(MachineTables {
             graph,
             settings,
             seats: vec![in alloc; Seat::VACANT; workers]?,

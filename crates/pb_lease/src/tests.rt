@@ -1,5 +1,5 @@
 //! Worked rows: leases of blocks by two workers, on maps whose cells are blocks.
-use crate::{ROOM, Tables};
+use crate::{MachineTables, ROOM};
 use pb_abstract::AbsGraph;
 use pb_machine::{End, Settings};
 use pb_task::{Cells, Class, GridParts, Task};
@@ -39,7 +39,12 @@ pub fn corridor(alloc: Global) -> Result<Task, AllocError> {
 }
 
 // The tables of a search of the task by two workers.
-fn tables(alloc: Global, task: &Task, budget: u64, lot: u64) -> Result<Option<Tables>, AllocError> {
+fn tables(
+    alloc: Global,
+    task: &Task,
+    budget: u64,
+    lot: u64,
+) -> Result<Option<MachineTables>, AllocError> {
     let graph = AbsGraph::of(alloc, task, 256)?;
     if budget == 0 || budget > 1 << 40 || lot == 0 || lot > 1 << 20 {
         return Ok(None);
@@ -53,7 +58,7 @@ fn tables(alloc: Global, task: &Task, budget: u64, lot: u64) -> Result<Option<Ta
         wish: 256,
         plain: false,
     };
-    Ok(Some(Tables::new(alloc, Arc::new(alloc, graph)?, settings)?))
+    Ok(Some(MachineTables::new(alloc, Arc::new(alloc, graph)?, settings)?))
 }
 
 // A call, by the worker where one makes it.
@@ -70,7 +75,7 @@ enum Call {
 }
 
 // Makes a call where it may be made: its quota, or 1 for true and for what answers nothing, and 0 for false; None where it may not be made.
-fn play(tables: &mut Tables, call: Call) -> Result<Option<u64>, AllocError> {
+fn play(tables: &mut MachineTables, call: Call) -> Result<Option<u64>, AllocError> {
     match call {
         Call::Lease(worker, block) => lease(tables, worker, block),
         Call::Renew(worker, used) => Ok(renew(tables, worker, used)),
@@ -83,7 +88,7 @@ fn play(tables: &mut Tables, call: Call) -> Result<Option<u64>, AllocError> {
     }
 }
 
-fn lease(tables: &mut Tables, worker: u32, block: u32) -> Result<Option<u64>, AllocError> {
+fn lease(tables: &mut MachineTables, worker: u32, block: u32) -> Result<Option<u64>, AllocError> {
     if worker >= tables.settings().workers || block >= tables.graph().count() {
         return Ok(None);
     }
@@ -94,7 +99,7 @@ fn lease(tables: &mut Tables, worker: u32, block: u32) -> Result<Option<u64>, Al
     Ok(Some(tables.lease(worker, block)?))
 }
 
-fn renew(tables: &mut Tables, worker: u32, used: u64) -> Option<u64> {
+fn renew(tables: &mut MachineTables, worker: u32, used: u64) -> Option<u64> {
     if worker >= tables.settings().workers {
         return None;
     }
@@ -109,7 +114,7 @@ fn renew(tables: &mut Tables, worker: u32, used: u64) -> Option<u64> {
     Some(tables.renew(worker, used))
 }
 
-fn release(tables: &mut Tables, worker: u32, used: u64, memory: bool) -> Option<u64> {
+fn release(tables: &mut MachineTables, worker: u32, used: u64, memory: bool) -> Option<u64> {
     if worker >= tables.settings().workers {
         return None;
     }
@@ -122,7 +127,12 @@ fn release(tables: &mut Tables, worker: u32, used: u64, memory: bool) -> Option<
 }
 
 // A mark, where it is told whether the block is outranked, or else one that is taken away.
-fn mark(tables: &mut Tables, worker: u32, block: u32, outranked: Option<bool>) -> Option<u64> {
+fn mark(
+    tables: &mut MachineTables,
+    worker: u32,
+    block: u32,
+    outranked: Option<bool>,
+) -> Option<u64> {
     if worker >= tables.settings().workers || block >= tables.graph().count() {
         return None;
     }
@@ -136,7 +146,7 @@ fn mark(tables: &mut Tables, worker: u32, block: u32, outranked: Option<bool>) -
     Some(u64::from(answer))
 }
 
-fn sign_off(tables: &mut Tables, worker: u32, memory: bool) -> Option<u64> {
+fn sign_off(tables: &mut MachineTables, worker: u32, memory: bool) -> Option<u64> {
     if worker >= tables.settings().workers || (!memory && tables.end().is_none()) {
         return None;
     }
@@ -148,7 +158,7 @@ fn sign_off(tables: &mut Tables, worker: u32, memory: bool) -> Option<u64> {
     Some(1)
 }
 
-fn end(tables: &mut Tables, budget: bool) -> Option<u64> {
+fn end(tables: &mut MachineTables, budget: bool) -> Option<u64> {
     if tables.end().is_some() || tables.is_any_out() {
         return None;
     }
@@ -164,7 +174,10 @@ fn end(tables: &mut Tables, budget: bool) -> Option<u64> {
 }
 
 // How many of the first calls answer as they are to, up to the first that doesn't.
-fn play_all(tables: &mut Tables, calls: &[(Call, Option<u64>)]) -> Result<usize, AllocError> {
+fn play_all(
+    tables: &mut MachineTables,
+    calls: &[(Call, Option<u64>)],
+) -> Result<usize, AllocError> {
     for (played, (call, wanted)) in calls.iter().enumerate() {
         if play(tables, *call)? != *wanted {
             return Ok(played);
@@ -174,7 +187,7 @@ fn play_all(tables: &mut Tables, calls: &[(Call, Option<u64>)]) -> Result<usize,
 }
 
 // The blocks that can be leased, as a bit each.
-fn free_blocks(tables: &Tables) -> u64 {
+fn free_blocks(tables: &MachineTables) -> u64 {
     let mut bits = 0;
     for block in 0..tables.graph().count().min(64) {
         if tables.can_be_leased(block) {
@@ -185,7 +198,7 @@ fn free_blocks(tables: &Tables) -> u64 {
 }
 
 // How many leased blocks and how many hot ones interfere with the block.
-fn near(tables: &Tables, block: u32) -> Option<(u32, u32)> {
+fn near(tables: &MachineTables, block: u32) -> Option<(u32, u32)> {
     if block >= tables.graph().count() {
         return None;
     }

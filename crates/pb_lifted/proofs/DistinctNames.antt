@@ -3,8 +3,8 @@ use Rattle.std.proofs.Common.{◌≡◌, ◌<◌, ◌+◌, ℕ, zero, suc, Bool,
 use Rattle.std.specs.Str.{bytes_eq}
 use Rattle.std.proofs.lemmas.Bool.Decides.{nat_tests}
 use Rattle.std.proofs.lemmas.List.{append-nil, append_assoc, map-append, length_push}
-use Rattle.pb_trees.specs.declared.tree.Name.{Name}
-use Rattle.pb_trees.specs.declared.tree.Typed.{Typed}
+use Rattle.pb_pddl.specs.declared.tree.Name.{Name}
+use Rattle.pb_pddl.specs.declared.tree.Typed.{Typed}
 use Rattle.pb_lifted.specs.Names.{number_of, is_among, repeated, fault_if}
 use Rattle.pb_lifted.specs.Types.{name_text}
 use Rattle.pb_lifted.specs.Refusals.{typed_name}

@@ -1,12 +1,12 @@
 -- The names of a fitting atom are known.
 use Rattle.std.proofs.Common.{◌≡◌, Bool, true, false, ◌||◌, cond, Option, Some, None, ℕ, List, [], ◌∷◌, map, find, refl}
 use Rattle.std.specs.Str.{bytes_eq}
-use Rattle.pb_trees.specs.declared.tree.Typed.{Typed}
-use Rattle.pb_trees.specs.declared.tree.Term.{Term}
-use Rattle.pb_trees.specs.declared.tree.Term.TheVariants.{Object, Variable}
-use Rattle.pb_trees.specs.declared.tree.Atom.{Atom}
-use Rattle.pb_trees.specs.declared.tree.Domain.{Domain}
-use Rattle.pb_trees.specs.declared.tree.Problem.{Problem}
+use Rattle.pb_pddl.specs.declared.tree.Typed.{Typed}
+use Rattle.pb_pddl.specs.declared.tree.Term.{Term}
+use Rattle.pb_pddl.specs.declared.tree.Term.TheVariants.{Object, Variable}
+use Rattle.pb_pddl.specs.declared.tree.Atom.{Atom}
+use Rattle.pb_pddl.specs.declared.tree.Domain.{Domain}
+use Rattle.pb_pddl.specs.declared.tree.Problem.{Problem}
 use Rattle.pb_lifted.specs.Names.{is_among}
 use Rattle.pb_lifted.specs.Types.{name_text}
 use Rattle.pb_lifted.specs.Objects.{objects_of, entry_of, entry_of_term}

@@ -2,7 +2,7 @@
 use Rattle.std.proofs.Common.{◌≡◌, ◌+◌, ℕ, zero, suc, Bool, true, false, cond, ◌||◌, Option, Some, None, List, length, refl, sym, ap, ◌∙◌, subst, arith}
 use Rattle.std.specs.Str.{bytes_eq}
 use Rattle.std.proofs.lemmas.List.{length-map}
-use Rattle.pb_trees.specs.declared.tree.Typed.{Typed}
+use Rattle.pb_pddl.specs.declared.tree.Typed.{Typed}
 use Rattle.pb_lifted.specs.Names.{number_of}
 use Rattle.pb_lifted.specs.Types.{object, kind_text, type_names, is_object, above_in, above, ancestor, height, is_within, is_below}
 use Rattle.pb_lifted.specs.Tree.{parent_numbers, comes_to}

@@ -1,9 +1,9 @@
 -- An atom by numbers stands for the fact that it stands for by names.
 use Rattle.std.proofs.Common.{◌≡◌, ◌∷◌, ℕ, suc, Bool, true, false, cond, Option, Some, None, option_map, List, [], length, map, refl, sym, ap, ◌∙◌, get_or, arith}
 use Rattle.std.specs.Str.{bytes_eq}
-use Rattle.pb_trees.specs.declared.tree.Typed.{Typed}
-use Rattle.pb_trees.specs.declared.tree.Term.{Term}
-use Rattle.pb_trees.specs.declared.tree.Term.TheVariants.{Object, Variable}
+use Rattle.pb_pddl.specs.declared.tree.Typed.{Typed}
+use Rattle.pb_pddl.specs.declared.tree.Term.{Term}
+use Rattle.pb_pddl.specs.declared.tree.Term.TheVariants.{Object, Variable}
 use Rattle.pb_lifted.specs.Names.{number_of}
 use Rattle.pb_lifted.specs.Types.{name_text}
 use Rattle.pb_lifted.specs.Lifted.{number, argument_of, arguments_of}

@@ -2,13 +2,13 @@
 use Rattle.std.proofs.Common.{◌≡◌, ◌<◌, ℕ, suc, Bool, true, false, cond, Option, Some, None, is_some, option_map, unwrap_or, List, [], ◌∷◌, ◌++◌, length, map, get_or, All, refl, sym, ap, ◌∙◌, arith}
 use Rattle.std.specs.Str.{bytes_eq}
 use Rattle.std.proofs.lemmas.List.{length-map}
-use Rattle.pb_trees.specs.declared.tree.Typed.{Typed}
-use Rattle.pb_trees.specs.declared.tree.Term.{Term}
-use Rattle.pb_trees.specs.declared.tree.Term.TheVariants.{Object, Variable}
-use Rattle.pb_trees.specs.declared.tree.Atom.{Atom}
-use Rattle.pb_trees.specs.declared.tree.Literal.{Literal}
-use Rattle.pb_trees.specs.declared.tree.Domain.{Domain}
-use Rattle.pb_trees.specs.declared.tree.Problem.{Problem}
+use Rattle.pb_pddl.specs.declared.tree.Typed.{Typed}
+use Rattle.pb_pddl.specs.declared.tree.Term.{Term}
+use Rattle.pb_pddl.specs.declared.tree.Term.TheVariants.{Object, Variable}
+use Rattle.pb_pddl.specs.declared.tree.Atom.{Atom}
+use Rattle.pb_pddl.specs.declared.tree.Literal.{Literal}
+use Rattle.pb_pddl.specs.declared.tree.Domain.{Domain}
+use Rattle.pb_pddl.specs.declared.tree.Problem.{Problem}
 use Rattle.pb_lifted.specs.declared.lifted.LiftedAtom.{LiftedAtom}
 use Rattle.pb_lifted.specs.Names.{number_of, is_among}
 use Rattle.pb_lifted.specs.Types.{name_text}

@@ -3,8 +3,8 @@ use Rattle.std.proofs.Common.{◌≡◌, ◌<◌, ℕ, zero, suc, Bool, true, fa
 use Rattle.std.specs.Str.{bytes_eq}
 use Rattle.std.proofs.lemmas.Bool.Decides.{nat_tests}
 use Rattle.std.proofs.lemmas.Slice.Eq.{bytes_eq-Decides}
-use Rattle.pb_trees.specs.declared.tree.Name.{Name}
-use Rattle.pb_trees.specs.declared.tree.Typed.{Typed}
+use Rattle.pb_pddl.specs.declared.tree.Name.{Name}
+use Rattle.pb_pddl.specs.declared.tree.Typed.{Typed}
 use Rattle.pb_lifted.specs.Names.{number_of, is_among}
 use Rattle.pb_lifted.specs.Types.{object, name_text, kind_or, kind_text, kind_names, kinds_of, type_names, is_object, above_in, above, ancestor, height, is_within, is_below, is_cyclic}
 use Rattle.pb_lifted.specs.Tree.{parent_numbers, climb, comes_to, does_not_lead}

@@ -1,9 +1,9 @@
 -- The facts that atoms by numbers stand for.
 use Rattle.std.specs.Prelude.{◌≡◌, ℕ, zero, suc, true, List, [], ◌∷◌, length, map, slice_index}
-use Rattle.pb_trees.specs.declared.tree.Typed.{Typed}
-use Rattle.pb_trees.specs.declared.tree.Term.{Term}
-use Rattle.pb_trees.specs.declared.tree.Term.TheVariants as terms
-use Rattle.pb_trees.specs.declared.tree.Atom.{Atom}
+use Rattle.pb_pddl.specs.declared.tree.Typed.{Typed}
+use Rattle.pb_pddl.specs.declared.tree.Term.{Term}
+use Rattle.pb_pddl.specs.declared.tree.Term.TheVariants as terms
+use Rattle.pb_pddl.specs.declared.tree.Atom.{Atom}
 use Rattle.pb_lifted.specs.declared.lifted.Argument.{Argument}
 use Rattle.pb_lifted.specs.declared.lifted.Argument.TheVariants as arguments
 use Rattle.pb_lifted.specs.declared.lifted.LiftedAtom.{LiftedAtom}

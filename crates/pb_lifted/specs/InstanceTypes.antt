@@ -1,8 +1,8 @@
 -- The facts that the instances of a task speak of are of the types of their predicates.
 use Rattle.std.specs.Prelude.{◌≡◌, ℕ, List, [], Some, None, All}
 use Rattle.std.specs.List.{slice_get}
-use Rattle.pb_trees.specs.declared.tree.Domain.{Domain}
-use Rattle.pb_trees.specs.declared.tree.Problem.{Problem}
+use Rattle.pb_pddl.specs.declared.tree.Domain.{Domain}
+use Rattle.pb_pddl.specs.declared.tree.Problem.{Problem}
 use Rattle.pb_lifted.specs.declared.lifted.Schema.{Schema}
 use Rattle.pb_lifted.specs.declared.lifted.Lifted.{Lifted}
 use Rattle.pb_lifted.specs.Lifted.{lifted_of}

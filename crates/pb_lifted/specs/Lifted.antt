@@ -1,14 +1,14 @@
 -- A domain and a problem in numbers.
 use Rattle.std.specs.Prelude.{ℕ, Bool, true, false, cond, List, [], ◌∷◌, map, flat_map, unwrap_or}
-use Rattle.pb_trees.specs.declared.tree.Typed.{Typed}
-use Rattle.pb_trees.specs.declared.tree.Term.{Term}
-use Rattle.pb_trees.specs.declared.tree.Term.TheVariants as terms
-use Rattle.pb_trees.specs.declared.tree.Atom.{Atom}
-use Rattle.pb_trees.specs.declared.tree.Literal.{Literal}
-use Rattle.pb_trees.specs.declared.tree.Predicate.{Predicate}
-use Rattle.pb_trees.specs.declared.tree.Action.{Action}
-use Rattle.pb_trees.specs.declared.tree.Domain.{Domain}
-use Rattle.pb_trees.specs.declared.tree.Problem.{Problem}
+use Rattle.pb_pddl.specs.declared.tree.Typed.{Typed}
+use Rattle.pb_pddl.specs.declared.tree.Term.{Term}
+use Rattle.pb_pddl.specs.declared.tree.Term.TheVariants as terms
+use Rattle.pb_pddl.specs.declared.tree.Atom.{Atom}
+use Rattle.pb_pddl.specs.declared.tree.Literal.{Literal}
+use Rattle.pb_pddl.specs.declared.tree.Predicate.{Predicate}
+use Rattle.pb_pddl.specs.declared.tree.Action.{Action}
+use Rattle.pb_pddl.specs.declared.tree.Domain.{Domain}
+use Rattle.pb_pddl.specs.declared.tree.Problem.{Problem}
 use Rattle.pb_lifted.specs.declared.lifted.Argument.{Argument}
 use Rattle.pb_lifted.specs.declared.lifted.Argument.TheVariants as arguments
 use Rattle.pb_lifted.specs.declared.lifted.LiftedAtom.{LiftedAtom}

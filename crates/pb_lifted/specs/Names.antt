@@ -2,7 +2,7 @@
 use Rattle.std.specs.Prelude.{ℕ, suc, min, Bool, true, false, List, [], ◌∷◌, ◌++◌, if◌then◌else◌, Option, Some, None, option_map}
 use Rattle.std.specs.List.{list_any}
 use Rattle.std.specs.Str.{bytes_eq}
-use Rattle.pb_trees.specs.declared.tree.Name.{Name}
+use Rattle.pb_pddl.specs.declared.tree.Name.{Name}
 
 -- the number of a name: the place where it stands first in a list, counted from 0
 abbrev pub number_of : List ℕ → List (List ℕ) → Option ℕ

@@ -1,13 +1,13 @@
 -- What a name or a variable stands for: objects, parameters, predicates.
 use Rattle.std.specs.Prelude.{ℕ, List, ◌++◌, Option, find}
 use Rattle.std.specs.Str.{bytes_eq}
-use Rattle.pb_trees.specs.declared.tree.Name.{Name}
-use Rattle.pb_trees.specs.declared.tree.Typed.{Typed}
-use Rattle.pb_trees.specs.declared.tree.Term.{Term}
-use Rattle.pb_trees.specs.declared.tree.Term.TheVariants.{Object, Variable}
-use Rattle.pb_trees.specs.declared.tree.Predicate.{Predicate}
-use Rattle.pb_trees.specs.declared.tree.Domain.{Domain}
-use Rattle.pb_trees.specs.declared.tree.Problem.{Problem}
+use Rattle.pb_pddl.specs.declared.tree.Name.{Name}
+use Rattle.pb_pddl.specs.declared.tree.Typed.{Typed}
+use Rattle.pb_pddl.specs.declared.tree.Term.{Term}
+use Rattle.pb_pddl.specs.declared.tree.Term.TheVariants.{Object, Variable}
+use Rattle.pb_pddl.specs.declared.tree.Predicate.{Predicate}
+use Rattle.pb_pddl.specs.declared.tree.Domain.{Domain}
+use Rattle.pb_pddl.specs.declared.tree.Problem.{Problem}
 use Rattle.pb_lifted.specs.Types.{name_text}
 
 -- the objects: the constants, and then those of the problem

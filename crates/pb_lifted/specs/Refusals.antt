@@ -1,21 +1,21 @@
 -- Why a domain and a problem are no task: for each cause the places of the names where it applies, and the first of all.
 use Rattle.std.specs.Prelude.{◌≡◌, ℕ, Bool, true, not, nat_lt, nat_eq, if◌then◌else◌, List, [], ◌∷◌, ◌++◌, length, map, flat_map, Option, Some, None, is_none}
 use Rattle.std.specs.Str.{bytes_eq}
-use Rattle.pb_trees.specs.declared.tree.Name.{Name}
-use Rattle.pb_trees.specs.declared.tree.Typed.{Typed}
-use Rattle.pb_trees.specs.declared.tree.Term.{Term}
-use Rattle.pb_trees.specs.declared.tree.Atom.{Atom}
-use Rattle.pb_trees.specs.declared.tree.Literal.{Literal}
-use Rattle.pb_trees.specs.declared.tree.Predicate.{Predicate}
-use Rattle.pb_trees.specs.declared.tree.Action.{Action}
-use Rattle.pb_trees.specs.declared.tree.Domain.{Domain}
-use Rattle.pb_trees.specs.declared.tree.Problem.{Problem}
+use Rattle.pb_pddl.specs.declared.tree.Name.{Name}
+use Rattle.pb_pddl.specs.declared.tree.Typed.{Typed}
+use Rattle.pb_pddl.specs.declared.tree.Term.{Term}
+use Rattle.pb_pddl.specs.declared.tree.Atom.{Atom}
+use Rattle.pb_pddl.specs.declared.tree.Literal.{Literal}
+use Rattle.pb_pddl.specs.declared.tree.Predicate.{Predicate}
+use Rattle.pb_pddl.specs.declared.tree.Action.{Action}
+use Rattle.pb_pddl.specs.declared.tree.Domain.{Domain}
+use Rattle.pb_pddl.specs.declared.tree.Problem.{Problem}
 use Rattle.pb_lifted.specs.declared.refusal.Cause.{Cause}
 use Rattle.pb_lifted.specs.declared.refusal.Cause.TheVariants as causes
 use Rattle.pb_lifted.specs.declared.refusal.File.TheVariants as files
 use Rattle.pb_lifted.specs.declared.refusal.Place.{Place}
-use Rattle.pb_lifted.specs.declared.refusal.Refusal.{Refusal}
-use Rattle.pb_lifted.specs.declared.refusal.Refusal.TheVariants as refusals
+use Rattle.pb_lifted.specs.declared.refusal.TypingRefusal.{TypingRefusal}
+use Rattle.pb_lifted.specs.declared.refusal.TypingRefusal.TheVariants as refusals
 use Rattle.pb_lifted.specs.declared.refusal.LiftedError.{LiftedError}
 use Rattle.pb_lifted.specs.declared.refusal.LiftedError.TheVariants as errors
 use Rattle.pb_lifted.specs.Names.{fault_if, repeated, earliest}
@@ -141,23 +141,23 @@ causes_in_order =
     causes.DomainName ∷ causes.Twice ∷ causes.UnknownType ∷ causes.TypeCycle ∷ causes.UnknownPredicate ∷ causes.Arity ∷ causes.UnknownObject ∷ causes.WrongType
     ∷ causes.TooWide ∷ []
 
-abbrev pub or_refusal : Cause → Option Place → Option Refusal → Option Refusal
+abbrev pub or_refusal : Cause → Option Place → Option TypingRefusal → Option TypingRefusal
 or_refusal cause None later = later
 or_refusal cause (Some place) later = Some (refusals.Named cause place)
 
-abbrev pub too_many : ℕ → Option Refusal
+abbrev pub too_many : ℕ → Option TypingRefusal
 too_many n = if nat_lt 1000 n then Some (refusals.TooManyObjects n) else None
 
 -- the first of these causes that applies, or else too many objects
-abbrev pub first_among : List Cause → Domain → Problem → Option Refusal
+abbrev pub first_among : List Cause → Domain → Problem → Option TypingRefusal
 first_among [] domain problem = too_many (length (objects_of domain problem))
 first_among (cause ∷ later) domain problem = or_refusal cause (first_place cause domain problem) (first_among later domain problem)
 
 -- why the two are no task, or None where they are one
-abbrev pub first_refusal : Domain → Problem → Option Refusal
+abbrev pub first_refusal : Domain → Problem → Option TypingRefusal
 first_refusal domain problem = first_among causes_in_order domain problem
 
 -- an error tells this refusal, unless memory ran out
-abbrev pub Tells : Option Refusal → LiftedError → Type 0
+abbrev pub Tells : Option TypingRefusal → LiftedError → Type 0
 Tells found (errors.Refused refusal) = found ≡ Some refusal
 Tells found errors.Memory = Unit {0}

@@ -1,11 +1,11 @@
 -- The tables of names that belong to a domain and a problem.
 use Rattle.std.specs.Prelude.{◌≡◌, ℕ, List, map, None}
-use Rattle.pb_trees.specs.declared.tree.Action.{Action}
-use Rattle.pb_trees.specs.declared.tree.Predicate.{Predicate}
-use Rattle.pb_trees.specs.declared.tree.Domain.{Domain}
-use Rattle.pb_trees.specs.declared.tree.Problem.{Problem}
+use Rattle.pb_pddl.specs.declared.tree.Action.{Action}
+use Rattle.pb_pddl.specs.declared.tree.Predicate.{Predicate}
+use Rattle.pb_pddl.specs.declared.tree.Domain.{Domain}
+use Rattle.pb_pddl.specs.declared.tree.Problem.{Problem}
 use Rattle.pb_lifted.specs.declared.refusal.Cause.TheVariants as causes
-use Rattle.pb_lifted.specs.declared.tables.Tables.{Tables}
+use Rattle.pb_lifted.specs.declared.tables.NameTables.{NameTables}
 use Rattle.pb_lifted.specs.Names.{earliest}
 use Rattle.pb_lifted.specs.Types.{name_text, cyclic_types}
 use Rattle.pb_lifted.specs.Objects.{objects_of}
@@ -18,7 +18,7 @@ names_of_params actions = map (λ a. map name_text a.params) actions
 abbrev pub predicate_text : Predicate → List ℕ
 predicate_text p = p.name.text
 
-pub record AreTables (tables : Tables) (domain : Domain) (problem : Problem) : Type 0 where
+pub record AreTables (tables : NameTables) (domain : Domain) (problem : Problem) : Type 0 where
   pub types : IsTree tables.types domain.types
   pub objects : tables.objects ≡ map name_text (objects_of domain problem)
   pub predicates : tables.predicates ≡ map predicate_text domain.predicates

@@ -1,6 +1,6 @@
 -- The tree of types in numbers.
 use Rattle.std.specs.Prelude.{◌≡◌, ◌<◌, ℕ, zero, suc, Bool, not, ◌||◌, nat_eq, if◌then◌else◌, List, ◌∷◌, length, map, unwrap_or, slice_index}
-use Rattle.pb_trees.specs.declared.tree.Typed.{Typed}
+use Rattle.pb_pddl.specs.declared.tree.Typed.{Typed}
 use Rattle.pb_lifted.specs.declared.tree.Tree.{Tree}
 use Rattle.pb_lifted.specs.Names.{number_of}
 use Rattle.pb_lifted.specs.Types.{is_object, name_text, kind_text, type_names}

@@ -1,8 +1,8 @@
 -- The tree of types under object.
 use Rattle.std.specs.Prelude.{ℕ, zero, suc, Bool, not, ◌&&◌, ◌||◌, if◌then◌else◌, List, [], ◌∷◌, ◌++◌, length, map, filter, flat_map, codes, Option, Some, None}
 use Rattle.std.specs.Str.{bytes_eq}
-use Rattle.pb_trees.specs.declared.tree.Name.{Name}
-use Rattle.pb_trees.specs.declared.tree.Typed.{Typed}
+use Rattle.pb_pddl.specs.declared.tree.Name.{Name}
+use Rattle.pb_pddl.specs.declared.tree.Typed.{Typed}
 use Rattle.pb_lifted.specs.Names.{is_among, fault_if}
 
 -- the root of the tree

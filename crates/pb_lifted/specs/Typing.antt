@@ -1,14 +1,14 @@
 -- What a domain and a problem are that are not refused, and no others: names are distinct and known, types lead to object, arguments are as
 -- many as parameters and of their types, and the limits are kept.
 use Rattle.std.specs.Prelude.{◌≡◌, ◌<◌, ◌≤◌, ℕ, true, List, [], ◌∷◌, length, map, Some, None, All}
-use Rattle.pb_trees.specs.declared.tree.Typed.{Typed}
-use Rattle.pb_trees.specs.declared.tree.Term.{Term}
-use Rattle.pb_trees.specs.declared.tree.Atom.{Atom}
-use Rattle.pb_trees.specs.declared.tree.Literal.{Literal}
-use Rattle.pb_trees.specs.declared.tree.Predicate.{Predicate}
-use Rattle.pb_trees.specs.declared.tree.Action.{Action}
-use Rattle.pb_trees.specs.declared.tree.Domain.{Domain}
-use Rattle.pb_trees.specs.declared.tree.Problem.{Problem}
+use Rattle.pb_pddl.specs.declared.tree.Typed.{Typed}
+use Rattle.pb_pddl.specs.declared.tree.Term.{Term}
+use Rattle.pb_pddl.specs.declared.tree.Atom.{Atom}
+use Rattle.pb_pddl.specs.declared.tree.Literal.{Literal}
+use Rattle.pb_pddl.specs.declared.tree.Predicate.{Predicate}
+use Rattle.pb_pddl.specs.declared.tree.Action.{Action}
+use Rattle.pb_pddl.specs.declared.tree.Domain.{Domain}
+use Rattle.pb_pddl.specs.declared.tree.Problem.{Problem}
 use Rattle.pb_lifted.specs.Names.{number_of, is_among}
 use Rattle.pb_lifted.specs.Types.{object, name_text, kind_text, declared_types, type_names, ancestor}
 use Rattle.pb_lifted.specs.Objects.{objects_of, predicate_of, entry_of_term}

@@ -1,6 +1,6 @@
 -- The way up from a type: how far it is counted is far enough.
 use Rattle.std.specs.Prelude.{◌≡◌, ◌<◌, ◌+◌, ℕ, true, List, length, slice_index}
-use Rattle.pb_trees.specs.declared.tree.Typed.{Typed}
+use Rattle.pb_pddl.specs.declared.tree.Typed.{Typed}
 use Rattle.pb_lifted.specs.Types.{ancestor, height, is_within, is_below, is_object}
 use Rattle.pb_lifted.specs.Tree.{comes_to}
 

@@ -1,16 +1,16 @@
 -- Worked rows of the definitions, over small trees. A name's place is the byte where it begins in the text that is quoted.
 use Rattle.std.specs.Prelude.{◌≡◌, ℕ, true, false, List, [], ◌∷◌, codes, Some, None}
-use Rattle.pb_trees.specs.declared.tree.Name.{Name}
-use Rattle.pb_trees.specs.declared.tree.Typed.{Typed}
-use Rattle.pb_trees.specs.declared.tree.Term.TheVariants as terms
-use Rattle.pb_trees.specs.declared.tree.Atom.{Atom}
-use Rattle.pb_trees.specs.declared.tree.Literal.{Literal}
-use Rattle.pb_trees.specs.declared.tree.Domain.{Domain}
-use Rattle.pb_trees.specs.declared.tree.Problem.{Problem}
+use Rattle.pb_pddl.specs.declared.tree.Name.{Name}
+use Rattle.pb_pddl.specs.declared.tree.Typed.{Typed}
+use Rattle.pb_pddl.specs.declared.tree.Term.TheVariants as terms
+use Rattle.pb_pddl.specs.declared.tree.Atom.{Atom}
+use Rattle.pb_pddl.specs.declared.tree.Literal.{Literal}
+use Rattle.pb_pddl.specs.declared.tree.Domain.{Domain}
+use Rattle.pb_pddl.specs.declared.tree.Problem.{Problem}
 use Rattle.pb_lifted.specs.declared.refusal.Cause.TheVariants as causes
 use Rattle.pb_lifted.specs.declared.refusal.File.TheVariants as files
 use Rattle.pb_lifted.specs.declared.refusal.Place.{Place}
-use Rattle.pb_lifted.specs.declared.refusal.Refusal.TheVariants as refusals
+use Rattle.pb_lifted.specs.declared.refusal.TypingRefusal.TheVariants as refusals
 use Rattle.pb_lifted.specs.declared.lifted.Argument.TheVariants as arguments
 use Rattle.pb_lifted.specs.declared.lifted.LiftedAtom.{LiftedAtom}
 use Rattle.pb_lifted.specs.declared.lifted.Lifted.{Lifted}

@@ -7,7 +7,7 @@ use crate::declared::{kind_text, note};
 use crate::refusal::Cause;
 use crate::scope::{Scope, entry_of_term, predicate_of, term_name};
 use crate::tree::is_below;
-use pb_trees::{Atom, Literal, Predicate, Term, Typed};
+use pb_pddl::{Atom, Literal, Predicate, Term, Typed};
 
 /// The earlier of the first place and those of arguments that are neither objects nor parameters.
 #[tactic(auto, using(crate::proofs::Earliest::earliest_append))]

@@ -7,10 +7,10 @@ ghost use Rattle.pb_lifted.specs.Refusals.{first_place, first_refusal, too_many,
 use crate::lifted::Lifted;
 use crate::names::Names;
 use crate::places::{first_in_domain, first_in_problem};
-use crate::refusal::{Cause, File, LiftedError, Place, Refusal};
+use crate::refusal::{Cause, File, LiftedError, Place, TypingRefusal};
 use crate::resolving::lifted_of;
-use crate::tables::{Tables, tables_of};
-use pb_trees::{Domain, Problem};
+use crate::tables::{NameTables, tables_of};
+use pb_pddl::{Domain, Problem};
 use std::alloc::Global;
 
 /// The causes that have a place, in the order in which they are told.
@@ -32,7 +32,7 @@ const MOST_OBJECTS: u64 = 1000;
 /// The first place of this cause. The names are none.
 fn first_place(
     cause: Cause,
-    tables: &Tables,
+    tables: &NameTables,
     domain: &Domain,
     problem: &Problem,
     names: &Names,
@@ -57,12 +57,12 @@ fn first_place(
 }
 
 /// The refusal of too many objects, where there are.
-fn too_many_objects(domain: &Domain, problem: &Problem) -> Option<Refusal>
+fn too_many_objects(domain: &Domain, problem: &Problem) -> Option<TypingRefusal>
     ensures { result ≡ too_many (length (objects_of domain.now problem.now)) }
 {
     let n = domain.constants.as_slice().len() as u64 + problem.objects.as_slice().len() as u64;
     if n > MOST_OBJECTS {
-        Some(Refusal::TooManyObjects { n })
+        Some(TypingRefusal::TooManyObjects { n })
     } else {
         None
     }
@@ -70,18 +70,18 @@ fn too_many_objects(domain: &Domain, problem: &Problem) -> Option<Refusal>
 
 /// The first refusal, from the tables. The names are none.
 fn find_refusal(
-    tables: &Tables,
+    tables: &NameTables,
     domain: &Domain,
     problem: &Problem,
     names: &Names,
-) -> Option<Refusal>
+) -> Option<TypingRefusal>
     requires tables { AreTables tables.now domain.now problem.now }
     requires none { names.now ≡ [] }
     ensures { result ≡ first_refusal domain.now problem.now }
 {
     for cause in ORDER {
         if let Some(place) = first_place(cause, tables, domain, problem, names) {
-            return Some(Refusal::Named { cause, place });
+            return Some(TypingRefusal::Named { cause, place });
         }
     }
     too_many_objects(domain, problem)

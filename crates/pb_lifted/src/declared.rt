@@ -4,12 +4,12 @@ ghost use Rattle.pb_lifted.specs.Types.{declared_types, kinds_of, is_idle, is_ob
 ghost use Rattle.pb_lifted.specs.Refusals.{typed_name};
 
 use crate::names::Names;
-use pb_trees::{Action, Name, Predicate, Typed};
+use pb_pddl::{Action, Name, Predicate, Typed};
 use std::alloc::{AllocError, Global};
 
 /// What is declared under a name.
 pub(crate) trait Declared {
-    ghost use Rattle.pb_trees.specs.declared.tree.Name.{Name};
+    ghost use Rattle.pb_pddl.specs.declared.tree.Name.{Name};
 
     /// Its name.
     ghost name_of: { Self → Name };

@@ -5,7 +5,7 @@ ghost use Rattle.pb_lifted.specs.Objects.{entry_of};
 
 use crate::declared::Declared;
 use crate::names::Names;
-use pb_trees::Typed;
+use pb_pddl::Typed;
 
 /// The element at a place, or None behind the end.
 fn item<T>(items: &[T], place: usize) -> Option<&T>

@@ -22,7 +22,7 @@ pub use laws::{
     numbers_keep_steps, ways_up_are_far_enough, well_typed_is_accepted, worked_rows,
 };
 pub use lifted::{Argument, Lifted, LiftedAtom, Schema};
-pub use refusal::{Cause, File, LiftedError, Place, Refusal};
+pub use refusal::{Cause, File, LiftedError, Place, TypingRefusal};
 
 #[cfg(test)]
 mod tests;

@@ -1,6 +1,6 @@
 //! A lifted task: its types, objects, predicates and schemas, in numbers.
 
-use pb_trees::Listed;
+use pb_pddl::Listed;
 
 /// An argument of an atom.
 #[derive(Clone, Copy, Debug, PartialEq, Eq)]

@@ -1,7 +1,7 @@
 ghost use Rattle.std.specs.Prelude.{◌≡◌, [], ◌∷◌, ◌++◌, not, OnOk, OnErr, IfOk};
 ghost use Rattle.pb_lifted.specs.Names.{number_of, is_among};
 
-use pb_trees::Text;
+use pb_pddl::Text;
 use std::alloc::{AllocError, Global};
 use std::collections::BTreeMap;
 use std::marker::Model;

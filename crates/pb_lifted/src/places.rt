@@ -10,9 +10,9 @@ use crate::declared::note;
 use crate::names::Names;
 use crate::refusal::Cause;
 use crate::scope::Scope;
-use crate::tables::Tables;
+use crate::tables::NameTables;
 use crate::tree::{Tree, first_unknown};
-use pb_trees::{Action, Domain, Name, Predicate, Problem, Typed};
+use pb_pddl::{Action, Domain, Name, Predicate, Problem, Typed};
 
 /// How many parameters a predicate or an action may have.
 const MOST_PARAMETERS: usize = 16;
@@ -65,7 +65,7 @@ fn first_in_predicates(
 #[tactic(auto, using(crate::proofs::Earliest::earliest_append))]
 fn first_in_action(
     cause: Cause,
-    tables: &Tables,
+    tables: &NameTables,
     domain: &Domain,
     problem: &Problem,
     action: &Action,
@@ -99,7 +99,7 @@ fn first_in_action(
 /// The earlier of the first place and those of this cause in the actions.
 fn first_in_actions(
     cause: Cause,
-    tables: &Tables,
+    tables: &NameTables,
     domain: &Domain,
     problem: &Problem,
     first: Option<u64>,
@@ -119,7 +119,7 @@ fn first_in_actions(
 #[tactic(auto, using(crate::proofs::Earliest::earliest_append))]
 pub(crate) fn first_in_domain(
     cause: Cause,
-    tables: &Tables,
+    tables: &NameTables,
     domain: &Domain,
     problem: &Problem,
 ) -> Option<u64>
@@ -150,7 +150,7 @@ pub(crate) fn first_in_domain(
 #[tactic(auto, using(crate::proofs::Earliest::earliest_append))]
 pub(crate) fn first_in_problem(
     cause: Cause,
-    tables: &Tables,
+    tables: &NameTables,
     domain: &Domain,
     problem: &Problem,
     names: &Names,

@@ -44,7 +44,7 @@ pub enum Cause {
 
 /// Why two trees are no task.
 #[derive(Clone, Copy, Debug, PartialEq, Eq)]
-pub enum Refusal {
+pub enum TypingRefusal {
     /// This name.
     Named { cause: Cause, place: Place },
     /// There are more than 1,000 objects: n, with the constants.
@@ -55,7 +55,7 @@ pub enum Refusal {
 #[derive(Clone, Copy, Debug, PartialEq, Eq)]
 pub enum LiftedError {
     /// The trees are no task.
-    Refused(Refusal),
+    Refused(TypingRefusal),
     /// Memory ran out.
     Memory,
 }

@@ -6,9 +6,9 @@ ghost use Rattle.pb_lifted.specs.Tables.{AreTables, names_of_params};
 use crate::declared::kind_text;
 use crate::lifted::{Argument, Lifted, LiftedAtom, Schema};
 use crate::names::Names;
-use crate::tables::Tables;
+use crate::tables::NameTables;
 use crate::tree::number;
-use pb_trees::{Action, Atom, Domain, Listed, Literal, Predicate, Problem, Term, Typed};
+use pb_pddl::{Action, Atom, Domain, Listed, Literal, Predicate, Problem, Term, Typed};
 use std::alloc::{AllocError, Global};
 
 /// Adds the numbers of the types of objects or parameters.
@@ -114,7 +114,7 @@ fn effect_of(
 /// A schema by numbers.
 fn schema_of(
     alloc: Global,
-    tables: &Tables,
+    tables: &NameTables,
     names: &Names,
     action: &Action,
 ) -> Result<Schema, AllocError>
@@ -139,7 +139,7 @@ fn schema_of(
 /// Schemas by numbers.
 fn schemas_of(
     alloc: Global,
-    tables: &Tables,
+    tables: &NameTables,
     actions: &[Action],
 ) -> Result<Listed<Schema>, AllocError>
     requires { tables.now.params.items ≡ names_of_params actions.now }
@@ -170,7 +170,7 @@ fn predicate_kinds(
 /// A domain and a problem by numbers. It fails where memory runs out.
 pub(crate) fn lifted_of(
     alloc: Global,
-    tables: &Tables,
+    tables: &NameTables,
     domain: &Domain,
     problem: &Problem,
 ) -> Result<Lifted, AllocError>

@@ -4,13 +4,13 @@ ghost use Rattle.pb_lifted.specs.Scope.{IsScope};
 
 use crate::entries::{entry, object};
 use crate::names::Names;
-use crate::tables::Tables;
-use pb_trees::{Domain, Name, Predicate, Problem, Term, Typed};
+use crate::tables::NameTables;
+use pb_pddl::{Domain, Name, Predicate, Problem, Term, Typed};
 
 /// Where an atom stands: its domain and problem with their tables, and the parameters of its action with their names.
 #[derive(Clone, Copy)]
 pub(crate) struct Scope<'a> {
-    pub(crate) tables: &'a Tables,
+    pub(crate) tables: &'a NameTables,
     pub(crate) domain: &'a Domain,
     pub(crate) problem: &'a Problem,
     pub(crate) params: &'a [Typed],

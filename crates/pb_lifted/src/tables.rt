@@ -6,12 +6,12 @@ ghost use Rattle.pb_lifted.specs.Refusals.{repeated_params};
 use crate::declared::{enter_all, enter_types, names_of};
 use crate::names::Names;
 use crate::tree::{Tree, first_cycle, tree_of};
-use pb_trees::{Action, Domain, Problem};
+use pb_pddl::{Action, Domain, Problem};
 use std::alloc::{AllocError, Global};
 
 /// The names of a domain and a problem, to look them up, and the first place in each file of a name that is declared twice.
 #[derive(Drop)]
-pub(crate) struct Tables {
+pub(crate) struct NameTables {
     pub(crate) types: Tree,
     pub(crate) objects: Names,
     pub(crate) predicates: Names,
@@ -49,7 +49,7 @@ pub(crate) fn tables_of(
     alloc: Global,
     domain: &Domain,
     problem: &Problem,
-) -> Result<Tables, AllocError>
+) -> Result<NameTables, AllocError>
     ensures { IfOk result (λ tables. AreTables tables domain.now problem.now) }
 {
     let types = tree_of(alloc, domain.types.as_slice())?;
@@ -62,7 +62,7 @@ pub(crate) fn tables_of(
     let (predicates, found) = names_of(alloc, domain.predicates.as_slice(), found)?;
     let (_actions, found) = names_of(alloc, domain.actions.as_slice(), found)?;
     let (params, twice_in_domain) = params_of(alloc, domain.actions.as_slice(), found)?;
-    Ok(Tables {
+    Ok(NameTables {
         types,
         objects,
         predicates,

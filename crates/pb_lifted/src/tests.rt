@@ -1,7 +1,5 @@
 use super::*;
-use pb_trees::{
-    Action, Atom, Domain, Listed, Literal, Name, Predicate, Problem, Term, Text, Typed,
-};
+use pb_pddl::{Action, Atom, Domain, Listed, Literal, Name, Predicate, Problem, Term, Text, Typed};
 use std::alloc::Global;
 use std::test::Fail;
 
@@ -150,7 +148,11 @@ fn problem(alloc: Global) -> Result<Problem, Fail> {
 
 // ---- resolving
 
-fn refusal(alloc: Global, domain: &Domain, problem: &Problem) -> Result<Option<Refusal>, Fail> {
+fn refusal(
+    alloc: Global,
+    domain: &Domain,
+    problem: &Problem,
+) -> Result<Option<TypingRefusal>, Fail> {
     match resolve(alloc, domain, problem) {
         Err(LiftedError::Refused(refusal)) => Ok(Some(refusal)),
         other => {
@@ -160,8 +162,8 @@ fn refusal(alloc: Global, domain: &Domain, problem: &Problem) -> Result<Option<R
     }
 }
 
-fn named(cause: Cause, file: File, at: u64) -> Option<Refusal> {
-    Some(Refusal::Named {
+fn named(cause: Cause, file: File, at: u64) -> Option<TypingRefusal> {
+    Some(TypingRefusal::Named {
         cause,
         place: Place { file, at },
     })
@@ -298,7 +300,7 @@ fn a_thousand_objects_and_sixteen_parameters_are_let_through(rt: HostRuntime) ->
     assert_eq!(rt; refusal(alloc, &domain, &crowd(alloc, 1000)?)?, None);
     assert_eq!(rt;
         refusal(alloc, &domain, &crowd(alloc, 1001)?)?,
-        Some(Refusal::TooManyObjects { n: 1001 })
+        Some(TypingRefusal::TooManyObjects { n: 1001 })
     );
     Ok(())
 }

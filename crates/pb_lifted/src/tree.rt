@@ -6,7 +6,7 @@ ghost use Rattle.pb_lifted.specs.Tree.{IsTree, parent_numbers, does_not_lead};
 use crate::climb::{at, climbs, far_up};
 use crate::declared::{enter_all, enter_kinds, is_object, kind_text, note};
 use crate::names::Names;
-use pb_trees::{Text, Typed};
+use pb_pddl::{Text, Typed};
 use std::alloc::{AllocError, Global};
 
 /// The tree of types: their names, `object` first, and of `object` and each declared one the number of the type above it. Above a

@@ -5,7 +5,7 @@ use Rattle.std.proofs.lemmas.Bool.Decides.{nat_tests}
 use Rattle.pb_model.proofs.Tests.{not_false, or_false, equal, below, by_cases}
 use Rattle.pb_machine.specs.declared.event.Event.{Event}
 use Rattle.pb_machine.specs.declared.event.Event.TheVariants.{Lease, Renew, Hot, Cold, Release, Off, Ended}
-use Rattle.pb_machine.specs.declared.event.Refusal.TheVariants.{Trouble}
+use Rattle.pb_machine.specs.declared.event.EventRefusal.TheVariants.{Trouble}
 use Rattle.pb_machine.specs.declared.event.Grant.{Grant}
 use Rattle.pb_machine.specs.declared.settings.Settings.{Settings}
 use Rattle.pb_machine.specs.Tables.{with_entry, any_below, sum_below, one_if, count_below}

@@ -6,8 +6,8 @@ use Rattle.pb_machine.specs.declared.event.End.{End}
 use Rattle.pb_machine.specs.declared.event.End.TheVariants.{Quiet, Budget, Memory}
 use Rattle.pb_machine.specs.declared.event.Event.{Event}
 use Rattle.pb_machine.specs.declared.event.Event.TheVariants.{Lease, Renew, Hot, Cold, Release, Off, Ended}
-use Rattle.pb_machine.specs.declared.event.Refusal.{Refusal}
-use Rattle.pb_machine.specs.declared.event.Refusal.TheVariants.{Trouble}
+use Rattle.pb_machine.specs.declared.event.EventRefusal.{EventRefusal}
+use Rattle.pb_machine.specs.declared.event.EventRefusal.TheVariants.{Trouble}
 use Rattle.pb_machine.specs.declared.settings.Settings.{Settings}
 use Rattle.pb_machine.specs.declared.event.Grant.{Grant}
 use Rattle.pb_machine.specs.Tables.{with_entry, count_below}
@@ -18,19 +18,19 @@ use Rattle.pb_machine.specs.JournalLaws.{NoneOutNoneHot, LeasedAreNeverHot, Rele
 use Rattle.pb_machine.proofs.TableLaws.{entry_here, entry_else, any_same, any_none, any_some, any_at, sum_zero, sum_with_entry, none_counted, count_more}
 
 -- where nothing refuses, no test is true
-pub none_true : (ts : List (Bool × Refusal)) → first_true ts ≡ None → AllByRecursion (λ t. t.0 ≡ false) ts
+pub none_true : (ts : List (Bool × EventRefusal)) → first_true ts ≡ None → AllByRecursion (λ t. t.0 ≡ false) ts
 none_true [] h = tt
 none_true (t ∷ ts) h = go t.0 refl (none_true ts)
   where
     go : (r : Bool) → t.0 ≡ r → (first_true ts ≡ None → AllByRecursion (λ u. u.0 ≡ false) ts) → (t.0 ≡ false) × AllByRecursion (λ u. u.0 ≡ false) ts
-    go true e rest = let bad : ◌≡◌ {A = Option Refusal} (Some t.1) None = sym (ap (λ r. cond r (Some t.1) (first_true ts)) e) ∙ h in cc
+    go true e rest = let bad : ◌≡◌ {A = Option EventRefusal} (Some t.1) None = sym (ap (λ r. cond r (Some t.1) (first_true ts)) e) ∙ h in cc
     go false e rest = (e, rest (sym (ap (λ r. cond r (Some t.1) (first_true ts)) e) ∙ h))
 
-pub rest_passes : (t : Bool × Refusal) (ts : List (Bool × Refusal)) → first_true (t ∷ ts) ≡ None → first_true ts ≡ None
+pub rest_passes : (t : Bool × EventRefusal) (ts : List (Bool × EventRefusal)) → first_true (t ∷ ts) ≡ None → first_true ts ≡ None
 rest_passes t ts h = go t.0 refl
   where
     go : (r : Bool) → t.0 ≡ r → first_true ts ≡ None
-    go true e = let bad : ◌≡◌ {A = Option Refusal} (Some t.1) None = sym (ap (λ r. cond r (Some t.1) (first_true ts)) e) ∙ h in cc
+    go true e = let bad : ◌≡◌ {A = Option EventRefusal} (Some t.1) None = sym (ap (λ r. cond r (Some t.1) (first_true ts)) e) ∙ h in cc
     go false e = sym (ap (λ r. cond r (Some t.1) (first_true ts)) e) ∙ h
 
 pub some_is : (x y : Grant) → ◌≡◌ {A = Option Grant} (Some x) (Some y) → x ≡ y

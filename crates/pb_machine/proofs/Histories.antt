@@ -6,7 +6,7 @@ use Rattle.pb_machine.specs.declared.event.End.{End}
 use Rattle.pb_machine.specs.declared.event.End.TheVariants.{Quiet, Budget, Memory}
 use Rattle.pb_machine.specs.declared.event.Event.{Event}
 use Rattle.pb_machine.specs.declared.event.Event.TheVariants.{Lease, Renew, Hot, Cold, Release, Off, Ended}
-use Rattle.pb_machine.specs.declared.event.Refusal.{Refusal}
+use Rattle.pb_machine.specs.declared.event.EventRefusal.{EventRefusal}
 use Rattle.pb_machine.specs.declared.settings.Settings.{Settings}
 use Rattle.pb_machine.specs.Blocks.{Blocks}
 use Rattle.pb_machine.specs.Counts.{Counts, opening_counts, quota_of, quotas_out, counts_after, AreLawful}
@@ -28,7 +28,7 @@ module _ (blocks : Blocks) (settings : Settings) where
   pub first_may : (c d : Counts) (e : Event) (es : List Event) → replay blocks settings c (e ∷ es) ≡ Some d → refusal blocks settings c e ≡ None
   first_may c d e es is = go (refusal blocks settings c e) refl
     where
-      go : (r : Option Refusal) → refusal blocks settings c e ≡ r → refusal blocks settings c e ≡ None
+      go : (r : Option EventRefusal) → refusal blocks settings c e ≡ r → refusal blocks settings c e ≡ None
       go None p = p
       go (Some why) p = let bad : ◌≡◌ {A = Option Counts} None (Some d) = sym (ap (λ r. cond (is_none r) (replay blocks settings (counts_after blocks settings c e) es) None) p) ∙ is in cc
 
@@ -130,7 +130,7 @@ signed_off_is_finished blocks settings before journal counts is report all = rec
 
 module _ (blocks : Blocks) (settings : Settings) where
   -- one event more before those that come before the refused one
-  refused_later : (c : Counts) (e : Event) (es : List Event) (place : ℕ) (why : Refusal) → refusal blocks settings c e ≡ None
+  refused_later : (c : Counts) (e : Event) (es : List Event) (place : ℕ) (why : EventRefusal) → refusal blocks settings c e ≡ None
       → IsFirstRefused blocks settings (counts_after blocks settings c e) es place why → IsFirstRefused blocks settings c (e ∷ es) (place + 1) why
   refused_later c e es place why may is = record {
     start = e ∷ is.start;
@@ -144,12 +144,12 @@ module _ (blocks : Blocks) (settings : Settings) where
   }
 
   -- counted from another place on
-  found_at : (es : List Event) (c : Counts) (from place : ℕ) (why : Refusal) → first_refused blocks settings c from es ≡ Some (place, why)
+  found_at : (es : List Event) (c : Counts) (from place : ℕ) (why : EventRefusal) → first_refused blocks settings c from es ≡ Some (place, why)
       → (later : ℕ) × (place ≡ from + later) × IsFirstRefused blocks settings c es later why
   found_at [] c from place why is = cc
   found_at (e ∷ es) c from place why is = go (refusal blocks settings c e) refl (found_at es (counts_after blocks settings c e) (from + 1) place why)
     where
-      go : (r : Option Refusal) → refusal blocks settings c e ≡ r
+      go : (r : Option EventRefusal) → refusal blocks settings c e ≡ r
           → (first_refused blocks settings (counts_after blocks settings c e) (from + 1) es ≡ Some (place, why)
           → (later : ℕ) × (place ≡ from + 1 + later) × IsFirstRefused blocks settings (counts_after blocks settings c e) es later why)
           → (later : ℕ) × (place ≡ from + later) × IsFirstRefused blocks settings c (e ∷ es) later why
@@ -157,28 +157,28 @@ module _ (blocks : Blocks) (settings : Settings) where
           let l = rest (sym (ap (λ r. or_refused from r (first_refused blocks settings (counts_after blocks settings c e) (from + 1) es)) may) ∙ is) in
           (l.0 + 1, omega (arith, l.1), refused_later c e es l.0 why may l.2)
       go (Some reason) refused rest =
-          let same : ◌≡◌ {A = Option (ℕ × Refusal)} (Some (from, reason)) (Some (place, why)) =
+          let same : ◌≡◌ {A = Option (ℕ × EventRefusal)} (Some (from, reason)) (Some (place, why)) =
           sym (ap (λ r. or_refused from r (first_refused blocks settings (counts_after blocks settings c e) (from + 1) es)) refused) ∙ is in
-          let pair : ◌≡◌ {A = ℕ × Refusal} (from, reason) (place, why) = cc in
-          let here : from ≡ place = ap (λ (p : ℕ × Refusal). p.0) pair in
-          let reason_is : reason ≡ why = ap (λ (p : ℕ × Refusal). p.1) pair in
+          let pair : ◌≡◌ {A = ℕ × EventRefusal} (from, reason) (place, why) = cc in
+          let here : from ≡ place = ap (λ (p : ℕ × EventRefusal). p.0) pair in
+          let reason_is : reason ≡ why = ap (λ (p : ℕ × EventRefusal). p.1) pair in
           (0, omega (arith, here), record { start = []; event = e; rest = es; between = c; parts = refl; place_is = refl; replays = refl; refused = refused ∙ ap (λ r. Some r) reason_is })
 
   none_found : (es : List Event) (c : Counts) (from : ℕ) → first_refused blocks settings c from es ≡ None → (after : Counts) × (replay blocks settings c es ≡ Some after)
   none_found [] c from is = (c, refl)
   none_found (e ∷ es) c from is = go (refusal blocks settings c e) refl (none_found es (counts_after blocks settings c e) (from + 1))
     where
-      go : (r : Option Refusal) → refusal blocks settings c e ≡ r
+      go : (r : Option EventRefusal) → refusal blocks settings c e ≡ r
           → (first_refused blocks settings (counts_after blocks settings c e) (from + 1) es ≡ None → (after : Counts) × (replay blocks settings (counts_after blocks settings c e) es ≡ Some after))
           → (after : Counts) × (replay blocks settings c (e ∷ es) ≡ Some after)
       go None may rest =
           let l = rest (sym (ap (λ r. or_refused from r (first_refused blocks settings (counts_after blocks settings c e) (from + 1) es)) may) ∙ is) in
           (l.0, replay_first blocks settings c e es may ∙ l.1)
       go (Some reason) refused rest =
-          let bad : ◌≡◌ {A = Option (ℕ × Refusal)} (Some (from, reason)) None =
+          let bad : ◌≡◌ {A = Option (ℕ × EventRefusal)} (Some (from, reason)) None =
           sym (ap (λ r. or_refused from r (first_refused blocks settings (counts_after blocks settings c e) (from + 1) es)) refused) ∙ is in cc
 
-  fails_at : (start : List Event) (c between : Counts) (e : Event) (rest : List Event) (why : Refusal) → replay blocks settings c start ≡ Some between → refusal blocks settings between e ≡ Some why
+  fails_at : (start : List Event) (c between : Counts) (e : Event) (rest : List Event) (why : EventRefusal) → replay blocks settings c start ≡ Some between → refusal blocks settings between e ≡ Some why
       → replay blocks settings c (start ++ e ∷ rest) ≡ None
   fails_at [] c between e rest why is refused =
       let same : refusal blocks settings c e ≡ Some why = ap (λ q. refusal blocks settings q e) (some_counts c between is) ∙ refused in
@@ -189,7 +189,7 @@ module _ (blocks : Blocks) (settings : Settings) where
       ∙ fails_at start (counts_after blocks settings c first) between e rest why (sym (replay_first blocks settings c first start may) ∙ is) refused
 
   -- an event that may not come after those before it is found
-  finds : (start : List Event) (c between : Counts) (e : Event) (rest : List Event) (from : ℕ) (why : Refusal) → replay blocks settings c start ≡ Some between
+  finds : (start : List Event) (c between : Counts) (e : Event) (rest : List Event) (from : ℕ) (why : EventRefusal) → replay blocks settings c start ≡ Some between
       → refusal blocks settings between e ≡ Some why → first_refused blocks settings c from (start ++ e ∷ rest) ≡ Some (from + length start, why)
   finds [] c between e rest from why is refused =
       let same : refusal blocks settings c e ≡ Some why = ap (λ q. refusal blocks settings q e) (some_counts c between is) ∙ refused in

@@ -7,8 +7,8 @@ use Rattle.pb_machine.specs.declared.event.End.{End}
 use Rattle.pb_machine.specs.declared.event.End.TheVariants.{Quiet, Budget, Memory}
 use Rattle.pb_machine.specs.declared.event.Event.{Event}
 use Rattle.pb_machine.specs.declared.event.Event.TheVariants.{Lease, Renew, Hot, Cold, Release, Off, Ended}
-use Rattle.pb_machine.specs.declared.event.Refusal.{Refusal}
-use Rattle.pb_machine.specs.declared.event.Refusal.TheVariants.{Trouble}
+use Rattle.pb_machine.specs.declared.event.EventRefusal.{EventRefusal}
+use Rattle.pb_machine.specs.declared.event.EventRefusal.TheVariants.{Trouble}
 use Rattle.pb_machine.specs.declared.event.Grant.{Grant}
 use Rattle.pb_machine.specs.declared.settings.Settings.{Settings}
 use Rattle.pb_machine.specs.Tables.{with_entry, any_below}
@@ -20,7 +20,7 @@ use Rattle.pb_machine.specs.Choice.{MayBeLeased, counts_with_lease_home}
 use Rattle.pb_machine.specs.JournalLaws.{ChosenLeasesAreLegal, ChosenRenewalsAreLegal, ChoicesOutliveReleases, LeasesAreOfWorkers, ReleasesAreLegal, MarksAreLegal, SignOffsAreLegal, EndsAreLegal}
 
 -- nothing refuses where no test is true
-none_refuses : (ts : List (Bool × Refusal)) → AllByRecursion (λ t. t.0 ≡ false) ts → first_true ts ≡ None
+none_refuses : (ts : List (Bool × EventRefusal)) → AllByRecursion (λ t. t.0 ≡ false) ts → first_true ts ≡ None
 none_refuses [] h = refl
 none_refuses (t ∷ ts) h = ap (λ r. cond r (Some t.1) (first_true ts)) h.0 ∙ none_refuses ts h.1
 

@@ -5,7 +5,7 @@ use Rattle.pb_model.specs.Store.{Rows, Store}
 use Rattle.pb_model.specs.Local.{AgreesOn, merged_store}
 use Rattle.pb_model.proofs.Tests.{not_both, not_true, not_false, or_false, equal, equal_self, equal_swap, below, by_cases}
 use Rattle.pb_machine.specs.declared.event.Event.TheVariants.{Lease, Renew, Release}
-use Rattle.pb_machine.specs.declared.event.Refusal.TheVariants.{Trouble}
+use Rattle.pb_machine.specs.declared.event.EventRefusal.TheVariants.{Trouble}
 use Rattle.pb_machine.specs.declared.event.Grant.{Grant}
 use Rattle.pb_machine.specs.Tables.{with_entry}
 use Rattle.pb_machine.specs.Blocks.{meets}

@@ -3,7 +3,7 @@ use Rattle.std.specs.Prelude.{◌≡◌, ℕ, ◌+◌, ◌<◌, ◌≤◌, lengt
 use Rattle.pb_machine.specs.declared.event.End.{End}
 use Rattle.pb_machine.specs.declared.event.Event.{Event}
 use Rattle.pb_machine.specs.declared.event.Event.TheVariants.{Lease, Renew, Hot, Cold, Release, Off, Ended}
-use Rattle.pb_machine.specs.declared.event.Refusal.{Refusal}
+use Rattle.pb_machine.specs.declared.event.EventRefusal.{EventRefusal}
 use Rattle.pb_machine.specs.declared.settings.Settings.{Settings}
 use Rattle.pb_machine.specs.Settings.{AreInRange}
 use Rattle.pb_machine.specs.Blocks.{Blocks}
@@ -24,7 +24,7 @@ pub record IsHistory (blocks : Blocks) (settings : Settings) (before : ℕ) (jou
   pub replays : replay blocks settings (opening_counts settings before) journal ≡ Some counts
 
 -- the first event of the journal that may not come, with the number of events before it, and why
-pub record IsFirstRefused (blocks : Blocks) (settings : Settings) (counts : Counts) (journal : List Event) (place : ℕ) (why : Refusal) : Type 0 where
+pub record IsFirstRefused (blocks : Blocks) (settings : Settings) (counts : Counts) (journal : List Event) (place : ℕ) (why : EventRefusal) : Type 0 where
   pub start : List Event
   pub event : Event
   pub rest : List Event
@@ -35,13 +35,13 @@ pub record IsFirstRefused (blocks : Blocks) (settings : Settings) (counts : Coun
   pub refused : refusal blocks settings between event ≡ Some why
 
 -- what refuses the event on this line, or else a later one
-abbrev pub or_refused : (line : ℕ) → Option Refusal → Option (ℕ × Refusal) → Option (ℕ × Refusal)
+abbrev pub or_refused : (line : ℕ) → Option EventRefusal → Option (ℕ × EventRefusal) → Option (ℕ × EventRefusal)
 or_refused line None later = later
 or_refused line (Some why) later = Some (line, why)
 
 -- the line of the first event that may not come after those before it, and why, where the journal's first event is on this line;
 -- or none
-abbrev pub first_refused : Blocks → Settings → Counts → (line : ℕ) → List Event → Option (ℕ × Refusal)
+abbrev pub first_refused : Blocks → Settings → Counts → (line : ℕ) → List Event → Option (ℕ × EventRefusal)
 first_refused blocks settings counts line [] = None
 first_refused blocks settings counts line (event ∷ events) =
     or_refused line (refusal blocks settings counts event)

@@ -10,7 +10,7 @@ use Rattle.pb_machine.specs.declared.event.End.{End}
 use Rattle.pb_machine.specs.declared.event.End.TheVariants.{Quiet, Budget, Memory}
 use Rattle.pb_machine.specs.declared.event.Event.{Event}
 use Rattle.pb_machine.specs.declared.event.Event.TheVariants.{Lease, Renew, Hot, Cold, Release, Off, Ended}
-use Rattle.pb_machine.specs.declared.event.Refusal.{Refusal}
+use Rattle.pb_machine.specs.declared.event.EventRefusal.{EventRefusal}
 use Rattle.pb_machine.specs.declared.event.Grant.{Grant}
 use Rattle.pb_machine.specs.declared.settings.Settings.{Settings}
 use Rattle.pb_machine.specs.Settings.{settings_with_weight}
@@ -106,14 +106,14 @@ HistoriesHaveAnyWeight =
 abbrev pub RefusalsAreFirst : Type 0
 RefusalsAreFirst =
     (blocks : Blocks) (settings : Settings) (counts : Counts) (from : ℕ) (journal : List Event)
-    → ((line : ℕ) (why : Refusal) → (first_refused blocks settings counts from journal ≡ Some (line, why))
+    → ((line : ℕ) (why : EventRefusal) → (first_refused blocks settings counts from journal ≡ Some (line, why))
     ↔ ((place : ℕ) × (line ≡ from + place) × IsFirstRefused blocks settings counts journal place why))
     × ((first_refused blocks settings counts from journal ≡ None) ↔ ((after : Counts) × (replay blocks settings counts journal ≡ Some after)))
 
 -- A journal with an event that may not come is no legal history.
 abbrev pub RefusedJournalsFail : Type 0
 RefusedJournalsFail =
-    (blocks : Blocks) (settings : Settings) (counts : Counts) (journal : List Event) (place : ℕ) (why : Refusal)
+    (blocks : Blocks) (settings : Settings) (counts : Counts) (journal : List Event) (place : ℕ) (why : EventRefusal)
     → IsFirstRefused blocks settings counts journal place why → replay blocks settings counts journal ≡ None
 
 -- Where a legal history ends for want of memory, the event directly before that end reports it; and where a report waits for its end, it

@@ -7,8 +7,8 @@ use Rattle.pb_machine.specs.declared.event.End.{End}
 use Rattle.pb_machine.specs.declared.event.End.TheVariants.{Quiet, Budget, Memory}
 use Rattle.pb_machine.specs.declared.event.Event.{Event}
 use Rattle.pb_machine.specs.declared.event.Event.TheVariants.{Lease, Renew, Hot, Cold, Release, Off, Ended}
-use Rattle.pb_machine.specs.declared.event.Refusal.{Refusal}
-use Rattle.pb_machine.specs.declared.event.Refusal.TheVariants.{Worker, Holds, Block, Scope, Quota, NoEnd, Trouble, Ended as HasEnded, Hot as IsHot}
+use Rattle.pb_machine.specs.declared.event.EventRefusal.{EventRefusal}
+use Rattle.pb_machine.specs.declared.event.EventRefusal.TheVariants.{Worker, Holds, Block, Scope, Quota, NoEnd, Trouble, Ended as HasEnded, Hot as IsHot}
 use Rattle.pb_machine.specs.declared.settings.Settings.{Settings}
 use Rattle.pb_machine.specs.Blocks.{Blocks}
 use Rattle.pb_machine.specs.Counts.{Counts, opening_counts}
@@ -83,7 +83,7 @@ IsFinishedHistory blocks settings journal events end spent =
     × ((counts : Counts) × IsHistory blocks settings 0 journal counts × AreFinished settings counts × (counts.end ≡ Some end) × (counts.spent ≡ spent))
 
 -- the journal is refused on this line, for this reason
-abbrev pub IsRefused : Blocks → Settings → List Event → (line : ℕ) → Refusal → Type 0
+abbrev pub IsRefused : Blocks → Settings → List Event → (line : ℕ) → EventRefusal → Type 0
 IsRefused blocks settings journal line why = first_refused blocks settings (opening_counts settings 0) 7 journal ≡ Some (line, why)
 
 -- without its last line the journal is a legal history that is not finished
@@ -105,7 +105,7 @@ abbrev pub with_hot : (block : ℕ) → List Event
 with_hot block = Lease 0 0 256 ∷ Hot 0 block ∷ Release 0 1 false ∷ later_visits ++ ending
 
 -- settings, a journal, the line on which it is refused, and why
-abbrev pub refused_journals : List (Settings × List Event × ℕ × Refusal)
+abbrev pub refused_journals : List (Settings × List Event × ℕ × EventRefusal)
 refused_journals =
     (one_worker, with_first (Lease 1 0 256), 7, Worker)
     ∷ (one_worker, with_first (Lease 0 9 256), 7, Block)
@@ -128,7 +128,7 @@ refused_journals =
     ∷ []
 
 -- the same in the corridor
-abbrev pub refused_in_corridor : List (Settings × List Event × ℕ × Refusal)
+abbrev pub refused_in_corridor : List (Settings × List Event × ℕ × EventRefusal)
 refused_in_corridor =
     (short_budget, Lease 0 0 2 ∷ Renew 1 2 2 ∷ [], 8, Worker)
     ∷ (short_budget, Lease 0 0 2 ∷ Renew 0 3 2 ∷ [], 8, Quota)
@@ -152,7 +152,7 @@ refused_in_corridor =
     ∷ []
 
 -- and of two workers over the nine cells, where both have a lease on line 13
-abbrev pub refused_of_two : List (Settings × List Event × ℕ × Refusal)
+abbrev pub refused_of_two : List (Settings × List Event × ℕ × EventRefusal)
 refused_of_two =
     (two_workers, both_out ++ Lease 2 8 256 ∷ [], 13, Worker)
     ∷ (two_workers, both_out ++ Lease 0 8 256 ∷ [], 13, Holds)
@@ -193,5 +193,5 @@ refused_of_two =
     ∷ (two_workers, both_out ++ Release 1 1 true ∷ Lease 2 9 0 ∷ [], 14, Trouble)
     ∷ []
 
-abbrev pub AreRefused : Blocks → List (Settings × List Event × ℕ × Refusal) → Type 0
+abbrev pub AreRefused : Blocks → List (Settings × List Event × ℕ × EventRefusal) → Type 0
 AreRefused blocks rows = AllByRecursion (λ row. IsRefused blocks row.0 row.1 row.2 row.3) rows

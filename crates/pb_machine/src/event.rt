@@ -77,7 +77,7 @@ pub struct Grant {
 
 /// Why an event may not come next.
 #[derive(Clone, Copy, Debug, PartialEq, Eq)]
-pub enum Refusal {
+pub enum EventRefusal {
     /// An end stands.
     Ended,
     /// There is no such worker, or it has signed off.

@@ -11,7 +11,7 @@ mod journal_laws;
 mod laws;
 mod settings;
 
-pub use event::{End, Event, Grant, Refusal};
+pub use event::{End, Event, EventRefusal, Grant};
 pub use journal_laws::{
     all_off_none_out, beginnings_are_histories, busy_is_counted, choices_outlive_releases,
     chosen_leases_are_legal, chosen_renewals_are_legal, counters_begin_at_none, counters_fit,

@@ -8,7 +8,7 @@ use Rattle.std.specs.Str.{bytes_eq}
 use Rattle.pb_lifted.specs.Tree.{comes_to}
 use Rattle.pb_lifted.specs.declared.lifted.Lifted.{Lifted}
 use Rattle.pb_lifted.specs.declared.lifted.Schema.{Schema}
-use Rattle.pb_ground.specs.declared.actions.GroundAction.{GroundAction}
+use Rattle.pb_ground.specs.declared.actions.ActionInstance.{ActionInstance}
 use Rattle.pb_ground.specs.declared.atoms.GroundAtom.{GroundAtom}
 use Rattle.pb_ground.specs.Actions.{action_of, rows_of, actions_of, actions_from, ground_actions}
 use Rattle.pb_ground.specs.Instances.{fitting_from, fitting, instances}
@@ -110,7 +110,7 @@ instances_apart lifted (kind ∷ kinds) = spread_apart (instances lifted kinds) 
 -- ---- ground actions
 
 -- the schema's number before those of the objects
-abbrev pub row_of : GroundAction → List ℕ
+abbrev pub row_of : ActionInstance → List ℕ
 row_of action = action.schema ∷ action.objects
 
 rows_are : (atoms : List GroundAtom) (i : ℕ) (schema : Schema) (rows : List (List ℕ)) → map row_of (map (λ given. action_of atoms i schema given) rows) ≡ map (λ xs. i ∷ xs) rows

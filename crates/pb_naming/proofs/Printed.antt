@@ -3,10 +3,10 @@ use Rattle.std.proofs.Common.{◌≡◌, ℕ, suc, Bool, true, false, if◌then�
 use Rattle.std.proofs.lemmas.List.Elements.{All-append}
 use Rattle.std.proofs.lemmas.Slice.Eq.{bytes_eq-Decides}
 use Rattle.std.specs.Str.{bytes_eq}
-use Rattle.pb_trees.specs.declared.tree.Typed.{Typed}
-use Rattle.pb_trees.specs.declared.tree.Domain.{Domain}
-use Rattle.pb_trees.specs.declared.tree.Problem.{Problem}
-use Rattle.pb_trees.specs.Words.{IsWord, DomainHasWords, ProblemHasWords}
+use Rattle.pb_pddl.specs.declared.tree.Typed.{Typed}
+use Rattle.pb_pddl.specs.declared.tree.Domain.{Domain}
+use Rattle.pb_pddl.specs.declared.tree.Problem.{Problem}
+use Rattle.pb_pddl.specs.Words.{IsWord, DomainHasWords, ProblemHasWords}
 use Rattle.pb_lifted.specs.Types.{name_text}
 use Rattle.pb_lifted.specs.Objects.{objects_of, entry_of}
 use Rattle.pb_lifted.specs.Facts.{name_at}

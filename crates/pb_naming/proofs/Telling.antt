@@ -3,13 +3,13 @@ use Rattle.std.proofs.Common.{◌≡◌, ◌≢◌, ◌<◌, ◌≤◌, ℕ, zer
 use Rattle.std.proofs.lemmas.Bool.Decides.{nat_tests}
 use Rattle.std.proofs.lemmas.List.{length-map}
 use Rattle.std.proofs.lemmas.List.Elements.{All-nil, All-append}
-use Rattle.pb_trees.specs.declared.tree.Typed.{Typed}
-use Rattle.pb_trees.specs.declared.tree.Action.{Action}
-use Rattle.pb_trees.specs.declared.tree.Domain.{Domain}
-use Rattle.pb_trees.specs.declared.tree.Problem.{Problem}
-use Rattle.pb_trees.specs.Words.{IsWord, DomainHasWords, ProblemHasWords}
+use Rattle.pb_pddl.specs.declared.tree.Typed.{Typed}
+use Rattle.pb_pddl.specs.declared.tree.Action.{Action}
+use Rattle.pb_pddl.specs.declared.tree.Domain.{Domain}
+use Rattle.pb_pddl.specs.declared.tree.Problem.{Problem}
+use Rattle.pb_pddl.specs.Words.{IsWord, DomainHasWords, ProblemHasWords}
 use Rattle.pb_lifted.specs.declared.lifted.Lifted.{Lifted}
-use Rattle.pb_lifted.specs.declared.refusal.Refusal.{Refusal}
+use Rattle.pb_lifted.specs.declared.refusal.TypingRefusal.{TypingRefusal}
 use Rattle.pb_lifted.specs.Names.{number_of, repeated}
 use Rattle.pb_lifted.specs.Types.{name_text, declared_types}
 use Rattle.pb_lifted.specs.Objects.{objects_of}
@@ -21,7 +21,7 @@ use Rattle.pb_lifted.proofs.DistinctNames.{distinct_on, text_of}
 use Rattle.pb_lifted.proofs.Faultless.{faultless, nil_left, nil_right}
 use Rattle.pb_lifted.proofs.FittingObjects.{at_mapped}
 use Rattle.pb_lifted.proofs.WellTyped.{accepted_is_well_typed}
-use Rattle.pb_ground.specs.declared.actions.GroundAction as instance
+use Rattle.pb_ground.specs.declared.actions.ActionInstance as instance
 use Rattle.pb_ground.specs.Atoms.{ground_atoms}
 use Rattle.pb_ground.specs.Actions.{ground_actions}
 use Rattle.pb_ground.specs.Members.{is_fitting, is_instance}
@@ -96,7 +96,7 @@ same_numbers names (x ∷ xs) (y ∷ ys) each h k e =
 
 -- ---- what isn't refused
 
-none_refused : (refusal : Option Refusal) (lifted : Lifted) → or_too_many refusal lifted ≡ None → refusal ≡ None
+none_refused : (refusal : Option TypingRefusal) (lifted : Lifted) → or_too_many refusal lifted ≡ None → refusal ≡ None
 none_refused None lifted e = refl
 none_refused (Some refusal) lifted e = cc
 
@@ -148,10 +148,10 @@ module _ (domain : Domain) (problem : Problem) (accepted : first_fault domain pr
   abbrev pub lifted : Lifted
   lifted = lifted_of domain problem
 
-  abbrev pub actions : List instance.GroundAction
+  abbrev pub actions : List instance.ActionInstance
   actions = ground_actions lifted (ground_atoms lifted)
 
-  abbrev pub bytes_of : instance.GroundAction → List ℕ
+  abbrev pub bytes_of : instance.ActionInstance → List ℕ
   bytes_of a = action_bytes domain (a.schema, named domain problem a.objects)
 
   known : first_refusal domain problem ≡ None
@@ -160,35 +160,35 @@ module _ (domain : Domain) (problem : Problem) (accepted : first_fault domain pr
   typed : IsWellTyped domain problem
   typed = accepted_is_well_typed domain problem known
 
-  word_plain : (a : instance.GroundAction) → IsPlain (name_at (map action_word domain.actions) a.schema)
+  word_plain : (a : instance.ActionInstance) → IsPlain (name_at (map action_word domain.actions) a.schema)
   word_plain a = plain_at (map action_word domain.actions) (actions_plain domain.actions words.actions) a.schema
 
-  objects_are_plain : (a : instance.GroundAction) → ArePlain (named domain problem a.objects)
+  objects_are_plain : (a : instance.ActionInstance) → ArePlain (named domain problem a.objects)
   objects_are_plain a =
       objects_plain (object_names domain problem)
       (typed_plain (objects_of domain problem) (All-append (λ (t : Typed). IsWord t.name.text) domain.constants problem.objects words.constants others)) a.objects
 
-  of_line : (a : instance.GroundAction) → All IsOfLine (bytes_of a)
+  of_line : (a : instance.ActionInstance) → All IsOfLine (bytes_of a)
   of_line a = text_of_line (name_at (map action_word domain.actions) a.schema) (named domain problem a.objects) (word_plain a) (objects_are_plain a)
 
-  name_is : (k : ℕ) (a : instance.GroundAction) → slice_get actions k ≡ Some a → name_in (strips_of domain problem).actions k ≡ bytes_of a
+  name_is : (k : ℕ) (a : instance.ActionInstance) → slice_get actions k ≡ Some a → name_in (strips_of domain problem).actions k ≡ bytes_of a
   name_is k a e = ap name_of (at_mapped (packed_action domain problem (length (ground_atoms lifted))) actions k a e) ∙ text_is (bytes_of a) (of_line a)
 
-  schema_below : (k : ℕ) (a : instance.GroundAction) → slice_get actions k ≡ Some a → a.schema < length (map action_word domain.actions)
+  schema_below : (k : ℕ) (a : instance.ActionInstance) → slice_get actions k ≡ Some a → a.schema < length (map action_word domain.actions)
   schema_below k a e =
       let is : IsInstance lifted (ground_atoms lifted) a = is_instance_at lifted (ground_atoms lifted) k a e in
       let there = below lifted.actions is.i is.schema is.declared in
-      let same : a.schema ≡ is.i = ap (λ (g : instance.GroundAction). g.schema) is.is in
+      let same : a.schema ≡ is.i = ap (λ (g : instance.ActionInstance). g.schema) is.is in
       omega (arith, there, same, schemas_agree domain problem)
 
-  objects_below : (k : ℕ) (a : instance.GroundAction) → slice_get actions k ≡ Some a → All (λ i. i < length (object_names domain problem)) a.objects
+  objects_below : (k : ℕ) (a : instance.ActionInstance) → slice_get actions k ≡ Some a → All (λ i. i < length (object_names domain problem)) a.objects
   objects_below k a e =
       let is : IsInstance lifted (ground_atoms lifted) a = is_instance_at lifted (ground_atoms lifted) k a e in
-      let same : a.objects ≡ is.given = ap (λ (g : instance.GroundAction). g.objects) is.is in
+      let same : a.objects ≡ is.given = ap (λ (g : instance.ActionInstance). g.objects) is.is in
       subst (λ n. All (λ i. i < n) a.objects) (lengths_agree domain problem)
       (subst (λ given. All (λ i. i < length lifted.objects) given) (sym same) (fitting_below lifted is.schema.params is.given is.fits))
 
-  same_row : (one other : ℕ) (a b : instance.GroundAction) → slice_get actions one ≡ Some a → slice_get actions other ≡ Some b → bytes_of a ≡ bytes_of b → row_of a ≡ row_of b
+  same_row : (one other : ℕ) (a b : instance.ActionInstance) → slice_get actions one ≡ Some a → slice_get actions other ≡ Some b → bytes_of a ≡ bytes_of b → row_of a ≡ row_of b
   same_row one other a b at_one at_other e =
       let parts =
       same_parts (name_at (map action_word domain.actions) a.schema) (name_at (map action_word domain.actions) b.schema) (named domain problem a.objects) (named domain problem b.objects)

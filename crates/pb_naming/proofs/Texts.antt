@@ -5,7 +5,7 @@ use Rattle.std.proofs.lemmas.List.Elements.{All-nil, All-cons, All-append}
 use Rattle.std.proofs.lemmas.Str.{IsUtf8-from_ascii, utf8_lossy-IsUtf8}
 use Rattle.std.proofs.lemmas.Str.Ascii.{IsAscii-from_all}
 use Rattle.std.specs.Str.Lossy.{utf8_lossy}
-use Rattle.pb_trees.specs.Words.{is_word_byte, AreWordBytes}
+use Rattle.pb_pddl.specs.Words.{is_word_byte, AreWordBytes}
 use Rattle.pb_strips.specs.Names.{spaced}
 use Rattle.pb_naming.proofs.Apart.{never}
 

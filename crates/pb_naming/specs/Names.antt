@@ -1,8 +1,8 @@
 -- The names under which ground actions are printed tell them apart, and each is one line.
 use Rattle.std.specs.Prelude.{◌≡◌, ◌≢◌, ℕ, ◌<◌, List, map, length, All, None}
-use Rattle.pb_trees.specs.declared.tree.Domain.{Domain}
-use Rattle.pb_trees.specs.declared.tree.Problem.{Problem}
-use Rattle.pb_trees.specs.Words.{DomainHasWords, ProblemHasWords}
+use Rattle.pb_pddl.specs.declared.tree.Domain.{Domain}
+use Rattle.pb_pddl.specs.declared.tree.Problem.{Problem}
+use Rattle.pb_pddl.specs.Words.{DomainHasWords, ProblemHasWords}
 use Rattle.pb_lifted.specs.Plans.{NamedAction, IsPlan}
 use Rattle.pb_task.specs.Strips.{name_in}
 use Rattle.pb_strips.specs.Names.{action_bytes, action_text}

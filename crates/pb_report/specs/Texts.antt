@@ -4,30 +4,30 @@ use Rattle.std.specs.Fmt.{decimal}
 use Rattle.pb_model.specs.Space.{Space}
 use Rattle.pb_model.specs.Plan.{Plan}
 use Rattle.pb_model.specs.Texts.{line, spaced, plan_report}
-use Rattle.pb_task.specs.declared.parts.Parts.{Parts}
+use Rattle.pb_task.specs.declared.parts.TaskParts.{TaskParts}
 use Rattle.pb_task.specs.Parts.{action_name}
 use Rattle.pb_grid.specs.declared.error.GridError.{GridError}
 use Rattle.pb_grid.specs.declared.error.GridError.TheVariants.{Header, Size, Rows, Cell, Scenario, NoRow, ScenarioSize, Outside, StartBlocked, GoalBlocked, Memory}
 use Rattle.pb_tiles.specs.declared.error.TilesError.{TilesError}
 use Rattle.pb_tiles.specs.declared.error.TilesError.TheVariants as tiles
-use Rattle.pb_trees.specs.declared.error.Want.{Want}
-use Rattle.pb_trees.specs.declared.error.Want.TheVariants as wants
-use Rattle.pb_trees.specs.declared.error.LeftOut.{LeftOut}
-use Rattle.pb_trees.specs.declared.error.LeftOut.TheVariants as left_out
-use Rattle.pb_trees.specs.declared.error.SyntaxError.{SyntaxError}
-use Rattle.pb_trees.specs.declared.error.SyntaxError.TheVariants as syntax
+use Rattle.pb_pddl.specs.declared.error.Want.{Want}
+use Rattle.pb_pddl.specs.declared.error.Want.TheVariants as wants
+use Rattle.pb_pddl.specs.declared.error.LeftOut.{LeftOut}
+use Rattle.pb_pddl.specs.declared.error.LeftOut.TheVariants as left_out
+use Rattle.pb_pddl.specs.declared.error.SyntaxError.{SyntaxError}
+use Rattle.pb_pddl.specs.declared.error.SyntaxError.TheVariants as syntax
 use Rattle.pb_lifted.specs.declared.refusal.File.{File}
 use Rattle.pb_lifted.specs.declared.refusal.File.TheVariants.{Domain, Problem}
 use Rattle.pb_lifted.specs.declared.refusal.Cause.{Cause}
 use Rattle.pb_lifted.specs.declared.refusal.Cause.TheVariants as causes
-use Rattle.pb_lifted.specs.declared.refusal.Refusal.{Refusal}
-use Rattle.pb_lifted.specs.declared.refusal.Refusal.TheVariants.{Named, TooManyObjects}
+use Rattle.pb_lifted.specs.declared.refusal.TypingRefusal.{TypingRefusal}
+use Rattle.pb_lifted.specs.declared.refusal.TypingRefusal.TheVariants.{Named, TooManyObjects}
 use Rattle.pb_strips.specs.declared.error.StripsError.{StripsError}
 use Rattle.pb_strips.specs.declared.error.StripsError.TheVariants as strips
 use Rattle.pb_check.specs.declared.fault.Verdict.{Verdict}
 use Rattle.pb_check.specs.declared.fault.Verdict.TheVariants.{Bounded, Unsolvable}
-use Rattle.pb_check.specs.declared.fault.Fault.{Fault}
-use Rattle.pb_check.specs.declared.fault.Fault.TheVariants.{Syntax, Kind, Weight, PlanStep, NotGoal, Cost, RowOrder, BadState, NoStart, GoalClosed, Missing, TooDear, Low}
+use Rattle.pb_check.specs.declared.fault.CertificateFault.{CertificateFault}
+use Rattle.pb_check.specs.declared.fault.CertificateFault.TheVariants.{Syntax, Kind, Weight, PlanStep, NotGoal, Cost, RowOrder, BadState, NoStart, GoalClosed, Missing, TooDear, Low}
 
 -- a line of words and a number
 abbrev pub with_number : (words : List ℕ) → (number : ℕ) → List ℕ
@@ -48,7 +48,7 @@ abbrev pub AreActions : Space → List ℕ → Type 0
 AreActions space actions = All (λ action. action < space.actions) actions
 
 -- a plan of a task: its cost and the number of its steps, the name of each step, and the bound
-abbrev pub plan_text : Parts → Plan → (bound : ℕ) → List ℕ
+abbrev pub plan_text : TaskParts → Plan → (bound : ℕ) → List ℕ
 plan_text parts plan bound = plan_report (map (action_name parts) plan.actions) plan.cost bound
 
 -- ---- a checked certificate
@@ -59,7 +59,7 @@ verdict_text (Bounded cost bound) = line (spaced (codes "accepted cost") (spaced
 verdict_text Unsolvable = line (codes "accepted none")
 
 -- why a certificate is refused: the fault's name and its numbers
-abbrev pub fault_text : Fault → List ℕ
+abbrev pub fault_text : CertificateFault → List ℕ
 fault_text (Syntax at) = with_number (codes "refused Syntax") at
 fault_text Kind = line (codes "refused Kind")
 fault_text Weight = line (codes "refused Weight")
@@ -151,7 +151,7 @@ cause_word causes.WrongType = codes "WrongType"
 cause_word causes.TooWide = codes "TooWide"
 
 -- why names or objects are refused: the cause, the number of the file and the place of the name in it; or how many objects there are
-abbrev pub refusal_text : Refusal → List ℕ
+abbrev pub refusal_text : TypingRefusal → List ℕ
 refusal_text (Named cause place) = with_numbers (spaced (codes "input") (cause_word cause)) (file_number place.file) place.at
 refusal_text (TooManyObjects count) = with_number (codes "input TooManyObjects") count
 

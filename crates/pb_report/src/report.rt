@@ -2,7 +2,7 @@ ghost use Rattle.std.specs.Prelude.{◌≡◌, ◌++◌, ◌^◌, ◌<◌, Some,
 ghost use Rattle.std.specs.Fmt.{decimal};
 ghost use Rattle.pb_model.specs.Texts.{line, spaced, none_report, stopped_report};
 ghost use Rattle.pb_task.specs.Parts.{space_of};
-ghost use Rattle.pb_lifted.specs.declared.refusal.Refusal.TheVariants.{Named};
+ghost use Rattle.pb_lifted.specs.declared.refusal.TypingRefusal.TheVariants.{Named};
 ghost use Rattle.pb_report.specs.Texts.{AreActions, plan_text, verdict_text, fault_text, input_text, tiles_text, file_number, syntax_text, refusal_text, strips_text};
 
 use crate::pieces::{
@@ -10,14 +10,14 @@ use crate::pieces::{
 };
 use crate::words::{cause_word, file_number, left_out_word, want_word};
 use pb_cert::Plan;
-use pb_check::{Fault, Verdict};
+use pb_check::{CertificateFault, Verdict};
 use pb_grid::GridError;
-use pb_lifted::{Cause, File, Place, Refusal};
+use pb_lifted::{Cause, File, Place, TypingRefusal};
+use pb_pddl::SyntaxError;
 use pb_print::{push_line, push_text};
 use pb_strips::StripsError;
 use pb_task::Task;
 use pb_tiles::TilesError;
-use pb_trees::SyntaxError;
 use std::alloc::{AllocError, Global};
 use std::marker::Model;
 
@@ -91,27 +91,44 @@ impl Report {
     }
 
     /// That a certificate is refused, and why: the fault's name, and its numbers in the order of its fields.
-    pub fn refused(alloc: Global, fault: &Fault) -> Result<Report, AllocError>
+    pub fn refused(alloc: Global, fault: &CertificateFault) -> Result<Report, AllocError>
         ensures { IfOk result (λ report. report ≡ fault_text fault.now) }
     {
         match *fault {
-            Fault::Syntax { line } => Report::numbered(alloc, b"refused Syntax ", line),
-            Fault::Kind => Report::line(alloc, b"refused Kind"),
-            Fault::Weight => Report::line(alloc, b"refused Weight"),
-            Fault::PlanStep { i } => Report::numbered(alloc, b"refused PlanStep ", i),
-            Fault::NotGoal => Report::line(alloc, b"refused NotGoal"),
-            Fault::Cost { said, real } => Report::wide(alloc, b"refused Cost ", said, real),
-            Fault::RowOrder { line } => Report::numbered(alloc, b"refused RowOrder ", line),
-            Fault::BadState { line } => Report::numbered(alloc, b"refused BadState ", line),
-            Fault::NoStart => Report::line(alloc, b"refused NoStart"),
-            Fault::GoalClosed { line } => Report::numbered(alloc, b"refused GoalClosed ", line),
-            Fault::Missing { line, action } => {
+            CertificateFault::Syntax { line } => Report::numbered(alloc, b"refused Syntax ", line),
+            CertificateFault::Kind => Report::line(alloc, b"refused Kind"),
+            CertificateFault::Weight => Report::line(alloc, b"refused Weight"),
+            CertificateFault::PlanStep { i } => Report::numbered(alloc, b"refused PlanStep ", i),
+            CertificateFault::NotGoal => Report::line(alloc, b"refused NotGoal"),
+            CertificateFault::Cost { said, real } => Report::wide(
+                alloc,
+                b"refused Cost ",
+                said,
+                real,
+            ),
+            CertificateFault::RowOrder { line } => Report::numbered(
+                alloc,
+                b"refused RowOrder ",
+                line,
+            ),
+            CertificateFault::BadState { line } => Report::numbered(
+                alloc,
+                b"refused BadState ",
+                line,
+            ),
+            CertificateFault::NoStart => Report::line(alloc, b"refused NoStart"),
+            CertificateFault::GoalClosed { line } => Report::numbered(
+                alloc,
+                b"refused GoalClosed ",
+                line,
+            ),
+            CertificateFault::Missing { line, action } => {
                 Report::paired(alloc, b"refused Missing ", line, b" ", u64::from(action))
             }
-            Fault::TooDear { line, action } => {
+            CertificateFault::TooDear { line, action } => {
                 Report::paired(alloc, b"refused TooDear ", line, b" ", u64::from(action))
             }
-            Fault::Low { line } => Report::numbered(alloc, b"refused Low ", line),
+            CertificateFault::Low { line } => Report::numbered(alloc, b"refused Low ", line),
         }
     }
 
@@ -245,12 +262,12 @@ impl Report {
     }
 
     // Why names or objects are refused.
-    fn refusal(alloc: Global, refusal: Refusal) -> Result<Report, AllocError>
+    fn refusal(alloc: Global, refusal: TypingRefusal) -> Result<Report, AllocError>
         ensures { IfOk result (λ report. report ≡ refusal_text refusal) }
     {
         match refusal {
-            Refusal::Named { cause, place } => Report::named(alloc, cause, place),
-            Refusal::TooManyObjects { n } => {
+            TypingRefusal::Named { cause, place } => Report::named(alloc, cause, place),
+            TypingRefusal::TooManyObjects { n } => {
                 Report::numbered(alloc, b"input TooManyObjects ", n)
             }
         }

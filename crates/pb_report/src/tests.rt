@@ -2,13 +2,13 @@ ghost use Rattle.std.specs.Prelude.{◌≡◌, IfOk};
 ghost use Rattle.pb_task.specs.Parts.{space_of};
 
 use crate::Report;
-use pb_check::{Fault, Verdict};
+use pb_check::{CertificateFault, Verdict};
 use pb_grid::GridError;
-use pb_lifted::{Cause, File, Place, Refusal};
+use pb_lifted::{Cause, File, Place, TypingRefusal};
 use pb_packed::Packed;
+use pb_pddl::{LeftOut, SyntaxError, Want};
 use pb_strips::StripsError;
 use pb_task::{ActionName, Actions, Cells, Class, GridParts, GroundAction, StripsParts, Task};
-use pb_trees::{LeftOut, SyntaxError, Want};
 use std::alloc::{AllocError, Global};
 use std::test::Fail;
 
@@ -17,39 +17,51 @@ use std::test::Fail;
 fn each_fault_has_its_name_and_its_numbers(rt: HostRuntime) -> Result<(), Fail> {
     let most = u64::MAX;
     for (fault, text) in [
-        (Fault::Syntax { line: 18 }, "refused Syntax 18\n"),
-        (Fault::Kind, "refused Kind\n"),
-        (Fault::Weight, "refused Weight\n"),
-        (Fault::PlanStep { i: 0 }, "refused PlanStep 0\n"),
-        (Fault::NotGoal, "refused NotGoal\n"),
-        (Fault::Cost { said: 5, real: 4 }, "refused Cost 5 4\n"),
+        (CertificateFault::Syntax { line: 18 }, "refused Syntax 18\n"),
+        (CertificateFault::Kind, "refused Kind\n"),
+        (CertificateFault::Weight, "refused Weight\n"),
+        (CertificateFault::PlanStep { i: 0 }, "refused PlanStep 0\n"),
+        (CertificateFault::NotGoal, "refused NotGoal\n"),
         (
-            Fault::Cost {
+            CertificateFault::Cost { said: 5, real: 4 },
+            "refused Cost 5 4\n",
+        ),
+        (
+            CertificateFault::Cost {
                 said: most,
                 real: u128::MAX,
             },
             "refused Cost 18446744073709551615 340282366920938463463374607431768211455\n",
         ),
-        (Fault::RowOrder { line: 12 }, "refused RowOrder 12\n"),
-        (Fault::BadState { line: 14 }, "refused BadState 14\n"),
-        (Fault::NoStart, "refused NoStart\n"),
-        (Fault::GoalClosed { line: 17 }, "refused GoalClosed 17\n"),
         (
-            Fault::Missing {
+            CertificateFault::RowOrder { line: 12 },
+            "refused RowOrder 12\n",
+        ),
+        (
+            CertificateFault::BadState { line: 14 },
+            "refused BadState 14\n",
+        ),
+        (CertificateFault::NoStart, "refused NoStart\n"),
+        (
+            CertificateFault::GoalClosed { line: 17 },
+            "refused GoalClosed 17\n",
+        ),
+        (
+            CertificateFault::Missing {
                 line: 12,
                 action: 1,
             },
             "refused Missing 12 1\n",
         ),
         (
-            Fault::TooDear {
+            CertificateFault::TooDear {
                 line: 11,
                 action: 1,
             },
             "refused TooDear 11 1\n",
         ),
         (
-            Fault::Low { line: most },
+            CertificateFault::Low { line: most },
             "refused Low 18446744073709551615\n",
         ),
     ] {
@@ -196,7 +208,7 @@ fn each_error_of_a_pddl_text_has_its_name_its_place_and_its_word(
 // An error that names a place.
 fn named(cause: Cause, file: File, at: u64) -> StripsError {
     let place = Place { file, at };
-    StripsError::Refused(Refusal::Named { cause, place })
+    StripsError::Refused(TypingRefusal::Named { cause, place })
 }
 
 // Each case has an error and the text of its report.
@@ -205,7 +217,7 @@ fn each_error_of_a_domain_and_a_problem_has_its_name_and_its_numbers(
     rt: HostRuntime,
 ) -> Result<(), Fail> {
     let (domain, problem) = (File::Domain, File::Problem);
-    let objects = Refusal::TooManyObjects { n: 1001 };
+    let objects = TypingRefusal::TooManyObjects { n: 1001 };
     for (error, text) in [
         (
             named(Cause::DomainName, problem, 30),

@@ -2,7 +2,7 @@ ghost use Rattle.std.specs.Prelude.{◌≡◌};
 ghost use Rattle.pb_report.specs.Texts.{file_number, want_word, left_out_word, cause_word};
 
 use pb_lifted::{Cause, File};
-use pb_trees::{LeftOut, Want};
+use pb_pddl::{LeftOut, Want};
 
 // The number of a file.
 pub(crate) fn file_number(file: File) -> u64

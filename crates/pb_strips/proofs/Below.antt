@@ -3,13 +3,13 @@ use Rattle.std.proofs.Common.{◌≡◌, ◌<◌, ◌≤◌, ℕ, suc, Bool, tru
 use Rattle.std.proofs.lemmas.List.{length-map}
 use Rattle.std.proofs.lemmas.List.Elements.{All-nil, All-cons, All-append, All-weaker}
 use Rattle.std.specs.List.{list_any}
-use Rattle.pb_trees.specs.declared.tree.Domain.{Domain}
-use Rattle.pb_trees.specs.declared.tree.Problem.{Problem}
+use Rattle.pb_pddl.specs.declared.tree.Domain.{Domain}
+use Rattle.pb_pddl.specs.declared.tree.Problem.{Problem}
 use Rattle.pb_lifted.specs.declared.lifted.Lifted.{Lifted}
 use Rattle.pb_lifted.specs.declared.lifted.LiftedAtom.{LiftedAtom}
 use Rattle.pb_lifted.specs.declared.lifted.Schema.{Schema}
 use Rattle.pb_lifted.specs.Lifted.{lifted_of}
-use Rattle.pb_ground.specs.declared.actions.GroundAction as instance
+use Rattle.pb_ground.specs.declared.actions.ActionInstance as instance
 use Rattle.pb_ground.specs.declared.atoms.GroundAtom.{GroundAtom}
 use Rattle.pb_ground.specs.Atoms.{ground_atoms, grounded, number_in, same_atom}
 use Rattle.pb_ground.specs.Actions.{with_number_in, numbers_with, numbers_of, action_of, actions_of, actions_from, ground_actions, rows_of}
@@ -70,19 +70,19 @@ actions_have lifted atoms i (schema ∷ later) =
     All-append (HasAtoms (length atoms)) (actions_of lifted atoms i schema) (actions_from lifted atoms (suc i) later) (all_have atoms i schema (rows_of lifted schema))
     (actions_have lifted atoms (suc i) later)
 
-has_below : (few count : ℕ) → few ≤ count → (action : instance.GroundAction) → HasAtoms few action → HasAtoms count action
+has_below : (few count : ℕ) → few ≤ count → (action : instance.ActionInstance) → HasAtoms few action → HasAtoms count action
 has_below few count less action has = record {
   needs = are_below few count action.needs less has.needs;
   adds = are_below few count action.adds less has.adds;
   deletes = are_below few count action.deletes less has.deletes;
 }
 
-pub have_below : (few count : ℕ) (actions : List instance.GroundAction) → few ≤ count → All (HasAtoms few) actions → All (HasAtoms count) actions
+pub have_below : (few count : ℕ) (actions : List instance.ActionInstance) → few ≤ count → All (HasAtoms few) actions → All (HasAtoms count) actions
 have_below few count actions less = All-weaker (HasAtoms few) (HasAtoms count) (has_below few count less) actions
 
 -- ---- the task
 
-packed_is : (domain : Domain) (problem : Problem) (count : ℕ) (action : instance.GroundAction) → IsGroundAction count (packed_action domain problem count action)
+packed_is : (domain : Domain) (problem : Problem) (count : ℕ) (action : instance.ActionInstance) → IsGroundAction count (packed_action domain problem count action)
 packed_is domain problem count action = record {
   needs = set_below count _;
   adds = set_below count _;
@@ -90,7 +90,7 @@ packed_is domain problem count action = record {
   cost = (omega arith, omega arith);
 }
 
-all_packed : (domain : Domain) (problem : Problem) (count : ℕ) (actions : List instance.GroundAction) → All (IsGroundAction count) (map (packed_action domain problem count) actions)
+all_packed : (domain : Domain) (problem : Problem) (count : ℕ) (actions : List instance.ActionInstance) → All (IsGroundAction count) (map (packed_action domain problem count) actions)
 all_packed domain problem count [] = All-nil (IsGroundAction count)
 all_packed domain problem count (action ∷ actions) =
     All-cons (IsGroundAction count) (packed_action domain problem count action) (map (packed_action domain problem count) actions) (packed_is domain problem count action)
@@ -101,7 +101,7 @@ pub is_strips : (domain : Domain) (problem : Problem) → length (ground_atoms (
 is_strips domain problem few_atoms few_actions =
     let lifted : Lifted = lifted_of domain problem in
     let atoms : List GroundAtom = ground_atoms lifted in
-    let actions : List instance.GroundAction = ground_actions lifted atoms in
+    let actions : List instance.ActionInstance = ground_actions lifted atoms in
     let many : length (map (packed_action domain problem (length atoms)) actions) ≡ length actions = length-map actions (packed_action domain problem (length atoms)) in
     record {
       atoms = few_atoms;

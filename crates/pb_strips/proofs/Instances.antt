@@ -8,7 +8,7 @@ use Rattle.std.proofs.lemmas.Slice.Eq.{bytes_eq-Decides}
 use Rattle.pb_lifted.specs.declared.lifted.Lifted.{Lifted}
 use Rattle.pb_lifted.specs.declared.lifted.Schema.{Schema}
 use Rattle.pb_lifted.proofs.FittingObjects.{at_mapped, holds_at}
-use Rattle.pb_ground.specs.declared.actions.GroundAction.{GroundAction}
+use Rattle.pb_ground.specs.declared.actions.ActionInstance.{ActionInstance}
 use Rattle.pb_ground.specs.declared.atoms.GroundAtom.{GroundAtom}
 use Rattle.pb_ground.specs.Actions.{action_of, rows_of, actions_of, actions_from, ground_actions}
 use Rattle.pb_ground.specs.Instances.{instances}
@@ -48,7 +48,7 @@ found_at x (first ∷ lists) e = at (λ found. found_at x lists found) (bytes_eq
 
 -- ---- each ground action is an instance
 
-pub record IsInstance (lifted : Lifted) (atoms : List GroundAtom) (action : GroundAction) : Type 0 where
+pub record IsInstance (lifted : Lifted) (atoms : List GroundAtom) (action : ActionInstance) : Type 0 where
   pub i : ℕ
   pub schema : Schema
   pub given : List ℕ
@@ -94,7 +94,7 @@ are_instances_from lifted atoms i (schema ∷ later) declared =
     next : (k : ℕ) (other : Schema) → slice_get lifted.actions (i + suc k) ≡ Some other → slice_get lifted.actions (suc i + k) ≡ Some other
     next k other e = let place : i + suc k ≡ suc i + k = omega arith in subst (λ j. slice_get lifted.actions j ≡ Some other) place e
 
-pub is_instance_at : (lifted : Lifted) (atoms : List GroundAtom) (k : ℕ) (action : GroundAction) → slice_get (ground_actions lifted atoms) k ≡ Some action → IsInstance lifted atoms action
+pub is_instance_at : (lifted : Lifted) (atoms : List GroundAtom) (k : ℕ) (action : ActionInstance) → slice_get (ground_actions lifted atoms) k ≡ Some action → IsInstance lifted atoms action
 is_instance_at lifted atoms k action e =
     holds_at (IsInstance lifted atoms) (ground_actions lifted atoms) k action
     (are_instances_from lifted atoms 0 lifted.actions (λ j schema there. same j schema there)) e
@@ -111,7 +111,7 @@ row_at lifted schema given fits hold =
     kept_at (statics_hold lifted schema.pre) (instances lifted schema.params) found.0 given found.1 hold
 
 -- where a ground action stands
-abbrev pub StandsIn : List GroundAction → GroundAction → Type 0
+abbrev pub StandsIn : List ActionInstance → ActionInstance → Type 0
 StandsIn actions action = (k : ℕ) × (slice_get actions k ≡ Some action)
 
 stands_from : (lifted : Lifted) (atoms : List GroundAtom) (i j : ℕ) (schemas : List Schema) (schema : Schema) (given : List ℕ) → slice_get schemas j ≡ Some schema

@@ -4,9 +4,9 @@ use Rattle.std.specs.List.{list_any, list_all}
 use Rattle.std.proofs.lemmas.Bool.{and_parts, and_from}
 use Rattle.std.proofs.lemmas.Bool.Decides.{nat_tests}
 use Rattle.std.proofs.lemmas.List.Elements.{All-head, All-tail}
-use Rattle.pb_trees.specs.declared.tree.Domain.{Domain}
-use Rattle.pb_trees.specs.declared.tree.Problem.{Problem}
-use Rattle.pb_ground.specs.declared.actions.GroundAction as instance
+use Rattle.pb_pddl.specs.declared.tree.Domain.{Domain}
+use Rattle.pb_pddl.specs.declared.tree.Problem.{Problem}
+use Rattle.pb_ground.specs.declared.actions.ActionInstance as instance
 use Rattle.pb_ground.specs.Steps.{bits_after}
 use Rattle.pb_task.specs.Strips.{has_atom, holds_after}
 use Rattle.pb_task.proofs.AtomSets.{Within, sets_are_of_atoms}
@@ -55,7 +55,7 @@ within_all count numbers state all n less is = each_of (has_atom state) numbers 
 
 -- ---- the state after an action
 
-pub packed_after : (domain : Domain) (problem : Problem) (count : ℕ) (action : instance.GroundAction) (state n : ℕ) → n < count
+pub packed_after : (domain : Domain) (problem : Problem) (count : ℕ) (action : instance.ActionInstance) (state n : ℕ) → n < count
     → holds_after (packed_action domain problem count action) state n ≡ bits_after (has_atom state) action n
 packed_after domain problem count action state n less =
     ap (λ b. b || (has_atom state n && not (has_atom (numbered_set count action.deletes) n))) (has_number count action.adds n less)

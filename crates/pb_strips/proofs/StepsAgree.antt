@@ -3,11 +3,11 @@ use Rattle.std.proofs.Common.{◌≡◌, ◌<◌, ◌^◌, ℕ, Bool, true, fals
 use Rattle.std.specs.List.{list_all}
 use Rattle.std.proofs.lemmas.Bool.{and_parts, and_from}
 use Rattle.pb_model.specs.Space.{Steps}
-use Rattle.pb_trees.specs.declared.tree.Domain.{Domain}
-use Rattle.pb_trees.specs.declared.tree.Problem.{Problem}
+use Rattle.pb_pddl.specs.declared.tree.Domain.{Domain}
+use Rattle.pb_pddl.specs.declared.tree.Problem.{Problem}
 use Rattle.pb_lifted.specs.declared.lifted.Lifted.{Lifted}
 use Rattle.pb_lifted.specs.declared.lifted.Schema.{Schema}
-use Rattle.pb_lifted.specs.declared.refusal.Refusal.{Refusal}
+use Rattle.pb_lifted.specs.declared.refusal.TypingRefusal.{TypingRefusal}
 use Rattle.pb_lifted.specs.InstanceTypes.{IsTypedInstance}
 use Rattle.pb_lifted.specs.Lifted.{lifted_of}
 use Rattle.pb_lifted.specs.Plans.{NamedAction}
@@ -18,7 +18,7 @@ use Rattle.pb_lifted.specs.Typing.{named}
 use Rattle.pb_lifted.proofs.FittingObjects.{at_mapped, mapped_at}
 use Rattle.pb_lifted.proofs.GroundSteps.{ground_start_is_start, ground_goal_is_goal, ground_steps_are_steps, steps_are_ground_steps}
 use Rattle.pb_lifted.proofs.TypedInstances.{instances_are_typed, start_is_typed, goal_is_typed}
-use Rattle.pb_ground.specs.declared.actions.GroundAction as instance
+use Rattle.pb_ground.specs.declared.actions.ActionInstance as instance
 use Rattle.pb_ground.specs.declared.atoms.GroundAtom.{GroundAtom}
 use Rattle.pb_ground.specs.Actions.{action_of, numbers_of, ground_actions}
 use Rattle.pb_ground.specs.Atoms.{is_fluent, number_in, ground_atoms}
@@ -43,7 +43,7 @@ use Rattle.pb_strips.proofs.StatesAgree.{atom_holds, fluent_holds, keeps, acts, 
 pub accepted : (domain : Domain) (problem : Problem) → first_fault domain problem ≡ None → first_refusal domain problem ≡ None
 accepted domain problem none = at (first_refusal domain problem) none
   where
-    at : (refusal : Option Refusal) → or_too_many refusal (lifted_of domain problem) ≡ None → refusal ≡ None
+    at : (refusal : Option TypingRefusal) → or_too_many refusal (lifted_of domain problem) ≡ None → refusal ≡ None
     at None e = refl
     at (Some refusal) e = cc
 
@@ -54,7 +54,7 @@ Named domain problem from action to cost =
     (named : NamedAction) × IsStep domain problem (facts_of_state domain problem from) named.0 named.1 (facts_of_state domain problem to)
     × (name_in (strips_of domain problem).actions action ≡ action_text domain named) × (cost ≡ 1)
 
-step_of : (domain : Domain) (problem : Problem) (from action to cost : ℕ) (ground : instance.GroundAction) → first_refusal domain problem ≡ None
+step_of : (domain : Domain) (problem : Problem) (from action to cost : ℕ) (ground : instance.ActionInstance) → first_refusal domain problem ≡ None
     → (act : Acts (strips_of domain problem) from action to cost) → packed_action domain problem (length (ground_atoms (lifted_of domain problem))) ground ≡ act.act
     → IsInstance (lifted_of domain problem) (ground_atoms (lifted_of domain problem)) ground → Named domain problem from action to cost
 step_of domain problem from action to cost ground none act packed is =
@@ -66,9 +66,9 @@ step_of domain problem from action to cost ground none act packed is =
     let after : IsAfter lifted from to is.i is.schema is.given =
     λ n less. act.result n less
     ∙ (ap (λ (a : GroundAction). holds_after a from n) (sym packed)
-    ∙ (packed_after domain problem count ground from n less ∙ ap (λ (g : instance.GroundAction). bits_after (has_atom from) g n) is.is)) in
+    ∙ (packed_after domain problem count ground from n less ∙ ap (λ (g : instance.ActionInstance). bits_after (has_atom from) g n) is.is)) in
     let within : Within count (numbered_set count (numbers_of atoms is.given is.schema.pre)) from =
-    subst (λ (g : instance.GroundAction). Within count (numbered_set count g.needs) from) is.is (subst (λ (a : GroundAction). Within count a.needs from) (sym packed) act.needed) in
+    subst (λ (g : instance.ActionInstance). Within count (numbered_set count g.needs) from) is.is (subst (λ (a : GroundAction). Within count a.needs from) (sym packed) act.needed) in
     let needs : list_all (has_atom from) (numbers_of atoms is.given is.schema.pre) ≡ true =
     all_within count (numbers_of atoms is.given is.schema.pre) from (numbers_below atoms is.given is.schema.pre) within in
     let holds : list_all (atom_holds lifted from) (all_grounded is.given is.schema.pre) ≡ true =
@@ -85,7 +85,7 @@ step_of domain problem from action to cost ground none act packed is =
       ground_steps_are_steps domain problem (holds_in lifted from) (holds_in lifted to) (facts_of_state domain problem from) (facts_of_state domain problem to) is.i is.given none
           (λ f. refl) step (λ f. refl),
       ap name_of act.is
-          ∙ (ap (λ (a : GroundAction). a.name) (sym packed) ∙ ap (λ (g : instance.GroundAction). action_text domain (g.schema, named domain problem g.objects)) is.is),
+          ∙ (ap (λ (a : GroundAction). a.name) (sym packed) ∙ ap (λ (g : instance.ActionInstance). action_text domain (g.schema, named domain problem g.objects)) is.is),
       act.price ∙ ap (λ (a : GroundAction). a.cost) (sym packed),
     )
 
@@ -115,7 +115,7 @@ taken domain problem from i schema given small declared fit statics needs =
     let lifted : Lifted = lifted_of domain problem in
     let atoms : List GroundAtom = ground_atoms lifted in
     let count : ℕ = length atoms in
-    let ground : instance.GroundAction = action_of atoms i schema given in
+    let ground : instance.ActionInstance = action_of atoms i schema given in
     let act : GroundAction = packed_action domain problem count ground in
     let place = stands lifted atoms i schema given declared (from_fitting lifted schema.params given fit) statics in
     let there : slice_get (strips_of domain problem).actions place.0 ≡ Some act = at_mapped (packed_action domain problem count) (ground_actions lifted atoms) place.0 ground place.1 in

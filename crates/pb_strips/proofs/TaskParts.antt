@@ -1,11 +1,11 @@
 -- The parts that are put together are those of the task.
 use Rattle.std.proofs.Common.{◌≡◌, ◌≤◌, ℕ, Bool, List, [], length, map, All, sym, ap, ◌∙◌, subst}
-use Rattle.pb_trees.specs.declared.tree.Domain.{Domain}
-use Rattle.pb_trees.specs.declared.tree.Problem.{Problem}
+use Rattle.pb_pddl.specs.declared.tree.Domain.{Domain}
+use Rattle.pb_pddl.specs.declared.tree.Problem.{Problem}
 use Rattle.pb_lifted.specs.declared.lifted.Lifted.{Lifted}
 use Rattle.pb_lifted.specs.declared.lifted.LiftedAtom.{LiftedAtom}
 use Rattle.pb_lifted.specs.Lifted.{lifted_of}
-use Rattle.pb_ground.specs.declared.actions.GroundAction as instance
+use Rattle.pb_ground.specs.declared.actions.ActionInstance as instance
 use Rattle.pb_ground.specs.declared.atoms.GroundAtom.{GroundAtom}
 use Rattle.pb_ground.specs.Atoms.{ground_atoms}
 use Rattle.pb_ground.specs.Actions.{numbers_of, ground_actions, is_never}
@@ -35,7 +35,7 @@ set_is atoms all list other numbers set few is same alike packs =
     ∙ (ap (numbered_set (length atoms)) is
     ∙ (ap (λ xs. numbered_set (length xs) (numbers_of xs [] list)) same ∙ ap (λ xs. numbered_set (length all) (numbers_of all [] xs)) alike))
 
-pub parts_are : (domain : Domain) (problem : Problem) (lifted : Lifted) (atoms seen : List GroundAtom) (actions : List instance.GroundAction) (packed : List GroundAction) (first wanted : List ℕ)
+pub parts_are : (domain : Domain) (problem : Problem) (lifted : Lifted) (atoms seen : List GroundAtom) (actions : List instance.ActionInstance) (packed : List GroundAction) (first wanted : List ℕ)
     (start goal : ℕ) (never : Bool)
     → lifted ≡ lifted_of domain problem → atoms ≡ ground_atoms lifted → length atoms ≤ 256 → actions ≡ ground_actions lifted atoms → seen ≡ atoms
     → ((count : ℕ) → count ≤ 256 → All (HasAtoms count) actions → packed ≡ map (packed_action domain problem count) actions)
@@ -44,11 +44,11 @@ pub parts_are : (domain : Domain) (problem : Problem) (lifted : Lifted) (atoms s
 parts_are domain problem lifted atoms seen actions packed first wanted start goal never lifted_is atoms_are few actions_are seen_is packs first_is start_is wanted_is goal_is never_is =
     let task : Lifted = lifted_of domain problem in
     let all : List GroundAtom = ground_atoms task in
-    let instances : List instance.GroundAction = ground_actions task all in
+    let instances : List instance.ActionInstance = ground_actions task all in
     let same_atoms : atoms ≡ all = atoms_are ∙ ap ground_atoms lifted_is in
     let same_actions : actions ≡ instances = actions_are ∙ (ap (λ l. ground_actions l atoms) lifted_is ∙ ap (λ xs. ground_actions task xs) same_atoms) in
     let have : All (HasAtoms (length atoms)) actions =
-    subst (λ (xs : List instance.GroundAction). All (HasAtoms (length atoms)) xs) (sym actions_are) (actions_have lifted atoms 0 lifted.actions) in
+    subst (λ (xs : List instance.ActionInstance). All (HasAtoms (length atoms)) xs) (sym actions_are) (actions_have lifted atoms 0 lifted.actions) in
     same_parts (length seen) (length all) packed (map (packed_action domain problem (length all)) instances) start _ goal _ never (is_never task)
     (ap (λ xs. length xs) (seen_is ∙ same_atoms))
     (packs (length atoms) few have ∙ (ap (λ xs. map (packed_action domain problem (length atoms)) xs) same_actions ∙ ap (λ xs. map (packed_action domain problem (length xs)) instances) same_atoms))

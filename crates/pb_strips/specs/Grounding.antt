@@ -1,11 +1,11 @@
 -- A domain and a problem as a STRIPS task over numbered ground atoms.
 use Rattle.std.specs.Prelude.{ℕ, nat_eq, List, [], length, map}
 use Rattle.std.specs.List.{list_any}
-use Rattle.pb_trees.specs.declared.tree.Domain.{Domain}
-use Rattle.pb_trees.specs.declared.tree.Problem.{Problem}
+use Rattle.pb_pddl.specs.declared.tree.Domain.{Domain}
+use Rattle.pb_pddl.specs.declared.tree.Problem.{Problem}
 use Rattle.pb_lifted.specs.Lifted.{lifted_of}
 use Rattle.pb_lifted.specs.Typing.{named}
-use Rattle.pb_ground.specs.declared.actions.GroundAction as instance
+use Rattle.pb_ground.specs.declared.actions.ActionInstance as instance
 use Rattle.pb_ground.specs.Atoms.{ground_atoms}
 use Rattle.pb_ground.specs.Actions.{numbers_of, ground_actions, is_never}
 use Rattle.pb_task.specs.declared.parts.GroundAction.{GroundAction}
@@ -20,7 +20,7 @@ numbered_set count numbers = set_of count (λ atom. list_any (nat_eq atom) numbe
 -- ---- the task
 
 -- a ground action with its name and its sets; each costs 1
-abbrev pub packed_action : Domain → Problem → (count : ℕ) → instance.GroundAction → GroundAction
+abbrev pub packed_action : Domain → Problem → (count : ℕ) → instance.ActionInstance → GroundAction
 packed_action domain problem count action = record {
   name = action_text domain (action.schema, named domain problem action.objects);
   needs = numbered_set count action.needs;

@@ -2,8 +2,8 @@
 use Rattle.std.specs.Prelude.{◌≡◌, ℕ, List, [], ◌∷◌, ◌++◌, map}
 use Rattle.std.specs.Str.{IsUtf8}
 use Rattle.std.specs.Str.Lossy.{utf8_lossy}
-use Rattle.pb_trees.specs.declared.tree.Action.{Action}
-use Rattle.pb_trees.specs.declared.tree.Domain.{Domain}
+use Rattle.pb_pddl.specs.declared.tree.Action.{Action}
+use Rattle.pb_pddl.specs.declared.tree.Domain.{Domain}
 use Rattle.pb_lifted.specs.Facts.{name_at}
 use Rattle.pb_lifted.specs.Plans.{NamedAction}
 

@@ -2,7 +2,7 @@
 use Rattle.std.specs.Prelude.{◌<◌, ℕ, List, All}
 use Rattle.pb_lifted.specs.declared.refusal.LiftedError.{LiftedError}
 use Rattle.pb_lifted.specs.declared.refusal.LiftedError.TheVariants as lifted
-use Rattle.pb_ground.specs.declared.actions.GroundAction.{GroundAction}
+use Rattle.pb_ground.specs.declared.actions.ActionInstance.{ActionInstance}
 use Rattle.pb_ground.specs.declared.error.GroundError.{GroundError}
 use Rattle.pb_ground.specs.declared.error.GroundError.TheVariants as grounding
 use Rattle.pb_strips.specs.declared.error.StripsError.{StripsError}
@@ -12,7 +12,7 @@ use Rattle.pb_strips.specs.declared.error.StripsError.TheVariants as errors
 abbrev pub AreAtoms : (count : ℕ) → List ℕ → Type 0
 AreAtoms count numbers = All (λ n. n < count) numbers
 
-pub record HasAtoms (count : ℕ) (action : GroundAction) : Type 0 where
+pub record HasAtoms (count : ℕ) (action : ActionInstance) : Type 0 where
   pub needs : AreAtoms count action.needs
   pub adds : AreAtoms count action.adds
   pub deletes : AreAtoms count action.deletes

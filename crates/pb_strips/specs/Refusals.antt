@@ -1,9 +1,9 @@
 -- Why a domain and a problem are no task: the first cause in order.
 use Rattle.std.specs.Prelude.{◌≡◌, nat_lt, if◌then◌else◌, length, Option, Some, None}
-use Rattle.pb_trees.specs.declared.tree.Domain.{Domain}
-use Rattle.pb_trees.specs.declared.tree.Problem.{Problem}
+use Rattle.pb_pddl.specs.declared.tree.Domain.{Domain}
+use Rattle.pb_pddl.specs.declared.tree.Problem.{Problem}
 use Rattle.pb_lifted.specs.declared.lifted.Lifted.{Lifted}
-use Rattle.pb_lifted.specs.declared.refusal.Refusal.{Refusal}
+use Rattle.pb_lifted.specs.declared.refusal.TypingRefusal.{TypingRefusal}
 use Rattle.pb_lifted.specs.Lifted.{lifted_of}
 use Rattle.pb_lifted.specs.Refusals.{first_refusal}
 use Rattle.pb_ground.specs.Atoms.{ground_atoms}
@@ -18,7 +18,7 @@ too_many lifted =
     if nat_lt 256 (length (ground_atoms lifted)) then Some (errors.TooManyAtoms (told (length (ground_atoms lifted))))
     else (if nat_lt 65536 (length (ground_actions lifted (ground_atoms lifted))) then Some errors.TooManyActions else None)
 
-abbrev pub or_too_many : Option Refusal → Lifted → Option StripsError
+abbrev pub or_too_many : Option TypingRefusal → Lifted → Option StripsError
 or_too_many (Some refusal) lifted = Some (errors.Refused refusal)
 or_too_many None lifted = too_many lifted
 

@@ -3,14 +3,14 @@ ghost use Rattle.pb_strips.specs.Packing.{of_lifted, of_ground};
 ghost use Rattle.pb_strips.specs.declared.error.StripsError.TheVariants.{Memory};
 
 use pb_ground::GroundError;
-use pb_lifted::{LiftedError, Refusal};
+use pb_lifted::{LiftedError, TypingRefusal};
 use std::alloc::{AllocError, AllocFailed};
 
 /// Why a domain and a problem are no task, the first cause in the order of these variants.
 #[derive(Clone, Copy, Debug, PartialEq, Eq)]
 pub enum StripsError {
     /// A name is at fault, or there are too many objects.
-    Refused(Refusal),
+    Refused(TypingRefusal),
     /// There are more than 256 ground atoms: n, or 4,294,967,295 where there are more than that.
     TooManyAtoms { n: u64 },
     /// There are more than 65,536 ground actions.

@@ -1,5 +1,5 @@
 ghost use Rattle.std.specs.Prelude.{◌≡◌, None, OnOk, IfOk, IfErr};
-ghost use Rattle.pb_task.specs.declared.parts.Parts.TheVariants.{Strips};
+ghost use Rattle.pb_task.specs.declared.parts.TaskParts.TheVariants.{Strips};
 ghost use Rattle.pb_strips.specs.Grounding.{strips_of};
 ghost use Rattle.pb_strips.specs.Refusals.{first_fault, Tells};
 
@@ -7,8 +7,8 @@ use crate::error::StripsError;
 use crate::parts::parts_of;
 use pb_ground::{ground_actions, ground_atoms};
 use pb_lifted::resolve;
+use pb_pddl::{Domain, Problem};
 use pb_task::Task;
-use pb_trees::{Domain, Problem};
 use std::alloc::Global;
 
 /// The task of a domain and a problem: its atoms are the ground atoms in their order, and its actions the ground actions in theirs, under the

@@ -4,8 +4,8 @@ ghost use Rattle.pb_lifted.specs.Facts.{name_at};
 ghost use Rattle.pb_lifted.specs.Typing.{object_names, named};
 ghost use Rattle.pb_strips.specs.Names.{action_word, spaced, action_text};
 
+use pb_pddl::{Domain, Problem, Typed};
 use pb_task::ActionName;
-use pb_trees::{Domain, Problem, Typed};
 use std::alloc::{AllocError, Global};
 
 /// The element at a place, or None behind the end.

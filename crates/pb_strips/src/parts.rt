@@ -7,10 +7,10 @@ ghost use Rattle.pb_strips.specs.Packing.{HasAtoms};
 
 use crate::names::name_of;
 use crate::sets::set_of;
-use pb_ground::{Atoms, GroundAction, goal, is_never, start};
+use pb_ground::{ActionInstance, Atoms, goal, is_never, start};
 use pb_lifted::Lifted;
+use pb_pddl::{Domain, Problem};
 use pb_task::{Actions, StripsParts};
-use pb_trees::{Domain, Problem};
 use std::alloc::{AllocError, Global};
 
 /// What each ground action costs.
@@ -21,7 +21,7 @@ fn packed_action(
     alloc: Global,
     domain: &Domain,
     problem: &Problem,
-    action: &GroundAction,
+    action: &ActionInstance,
 ) -> Result<pb_task::GroundAction, AllocError>
     requires { HasAtoms 256 action.now }
     ensures { IfOk result (λ packed. (count : ℕ) → count ≤ 256 → HasAtoms count action.now → packed ≡ packed_action domain.now problem.now count action.now) }
@@ -47,7 +47,7 @@ fn packed_actions(
     alloc: Global,
     domain: &Domain,
     problem: &Problem,
-    actions: &[GroundAction],
+    actions: &[ActionInstance],
 ) -> Result<Actions, AllocError>
     requires { All (HasAtoms 256) actions.now }
     ensures { IfOk result (λ all. (count : ℕ) → count ≤ 256 → All (HasAtoms count) actions.now → all ≡ map (packed_action domain.now problem.now count) actions.now) }
@@ -66,7 +66,7 @@ pub(crate) fn parts_of(
     problem: &Problem,
     lifted: &Lifted,
     atoms: &Atoms,
-    actions: &[GroundAction],
+    actions: &[ActionInstance],
 ) -> Result<StripsParts, AllocError>
     requires lifted { lifted.now ≡ lifted_of domain.now problem.now }
     requires atoms { atoms.now ≡ ground_atoms lifted.now }

@@ -1,9 +1,7 @@
 use crate::{StripsError, ground};
-use pb_lifted::{Cause, File, Place, Refusal};
-use pb_task::{Parts, PlanFault, Task};
-use pb_trees::{
-    Action, Atom, Domain, Listed, Literal, Name, Predicate, Problem, Term, Text, Typed,
-};
+use pb_lifted::{Cause, File, Place, TypingRefusal};
+use pb_pddl::{Action, Atom, Domain, Listed, Literal, Name, Predicate, Problem, Term, Text, Typed};
+use pb_task::{PlanFault, Task, TaskParts};
 use std::alloc::Global;
 use std::test::Fail;
 
@@ -162,8 +160,8 @@ fn names(alloc: Global, task: &Task) -> Result<String, Fail> {
 // how many ground atoms it has
 fn atom_count(task: &Task) -> u32 {
     match task.parts() {
-        Parts::Strips(strips) => strips.atoms,
-        Parts::Grid(_) | Parts::Tiles(_) => 0,
+        TaskParts::Strips(strips) => strips.atoms,
+        TaskParts::Grid(_) | TaskParts::Tiles(_) => 0,
     }
 }
 
@@ -351,7 +349,7 @@ fn crowd(
 #[test]
 fn the_first_refusal_is_told(rt: HostRuntime) -> Result<(), Fail> {
     let alloc = rt.alloc();
-    let refusal = Refusal::Named {
+    let refusal = TypingRefusal::Named {
         cause: Cause::Arity,
         place: Place {
             file: File::Problem,

@@ -1,9 +1,9 @@
 -- Pieces one after another, as a loop reads them.
 use Rattle.std.proofs.Common.{◌≡◌, ◌≢◌, ℕ, zero, suc, ◌+◌, ◌-◌, ◌<◌, ◌≤◌, Bool, true, false, cond, List, length, Ok, Err, refl, sym, ap, ◌∙◌, arith}
-use Rattle.pb_trees.specs.declared.token.Token.{Token}
-use Rattle.pb_trees.specs.declared.error.SyntaxError.{SyntaxError}
-use Rattle.pb_trees.specs.declared.error.SyntaxError.TheVariants as errors
-use Rattle.pb_trees.specs.Reading.{◌>>=◌, Read, folds, all_of}
+use Rattle.pb_pddl.specs.declared.token.Token.{Token}
+use Rattle.pb_pddl.specs.declared.error.SyntaxError.{SyntaxError}
+use Rattle.pb_pddl.specs.declared.error.SyntaxError.TheVariants as errors
+use Rattle.pb_pddl.specs.Reading.{◌>>=◌, Read, folds, all_of}
 
 module _ {S : Type 0} (more : List Token → Bool) (step : S → List Token → Read S) where
   one_more : (n : ℕ) (s : S) (ts : List Token) → more ts ≡ true → folds more step (suc n) s ts ≡ (step s ts >>= λ next. folds more step n next.0 next.1)

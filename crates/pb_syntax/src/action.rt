@@ -1,11 +1,11 @@
 ghost use Rattle.std.specs.Prelude.{◌≡◌, [], codes, drop, is_some, Ok};
-ghost use Rattle.pb_trees.specs.Reading.{Gives, all_of, begins_key, once, params_part, pre_part, effect_part, part_at, or_empty, parts_want, limited, add_action};
+ghost use Rattle.pb_pddl.specs.Reading.{Gives, all_of, begins_key, once, params_part, pre_part, effect_part, part_at, or_empty, parts_want, limited, add_action};
 
 use crate::conditions::{cond, effect};
 use crate::lists::{begins_key, list};
 use crate::pieces::{behind, left_out, name, need, place, spells};
-use pb_trees::{
-    Action, ActionParts, Atom, Kind, LeftOut, Listed, Literal, SyntaxError, Token, Typed, Want,
+use pb_pddl::{
+    Action, ActionParts, Atom, LeftOut, Listed, Literal, SyntaxError, Token, TokenKind, Typed, Want,
 };
 use std::alloc::Global;
 
@@ -13,7 +13,7 @@ use std::alloc::Global;
 pub const DEEPEST: u32 = 32;
 
 // The keyword stood before.
-#[tactic(auto, unfolding(pb_trees::specs::Reading::once))]
+#[tactic(auto, unfolding(pb_pddl::specs::Reading::once))]
 pub fn once(tokens: &[Token]) -> SyntaxError
     ensures { result ≡ once tokens.now }
 {
@@ -32,7 +32,7 @@ pub fn or_empty<T: Drop>(alloc: Global, list: Option<Listed<T>>) -> Listed<T>
     }
 }
 
-#[tactic(auto, unfolding(pb_trees::specs::Reading::params_part))]
+#[tactic(auto, unfolding(pb_pddl::specs::Reading::params_part))]
 fn params_part<'a>(
     alloc: Global,
     out: &mut ActionParts,
@@ -43,13 +43,13 @@ fn params_part<'a>(
     if out.params.is_some() {
         return Err(once(tokens));
     }
-    let inside = need(Kind::Open, Want::Paren, behind(tokens))?;
-    let (params, rest) = list(alloc, Kind::Variable, Want::Variable, inside)?;
+    let inside = need(TokenKind::Open, Want::Paren, behind(tokens))?;
+    let (params, rest) = list(alloc, TokenKind::Variable, Want::Variable, inside)?;
     out.params = Some(params);
     Ok(rest)
 }
 
-#[tactic(auto, unfolding(pb_trees::specs::Reading::pre_part, pb_trees::specs::Reading::limited))]
+#[tactic(auto, unfolding(pb_pddl::specs::Reading::pre_part, pb_pddl::specs::Reading::limited))]
 fn pre_part<'a>(
     alloc: Global,
     out: &mut ActionParts,
@@ -66,7 +66,7 @@ fn pre_part<'a>(
     Ok(rest)
 }
 
-#[tactic(auto, unfolding(pb_trees::specs::Reading::effect_part, pb_trees::specs::Reading::limited))]
+#[tactic(auto, unfolding(pb_pddl::specs::Reading::effect_part, pb_pddl::specs::Reading::limited))]
 fn effect_part<'a>(
     alloc: Global,
     out: &mut ActionParts,
@@ -84,7 +84,7 @@ fn effect_part<'a>(
 }
 
 // A part of an action, at its keyword.
-#[tactic(auto, unfolding(pb_trees::specs::Reading::part_at))]
+#[tactic(auto, unfolding(pb_pddl::specs::Reading::part_at))]
 fn part<'a>(
     alloc: Global,
     out: &mut ActionParts,
@@ -92,11 +92,11 @@ fn part<'a>(
 ) -> Result<&'a [Token], SyntaxError>
     ensures { Gives (λ rest. (out.new, rest.now)) result (part_at limited out.old tokens.now) }
 {
-    if spells(Kind::Key, b":parameters", tokens) {
+    if spells(TokenKind::Key, b":parameters", tokens) {
         params_part(alloc, out, tokens)
-    } else if spells(Kind::Key, b":precondition", tokens) {
+    } else if spells(TokenKind::Key, b":precondition", tokens) {
         pre_part(alloc, out, tokens)
-    } else if spells(Kind::Key, b":effect", tokens) {
+    } else if spells(TokenKind::Key, b":effect", tokens) {
         effect_part(alloc, out, tokens)
     } else {
         Err(left_out(LeftOut::Part, tokens))
@@ -121,7 +121,7 @@ fn parts<'a>(
 }
 
 // What is wanted behind these parts.
-#[tactic(auto, unfolding(pb_trees::specs::Reading::parts_want))]
+#[tactic(auto, unfolding(pb_pddl::specs::Reading::parts_want))]
 fn parts_want(parts: &ActionParts) -> Want
     ensures { result ≡ parts_want parts.now }
 {
@@ -133,7 +133,7 @@ fn parts_want(parts: &ActionParts) -> Want
 }
 
 // An action, behind its keyword.
-#[tactic(auto, unfolding(pb_trees::specs::Reading::add_action))]
+#[tactic(auto, unfolding(pb_pddl::specs::Reading::add_action))]
 pub fn add_action<'a>(
     alloc: Global,
     out: &mut Listed<Action>,
@@ -141,14 +141,14 @@ pub fn add_action<'a>(
 ) -> Result<&'a [Token], SyntaxError>
     ensures { Gives (λ rest. (out.new, rest.now)) result (add_action limited out.old tokens.now) }
 {
-    let (name, rest) = name(alloc, Kind::Word, Want::Name, tokens)?;
+    let (name, rest) = name(alloc, TokenKind::Word, Want::Name, tokens)?;
     let mut all = ActionParts {
         params: None,
         pre: None,
         effect: None,
     };
     let rest = parts(alloc, &mut all, rest)?;
-    let rest = need(Kind::Close, parts_want(&all), rest)?;
+    let rest = need(TokenKind::Close, parts_want(&all), rest)?;
     out.push(Action {
         name,
         params: or_empty(alloc, all.params),

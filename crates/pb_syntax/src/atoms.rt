@@ -1,30 +1,30 @@
 ghost use Rattle.std.specs.Prelude.{◌≡◌, [], drop, IfOk, Ok};
-ghost use Rattle.pb_trees.specs.Reading.{Gives, front, all_of, begins_term, term_of, add_term, begins_head, head_at, atom_at};
+ghost use Rattle.pb_pddl.specs.Reading.{Gives, front, all_of, begins_term, term_of, add_term, begins_head, head_at, atom_at};
 
 use crate::pieces::{begins, behind, fault, first_name, is_reserved_first, need};
-use pb_trees::{Atom, Kind, Listed, Name, SyntaxError, Term, Token, Want};
+use pb_pddl::{Atom, Listed, Name, SyntaxError, Term, Token, TokenKind, Want};
 use std::alloc::{AllocError, Global};
 
-#[tactic(auto, unfolding(pb_trees::specs::Reading::begins_term))]
+#[tactic(auto, unfolding(pb_pddl::specs::Reading::begins_term))]
 fn begins_term(variables: bool, tokens: &[Token]) -> bool
     ensures { result ≡ begins_term variables tokens.now }
 {
-    begins(Kind::Word, tokens) || (variables && begins(Kind::Variable, tokens))
+    begins(TokenKind::Word, tokens) || (variables && begins(TokenKind::Variable, tokens))
 }
 
-#[tactic(auto, unfolding(pb_trees::specs::Reading::term_of, pb_trees::specs::Reading::begins))]
+#[tactic(auto, unfolding(pb_pddl::specs::Reading::term_of, pb_pddl::specs::Reading::begins))]
 fn first_term(alloc: Global, tokens: &[Token]) -> Result<Term, AllocError>
     ensures { IfOk result (λ term. term ≡ term_of (front tokens.now)) }
 {
     let name = first_name(alloc, tokens)?;
-    if begins(Kind::Variable, tokens) {
+    if begins(TokenKind::Variable, tokens) {
         Ok(Term::Variable(name))
     } else {
         Ok(Term::Object(name))
     }
 }
 
-#[tactic(auto, unfolding(pb_trees::specs::Reading::add_term))]
+#[tactic(auto, unfolding(pb_pddl::specs::Reading::add_term))]
 fn add_term<'a>(
     alloc: Global,
     out: &mut Listed<Term>,
@@ -55,14 +55,14 @@ fn terms<'a>(
     Ok((out, rest))
 }
 
-#[tactic(auto, unfolding(pb_trees::specs::Reading::begins_head))]
+#[tactic(auto, unfolding(pb_pddl::specs::Reading::begins_head))]
 fn begins_head(tokens: &[Token]) -> bool
     ensures { result ≡ begins_head tokens.now }
 {
-    begins(Kind::Word, tokens) && !is_reserved_first(tokens)
+    begins(TokenKind::Word, tokens) && !is_reserved_first(tokens)
 }
 
-#[tactic(auto, unfolding(pb_trees::specs::Reading::head_at))]
+#[tactic(auto, unfolding(pb_pddl::specs::Reading::head_at))]
 fn head(alloc: Global, tokens: &[Token]) -> Result<(Name, &[Token]), SyntaxError>
     ensures { Gives (λ x. (x.0, x.1.now)) result (head_at tokens.now) }
 {
@@ -74,7 +74,7 @@ fn head(alloc: Global, tokens: &[Token]) -> Result<(Name, &[Token]), SyntaxError
 }
 
 // An atom, behind its `(`.
-#[tactic(auto, unfolding(pb_trees::specs::Reading::atom_at))]
+#[tactic(auto, unfolding(pb_pddl::specs::Reading::atom_at))]
 pub fn atom<'a>(
     alloc: Global,
     variables: bool,
@@ -84,6 +84,6 @@ pub fn atom<'a>(
 {
     let (predicate, rest) = head(alloc, tokens)?;
     let (terms, rest) = terms(alloc, variables, rest)?;
-    let rest = need(Kind::Close, Want::Name, rest)?;
+    let rest = need(TokenKind::Close, Want::Name, rest)?;
     Ok((Atom { predicate, terms }, rest))
 }

@@ -1,13 +1,13 @@
 ghost use Rattle.std.specs.Prelude.{◌≡◌, codes, drop, Ok};
-ghost use Rattle.pb_trees.specs.Reading.{Gives, all_of, begins_open, add_atom, cond_at, conds_at, add_literal, negative_at, effects_at, effect_at};
+ghost use Rattle.pb_pddl.specs.Reading.{Gives, all_of, begins_open, add_atom, cond_at, conds_at, add_literal, negative_at, effects_at, effect_at};
 
 use crate::atoms::atom;
 use crate::pieces::{begins, behind, fault, need, spells};
-use pb_trees::{Atom, Kind, Listed, Literal, SyntaxError, Token, Want};
+use pb_pddl::{Atom, Listed, Literal, SyntaxError, Token, TokenKind, Want};
 use std::alloc::Global;
 
 // Adds an atom, behind its `(`.
-#[tactic(auto, unfolding(pb_trees::specs::Reading::add_atom))]
+#[tactic(auto, unfolding(pb_pddl::specs::Reading::add_atom))]
 pub fn add_atom<'a>(
     alloc: Global,
     variables: bool,
@@ -23,7 +23,7 @@ pub fn add_atom<'a>(
 
 // Adds the atoms of a condition within so many parentheses.
 #[cycle(cond)]
-#[tactic(auto, unfolding(pb_trees::specs::Reading::cond_at))]
+#[tactic(auto, unfolding(pb_pddl::specs::Reading::cond_at))]
 pub fn cond<'a>(
     alloc: Global,
     variables: bool,
@@ -36,10 +36,10 @@ pub fn cond<'a>(
     if room == 0 {
         return Err(fault(Want::Paren, tokens));
     }
-    let inside = need(Kind::Open, Want::Paren, tokens)?;
-    if begins(Kind::Close, inside) {
+    let inside = need(TokenKind::Open, Want::Paren, tokens)?;
+    if begins(TokenKind::Close, inside) {
         Ok(behind(inside))
-    } else if spells(Kind::Word, b"and", inside) {
+    } else if spells(TokenKind::Word, b"and", inside) {
         conds(alloc, variables, room - 1, out, behind(inside))
     } else {
         add_atom(alloc, variables, out, inside)
@@ -59,7 +59,7 @@ fn all_conds<'a>(
 {
     let mut rest = tokens;
     for _ in 0..tokens.len() {
-        if !begins(Kind::Open, rest) {
+        if !begins(TokenKind::Open, rest) {
             return Ok(rest);
         }
         rest = cond(alloc, variables, room, out, rest)?;
@@ -69,7 +69,7 @@ fn all_conds<'a>(
 
 // Adds the atoms of the conditions behind `( and`.
 #[cycle(cond)]
-#[tactic(auto, unfolding(pb_trees::specs::Reading::conds_at))]
+#[tactic(auto, unfolding(pb_pddl::specs::Reading::conds_at))]
 fn conds<'a>(
     alloc: Global,
     variables: bool,
@@ -80,11 +80,11 @@ fn conds<'a>(
     ensures { Gives (λ rest. (out.new, rest.now)) result (conds_at variables (cond_at variables room) out.old tokens.now) }
 {
     let rest = all_conds(alloc, variables, room, out, tokens)?;
-    need(Kind::Close, Want::Paren, rest)
+    need(TokenKind::Close, Want::Paren, rest)
 }
 
 // Adds an effect's atom, behind its `(`.
-#[tactic(auto, unfolding(pb_trees::specs::Reading::add_literal))]
+#[tactic(auto, unfolding(pb_pddl::specs::Reading::add_literal))]
 fn add_literal<'a>(
     alloc: Global,
     negated: bool,
@@ -99,7 +99,7 @@ fn add_literal<'a>(
 }
 
 // Adds the atom behind `( not`.
-#[tactic(auto, unfolding(pb_trees::specs::Reading::negative_at))]
+#[tactic(auto, unfolding(pb_pddl::specs::Reading::negative_at))]
 fn negative<'a>(
     alloc: Global,
     out: &mut Listed<Literal>,
@@ -107,14 +107,14 @@ fn negative<'a>(
 ) -> Result<&'a [Token], SyntaxError>
     ensures { Gives (λ rest. (out.new, rest.now)) result (negative_at out.old tokens.now) }
 {
-    let inside = need(Kind::Open, Want::Paren, tokens)?;
+    let inside = need(TokenKind::Open, Want::Paren, tokens)?;
     let rest = add_literal(alloc, true, out, inside)?;
-    need(Kind::Close, Want::Close, rest)
+    need(TokenKind::Close, Want::Close, rest)
 }
 
 // Adds the atoms of an effect within so many parentheses.
 #[cycle(effect)]
-#[tactic(auto, unfolding(pb_trees::specs::Reading::effect_at))]
+#[tactic(auto, unfolding(pb_pddl::specs::Reading::effect_at))]
 pub fn effect<'a>(
     alloc: Global,
     room: u32,
@@ -126,12 +126,12 @@ pub fn effect<'a>(
     if room == 0 {
         return Err(fault(Want::Paren, tokens));
     }
-    let inside = need(Kind::Open, Want::Paren, tokens)?;
-    if begins(Kind::Close, inside) {
+    let inside = need(TokenKind::Open, Want::Paren, tokens)?;
+    if begins(TokenKind::Close, inside) {
         Ok(behind(inside))
-    } else if spells(Kind::Word, b"and", inside) {
+    } else if spells(TokenKind::Word, b"and", inside) {
         effects(alloc, room - 1, out, behind(inside))
-    } else if spells(Kind::Word, b"not", inside) {
+    } else if spells(TokenKind::Word, b"not", inside) {
         negative(alloc, out, behind(inside))
     } else {
         add_literal(alloc, false, out, inside)
@@ -150,7 +150,7 @@ fn all_effects<'a>(
 {
     let mut rest = tokens;
     for _ in 0..tokens.len() {
-        if !begins(Kind::Open, rest) {
+        if !begins(TokenKind::Open, rest) {
             return Ok(rest);
         }
         rest = effect(alloc, room, out, rest)?;
@@ -160,7 +160,7 @@ fn all_effects<'a>(
 
 // Adds the atoms of the effects behind `( and`.
 #[cycle(effect)]
-#[tactic(auto, unfolding(pb_trees::specs::Reading::effects_at))]
+#[tactic(auto, unfolding(pb_pddl::specs::Reading::effects_at))]
 fn effects<'a>(
     alloc: Global,
     room: u32,
@@ -170,5 +170,5 @@ fn effects<'a>(
     ensures { Gives (λ rest. (out.new, rest.now)) result (effects_at (effect_at room) out.old tokens.now) }
 {
     let rest = all_effects(alloc, room, out, tokens)?;
-    need(Kind::Close, Want::Paren, rest)
+    need(TokenKind::Close, Want::Paren, rest)
 }

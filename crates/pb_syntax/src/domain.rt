@@ -1,16 +1,16 @@
 ghost use Rattle.std.specs.Prelude.{◌≡◌, [], codes, drop, is_some, Ok};
-ghost use Rattle.pb_trees.specs.Reading.{Gives, all_of, begins_open, requirements_section, types_section, constants_section, predicates_section, action_section, no_section, domain_key, domain_section, title_at, end_at, limited, domain_at};
+ghost use Rattle.pb_pddl.specs.Reading.{Gives, all_of, begins_open, requirements_section, types_section, constants_section, predicates_section, action_section, no_section, domain_key, domain_section, title_at, end_at, limited, domain_at};
 
 use crate::action::{add_action, once, or_empty};
 use crate::lists::{keys, list, predicates};
 use crate::pieces::{begins, behind, fault, left_out, name, need, need_word, place, spells};
-use pb_trees::{
-    Action, Domain, DomainParts, Kind, LeftOut, Listed, Name, Predicate, SyntaxError, Token, Typed,
-    Want,
+use pb_pddl::{
+    Action, Domain, DomainParts, LeftOut, Listed, Name, Predicate, SyntaxError, Token, TokenKind,
+    Typed, Want,
 };
 use std::alloc::Global;
 
-#[tactic(auto, unfolding(pb_trees::specs::Reading::requirements_section))]
+#[tactic(auto, unfolding(pb_pddl::specs::Reading::requirements_section))]
 fn requirements_section<'a>(
     alloc: Global,
     out: &mut DomainParts,
@@ -26,7 +26,7 @@ fn requirements_section<'a>(
     Ok(rest)
 }
 
-#[tactic(auto, unfolding(pb_trees::specs::Reading::types_section))]
+#[tactic(auto, unfolding(pb_pddl::specs::Reading::types_section))]
 fn types_section<'a>(
     alloc: Global,
     out: &mut DomainParts,
@@ -37,12 +37,12 @@ fn types_section<'a>(
     if out.types.is_some() {
         return Err(once(tokens));
     }
-    let (types, rest) = list(alloc, Kind::Word, Want::Name, behind(tokens))?;
+    let (types, rest) = list(alloc, TokenKind::Word, Want::Name, behind(tokens))?;
     out.types = Some(types);
     Ok(rest)
 }
 
-#[tactic(auto, unfolding(pb_trees::specs::Reading::constants_section))]
+#[tactic(auto, unfolding(pb_pddl::specs::Reading::constants_section))]
 fn constants_section<'a>(
     alloc: Global,
     out: &mut DomainParts,
@@ -53,12 +53,12 @@ fn constants_section<'a>(
     if out.constants.is_some() {
         return Err(once(tokens));
     }
-    let (constants, rest) = list(alloc, Kind::Word, Want::Name, behind(tokens))?;
+    let (constants, rest) = list(alloc, TokenKind::Word, Want::Name, behind(tokens))?;
     out.constants = Some(constants);
     Ok(rest)
 }
 
-#[tactic(auto, unfolding(pb_trees::specs::Reading::predicates_section))]
+#[tactic(auto, unfolding(pb_pddl::specs::Reading::predicates_section))]
 fn predicates_section<'a>(
     alloc: Global,
     out: &mut DomainParts,
@@ -74,7 +74,7 @@ fn predicates_section<'a>(
     Ok(rest)
 }
 
-#[tactic(auto, unfolding(pb_trees::specs::Reading::action_section))]
+#[tactic(auto, unfolding(pb_pddl::specs::Reading::action_section))]
 fn action_section<'a>(
     alloc: Global,
     out: &mut DomainParts,
@@ -87,18 +87,18 @@ fn action_section<'a>(
 }
 
 // No keyword of a section that there is.
-#[tactic(auto, unfolding(pb_trees::specs::Reading::no_section))]
+#[tactic(auto, unfolding(pb_pddl::specs::Reading::no_section))]
 pub fn no_section(tokens: &[Token]) -> SyntaxError
     ensures { result ≡ no_section tokens.now }
 {
-    if begins(Kind::Key, tokens) {
+    if begins(TokenKind::Key, tokens) {
         left_out(LeftOut::Section, tokens)
     } else {
         fault(Want::Section, tokens)
     }
 }
 
-#[tactic(auto, unfolding(pb_trees::specs::Reading::domain_key))]
+#[tactic(auto, unfolding(pb_pddl::specs::Reading::domain_key))]
 fn domain_key<'a>(
     alloc: Global,
     out: &mut DomainParts,
@@ -106,22 +106,22 @@ fn domain_key<'a>(
 ) -> Result<&'a [Token], SyntaxError>
     ensures { Gives (λ rest. (out.new, rest.now)) result (domain_key limited out.old tokens.now) }
 {
-    if spells(Kind::Key, b":requirements", tokens) {
+    if spells(TokenKind::Key, b":requirements", tokens) {
         requirements_section(alloc, out, tokens)
-    } else if spells(Kind::Key, b":types", tokens) {
+    } else if spells(TokenKind::Key, b":types", tokens) {
         types_section(alloc, out, tokens)
-    } else if spells(Kind::Key, b":constants", tokens) {
+    } else if spells(TokenKind::Key, b":constants", tokens) {
         constants_section(alloc, out, tokens)
-    } else if spells(Kind::Key, b":predicates", tokens) {
+    } else if spells(TokenKind::Key, b":predicates", tokens) {
         predicates_section(alloc, out, tokens)
-    } else if spells(Kind::Key, b":action", tokens) {
+    } else if spells(TokenKind::Key, b":action", tokens) {
         action_section(alloc, out, tokens)
     } else {
         Err(no_section(tokens))
     }
 }
 
-#[tactic(auto, unfolding(pb_trees::specs::Reading::domain_section))]
+#[tactic(auto, unfolding(pb_pddl::specs::Reading::domain_section))]
 fn domain_section<'a>(
     alloc: Global,
     out: &mut DomainParts,
@@ -129,7 +129,7 @@ fn domain_section<'a>(
 ) -> Result<&'a [Token], SyntaxError>
     ensures { Gives (λ rest. (out.new, rest.now)) result (domain_section limited out.old tokens.now) }
 {
-    let inside = need(Kind::Open, Want::Paren, tokens)?;
+    let inside = need(TokenKind::Open, Want::Paren, tokens)?;
     domain_key(alloc, out, inside)
 }
 
@@ -142,7 +142,7 @@ fn domain_sections<'a>(
 {
     let mut rest = tokens;
     for _ in 0..tokens.len() {
-        if !begins(Kind::Open, rest) {
+        if !begins(TokenKind::Open, rest) {
             return Ok(rest);
         }
         rest = domain_section(alloc, out, rest)?;
@@ -151,7 +151,7 @@ fn domain_sections<'a>(
 }
 
 // The name of a form.
-#[tactic(auto, unfolding(pb_trees::specs::Reading::title_at))]
+#[tactic(auto, unfolding(pb_pddl::specs::Reading::title_at))]
 pub fn title<'a>(
     alloc: Global,
     word: &[u8],
@@ -159,25 +159,25 @@ pub fn title<'a>(
 ) -> Result<(Name, &'a [Token]), SyntaxError>
     ensures { Gives (λ x. (x.0, x.1.now)) result (title_at word.now tokens.now) }
 {
-    let rest = need(Kind::Open, Want::Paren, tokens)?;
+    let rest = need(TokenKind::Open, Want::Paren, tokens)?;
     let rest = need_word(b"define", rest)?;
-    let rest = need(Kind::Open, Want::Paren, rest)?;
+    let rest = need(TokenKind::Open, Want::Paren, rest)?;
     let rest = need_word(word, rest)?;
-    let (name, rest) = name(alloc, Kind::Word, Want::Name, rest)?;
-    let rest = need(Kind::Close, Want::Close, rest)?;
+    let (name, rest) = name(alloc, TokenKind::Word, Want::Name, rest)?;
+    let rest = need(TokenKind::Close, Want::Close, rest)?;
     Ok((name, rest))
 }
 
 // Nothing stands behind the whole form.
-#[tactic(auto, unfolding(pb_trees::specs::Reading::end_at))]
+#[tactic(auto, unfolding(pb_pddl::specs::Reading::end_at))]
 pub fn end(tokens: &[Token]) -> Result<&[Token], SyntaxError>
     ensures { Gives (λ x. x.now) result (end_at tokens.now) }
 {
-    if begins(Kind::End, tokens) {
+    if begins(TokenKind::End, tokens) {
         Ok(tokens)
-    } else if begins(Kind::Byte, tokens) {
+    } else if begins(TokenKind::Byte, tokens) {
         Err(SyntaxError::Byte { at: place(tokens) })
-    } else if begins(Kind::Deep, tokens) {
+    } else if begins(TokenKind::Deep, tokens) {
         Err(SyntaxError::Deep { at: place(tokens) })
     } else {
         Err(SyntaxError::Extra { at: place(tokens) })
@@ -185,7 +185,7 @@ pub fn end(tokens: &[Token]) -> Result<&[Token], SyntaxError>
 }
 
 /// The domain that these tokens are.
-#[tactic(auto, unfolding(pb_trees::specs::Reading::domain_at))]
+#[tactic(auto, unfolding(pb_pddl::specs::Reading::domain_at))]
 pub fn domain(alloc: Global, tokens: &[Token]) -> Result<Domain, SyntaxError>
     ensures { Gives (λ domain. domain) result (domain_at limited tokens.now) }
 {
@@ -198,7 +198,7 @@ pub fn domain(alloc: Global, tokens: &[Token]) -> Result<Domain, SyntaxError>
         actions: Listed::new(alloc),
     };
     let rest = domain_sections(alloc, &mut all, rest)?;
-    let rest = need(Kind::Close, Want::Paren, rest)?;
+    let rest = need(TokenKind::Close, Want::Paren, rest)?;
     let _end = end(rest)?;
     Ok(Domain {
         name,

@@ -10,7 +10,7 @@ mod pieces;
 mod problem;
 mod reader;
 
-pub use pb_trees::{
+pub use pb_pddl::{
     Action, Atom, Domain, LeftOut, Listed, Literal, Name, Predicate, Problem, SyntaxError, Term,
     Text, Typed, Want,
 };

@@ -1,18 +1,18 @@
 ghost use Rattle.std.specs.Prelude.{◌≡◌, ◌++◌, [], drop, OnOk, IfOk, Ok};
-ghost use Rattle.pb_trees.specs.Reading.{Gives, all_of, begins_group, begins_key, begins_open, typed, type_at, close_group, group_step, list_at, add_key, keys_at, add_predicate, predicates_at, add_fact, facts_at};
+ghost use Rattle.pb_pddl.specs.Reading.{Gives, all_of, begins_group, begins_key, begins_open, typed, type_at, close_group, group_step, list_at, add_key, keys_at, add_predicate, predicates_at, add_fact, facts_at};
 
 use crate::conditions::add_atom;
 use crate::pieces::{begins, behind, copy_name, fault, first_name, left_out, name, need};
-use pb_trees::{
-    Atom, Group, Kind, LeftOut, Listed, Name, Predicate, SyntaxError, Token, Typed, Want,
+use pb_pddl::{
+    Atom, Group, LeftOut, Listed, Name, Predicate, SyntaxError, Token, TokenKind, Typed, Want,
 };
 use std::alloc::{AllocError, Global};
 
-#[tactic(auto, unfolding(pb_trees::specs::Reading::begins_group))]
-fn begins_group(kind: Kind, tokens: &[Token]) -> bool
+#[tactic(auto, unfolding(pb_pddl::specs::Reading::begins_group))]
+fn begins_group(kind: TokenKind, tokens: &[Token]) -> bool
     ensures { result ≡ begins_group kind tokens.now }
 {
-    begins(kind, tokens) || begins(Kind::Dash, tokens)
+    begins(kind, tokens) || begins(TokenKind::Dash, tokens)
 }
 
 fn copy_type(kind: &Option<Name>) -> Result<Option<Name>, AllocError>
@@ -43,20 +43,20 @@ fn give_type(
 }
 
 // A type's name, behind a `-`.
-#[tactic(auto, unfolding(pb_trees::specs::Reading::type_at))]
+#[tactic(auto, unfolding(pb_pddl::specs::Reading::type_at))]
 fn type_name(alloc: Global, tokens: &[Token]) -> Result<(Name, &[Token]), SyntaxError>
     ensures { Gives (λ x. (x.0, x.1.now)) result (type_at tokens.now) }
 {
-    if begins(Kind::Word, tokens) {
+    if begins(TokenKind::Word, tokens) {
         Ok((first_name(alloc, tokens)?, behind(tokens)))
-    } else if begins(Kind::Open, tokens) {
+    } else if begins(TokenKind::Open, tokens) {
         Err(left_out(LeftOut::Either, tokens))
     } else {
         Err(fault(Want::TypeName, tokens))
     }
 }
 
-#[tactic(auto, unfolding(pb_trees::specs::Reading::close_group))]
+#[tactic(auto, unfolding(pb_pddl::specs::Reading::close_group))]
 fn close_group<'a>(
     alloc: Global,
     group: &mut Group,
@@ -71,10 +71,10 @@ fn close_group<'a>(
     Ok(rest)
 }
 
-#[tactic(auto, unfolding(pb_trees::specs::Reading::group_step))]
+#[tactic(auto, unfolding(pb_pddl::specs::Reading::group_step))]
 fn group_step<'a>(
     alloc: Global,
-    kind: Kind,
+    kind: TokenKind,
     out: &mut Group,
     tokens: &'a [Token],
 ) -> Result<&'a [Token], SyntaxError>
@@ -93,7 +93,7 @@ fn group_step<'a>(
 
 fn groups<'a>(
     alloc: Global,
-    kind: Kind,
+    kind: TokenKind,
     out: &mut Group,
     tokens: &'a [Token],
 ) -> Result<&'a [Token], SyntaxError>
@@ -110,10 +110,10 @@ fn groups<'a>(
 }
 
 // A list of names with types, and the `)` behind it.
-#[tactic(auto, unfolding(pb_trees::specs::Reading::list_at))]
+#[tactic(auto, unfolding(pb_pddl::specs::Reading::list_at))]
 pub fn list(
     alloc: Global,
-    kind: Kind,
+    kind: TokenKind,
     want: Want,
     tokens: &[Token],
 ) -> Result<(Listed<Typed>, &[Token]), SyntaxError>
@@ -124,12 +124,12 @@ pub fn list(
         waiting: Listed::new(alloc),
     };
     let rest = groups(alloc, kind, &mut group, tokens)?;
-    let rest = need(Kind::Close, want, rest)?;
+    let rest = need(TokenKind::Close, want, rest)?;
     give_type(&mut group.done, group.waiting.as_slice(), &None)?;
     Ok((group.done, rest))
 }
 
-#[tactic(auto, unfolding(pb_trees::specs::Reading::add_predicate))]
+#[tactic(auto, unfolding(pb_pddl::specs::Reading::add_predicate))]
 fn add_predicate<'a>(
     alloc: Global,
     out: &mut Listed<Predicate>,
@@ -137,9 +137,9 @@ fn add_predicate<'a>(
 ) -> Result<&'a [Token], SyntaxError>
     ensures { Gives (λ rest. (out.new, rest.now)) result (add_predicate out.old tokens.now) }
 {
-    let inside = need(Kind::Open, Want::Paren, tokens)?;
-    let (name, rest) = name(alloc, Kind::Word, Want::Name, inside)?;
-    let (params, rest) = list(alloc, Kind::Variable, Want::Variable, rest)?;
+    let inside = need(TokenKind::Open, Want::Paren, tokens)?;
+    let (name, rest) = name(alloc, TokenKind::Word, Want::Name, inside)?;
+    let (params, rest) = list(alloc, TokenKind::Variable, Want::Variable, rest)?;
     out.push(Predicate { name, params })?;
     Ok(rest)
 }
@@ -153,7 +153,7 @@ fn all_predicates<'a>(
 {
     let mut rest = tokens;
     for _ in 0..tokens.len() {
-        if !begins(Kind::Open, rest) {
+        if !begins(TokenKind::Open, rest) {
             return Ok(rest);
         }
         rest = add_predicate(alloc, out, rest)?;
@@ -162,7 +162,7 @@ fn all_predicates<'a>(
 }
 
 // The predicates, and the `)` behind them.
-#[tactic(auto, unfolding(pb_trees::specs::Reading::predicates_at))]
+#[tactic(auto, unfolding(pb_pddl::specs::Reading::predicates_at))]
 pub fn predicates(
     alloc: Global,
     tokens: &[Token],
@@ -171,18 +171,18 @@ pub fn predicates(
 {
     let mut out = Listed::new(alloc);
     let rest = all_predicates(alloc, &mut out, tokens)?;
-    let rest = need(Kind::Close, Want::Paren, rest)?;
+    let rest = need(TokenKind::Close, Want::Paren, rest)?;
     Ok((out, rest))
 }
 
-#[tactic(auto, unfolding(pb_trees::specs::Reading::begins_key))]
+#[tactic(auto, unfolding(pb_pddl::specs::Reading::begins_key))]
 pub fn begins_key(tokens: &[Token]) -> bool
     ensures { result ≡ begins_key tokens.now }
 {
-    begins(Kind::Key, tokens)
+    begins(TokenKind::Key, tokens)
 }
 
-#[tactic(auto, unfolding(pb_trees::specs::Reading::add_key))]
+#[tactic(auto, unfolding(pb_pddl::specs::Reading::add_key))]
 fn add_key<'a>(
     alloc: Global,
     out: &mut Listed<Name>,
@@ -213,16 +213,16 @@ fn all_keys<'a>(
 }
 
 // The words of requirements, and the `)` behind them.
-#[tactic(auto, unfolding(pb_trees::specs::Reading::keys_at))]
+#[tactic(auto, unfolding(pb_pddl::specs::Reading::keys_at))]
 pub fn keys(alloc: Global, tokens: &[Token]) -> Result<&[Token], SyntaxError>
     ensures { Gives (λ x. x.now) result (keys_at tokens.now) }
 {
     let mut out = Listed::new(alloc);
     let rest = all_keys(alloc, &mut out, tokens)?;
-    need(Kind::Close, Want::Close, rest)
+    need(TokenKind::Close, Want::Close, rest)
 }
 
-#[tactic(auto, unfolding(pb_trees::specs::Reading::add_fact))]
+#[tactic(auto, unfolding(pb_pddl::specs::Reading::add_fact))]
 fn add_fact<'a>(
     alloc: Global,
     out: &mut Listed<Atom>,
@@ -230,7 +230,7 @@ fn add_fact<'a>(
 ) -> Result<&'a [Token], SyntaxError>
     ensures { Gives (λ rest. (out.new, rest.now)) result (add_fact out.old tokens.now) }
 {
-    let inside = need(Kind::Open, Want::Paren, tokens)?;
+    let inside = need(TokenKind::Open, Want::Paren, tokens)?;
     add_atom(alloc, false, out, inside)
 }
 
@@ -243,7 +243,7 @@ fn all_facts<'a>(
 {
     let mut rest = tokens;
     for _ in 0..tokens.len() {
-        if !begins(Kind::Open, rest) {
+        if !begins(TokenKind::Open, rest) {
             return Ok(rest);
         }
         rest = add_fact(alloc, out, rest)?;
@@ -252,12 +252,12 @@ fn all_facts<'a>(
 }
 
 // The atoms of a state, and the `)` behind them.
-#[tactic(auto, unfolding(pb_trees::specs::Reading::facts_at))]
+#[tactic(auto, unfolding(pb_pddl::specs::Reading::facts_at))]
 pub fn facts(alloc: Global, tokens: &[Token]) -> Result<(Listed<Atom>, &[Token]), SyntaxError>
     ensures { Gives (λ x. (x.0, x.1.now)) result (facts_at tokens.now) }
 {
     let mut out = Listed::new(alloc);
     let rest = all_facts(alloc, &mut out, tokens)?;
-    let rest = need(Kind::Close, Want::Paren, rest)?;
+    let rest = need(TokenKind::Close, Want::Paren, rest)?;
     Ok((out, rest))
 }

@@ -1,42 +1,42 @@
 ghost use Rattle.std.specs.Prelude.{◌≡◌, codes, drop, IfOk, Ok};
 ghost use Rattle.std.specs.Str.{bytes_eq};
-ghost use Rattle.pb_trees.specs.Reading.{Gives, kind_number, same_kind, front, begins, spells, is_reserved, refusal, fault_at, left_at, need, need_word, name_at, begins_term, term_of, begins_head, head_at, begins_group, begins_key, name_of};
+ghost use Rattle.pb_pddl.specs.Reading.{Gives, kind_number, same_kind, front, begins, spells, is_reserved, refusal, fault_at, left_at, need, need_word, name_at, begins_term, term_of, begins_head, head_at, begins_group, begins_key, name_of};
 
-use pb_trees::{Kind, LeftOut, Name, SyntaxError, Text, Token, Want};
+use pb_pddl::{LeftOut, Name, SyntaxError, Text, Token, TokenKind, Want};
 use std::alloc::{AllocError, Global};
 
-#[tactic(auto, unfolding(pb_trees::specs::Reading::kind_number))]
-fn kind_number(kind: Kind) -> u8
+#[tactic(auto, unfolding(pb_pddl::specs::Reading::kind_number))]
+fn kind_number(kind: TokenKind) -> u8
     ensures { result ≡ kind_number kind }
 {
     match kind {
-        Kind::Open => 0,
-        Kind::Close => 1,
-        Kind::Equals => 2,
-        Kind::Dash => 3,
-        Kind::Word => 4,
-        Kind::Variable => 5,
-        Kind::Key => 6,
-        Kind::Deep => 7,
-        Kind::Byte => 8,
-        Kind::End => 9,
+        TokenKind::Open => 0,
+        TokenKind::Close => 1,
+        TokenKind::Equals => 2,
+        TokenKind::Dash => 3,
+        TokenKind::Word => 4,
+        TokenKind::Variable => 5,
+        TokenKind::Key => 6,
+        TokenKind::Deep => 7,
+        TokenKind::Byte => 8,
+        TokenKind::End => 9,
     }
 }
 
-#[tactic(auto, unfolding(pb_trees::specs::Reading::same_kind))]
-fn same_kind(a: Kind, b: Kind) -> bool
+#[tactic(auto, unfolding(pb_pddl::specs::Reading::same_kind))]
+fn same_kind(a: TokenKind, b: TokenKind) -> bool
     ensures { result ≡ same_kind a b }
 {
     kind_number(a) == kind_number(b)
 }
 
 // Whether the first token is of this kind.
-#[tactic(auto, unfolding(pb_trees::specs::Reading::begins, pb_trees::specs::Reading::front))]
-pub fn begins(kind: Kind, tokens: &[Token]) -> bool
+#[tactic(auto, unfolding(pb_pddl::specs::Reading::begins, pb_pddl::specs::Reading::front))]
+pub fn begins(kind: TokenKind, tokens: &[Token]) -> bool
     ensures { result ≡ begins kind tokens.now }
 {
     match tokens {
-        [] => same_kind(Kind::End, kind),
+        [] => same_kind(TokenKind::End, kind),
         [token, ..] => same_kind(token.kind, kind),
     }
 }
@@ -48,7 +48,7 @@ fn same_text(a: &[u8], b: &[u8]) -> bool
 }
 
 // Whether the first token has this text.
-#[tactic(auto, unfolding(pb_trees::specs::Reading::front))]
+#[tactic(auto, unfolding(pb_pddl::specs::Reading::front))]
 fn has_text(text: &[u8], tokens: &[Token]) -> bool
     ensures { result ≡ bytes_eq (front tokens.now).text text.now }
 {
@@ -59,15 +59,15 @@ fn has_text(text: &[u8], tokens: &[Token]) -> bool
 }
 
 // Whether the first token is of this kind and text.
-#[tactic(auto, unfolding(pb_trees::specs::Reading::spells))]
-pub fn spells(kind: Kind, text: &[u8], tokens: &[Token]) -> bool
+#[tactic(auto, unfolding(pb_pddl::specs::Reading::spells))]
+pub fn spells(kind: TokenKind, text: &[u8], tokens: &[Token]) -> bool
     ensures { result ≡ spells kind text.now tokens.now }
 {
     begins(kind, tokens) && has_text(text, tokens)
 }
 
 // Whether no atom has this head.
-#[tactic(auto, unfolding(pb_trees::specs::Reading::is_reserved))]
+#[tactic(auto, unfolding(pb_pddl::specs::Reading::is_reserved))]
 fn is_reserved(text: &[u8]) -> bool
     ensures { result ≡ is_reserved text.now }
 {
@@ -87,14 +87,14 @@ fn is_reserved(text: &[u8]) -> bool
 }
 
 // Why this token can't go on, where this is wanted.
-#[tactic(auto, unfolding(pb_trees::specs::Reading::refusal))]
+#[tactic(auto, unfolding(pb_pddl::specs::Reading::refusal))]
 fn refusal(want: Want, token: &Token) -> SyntaxError
     ensures { result ≡ refusal want token.now }
 {
     match token.kind {
-        Kind::Byte => SyntaxError::Byte { at: token.at },
-        Kind::Deep => SyntaxError::Deep { at: token.at },
-        Kind::End => SyntaxError::Unclosed { at: token.at },
+        TokenKind::Byte => SyntaxError::Byte { at: token.at },
+        TokenKind::Deep => SyntaxError::Deep { at: token.at },
+        TokenKind::End => SyntaxError::Unclosed { at: token.at },
         _ => {
             if token.head && is_reserved(token.text.as_slice()) {
                 SyntaxError::LeftOut {
@@ -109,7 +109,7 @@ fn refusal(want: Want, token: &Token) -> SyntaxError
 }
 
 // Why the first token can't go on, where this is wanted.
-#[tactic(auto, unfolding(pb_trees::specs::Reading::fault_at, pb_trees::specs::Reading::front, pb_trees::specs::Reading::refusal))]
+#[tactic(auto, unfolding(pb_pddl::specs::Reading::fault_at, pb_pddl::specs::Reading::front, pb_pddl::specs::Reading::refusal))]
 pub fn fault(want: Want, tokens: &[Token]) -> SyntaxError
     ensures { result ≡ fault_at want tokens.now }
 {
@@ -120,7 +120,7 @@ pub fn fault(want: Want, tokens: &[Token]) -> SyntaxError
 }
 
 // The first token stands for something that is left out.
-#[tactic(auto, unfolding(pb_trees::specs::Reading::left_at, pb_trees::specs::Reading::front))]
+#[tactic(auto, unfolding(pb_pddl::specs::Reading::left_at, pb_pddl::specs::Reading::front))]
 pub fn left_out(what: LeftOut, tokens: &[Token]) -> SyntaxError
     ensures { result ≡ left_at what tokens.now }
 {
@@ -141,8 +141,8 @@ pub fn behind(tokens: &[Token]) -> &[Token]
 }
 
 // Takes a token of this kind.
-#[tactic(auto, unfolding(pb_trees::specs::Reading::need))]
-pub fn need(kind: Kind, want: Want, tokens: &[Token]) -> Result<&[Token], SyntaxError>
+#[tactic(auto, unfolding(pb_pddl::specs::Reading::need))]
+pub fn need(kind: TokenKind, want: Want, tokens: &[Token]) -> Result<&[Token], SyntaxError>
     ensures { Gives (λ x. x.now) result (need kind want tokens.now) }
 {
     if begins(kind, tokens) {
@@ -153,11 +153,11 @@ pub fn need(kind: Kind, want: Want, tokens: &[Token]) -> Result<&[Token], Syntax
 }
 
 // Takes this word.
-#[tactic(auto, unfolding(pb_trees::specs::Reading::need_word))]
+#[tactic(auto, unfolding(pb_pddl::specs::Reading::need_word))]
 pub fn need_word<'a>(text: &[u8], tokens: &'a [Token]) -> Result<&'a [Token], SyntaxError>
     ensures { Gives (λ x. x.now) result (need_word text.now tokens.now) }
 {
-    if spells(Kind::Word, text, tokens) {
+    if spells(TokenKind::Word, text, tokens) {
         Ok(behind(tokens))
     } else {
         Err(fault(Want::Word, tokens))
@@ -165,7 +165,7 @@ pub fn need_word<'a>(text: &[u8], tokens: &'a [Token]) -> Result<&'a [Token], Sy
 }
 
 // The name that the first token is.
-#[tactic(auto, unfolding(pb_trees::specs::Reading::front))]
+#[tactic(auto, unfolding(pb_pddl::specs::Reading::front))]
 pub fn first_name(alloc: Global, tokens: &[Token]) -> Result<Name, AllocError>
     ensures { IfOk result (λ name. name ≡ name_of (front tokens.now)) }
 {
@@ -182,10 +182,10 @@ pub fn first_name(alloc: Global, tokens: &[Token]) -> Result<Name, AllocError>
 }
 
 // Takes a token of this kind as a name.
-#[tactic(auto, unfolding(pb_trees::specs::Reading::name_at))]
+#[tactic(auto, unfolding(pb_pddl::specs::Reading::name_at))]
 pub fn name(
     alloc: Global,
-    kind: Kind,
+    kind: TokenKind,
     want: Want,
     tokens: &[Token],
 ) -> Result<(Name, &[Token]), SyntaxError>
@@ -199,7 +199,7 @@ pub fn name(
 }
 
 // Whether the first token is a head that no atom has.
-#[tactic(auto, unfolding(pb_trees::specs::Reading::front))]
+#[tactic(auto, unfolding(pb_pddl::specs::Reading::front))]
 pub fn is_reserved_first(tokens: &[Token]) -> bool
     ensures { result ≡ is_reserved (front tokens.now).text }
 {
@@ -220,7 +220,7 @@ pub fn copy_name(name: &Name) -> Result<Name, AllocError>
 }
 
 // The place of the first token.
-#[tactic(auto, unfolding(pb_trees::specs::Reading::front))]
+#[tactic(auto, unfolding(pb_pddl::specs::Reading::front))]
 pub fn place(tokens: &[Token]) -> u64
     ensures { result ≡ (front tokens.now).at }
 {

@@ -1,15 +1,17 @@
 ghost use Rattle.std.specs.Prelude.{◌≡◌, [], codes, drop, is_some, Ok};
-ghost use Rattle.pb_trees.specs.Reading.{Gives, all_of, begins_open, domain_name_section, problem_requirements, objects_section, init_section, goal_section, problem_key, problem_section, missing, there, stood_all, sections_want, limited, problem_at};
+ghost use Rattle.pb_pddl.specs.Reading.{Gives, all_of, begins_open, domain_name_section, problem_requirements, objects_section, init_section, goal_section, problem_key, problem_section, missing, there, stood_all, sections_want, limited, problem_at};
 
 use crate::action::{DEEPEST, once, or_empty};
 use crate::conditions::cond;
 use crate::domain::{end, no_section, title};
 use crate::lists::{facts, keys, list};
 use crate::pieces::{begins, behind, fault, name, need, place, spells};
-use pb_trees::{Atom, Kind, Listed, Name, Problem, ProblemParts, SyntaxError, Token, Typed, Want};
+use pb_pddl::{
+    Atom, Listed, Name, Problem, ProblemParts, SyntaxError, Token, TokenKind, Typed, Want,
+};
 use std::alloc::Global;
 
-#[tactic(auto, unfolding(pb_trees::specs::Reading::domain_name_section))]
+#[tactic(auto, unfolding(pb_pddl::specs::Reading::domain_name_section))]
 fn domain_name_section<'a>(
     alloc: Global,
     out: &mut ProblemParts,
@@ -20,13 +22,13 @@ fn domain_name_section<'a>(
     if out.domain.is_some() {
         return Err(once(tokens));
     }
-    let (name, rest) = name(alloc, Kind::Word, Want::Name, behind(tokens))?;
-    let rest = need(Kind::Close, Want::Close, rest)?;
+    let (name, rest) = name(alloc, TokenKind::Word, Want::Name, behind(tokens))?;
+    let rest = need(TokenKind::Close, Want::Close, rest)?;
     out.domain = Some(name);
     Ok(rest)
 }
 
-#[tactic(auto, unfolding(pb_trees::specs::Reading::problem_requirements))]
+#[tactic(auto, unfolding(pb_pddl::specs::Reading::problem_requirements))]
 fn problem_requirements<'a>(
     alloc: Global,
     out: &mut ProblemParts,
@@ -42,7 +44,7 @@ fn problem_requirements<'a>(
     Ok(rest)
 }
 
-#[tactic(auto, unfolding(pb_trees::specs::Reading::objects_section))]
+#[tactic(auto, unfolding(pb_pddl::specs::Reading::objects_section))]
 fn objects_section<'a>(
     alloc: Global,
     out: &mut ProblemParts,
@@ -53,12 +55,12 @@ fn objects_section<'a>(
     if out.objects.is_some() {
         return Err(once(tokens));
     }
-    let (objects, rest) = list(alloc, Kind::Word, Want::Name, behind(tokens))?;
+    let (objects, rest) = list(alloc, TokenKind::Word, Want::Name, behind(tokens))?;
     out.objects = Some(objects);
     Ok(rest)
 }
 
-#[tactic(auto, unfolding(pb_trees::specs::Reading::init_section))]
+#[tactic(auto, unfolding(pb_pddl::specs::Reading::init_section))]
 fn init_section<'a>(
     alloc: Global,
     out: &mut ProblemParts,
@@ -74,7 +76,7 @@ fn init_section<'a>(
     Ok(rest)
 }
 
-#[tactic(auto, unfolding(pb_trees::specs::Reading::goal_section, pb_trees::specs::Reading::limited))]
+#[tactic(auto, unfolding(pb_pddl::specs::Reading::goal_section, pb_pddl::specs::Reading::limited))]
 fn goal_section<'a>(
     alloc: Global,
     out: &mut ProblemParts,
@@ -87,12 +89,12 @@ fn goal_section<'a>(
     }
     let mut goal = Listed::new(alloc);
     let rest = cond(alloc, false, DEEPEST, &mut goal, behind(tokens))?;
-    let rest = need(Kind::Close, Want::Close, rest)?;
+    let rest = need(TokenKind::Close, Want::Close, rest)?;
     out.goal = Some(goal);
     Ok(rest)
 }
 
-#[tactic(auto, unfolding(pb_trees::specs::Reading::problem_key))]
+#[tactic(auto, unfolding(pb_pddl::specs::Reading::problem_key))]
 fn problem_key<'a>(
     alloc: Global,
     out: &mut ProblemParts,
@@ -100,15 +102,15 @@ fn problem_key<'a>(
 ) -> Result<&'a [Token], SyntaxError>
     ensures { Gives (λ rest. (out.new, rest.now)) result (problem_key limited out.old tokens.now) }
 {
-    if spells(Kind::Key, b":domain", tokens) {
+    if spells(TokenKind::Key, b":domain", tokens) {
         domain_name_section(alloc, out, tokens)
-    } else if spells(Kind::Key, b":requirements", tokens) {
+    } else if spells(TokenKind::Key, b":requirements", tokens) {
         problem_requirements(alloc, out, tokens)
-    } else if spells(Kind::Key, b":objects", tokens) {
+    } else if spells(TokenKind::Key, b":objects", tokens) {
         objects_section(alloc, out, tokens)
-    } else if spells(Kind::Key, b":init", tokens) {
+    } else if spells(TokenKind::Key, b":init", tokens) {
         init_section(alloc, out, tokens)
-    } else if spells(Kind::Key, b":goal", tokens) {
+    } else if spells(TokenKind::Key, b":goal", tokens) {
         goal_section(alloc, out, tokens)
     } else {
         Err(no_section(tokens))
@@ -116,7 +118,7 @@ fn problem_key<'a>(
 }
 
 // Whether each section stood, so that no more may come.
-#[tactic(auto, unfolding(pb_trees::specs::Reading::stood_all))]
+#[tactic(auto, unfolding(pb_pddl::specs::Reading::stood_all))]
 fn stood_all(parts: &ProblemParts) -> bool
     ensures { result ≡ stood_all parts.now }
 {
@@ -128,7 +130,7 @@ fn stood_all(parts: &ProblemParts) -> bool
 }
 
 // What is wanted behind these sections.
-#[tactic(auto, unfolding(pb_trees::specs::Reading::sections_want))]
+#[tactic(auto, unfolding(pb_pddl::specs::Reading::sections_want))]
 fn sections_want(parts: &ProblemParts) -> Want
     ensures { result ≡ sections_want parts.now }
 {
@@ -139,7 +141,7 @@ fn sections_want(parts: &ProblemParts) -> Want
     }
 }
 
-#[tactic(auto, unfolding(pb_trees::specs::Reading::problem_section))]
+#[tactic(auto, unfolding(pb_pddl::specs::Reading::problem_section))]
 fn problem_section<'a>(
     alloc: Global,
     out: &mut ProblemParts,
@@ -150,7 +152,7 @@ fn problem_section<'a>(
     if stood_all(out) {
         return Err(fault(Want::Close, tokens));
     }
-    let inside = need(Kind::Open, Want::Paren, tokens)?;
+    let inside = need(TokenKind::Open, Want::Paren, tokens)?;
     problem_key(alloc, out, inside)
 }
 
@@ -163,7 +165,7 @@ fn problem_sections<'a>(
 {
     let mut rest = tokens;
     for _ in 0..tokens.len() {
-        if !begins(Kind::Open, rest) {
+        if !begins(TokenKind::Open, rest) {
             return Ok(rest);
         }
         rest = problem_section(alloc, out, rest)?;
@@ -172,7 +174,7 @@ fn problem_sections<'a>(
 }
 
 // At the last `)`, where a section that must be there is missing.
-#[tactic(auto, unfolding(pb_trees::specs::Reading::missing))]
+#[tactic(auto, unfolding(pb_pddl::specs::Reading::missing))]
 fn missing(tokens: &[Token]) -> SyntaxError
     ensures { result ≡ missing tokens.now }
 {
@@ -183,7 +185,7 @@ fn missing(tokens: &[Token]) -> SyntaxError
 }
 
 // A section that must be there, at the last `)`.
-#[tactic(auto, unfolding(pb_trees::specs::Reading::there))]
+#[tactic(auto, unfolding(pb_pddl::specs::Reading::there))]
 fn there<T: Drop>(section: Option<T>, tokens: &[Token]) -> Result<T, SyntaxError>
     ensures { Gives (λ x. x) result (there section tokens.now) }
 {
@@ -194,7 +196,7 @@ fn there<T: Drop>(section: Option<T>, tokens: &[Token]) -> Result<T, SyntaxError
 }
 
 /// The problem that these tokens are.
-#[tactic(auto, unfolding(pb_trees::specs::Reading::problem_at))]
+#[tactic(auto, unfolding(pb_pddl::specs::Reading::problem_at))]
 pub fn problem(alloc: Global, tokens: &[Token]) -> Result<Problem, SyntaxError>
     ensures { Gives (λ problem. problem) result (problem_at limited tokens.now) }
 {
@@ -207,7 +209,7 @@ pub fn problem(alloc: Global, tokens: &[Token]) -> Result<Problem, SyntaxError>
         goal: None,
     };
     let last = problem_sections(alloc, &mut all, rest)?;
-    let rest = need(Kind::Close, sections_want(&all), last)?;
+    let rest = need(TokenKind::Close, sections_want(&all), last)?;
     let domain = there(all.domain, last)?;
     let goal = there(all.goal, last)?;
     let _end = end(rest)?;

@@ -1,19 +1,19 @@
 ghost use Rattle.std.specs.Prelude.{◌≡◌, ◌≢◌, List, Ok, IfOk, IfErr};
-ghost use Rattle.pb_trees.specs.declared.token.Token.{Token};
-ghost use Rattle.pb_trees.specs.declared.tree.Domain.{Domain};
-ghost use Rattle.pb_trees.specs.declared.tree.Problem.{Problem};
-ghost use Rattle.pb_trees.specs.declared.error.SyntaxError.TheVariants.{Memory};
-ghost use Rattle.pb_trees.specs.Tokens.{TextTokens};
-ghost use Rattle.pb_trees.specs.Grammar.{IsDomain, IsProblem};
-ghost use Rattle.pb_trees.specs.Trees.{IsRead, SpellsDomain, SpellsProblem, FirstFault};
-ghost use Rattle.pb_trees.specs.Reading.{Gives, unlimited, domain_at, problem_at};
-ghost use Rattle.pb_trees.specs.Readings.{domain_reading, problem_reading};
-ghost use Rattle.pb_trees.specs.Words.{DomainHasWords, ProblemHasWords};
+ghost use Rattle.pb_pddl.specs.declared.token.Token.{Token};
+ghost use Rattle.pb_pddl.specs.declared.tree.Domain.{Domain};
+ghost use Rattle.pb_pddl.specs.declared.tree.Problem.{Problem};
+ghost use Rattle.pb_pddl.specs.declared.error.SyntaxError.TheVariants.{Memory};
+ghost use Rattle.pb_pddl.specs.Tokens.{TextTokens};
+ghost use Rattle.pb_pddl.specs.Grammar.{IsDomain, IsProblem};
+ghost use Rattle.pb_pddl.specs.Trees.{IsRead, SpellsDomain, SpellsProblem, FirstFault};
+ghost use Rattle.pb_pddl.specs.Reading.{Gives, unlimited, domain_at, problem_at};
+ghost use Rattle.pb_pddl.specs.Readings.{domain_reading, problem_reading};
+ghost use Rattle.pb_pddl.specs.Words.{DomainHasWords, ProblemHasWords};
 
 use crate::domain::domain;
 use crate::problem::problem;
+use pb_pddl::{Domain, Problem, SyntaxError};
 use pb_tokens::tokens;
-use pb_trees::{Domain, Problem, SyntaxError};
 use std::alloc::Global;
 
 fn domain_of(alloc: Global, text: &[u8]) -> Result<Domain, SyntaxError>

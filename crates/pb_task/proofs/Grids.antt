@@ -5,7 +5,7 @@ use Rattle.pb_packed.specs.Bits.{bits_of}
 use Rattle.pb_model.specs.Space.{Space, Steps, IsProper}
 use Rattle.pb_task.specs.Grid.{is_passable, are_connected, class_at, cell_state, class_of_state, cell_beside, step_to, grid_space, IsGrid}
 use Rattle.pb_task.specs.Laws.{GridsAreProper, TasksAreProper}
-use Rattle.pb_task.specs.declared.parts.Parts.TheVariants.{Grid, Tiles, Strips}
+use Rattle.pb_task.specs.declared.parts.TaskParts.TheVariants.{Grid, Tiles, Strips}
 use Rattle.pb_task.specs.Parts.{greatest_cost}
 use Rattle.pb_task.specs.Tiles.{tiles_space}
 use Rattle.pb_task.proofs.Acting.{strips_are_proper}

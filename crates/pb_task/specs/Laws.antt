@@ -3,7 +3,7 @@ use Rattle.std.specs.Prelude.{◌≡◌, ℕ, ◌^◌, ◌<◌, ◌≤◌, Bool,
 use Rattle.pb_packed.specs.Bits.{bits_of}
 use Rattle.pb_model.specs.Space.{Space, Steps, IsProper, steps}
 use Rattle.pb_model.specs.Plan.{IsPlan}
-use Rattle.pb_task.specs.declared.parts.Parts.{Parts}
+use Rattle.pb_task.specs.declared.parts.TaskParts.{TaskParts}
 use Rattle.pb_task.specs.declared.parts.GridParts.{GridParts}
 use Rattle.pb_task.specs.declared.parts.TilesParts.{TilesParts}
 use Rattle.pb_task.specs.declared.plan.PlanFault.{PlanFault}
@@ -66,12 +66,12 @@ SetsAreOfAtoms =
 -- The state space of a task is proper: no action costs more than the greatest cost. Its states are numbers of 256 bits.
 abbrev pub TasksAreProper : Type 0
 TasksAreProper =
-    (parts : Parts) → IsTask parts
+    (parts : TaskParts) → IsTask parts
     → IsProper (space_of parts) greatest_cost × ((state : ℕ) → IsTrue ((space_of parts).is_state state) → state < 2 ^ 256)
 
 -- No state of a task has more successors than its greatest degree.
 abbrev pub DegreesAreBounded : Type 0
-DegreesAreBounded = (parts : Parts) (state : ℕ) → length (steps (space_of parts) state) ≤ max_degree_of parts
+DegreesAreBounded = (parts : TaskParts) (state : ℕ) → length (steps (space_of parts) state) ≤ max_degree_of parts
 
 -- A list of actions has one fault at most.
 abbrev pub FaultsAreUnique : Type 0

@@ -18,7 +18,7 @@ pub use laws::{
     tiles_are_proper, tiles_slide,
 };
 pub use parts::{
-    ActionName, Actions, Board, Cells, Class, GridParts, GroundAction, Parts, StripsParts,
+    ActionName, Actions, Board, Cells, Class, GridParts, GroundAction, StripsParts, TaskParts,
     TilesParts,
 };
 pub use plan::PlanFault;

@@ -197,7 +197,7 @@ pub struct StripsParts {
 
 /// What a task of each kind is made of.
 #[derive(Drop)]
-pub enum Parts {
+pub enum TaskParts {
     /// A way is sought on a map.
     Grid(GridParts),
     /// Tiles are slid on a board.

@@ -1,7 +1,7 @@
 ghost use Rattle.std.specs.Prelude.{◌≡◌, ◌≤◌, ◌<◌, ◌^◌, length, All, IfOk};
 ghost use Rattle.pb_task.specs.Strips.{IsGroundAction};
 
-use crate::{ActionName, Actions, GroundAction, Parts, PlanFault, StripsParts, Task};
+use crate::{ActionName, Actions, GroundAction, PlanFault, StripsParts, Task, TaskParts};
 use pb_model::Succ;
 use pb_packed::Packed;
 use std::alloc::{AllocError, Global};
@@ -170,8 +170,8 @@ fn ground_actions_are_called_by_their_names(rt: HostRuntime) -> Result<(), Fail>
         assert_eq!(rt; text.as_str(), wanted);
     }
     match task.parts() {
-        Parts::Grid(_) | Parts::Tiles(_) => assert!(rt; false),
-        Parts::Strips(strips) => {
+        TaskParts::Grid(_) | TaskParts::Tiles(_) => assert!(rt; false),
+        TaskParts::Strips(strips) => {
             assert_eq!(rt; (strips.atoms, strips.never), (3, false));
             let names = strips.actions.as_slice();
             assert_eq!(rt; names.len(), 4);

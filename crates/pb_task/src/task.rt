@@ -4,9 +4,9 @@ ghost use Rattle.pb_task.specs.Grid.{IsGrid};
 ghost use Rattle.pb_task.specs.Tiles.{IsTiles};
 ghost use Rattle.pb_task.specs.Strips.{IsStrips};
 ghost use Rattle.pb_task.specs.Parts.{space_of, IsTask, action_name, max_degree_of};
-ghost use Rattle.pb_task.specs.declared.parts.Parts.TheVariants.{Grid, Tiles, Strips};
+ghost use Rattle.pb_task.specs.declared.parts.TaskParts.TheVariants.{Grid, Tiles, Strips};
 
-use crate::parts::{GridParts, Parts, StripsParts, TilesParts};
+use crate::parts::{GridParts, StripsParts, TaskParts, TilesParts};
 use crate::{grid, strips, tiles};
 use pb_model::Succ;
 use pb_packed::Packed;
@@ -16,14 +16,14 @@ use std::marker::Model;
 /// A planning task: a state space with a start, steps by actions, and goals. Contracts see its parts.
 #[derive(Drop)]
 pub struct Task {
-    parts: Parts,
+    parts: TaskParts,
 }
 
 impl Model for Task {
-    ghost use Rattle.pb_task.specs.declared.parts.Parts.{Parts};
+    ghost use Rattle.pb_task.specs.declared.parts.TaskParts.{TaskParts};
     ghost use Rattle.pb_task.specs.Parts.{IsTask};
 
-    ghost Value = { Parts };
+    ghost Value = { TaskParts };
 
     ghost view = { λ t. t.parts };
 
@@ -37,7 +37,7 @@ impl Task {
         ensures { result ≡ Grid parts }
     {
         Task {
-            parts: Parts::Grid(parts),
+            parts: TaskParts::Grid(parts),
         }
     }
 
@@ -47,7 +47,7 @@ impl Task {
         ensures { result ≡ Tiles parts }
     {
         Task {
-            parts: Parts::Tiles(parts),
+            parts: TaskParts::Tiles(parts),
         }
     }
 
@@ -57,12 +57,12 @@ impl Task {
         ensures { result ≡ Strips parts }
     {
         Task {
-            parts: Parts::Strips(parts),
+            parts: TaskParts::Strips(parts),
         }
     }
 
     /// What the task is made of.
-    pub fn parts(&self) -> &Parts
+    pub fn parts(&self) -> &TaskParts
         ensures parts { result.now ≡ self.now }
         ensures lawful { IsTask self.now }
     {
@@ -75,9 +75,9 @@ impl Task {
         ensures lawful { IsTask self.now }
     {
         match &self.parts {
-            Parts::Grid(parts) => grid::pack(parts.start.0, parts.start.1),
-            Parts::Tiles(parts) => tiles::pack(parts.start.numbers()),
-            Parts::Strips(parts) => parts.start,
+            TaskParts::Grid(parts) => grid::pack(parts.start.0, parts.start.1),
+            TaskParts::Tiles(parts) => tiles::pack(parts.start.numbers()),
+            TaskParts::Strips(parts) => parts.start,
         }
     }
 
@@ -86,9 +86,9 @@ impl Task {
         ensures { result ≡ (space_of self.now).is_state state.now }
     {
         match &self.parts {
-            Parts::Grid(parts) => grid::is_passable(grid::class_of_state(parts, state)),
-            Parts::Tiles(parts) => tiles::is_state(parts, state),
-            Parts::Strips(parts) => strips::is_state(parts, state),
+            TaskParts::Grid(parts) => grid::is_passable(grid::class_of_state(parts, state)),
+            TaskParts::Tiles(parts) => tiles::is_state(parts, state),
+            TaskParts::Strips(parts) => strips::is_state(parts, state),
         }
     }
 
@@ -97,9 +97,9 @@ impl Task {
         ensures { result ≡ (space_of self.now).is_goal state.now }
     {
         match &self.parts {
-            Parts::Grid(parts) => *state == grid::pack(parts.goal.0, parts.goal.1),
-            Parts::Tiles(parts) => *state == tiles::pack(parts.goal.numbers()),
-            Parts::Strips(parts) => strips::is_goal(parts, state),
+            TaskParts::Grid(parts) => *state == grid::pack(parts.goal.0, parts.goal.1),
+            TaskParts::Tiles(parts) => *state == tiles::pack(parts.goal.numbers()),
+            TaskParts::Strips(parts) => strips::is_goal(parts, state),
         }
     }
 
@@ -108,8 +108,8 @@ impl Task {
         ensures { result ≡ (space_of self.now).actions }
     {
         match &self.parts {
-            Parts::Grid(_) | Parts::Tiles(_) => grid::DIRECTIONS,
-            Parts::Strips(parts) => strips::actions(parts),
+            TaskParts::Grid(_) | TaskParts::Tiles(_) => grid::DIRECTIONS,
+            TaskParts::Strips(parts) => strips::actions(parts),
         }
     }
 
@@ -128,9 +128,9 @@ impl Task {
         ensures { result ≡ (space_of self.now).step from.now action }
     {
         match &self.parts {
-            Parts::Grid(parts) => grid::step(parts, from, action),
-            Parts::Tiles(parts) => tiles::step(parts, from, action),
-            Parts::Strips(parts) => strips::step(parts, from, action),
+            TaskParts::Grid(parts) => grid::step(parts, from, action),
+            TaskParts::Tiles(parts) => tiles::step(parts, from, action),
+            TaskParts::Strips(parts) => strips::step(parts, from, action),
         }
     }
 
@@ -155,8 +155,8 @@ impl Task {
         ensures { IfOk result (λ text. string_bytes text ≡ action_name self.now action) }
     {
         let name = match &self.parts {
-            Parts::Grid(_) | Parts::Tiles(_) => grid::direction(action),
-            Parts::Strips(parts) => strips::name(parts, action),
+            TaskParts::Grid(_) | TaskParts::Tiles(_) => grid::direction(action),
+            TaskParts::Strips(parts) => strips::name(parts, action),
         };
         let text = String::from_str(alloc, name)?;
         Ok(text)

@@ -1,7 +1,7 @@
 ghost use Rattle.std.specs.Prelude.{◌≡◌, IfOk};
 ghost use Rattle.pb_task.specs.Parts.{max_degree_of};
 
-use crate::{Board, Cells, Class, GridParts, Parts, PlanFault, Task, TilesParts};
+use crate::{Board, Cells, Class, GridParts, PlanFault, Task, TaskParts, TilesParts};
 use pb_model::Succ;
 use pb_packed::Packed;
 use std::alloc::{AllocError, Global};
@@ -115,12 +115,12 @@ fn the_parts_are_lent_and_name_start_and_goal(rt: HostRuntime) -> Result<(), Fai
     assert!(rt; task.is_goal(&packed(2, 2)));
     assert!(rt; !task.is_goal(&task.initial()));
     match task.parts() {
-        Parts::Grid(grid) => {
+        TaskParts::Grid(grid) => {
             assert_eq!(rt; (grid.width, grid.height), (3, 3));
             assert_eq!(rt; grid.cells.get(8), Some(Class::Land));
             assert_eq!(rt; grid.cells.get(9), None);
         }
-        Parts::Tiles(_) | Parts::Strips(_) => assert!(rt; false),
+        TaskParts::Tiles(_) | TaskParts::Strips(_) => assert!(rt; false),
     }
     Ok(())
 }
@@ -280,8 +280,8 @@ fn only_boards_are_states_of_tiles(rt: HostRuntime) -> Result<(), Fail> {
         assert_eq!(rt; text.as_str(), wanted);
     }
     match task.parts() {
-        Parts::Grid(_) | Parts::Strips(_) => assert!(rt; false),
-        Parts::Tiles(tiles) => {
+        TaskParts::Grid(_) | TaskParts::Strips(_) => assert!(rt; false),
+        TaskParts::Tiles(tiles) => {
             assert_eq!(rt; (tiles.rows, tiles.cols), (2, 2));
             assert_eq!(rt; tiles.start.numbers(), [1, 0, 2, 3].as_slice());
             assert_eq!(rt; tiles.goal.numbers(), [0, 1, 2, 3].as_slice());

@@ -1,7 +1,7 @@
 ghost use Rattle.std.specs.Prelude.{◌≡◌, ◌≢◌, ◌≤◌, Ok, Err, IfOk, IfErr, MatchResult};
 ghost use Rattle.pb_task.specs.Tiles.{IsTiles};
 ghost use Rattle.pb_task.specs.declared.parts.TilesParts.{TilesParts};
-ghost use Rattle.pb_task.specs.declared.parts.Parts.TheVariants.{Tiles};
+ghost use Rattle.pb_task.specs.declared.parts.TaskParts.TheVariants.{Tiles};
 ghost use Rattle.pb_tiles.specs.Reading.{is_side, count_fault, boards_fault, boards_reading, reading, tiles_reading};
 ghost use Rattle.pb_tiles.specs.Spelling.{SpellsTiles};
 ghost use Rattle.pb_tiles.specs.declared.error.TilesError.TheVariants.{Memory};

@@ -1,5 +1,5 @@
 use crate::{TilesError, read_tiles};
-use pb_task::Parts;
+use pb_task::TaskParts;
 use std::alloc::Global;
 
 // The rows, the columns, and whether start and goal of the tiles that a text spells are these boards.
@@ -11,8 +11,8 @@ fn spells(
 ) -> Result<(u32, u32, bool), TilesError> {
     let task = read_tiles(alloc, text)?;
     match task.parts() {
-        Parts::Grid(_) | Parts::Strips(_) => Err(TilesError::Size),
-        Parts::Tiles(tiles) => {
+        TaskParts::Grid(_) | TaskParts::Strips(_) => Err(TilesError::Size),
+        TaskParts::Tiles(tiles) => {
             let same = tiles.start.numbers() == start && tiles.goal.numbers() == goal;
             Ok((tiles.rows, tiles.cols, same))
         }

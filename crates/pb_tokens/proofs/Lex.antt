@@ -1,8 +1,8 @@
 -- The list of a text's tokens, one after another.
 use Rattle.std.proofs.Common.{◌≡◌, ℕ, true, false, List, [], ◌∷◌, length, drop, refl, sym, ap, subst, ◌∙◌}
-use Rattle.pb_trees.specs.Tokens.{gap_len, token_at, is_last, AreTokens, moved, behind}
-use Rattle.pb_trees.specs.declared.token.Token.{Token}
-use Rattle.pb_trees.specs.declared.token.Cursor.{Cursor}
+use Rattle.pb_pddl.specs.Tokens.{gap_len, token_at, is_last, AreTokens, moved, behind}
+use Rattle.pb_pddl.specs.declared.token.Token.{Token}
+use Rattle.pb_pddl.specs.declared.token.Cursor.{Cursor}
 
 true_false : true ≡ false → ⊥
 true_false e = cc

@@ -1,7 +1,7 @@
 -- Runs of bytes, as a loop goes over them.
 use Rattle.std.proofs.Common.{◌≡◌, ℕ, zero, suc, ◌+◌, ◌<◌, ◌≤◌, Bool, true, false, cond, List, [], ◌∷◌, length, drop, get_or, refl, ap, ◌∙◌, arith, add-one}
 use Rattle.std.specs.Prelude.{Option, Some, None}
-use Rattle.pb_trees.specs.Tokens.{gap_next, gap_len, run_len, goes_on_word}
+use Rattle.pb_pddl.specs.Tokens.{gap_next, gap_len, run_len, goes_on_word}
 
 pub drop_step : (xs : List ℕ) (i : ℕ) → i < length xs → drop i xs ≡ get_or xs i 0 ∷ drop (i + 1) xs
 drop_step [] i lt = absurd (omega arith)

@@ -1,10 +1,10 @@
 -- Tokens are slices of their text, one behind the other.
 use Rattle.std.proofs.Common.{◌≡◌, ℕ, zero, suc, ◌+◌, Bool, true, false, List, [], ◌∷◌, length, take, drop, map, refl, sym, ap, subst, ◌∙◌, arith, ◌⊎◌, inl, inr, zero-add}
-use Rattle.pb_trees.specs.declared.token.Kind.TheVariants as kinds
-use Rattle.pb_trees.specs.declared.token.Token.{Token}
-use Rattle.pb_trees.specs.declared.token.Cursor.{Cursor}
-use Rattle.pb_trees.specs.Tokens.{lower, gap_len, token_at, kind_of, kind_inside, word_first, len_of, is_last, AreTokens, moved, behind}
-use Rattle.pb_trees.specs.Spans.{Spans}
+use Rattle.pb_pddl.specs.declared.token.TokenKind.TheVariants as kinds
+use Rattle.pb_pddl.specs.declared.token.Token.{Token}
+use Rattle.pb_pddl.specs.declared.token.Cursor.{Cursor}
+use Rattle.pb_pddl.specs.Tokens.{lower, gap_len, token_at, kind_of, kind_inside, word_first, len_of, is_last, AreTokens, moved, behind}
+use Rattle.pb_pddl.specs.Spans.{Spans}
 
 take_taken : (n : ℕ) (xs : List ℕ) → take (length (map lower (take n xs))) xs ≡ take n xs
 take_taken zero xs = refl

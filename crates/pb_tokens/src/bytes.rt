@@ -1,17 +1,17 @@
 ghost use Rattle.std.specs.Prelude.{◌≡◌, ◌≤◌, false, length, IfOk, map};
-ghost use Rattle.pb_trees.specs.Tokens.{is_white, begins_word, goes_on_word, lower, gap_len, run_len, word_first, gap_next};
+ghost use Rattle.pb_pddl.specs.Tokens.{is_white, begins_word, goes_on_word, lower, gap_len, run_len, word_first, gap_next};
 
-use pb_trees::Listed;
+use pb_pddl::Listed;
 use std::alloc::{AllocError, Global};
 
-#[tactic(auto, unfolding(pb_trees::specs::Tokens::is_white))]
+#[tactic(auto, unfolding(pb_pddl::specs::Tokens::is_white))]
 fn is_white(byte: u8) -> bool
     ensures { result ≡ is_white byte }
 {
     byte == b' ' || byte == b'\t' || byte == b'\r' || byte == b'\n' || byte == 12
 }
 
-#[tactic(auto, unfolding(pb_trees::specs::Tokens::begins_word))]
+#[tactic(auto, unfolding(pb_pddl::specs::Tokens::begins_word))]
 pub fn begins_word(byte: u8) -> bool
     ensures { result ≡ begins_word byte }
 {
@@ -20,14 +20,14 @@ pub fn begins_word(byte: u8) -> bool
         || (b'0' <= byte && byte <= b'9')
 }
 
-#[tactic(auto, unfolding(pb_trees::specs::Tokens::goes_on_word))]
+#[tactic(auto, unfolding(pb_pddl::specs::Tokens::goes_on_word))]
 fn goes_on_word(byte: u8) -> bool
     ensures { result ≡ goes_on_word byte }
 {
     begins_word(byte) || byte == b'-' || byte == b'_'
 }
 
-#[tactic(auto, unfolding(pb_trees::specs::Tokens::lower))]
+#[tactic(auto, unfolding(pb_pddl::specs::Tokens::lower))]
 fn lower(byte: u8) -> u8
     ensures { result ≡ lower byte }
 {
@@ -39,7 +39,7 @@ fn lower(byte: u8) -> u8
 }
 
 // Whether a text begins with a word.
-#[tactic(auto, unfolding(pb_trees::specs::Tokens::word_first))]
+#[tactic(auto, unfolding(pb_pddl::specs::Tokens::word_first))]
 pub fn word_first(text: &[u8]) -> bool
     ensures { result ≡ word_first text.now }
 {
@@ -50,7 +50,7 @@ pub fn word_first(text: &[u8]) -> bool
 }
 
 // Behind a byte of white space or of a comment, whether a comment goes on; None for any other byte.
-#[tactic(auto, unfolding(pb_trees::specs::Tokens::gap_next))]
+#[tactic(auto, unfolding(pb_pddl::specs::Tokens::gap_next))]
 fn gap_next(comment: bool, byte: u8) -> Option<bool>
     ensures { result ≡ gap_next comment byte }
 {

@@ -1,54 +1,60 @@
 ghost use Rattle.std.specs.Prelude.{◌≡◌, ◌+◌, ◌≤◌, ◌<◌, ◌^◌, ◌∷◌, length, IfOk, OnOk, false, Ok};
-ghost use Rattle.pb_trees.specs.Spans.{Spans};
-ghost use Rattle.pb_trees.specs.Tokens.{kind_of, kind_inside, len_of, token_at, is_last, is_open, behind, unclosed, TextTokens};
+ghost use Rattle.pb_pddl.specs.Spans.{Spans};
+ghost use Rattle.pb_pddl.specs.Tokens.{kind_of, kind_inside, len_of, token_at, is_last, is_open, behind, unclosed, TextTokens};
 
 use crate::bytes::{begins_word, gap_len, lowered, run_len, word_first};
-use pb_trees::{Cursor, Kind, Listed, Token};
+use pb_pddl::{Cursor, Listed, Token, TokenKind};
 use std::alloc::{AllocError, Global};
 
-#[tactic(auto, unfolding(pb_trees::specs::Tokens::kind_of))]
-fn kind_of(byte: u8, word: bool) -> Kind
+#[tactic(auto, unfolding(pb_pddl::specs::Tokens::kind_of))]
+fn kind_of(byte: u8, word: bool) -> TokenKind
     ensures { result ≡ kind_of byte word }
 {
     if byte == b'(' {
-        Kind::Open
+        TokenKind::Open
     } else if byte == b')' {
-        Kind::Close
+        TokenKind::Close
     } else if byte == b'=' {
-        Kind::Equals
+        TokenKind::Equals
     } else if byte == b'-' {
-        Kind::Dash
+        TokenKind::Dash
     } else if begins_word(byte) {
-        Kind::Word
+        TokenKind::Word
     } else if byte == b'?' && word {
-        Kind::Variable
+        TokenKind::Variable
     } else if byte == b':' && word {
-        Kind::Key
+        TokenKind::Key
     } else {
-        Kind::Byte
+        TokenKind::Byte
     }
 }
 
-#[tactic(auto, unfolding(pb_trees::specs::Tokens::kind_inside))]
-fn kind_inside(depth: usize, kind: Kind) -> Kind
+#[tactic(auto, unfolding(pb_pddl::specs::Tokens::kind_inside))]
+fn kind_inside(depth: usize, kind: TokenKind) -> TokenKind
     ensures { result ≡ kind_inside depth kind }
 {
     match kind {
-        Kind::Open => { if 32 <= depth { Kind::Deep } else { Kind::Open } }
-        Kind::Close => Kind::Close,
-        Kind::Equals => Kind::Equals,
-        Kind::Dash => Kind::Dash,
-        Kind::Word => Kind::Word,
-        Kind::Variable => Kind::Variable,
-        Kind::Key => Kind::Key,
-        Kind::Deep => Kind::Deep,
-        Kind::Byte => Kind::Byte,
-        Kind::End => Kind::End,
+        TokenKind::Open => {
+            if 32 <= depth {
+                TokenKind::Deep
+            } else {
+                TokenKind::Open
+            }
+        }
+        TokenKind::Close => TokenKind::Close,
+        TokenKind::Equals => TokenKind::Equals,
+        TokenKind::Dash => TokenKind::Dash,
+        TokenKind::Word => TokenKind::Word,
+        TokenKind::Variable => TokenKind::Variable,
+        TokenKind::Key => TokenKind::Key,
+        TokenKind::Deep => TokenKind::Deep,
+        TokenKind::Byte => TokenKind::Byte,
+        TokenKind::End => TokenKind::End,
     }
 }
 
-#[tactic(auto, unfolding(pb_trees::specs::Tokens::len_of))]
-fn len_of(kind: Kind, behind: &[u8]) -> usize
+#[tactic(auto, unfolding(pb_pddl::specs::Tokens::len_of))]
+fn len_of(kind: TokenKind, behind: &[u8]) -> usize
     requires { length behind.now < 2 ^ 63 }
     ensures some { 0 < result }
     ensures within { result ≤ length behind.now + 1 }
@@ -56,39 +62,39 @@ fn len_of(kind: Kind, behind: &[u8]) -> usize
 {
     let run = run_len(behind);
     match kind {
-        Kind::Word => run + 1,
-        Kind::Variable => run + 1,
-        Kind::Key => run + 1,
-        Kind::Open => 1,
-        Kind::Close => 1,
-        Kind::Equals => 1,
-        Kind::Dash => 1,
-        Kind::Deep => 1,
-        Kind::Byte => 1,
-        Kind::End => 1,
+        TokenKind::Word => run + 1,
+        TokenKind::Variable => run + 1,
+        TokenKind::Key => run + 1,
+        TokenKind::Open => 1,
+        TokenKind::Close => 1,
+        TokenKind::Equals => 1,
+        TokenKind::Dash => 1,
+        TokenKind::Deep => 1,
+        TokenKind::Byte => 1,
+        TokenKind::End => 1,
     }
 }
 
-#[tactic(auto, unfolding(pb_trees::specs::Tokens::is_last))]
-fn is_last(kind: Kind) -> bool
+#[tactic(auto, unfolding(pb_pddl::specs::Tokens::is_last))]
+fn is_last(kind: TokenKind) -> bool
     ensures { result ≡ is_last kind }
 {
     match kind {
-        Kind::Deep => true,
-        Kind::Byte => true,
-        Kind::End => true,
-        Kind::Open => false,
-        Kind::Close => false,
-        Kind::Equals => false,
-        Kind::Dash => false,
-        Kind::Word => false,
-        Kind::Variable => false,
-        Kind::Key => false,
+        TokenKind::Deep => true,
+        TokenKind::Byte => true,
+        TokenKind::End => true,
+        TokenKind::Open => false,
+        TokenKind::Close => false,
+        TokenKind::Equals => false,
+        TokenKind::Dash => false,
+        TokenKind::Word => false,
+        TokenKind::Variable => false,
+        TokenKind::Key => false,
     }
 }
 
 // The place of the innermost `(` that is open, or this place where none is.
-#[tactic(auto, unfolding(pb_trees::specs::Tokens::unclosed))]
+#[tactic(auto, unfolding(pb_pddl::specs::Tokens::unclosed))]
 fn unclosed(here: &Cursor) -> u64
     ensures { result ≡ unclosed here.now }
 {
@@ -101,7 +107,7 @@ fn unclosed(here: &Cursor) -> u64
 }
 
 // The token that these bytes begin with, behind all white space.
-#[tactic(auto, unfolding(pb_trees::specs::Tokens::token_at, pb_trees::specs::Tokens::is_last))]
+#[tactic(auto, unfolding(pb_pddl::specs::Tokens::token_at, pb_pddl::specs::Tokens::is_last))]
 fn token_at(alloc: Global, here: &Cursor, text: &[u8]) -> Result<Token, AllocError>
     requires { length text.now < 2 ^ 63 }
     ensures within { IfOk result (λ t. length t.text ≤ length text.now) }
@@ -110,7 +116,7 @@ fn token_at(alloc: Global, here: &Cursor, text: &[u8]) -> Result<Token, AllocErr
 {
     let Some((byte, behind)) = text.split_first() else {
         return Ok(Token {
-            kind: Kind::End,
+            kind: TokenKind::End,
             text: Listed::new(alloc),
             at: unclosed(here),
             head: here.head,
@@ -130,28 +136,28 @@ fn token_at(alloc: Global, here: &Cursor, text: &[u8]) -> Result<Token, AllocErr
 }
 
 // Takes a token: where the next may begin.
-#[tactic(auto, unfolding(pb_trees::specs::Tokens::opened, pb_trees::specs::Tokens::is_open))]
+#[tactic(auto, unfolding(pb_pddl::specs::Tokens::opened, pb_pddl::specs::Tokens::is_open))]
 fn pass(here: &mut Cursor, token: &Token) -> Result<(), AllocError>
     requires { here.old.at + length token.now.text < 2 ^ 64 }
     ensures { OnOk result (here.new ≡ behind here.old token.now) }
 {
     match token.kind {
-        Kind::Open => {
+        TokenKind::Open => {
             here.nest.push(here.at)?;
             here.head = true;
         }
-        Kind::Close => {
+        TokenKind::Close => {
             here.nest.pop();
             here.head = false;
         }
-        Kind::Equals => here.head = false,
-        Kind::Dash => here.head = false,
-        Kind::Word => here.head = false,
-        Kind::Variable => here.head = false,
-        Kind::Key => here.head = false,
-        Kind::Deep => here.head = false,
-        Kind::Byte => here.head = false,
-        Kind::End => here.head = false,
+        TokenKind::Equals => here.head = false,
+        TokenKind::Dash => here.head = false,
+        TokenKind::Word => here.head = false,
+        TokenKind::Variable => here.head = false,
+        TokenKind::Key => here.head = false,
+        TokenKind::Deep => here.head = false,
+        TokenKind::Byte => here.head = false,
+        TokenKind::End => here.head = false,
     }
     here.at += token.text.as_slice().len() as u64;
     Ok(())

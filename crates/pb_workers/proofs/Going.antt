@@ -8,7 +8,7 @@ use Rattle.pb_machine.specs.Machine.{Setup, Machine, journal_of}
 use Rattle.pb_machine.specs.Turns.{RunsInOrder}
 use Rattle.pb_machine.proofs.LeaseTurns.{runs_go_on}
 use Rattle.pb_machine.proofs.WholeStore.{all_is_home}
-use Rattle.pb_homes.specs.Homes.{home_rows}
+use Rattle.pb_bundles.specs.Homes.{home_rows}
 use Rattle.pb_lease.specs.Leased.{setup_of}
 use Rattle.pb_lease.specs.GraphValue.{GraphValue, setup_in}
 use Rattle.pb_lease.specs.Choices.{is_out_in}

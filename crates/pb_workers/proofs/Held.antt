@@ -9,10 +9,10 @@ use Rattle.pb_machine.specs.Tables.{with_entry, one_if}
 use Rattle.pb_machine.specs.Counts.{Counts, quota_of}
 use Rattle.pb_machine.specs.Machine.{Machine}
 use Rattle.pb_machine.proofs.TableLaws.{entry_here}
-use Rattle.pb_task.specs.declared.parts.Parts.{Parts}
+use Rattle.pb_task.specs.declared.parts.TaskParts.{TaskParts}
 use Rattle.pb_abstract.specs.Graph.{AbstractGraph}
-use Rattle.pb_homes.specs.Parts.{away_rows}
-use Rattle.pb_homes.specs.Homes.{key_at}
+use Rattle.pb_bundles.specs.Parts.{away_rows}
+use Rattle.pb_bundles.specs.Homes.{key_at}
 use Rattle.pb_lease.specs.Tables.{rooms}
 use Rattle.pb_lease.specs.Events.{ending}
 use Rattle.pb_lease.specs.LeaseValue.{LeaseValue, leased_store, IsSameLease}
@@ -29,15 +29,15 @@ use Rattle.pb_workers.proofs.Marked.{marked_same, marked_leases, marked_signed, 
 use Rattle.pb_workers.proofs.Returned.{returned_vacant, returned_left, returned_end, fewer_opened}
 
 -- what work makes of a lease that is out
-abbrev pub Works : Parts → AbstractGraph → LeaseValue → LeaseValue → (broken : ℕ) → Type 0
+abbrev pub Works : TaskParts → AbstractGraph → LeaseValue → LeaseValue → (broken : ℕ) → Type 0
 Works task graph old new broken =
     (settings : Settings) (reopenings : ℕ) (machine : Machine) → (before : IsOut (setup_of task graph settings reopenings) machine 0 old)
     → (after : IsOut (setup_of task graph settings reopenings) machine broken new)
     × (IsInTurns (setup_of task graph settings reopenings) machine 0 old before → IsInTurns (setup_of task graph settings reopenings) machine broken new after)
 
-module _ (g : GraphValue) (lease : LeaseValue) (held : IsHeld g lease) (task : Parts) (graph : AbstractGraph) (task_is : g.task ≡ task) (graph_is : g.table.graph ≡ graph) where
+module _ (g : GraphValue) (lease : LeaseValue) (held : IsHeld g lease) (task : TaskParts) (graph : AbstractGraph) (task_is : g.task ≡ task) (graph_is : g.table.graph ≡ graph) where
   pub at_work : IsLeaseGraph g → IsAtWork task graph lease
-  at_work k = subst (λ (a : AbstractGraph). IsAtWork task a lease) graph_is (subst (λ (p : Parts). IsAtWork p g.table.graph lease) task_is (record {
+  at_work k = subst (λ (a : AbstractGraph). IsAtWork task a lease) graph_is (subst (λ (p : TaskParts). IsAtWork p g.table.graph lease) task_is (record {
     settings = g.table.settings;
     reopenings = 0;
     machine = held.machine;
@@ -64,7 +64,7 @@ module _ (g : GraphValue) (lease : LeaseValue) (held : IsHeld g lease) (task : P
     worked_out : (broken : ℕ) → Works task graph lease worked broken → (machine : Machine) → IsOutInTurns (setup_in g) machine 0 lease → IsOutInTurns (setup_in g) machine broken worked
     worked_out broken works machine out =
         let here : Works g.task g.table.graph lease worked broken =
-        subst (λ (p : Parts). Works p g.table.graph lease worked broken) (sym task_is) (subst (λ (a : AbstractGraph). Works task a lease worked broken) (sym graph_is) works) in
+        subst (λ (p : TaskParts). Works p g.table.graph lease worked broken) (sym task_is) (subst (λ (a : AbstractGraph). Works task a lease worked broken) (sym graph_is) works) in
         let after = here g.table.settings 0 machine out.0 in
         (after.0, after.1 out.1)
 

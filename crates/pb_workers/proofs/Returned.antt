@@ -17,9 +17,9 @@ use Rattle.pb_machine.specs.Machine.{Machine, lent_store}
 use Rattle.pb_machine.proofs.TableLaws.{entry_here}
 use Rattle.pb_abstract.specs.Graph.{AbstractGraph, blocks_of}
 use Rattle.pb_lists.specs.Bundle.{Content, row_of}
-use Rattle.pb_homes.specs.Parts.{content_in, rows_in}
-use Rattle.pb_homes.specs.Homes.{key_at}
-use Rattle.pb_homes.proofs.ByKey.{opened_is_by_key}
+use Rattle.pb_bundles.specs.Parts.{content_in, rows_in}
+use Rattle.pb_bundles.specs.Homes.{key_at}
+use Rattle.pb_bundles.proofs.ByKey.{opened_is_by_key}
 use Rattle.pb_lease.specs.Tables.{blocks}
 use Rattle.pb_lease.specs.Events.{counts_along, ending}
 use Rattle.pb_lease.specs.LeaseValue.{LeaseValue, leased_store}

@@ -8,8 +8,8 @@ use Rattle.pb_machine.specs.Tables.{with_entry, any_below, count_below, one_if}
 use Rattle.pb_machine.specs.Counts.{Counts}
 use Rattle.pb_machine.proofs.TableLaws.{any_none, sum_small}
 use Rattle.pb_abstract.specs.Graph.{AbstractGraph, blocks_of}
-use Rattle.pb_homes.specs.Parts.{away_rows}
-use Rattle.pb_homes.specs.Homes.{key_at}
+use Rattle.pb_bundles.specs.Parts.{away_rows}
+use Rattle.pb_bundles.specs.Homes.{key_at}
 use Rattle.pb_lease.specs.Tables.{blocks}
 use Rattle.pb_lease.specs.Events.{counts_along}
 use Rattle.pb_lease.specs.LeaseValue.{LeaseValue}

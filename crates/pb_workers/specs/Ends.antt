@@ -6,8 +6,8 @@ use Rattle.pb_model.specs.Sound.{IsSound}
 use Rattle.pb_model.specs.Work.{Work, Comes, expansions, broken_expansions, reopenings, opening_store}
 use Rattle.pb_machine.specs.Settings.{weight_of}
 use Rattle.pb_task.specs.Parts.{space_of}
-use Rattle.pb_homes.specs.Homes.{home_rows}
-use Rattle.pb_homes.specs.Stores.{store_of}
+use Rattle.pb_bundles.specs.Homes.{home_rows}
+use Rattle.pb_bundles.specs.Stores.{store_of}
 use Rattle.pb_lease.specs.Leased.{guide_of}
 use Rattle.pb_lease.specs.GraphValue.{GraphValue}
 

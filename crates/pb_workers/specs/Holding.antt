@@ -5,8 +5,8 @@ use Rattle.pb_machine.specs.declared.event.Event.TheVariants.{Hot}
 use Rattle.pb_machine.specs.Tables.{count_below}
 use Rattle.pb_machine.specs.Blocks.{interferes}
 use Rattle.pb_machine.specs.Machine.{Machine}
-use Rattle.pb_homes.specs.Homes.{key_at}
-use Rattle.pb_homes.specs.Choosing.{IsRivalBy}
+use Rattle.pb_bundles.specs.Homes.{key_at}
+use Rattle.pb_bundles.specs.Choosing.{IsRivalBy}
 use Rattle.pb_lease.specs.Tables.{blocks}
 use Rattle.pb_lease.specs.LeaseValue.{LeaseValue}
 use Rattle.pb_lease.specs.Leased.{IsOutInTurns}

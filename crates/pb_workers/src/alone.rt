@@ -11,7 +11,7 @@ use crate::closing::sign_off;
 use crate::holding::hold;
 use pb_abstract::AbsGraph;
 use pb_estimate::Estimator;
-use pb_lease::{Answer, Graph};
+use pb_lease::{LeaseGraph, LeaseReply};
 use pb_machine::End;
 use pb_model::Succ;
 use pb_outside::Gate;
@@ -25,7 +25,7 @@ pub fn run_alone<G: Gate>(
     alloc: Global,
     task: &Task,
     abstraction: &AbsGraph,
-    graph: &mut Graph,
+    graph: &mut LeaseGraph,
     gate: &G,
 ) -> Result<(), AllocError>
     requires task { graph.old.task ≡ task.now }
@@ -62,7 +62,7 @@ fn search<G: Gate>(
     task: &Task,
     estimator: &mut Estimator,
     abstraction: &AbsGraph,
-    graph: &mut Graph,
+    graph: &mut LeaseGraph,
     gate: &G,
     succs: &mut Vec<Succ>,
 ) -> Option<End>
@@ -82,13 +82,13 @@ fn search<G: Gate>(
 {
     'leases: loop {
         match graph.lease(0) {
-            Answer::Leased(lease) => {
+            LeaseReply::Leased(lease) => {
                 gate.leased(0, lease.block());
                 hold(task, estimator, abstraction, graph, gate, succs, lease);
             }
-            Answer::NotYet => unreachable!(),
-            Answer::Over(end) => return Some(end),
-            Answer::Memory => return None,
+            LeaseReply::NotYet => unreachable!(),
+            LeaseReply::Over(end) => return Some(end),
+            LeaseReply::Memory => return None,
         }
     }
 }

@@ -4,13 +4,13 @@ ghost use Rattle.pb_lease.specs.GraphValue.{counts_in, IsLeaseGraph};
 ghost use Rattle.pb_lease.specs.Choices.{is_out_in};
 ghost use Rattle.pb_workers.specs.Runs.{IsSameSearch, RunsOn};
 
-use pb_lease::Graph;
+use pb_lease::LeaseGraph;
 use pb_machine::End;
 use std::alloc::AllocError;
 
 /// The worker signs off when the search ended, or, where no end stands, with a report of want of memory, by which the search ends. An
 /// error is an end by that.
-pub fn sign_off(graph: &mut Graph, end: Option<End>) -> Result<(), AllocError>
+pub fn sign_off(graph: &mut LeaseGraph, end: Option<End>) -> Result<(), AllocError>
     requires workers { 0 < graph.old.table.settings.workers }
     requires vacant { (counts_in graph.old).leases 0 ≡ None }
     requires stays { IsFalse ((counts_in graph.old).signed_off 0) }

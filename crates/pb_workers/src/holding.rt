@@ -8,7 +8,7 @@ ghost use Rattle.pb_workers.specs.Holding.{IsHeld, RunsHome, IsNearer};
 use crate::turning::turn;
 use pb_abstract::AbsGraph;
 use pb_estimate::Estimator;
-use pb_lease::{Graph, Lease};
+use pb_lease::{Lease, LeaseGraph};
 use pb_model::Succ;
 use pb_outside::Gate;
 use pb_task::Task;
@@ -18,7 +18,7 @@ pub fn hold<G: Gate>(
     task: &Task,
     estimator: &mut Estimator,
     abstraction: &AbsGraph,
-    graph: &mut Graph,
+    graph: &mut LeaseGraph,
     gate: &G,
     succs: &mut Vec<Succ>,
     lease: Lease,

@@ -3,7 +3,7 @@
 use crate::run_alone;
 use pb_abstract::AbsGraph;
 use pb_estimate::Estimator;
-use pb_lease::Graph;
+use pb_lease::LeaseGraph;
 use pb_machine::{End, Event, Settings};
 use pb_outside::{Gate, OpenGate};
 use pb_task::{Board, Cells, Class, GridParts, Task, TilesParts};
@@ -77,7 +77,7 @@ fn searched<G: Gate>(
     task: Task,
     words: Words,
     gate: &G,
-) -> Result<Option<Graph>, AllocError> {
+) -> Result<Option<LeaseGraph>, AllocError> {
     let Words {
         budget,
         lot,
@@ -105,7 +105,7 @@ fn searched<G: Gate>(
     };
     let task = Arc::new(alloc, task)?;
     let abstraction = Arc::new(alloc, abstraction)?;
-    let mut graph = Graph::new(
+    let mut graph = LeaseGraph::new(
         alloc,
         Arc::clone(&task)?,
         Arc::clone(&abstraction)?,
@@ -134,7 +134,7 @@ impl Gate for CountingGate {
 }
 
 // What a test sees of a search: its journal, its end, and the incumbent.
-fn expect(rt: &impl Abort, graph: Option<Graph>, journal: &[Event], incumbent: Option<u64>) {
+fn expect(rt: &impl Abort, graph: Option<LeaseGraph>, journal: &[Event], incumbent: Option<u64>) {
     match graph {
         Some(graph) => {
             assert_eq!(rt; graph.journal(), journal);

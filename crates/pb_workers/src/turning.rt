@@ -10,7 +10,7 @@ use crate::marking::mark_rival;
 use pb_abstract::AbsGraph;
 use pb_estimate::Estimator;
 use pb_expand::{Worked, work};
-use pb_lease::{Graph, Lease, Renewed};
+use pb_lease::{Lease, LeaseGraph, Renewed};
 use pb_model::Succ;
 use pb_outside::Gate;
 use pb_task::Task;
@@ -21,7 +21,7 @@ pub fn turn<G: Gate>(
     task: &Task,
     estimator: &mut Estimator,
     abstraction: &AbsGraph,
-    graph: &mut Graph,
+    graph: &mut LeaseGraph,
     gate: &G,
     succs: &mut Vec<Succ>,
     mut lease: Lease,

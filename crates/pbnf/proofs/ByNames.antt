@@ -2,22 +2,22 @@
 use Rattle.std.proofs.Common.{◌≡◌, ℕ, ◌+◌, ◌*◌, ◌≤◌, Option, None, Some, IfSome, List, length, map, slice_get, Result, Ok, Err, refl, sym, ap, ◌∙◌, subst, arith}
 use Rattle.pb_model.specs.Plan.{Plan, IsPlan as IsPackedPlan, HasNoPlan, NoneCheaper, IsBound}
 use Rattle.pb_model.specs.Texts.{plan_report}
-use Rattle.pb_task.specs.declared.parts.Parts.{Parts}
-use Rattle.pb_task.specs.declared.parts.Parts.TheVariants as parts
+use Rattle.pb_task.specs.declared.parts.TaskParts.{TaskParts}
+use Rattle.pb_task.specs.declared.parts.TaskParts.TheVariants as parts
 use Rattle.pb_task.specs.Parts.{space_of, action_name}
 use Rattle.pb_task.specs.Strips.{strips_space, name_in}
-use Rattle.pb_trees.specs.declared.error.SyntaxError.{SyntaxError}
-use Rattle.pb_trees.specs.declared.tree.Domain.{Domain}
-use Rattle.pb_trees.specs.declared.tree.Problem.{Problem}
-use Rattle.pb_trees.specs.Readings.{domain_reading, problem_reading}
+use Rattle.pb_pddl.specs.declared.error.SyntaxError.{SyntaxError}
+use Rattle.pb_pddl.specs.declared.tree.Domain.{Domain}
+use Rattle.pb_pddl.specs.declared.tree.Problem.{Problem}
+use Rattle.pb_pddl.specs.Readings.{domain_reading, problem_reading}
 use Rattle.pb_lifted.specs.Plans.{NamedAction, IsPlan}
 use Rattle.pb_strips.specs.declared.error.StripsError.{StripsError}
-use Rattle.pb_trees.specs.Reading.{unlimited, domain_at, problem_at}
-use Rattle.pb_trees.specs.Readings.{tokens_of}
-use Rattle.pb_trees.specs.Words.{DomainHasWords, ProblemHasWords}
-use Rattle.pb_grammar.proofs.FormsRead.{domain_is, problem_is}
-use Rattle.pb_grammar.proofs.TokensOf.{texts_have_tokens}
-use Rattle.pb_grammar.proofs.NamesAreWords.{domain_has_words, problem_has_words}
+use Rattle.pb_pddl.specs.Reading.{unlimited, domain_at, problem_at}
+use Rattle.pb_pddl.specs.Readings.{tokens_of}
+use Rattle.pb_pddl.specs.Words.{DomainHasWords, ProblemHasWords}
+use Rattle.pb_pddl_laws.proofs.FormsRead.{domain_is, problem_is}
+use Rattle.pb_pddl_laws.proofs.TokensOf.{texts_have_tokens}
+use Rattle.pb_pddl_laws.proofs.NamesAreWords.{domain_has_words, problem_has_words}
 use Rattle.pb_strips.specs.Names.{action_bytes, action_text}
 use Rattle.pb_naming.proofs.Printed.{names_are_printed}
 use Rattle.pb_strips.specs.Grounding.{strips_of}
@@ -29,8 +29,8 @@ use Rattle.pb_check.specs.declared.fault.Verdict.TheVariants.{Bounded, Unsolvabl
 use Rattle.pb_check.specs.Shown.{VerdictHolds}
 use Rattle.pb_report.specs.Texts.{plan_text, syntax_text, strips_text}
 use Rattle.pb_outside.specs.Outside.{Files}
-use Rattle.pb_words.specs.Values.{InputNames, Grid, Tiles, Strips}
-use Rattle.pb_words.specs.Meaning.{Reading, Refused, Read, Solve, Check, SolveMeaning, CheckMeaning}
+use Rattle.pb_command.specs.Values.{InputNames, Grid, Tiles, Strips}
+use Rattle.pb_command.specs.Meaning.{Reading, Refused, Read, Solve, Check, SolveMeaning, CheckMeaning}
 use Rattle.pbnf.specs.Asked.{Wanted, IsSolve, IfSolve, IfCheck}
 use Rattle.pbnf.specs.Loaded.{loads_of, AreLoaded, refused_with, strips_told, problem_told, domain_told, strips_task, input_task, with_certificate, check_task, solve_task, OfTexts, OfCheckedTexts}
 use Rattle.pbnf.specs.Leases.{unweighted}
@@ -53,14 +53,14 @@ pub record AreTask (domain : Domain) (problem : Problem) : Type 0 where
   pub words : DomainHasWords domain
   pub others : ProblemHasWords problem
 
-pub record Trees (domain_text problem_text : Option (List ℕ)) (task : Parts) : Type 0 where
+pub record Trees (domain_text problem_text : Option (List ℕ)) (task : TaskParts) : Type 0 where
   pub domain : Domain
   pub problem : Problem
   pub spelled : SpellTrees domain_text problem_text domain problem
   pub are : AreTask domain problem
   pub is : task ≡ parts.Strips (strips_of domain problem)
 
-trees_of : (domain_text problem_text : Option (List ℕ)) (task : Parts) → strips_task domain_text problem_text ≡ Ok task → Trees domain_text problem_text task
+trees_of : (domain_text problem_text : Option (List ℕ)) (task : TaskParts) → strips_task domain_text problem_text ≡ Ok task → Trees domain_text problem_text task
 trees_of None problem_text task e = cc
 trees_of (Some domain_text) None task e = cc
 trees_of (Some domain_text) (Some problem_text) task e = at_domain (domain_reading domain_text) refl e
@@ -93,28 +93,28 @@ trees_of (Some domain_text) (Some problem_text) task e = at_domain (domain_readi
     at_domain (Err error) reads f = none (syntax_text 1 error) f
 
 -- what follows for every domain and problem from what holds of their task holds of the trees that the texts spell
-by_trees : (P : Parts → Type 0) (Q : Domain → Problem → Type 0) → ((domain : Domain) (problem : Problem) → AreTask domain problem → P (parts.Strips (strips_of domain problem)) → Q domain problem)
-    → (input : InputNames) (row first : ℕ) (texts : List (List ℕ)) (task : Parts) → input_task input row first texts ≡ Ok task → P task → OfTrees input first texts Q
+by_trees : (P : TaskParts → Type 0) (Q : Domain → Problem → Type 0) → ((domain : Domain) (problem : Problem) → AreTask domain problem → P (parts.Strips (strips_of domain problem)) → Q domain problem)
+    → (input : InputNames) (row first : ℕ) (texts : List (List ℕ)) (task : TaskParts) → input_task input row first texts ≡ Ok task → P task → OfTrees input first texts Q
 by_trees P Q f (Grid names) row first texts task is holds = tt
 by_trees P Q f (Tiles board) row first texts task is holds = tt
 by_trees P Q f (Strips names) row first texts task is holds =
     let trees : Trees (slice_get texts first) (slice_get texts (first + 1)) task = trees_of (slice_get texts first) (slice_get texts (first + 1)) task is in
     (trees.domain, trees.problem, trees.spelled, f trees.domain trees.problem trees.are (subst P trees.is holds))
 
-checked_input : (certificate : Option (List ℕ)) (task : Result Parts (List ℕ)) (of : Parts) (text : List ℕ) → with_certificate certificate task ≡ Ok (of, text) → task ≡ Ok of
+checked_input : (certificate : Option (List ℕ)) (task : Result TaskParts (List ℕ)) (of : TaskParts) (text : List ℕ) → with_certificate certificate task ≡ Ok (of, text) → task ≡ Ok of
 checked_input None task of text e = cc
 checked_input (Some certificate) (Err report) of text e = cc
 checked_input (Some certificate) (Ok task) of text e =
     let same = unwrap (task, certificate) (of, text) e in
-    ap (λ (pair : Parts × List ℕ). Ok pair.0) same
+    ap (λ (pair : TaskParts × List ℕ). Ok pair.0) same
   where
-    unwrap : (a b : Parts × List ℕ) → ◌≡◌ {A = Result (Parts × List ℕ) (List ℕ)} (Ok a) (Ok b) → a ≡ b
+    unwrap : (a b : TaskParts × List ℕ) → ◌≡◌ {A = Result (TaskParts × List ℕ) (List ℕ)} (Ok a) (Ok b) → a ≡ b
     unwrap a b f = cc
 
 -- ---- plans
 
 module _ (domain : Domain) (problem : Problem) (are : AreTask domain problem) where
-  abbrev pub task : Parts
+  abbrev pub task : TaskParts
   task = parts.Strips (strips_of domain problem)
 
   -- a plan by names has no fewer actions than a packed plan that none is cheaper than costs

@@ -9,12 +9,12 @@ use Rattle.pb_model.specs.Store.{IsShown, IsQuiet}
 use Rattle.pb_model.specs.Sound.{IsSound}
 use Rattle.pb_model.specs.Certificate.{Certificate, IsValid, IsPlanIfAny, IsBackedBy}
 use Rattle.pb_model.specs.Texts.{head_1, certificate_text}
-use Rattle.pb_task.specs.declared.parts.Parts.{Parts}
+use Rattle.pb_task.specs.declared.parts.TaskParts.{TaskParts}
 use Rattle.pb_task.specs.Parts.{space_of, IsTask}
 use Rattle.pb_estimate.specs.Estimates.{estimate_of}
 use Rattle.pb_machine.specs.Settings.{weight_of}
 use Rattle.pb_abstract.specs.Graph.{home_of}
-use Rattle.pb_homes.specs.Homes.{home_rows}
+use Rattle.pb_bundles.specs.Homes.{home_rows}
 use Rattle.pb_lease.specs.Leased.{guide_of}
 use Rattle.pb_lease.specs.GraphValue.{GraphValue}
 use Rattle.pb_workers.specs.Ends.{home_store}
@@ -23,7 +23,7 @@ use Rattle.pb_cert.specs.Store.{store_with, IsSoundAt}
 use Rattle.pb_cert.specs.Traced.{HasGoal}
 use Rattle.pb_cert.specs.Stated.{Stated, text_of}
 use Rattle.pb_cert.proofs.AtHome.{shown_rows_can_be_traced}
-use Rattle.pb_words.specs.Meaning.{SolveMeaning}
+use Rattle.pb_command.specs.Meaning.{SolveMeaning}
 use Rattle.pb_report.specs.Texts.{plan_text}
 use Rattle.pbnf.specs.Leases.{unweighted, IsBestOf}
 use Rattle.pbnf.specs.Named.{NamesTell}
@@ -35,12 +35,12 @@ use Rattle.pbnf.proofs.Groups.{prints_least_cost, saves_plan}
 bound_is : (cost : ℕ) → IsBound unweighted cost cost
 bound_is cost = record { enough = omega arith; least = λ other h. omega (arith, h) }
 
-module _ (parts : Parts) (graph : GraphValue) (is : IsBestOf parts graph) where
+module _ (parts : TaskParts) (graph : GraphValue) (is : IsBestOf parts graph) where
   is_sound : IsSound (space_of parts) (guide_of parts graph.table.graph) (home_store graph)
-  is_sound = subst (λ (p : Parts). IsSound (space_of p) (guide_of p graph.table.graph) (home_store graph)) is.task is.best.sound
+  is_sound = subst (λ (p : TaskParts). IsSound (space_of p) (guide_of p graph.table.graph) (home_store graph)) is.task is.best.sound
 
   is_shown : IsShown (space_of parts) (guide_of parts graph.table.graph) (home_store graph)
-  is_shown = subst (λ (p : Parts). IsShown (space_of p) (guide_of p graph.table.graph) (home_store graph)) is.task is.best.shown
+  is_shown = subst (λ (p : TaskParts). IsShown (space_of p) (guide_of p graph.table.graph) (home_store graph)) is.task is.best.shown
 
   -- with an incumbent a plan can be traced
   pub can_be_traced : (cost : ℕ) → graph.incumbent ≡ Some cost
@@ -52,7 +52,7 @@ module _ (parts : Parts) (graph : GraphValue) (is : IsBestOf parts graph) where
   holds incumbent known =
       subst (λ (o : Option ℕ). IncumbentHolds (space_of parts) unweighted o) known
       (subst (λ (w : Weight). IncumbentHolds (space_of parts) w graph.incumbent) is.weight
-      (subst (λ (p : Parts). IncumbentHolds (space_of p) (weight_of graph.table.settings) graph.incumbent) is.task is.best.holds))
+      (subst (λ (p : TaskParts). IncumbentHolds (space_of p) (weight_of graph.table.settings) graph.incumbent) is.task is.best.holds))
 
   -- a certificate is valid whatever the incumbent that backs its plan
   abbrev pub IsValidFor : Option Plan → Stated → Type 0
@@ -89,8 +89,8 @@ module _ (parts : Parts) (graph : GraphValue) (is : IsBestOf parts graph) where
       (status, solves, prints_least_cost parts lawful names said.report (Saves said) name solves, saves_plan parts lawful names said.report (Saves said) name solves)
 
 -- what a quiet search of the task shows is an answer to the words
-pub found : {E : Type 0} → (solve : SolveMeaning) (parts task : Parts) → parts ≡ task → (result : Result Answer E)
+pub found : {E : Type 0} → (solve : SolveMeaning) (parts task : TaskParts) → parts ≡ task → (result : Result Answer E)
     → IfOk result (λ a. IsSolved solve.certificate parts (said_of a) ⊎ IsUnsolvable solve.certificate parts (said_of a)) → IfOk result (λ a. IsFound solve task (said_of a))
 found solve parts task same (Err e) h = tt
-found solve parts task same (Ok a) (inl h) = inl (subst (λ (p : Parts). IsSolved solve.certificate p (said_of a)) same h)
-found solve parts task same (Ok a) (inr h) = inr (inl (subst (λ (p : Parts). IsUnsolvable solve.certificate p (said_of a)) same h))
+found solve parts task same (Ok a) (inl h) = inl (subst (λ (p : TaskParts). IsSolved solve.certificate p (said_of a)) same h)
+found solve parts task same (Ok a) (inr h) = inr (inl (subst (λ (p : TaskParts). IsUnsolvable solve.certificate p (said_of a)) same h))

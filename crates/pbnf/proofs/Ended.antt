@@ -3,15 +3,15 @@ use Rattle.std.proofs.Common.{◌≡◌, ◌≢◌, ◌⊎◌, inl, inr, ℕ, Op
 use Rattle.std.proofs.lemmas.List.{append_cancel_left}
 use Rattle.pb_model.specs.Plan.{Plan, HasNoPlan}
 use Rattle.pb_model.specs.Texts.{none_report, stopped_report}
-use Rattle.pb_task.specs.declared.parts.Parts.{Parts}
+use Rattle.pb_task.specs.declared.parts.TaskParts.{TaskParts}
 use Rattle.pb_task.specs.Parts.{space_of}
 use Rattle.pb_estimate.specs.Estimates.{estimate_of}
-use Rattle.pb_check.specs.declared.fault.Fault.{Fault}
+use Rattle.pb_check.specs.declared.fault.CertificateFault.{CertificateFault}
 use Rattle.pb_check.specs.declared.fault.Verdict.{Verdict}
 use Rattle.pb_check.specs.Judging.{checked}
 use Rattle.pb_check.specs.Kinds.{kind_of}
 use Rattle.pb_cert.specs.Saved.{IsPartSaved}
-use Rattle.pb_words.specs.Meaning.{Reading, Refused, Read, Solve, Check, SolveMeaning, CheckMeaning}
+use Rattle.pb_command.specs.Meaning.{Reading, Refused, Read, Solve, Check, SolveMeaning, CheckMeaning}
 use Rattle.pb_outside.specs.Outside.{Files, IfTold, AppendsPart, Rose, KeepsAll, KeepsOthers}
 use Rattle.pb_check.specs.Shown.{IsAccepted}
 use Rattle.pbnf.specs.Asked.{Wanted, files_of, IsFaulty, IsSolve, IfSolve, IsCheck, IfCheck}
@@ -20,8 +20,8 @@ use Rattle.pbnf.specs.Leases.{settings_of, StopsAtBudget}
 use Rattle.pbnf.specs.Claims.{Saved, Certifies, Solves, PrintsPlan, PrintsLeastCost, SavesPlan, Accepts, Rejects}
 use Rattle.pbnf.specs.Answer.{Said, Says, Saves, IsChecked, AnswersReading, AnswersFiles}
 use Rattle.pbnf.specs.Run.{Prints, TellsPrinted, SavesIn, SavesTold, SavesPartIn, SavesNothing, KeepsUnnamed, SavesPart, IsStatus, IsAnswered, IsBroken, RefusesWords, RefusesInput, IsOfVerdict, DecidesCheck, PrintsPart, HasNoFault, IsWellAsked, IsWellChecked}
-use Rattle.pb_trees.specs.declared.tree.Domain.{Domain}
-use Rattle.pb_trees.specs.declared.tree.Problem.{Problem}
+use Rattle.pb_pddl.specs.declared.tree.Domain.{Domain}
+use Rattle.pb_pddl.specs.declared.tree.Problem.{Problem}
 use Rattle.pbnf.specs.Named.{OfTrees, OfTreeFiles, PrintsNamedPlan, HasNoNamedPlan, AcceptsNamed}
 use Rattle.pbnf.proofs.ByNames.{solved_by_names, none_by_names, accepted_by_names, if_solve_files, is_solve_files, if_check_files}
 use Rattle.pbnf.proofs.Told as told
@@ -59,28 +59,28 @@ told_map (Some x) None P Q f h = absurd h
 
 -- ---- from the texts that were loaded to the files
 
-if_task : (files : Option Files) (P : SolveMeaning → Parts → Type 0) (texts : List (List ℕ)) (reading : Reading) → AreLoaded files (files_of reading) texts
+if_task : (files : Option Files) (P : SolveMeaning → TaskParts → Type 0) (texts : List (List ℕ)) (reading : Reading) → AreLoaded files (files_of reading) texts
     → IfSolve reading (λ solve. OfTexts solve texts (P solve)) → IfSolve reading (λ solve. OfTask files solve (P solve))
 if_task files P texts (Refused fault) loaded h = tt
 if_task None P texts (Read (Solve solve)) loaded h = tt
 if_task (Some shelf) P texts (Read (Solve solve)) loaded (parts, is, holds) = (parts, (texts, loaded, is), holds)
 if_task files P texts (Read (Check check)) loaded h = tt
 
-is_task : (files : Option Files) (P : SolveMeaning → Parts → Type 0) (texts : List (List ℕ)) (reading : Reading) → AreLoaded files (files_of reading) texts
+is_task : (files : Option Files) (P : SolveMeaning → TaskParts → Type 0) (texts : List (List ℕ)) (reading : Reading) → AreLoaded files (files_of reading) texts
     → IsSolve reading (λ solve. OfTexts solve texts (P solve)) → IsSolve reading (λ solve. OfTask files solve (P solve))
 is_task files P texts (Refused fault) loaded h = absurd h
 is_task None P texts (Read (Solve solve)) loaded h = tt
 is_task (Some shelf) P texts (Read (Solve solve)) loaded (parts, is, holds) = (parts, (texts, loaded, is), holds)
 is_task files P texts (Read (Check check)) loaded h = absurd h
 
-if_checked : (files : Option Files) (P : CheckMeaning → Parts → List ℕ → Type 0) (texts : List (List ℕ)) (reading : Reading) → AreLoaded files (files_of reading) texts
+if_checked : (files : Option Files) (P : CheckMeaning → TaskParts → List ℕ → Type 0) (texts : List (List ℕ)) (reading : Reading) → AreLoaded files (files_of reading) texts
     → IfCheck reading (λ check. OfCheckedTexts check texts (P check)) → IfCheck reading (λ check. OfChecked files check (P check))
 if_checked files P texts (Refused fault) loaded h = tt
 if_checked files P texts (Read (Solve solve)) loaded h = tt
 if_checked None P texts (Read (Check check)) loaded h = tt
 if_checked (Some shelf) P texts (Read (Check check)) loaded (parts, certificate, is, holds) = (parts, certificate, (texts, loaded, is), holds)
 
-is_checked : (files : Option Files) (P : CheckMeaning → Parts → List ℕ → Type 0) (texts : List (List ℕ)) (reading : Reading) → AreLoaded files (files_of reading) texts
+is_checked : (files : Option Files) (P : CheckMeaning → TaskParts → List ℕ → Type 0) (texts : List (List ℕ)) (reading : Reading) → AreLoaded files (files_of reading) texts
     → IsCheck reading (λ check. OfCheckedTexts check texts (P check)) → IsCheck reading (λ check. OfChecked files check (P check))
 is_checked files P texts (Refused fault) loaded h = absurd h
 is_checked files P texts (Read (Solve solve)) loaded h = absurd h
@@ -113,7 +113,7 @@ module _ (reading : Reading) (files new : Option Files) (old_text new_text : Opt
   saves_it : SavesTold files new said.saved → (saved : Option Saved) → Saves said saved → SavesTold files new saved
   saves_it saves saved is = subst (λ (s : Option Saved). SavesTold files new s) is saves
 
-  certifies_it : SavesTold files new said.saved → (name : Option (List ℕ)) (parts : Parts) (plan : Option Plan) → Certifies (Saves said) name parts plan → Certifies (SavesTold files new) name parts plan
+  certifies_it : SavesTold files new said.saved → (name : Option (List ℕ)) (parts : TaskParts) (plan : Option Plan) → Certifies (Saves said) name parts plan → Certifies (SavesTold files new) name parts plan
   certifies_it saves None parts plan is = saves_it saves None is
   certifies_it saves (Some name) parts plan (lines, valid, is) = (lines, valid, saves_it saves _ is)
 
@@ -233,7 +233,7 @@ module _ (reading : Reading) (files new : Option Files) (old_text new_text : Opt
       go (Some shelf) h = λ report refuses. inl (h report refuses)
 
   -- what is answered of the certificate that the files spell
-  of_check : (shelf : Files) (check : CheckMeaning) → files ≡ Some shelf → reading ≡ Read (Check check) → (parts : Parts) (certificate : List ℕ) → SpellChecked shelf check parts certificate
+  of_check : (shelf : Files) (check : CheckMeaning) → files ≡ Some shelf → reading ≡ Read (Check check) → (parts : TaskParts) (certificate : List ℕ) → SpellChecked shelf check parts certificate
       → IsChecked parts certificate said × IsOfVerdict (checked (space_of parts) (estimate_of parts) (kind_of parts) certificate) said.status
   of_check shelf check there asked parts certificate (texts, other, is) =
       let here : AnswersReading (Read (Check check)) answers.0 said = subst (λ (r : Reading). AnswersReading r answers.0 said) asked answers.2 in
@@ -353,7 +353,7 @@ module _ (reading : Reading) (files new : Option Files) (old_text new_text : Opt
       go (Read (Check check)) None asked there = λ well. absurd well
       go (Read (Check check)) (Some shelf) asked there = λ (parts, certificate, verdict, spell, valid). either parts certificate verdict valid (of_check shelf check there asked parts certificate spell).0
         where
-          either : (parts : Parts) (certificate : List ℕ) (verdict : Verdict) → IsAccepted (space_of parts) (estimate_of parts) (kind_of parts) certificate verdict → IsChecked parts certificate said
+          either : (parts : TaskParts) (certificate : List ℕ) (verdict : Verdict) → IsAccepted (space_of parts) (estimate_of parts) (kind_of parts) certificate verdict → IsChecked parts certificate said
               → (said.status ≡ 0) ⊎ (said.status ≡ 71)
           either parts certificate verdict valid (inl accepted_it) = inl accepted_it.0
           either parts certificate verdict valid (inr rejected_it) = absurd (rejected_it.2.3 verdict valid)
@@ -366,7 +366,7 @@ check_broken n (Read (Solve solve)) files broken = tt
 check_broken n (Read (Check check)) None broken = tt
 check_broken n (Read (Check check)) (Some shelf) broken = λ parts certificate spell. either (checked (space_of parts) (estimate_of parts) (kind_of parts) certificate)
   where
-    either : (v : Result Verdict Fault) → IsOfVerdict v n
+    either : (v : Result Verdict CertificateFault) → IsOfVerdict v n
     either (Ok verdict) = inr broken
     either (Err fault) = inr broken
 

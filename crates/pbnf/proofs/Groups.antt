@@ -6,8 +6,8 @@ use Rattle.std.proofs.lemmas.List.{length-map}
 use Rattle.std.specs.List.{AllByRecursion}
 use Rattle.pb_model.specs.Space.{Space, IsProper}
 use Rattle.pb_model.specs.Plan.{Plan, Walk, IsPlan, NoneCheaper}
-use Rattle.pb_task.specs.declared.parts.Parts.{Parts}
-use Rattle.pb_task.specs.declared.parts.Parts.TheVariants.{Grid, Tiles}
+use Rattle.pb_task.specs.declared.parts.TaskParts.{TaskParts}
+use Rattle.pb_task.specs.declared.parts.TaskParts.TheVariants.{Grid, Tiles}
 use Rattle.pb_task.specs.Grid.{direction}
 use Rattle.pb_task.specs.declared.parts.GridParts.{GridParts}
 use Rattle.pb_task.specs.declared.parts.TilesParts.{TilesParts}
@@ -69,7 +69,7 @@ directions_tell = record { different = names_differ; lines = no_feed }
     no_feed action = all (direction action) (name_free action)
 
 -- where the texts of a map and a scenario, or of a board, spell a task, its actions are named by their directions
-pub grid_names : (map_text scenario_text : Option (List ℕ)) (row : ℕ) (task : Parts) → grid_task map_text scenario_text row ≡ Ok task → NamesTell task
+pub grid_names : (map_text scenario_text : Option (List ℕ)) (row : ℕ) (task : TaskParts) → grid_task map_text scenario_text row ≡ Ok task → NamesTell task
 grid_names None scenario_text row task e = cc
 grid_names (Some map_text) None row task e = cc
 grid_names (Some map_text) (Some scenario_text) row task e = at (grid_reading map_text scenario_text row) e
@@ -84,7 +84,7 @@ grid_names (Some map_text) (Some scenario_text) row task e = at (grid_reading ma
         subst NamesTell is directions_tell
     at (Err error) f = none (input_text error) f
 
-pub tiles_names : (text : Option (List ℕ)) (task : Parts) → tiles_task text ≡ Ok task → NamesTell task
+pub tiles_names : (text : Option (List ℕ)) (task : TaskParts) → tiles_task text ≡ Ok task → NamesTell task
 tiles_names None task e = cc
 tiles_names (Some text) task e = at (tiles_reading text) e
   where
@@ -107,14 +107,14 @@ free_of (c ∷ cs) h = (other c (h 0 c (omega arith)), free_of cs (λ k d less. 
     other : (n : ℕ) → n ≢ 10 → (n == 10) ≡ false
     other n apart = by_cases (n == 10) (λ e. absurd (apart (equal n 10 e))) (λ e. e)
 
-names_free : (parts : Parts) → NamesTell parts → (actions : List ℕ) → AreFree 10 (map (action_name parts) actions)
+names_free : (parts : TaskParts) → NamesTell parts → (actions : List ℕ) → AreFree 10 (map (action_name parts) actions)
 names_free parts names [] = tt
 names_free parts names (action ∷ actions) = (free_of (action_name parts action) (names.lines action), names_free parts names actions)
 
 abbrev pub AreActions : Space → List ℕ → Type 0
 AreActions space actions = AllByRecursion (λ action. action < space.actions) actions
 
-same_actions : (parts : Parts) → NamesTell parts → (xs ys : List ℕ) → AreActions (space_of parts) xs → AreActions (space_of parts) ys
+same_actions : (parts : TaskParts) → NamesTell parts → (xs ys : List ℕ) → AreActions (space_of parts) xs → AreActions (space_of parts) ys
     → map (action_name parts) xs ≡ map (action_name parts) ys → xs ≡ ys
 same_actions parts names [] [] h k e = refl
 same_actions parts names [] (y ∷ ys) h k e = absurd (none (action_name parts y) (map (action_name parts) ys) e)
@@ -152,7 +152,7 @@ module _ (space : Space) (most : ℕ) (proper : IsProper space most) where
 
 -- ---- the plan that a report tells
 
-module _ (parts : Parts) (lawful : IsTask parts) (names : NamesTell parts) (report : List ℕ) (saves : Option Saved → Type 0) (name : Option (List ℕ))
+module _ (parts : TaskParts) (lawful : IsTask parts) (names : NamesTell parts) (report : List ℕ) (saves : Option Saved → Type 0) (name : Option (List ℕ))
     (solves : Solves (λ text. report ≡ text) saves name parts) where
   proper : IsProper (space_of parts) greatest_cost
   proper = (tasks_are_proper parts lawful).0
@@ -182,6 +182,6 @@ module _ (parts : Parts) (lawful : IsTask parts) (names : NamesTell parts) (repo
   saves_plan plan bound is small says = subst (λ (p : Plan). Certifies saves name parts (Some p)) (same_plan plan bound is small says) solves.6
 
 -- where a task is given only with telling names, what is returned has them
-pub given_names : (result : Result Parts NoTask) (given : Result Parts (List ℕ)) → GivesTask result given → ((task : Parts) → given ≡ Ok task → NamesTell task) → IfOk result NamesTell
+pub given_names : (result : Result TaskParts NoTask) (given : Result TaskParts (List ℕ)) → GivesTask result given → ((task : TaskParts) → given ≡ Ok task → NamesTell task) → IfOk result NamesTell
 given_names (Ok task) given is tell = tell task is
 given_names (Err error) given is tell = tt

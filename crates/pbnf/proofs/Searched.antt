@@ -2,7 +2,7 @@
 use Rattle.std.proofs.Common.{rules, ◌≡◌, true, false, None, Some, IsSome, refl, sym, ap, ◌∙◌, subst, arith}
 use Rattle.pb_model.specs.Weight.{Weight}
 use Rattle.pb_model.specs.Work.{Comes, opening_store}
-use Rattle.pb_task.specs.declared.parts.Parts.{Parts}
+use Rattle.pb_task.specs.declared.parts.TaskParts.{TaskParts}
 use Rattle.pb_task.specs.Parts.{greatest_cost}
 use Rattle.pb_machine.specs.declared.event.End.TheVariants.{Budget}
 use Rattle.pb_machine.specs.Settings.{weight_of}
@@ -21,7 +21,7 @@ use Rattle.pb_lease.specs.Choices.{is_out_in}
 use Rattle.pb_lease.proofs.GraphBasics.{setup_is}
 use Rattle.pb_workers.specs.Runs.{IsSameSearch, IsAnyMoment, RunsOn}
 use Rattle.pb_workers.specs.Ends.{IsBestEnd}
-use Rattle.pb_words.specs.Meaning.{SolveMeaning}
+use Rattle.pb_command.specs.Meaning.{SolveMeaning}
 use Rattle.pbnf.specs.Leases.{settings_of, IsOpening, IsBestOf, StopsAtBudget}
 
 -- an end stands, and the one worker has signed off
@@ -31,7 +31,7 @@ are_finished solve counts end off = record {
   signed_off = λ worker less. let first : worker ≡ 0 = omega (arith, less) in subst (λ k. counts.signed_off k ≡ true) (sym first) off;
 }
 
-module _ (parts : Parts) (graph : AbstractGraph) (solve : SolveMeaning) (old : GraphValue) (opening : IsOpening parts graph (settings_of solve) old) where
+module _ (parts : TaskParts) (graph : AbstractGraph) (solve : SolveMeaning) (old : GraphValue) (opening : IsOpening parts graph (settings_of solve) old) where
   abbrev setup : Setup
   setup = setup_of parts graph (settings_of solve) 0
 

@@ -3,11 +3,11 @@ use Rattle.std.specs.Prelude.{◌≡◌, ◌⊎◌, ℕ, Option, None, List, Res
 use Rattle.std.specs.Option.{option_map}
 use Rattle.pb_model.specs.Plan.{HasNoPlan}
 use Rattle.pb_model.specs.Texts.{none_report, stopped_report}
-use Rattle.pb_task.specs.declared.parts.Parts.{Parts}
+use Rattle.pb_task.specs.declared.parts.TaskParts.{TaskParts}
 use Rattle.pb_task.specs.Parts.{space_of}
 use Rattle.pb_cert.specs.Stated.{text_of}
-use Rattle.pb_words.specs.Meaning.{Reading, Refused, Read, Solve, Check, SolveMeaning, reading_of_words}
-use Rattle.pb_words.specs.Causes.{IsPrinted}
+use Rattle.pb_command.specs.Meaning.{Reading, Refused, Read, Solve, Check, SolveMeaning, reading_of_words}
+use Rattle.pb_command.specs.Causes.{IsPrinted}
 use Rattle.pb_outside.specs.Outside.{Files}
 use Rattle.pbnf.specs.Asked.{files_of}
 use Rattle.pbnf.specs.Loaded.{AreLoaded, solve_task, check_task}
@@ -40,25 +40,25 @@ Saves said saved = said.saved ≡ saved
 
 -- a cheapest plan is reported, with its certificate, if it is to be saved under a name; whatever plan is read off the report, it is the one
 -- that all this is said of
-abbrev pub IsSolved : (name : Option (List ℕ)) → Parts → Said → Type 0
+abbrev pub IsSolved : (name : Option (List ℕ)) → TaskParts → Said → Type 0
 IsSolved name parts said =
     (said.status ≡ 0) × Solves (Says said) (Saves said) name parts × PrintsLeastCost (Says said) parts × SavesPlan (Says said) (Saves said) name parts
 
 -- it is reported that there is no plan, with the certificate of that
-abbrev pub IsUnsolvable : (name : Option (List ℕ)) → Parts → Said → Type 0
+abbrev pub IsUnsolvable : (name : Option (List ℕ)) → TaskParts → Said → Type 0
 IsUnsolvable name parts said = (said.status ≡ 1) × Says said none_report × HasNoPlan (space_of parts) × Certifies (Saves said) name parts None
 
 -- the search that the words ask for used up its budget of expansions, and there is no certificate
-abbrev pub IsStopped : SolveMeaning → Parts → Said → Type 0
+abbrev pub IsStopped : SolveMeaning → TaskParts → Said → Type 0
 IsStopped solve parts said =
     (said.status ≡ 2) × Says said (stopped_report solve.budget) × Saves said None × StopsAtBudget parts (settings_of solve)
 
-abbrev pub IsFound : SolveMeaning → Parts → Said → Type 0
+abbrev pub IsFound : SolveMeaning → TaskParts → Said → Type 0
 IsFound solve parts said = IsSolved solve.certificate parts said ⊎ (IsUnsolvable solve.certificate parts said ⊎ IsStopped solve parts said)
 
 -- ---- of a certificate that is to be checked
 
-abbrev pub IsChecked : Parts → (certificate : List ℕ) → Said → Type 0
+abbrev pub IsChecked : TaskParts → (certificate : List ℕ) → Said → Type 0
 IsChecked parts certificate said =
     ((said.status ≡ 0) × (said.saved ≡ None) × Accepts (Says said) parts certificate) ⊎ ((said.status ≡ 3) × (said.saved ≡ None) × Rejects (Says said) parts certificate)
 

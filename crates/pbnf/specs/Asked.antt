@@ -1,7 +1,7 @@
 -- What a command line asks for, and which files it names. A further kind of task is one case more of `input_files`.
 use Rattle.std.specs.Prelude.{ℕ, List, [], ◌∷◌, Option, None, ⊤}
-use Rattle.pb_words.specs.Values.{InputNames, Grid, Tiles, Strips}
-use Rattle.pb_words.specs.Meaning.{Reading, Refused, Read, Solve, Check, SolveMeaning, CheckMeaning}
+use Rattle.pb_command.specs.Values.{InputNames, Grid, Tiles, Strips}
+use Rattle.pb_command.specs.Meaning.{Reading, Refused, Read, Solve, Check, SolveMeaning, CheckMeaning}
 
 -- how many bytes an input file may have: 16 MiB
 abbrev pub longest_input : ℕ

@@ -3,10 +3,10 @@ use Rattle.std.specs.Prelude.{◌≡◌, ℕ, ◌^◌, ◌<◌, Option, None, So
 use Rattle.pb_model.specs.Plan.{Plan, IsPlan, NoneCheaper, IsBound}
 use Rattle.pb_model.specs.Certificate.{Line, Certificate, IsValid}
 use Rattle.pb_model.specs.Texts.{plan_report, head_1, certificate_text}
-use Rattle.pb_task.specs.declared.parts.Parts.{Parts}
+use Rattle.pb_task.specs.declared.parts.TaskParts.{TaskParts}
 use Rattle.pb_task.specs.Parts.{space_of}
 use Rattle.pb_estimate.specs.Estimates.{estimate_of}
-use Rattle.pb_check.specs.declared.fault.Fault.{Fault}
+use Rattle.pb_check.specs.declared.fault.CertificateFault.{CertificateFault}
 use Rattle.pb_check.specs.declared.fault.Verdict.{Verdict}
 use Rattle.pb_check.specs.Judging.{checked}
 use Rattle.pb_check.specs.Kinds.{kind_of, kind_name}
@@ -26,7 +26,7 @@ certificate_of plan lines = record { weight = unweighted; plan = plan; lines = l
 
 -- What is saved under the name is the text of a certificate of the task that is valid and has this plan, or none; without a name nothing
 -- is saved.
-abbrev pub Certifies : (saves : Option Saved → Type 0) → (name : Option (List ℕ)) → Parts → Option Plan → Type 0
+abbrev pub Certifies : (saves : Option Saved → Type 0) → (name : Option (List ℕ)) → TaskParts → Option Plan → Type 0
 Certifies saves None parts plan = saves None
 Certifies saves (Some name) parts plan =
     (lines : List Line) × IsValid (space_of parts) (estimate_of parts) (certificate_of plan lines)
@@ -34,23 +34,23 @@ Certifies saves (Some name) parts plan =
 
 -- All of one plan: it is printed with its cost and bound and is a plan of the task, no plan costs less, and the saved certificate has it. Its
 -- cost is a number of 64 bits.
-abbrev pub Solves : (says : List ℕ → Type 0) → (saves : Option Saved → Type 0) → (name : Option (List ℕ)) → Parts → Type 0
+abbrev pub Solves : (says : List ℕ → Type 0) → (saves : Option Saved → Type 0) → (name : Option (List ℕ)) → TaskParts → Type 0
 Solves says saves name parts =
     (plan : Plan) × (bound : ℕ) × says (plan_text parts plan bound) × IsPlan (space_of parts) plan × IsBound unweighted plan.cost bound
     × NoneCheaper (space_of parts) unweighted plan.cost × Certifies saves name parts (Some plan) × (plan.cost < 2 ^ 64)
 
 -- A plan of the task is printed, with its cost and bound.
-abbrev pub PrintsPlan : (says : List ℕ → Type 0) → Parts → Type 0
+abbrev pub PrintsPlan : (says : List ℕ → Type 0) → TaskParts → Type 0
 PrintsPlan says parts =
     (plan : Plan) × (bound : ℕ) × says (plan_text parts plan bound) × IsPlan (space_of parts) plan × IsBound unweighted plan.cost bound
 
 -- No plan costs less than the cost that is printed.
-abbrev pub PrintsLeastCost : (says : List ℕ → Type 0) → Parts → Type 0
+abbrev pub PrintsLeastCost : (says : List ℕ → Type 0) → TaskParts → Type 0
 PrintsLeastCost says parts =
     (steps : List (List ℕ)) (cost bound : ℕ) → cost < 2 ^ 64 → says (plan_report steps cost bound) → NoneCheaper (space_of parts) unweighted cost
 
 -- The saved certificate is valid, and its plan is the one that is printed.
-abbrev pub SavesPlan : (says : List ℕ → Type 0) → (saves : Option Saved → Type 0) → (name : Option (List ℕ)) → Parts → Type 0
+abbrev pub SavesPlan : (says : List ℕ → Type 0) → (saves : Option Saved → Type 0) → (name : Option (List ℕ)) → TaskParts → Type 0
 SavesPlan says saves name parts =
     (plan : Plan) (bound : ℕ) → IsPlan (space_of parts) plan → plan.cost < 2 ^ 64 → says (plan_text parts plan bound) → Certifies saves name parts (Some plan)
 
@@ -58,14 +58,14 @@ SavesPlan says saves name parts =
 
 -- The text is that of a valid certificate of the task, its verdict is printed, and what the certificate claims is true of the task: every
 -- plan of a cost f has num * f >= den * C, where C is the certificate's cost and num / den its weight, or there is none.
-abbrev pub Accepts : (says : List ℕ → Type 0) → Parts → (certificate : List ℕ) → Type 0
+abbrev pub Accepts : (says : List ℕ → Type 0) → TaskParts → (certificate : List ℕ) → Type 0
 Accepts says parts certificate =
     (verdict : Verdict) × says (verdict_text verdict) × (checked (space_of parts) (estimate_of parts) (kind_of parts) certificate ≡ Ok verdict)
     × IsAccepted (space_of parts) (estimate_of parts) (kind_of parts) certificate verdict × ShowsClaim (space_of parts) (kind_of parts) certificate verdict
     × VerdictHolds (space_of parts) verdict
 
 -- The text is that of no valid certificate of the task, and its first fault is printed.
-abbrev pub Rejects : (says : List ℕ → Type 0) → Parts → (certificate : List ℕ) → Type 0
+abbrev pub Rejects : (says : List ℕ → Type 0) → TaskParts → (certificate : List ℕ) → Type 0
 Rejects says parts certificate =
-    (fault : Fault) × says (fault_text fault) × (checked (space_of parts) (estimate_of parts) (kind_of parts) certificate ≡ Err fault)
+    (fault : CertificateFault) × says (fault_text fault) × (checked (space_of parts) (estimate_of parts) (kind_of parts) certificate ≡ Err fault)
     × ((verdict : Verdict) → IsAccepted (space_of parts) (estimate_of parts) (kind_of parts) certificate verdict → ⊥)

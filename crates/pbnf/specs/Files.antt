@@ -1,6 +1,6 @@
 -- What the parts of the program that load files and read their texts give.
 use Rattle.std.specs.Prelude.{◌≡◌, ℕ, ◌<◌, ◌≤◌, Option, None, Some, IfSome, List, length, Result, Ok, Err, ⊤}
-use Rattle.pb_task.specs.declared.parts.Parts.{Parts}
+use Rattle.pb_task.specs.declared.parts.TaskParts.{TaskParts}
 use Rattle.pb_outside.specs.Outside.{Files}
 use Rattle.pbnf.specs.Asked.{Wanted, wanted}
 use Rattle.pbnf.specs.declared.files.Wanted.{Wanted as WantedFile}
@@ -16,11 +16,11 @@ LoadsText files file None = IfSome files (λ told. (text : List ℕ) × (told fi
 LoadsText files file (Some text) = (length text ≤ file.most) × IfSome files (λ told. told file.name ≡ Some text)
 
 -- the refusal is this one, unless memory ran out
-abbrev pub IsRefusal : NoTask → Result Parts (List ℕ) → Type 0
+abbrev pub IsRefusal : NoTask → Result TaskParts (List ℕ) → Type 0
 IsRefusal (Refused report) given = given ≡ Err report
 IsRefusal Memory given = ⊤
 
 -- what was returned is what is given, unless memory ran out
-abbrev pub GivesTask : Result Parts NoTask → (given : Result Parts (List ℕ)) → Type 0
+abbrev pub GivesTask : Result TaskParts NoTask → (given : Result TaskParts (List ℕ)) → Type 0
 GivesTask (Ok parts) given = given ≡ Ok parts
 GivesTask (Err e) given = IsRefusal e given

@@ -11,7 +11,7 @@ use Rattle.pb_machine.specs.History.{AreFinished}
 use Rattle.pb_machine.specs.Machine.{Machine, Move, Runs, opening_machine}
 use Rattle.pb_machine.specs.Turns.{RunsInOrder}
 use Rattle.pb_machine.specs.Lawful.{IsLawful}
-use Rattle.pb_task.specs.declared.parts.Parts.{Parts}
+use Rattle.pb_task.specs.declared.parts.TaskParts.{TaskParts}
 use Rattle.pb_task.specs.Parts.{space_of}
 use Rattle.pb_abstract.specs.Projection.{IsFinest}
 use Rattle.pb_abstract.specs.Graph.{AbstractGraph, IsGraphOf}
@@ -20,7 +20,7 @@ use Rattle.pb_lease.specs.GraphValue.{GraphValue, setup_in, counts_in}
 use Rattle.pb_lease.specs.Choices.{is_out_in}
 use Rattle.pb_lease.specs.Moments.{IsMoment}
 use Rattle.pb_workers.specs.Ends.{IsBestEnd}
-use Rattle.pb_words.specs.Meaning.{SolveMeaning}
+use Rattle.pb_command.specs.Meaning.{SolveMeaning}
 
 -- the weight 1
 abbrev pub unweighted : Weight
@@ -31,7 +31,7 @@ abbrev pub settings_of : SolveMeaning → Settings
 settings_of solve = record { workers = 1; num = 1; den = 1; budget = solve.budget; lot = solve.lot; wish = solve.blocks; plain = false }
 
 -- the graph is that of a search of this task by this abstract graph, with these settings, that begins: the start alone has a row
-pub record IsOpening (parts : Parts) (abstraction : AbstractGraph) (settings : Settings) (graph : GraphValue) : Type 0 where
+pub record IsOpening (parts : TaskParts) (abstraction : AbstractGraph) (settings : Settings) (graph : GraphValue) : Type 0 where
   pub task : graph.task ≡ parts
   pub graph_is : graph.table.graph ≡ abstraction
   pub settings_are : graph.table.settings ≡ settings
@@ -40,7 +40,7 @@ pub record IsOpening (parts : Parts) (abstraction : AbstractGraph) (settings : S
 
 -- A search of this task at weight 1 came to a quiet end with this graph, all of whose rows are at home: they are a sound store without an Opened
 -- row. The incumbent is shown by a goal's row, some plan costs no more, and no plan costs less; without an incumbent there is no plan.
-pub record IsBestOf (parts : Parts) (graph : GraphValue) : Type 0 where
+pub record IsBestOf (parts : TaskParts) (graph : GraphValue) : Type 0 where
   pub task : graph.task ≡ parts
   pub weight : weight_of graph.table.settings ≡ unweighted
   pub home : IsFalse (is_out_in graph)
@@ -50,7 +50,7 @@ pub record IsBestOf (parts : Parts) (graph : GraphValue) : Type 0 where
 -- more blocks than are wished for, a run leads from the machine that has the start's row alone to a lawful one, whose end is that, and where
 -- every worker has signed off. With one worker the run is in order. So exactly as many expansions as the budget allows, none of them broken off,
 -- lead from the start's row alone to its rows, of which one is Opened.
-pub record StopsAtBudget (parts : Parts) (settings : Settings) : Type 0 where
+pub record StopsAtBudget (parts : TaskParts) (settings : Settings) : Type 0 where
   pub graph : AbstractGraph
   pub graph_of : IsGraphOf parts graph
   pub finest : IsFinest parts settings.wish graph.projection

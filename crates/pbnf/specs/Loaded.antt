@@ -2,23 +2,23 @@
 -- in `input_task`.
 use Rattle.std.specs.Prelude.{◌≡◌, ℕ, ◌+◌, Option, None, Some, IfSome, List, [], ◌∷◌, length, Result, Ok, Err, codes, if◌then◌else◌, nat_le, slice_get, option_map}
 use Rattle.pb_model.specs.Texts.{line}
-use Rattle.pb_task.specs.declared.parts.Parts.{Parts}
-use Rattle.pb_task.specs.declared.parts.Parts.TheVariants as parts
+use Rattle.pb_task.specs.declared.parts.TaskParts.{TaskParts}
+use Rattle.pb_task.specs.declared.parts.TaskParts.TheVariants as parts
 use Rattle.pb_task.specs.declared.parts.TilesParts.{TilesParts}
 use Rattle.pb_grid.specs.declared.error.GridError.{GridError}
 use Rattle.pb_grid.specs.Reading.{grid_reading, task_of}
 use Rattle.pb_tiles.specs.declared.error.TilesError.{TilesError}
 use Rattle.pb_tiles.specs.Reading.{tiles_reading}
-use Rattle.pb_trees.specs.declared.error.SyntaxError.{SyntaxError}
-use Rattle.pb_trees.specs.declared.tree.Domain.{Domain}
-use Rattle.pb_trees.specs.declared.tree.Problem.{Problem}
-use Rattle.pb_trees.specs.Readings.{domain_reading, problem_reading}
+use Rattle.pb_pddl.specs.declared.error.SyntaxError.{SyntaxError}
+use Rattle.pb_pddl.specs.declared.tree.Domain.{Domain}
+use Rattle.pb_pddl.specs.declared.tree.Problem.{Problem}
+use Rattle.pb_pddl.specs.Readings.{domain_reading, problem_reading}
 use Rattle.pb_strips.specs.declared.error.StripsError.{StripsError}
 use Rattle.pb_strips.specs.Grounding.{strips_of}
 use Rattle.pb_strips.specs.Refusals.{first_fault}
 use Rattle.pb_report.specs.Texts.{input_text, tiles_text, syntax_text, strips_text}
-use Rattle.pb_words.specs.Values.{InputNames, Grid, Tiles, Strips}
-use Rattle.pb_words.specs.Meaning.{Reading, Refused, Read, Solve, Check, SolveMeaning, CheckMeaning}
+use Rattle.pb_command.specs.Values.{InputNames, Grid, Tiles, Strips}
+use Rattle.pb_command.specs.Meaning.{Reading, Refused, Read, Solve, Check, SolveMeaning, CheckMeaning}
 use Rattle.pb_outside.specs.Outside.{Files}
 use Rattle.pbnf.specs.Asked.{Wanted, files_of}
 
@@ -45,80 +45,80 @@ abbrev pub too_long : List ℕ
 too_long = line (codes "input TooLong")
 
 -- want of memory has no text, and no reading of texts is that
-abbrev pub refused_with : Option (List ℕ) → Result Parts (List ℕ)
+abbrev pub refused_with : Option (List ℕ) → Result TaskParts (List ℕ)
 refused_with None = Err []
 refused_with (Some report) = Err report
 
-abbrev pub grid_told : Result Parts GridError → Result Parts (List ℕ)
+abbrev pub grid_told : Result TaskParts GridError → Result TaskParts (List ℕ)
 grid_told (Ok task) = Ok task
 grid_told (Err error) = refused_with (input_text error)
 
-abbrev pub grid_task : (map_text scenario_text : Option (List ℕ)) → (row : ℕ) → Result Parts (List ℕ)
+abbrev pub grid_task : (map_text scenario_text : Option (List ℕ)) → (row : ℕ) → Result TaskParts (List ℕ)
 grid_task None scenario_text row = Err too_long
 grid_task (Some map_text) None row = Err too_long
 grid_task (Some map_text) (Some scenario_text) row = grid_told (task_of (grid_reading map_text scenario_text row))
 
-abbrev pub tiles_told : Result TilesParts TilesError → Result Parts (List ℕ)
+abbrev pub tiles_told : Result TilesParts TilesError → Result TaskParts (List ℕ)
 tiles_told (Ok tiles) = Ok (parts.Tiles tiles)
 tiles_told (Err error) = refused_with (tiles_text error)
 
-abbrev pub tiles_task : (text : Option (List ℕ)) → Result Parts (List ℕ)
+abbrev pub tiles_task : (text : Option (List ℕ)) → Result TaskParts (List ℕ)
 tiles_task None = Err too_long
 tiles_task (Some text) = tiles_told (tiles_reading text)
 
-abbrev pub strips_told : Domain → Problem → Option StripsError → Result Parts (List ℕ)
+abbrev pub strips_told : Domain → Problem → Option StripsError → Result TaskParts (List ℕ)
 strips_told domain problem None = Ok (parts.Strips (strips_of domain problem))
 strips_told domain problem (Some error) = refused_with (strips_text error)
 
-abbrev pub problem_told : Domain → Result Problem SyntaxError → Result Parts (List ℕ)
+abbrev pub problem_told : Domain → Result Problem SyntaxError → Result TaskParts (List ℕ)
 problem_told domain (Ok problem) = strips_told domain problem (first_fault domain problem)
 problem_told domain (Err error) = refused_with (syntax_text 2 error)
 
 -- the domain is read first, then the problem, and then both are grounded
-abbrev pub domain_told : Result Domain SyntaxError → (problem : Result Problem SyntaxError) → Result Parts (List ℕ)
+abbrev pub domain_told : Result Domain SyntaxError → (problem : Result Problem SyntaxError) → Result TaskParts (List ℕ)
 domain_told (Ok domain) problem = problem_told domain problem
 domain_told (Err error) problem = refused_with (syntax_text 1 error)
 
-abbrev pub strips_task : (domain_text problem_text : Option (List ℕ)) → Result Parts (List ℕ)
+abbrev pub strips_task : (domain_text problem_text : Option (List ℕ)) → Result TaskParts (List ℕ)
 strips_task None problem_text = Err too_long
 strips_task (Some domain_text) None = Err too_long
 strips_task (Some domain_text) (Some problem_text) = domain_told (domain_reading domain_text) (problem_reading problem_text)
 
 -- the task of the texts from this place on
-abbrev pub input_task : InputNames → (row first : ℕ) → (texts : List (List ℕ)) → Result Parts (List ℕ)
+abbrev pub input_task : InputNames → (row first : ℕ) → (texts : List (List ℕ)) → Result TaskParts (List ℕ)
 input_task (Grid names) row first texts = grid_task (slice_get texts first) (slice_get texts (first + 1)) row
 input_task (Tiles board) row first texts = tiles_task (slice_get texts first)
 input_task (Strips names) row first texts = strips_task (slice_get texts first) (slice_get texts (first + 1))
 
 -- the task that is to be solved
-abbrev pub solve_task : SolveMeaning → (texts : List (List ℕ)) → Result Parts (List ℕ)
+abbrev pub solve_task : SolveMeaning → (texts : List (List ℕ)) → Result TaskParts (List ℕ)
 solve_task solve texts = input_task solve.input solve.row 0 texts
 
-abbrev pub with_certificate : Option (List ℕ) → Result Parts (List ℕ) → Result (Parts × List ℕ) (List ℕ)
+abbrev pub with_certificate : Option (List ℕ) → Result TaskParts (List ℕ) → Result (TaskParts × List ℕ) (List ℕ)
 with_certificate None task = Err too_long
 with_certificate (Some certificate) (Ok parts) = Ok (parts, certificate)
 with_certificate (Some certificate) (Err report) = Err report
 
 -- the task that a certificate is to be checked for, and the certificate's text
-abbrev pub check_task : CheckMeaning → (texts : List (List ℕ)) → Result (Parts × List ℕ) (List ℕ)
+abbrev pub check_task : CheckMeaning → (texts : List (List ℕ)) → Result (TaskParts × List ℕ) (List ℕ)
 check_task check texts = with_certificate (slice_get texts 0) (input_task check.input check.row 1 texts)
 
 -- the texts spell a task to solve, and P holds of it
-abbrev pub OfTexts : SolveMeaning → (texts : List (List ℕ)) → (P : Parts → Type 0) → Type 0
-OfTexts solve texts P = (parts : Parts) × (solve_task solve texts ≡ Ok parts) × P parts
+abbrev pub OfTexts : SolveMeaning → (texts : List (List ℕ)) → (P : TaskParts → Type 0) → Type 0
+OfTexts solve texts P = (parts : TaskParts) × (solve_task solve texts ≡ Ok parts) × P parts
 
 -- the texts spell a task with a certificate to check, and P holds of both
-abbrev pub OfCheckedTexts : CheckMeaning → (texts : List (List ℕ)) → (P : Parts → List ℕ → Type 0) → Type 0
-OfCheckedTexts check texts P = (parts : Parts) × (certificate : List ℕ) × (check_task check texts ≡ Ok (parts, certificate)) × P parts certificate
+abbrev pub OfCheckedTexts : CheckMeaning → (texts : List (List ℕ)) → (P : TaskParts → List ℕ → Type 0) → Type 0
+OfCheckedTexts check texts P = (parts : TaskParts) × (certificate : List ℕ) × (check_task check texts ≡ Ok (parts, certificate)) × P parts certificate
 
 -- ---- of the files that a shelf tells
 
 -- the files spell the task that is to be solved
-abbrev pub SpellTask : Files → SolveMeaning → Parts → Type 0
+abbrev pub SpellTask : Files → SolveMeaning → TaskParts → Type 0
 SpellTask told solve parts = (texts : List (List ℕ)) × (loads_of told (files_of (Read (Solve solve))) ≡ Some texts) × (solve_task solve texts ≡ Ok parts)
 
 -- the files spell the task, and the one that is to be checked is this certificate
-abbrev pub SpellChecked : Files → CheckMeaning → Parts → (certificate : List ℕ) → Type 0
+abbrev pub SpellChecked : Files → CheckMeaning → TaskParts → (certificate : List ℕ) → Type 0
 SpellChecked told check parts certificate =
     (texts : List (List ℕ)) × (loads_of told (files_of (Read (Check check))) ≡ Some texts) × (check_task check texts ≡ Ok (parts, certificate))
 
@@ -138,9 +138,9 @@ RefusesFiles reading told report = (texts : List (List ℕ)) × (loads_of told (
 -- ---- where the shelf tells its files, P holds
 
 -- of the task that the files spell
-abbrev pub OfTask : Option Files → SolveMeaning → (P : Parts → Type 0) → Type 0
-OfTask files solve P = IfSome files (λ told. (parts : Parts) × SpellTask told solve parts × P parts)
+abbrev pub OfTask : Option Files → SolveMeaning → (P : TaskParts → Type 0) → Type 0
+OfTask files solve P = IfSome files (λ told. (parts : TaskParts) × SpellTask told solve parts × P parts)
 
 -- of the task that the files spell and the certificate that is to be checked
-abbrev pub OfChecked : Option Files → CheckMeaning → (P : Parts → List ℕ → Type 0) → Type 0
-OfChecked files check P = IfSome files (λ told. (parts : Parts) × (certificate : List ℕ) × SpellChecked told check parts certificate × P parts certificate)
+abbrev pub OfChecked : Option Files → CheckMeaning → (P : TaskParts → List ℕ → Type 0) → Type 0
+OfChecked files check P = IfSome files (λ told. (parts : TaskParts) × (certificate : List ℕ) × SpellChecked told check parts certificate × P parts certificate)

@@ -2,11 +2,11 @@
 -- of the domain's with objects. Neither ground atoms nor bits occur in these claims.
 use Rattle.std.specs.Prelude.{◌≡◌, ℕ, ◌+◌, ◌≤◌, ⊤, Option, None, Some, IfSome, List, length, map, slice_get, Ok}
 use Rattle.pb_model.specs.Texts.{plan_report}
-use Rattle.pb_task.specs.declared.parts.Parts.{Parts}
+use Rattle.pb_task.specs.declared.parts.TaskParts.{TaskParts}
 use Rattle.pb_task.specs.Parts.{space_of, action_name}
-use Rattle.pb_trees.specs.declared.tree.Domain.{Domain}
-use Rattle.pb_trees.specs.declared.tree.Problem.{Problem}
-use Rattle.pb_trees.specs.Readings.{domain_reading, problem_reading}
+use Rattle.pb_pddl.specs.declared.tree.Domain.{Domain}
+use Rattle.pb_pddl.specs.declared.tree.Problem.{Problem}
+use Rattle.pb_pddl.specs.Readings.{domain_reading, problem_reading}
 use Rattle.pb_lifted.specs.Plans.{NamedAction, IsPlan}
 use Rattle.pb_strips.specs.Names.{action_bytes}
 use Rattle.pb_naming.specs.Names.{AreTellingNames}
@@ -14,14 +14,14 @@ use Rattle.pb_check.specs.declared.fault.Verdict.{Verdict}
 use Rattle.pb_check.specs.declared.fault.Verdict.TheVariants.{Bounded, Unsolvable}
 use Rattle.pb_report.specs.Texts.{verdict_text}
 use Rattle.pb_outside.specs.Outside.{Files}
-use Rattle.pb_words.specs.Values.{InputNames, Grid, Tiles, Strips}
+use Rattle.pb_command.specs.Values.{InputNames, Grid, Tiles, Strips}
 use Rattle.pbnf.specs.Asked.{Wanted}
 use Rattle.pbnf.specs.Loaded.{loads_of}
 
 -- ---- what a plan's text tells
 
 -- the names of a task's actions tell them apart, each in one line
-abbrev pub NamesTell : Parts → Type 0
+abbrev pub NamesTell : TaskParts → Type 0
 NamesTell parts = AreTellingNames (space_of parts).actions (action_name parts)
 
 -- ---- the trees

@@ -1,17 +1,17 @@
 -- What the contract of `run` says of the outside: what was printed and saved, and why.
 use Rattle.std.specs.Prelude.{◌≡◌, ◌≢◌, ℕ, ◌-◌, ◌^◌, ◌<◌, ◌⊎◌, Option, None, Some, IfSome, List, Result, Ok, Err}
 use Rattle.pb_model.specs.Plan.{Plan}
-use Rattle.pb_task.specs.declared.parts.Parts.{Parts}
+use Rattle.pb_task.specs.declared.parts.TaskParts.{TaskParts}
 use Rattle.pb_task.specs.Parts.{space_of}
 use Rattle.pb_estimate.specs.Estimates.{estimate_of}
-use Rattle.pb_check.specs.declared.fault.Fault.{Fault}
+use Rattle.pb_check.specs.declared.fault.CertificateFault.{CertificateFault}
 use Rattle.pb_check.specs.declared.fault.Verdict.{Verdict}
 use Rattle.pb_check.specs.Judging.{checked}
 use Rattle.pb_check.specs.Kinds.{kind_of}
 use Rattle.pb_check.specs.Shown.{IsAccepted}
-use Rattle.pb_words.specs.declared.refusal.Fault.{Fault as WordsFault}
-use Rattle.pb_words.specs.Meaning.{Reading, Refused, SolveMeaning, CheckMeaning}
-use Rattle.pb_words.specs.Causes.{IsPrinted}
+use Rattle.pb_command.specs.declared.refusal.CommandFault.{CommandFault as WordsFault}
+use Rattle.pb_command.specs.Meaning.{Reading, Refused, SolveMeaning, CheckMeaning}
+use Rattle.pb_command.specs.Causes.{IsPrinted}
 use Rattle.pb_outside.specs.Outside.{Files, IfTold, Appends, AppendsPart, KeepsAll, KeepsOthers}
 use Rattle.pb_cert.specs.Saved.{IsPartSaved}
 use Rattle.pbnf.specs.Asked.{saved_name, IsSolve}
@@ -61,7 +61,7 @@ KeepsUnnamed reading before after = (other : List ℕ) → saved_name reading �
 -- files stay
 abbrev pub SavesPart : Reading → Files → Files → Type 0
 SavesPart reading before after =
-    IsSolve reading (λ solve. (parts : Parts) × (plan : Option Plan) × (name : List ℕ) × (text : List ℕ) × SpellTask before solve parts × (solve.certificate ≡ Some name)
+    IsSolve reading (λ solve. (parts : TaskParts) × (plan : Option Plan) × (name : List ℕ) × (text : List ℕ) × SpellTask before solve parts × (solve.certificate ≡ Some name)
     × Certifies (λ saved. saved ≡ Some (name, text)) (Some name) parts plan × IsPartSaved before after name text × KeepsOthers before after name)
 
 -- ---- the statuses
@@ -86,14 +86,14 @@ abbrev pub RefusesInput : Reading → Option Files → (says : List ℕ → Type
 RefusesInput reading files says = IfSome files (λ told. (report : List ℕ) × RefusesFiles reading told report × says report)
 
 -- the status of a verdict is 0, and that of a fault is 3
-abbrev pub IsOfVerdict : Result Verdict Fault → (status : ℕ) → Type 0
+abbrev pub IsOfVerdict : Result Verdict CertificateFault → (status : ℕ) → Type 0
 IsOfVerdict (Ok verdict) status = (status ≡ 0) ⊎ IsBroken status
 IsOfVerdict (Err fault) status = (status ≡ 3) ⊎ IsBroken status
 
 -- what is answered of a certificate is determined by its text and the task
 abbrev pub DecidesCheck : CheckMeaning → Files → (status : ℕ) → Type 0
 DecidesCheck check told status =
-    (parts : Parts) (certificate : List ℕ) → SpellChecked told check parts certificate
+    (parts : TaskParts) (certificate : List ℕ) → SpellChecked told check parts certificate
     → IsOfVerdict (checked (space_of parts) (estimate_of parts) (kind_of parts) certificate) status
 
 -- A first part was printed of the report that is due, and what was to be saved is whole.
@@ -110,11 +110,11 @@ HasNoFault before now = (now ≡ before) × (before < 2 ^ 64 - 1)
 -- the shelf tells that its files spell the task that is to be solved
 abbrev pub IsWellAsked : SolveMeaning → Option Files → Type 0
 IsWellAsked solve None = ⊥
-IsWellAsked solve (Some told) = (parts : Parts) × SpellTask told solve parts
+IsWellAsked solve (Some told) = (parts : TaskParts) × SpellTask told solve parts
 
 -- the shelf tells that its files spell a task and a valid certificate of it
 abbrev pub IsWellChecked : CheckMeaning → Option Files → Type 0
 IsWellChecked check None = ⊥
 IsWellChecked check (Some told) =
-    (parts : Parts) × (certificate : List ℕ) × (verdict : Verdict) × SpellChecked told check parts certificate
+    (parts : TaskParts) × (certificate : List ℕ) × (verdict : Verdict) × SpellChecked told check parts certificate
     × IsAccepted (space_of parts) (estimate_of parts) (kind_of parts) certificate verdict

@@ -2,8 +2,8 @@ ghost use Rattle.std.specs.Prelude.{◌≡◌, IfOk, None, map, string_bytes};
 ghost use Rattle.pb_model.specs.Plan.{HasNoPlan};
 ghost use Rattle.pb_model.specs.Texts.{none_report, stopped_report};
 ghost use Rattle.pb_task.specs.Parts.{space_of};
-ghost use Rattle.pb_words.specs.Meaning.{reading_of_words, IsInRange, Solve};
-ghost use Rattle.pb_words.specs.Causes.{IsPrinted, solve_meant, check_meant};
+ghost use Rattle.pb_command.specs.Meaning.{reading_of_words, IsInRange, Solve};
+ghost use Rattle.pb_command.specs.Causes.{IsPrinted, solve_meant, check_meant};
 ghost use Rattle.pbnf.specs.Asked.{IsSolve, IfSolve, IfCheck, IsCheck};
 ghost use Rattle.pbnf.specs.Loaded.{solve_task, check_task, OfTexts, OfCheckedTexts};
 ghost use Rattle.pbnf.specs.Leases.{settings_of, StopsAtBudget};
@@ -16,9 +16,9 @@ use crate::input::{NoTask, input_task};
 use crate::searching::solution;
 use crate::texts::Texts;
 use pb_cert::Certificate;
+use pb_command::{CheckCommand, CommandLine, CommandRefusal, Message, SolveCommand, read_words};
 use pb_outside::Gate;
 use pb_report::Report;
-use pb_words::{CheckCommand, CommandLine, Message, Refusal, SolveCommand, read_words};
 use std::alloc::{AllocError, Global};
 
 /// A certificate that is to be saved.
@@ -110,8 +110,8 @@ fn answered<'a, G: Gate>(
     match read_words(alloc, words) {
         Ok(CommandLine::Solve(solve)) => answer_solve(alloc, solve, texts, gate),
         Ok(CommandLine::Check(check)) => answer_check(alloc, check, texts),
-        Err(Refusal::Words(_, message)) => faulty(alloc, &message),
-        Err(Refusal::Memory) => Err(AllocError),
+        Err(CommandRefusal::Words(_, message)) => faulty(alloc, &message),
+        Err(CommandRefusal::Memory) => Err(AllocError),
     }
 }
 

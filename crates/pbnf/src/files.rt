@@ -1,10 +1,10 @@
 ghost use Rattle.std.specs.Prelude.{◌≡◌, ◌++◌, ◌∷◌, [], IfOk, OnOk, OnErr, map, string_bytes};
-ghost use Rattle.pb_words.specs.Meaning.{reading_of_words};
-ghost use Rattle.pb_words.specs.Causes.{input_meant};
+ghost use Rattle.pb_command.specs.Meaning.{reading_of_words};
+ghost use Rattle.pb_command.specs.Causes.{input_meant};
 ghost use Rattle.pbnf.specs.Asked.{wanted, input_files, files_of, longest_input, longest_certificate};
 ghost use Rattle.pbnf.specs.Files.{wanted_of};
 
-use pb_words::{CommandLine, Input, Refusal, read_words};
+use pb_command::{CommandLine, CommandRefusal, Input, read_words};
 use std::alloc::{AllocError, Global};
 
 // How many bytes an input file may have.
@@ -58,8 +58,8 @@ pub fn files_of<'a>(alloc: Global, words: &'a [String]) -> Result<Vec<Wanted<'a>
             push_file(&mut files, check.certificate, LONGEST_CERTIFICATE)?;
             push_input(&mut files, check.input)?;
         }
-        Err(Refusal::Words(_, _)) => {}
-        Err(Refusal::Memory) => return Err(AllocError),
+        Err(CommandRefusal::Words(_, _)) => {}
+        Err(CommandRefusal::Memory) => return Err(AllocError),
     }
     Ok(files)
 }

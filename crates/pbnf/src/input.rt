@@ -1,7 +1,7 @@
 ghost use Rattle.std.specs.Prelude.{◌≡◌, ◌≤◌, Err, IfOk, option_map};
-ghost use Rattle.pb_words.specs.Causes.{input_meant};
-ghost use Rattle.pb_trees.specs.Words.{DomainHasWords};
-ghost use Rattle.pb_trees.specs.Readings.{problem_reading};
+ghost use Rattle.pb_command.specs.Causes.{input_meant};
+ghost use Rattle.pb_pddl.specs.Words.{DomainHasWords};
+ghost use Rattle.pb_pddl.specs.Readings.{problem_reading};
 ghost use Rattle.pb_lifted.specs.declared.refusal.File.TheVariants.{Domain, Problem};
 ghost use Rattle.pbnf.specs.Loaded.{grid_task, grid_told, tiles_task, tiles_told, refused_with, strips_told, problem_told, strips_task, input_task, too_long};
 ghost use Rattle.pb_report.specs.Texts.{file_number, syntax_text, strips_text};
@@ -9,15 +9,15 @@ ghost use Rattle.pbnf.specs.Named.{NamesTell};
 ghost use Rattle.pbnf.specs.Files.{GivesTask, IsRefusal};
 
 use crate::texts::Texts;
+use pb_command::Input;
 use pb_grid::{GridError, read_grid};
 use pb_lifted::File;
+use pb_pddl::{Domain, SyntaxError};
 use pb_report::Report;
 use pb_strips::{StripsError, ground};
 use pb_syntax::{read_domain, read_problem};
 use pb_task::Task;
 use pb_tiles::{TilesError, read_tiles};
-use pb_trees::{Domain, SyntaxError};
-use pb_words::Input;
 use std::alloc::{AllocError, Global};
 
 /// Why there is no task.

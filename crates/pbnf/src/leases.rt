@@ -4,17 +4,17 @@ ghost use Rattle.std.specs.Arc.{arc_value};
 ghost use Rattle.pb_machine.specs.declared.event.End.TheVariants.{Quiet, Budget};
 ghost use Rattle.pb_machine.specs.Settings.{AreInRange};
 ghost use Rattle.pb_abstract.specs.Graph.{IsGraphOf};
-ghost use Rattle.pb_words.specs.Meaning.{IsInRange, Solve};
-ghost use Rattle.pb_words.specs.Causes.{solve_meant};
+ghost use Rattle.pb_command.specs.Meaning.{IsInRange, Solve};
+ghost use Rattle.pb_command.specs.Causes.{solve_meant};
 ghost use Rattle.pbnf.specs.Leases.{settings_of, IsOpening, IsBestOf, StopsAtBudget};
 
 use pb_abstract::AbsGraph;
+use pb_command::SolveCommand;
 use pb_estimate::Estimator;
-use pb_lease::Graph;
+use pb_lease::LeaseGraph;
 use pb_machine::Settings;
 use pb_outside::Gate;
 use pb_task::Task;
-use pb_words::SolveCommand;
 use pb_workers::run_alone;
 use std::alloc::{AllocError, Global};
 use std::sync::Arc;
@@ -42,7 +42,7 @@ fn opening(
     task: &Arc<Task>,
     abstraction: &Arc<AbsGraph>,
     settings: Settings,
-) -> Result<Graph, AllocError>
+) -> Result<LeaseGraph, AllocError>
     requires graph { IsGraphOf (arc_value task.now) (arc_value abstraction.now) }
     requires range { AreInRange settings }
     ensures { IfOk result (IsOpening (arc_value task.now) (arc_value abstraction.now) settings) }
@@ -52,7 +52,7 @@ fn opening(
     let estimate = estimator.estimate(task, &start);
     let shared_task = Arc::clone(task)?;
     let shared_abstraction = Arc::clone(abstraction)?;
-    let graph = Graph::new(alloc, shared_task, shared_abstraction, estimate, settings)?;
+    let graph = LeaseGraph::new(alloc, shared_task, shared_abstraction, estimate, settings)?;
     Ok(graph)
 }
 
@@ -63,7 +63,7 @@ pub fn searched<G: Gate>(
     task: &Arc<Task>,
     solve: &SolveCommand<'_>,
     gate: &G,
-) -> Result<Graph, AllocError>
+) -> Result<LeaseGraph, AllocError>
     requires { IsInRange (Solve (solve_meant solve.now)) }
     ensures ended { IfOk result (λ graph. (graph.table.end ≡ Some Quiet) ⊎ (graph.table.end ≡ Some Budget)) }
     ensures quiet { IfOk result (λ graph. graph.table.end ≡ Some Quiet → IsBestOf (arc_value task.now) graph) }

@@ -1,6 +1,6 @@
 ghost use Rattle.std.specs.Prelude.{◌≡◌, ◌≢◌, [], Err, IfOk, map, string_bytes, option_map};
 ghost use Rattle.pb_outside.specs.Outside.{IfTold, KeepsAll};
-ghost use Rattle.pb_words.specs.Meaning.{reading_of_words};
+ghost use Rattle.pb_command.specs.Meaning.{reading_of_words};
 ghost use Rattle.pbnf.specs.Asked.{IsFaulty};
 ghost use Rattle.pbnf.specs.Loaded.{AreLoaded};
 ghost use Rattle.pbnf.specs.Answer.{AnswersFiles, said_of};

@@ -3,8 +3,8 @@ ghost use Rattle.pb_model.specs.Certificate.{IsPlanIfAny, IsBackedBy};
 ghost use Rattle.pb_model.specs.Texts.{stopped_report};
 ghost use Rattle.pb_task.specs.Parts.{space_of};
 ghost use Rattle.pb_check.specs.Kinds.{kind_of, kind_name};
-ghost use Rattle.pb_words.specs.Meaning.{IsInRange, Solve};
-ghost use Rattle.pb_words.specs.Causes.{solve_meant};
+ghost use Rattle.pb_command.specs.Meaning.{IsInRange, Solve};
+ghost use Rattle.pb_command.specs.Causes.{solve_meant};
 ghost use Rattle.pbnf.specs.Leases.{IsBestOf};
 ghost use Rattle.pbnf.specs.Named.{NamesTell};
 ghost use Rattle.pbnf.specs.Claims.{Certifies};
@@ -13,13 +13,13 @@ ghost use Rattle.pbnf.specs.Answer.{IsFound, IsSolved, IsUnsolvable, file_of, sa
 use crate::answer::{Answer, SavedCertificate};
 use crate::leases::searched;
 use pb_cert::{Certificate, Plan, trace};
-use pb_check::{Kind, kind_of};
-use pb_lease::Graph;
+use pb_check::{TaskKind, kind_of};
+use pb_command::SolveCommand;
+use pb_lease::LeaseGraph;
 use pb_machine::End;
 use pb_outside::Gate;
 use pb_report::Report;
 use pb_task::Task;
-use pb_words::SolveCommand;
 use std::alloc::{AllocError, Global};
 use std::sync::Arc;
 
@@ -60,7 +60,7 @@ fn quiet<'a>(
     alloc: Global,
     task: &Task,
     name: Option<&'a str>,
-    graph: &Graph,
+    graph: &LeaseGraph,
 ) -> Result<Answer<'a>, AllocError>
     requires best { IsBestOf task.now graph.now }
     requires names { NamesTell task.now }
@@ -77,7 +77,7 @@ fn solved<'a>(
     alloc: Global,
     task: &Task,
     name: Option<&'a str>,
-    graph: &Graph,
+    graph: &LeaseGraph,
 ) -> Result<Answer<'a>, AllocError>
     requires best { IsBestOf task.now graph.now }
     requires names { NamesTell task.now }
@@ -100,7 +100,7 @@ fn unsolvable<'a>(
     alloc: Global,
     task: &Task,
     name: Option<&'a str>,
-    graph: &Graph,
+    graph: &LeaseGraph,
 ) -> Result<Answer<'a>, AllocError>
     requires best { IsBestOf task.now graph.now }
     requires none { graph.now.incumbent ≡ None }
@@ -121,7 +121,7 @@ fn certificate<'a>(
     task: &Task,
     name: Option<&'a str>,
     plan: Option<Plan>,
-    graph: &Graph,
+    graph: &LeaseGraph,
 ) -> Result<Option<SavedCertificate<'a>>, AllocError>
     requires { IsBestOf task.now graph.now }
     ensures { IfOk result (λ saved. IsPlanIfAny (space_of task.now) plan → IsBackedBy graph.now.incumbent plan
@@ -142,8 +142,8 @@ fn kind(task: &Task) -> &'static str
     ensures short { length result.now ≤ 64 }
 {
     match kind_of(task) {
-        Kind::Grid => "grid",
-        Kind::Tiles => "tiles",
-        Kind::Strips => "strips",
+        TaskKind::Grid => "grid",
+        TaskKind::Tiles => "tiles",
+        TaskKind::Strips => "strips",
     }
 }

@@ -2,7 +2,7 @@ ghost use Rattle.std.specs.Prelude.{◌≡◌, ◌⊎◌, ◌≤◌, ℕ, List, 
 ghost use Rattle.pb_model.specs.Plan.{HasNoPlan};
 ghost use Rattle.pb_model.specs.Texts.{none_report, stopped_report};
 ghost use Rattle.pb_task.specs.Parts.{space_of};
-ghost use Rattle.pb_words.specs.Meaning.{reading_of_words};
+ghost use Rattle.pb_command.specs.Meaning.{reading_of_words};
 ghost use Rattle.pb_outside.specs.Outside.{IfTold, Rose, KeepsAll};
 ghost use Rattle.pbnf.specs.Named.{OfTreeFiles, PrintsNamedPlan, HasNoNamedPlan, AcceptsNamed};
 ghost use Rattle.pbnf.specs.Asked.{files_of, IsFaulty, IsSolve, IfSolve, IsCheck, IfCheck};

@@ -2,7 +2,7 @@ use Rattle.std.proofs.Common.{ap, sym, ◌∙◌}
 use Rattle.std.proofs.lemmas.Result.{err_from_is_err_and}
 use Rattle.pb_task.specs.Parts.{space_of}
 use Rattle.pb_estimate.specs.Estimates.{estimate_of}
-use Rattle.pb_check.specs.declared.fault.Fault.TheVariants as faults
+use Rattle.pb_check.specs.declared.fault.CertificateFault.TheVariants as faults
 use Rattle.pb_check.specs.Kinds.{kind_of}
 use Rattle.pb_check.specs.Reading.{Text}
 use Rattle.pb_check.specs.Judging.{passes, unless, same_kind, is_zero, g_of}

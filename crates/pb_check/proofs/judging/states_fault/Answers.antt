@@ -2,7 +2,7 @@ use Rattle.std.proofs.Common.{◌≡◌, sym, ap, arith, ◌∙◌}
 use Rattle.pb_model.specs.Certificate.{Line}
 use Rattle.pb_task.specs.Parts.{space_of}
 use Rattle.pb_check.specs.Judging.{state_fault, unless}
-use Rattle.pb_check.specs.declared.fault.Fault.TheVariants as faults
+use Rattle.pb_check.specs.declared.fault.CertificateFault.TheVariants as faults
 use Rattle.pb_check.proofs.Passes.{by_goes_on, by_ends_with, by_done, not_none, is_none}
 use Rattle.pb_check.proofs.judging.states_fault.Goals as goal
 

@@ -3,7 +3,7 @@ use Rattle.pb_model.specs.declared.row.Estimate.{Estimate}
 use Rattle.pb_model.specs.declared.row.Succ.{Succ}
 use Rattle.pb_task.specs.Parts.{space_of, greatest_cost}
 use Rattle.pb_estimate.specs.Estimates.{estimate_of}
-use Rattle.pb_homes.specs.Parts.{content_in}
+use Rattle.pb_bundles.specs.Parts.{content_in}
 use Rattle.pb_lease.specs.Leased.{guide_of}
 use Rattle.pb_expand.specs.Rows.{OffersAt}
 use Rattle.pb_expand.proofs.Estimates.{same_offer}

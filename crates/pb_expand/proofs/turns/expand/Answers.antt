@@ -2,7 +2,7 @@ use Rattle.std.proofs.Common.{refl, sym, ap, subst, arith}
 use Rattle.pb_model.specs.declared.row.Status.TheVariants.{Closed}
 use Rattle.pb_task.specs.Parts.{space_of}
 use Rattle.pb_lists.specs.Bundle.{IsOpened}
-use Rattle.pb_homes.specs.Parts.{away_rows}
+use Rattle.pb_bundles.specs.Parts.{away_rows}
 use Rattle.pb_lease.specs.LeaseValue.{LeaseValue, HasWeights}
 use Rattle.pb_lease.specs.Leased.{guide_of}
 use Rattle.pb_expand.specs.Turned.{own_rows}

@@ -1,6 +1,6 @@
 use Rattle.std.proofs.Common.{refl, sym, ◌∙◌, subst, arith, IsSome}
 use Rattle.pb_task.specs.Parts.{space_of}
-use Rattle.pb_homes.specs.Parts.{content_in}
+use Rattle.pb_bundles.specs.Parts.{content_in}
 use Rattle.pb_lease.specs.LeaseValue.{leased_store}
 use Rattle.pb_lease.specs.Leased.{guide_of}
 use Rattle.pb_expand.proofs.Same.{same_none, same_on, still_there}

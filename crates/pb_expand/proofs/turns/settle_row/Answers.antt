@@ -11,13 +11,13 @@ pub returns-then-may_be_cut-clause-turned : goal.returns-then-may_be_cut-clause-
 returns-then-may_be_cut-clause-turned c = λ graph at.
     cut_turned (space_of c.args.task.now) (guide_of c.args.task.now graph) c.args.lease.now.block c.args.lease.now c.args.state.now c.args.row.now refl
     (row_is_home c.args.task.now graph c.args.lease.now at c.args.state.now c.args.row.now c.requires.first.found) c.requires.first c.cut.new.lease
-    (rw c.weight.ensures.weight (rw c.bound.ensures at (c.may_be_cut.ensures.0 c.if-may_be_cut.true))) c.cut.ensures.rows c.cut.ensures.changes
+    (rw c.weight.ensures.weight (rw c.incumbent.ensures at (c.may_be_cut.ensures.0 c.if-may_be_cut.true))) c.cut.ensures.rows c.cut.ensures.changes
 
 pub returns-then-is_goal-clause-turned : goal.returns-then-is_goal-clause-turned
 returns-then-is_goal-clause-turned c = λ graph at.
     take_turned (space_of c.args.task.now) (guide_of c.args.task.now graph) c.args.lease.now.block c.args.lease.now c.args.state.now c.args.row.now refl
     (row_is_home c.args.task.now graph c.args.lease.now at c.args.state.now c.args.row.now c.requires.first.found) c.requires.first c.cut-then-is_goal.new.lease
-    (λ may. not_both c.may_be_cut.result (c.may_be_cut.ensures.1 (rw c.bound.ensures (rw c.weight.ensures.weight at may))) c.if-may_be_cut.false)
+    (λ may. not_both c.may_be_cut.result (c.may_be_cut.ensures.1 (rw c.incumbent.ensures (rw c.weight.ensures.weight at may))) c.if-may_be_cut.false)
     (sym c.is_goal.ensures ∙ c.if-is_goal.true) (rw c.take_bound.ensures at c.cut-then-is_goal.ensures.rows) (rw c.take_bound.ensures at c.cut-then-is_goal.ensures.changes)
 
 pub returns-else-is_goal-clause-turned : goal.returns-else-is_goal-clause-turned

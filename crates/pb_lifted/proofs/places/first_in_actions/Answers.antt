@@ -1,5 +1,5 @@
 use Rattle.std.proofs.Common.{◌<◌, List, length, get_or, ap, ◌∙◌, subst}
-use Rattle.pb_trees.specs.declared.tree.Action.{Action}
+use Rattle.pb_pddl.specs.declared.tree.Action.{Action}
 use Rattle.pb_lifted.specs.Refusals.{in_action}
 use Rattle.pb_lifted.proofs.Earliest.{kept}
 use Rattle.pb_lifted.proofs.places.first_in_actions.Goals as goal

@@ -1,6 +1,6 @@
 use Rattle.std.proofs.Common.{◌≡◌, ◌++◌, [], List, None, map, sym, ap, ◌∙◌, subst}
 use Rattle.std.proofs.lemmas.List.{map-append}
-use Rattle.pb_trees.specs.declared.tree.Typed.{Typed}
+use Rattle.pb_pddl.specs.declared.tree.Typed.{Typed}
 use Rattle.pb_lifted.specs.Names.{repeated, earliest}
 use Rattle.pb_lifted.specs.Types.{name_text, declared_types, cyclic_types}
 use Rattle.pb_lifted.specs.Tree.{IsTree}

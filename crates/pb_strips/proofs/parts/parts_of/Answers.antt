@@ -1,5 +1,5 @@
 use Rattle.std.proofs.Common.{[], length, All, List, sym, ◌∙◌, subst}
-use Rattle.pb_ground.specs.declared.actions.GroundAction.{GroundAction}
+use Rattle.pb_ground.specs.declared.actions.ActionInstance.{ActionInstance}
 use Rattle.pb_ground.specs.Actions.{ground_actions, numbers_of}
 use Rattle.pb_strips.specs.Packing.{AreAtoms, HasAtoms}
 use Rattle.pb_strips.proofs.Below.{numbers_below, are_below, actions_have, have_below}
@@ -10,7 +10,7 @@ pub packed_actions-requires : goal.packed_actions-requires
 packed_actions-requires c =
     let atoms = c.args.atoms.now in
     let lifted = c.args.lifted.now in
-    subst (λ (actions : List GroundAction). All (HasAtoms 256) actions) (sym c.requires.actions)
+    subst (λ (actions : List ActionInstance). All (HasAtoms 256) actions) (sym c.requires.actions)
     (have_below (length atoms) 256 (ground_actions lifted atoms) c.requires.few (actions_have lifted atoms 0 lifted.actions))
 
 pub set_of-requires : goal.set_of-requires

@@ -1,5 +1,5 @@
 use Rattle.std.proofs.Common.{◌≡◌, ◌-◌, [], length}
-use Rattle.pb_trees.specs.Reading.{all_of, folds, begins_term, add_term}
+use Rattle.pb_pddl.specs.Reading.{all_of, folds, begins_term, add_term}
 use Rattle.pb_syntax.proofs.atoms.terms.Given as goal
 
 abbrev pub invariant-loop : goal.invariant-loop

@@ -1,5 +1,5 @@
 use Rattle.std.proofs.Common.{◌≡◌, ◌+◌, ◌-◌, ◌*◌, length}
-use Rattle.pb_trees.specs.Reading.{all_of, folds, begins_open, effect_at}
+use Rattle.pb_pddl.specs.Reading.{all_of, folds, begins_open, effect_at}
 use Rattle.pb_syntax.proofs.conditions.+effect.Given as goal
 
 abbrev pub decreases-effect : goal.decreases-effect

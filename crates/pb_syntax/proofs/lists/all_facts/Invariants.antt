@@ -1,5 +1,5 @@
 use Rattle.std.proofs.Common.{◌≡◌, ◌-◌, length}
-use Rattle.pb_trees.specs.Reading.{all_of, folds, begins_open, add_fact}
+use Rattle.pb_pddl.specs.Reading.{all_of, folds, begins_open, add_fact}
 use Rattle.pb_syntax.proofs.lists.all_facts.Given as goal
 
 abbrev pub invariant-loop : goal.invariant-loop

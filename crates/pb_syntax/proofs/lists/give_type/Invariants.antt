@@ -1,5 +1,5 @@
 use Rattle.std.proofs.Common.{◌≡◌, ◌++◌, take}
-use Rattle.pb_trees.specs.Reading.{typed}
+use Rattle.pb_pddl.specs.Reading.{typed}
 use Rattle.pb_syntax.proofs.lists.give_type.Given as goal
 
 abbrev pub invariant-loop-name : goal.invariant-loop-name

@@ -1,6 +1,6 @@
 use Rattle.std.proofs.Common.{◌∙◌, sym, length}
 use Rattle.std.proofs.lemmas.Result.{err_from_is_err_and}
-use Rattle.pb_trees.specs.Reading.{begins_group, group_step}
+use Rattle.pb_pddl.specs.Reading.{begins_group, group_step}
 use Rattle.pb_syntax.proofs.Folds.{goes_on, ends, stops, is_done, at_first}
 use Rattle.pb_syntax.proofs.lists.groups.Goals as goal
 

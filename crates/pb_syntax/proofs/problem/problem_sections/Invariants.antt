@@ -1,5 +1,5 @@
 use Rattle.std.proofs.Common.{◌≡◌, ◌-◌, length}
-use Rattle.pb_trees.specs.Reading.{all_of, folds, begins_open, problem_section, limited}
+use Rattle.pb_pddl.specs.Reading.{all_of, folds, begins_open, problem_section, limited}
 use Rattle.pb_syntax.proofs.problem.problem_sections.Given as goal
 
 abbrev pub invariant-loop : goal.invariant-loop

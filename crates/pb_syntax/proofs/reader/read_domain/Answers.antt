@@ -1,14 +1,14 @@
 use Rattle.std.proofs.lemmas.Result.{IfOk-weaker}
-use Rattle.pb_trees.specs.Reading.{unlimited, domain_at}
-use Rattle.pb_trees.specs.Readings.{tokens_of, domain_reading}
-use Rattle.pb_trees.specs.Trees.{SpellsDomain}
-use Rattle.pb_trees.specs.Words.{DomainHasWords}
-use Rattle.pb_trees.specs.Grammar.{IsDomain}
-use Rattle.pb_grammar.proofs.FormsRead.{domain_is, domain_again}
-use Rattle.pb_grammar.proofs.Faults.{domain_fault}
-use Rattle.pb_grammar.proofs.TokensOf.{texts_have_tokens}
-use Rattle.pb_grammar.proofs.NamesAreWords.{domain_has_words}
-use Rattle.pb_grammar.proofs.Whole.{found, only, none, first}
+use Rattle.pb_pddl.specs.Reading.{unlimited, domain_at}
+use Rattle.pb_pddl.specs.Readings.{tokens_of, domain_reading}
+use Rattle.pb_pddl.specs.Trees.{SpellsDomain}
+use Rattle.pb_pddl.specs.Words.{DomainHasWords}
+use Rattle.pb_pddl.specs.Grammar.{IsDomain}
+use Rattle.pb_pddl_laws.proofs.FormsRead.{domain_is, domain_again}
+use Rattle.pb_pddl_laws.proofs.Faults.{domain_fault}
+use Rattle.pb_pddl_laws.proofs.TokensOf.{texts_have_tokens}
+use Rattle.pb_pddl_laws.proofs.NamesAreWords.{domain_has_words}
+use Rattle.pb_pddl_laws.proofs.Whole.{found, only, none, first}
 use Rattle.pb_syntax.proofs.reader.read_domain.Goals as goal
 
 pub returns-clause-found : goal.returns-clause-found

@@ -1,14 +1,14 @@
 use Rattle.std.proofs.lemmas.Result.{IfOk-weaker}
-use Rattle.pb_trees.specs.Reading.{unlimited, problem_at}
-use Rattle.pb_trees.specs.Readings.{tokens_of, problem_reading}
-use Rattle.pb_trees.specs.Trees.{SpellsProblem}
-use Rattle.pb_trees.specs.Words.{ProblemHasWords}
-use Rattle.pb_trees.specs.Grammar.{IsProblem}
-use Rattle.pb_grammar.proofs.FormsRead.{problem_is, problem_again}
-use Rattle.pb_grammar.proofs.Faults.{problem_fault}
-use Rattle.pb_grammar.proofs.TokensOf.{texts_have_tokens}
-use Rattle.pb_grammar.proofs.NamesAreWords.{problem_has_words}
-use Rattle.pb_grammar.proofs.Whole.{found, only, none, first}
+use Rattle.pb_pddl.specs.Reading.{unlimited, problem_at}
+use Rattle.pb_pddl.specs.Readings.{tokens_of, problem_reading}
+use Rattle.pb_pddl.specs.Trees.{SpellsProblem}
+use Rattle.pb_pddl.specs.Words.{ProblemHasWords}
+use Rattle.pb_pddl.specs.Grammar.{IsProblem}
+use Rattle.pb_pddl_laws.proofs.FormsRead.{problem_is, problem_again}
+use Rattle.pb_pddl_laws.proofs.Faults.{problem_fault}
+use Rattle.pb_pddl_laws.proofs.TokensOf.{texts_have_tokens}
+use Rattle.pb_pddl_laws.proofs.NamesAreWords.{problem_has_words}
+use Rattle.pb_pddl_laws.proofs.Whole.{found, only, none, first}
 use Rattle.pb_syntax.proofs.reader.read_problem.Goals as goal
 
 pub returns-clause-found : goal.returns-clause-found

@@ -1,6 +1,6 @@
 use Rattle.std.proofs.Common.{◌≡◌, Result, Ok, sym, ap, ◌∙◌}
 use Rattle.pb_task.specs.declared.parts.TilesParts.{TilesParts}
-use Rattle.pb_task.specs.declared.parts.Parts.TheVariants.{Tiles}
+use Rattle.pb_task.specs.declared.parts.TaskParts.TheVariants.{Tiles}
 use Rattle.pb_tiles.specs.declared.error.TilesError.{TilesError}
 use Rattle.pb_tiles.proofs.Spelled.{readings_are_spelled, only_memory}
 use Rattle.pb_tiles.proofs.reader.read_tiles.Goals as goal

@@ -1,5 +1,5 @@
 use Rattle.std.proofs.Common.{◌≡◌, ◌+◌, drop, false}
-use Rattle.pb_trees.specs.Tokens.{gap_len}
+use Rattle.pb_pddl.specs.Tokens.{gap_len}
 use Rattle.pb_tokens.proofs.bytes.gap_len.Given as goal
 
 abbrev pub invariant-loop-byte : goal.invariant-loop-byte

@@ -1,5 +1,5 @@
 use Rattle.std.proofs.Common.{◌≡◌, map, take}
-use Rattle.pb_trees.specs.Tokens.{lower}
+use Rattle.pb_pddl.specs.Tokens.{lower}
 use Rattle.pb_tokens.proofs.bytes.lowered.Given as goal
 
 abbrev pub invariant-loop-byte : goal.invariant-loop-byte

@@ -1,5 +1,5 @@
 use Rattle.std.proofs.Common.{◌≡◌, ◌+◌, drop}
-use Rattle.pb_trees.specs.Tokens.{run_len}
+use Rattle.pb_pddl.specs.Tokens.{run_len}
 use Rattle.pb_tokens.proofs.bytes.run_len.Given as goal
 
 abbrev pub invariant-loop-byte : goal.invariant-loop-byte

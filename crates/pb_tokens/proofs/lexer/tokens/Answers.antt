@@ -1,6 +1,6 @@
 use Rattle.std.proofs.Common.{◌∷◌, [], length, arith, sym, ap, ◌∙◌, append_assoc, refl}
-use Rattle.pb_trees.specs.Tokens.{AreTokens, start}
-use Rattle.pb_trees.specs.declared.token.Cursor.{Cursor}
+use Rattle.pb_pddl.specs.Tokens.{AreTokens, start}
+use Rattle.pb_pddl.specs.declared.token.Cursor.{Cursor}
 use Rattle.pb_tokens.proofs.SpansLaw.{spans}
 use Rattle.pb_tokens.proofs.Lex.{step_last, step_next}
 use Rattle.pb_tokens.proofs.lexer.tokens.Goals as goal

@@ -1,6 +1,6 @@
 use Rattle.std.proofs.Common.{◌≡◌, ◌+◌, ◌++◌, List, length}
-use Rattle.pb_trees.specs.Tokens.{AreTokens, start}
-use Rattle.pb_trees.specs.declared.token.Token.{Token}
+use Rattle.pb_pddl.specs.Tokens.{AreTokens, start}
+use Rattle.pb_pddl.specs.declared.token.Token.{Token}
 use Rattle.pb_tokens.proofs.lexer.tokens.Given as goal
 
 abbrev pub invariant-loop-here : goal.invariant-loop-here

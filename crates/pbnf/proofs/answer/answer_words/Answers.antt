@@ -1,6 +1,6 @@
 -- The clauses of what is answered of words and texts.
 use Rattle.std.proofs.Common.{map, string_bytes, Global}
-use Rattle.pb_words.specs.Meaning.{reading_of_words}
+use Rattle.pb_command.specs.Meaning.{reading_of_words}
 use Rattle.pbnf.specs.Answer.{Says, Saves, said_of}
 use Rattle.pbnf.proofs.ByNames.{solved_by_names, none_by_names, accepted_by_names}
 use Rattle.pbnf.proofs.Told.{solved, no_plan, plan, cheapest, certified, certified_none, none, stopped, accepted, rejected}

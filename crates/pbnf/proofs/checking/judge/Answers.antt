@@ -1,10 +1,10 @@
 use Rattle.std.proofs.Common.{◌≡◌, Result, Ok, Err, inr, refl, subst, sym}
-use Rattle.pb_check.specs.declared.fault.Fault.{Fault}
+use Rattle.pb_check.specs.declared.fault.CertificateFault.{CertificateFault}
 use Rattle.pb_check.specs.declared.fault.Verdict.{Verdict}
 use Rattle.pbnf.specs.Answer.{Said, IsChecked}
 use Rattle.pbnf.proofs.checking.judge.Goals as goal
 
-not_ok : (verdict : Verdict) (fault : Fault) → ◌≡◌ {A = Result Verdict Fault} (Ok verdict) (Err fault) → ⊥
+not_ok : (verdict : Verdict) (fault : CertificateFault) → ◌≡◌ {A = Result Verdict CertificateFault} (Ok verdict) (Err fault) → ⊥
 not_ok verdict fault e = cc
 
 pub returns-in-Err-Fault : goal.returns-in-Err-Fault

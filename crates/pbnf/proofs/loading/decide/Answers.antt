@@ -1,5 +1,5 @@
 use Rattle.std.proofs.Common.{map, string_bytes, Global, Err, ap}
-use Rattle.pb_words.specs.Meaning.{reading_of_words}
+use Rattle.pb_command.specs.Meaning.{reading_of_words}
 use Rattle.pbnf.specs.Files.{wanted_of}
 use Rattle.pbnf.specs.declared.loading.Fault.TheVariants.{ShelfFailed}
 use Rattle.pbnf.proofs.Ended.{no_files, only_fault}

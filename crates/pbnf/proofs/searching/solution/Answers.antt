@@ -1,5 +1,5 @@
 use Rattle.std.proofs.Common.{◌∙◌}
-use Rattle.pb_words.specs.Causes.{solve_meant}
+use Rattle.pb_command.specs.Causes.{solve_meant}
 use Rattle.pbnf.proofs.Certified.{found}
 use Rattle.pbnf.proofs.searching.solution.Goals as goal
 

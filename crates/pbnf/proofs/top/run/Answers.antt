@@ -1,6 +1,6 @@
 -- The clauses of `run`.
 use Rattle.std.proofs.Common.{map, string_bytes, Global, inl, inr, refl}
-use Rattle.pb_words.specs.Meaning.{reading_of_words}
+use Rattle.pb_command.specs.Meaning.{reading_of_words}
 use Rattle.pbnf.specs.Answer.{said_of, file_of}
 use Rattle.pbnf.proofs.Ended.{saved_after, part_after, solved, named_plan, named_none, named_accepted, plan, cheapest, certified, certified_none, none as no_plan, none_text, stopped, stopped_text, stop_saves_nothing, accepted, rejected, words_say, words_exact, faulty_saves, input, input_answers, check_exact, statuses, not_broken, unnamed_kept, unnamed_part, shelf_left, complete, complete_check, check_broken, input_broken, no_certificate}
 use Rattle.pbnf.proofs.top.run.Goals as goal

@@ -1,0 +1,127 @@
+//! Bundles that leave home and come back.
+ghost use Rattle.std.specs.Prelude.{◌≡◌, ◌≤◌, ◌<◌, ◌+◌, ◌++◌, [], ◌∷◌, Some, None, IsTrue, IsSome, if◌then◌else◌, length, slice_get, get_or, nat_eq, slice_set};
+ghost use Rattle.std.specs.List.{IsDistinct};
+ghost use Rattle.std.specs.Option.{option_or};
+ghost use Rattle.std.specs.Map.{keys_of, lookup};
+ghost use Rattle.indexmap.specs.IndexMap.{spare};
+ghost use Rattle.pb_lists.specs.Bundle.{Content};
+ghost use Rattle.pb_bundles.specs.Parts.{content_in};
+ghost use Rattle.pb_bundles.specs.Homes.{content_at, key_at};
+ghost use Rattle.pb_bundles.specs.Moves.{is_among, vacated, moved, put_back, IsVacant, NotesKeys, NotesKey};
+
+use crate::homes::Homes;
+use crate::parts::{BundleRoom, LentBundles};
+use indexmap::IndexMap;
+use pb_lists::Bundle;
+use pb_model::Key;
+
+impl Homes {
+    /// Moves the bundles of these blocks out, each of which is at home. The keys stay noted as they are. It takes no memory.
+    pub fn take_out(&mut self, scope: &[u32], room: BundleRoom) -> LentBundles
+        requires home { (block : _) → IsTrue (is_among scope.now block) → IsSome (content_at self.old block) }
+        requires distinct { IsDistinct nat_eq scope.now }
+        requires room { length scope.now ≤ room }
+        ensures left { self.new ≡ record { bundles = vacated scope.now self.old.bundles; keys = self.old.keys } }
+        ensures moved { result ≡ moved scope.now self.old.bundles }
+        ensures out { (block : _) → content_at self.new block ≡ (if is_among scope.now block then None else content_at self.old block) }
+        ensures taken { (block : _) → content_in result block ≡ (if is_among scope.now block then content_at self.old block else None) }
+        ensures order { keys_of result ≡ scope.now }
+    {
+        let mut bundles = room.bundles;
+        move_out(&mut self.bundles, scope, &mut bundles);
+        LentBundles { bundles }
+    }
+
+    /// Moves bundles home, each to its own place, where none is. Their blocks' keys are noted anew. It takes no memory.
+    pub fn bring_back(&mut self, parts: LentBundles)
+        requires { (block : _) → IsSome (content_in parts block) → IsVacant self.old.bundles block }
+        ensures back { self.new.bundles ≡ put_back parts self.old.bundles }
+        ensures noted { NotesKeys parts self.old.keys self.new.keys }
+        ensures home { (block : _) → content_at self.new block ≡ option_or (content_in parts block) (content_at self.old block) }
+    {
+        note_keys(&mut self.keys, &parts.bundles);
+        move_home(&mut self.bundles, parts.bundles);
+    }
+
+    /// Notes the keys of blocks whose bundles are away, and stay so. It takes no memory.
+    pub fn note(&mut self, parts: &LentBundles)
+        requires { (block : _) → IsSome (content_in parts.now block) → IsVacant self.old.bundles block }
+        ensures noted { NotesKeys parts.now self.old.keys self.new.keys }
+        ensures bundles { self.new.bundles ≡ self.old.bundles }
+    {
+        note_keys(&mut self.keys, &parts.bundles);
+    }
+}
+
+// Moves the bundles of these blocks to the others.
+fn move_out(bundles: &mut Vec<Option<Bundle>>, scope: &[u32], parts: &mut IndexMap<u32, Bundle>)
+    requires home { (block : _) → IsTrue (is_among scope.now block) → IsSome (get_or bundles.old.items block None) }
+    requires distinct { IsDistinct nat_eq scope.now }
+    requires empty { parts.old.entries ≡ [] }
+    requires room { length scope.now ≤ spare parts.old }
+    ensures left { bundles.new.items ≡ vacated scope.now bundles.old.items }
+    ensures moved { parts.new.entries ≡ moved scope.now bundles.old.items }
+{
+    for block in scope {
+        move_one(bundles, *block, parts);
+    }
+}
+
+// Moves the bundle of one block behind the others.
+fn move_one(bundles: &mut Vec<Option<Bundle>>, block: u32, parts: &mut IndexMap<u32, Bundle>)
+    requires home { IsSome (get_or bundles.old.items block None) }
+    requires absent { lookup (nat_eq block) parts.old.entries ≡ None }
+    requires room { 0 < spare parts.old }
+    ensures left { bundles.new.items ≡ slice_set bundles.old.items block None }
+    ensures moved { (content : Content) → get_or bundles.old.items block None ≡ Some content → parts.new.entries ≡ parts.old.entries ++ (block, content) ∷ [] }
+    ensures room { spare parts.old ≤ spare parts.new + 1 }
+{
+    match bundles[block as usize].take() {
+        Some(bundle) => match parts.insert(block, bundle) {
+            Ok(_) => {}
+            Err(_) => unreachable!(),
+        },
+        None => unreachable!(),
+    }
+}
+
+// Moves each bundle to its place.
+fn move_home(bundles: &mut Vec<Option<Bundle>>, parts: IndexMap<u32, Bundle>)
+    requires { (block : _) → IsSome (content_in parts.entries block) → block < length bundles.old.items }
+    ensures { bundles.new.items ≡ put_back parts.entries bundles.old.items }
+{
+    let mut rest = parts;
+    while let Some((block, bundle)) = rest.pop() {
+        put_home(bundles, block, bundle);
+    }
+}
+
+// Moves one bundle to its place.
+fn put_home(bundles: &mut Vec<Option<Bundle>>, block: u32, bundle: Bundle)
+    requires { block < length bundles.old.items }
+    ensures { bundles.new.items ≡ slice_set bundles.old.items block (Some bundle) }
+{
+    bundles[block as usize] = Some(bundle);
+}
+
+// Notes the key of each bundle.
+fn note_keys(keys: &mut Vec<Option<Key>>, parts: &IndexMap<u32, Bundle>)
+    requires { (block : _) → IsSome (content_in parts.now.entries block) → block < length keys.old.items }
+    ensures { NotesKeys parts.now.entries keys.old.items keys.new.items }
+{
+    for at in 0..parts.len() {
+        note_one(keys, parts, at);
+    }
+}
+
+// Notes the key of the bundle that stands here.
+fn note_one(keys: &mut Vec<Option<Key>>, parts: &IndexMap<u32, Bundle>, at: usize)
+    requires within { at < length parts.now.entries }
+    requires place { (block : _) (content : Content) → slice_get parts.now.entries at ≡ Some (block, content) → block < length keys.old.items }
+    ensures { (block : _) (content : Content) → slice_get parts.now.entries at ≡ Some (block, content) → NotesKey content keys.old.items keys.new.items block }
+{
+    match parts.get_index(at) {
+        Some((block, bundle)) => keys[*block as usize] = bundle.best(),
+        None => unreachable!(),
+    }
+}

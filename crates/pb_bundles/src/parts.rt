@@ -1,0 +1,89 @@
+//! The bundles of some blocks, away from home.
+ghost use Rattle.std.specs.Prelude.{◌≡◌, ◌≤◌, ◌<◌, Some, IsSome, IfOk, nat_eq, length, position};
+ghost use Rattle.std.specs.Map.{keys_of};
+ghost use Rattle.std.specs.Borrow.{sem};
+ghost use Rattle.pb_bundles.specs.Parts.{content_in};
+ghost use Rattle.pb_bundles.specs.Lending.{LendsBundle};
+
+use indexmap::IndexMap;
+use pb_lists::Bundle;
+use std::alloc::{AllocError, Global};
+use std::marker::Model;
+
+/// The bundles of some blocks that are away from home, as those of a lease are: each with its block, in the order in which they left.
+#[derive(Drop)]
+pub struct LentBundles {
+    pub(crate) bundles: IndexMap<u32, Bundle>,
+}
+
+impl Model for LentBundles {
+    ghost use Rattle.std.specs.Prelude.{List, ℕ};
+    ghost use Rattle.pb_lists.specs.Bundle.{Content};
+
+    ghost Value = { List (ℕ × Content) };
+
+    ghost view = { λ p. p.bundles.entries };
+}
+
+/// Room for bundles that are to leave home, taken before they move. Contracts see how many bundles fit.
+#[derive(Drop)]
+pub struct BundleRoom {
+    pub(crate) bundles: IndexMap<u32, Bundle>,
+}
+
+impl Model for BundleRoom {
+    ghost use Rattle.std.specs.Prelude.{◌≡◌, ℕ, []};
+    ghost use Rattle.indexmap.specs.IndexMap.{spare};
+
+    ghost Value = { ℕ };
+
+    ghost view = { λ r. spare r.bundles };
+
+    ghost invariant = { λ r. r.bundles.entries ≡ [] };
+}
+
+impl BundleRoom {
+    /// Room for at least so many bundles. An error is want of memory.
+    pub fn new(alloc: Global, bundles: usize) -> Result<BundleRoom, AllocError>
+        ensures { IfOk result (λ room. bundles ≤ room) }
+    {
+        Ok(BundleRoom {
+            bundles: IndexMap::with_capacity(alloc, bundles)?,
+        })
+    }
+}
+
+impl LentBundles {
+    /// The bundle of a block that is among these.
+    pub fn bundle(&self, block: u32) -> &Bundle
+        requires { IsSome (content_in self.now block) }
+        ensures { content_in self.now block ≡ Some result.now }
+    {
+        match self.bundles.get(&block) {
+            Some(bundle) => bundle,
+            None => unreachable!(),
+        }
+    }
+
+    /// The bundle of a block that is among these, to be changed: what is done to it is done to this one alone.
+    pub fn bundle_mut(&mut self, block: u32) -> &mut Bundle
+        requires { IsSome (content_in self.old block) }
+        ensures* writes_back { sem 𝓛 (LendsBundle self.entry block result) }
+        ensures value { content_in self.old block ≡ Some result.now }
+    {
+        let at = self.place(block);
+        self.bundles.pair_mut(at).1
+    }
+
+    // Where a block that is among these stands.
+    fn place(&self, block: u32) -> usize
+        requires { IsSome (content_in self.now block) }
+        ensures place { position (nat_eq block) (keys_of self.now) ≡ Some result }
+        ensures within { result < length self.now }
+    {
+        match self.bundles.get_index_of(&block) {
+            Some(at) => at,
+            None => unreachable!(),
+        }
+    }
+}

@@ -1,0 +1,9 @@
+use Rattle.std.proofs.Common.{refl}
+use Rattle.clap.proofs.OnLiterals.{clap_on_literals}
+use Rattle.pb_command.specs.Parser.{the_program, the_solve, the_check}
+use Rattle.pb_command.proofs.laws.check_with_domain_and_problem_is_read.Goals as goal
+
+pub returns : goal.returns
+unfolding the_program the_solve the_check clap_on_literals
+returns c = λ certificate domain problem hc hd hp.
+    rw (hc.no_dashes, hc.no_long, hc.no_short, hd.no_dashes, hd.no_long, hd.no_short, hp.no_dashes, hp.no_long, hp.no_short) refl

@@ -1,0 +1,49 @@
+-- What the values of words are.
+use Rattle.std.specs.Prelude.{ℕ, List, Option, None, Some, if◌then◌else◌, codes}
+use Rattle.std.specs.Str.{bytes_eq}
+use Rattle.std.specs.Str.Parse.{digits_value, without_leading_plus}
+use Rattle.clap.specs.Words.{Row, Text, one_of}
+use Rattle.clap.specs.ValueTests.{is_unsigned_in}
+use Rattle.pb_command.specs.Parser.{NumberOption}
+use Rattle.pb_command.specs.declared.command.KindWord.{KindWord}
+use Rattle.pb_command.specs.declared.command.KindWord.TheVariants as kind
+
+-- the names of the files of a grid
+pub record GridNames : Type 0 where
+  pub map : Text
+  pub scenario : Text
+
+-- the names of the files of a STRIPS problem
+pub record StripsNames : Type 0 where
+  pub domain : Text
+  pub problem : Text
+
+-- the task that a command names: its kind, with the names of its files, for tiles that of the board's
+pub data InputNames : Type 0 where
+  Grid : GridNames → InputNames
+  Tiles : Text → InputNames
+  Strips : StripsNames → InputNames
+
+-- the kind that a word names
+abbrev pub kind_of_text : Option Text → Option KindWord
+kind_of_text None = None
+kind_of_text (Some word) = if bytes_eq word (codes "grid") then Some kind.Grid
+    else (if bytes_eq word (codes "tiles") then Some kind.Tiles else (if bytes_eq word (codes "strips") then Some kind.Strips else None))
+
+-- a grid and a STRIPS problem have two files, tiles have one
+abbrev pub input_of : KindWord → Text → Option Text → Option InputNames
+input_of kind.Grid first (Some second) = Some (Grid (record { map = first; scenario = second }))
+input_of kind.Grid first None = None
+input_of kind.Tiles first None = Some (Tiles first)
+input_of kind.Tiles first (Some second) = None
+input_of kind.Strips first (Some second) = Some (Strips (record { domain = first; problem = second }))
+input_of kind.Strips first None = None
+
+-- the number that a value writes, if it lies in the range, and the default where there is no value
+abbrev pub number_in : ℕ → ℕ → Option ℕ → Option Text → Option ℕ
+number_in least most default None = default
+number_in least most default (Some text) =
+    if is_unsigned_in least most text then Some (digits_value 10 (without_leading_plus text)) else None
+
+abbrev pub option_of : NumberOption → List Row → Option ℕ
+option_of o rows = number_in o.least o.most (Some o.default) (one_of o.name rows)

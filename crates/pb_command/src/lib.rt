@@ -1,0 +1,23 @@
+//! The command line: which command the words after the program's name are, or why they are none.
+//!
+//! What words mean is one definition, `reading_of_words` in `specs`, over what `clap` states of the declared command.
+#![tactic(auto)]
+
+mod command;
+mod laws;
+mod parser;
+mod reader;
+mod refusal;
+mod values;
+
+pub use command::{CheckCommand, CommandLine, GridFiles, Input, SolveCommand, StripsFiles};
+pub use laws::{
+    check_with_domain_and_problem_is_read, check_with_one_board_is_read,
+    check_with_three_names_is_read, faults_are_found, solve_with_domain_and_problem_is_read,
+    solve_with_one_board_is_read, solve_with_two_names_is_read,
+};
+pub use reader::read_words;
+pub use refusal::{CommandFault, CommandRefusal, Message};
+
+#[cfg(test)]
+mod tests;

@@ -1,0 +1,115 @@
+//! The command as clap is told of it.
+ghost use Rattle.std.specs.Prelude.{◌≡◌, false, IfOk};
+ghost use Rattle.clap.specs.Words.{app_of, rule_of, new_rule, with_rule, with_subcommand, shape_of};
+ghost use Rattle.clap.specs.declared.builder.command.Command.TheViews.{out-Command as fields_of};
+ghost use Rattle.pb_command.specs.Parser.{the_program, the_solve, the_check, bare_program, number_rule, text_rule, required_rule};
+
+use crate::values::{BLOCKS_LEAST, BLOCKS_MOST, BUDGET_MOST, LOT_MOST, ROW_MOST};
+use clap::builder::ValueParser;
+use clap::{Arg, Command};
+use std::alloc::{AllocError, Global};
+
+// `--NAME NUMBER`, a whole number from `least` to `most`.
+fn number_option<'a>(alloc: Global, name: &'a str, least: u64, most: u64) -> Arg<'a>
+    ensures rule { rule_of result ≡ number_rule name.entry.now least most }
+    ensures local { result.global ≡ false }
+{
+    Arg::new(alloc, name)
+        .long(name)
+        .value_parser(ValueParser::Unsigned(least, most))
+}
+
+// `--NAME TEXT`.
+fn text_option<'a>(alloc: Global, name: &'a str) -> Arg<'a>
+    ensures rule { rule_of result ≡ text_rule name.entry.now }
+    ensures local { result.global ≡ false }
+{
+    Arg::new(alloc, name).long(name)
+}
+
+// A word that must stand.
+fn required_word<'a>(alloc: Global, name: &'a str) -> Arg<'a>
+    ensures rule { rule_of result ≡ required_rule name.entry.now }
+    ensures local { result.global ≡ false }
+{
+    Arg::new(alloc, name).required(true)
+}
+
+// A word that may stand.
+fn optional_word<'a>(alloc: Global, name: &'a str) -> Arg<'a>
+    ensures rule { rule_of result ≡ new_rule name.entry.now }
+    ensures local { result.global ≡ false }
+{
+    Arg::new(alloc, name)
+}
+
+// Adds an argument, which is no global one.
+fn add<'a>(command: Command<'a>, arg: Arg<'a>) -> Result<Command<'a>, AllocError>
+    requires arg { arg.global ≡ false }
+    requires command { (fields_of command).has_globals ≡ false }
+    ensures app { IfOk result (λ c. app_of c ≡ with_rule (app_of command.entry) (rule_of arg.entry)) }
+    ensures local { IfOk result (λ c. (fields_of c).has_globals ≡ false) }
+{
+    command.arg(arg)
+}
+
+// `solve KIND FILE [FILE]` and its options.
+pub(crate) fn solve<'a>(alloc: Global) -> Result<Command<'a>, AllocError>
+    ensures app { IfOk result (λ c. app_of c ≡ the_solve) }
+    ensures local { IfOk result (λ c. (fields_of c).has_globals ≡ false) }
+{
+    let with_kind = add(Command::new(alloc, "solve"), required_word(alloc, "KIND"))?;
+    let with_first = add(with_kind, required_word(alloc, "FIRST_FILE"))?;
+    let with_second = add(with_first, optional_word(alloc, "SECOND_FILE"))?;
+    let with_row = add(with_second, number_option(alloc, "row", 0, ROW_MOST))?;
+    let with_budget = add(with_row, number_option(alloc, "budget", 1, BUDGET_MOST))?;
+    let with_lot = add(with_budget, number_option(alloc, "lot", 1, LOT_MOST))?;
+    let with_blocks = add(
+        with_lot,
+        number_option(alloc, "blocks", BLOCKS_LEAST, BLOCKS_MOST),
+    )?;
+    add(with_blocks, text_option(alloc, "cert"))
+}
+
+// `check KIND CERT FILE [FILE]` and its option.
+pub(crate) fn check<'a>(alloc: Global) -> Result<Command<'a>, AllocError>
+    ensures app { IfOk result (λ c. app_of c ≡ the_check) }
+    ensures local { IfOk result (λ c. (fields_of c).has_globals ≡ false) }
+{
+    let with_kind = add(Command::new(alloc, "check"), required_word(alloc, "KIND"))?;
+    let with_certificate = add(with_kind, required_word(alloc, "CERTIFICATE"))?;
+    let with_first = add(with_certificate, required_word(alloc, "FIRST_FILE"))?;
+    let with_second = add(with_first, optional_word(alloc, "SECOND_FILE"))?;
+    add(with_second, number_option(alloc, "row", 0, ROW_MOST))
+}
+
+// The program before it has subcommands, without words for help or the version.
+fn without_commands<'a>(alloc: Global) -> Command<'a>
+    ensures app { app_of result ≡ bare_program }
+    ensures local { (fields_of result).has_globals ≡ false }
+{
+    Command::new(alloc, "pbnf")
+        .no_binary_name(true)
+        .disable_help_flag(true)
+        .disable_help_subcommand(true)
+        .subcommand_required(true)
+}
+
+// Adds a subcommand with no global argument.
+fn add_command<'a>(program: Command<'a>, command: Command<'a>) -> Result<Command<'a>, AllocError>
+    requires program { (fields_of program).has_globals ≡ false }
+    requires command { (fields_of command).has_globals ≡ false }
+    ensures app { IfOk result (λ c. app_of c ≡ with_subcommand (app_of program.entry) (shape_of command.entry)) }
+    ensures local { IfOk result (λ c. (fields_of c).has_globals ≡ false) }
+{
+    program.subcommand(command)
+}
+
+// The whole command.
+pub(crate) fn program<'a>(alloc: Global) -> Result<Command<'a>, AllocError>
+    ensures app { IfOk result (λ c. app_of c ≡ the_program) }
+    ensures local { IfOk result (λ c. (fields_of c).has_globals ≡ false) }
+{
+    let with_solve = add_command(without_commands(alloc), solve(alloc)?)?;
+    add_command(with_solve, check(alloc)?)
+}

@@ -1,5 +1,0 @@
-use Rattle.pb_grammar.proofs.TokensOf.{tokens_are_unique}
-use Rattle.pb_grammar.proofs.tokens_are_unique.Goals as goal
-
-pub returns : goal.returns
-returns c = tokens_are_unique

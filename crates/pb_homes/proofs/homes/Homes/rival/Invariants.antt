@@ -1,8 +1,0 @@
-use Rattle.std.proofs.Common.{take}
-use Rattle.pb_homes.specs.Homes.{key_at}
-use Rattle.pb_homes.specs.Moves.{is_among}
-use Rattle.pb_homes.specs.Choosing.{IsRivalBy}
-use Rattle.pb_homes.proofs.homes.Homes.rival.Given as goal
-
-abbrev pub invariant-loop-other : goal.invariant-loop-other
-invariant-loop-other l = IsRivalBy (is_among (take l.other-index l.near)) (key_at l.self) l.block l.best

@@ -1,5 +1,0 @@
-use Rattle.pb_homes.proofs.ByKey.{betters_are_by_key}
-use Rattle.pb_homes.proofs.laws.betters_are_by_key.Goals as goal
-
-pub returns : goal.returns
-returns c = betters_are_by_key

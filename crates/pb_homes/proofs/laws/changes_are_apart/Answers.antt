@@ -1,5 +1,0 @@
-use Rattle.pb_homes.proofs.ByRows.{changes_are_apart}
-use Rattle.pb_homes.proofs.laws.changes_are_apart.Goals as goal
-
-pub returns : goal.returns
-returns c = changes_are_apart

@@ -1,5 +1,0 @@
-use Rattle.pb_homes.proofs.ByRows.{home_keys_are_best}
-use Rattle.pb_homes.proofs.laws.home_keys_are_best.Goals as goal
-
-pub returns : goal.returns
-returns c = home_keys_are_best

@@ -1,5 +1,0 @@
-use Rattle.pb_homes.proofs.ByRows.{moves_turn_back}
-use Rattle.pb_homes.proofs.laws.moves_turn_back.Goals as goal
-
-pub returns : goal.returns
-returns c = moves_turn_back

@@ -1,5 +1,0 @@
-use Rattle.pb_homes.proofs.ByRows.{noted_keys_are_best}
-use Rattle.pb_homes.proofs.laws.noted_keys_are_best.Goals as goal
-
-pub returns : goal.returns
-returns c = noted_keys_are_best

@@ -1,5 +1,0 @@
-use Rattle.pb_homes.proofs.ByKey.{opened_is_by_key}
-use Rattle.pb_homes.proofs.laws.opened_is_by_key.Goals as goal
-
-pub returns : goal.returns
-returns c = opened_is_by_key

@@ -1,5 +1,0 @@
-use Rattle.pb_homes.proofs.Opening.{opening_rows_are_home}
-use Rattle.pb_homes.proofs.laws.opening_rows_are_home.Goals as goal
-
-pub returns : goal.returns
-returns c = opening_rows_are_home

@@ -1,5 +1,0 @@
-use Rattle.pb_homes.proofs.ByRows.{taken_places_are_vacant}
-use Rattle.pb_homes.proofs.laws.taken_places_are_vacant.Goals as goal
-
-pub returns : goal.returns
-returns c = taken_places_are_vacant

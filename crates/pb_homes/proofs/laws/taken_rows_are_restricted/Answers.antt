@@ -1,5 +1,0 @@
-use Rattle.pb_homes.proofs.ByRows.{taken_rows_are_restricted}
-use Rattle.pb_homes.proofs.laws.taken_rows_are_restricted.Goals as goal
-
-pub returns : goal.returns
-returns c = taken_rows_are_restricted

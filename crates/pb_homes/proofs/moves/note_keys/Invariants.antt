@@ -1,6 +1,0 @@
-use Rattle.std.proofs.Common.{take}
-use Rattle.pb_homes.specs.Moves.{NotesKeys}
-use Rattle.pb_homes.proofs.moves.note_keys.Given as goal
-
-abbrev pub invariant-loop-at : goal.invariant-loop-at
-invariant-loop-at l = NotesKeys (take l.at l.parts.entries) l.initial.keys.items l.keys.items

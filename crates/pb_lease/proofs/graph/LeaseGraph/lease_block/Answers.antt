@@ -1,0 +1,107 @@
+use Rattle.std.proofs.Common.{◌≡◌, ◌<◌, min, false, Some, None, ◌∙◌, arith, ap, sym, refl, subst, [], ◌∷◌}
+use Rattle.pb_machine.specs.Settings.{weight_of}
+use Rattle.pb_machine.specs.declared.event.Event.TheVariants.{Lease}
+use Rattle.pb_machine.specs.Blocks.{Blocks}
+use Rattle.pb_machine.specs.Legality.{refusal}
+use Rattle.pb_abstract.specs.Graph.{AbstractGraph, blocks_of}
+use Rattle.pb_lease.specs.Tables.{blocks}
+use Rattle.pb_lease.specs.Events.{Adds}
+use Rattle.pb_lease.specs.LeaseValue.{LeaseValue}
+use Rattle.pb_lease.specs.GraphValue.{GraphValue, counts_in}
+use Rattle.pb_lease.specs.Choices.{IsChoice}
+use Rattle.pb_lease.specs.Steps.{IsLeased, LeasesNext}
+use Rattle.pb_lease.proofs.NextEvents.{lease_may}
+use Rattle.pb_lease.proofs.Scopes.{distinct, no_longer}
+use Rattle.pb_lease.proofs.GraphBasics.{chosen_known, scope_home}
+use Rattle.pb_lease.proofs.GraphKept.{leased_kept}
+use Rattle.pb_lease.proofs.MomentSteps.{leases_next}
+use Rattle.pb_lease.proofs.GivenOut.{given}
+use Rattle.pb_lease.specs.contracts.graph.LeaseGraph.{the_view}
+use Rattle.pb_lease.proofs.graph.LeaseGraph.lease_block.Goals as goal
+
+pub scope-requires : goal.scope-requires
+scope-requires c =
+    let t : GraphValue = the_view c.self.inside in
+    let first = subst (λ (v : GraphValue). IsChoice v (Some c.args.block)) (sym c.self.view_is) c.requires.first in
+    subst (λ (g : AbstractGraph). c.args.block < (blocks_of g).count) (sym c.graph.ensures) (chosen_known t c.self.invariant c.args.block first)
+
+pub lease-requires-clause-block : goal.lease-requires-clause-block
+lease-requires-clause-block c =
+    let t : GraphValue = the_view c.self.inside in
+    let first = subst (λ (v : GraphValue). IsChoice v (Some c.args.block)) (sym c.self.view_is) c.requires.first in
+    chosen_known t c.self.invariant c.args.block first
+
+pub take_out-parts-requires-clause-home : goal.take_out-parts-requires-clause-home
+take_out-parts-requires-clause-home c block there =
+    let t : GraphValue = the_view c.self.inside in
+    let first = subst (λ (v : GraphValue). IsChoice v (Some c.args.block)) (sym c.self.view_is) c.requires.first in
+    let graph : blocks_of c.graph-2.result.now ≡ blocks t.table = ap blocks_of (c.graph-2.ensures ∙ c.in_ok-quota.ensures.events.graph) in
+    scope_home t c.self.invariant c.args.block block first.0.0 (sym (c.scope-2.ensures.each block ∙ ap (λ (of : Blocks). of.scope c.args.block block) graph) ∙ there)
+
+pub take_out-parts-requires-clause-distinct : goal.take_out-parts-requires-clause-distinct
+take_out-parts-requires-clause-distinct c = distinct c.scope-2.result.now c.scope-2.ensures.ascending
+
+pub take_out-parts-requires-clause-room : goal.take_out-parts-requires-clause-room
+take_out-parts-requires-clause-room c =
+    let graph : blocks_of c.graph-2.result.now ≡ blocks_of c.graph.result.now = ap blocks_of (c.graph-2.ensures ∙ c.in_ok-quota.ensures.events.graph ∙ sym c.graph.ensures) in
+    let fewer = no_longer c.scope.result.now c.scope-2.result.now c.scope-2.ensures.ascending
+    (λ b. c.scope-2.ensures.each b ∙ ap (λ (of : Blocks). of.scope c.args.block b) graph ∙ sym (c.scope.ensures.each b)) in
+    omega (arith, fewer, c.in_ok-room.ensures)
+
+pub invariant_of-self-2 : goal.invariant_of-self-2
+invariant_of-self-2 c =
+    let t : GraphValue = the_view c.self.inside in
+    let first = subst (λ (v : GraphValue). IsChoice v (Some c.args.block)) (sym c.self.view_is) c.requires.first in
+    let inside = subst (λ (v : GraphValue). c.args.worker < v.table.settings.workers) (sym c.self.view_is) c.requires.worker in
+    let vacant = subst (λ (v : GraphValue). (counts_in v).leases c.args.worker ≡ None) (sym c.self.view_is) c.requires.vacant in
+    let stays = subst (λ (v : GraphValue). (counts_in v).signed_off c.args.worker ≡ false) (sym c.self.view_is) c.requires.stays in
+    let graph : blocks_of c.graph-2.result.now ≡ blocks t.table = ap blocks_of (c.graph-2.ensures ∙ c.in_ok-quota.ensures.events.graph) in
+    let may : refusal (blocks t.table) t.table.settings (counts_in t) (Lease c.args.worker c.args.block (min t.table.settings.lot t.table.left)) ≡ None =
+    lease_may (blocks t.table) t.table.settings (counts_in t) c.args.worker c.args.block (chosen_known t c.self.invariant c.args.block first) inside stays vacant refl c.self.invariant.legal.range.lot.0 first.0.0 in
+    leased_kept t c.self.invariant c.args.worker c.args.block (min t.table.settings.lot t.table.left) c.lease.new.self c.take_out-parts.new.self c.in_ok-quota.ensures.events may inside vacant c.scope-2.result.now
+    (λ b. c.scope-2.ensures.each b ∙ ap (λ (of : Blocks). of.scope c.args.block b) graph) c.take_out-parts.ensures.left c.take_out-parts.ensures.out
+
+pub returns-clause-leased : goal.returns-clause-leased
+returns-clause-leased c =
+    let t : GraphValue = the_view c.self.inside in
+    let first = subst (λ (v : GraphValue). IsChoice v (Some c.args.block)) (sym c.self.view_is) c.requires.first in
+    let graph : blocks_of c.graph-2.result.now ≡ blocks t.table = ap blocks_of (c.graph-2.ensures ∙ c.in_ok-quota.ensures.events.graph) in
+    let settings : c.settings-settings.result.now ≡ t.table.settings = c.settings-settings.ensures ∙ c.in_ok-quota.ensures.events.settings in
+    let lease : LeaseValue = record {
+      worker = c.args.worker;
+      block = c.args.block;
+      quota = c.in_ok-quota.quota;
+      used = 0;
+      incumbent = t.incumbent;
+      weight = record { num = c.settings-settings.result.now.num; den = c.settings-settings.result.now.den };
+      parts = c.take_out-parts.result;
+    } in
+    let adds : Adds t.table c.lease.new.self (Lease lease.worker lease.block lease.quota ∷ []) = subst (λ q. Adds t.table c.lease.new.self (Lease c.args.worker c.args.block q ∷ [])) (sym c.in_ok-quota.ensures.quota) c.in_ok-quota.ensures.events in
+    subst (λ (v : GraphValue). IsLeased v c.args.worker lease (record { task = t.task; table = c.lease.new.self; homes = c.take_out-parts.new.self; incumbent = t.incumbent })) c.self.view_is
+    (given t c.self.invariant lease c.lease.new.self c.take_out-parts.new.self c.scope-2.result.now (λ b. c.scope-2.ensures.each b ∙ ap (λ (of : Blocks). of.scope c.args.block b) graph) first
+    (ap weight_of settings) adds c.take_out-parts.ensures.taken c.in_ok-quota.ensures.quota refl refl c.take_out-parts.ensures.left c.take_out-parts.ensures.out c.in_ok-quota.ensures.room)
+
+pub returns-clause-moment : goal.returns-clause-moment
+returns-clause-moment c =
+    let t : GraphValue = the_view c.self.inside in
+    let first = subst (λ (v : GraphValue). IsChoice v (Some c.args.block)) (sym c.self.view_is) c.requires.first in
+    let inside = subst (λ (v : GraphValue). c.args.worker < v.table.settings.workers) (sym c.self.view_is) c.requires.worker in
+    let vacant = subst (λ (v : GraphValue). (counts_in v).leases c.args.worker ≡ None) (sym c.self.view_is) c.requires.vacant in
+    let stays = subst (λ (v : GraphValue). (counts_in v).signed_off c.args.worker ≡ false) (sym c.self.view_is) c.requires.stays in
+    let graph : blocks_of c.graph-2.result.now ≡ blocks t.table = ap blocks_of (c.graph-2.ensures ∙ c.in_ok-quota.ensures.events.graph) in
+    let settings : c.settings-settings.result.now ≡ t.table.settings = c.settings-settings.ensures ∙ c.in_ok-quota.ensures.events.settings in
+    let lease : LeaseValue = record {
+      worker = c.args.worker;
+      block = c.args.block;
+      quota = c.in_ok-quota.quota;
+      used = 0;
+      incumbent = t.incumbent;
+      weight = record { num = c.settings-settings.result.now.num; den = c.settings-settings.result.now.den };
+      parts = c.take_out-parts.result;
+    } in
+    let new : GraphValue = record { task = t.task; table = c.lease.new.self; homes = c.take_out-parts.new.self; incumbent = t.incumbent } in
+    let adds : Adds t.table c.lease.new.self (Lease lease.worker lease.block lease.quota ∷ []) = subst (λ q. Adds t.table c.lease.new.self (Lease c.args.worker c.args.block q ∷ [])) (sym c.in_ok-quota.ensures.quota) c.in_ok-quota.ensures.events in
+    let leased : IsLeased t lease.worker lease new =
+    given t c.self.invariant lease c.lease.new.self c.take_out-parts.new.self c.scope-2.result.now (λ b. c.scope-2.ensures.each b ∙ ap (λ (of : Blocks). of.scope c.args.block b) graph) first
+    (ap weight_of settings) adds c.take_out-parts.ensures.taken c.in_ok-quota.ensures.quota refl refl c.take_out-parts.ensures.left c.take_out-parts.ensures.out c.in_ok-quota.ensures.room in
+    subst (λ (v : GraphValue). LeasesNext v lease new) c.self.view_is (leases_next t c.self.invariant lease new leased inside vacant stays)

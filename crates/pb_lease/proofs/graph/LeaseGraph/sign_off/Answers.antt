@@ -1,0 +1,33 @@
+use Rattle.std.proofs.Common.{◌≡◌, ◌<◌, true, false, ◌||◌, is_some, None, sym, refl, subst, ◌∷◌}
+use Rattle.pb_machine.specs.declared.event.Event.TheVariants.{Off}
+use Rattle.pb_lease.specs.Tables.{blocks}
+use Rattle.pb_lease.specs.Events.{ending}
+use Rattle.pb_lease.specs.GraphValue.{GraphValue, counts_in}
+use Rattle.pb_lease.specs.Steps.{KeepsLeases}
+use Rattle.pb_lease.proofs.NextEvents.{sign_off_may}
+use Rattle.pb_lease.proofs.GraphKept.{sign_off_kept}
+use Rattle.pb_lease.proofs.MomentNumbers.{signed_off_next}
+use Rattle.pb_lease.specs.contracts.graph.LeaseGraph.{the_view}
+use Rattle.pb_lease.proofs.graph.LeaseGraph.sign_off.Goals as goal
+
+pub invariant_of-self : goal.invariant_of-self
+invariant_of-self c =
+    let t : GraphValue = the_view c.self.inside in
+    let inside = subst (λ (v : GraphValue). c.args.worker < v.table.settings.workers) (sym c.self.view_is) c.requires.worker in
+    let vacant = subst (λ (v : GraphValue). (counts_in v).leases c.args.worker ≡ None) (sym c.self.view_is) c.requires.vacant in
+    let stays = subst (λ (v : GraphValue). (counts_in v).signed_off c.args.worker ≡ false) (sym c.self.view_is) c.requires.stays in
+    let cause = subst (λ (v : GraphValue). (c.args.trouble || is_some v.table.end) ≡ true) (sym c.self.view_is) c.requires.cause in
+    let may = sign_off_may (blocks t.table) t.table.settings (counts_in t) c.args.worker c.args.trouble inside stays vacant refl cause in
+    sign_off_kept t c.self.invariant c.sign_off.new.self c.args.worker c.args.trouble c.sign_off.ensures.events may
+
+pub returns-clause-moment : goal.returns-clause-moment
+returns-clause-moment c =
+    let t : GraphValue = the_view c.self.inside in
+    let inside = subst (λ (v : GraphValue). c.args.worker < v.table.settings.workers) (sym c.self.view_is) c.requires.worker in
+    let vacant = subst (λ (v : GraphValue). (counts_in v).leases c.args.worker ≡ None) (sym c.self.view_is) c.requires.vacant in
+    let stays = subst (λ (v : GraphValue). (counts_in v).signed_off c.args.worker ≡ false) (sym c.self.view_is) c.requires.stays in
+    let cause = subst (λ (v : GraphValue). (c.args.trouble || is_some v.table.end) ≡ true) (sym c.self.view_is) c.requires.cause in
+    let may = sign_off_may (blocks t.table) t.table.settings (counts_in t) c.args.worker c.args.trouble inside stays vacant refl cause in
+    let new : GraphValue = record { task = t.task; table = c.sign_off.new.self; homes = t.homes; incumbent = t.incumbent } in
+    subst (λ (v : GraphValue). KeepsLeases v (Off c.args.worker c.args.trouble ∷ ending c.args.trouble v.table.end) new) c.self.view_is
+    (signed_off_next t c.self.invariant c.args.worker c.args.trouble new c.sign_off.ensures.events refl may)

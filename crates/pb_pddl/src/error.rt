@@ -1,0 +1,80 @@
+ghost use Rattle.std.specs.Prelude.{◌≡◌};
+ghost use Rattle.pb_pddl.specs.declared.error.SyntaxError.TheVariants.{Memory};
+
+use std::alloc::{AllocError, AllocFailed};
+
+/// What must stand in a token's place. Where the grammar has several, the first of `Paren`, `Section`, `Part`, `Name`,
+/// `Variable` and `Close` that fits.
+#[derive(Clone, Copy, Debug, PartialEq, Eq)]
+pub enum Want {
+    /// A `(`.
+    Paren,
+    /// A `)`; also where a `:word` of the requirements or a `)` must stand.
+    Close,
+    /// The word `define`, `domain` or `problem`.
+    Word,
+    /// A word.
+    Name,
+    /// A `?` with a word.
+    Variable,
+    /// The keyword of a section.
+    Section,
+    /// The keyword of a part of an action.
+    Part,
+    /// The name of a type, behind a `-`.
+    TypeName,
+    /// A name or variable before this `-`.
+    Group,
+    /// Another keyword: this section or part stood before.
+    Once,
+    /// `:domain` or `:goal`, before this last `)`.
+    Missing,
+}
+
+/// What of PDDL is left out here.
+#[derive(Clone, Copy, Debug, PartialEq, Eq)]
+pub enum LeftOut {
+    /// A section with another keyword, as `:functions`.
+    Section,
+    /// A part of an action with another keyword, as `:duration`.
+    Part,
+    /// A reserved head directly behind a `(`, as `not` in a condition, or `when`.
+    Head,
+    /// A `(` behind a `-`, as in `- (either a b)`.
+    Either,
+}
+
+/// Why a text is no tree: the first token that can't go on. `at` is the place of its first byte, counted from 0.
+#[derive(Clone, Copy, Debug, PartialEq, Eq)]
+pub enum SyntaxError {
+    /// The bytes there begin no token.
+    Byte { at: u64 },
+    /// A `(` inside 32 others.
+    Deep { at: u64 },
+    /// A form of PDDL that is left out here.
+    LeftOut { at: u64, what: LeftOut },
+    /// Another token must stand there.
+    Expected { at: u64, want: Want },
+    /// The text ends; `at` is the innermost `(` that is open, or the text's length where none is.
+    Unclosed { at: u64 },
+    /// A token behind the whole form.
+    Extra { at: u64 },
+    /// Memory ran out.
+    Memory,
+}
+
+impl From<AllocError> for SyntaxError {
+    ghost from_gives = { λ _ e. e ≡ Memory };
+
+    fn from(_: AllocError) -> Self {
+        SyntaxError::Memory
+    }
+}
+
+impl<T: Drop> From<AllocFailed<T>> for SyntaxError {
+    ghost from_gives = { λ _ e. e ≡ Memory };
+
+    fn from(_: AllocFailed<T>) -> Self {
+        SyntaxError::Memory
+    }
+}

@@ -1,0 +1,48 @@
+use crate::listed::Listed;
+
+/// Of what kind a token is. Each place of a text has one: where no token begins it is `Byte`, where the text ends `End`.
+#[derive(Clone, Copy, Debug, PartialEq, Eq)]
+pub enum TokenKind {
+    /// A `(`.
+    Open,
+    /// A `)`.
+    Close,
+    /// A `=`.
+    Equals,
+    /// A `-` that no word goes on with.
+    Dash,
+    /// A longest run of ASCII letters, digits, `-` and `_` that begins with a letter or a digit.
+    Word,
+    /// A `?` with a word.
+    Variable,
+    /// A `:` with a word.
+    Key,
+    /// A `(` inside as many others as may be.
+    Deep,
+    /// Bytes that begin no token.
+    Byte,
+    /// The end of the text.
+    End,
+}
+
+/// A token and its place: the slice of its text that begins there.
+#[derive(Debug, Drop)]
+pub struct Token {
+    pub kind: TokenKind,
+    /// Its bytes, in lower case.
+    pub text: Listed<u8>,
+    /// The place of its first byte. At the end of the text that of the innermost `(` that is open.
+    pub at: u64,
+    /// Whether it stands directly after a `(`.
+    pub head: bool,
+}
+
+/// Where the next token may begin, as a reader of bytes goes over them.
+#[derive(Debug, Drop)]
+pub struct Cursor {
+    pub at: u64,
+    /// The places of the `(` that are open.
+    pub nest: Listed<u64>,
+    /// Whether a `(` stands directly before it.
+    pub head: bool,
+}

@@ -1,0 +1,168 @@
+-- Effects: where their reading stops.
+use Rattle.std.proofs.Common.{◌≡◌, ℕ, zero, suc, ◌≤◌, Bool, true, false, cond, ◌||◌, List, [], ◌∷◌, ◌++◌, length, drop, Ok, Err, refl, sym, ap, ◌∙◌, arith}
+use Rattle.std.specs.Prelude.{codes}
+use Rattle.pb_pddl.specs.declared.token.TokenKind.TheVariants as kinds
+use Rattle.pb_pddl.specs.declared.token.Token.{Token}
+use Rattle.pb_pddl.specs.declared.tree.Name.{Name}
+use Rattle.pb_pddl.specs.declared.tree.Atom.{Atom}
+use Rattle.pb_pddl.specs.declared.tree.Literal.{Literal}
+use Rattle.pb_pddl.specs.declared.error.SyntaxError.{SyntaxError}
+use Rattle.pb_pddl.specs.declared.error.Want.TheVariants as wants
+use Rattle.pb_pddl.specs.Reading.{◌>>=◌, Read, kind_number, same_kind, is_reserved, front, begins, begins_open, spells, no_token, refusal, need, all_of, begins_term, add_term, atom_at, add_literal, negative_at, effects_at}
+use Rattle.pb_pddl.specs.Places
+use Rattle.pb_pddl.specs.Places.{fits, is_kind, is_word, is_head, sample, takes_section, takes_part, first_fit, left_out, wanted, refused_token, refused}
+use Rattle.pb_pddl_laws.proofs.Readers.{Reads, Can, reads_done, can_done, reads_same, can_same, reads_then, can_then, reads_one, can_one}
+use Rattle.pb_pddl_laws.proofs.Loops.{Takes}
+use Rattle.pb_pddl_laws.proofs.Refusals.{plain, head_misfit, can_open, reads_open, can_close, reads_close}
+use Rattle.pb_pddl_laws.proofs.Closing.{or_none, can_forms, reads_forms}
+use Rattle.pb_pddl_laws.proofs.AtomPlaces.{can_atom, reads_atom, can_atom_behind, reads_atom_behind}
+use Rattle.pb_pddl_laws.proofs.Rooms.{effect_less, effect_inside, any_effect, any_effect_shut, any_effect_open}
+use Rattle.pb_pddl_laws.proofs.ConditionPlaces.{can_either, reads_either, or_last, opens_it, shut_it, open_no_end, open_sample, fault_open}
+
+-- ---- literals
+
+module _ (negated : Bool) where
+  abbrev added : List Literal → Atom → List Literal
+  added said atom = said ++ record { atom = atom; negated = negated } ∷ []
+
+  add_is : (said : List Literal) (ts : List Token) → add_literal negated said ts ≡ (atom_at true ts >>= λ p. Ok (added said p.0, p.1))
+  unfolding add_literal
+  add_is said ts = refl
+
+  can_add : (said : List Literal) → Can (add_literal negated said)
+  can_add said = can_same (add_literal negated said) _ (add_is said) (can_then (atom_at true) (λ atom ts. Ok (added said atom, ts)) (can_atom true) (λ atom. can_done (added said atom)))
+
+  reads_add : (n : ℕ) (said : List Literal) → Reads (List Literal) n (add_literal negated said)
+  reads_add n said =
+      reads_same (add_literal negated said) _ (add_is said) n (reads_then (atom_at true) (λ atom ts. Ok (added said atom, ts)) n (reads_atom true n) (λ atom. reads_done n (added said atom)) (λ atom. can_done (added said atom)))
+
+  can_add_behind : (said : List Literal) (t : Token) → is_head t ≡ true → Can (λ us. add_literal negated said (t ∷ us))
+  can_add_behind said t e =
+      can_same (λ us. add_literal negated said (t ∷ us)) _ (λ us. add_is said (t ∷ us))
+      (can_then (λ us. atom_at true (t ∷ us)) (λ atom ts. Ok (added said atom, ts)) (can_atom_behind true t e) (λ atom. can_done (added said atom)))
+
+  reads_add_behind : (n : ℕ) (said : List Literal) (t : Token) → is_head t ≡ true → Reads (List Literal) n (λ us. add_literal negated said (t ∷ us))
+  reads_add_behind n said t e =
+      reads_same (λ us. add_literal negated said (t ∷ us)) _ (λ us. add_is said (t ∷ us)) n
+      (reads_then (λ us. atom_at true (t ∷ us)) (λ atom ts. Ok (added said atom, ts)) n (reads_atom_behind true n t e) (λ atom. reads_done n (added said atom)) (λ atom. can_done (added said atom)))
+
+  add_misfit : (said : List Literal) (ts : List Token) → is_head (front ts) ≡ false → add_literal negated said ts ≡ Err (refusal wants.Name (front ts))
+  unfolding add_literal atom_at
+  add_misfit said ts e = ap (λ (r : Read Name). (r >>= λ head. (all_of (begins_term true) add_term [] head.1 >>= λ all. need kinds.Close wants.Name all.1 >>= λ rest. Ok (record { predicate = head.0; terms = all.0 }, rest))) >>= λ (atom : Atom × List Token). Ok (added said atom.0, atom.1)) (head_misfit ts e)
+
+-- ---- behind ( not
+
+abbrev closed : List Literal → List Token → Read (List Literal)
+closed said ts = need kinds.Close wants.Close ts >>= λ rest. Ok (said, rest)
+
+abbrev negative : List Literal → List Token → Read (List Literal)
+negative said ts = add_literal true said ts >>= λ p. closed p.0 p.1
+
+can_negative : (said : List Literal) → Can (negative said)
+can_negative said = can_then (add_literal true said) closed (can_add true said) (λ all. can_close (λ rest. Ok (all, rest)) (can_done all))
+
+reads_negative : (n : ℕ) (said : List Literal) → Reads (List Literal) n (negative said)
+reads_negative n said =
+    reads_then (add_literal true said) closed n (reads_add true n said) (λ all. reads_close (λ rest. Ok (all, rest)) (can_done all) n (λ m less. reads_done m all)) (λ all. can_close (λ rest. Ok (all, rest)) (can_done all))
+
+not_is : (said : List Literal) (ts : List Token) → negative_at said ts ≡ (need kinds.Open wants.Paren ts >>= negative said)
+unfolding negative_at
+not_is said ts = refl
+
+can_not : (said : List Literal) → Can (negative_at said)
+can_not said = can_same (negative_at said) _ (not_is said) (can_open (negative said) (can_negative said))
+
+reads_not : (n : ℕ) (said : List Literal) → Reads (List Literal) n (negative_at said)
+reads_not n said = reads_same (negative_at said) _ (not_is said) n (reads_open (negative said) (can_negative said) n (λ m less. reads_negative m said))
+
+-- ---- behind the (
+
+abbrev inside : List Literal → List Token → Read (List Literal)
+inside = effect_inside any_effect
+
+inside_no_end : fits Places.InEffect no_token ≡ false
+unfolding fits same_kind kind_number
+inside_no_end = refl
+
+inside_refused : (t : Token) → refused Places.InEffect t ≡ refusal wants.Name t
+unfolding refused_token left_out wanted first_fit takes_section takes_part fits same_kind kind_number is_reserved
+inside_refused t = plain Places.InEffect t wants.Name refl refl refl
+
+inside_misfit : (said : List Literal) (ts : List Token) → fits Places.InEffect (front ts) ≡ false → inside said ts ≡ Err (refused Places.InEffect (front ts))
+unfolding fits begins spells
+inside_misfit said ts e =
+    let a = or_none (is_kind kinds.Close (front ts) || is_word (codes "and") (front ts) || is_word (codes "not") (front ts)) (is_head (front ts)) e in
+    let b = or_none (is_kind kinds.Close (front ts) || is_word (codes "and") (front ts)) (is_word (codes "not") (front ts)) a.0 in
+    let c = or_none (is_kind kinds.Close (front ts)) (is_word (codes "and") (front ts)) b.0 in
+    ap (λ x. cond x (Ok (said, drop 1 ts)) (cond (is_word (codes "and") (front ts)) (effects_at any_effect said (drop 1 ts)) (cond (is_word (codes "not") (front ts)) (negative_at said (drop 1 ts)) (add_literal false said ts)))) c.0
+    ∙ ap (λ x. cond x (effects_at any_effect said (drop 1 ts)) (cond (is_word (codes "not") (front ts)) (negative_at said (drop 1 ts)) (add_literal false said ts))) c.1
+    ∙ ap (λ x. cond x (negative_at said (drop 1 ts)) (add_literal false said ts)) b.1
+    ∙ add_misfit false said ts a.1
+    ∙ ap (λ (x : SyntaxError). Err x) (sym (inside_refused (front ts)))
+
+abbrev not_behind : List Literal → Token → List Token → Read (List Literal)
+not_behind said t us = cond (is_word (codes "not") t) (negative_at said us) (add_literal false said (t ∷ us))
+
+abbrev and_behind : List Literal → Token → List Token → Read (List Literal)
+and_behind said t us = cond (is_word (codes "and") t) (effects_at any_effect said us) (not_behind said t us)
+
+-- what follows the token behind the (
+abbrev inside_behind : List Literal → Token → List Token → Read (List Literal)
+inside_behind said t us = cond (is_kind kinds.Close t) (Ok (said, us)) (and_behind said t us)
+
+inside_take : (said : List Literal) (t : Token) (us : List Token) → fits Places.InEffect t ≡ true → inside said (t ∷ us) ≡ inside_behind said t us
+unfolding begins spells front
+inside_take said t us fit = refl
+
+takes_effect : Takes begins_open any_effect
+takes_effect s ts now rest goes e = effect_less (length ts) s ts now rest e
+
+effect_step : (s : List Literal) (t : Token) (us : List Token) → same_kind t.kind kinds.Open ≡ true → any_effect s (t ∷ us) ≡ inside s us
+unfolding begins front
+effect_step s t us e = any_effect_open s t us e
+
+can_inside : (said : List Literal) → Can (inside said)
+unfolding begins front same_kind kind_number
+can_inside said = (sample kinds.Close ∷ [], said, λ rest. refl)
+
+abbrev same : List Literal → List Literal
+same s = s
+
+effects_is : (said : List Literal) (us : List Token) → effects_at any_effect said us ≡ (all_of begins_open any_effect said us >>= λ all. need kinds.Close wants.Paren all.1 >>= λ rest. Ok (same all.0, rest))
+unfolding effects_at
+effects_is said us = refl
+
+can_effects : (said : List Literal) → Can (effects_at any_effect said)
+can_effects said = can_same (effects_at any_effect said) _ (effects_is said) (can_forms any_effect inside same takes_effect effect_step can_inside said)
+
+fits_behind : (t : Token) → fits Places.InEffect t ≡ true → is_kind kinds.Close t ≡ false → is_word (codes "and") t ≡ false → is_word (codes "not") t ≡ false → is_head t ≡ true
+unfolding fits
+fits_behind t fit close word minus =
+    or_last (is_kind kinds.Close t || is_word (codes "and") t || is_word (codes "not") t) (is_head t)
+    (ap (λ b. b || is_word (codes "and") t || is_word (codes "not") t) close ∙ ap (λ b. b || is_word (codes "not") t) word ∙ minus) fit
+
+can_inside_behind : (said : List Literal) (t : Token) → fits Places.InEffect t ≡ true → Can (inside_behind said t)
+can_inside_behind said t fit =
+    can_either (is_kind kinds.Close t) (λ us. Ok (said, us)) (and_behind said t) (λ close. can_done said) (λ close.
+    can_either (is_word (codes "and") t) (effects_at any_effect said) (not_behind said t) (λ word. can_effects said) (λ word.
+    can_either (is_word (codes "not") t) (negative_at said) (λ us. add_literal false said (t ∷ us)) (λ minus. can_not said) (λ minus. can_add_behind false said t (fits_behind t fit close word minus))))
+
+reads_inside : (k n : ℕ) → n ≤ k → (said : List Literal) → Reads (List Literal) n (inside said)
+reads_inside zero n le said = reads_one (inside said) (inside_behind said) Places.InEffect inside_no_end (inside_misfit said) (inside_take said) (can_inside_behind said) (can_inside said) n (λ m less t fit. absurd (omega arith))
+reads_inside (suc k) n le said =
+    reads_one (inside said) (inside_behind said) Places.InEffect inside_no_end (inside_misfit said) (inside_take said) (can_inside_behind said) (can_inside said) n (λ m less t fit.
+    reads_either (is_kind kinds.Close t) m (λ us. Ok (said, us)) (and_behind said t) (λ close. reads_done m said) (λ close.
+    reads_either (is_word (codes "and") t) m (effects_at any_effect said) (not_behind said t)
+    (λ word. reads_same (effects_at any_effect said) _ (effects_is said) m (reads_forms any_effect inside same takes_effect effect_step can_inside m (λ l below s. reads_inside k l (omega arith) s) said)) (λ word.
+    reads_either (is_word (codes "not") t) m (negative_at said) (λ us. add_literal false said (t ∷ us)) (λ minus. reads_not m said) (λ minus. reads_add_behind false m said t (fits_behind t fit close word minus)))))
+
+effect_misfit : (said : List Literal) (ts : List Token) → fits Places.AnOpen (front ts) ≡ false → any_effect said ts ≡ Err (refused Places.AnOpen (front ts))
+effect_misfit said ts e = any_effect_shut said ts (shut_it ts e) ∙ ap (λ (x : SyntaxError). Err x) (fault_open ts)
+
+pub can_effect : (said : List Literal) → Can (any_effect said)
+can_effect said = can_one (any_effect said) (λ t. inside said) Places.AnOpen open_no_end (effect_misfit said) (λ t us fit. any_effect_open said t us (opens_it t us fit)) (λ t fit. can_inside said) (sample kinds.Open) open_sample
+
+pub reads_effect : (n : ℕ) (said : List Literal) → Reads (List Literal) n (any_effect said)
+reads_effect n said =
+    reads_one (any_effect said) (λ t. inside said) Places.AnOpen open_no_end (effect_misfit said) (λ t us fit. any_effect_open said t us (opens_it t us fit)) (λ t fit. can_inside said) (can_effect said) n
+    (λ m less t fit. reads_inside m m (omega arith) said)

@@ -1,0 +1,265 @@
+-- Whole forms: the first token that can't go on.
+use Rattle.std.proofs.Common.{◌≡◌, ℕ, true, false, cond, List, [], ◌∷◌, ◌++◌, length, Result, Ok, Err, refl, sym, ap, subst, ◌∙◌, arith, inl, inr}
+use Rattle.std.proofs.lemmas.List.{append_assoc}
+use Rattle.std.specs.Prelude.{codes}
+use Rattle.std.specs.Str.{bytes_eq}
+use Rattle.pb_pddl.specs.declared.token.TokenKind.TheVariants as kinds
+use Rattle.pb_pddl.specs.declared.token.Token.{Token}
+use Rattle.pb_pddl.specs.declared.tree.Name.{Name}
+use Rattle.pb_pddl.specs.declared.tree.Atom.{Atom}
+use Rattle.pb_pddl.specs.declared.tree.Domain.{Domain}
+use Rattle.pb_pddl.specs.declared.tree.Problem.{Problem}
+use Rattle.pb_pddl.specs.declared.parts.DomainParts.{DomainParts}
+use Rattle.pb_pddl.specs.declared.parts.ProblemParts.{ProblemParts}
+use Rattle.pb_pddl.specs.declared.error.SyntaxError.{SyntaxError}
+use Rattle.pb_pddl.specs.declared.error.SyntaxError.TheVariants as errors
+use Rattle.pb_pddl.specs.declared.error.Want.TheVariants as wants
+use Rattle.pb_pddl.specs.Reading.{◌>>=◌, Read, kind_number, same_kind, front, begins, begins_open, need, need_word, name_at, all_of, title_at, end_at, unlimited, or_empty, domain_section, no_domain, domain_at, problem_section, no_problem, sections_want, there, problem_at}
+use Rattle.pb_pddl.specs.Places
+use Rattle.pb_pddl.specs.Places.{Place, fits, is_kind, sample, refused_token, refused, Begins, IsFault}
+use Rattle.pb_pddl.specs.Grammar.{IsDomain, IsProblem}
+use Rattle.pb_pddl_laws.proofs.CondsRead.{if_true}
+use Rattle.pb_pddl_laws.proofs.Readers.{bind_err, Stops, Reads, Can, reads_done, can_done, reads_same, can_same, reads_then, can_then}
+use Rattle.pb_pddl_laws.proofs.Refusals.{can_open, reads_open, can_close, reads_close, can_name, reads_name, can_word, reads_word}
+use Rattle.pb_pddl_laws.proofs.Keys.{decide}
+use Rattle.pb_pddl_laws.proofs.DomainPlaces.{domain_sections, can_domain_sections, reads_domain_sections}
+use Rattle.pb_pddl_laws.proofs.ProblemPlaces.{sections_end, problem_sections, can_problem_sections, reads_problem_sections}
+use Rattle.pb_pddl_laws.proofs.FormsRead.{domain_is, domain_again, problem_is, problem_again}
+
+true_false : true ≡ false → ⊥
+true_false e = cc
+
+abbrev failed : {X : Type 0} → SyntaxError → Result X SyntaxError
+failed e = Err e
+
+err_ok : {X : Type 0} (e : SyntaxError) (x : X) → Ok x ≡ failed e → ⊥
+err_ok e x clash = cc
+
+-- ---- ( define ( WORD NAME )
+
+define_same : bytes_eq (codes "define") (codes "define") ≡ true
+define_same = refl
+
+module _ (word : List ℕ) (same : bytes_eq word word ≡ true) where
+  abbrev name_end : Name → List Token → Read Name
+  name_end name ts = need kinds.Close wants.Close ts >>= λ rest. Ok (name, rest)
+
+  can_name_end : (name : Name) → Can (name_end name)
+  can_name_end name = can_close (λ rest. Ok (name, rest)) (can_done name)
+
+  abbrev at_name : List Token → Read Name
+  at_name ts = name_at kinds.Word wants.Name ts >>= λ p. name_end p.0 p.1
+
+  abbrev at_word : List Token → Read Name
+  at_word ts = need_word word ts >>= at_name
+
+  abbrev at_title : List Token → Read Name
+  at_title ts = need kinds.Open wants.Paren ts >>= at_word
+
+  abbrev at_define : List Token → Read Name
+  at_define ts = need_word (codes "define") ts >>= at_title
+
+  can_at_name : Can at_name
+  can_at_name = can_name name_end can_name_end
+
+  can_at_word : Can at_word
+  can_at_word = can_word at_name can_at_name word same
+
+  can_at_title : Can at_title
+  can_at_title = can_open at_word can_at_word
+
+  can_at_define : Can at_define
+  can_at_define = can_word at_title can_at_title (codes "define") define_same
+
+  title_is : (ts : List Token) → title_at word ts ≡ (need kinds.Open wants.Paren ts >>= at_define)
+  unfolding title_at
+  title_is ts = refl
+
+  pub can_title : Can (title_at word)
+  can_title = can_same (title_at word) _ title_is (can_open at_define can_at_define)
+
+  pub reads_title : (n : ℕ) → Reads Name n (title_at word)
+  reads_title n =
+      reads_same (title_at word) _ title_is n (reads_open at_define can_at_define n (λ a la.
+      reads_word at_title can_at_title (codes "define") define_same a (λ b lb.
+      reads_open at_word can_at_word b (λ c lc. reads_word at_name can_at_name word same c (λ d ld. reads_name name_end can_name_end d (λ e le name. reads_close (λ rest. Ok (name, rest)) (can_done name) e (λ f lf. reads_done f name)))))))
+
+-- ---- what is read, with nothing behind it
+
+module _ {X : Type 0} (body : List Token → Read X) (reads : (n : ℕ) → Reads X n body) (can : Can body) where
+  abbrev pub whole : List Token → Result X SyntaxError
+  whole ts = body ts >>= λ p. (end_at p.1 >>= λ e. Ok p.0)
+
+  the_end : Token
+  the_end = sample kinds.End
+
+  -- behind these tokens, the form is refused at each token that does not fit, and goes on with each that does
+  pub record Halts (before : List Token) (place : Place) : Type 0 where
+    pub refuses : (after : List Token) → fits place (front after) ≡ false → whole (before ++ after) ≡ Err (refused place (front after))
+    pub goes_on : (t : Token) → fits place t ≡ true → (us : List Token) × (x : X) × (whole (before ++ t ∷ us) ≡ Ok x)
+    pub lives : (us : List Token) × (x : X) × (whole (before ++ us) ≡ Ok x)
+
+  end_fits : (ts : List Token) → is_kind kinds.End (front ts) ≡ true → end_at ts ≡ Ok ts
+  unfolding end_at begins
+  end_fits ts e = if_true (is_kind kinds.End (front ts)) _ _ e
+
+  the_end_fits : (rest : List Token) → is_kind kinds.End (front (the_end ∷ rest)) ≡ true
+  unfolding front the_end same_kind kind_number
+  the_end_fits rest = refl
+
+  ends_whole : (ts : List Token) (x : X) → body ts ≡ Ok (x, the_end ∷ []) → whole ts ≡ Ok x
+  ends_whole ts x e = ap (λ r. r >>= λ p. (end_at p.1 >>= λ q. Ok p.0)) e ∙ ap (λ (r : Result (List Token) SyntaxError). r >>= λ q. Ok x) (end_fits (the_end ∷ []) (the_end_fits []))
+
+  halts_inside : (before : List Token) (place : Place) → Stops X body before place → Halts before place
+  halts_inside before place s = record {
+    refuses = λ after misfit. ap (λ r. r >>= λ p. (end_at p.1 >>= λ q. Ok p.0)) (s.refuses after misfit);
+    goes_on = λ t fit. let u = s.goes_on t fit in (u.0 ++ the_end ∷ [], u.1, ends_whole (before ++ t ∷ (u.0 ++ the_end ∷ [])) u.1 (u.2 (the_end ∷ [])));
+    lives = (s.lives.0 ++ the_end ∷ [], s.lives.1, ends_whole (before ++ (s.lives.0 ++ the_end ∷ [])) s.lives.1 (s.lives.2 (the_end ∷ [])));
+  }
+
+  -- the errors behind the whole form
+  end_refused : (ts : List Token) → fits Places.TheEnd (front ts) ≡ false → end_at ts ≡ Err (refused Places.TheEnd (front ts))
+  unfolding end_at begins fits refused refused_token same_kind kind_number
+  end_refused ts misfit = by_kind (front ts) misfit where
+    by_kind : (t : Token) → same_kind t.kind kinds.End ≡ false
+        → cond (same_kind t.kind kinds.End) (Ok ts) (cond (same_kind t.kind kinds.Byte) (Err (errors.Byte t.at)) (cond (same_kind t.kind kinds.Deep) (Err (errors.Deep t.at)) (Err (errors.Extra t.at)))) ≡ Err (refused Places.TheEnd t)
+    by_kind t other = elim t.kind as (λ k. same_kind k kinds.End ≡ false
+        → cond (same_kind k kinds.End) (Ok ts) (cond (same_kind k kinds.Byte) (Err (errors.Byte t.at)) (cond (same_kind k kinds.Deep) (Err (errors.Deep t.at)) (Err (errors.Extra t.at))))
+        ≡ Err (elim k as (λ _. SyntaxError) [ kinds.Byte ↦ errors.Byte t.at | kinds.Deep ↦ errors.Deep t.at | kinds.End ↦ errors.Unclosed t.at | _ ↦ errors.Extra t.at ])) [
+          | kinds.Open ↦ λ e. refl
+          | kinds.Close ↦ λ e. refl
+          | kinds.Equals ↦ λ e. refl
+          | kinds.Dash ↦ λ e. refl
+          | kinds.Word ↦ λ e. refl
+          | kinds.Variable ↦ λ e. refl
+          | kinds.Key ↦ λ e. refl
+          | kinds.Deep ↦ λ e. refl
+          | kinds.Byte ↦ λ e. refl
+          | kinds.End ↦ λ e. absurd (true_false e)
+        ] other
+
+  fits_end : (t : Token) (us : List Token) → fits Places.TheEnd t ≡ true → is_kind kinds.End (front (t ∷ us)) ≡ true
+  unfolding fits front
+  fits_end t us e = e
+
+  halts_behind : (used : List Token) (x : X) → ((more : List Token) → body (used ++ more) ≡ Ok (x, more)) → Halts used Places.TheEnd
+  halts_behind used x frame = record {
+    refuses = λ after misfit. ap (λ r. r >>= λ p. (end_at p.1 >>= λ q. Ok p.0)) (frame after) ∙ ap (λ (r : Result (List Token) SyntaxError). r >>= λ q. Ok x) (end_refused after misfit);
+    goes_on = λ t fit. ([], x, ap (λ r. r >>= λ p. (end_at p.1 >>= λ q. Ok p.0)) (frame (t ∷ [])) ∙ ap (λ (r : Result (List Token) SyntaxError). r >>= λ q. Ok x) (end_fits (t ∷ []) (fits_end t [] fit)));
+    lives = (the_end ∷ [], x, ends_whole (used ++ the_end ∷ []) x (frame (the_end ∷ [])));
+  }
+
+  end_fault : (ts : List Token) (x : X) (e : SyntaxError) → (end_at ts >>= λ q. Ok x) ≡ Err e → fits Places.TheEnd (front ts) ≡ false
+  unfolding fits
+  end_fault ts x e err = decide (is_kind kinds.End (front ts)) (λ fit. absurd (err_ok e x (sym (ap (λ (r : Result (List Token) SyntaxError). r >>= λ q. Ok x) (end_fits ts fit)) ∙ err))) (λ misfit. misfit)
+
+  pub whole_faults : (ts : List Token) (e : SyntaxError) → whole ts ≡ Err e
+      → (before : List Token) × (after : List Token) × (place : Place) × (ts ≡ before ++ after) × (fits place (front after) ≡ false) × Halts before place
+  whole_faults ts e err = elim (bind_err (body ts) (λ p. (end_at p.1 >>= λ q. Ok p.0)) e err) [
+    | inl first ↦ let u = (reads (length ts)).faults ts e (omega arith) first in (u.0, u.1, u.2, u.3, u.4, halts_inside u.0 u.2 u.5)
+    | inr (p, ok, second) ↦
+        let a = (reads (length ts)).frames ts p.0 p.1 (omega arith) ok in
+        (a.0, p.1, Places.TheEnd, a.1, end_fault p.1 p.0 e second, halts_behind a.0 p.0 a.2)
+  ]
+
+  refuses_one : (before : List Token) (place : Place) → Halts before place → (t : Token) (us : List Token) → fits place t ≡ false → whole (before ++ t ∷ us) ≡ Err (refused place t)
+  unfolding front
+  refuses_one before place h t us misfit = h.refuses (t ∷ us) misfit
+
+  -- with what the grammar has
+  pub fault_is : (Is : List Token → X → Type 0) → ((ts : List Token) (x : X) → whole ts ≡ Ok x → Is ts x) → ((ts : List Token) (x : X) → Is ts x → whole ts ≡ Ok x) → (ts : List Token) (e : SyntaxError) → whole ts ≡ Err e → IsFault X Is ts e
+  fault_is Is sound complete ts e err =
+      let u = whole_faults ts e err in
+      let h = u.5 in
+      record {
+        before = u.0;
+        after = u.1;
+        place = u.2;
+        split = u.3;
+        begins = (h.lives.0, h.lives.1, sound (u.0 ++ h.lives.0) h.lives.1 h.lives.2);
+        follows = λ t fit. let c = h.goes_on t fit in (c.0, c.1, subst (λ (us : List Token). Is us c.1) (sym (append_assoc u.0 (t ∷ []) c.0)) (sound (u.0 ++ t ∷ c.0) c.1 c.2));
+        ends = λ t misfit begun.
+            err_ok (refused u.2 t) begun.1
+            (sym (complete ((u.0 ++ t ∷ []) ++ begun.0) begun.1 begun.2) ∙ ap whole (append_assoc u.0 (t ∷ []) begun.0) ∙ refuses_one u.0 u.2 h t begun.0 misfit);
+        stuck = u.4;
+        error = same_error e (refused u.2 (front u.1)) (sym err ∙ ap whole u.3 ∙ h.refuses u.1 u.4);
+      } where
+        same_error : (a b : SyntaxError) → failed {X = X} a ≡ failed b → a ≡ b
+        same_error a b is = cc
+
+-- ---- domains and problems
+
+pub domain_same : bytes_eq (codes "domain") (codes "domain") ≡ true
+domain_same = refl
+
+pub problem_same : bytes_eq (codes "problem") (codes "problem") ≡ true
+problem_same = refl
+
+bind_bind : {A B C : Type 0} (r : Result A SyntaxError) (f : A → Result B SyntaxError) (g : B → Result C SyntaxError) → ((r >>= f) >>= g) ≡ (r >>= λ x. f x >>= g)
+bind_bind (Ok x) f g = refl
+bind_bind (Err e) f g = refl
+
+bind_same : {A B : Type 0} (r : Result A SyntaxError) (f g : A → Result B SyntaxError) → ((x : A) → f x ≡ g x) → (r >>= f) ≡ (r >>= g)
+bind_same (Ok x) f g same = same x
+bind_same (Err e) f g same = refl
+
+abbrev domain_of : Name → DomainParts → Domain
+domain_of name all = record { name = name; types = or_empty all.types; constants = or_empty all.constants; predicates = or_empty all.predicates; actions = all.actions }
+
+abbrev domain_body : List Token → Read Domain
+domain_body ts = title_at (codes "domain") ts >>= λ p. domain_sections (domain_of p.0) no_domain p.1
+
+can_domain : Can domain_body
+can_domain = can_then (title_at (codes "domain")) (λ name. domain_sections (domain_of name) no_domain) (can_title (codes "domain") domain_same) (λ name. can_domain_sections (domain_of name) no_domain)
+
+reads_domain : (n : ℕ) → Reads Domain n domain_body
+reads_domain n =
+    reads_then (title_at (codes "domain")) (λ name. domain_sections (domain_of name) no_domain) n (reads_title (codes "domain") domain_same n) (λ name. reads_domain_sections (domain_of name) n no_domain) (λ name. can_domain_sections (domain_of name) no_domain)
+
+domain_whole : (ts : List Token) → domain_at unlimited ts ≡ whole domain_body reads_domain can_domain ts
+unfolding domain_at
+domain_whole ts =
+    bind_same (title_at (codes "domain") ts) _ _ (λ name.
+    bind_same (all_of begins_open (domain_section unlimited) no_domain name.1) _ _ (λ all. sym (bind_bind (need kinds.Close wants.Paren all.1) (λ rest. Ok (domain_of name.0 all.0, rest)) (λ p. end_at p.1 >>= λ e. Ok p.0)))
+    ∙ sym (bind_bind (all_of begins_open (domain_section unlimited) no_domain name.1) (λ all. need kinds.Close wants.Paren all.1 >>= λ rest. Ok (domain_of name.0 all.0, rest)) (λ p. end_at p.1 >>= λ e. Ok p.0)))
+    ∙ sym (bind_bind (title_at (codes "domain") ts) (λ p. domain_sections (domain_of p.0) no_domain p.1) (λ p. end_at p.1 >>= λ e. Ok p.0))
+
+pub domain_fault : (ts : List Token) (e : SyntaxError) → domain_at unlimited ts ≡ Err e → IsFault Domain IsDomain ts e
+domain_fault ts e err =
+    fault_is domain_body reads_domain can_domain IsDomain (λ us x is. domain_is us x (domain_whole us ∙ is)) (λ us x is. sym (domain_whole us) ∙ domain_again us x is) ts e (sym (domain_whole ts) ∙ err)
+
+abbrev problem_of : Name → ProblemParts → Name → List Atom → Problem
+problem_of name all domain goal = record { name = name; domain = domain; objects = or_empty all.objects; init = or_empty all.init; goal = goal }
+
+abbrev problem_body : List Token → Read Problem
+problem_body ts = title_at (codes "problem") ts >>= λ p. problem_sections (problem_of p.0) no_problem p.1
+
+can_problem : Can problem_body
+can_problem = can_then (title_at (codes "problem")) (λ name. problem_sections (problem_of name) no_problem) (can_title (codes "problem") problem_same) (λ name. can_problem_sections (problem_of name) no_problem)
+
+reads_problem : (n : ℕ) → Reads Problem n problem_body
+reads_problem n =
+    reads_then (title_at (codes "problem")) (λ name. problem_sections (problem_of name) no_problem) n (reads_title (codes "problem") problem_same n) (λ name. reads_problem_sections (problem_of name) n no_problem) (λ name. can_problem_sections (problem_of name) no_problem)
+
+abbrev finish : Problem × List Token → Result Problem SyntaxError
+finish p = end_at p.1 >>= λ e. Ok p.0
+
+problem_end : (name : Name) (s : ProblemParts) (ts : List Token)
+    → (need kinds.Close (sections_want s) ts >>= λ rest. (there s.domain ts >>= λ domain. (there s.goal ts >>= λ goal. (end_at rest >>= λ e. Ok (problem_of name s domain goal))))) ≡ (sections_end (problem_of name) s ts >>= finish)
+problem_end name s ts =
+    bind_same (need kinds.Close (sections_want s) ts) _ _ (λ rest.
+    bind_same (there s.domain ts) _ _ (λ domain. sym (bind_bind (there s.goal ts) (λ goal. Ok (problem_of name s domain goal, rest)) finish))
+    ∙ sym (bind_bind (there s.domain ts) (λ domain. there s.goal ts >>= λ goal. Ok (problem_of name s domain goal, rest)) finish))
+    ∙ sym (bind_bind (need kinds.Close (sections_want s) ts) (λ rest. there s.domain ts >>= λ domain. (there s.goal ts >>= λ goal. Ok (problem_of name s domain goal, rest))) finish)
+
+problem_whole : (ts : List Token) → problem_at unlimited ts ≡ whole problem_body reads_problem can_problem ts
+unfolding problem_at
+problem_whole ts =
+    bind_same (title_at (codes "problem") ts) _ _ (λ name.
+    bind_same (all_of begins_open (problem_section unlimited) no_problem name.1) _ _ (λ all. problem_end name.0 all.0 all.1)
+    ∙ sym (bind_bind (all_of begins_open (problem_section unlimited) no_problem name.1) (λ all. sections_end (problem_of name.0) all.0 all.1) finish))
+    ∙ sym (bind_bind (title_at (codes "problem") ts) (λ p. problem_sections (problem_of p.0) no_problem p.1) finish)
+
+pub problem_fault : (ts : List Token) (e : SyntaxError) → problem_at unlimited ts ≡ Err e → IsFault Problem IsProblem ts e
+problem_fault ts e err =
+    fault_is problem_body reads_problem can_problem IsProblem (λ us x is. problem_is us x (problem_whole us ∙ is)) (λ us x is. sym (problem_whole us) ∙ problem_again us x is) ts e (sym (problem_whole ts) ∙ err)

@@ -1,0 +1,37 @@
+-- What is read of a text, and what it spells.
+use Rattle.std.proofs.Common.{◌≡◌, ◌≢◌, ℕ, List, Result, Ok, Err, sym, subst, ◌∙◌}
+use Rattle.std.specs.Prelude.{IfOk, IfErr}
+use Rattle.pb_pddl.specs.declared.token.Token.{Token}
+use Rattle.pb_pddl.specs.declared.error.SyntaxError.{SyntaxError}
+use Rattle.pb_pddl.specs.declared.error.SyntaxError.TheVariants as errors
+use Rattle.pb_pddl.specs.Tokens.{TextTokens}
+use Rattle.pb_pddl.specs.Reading.{Gives}
+use Rattle.pb_pddl.specs.Places.{IsFault}
+use Rattle.pb_pddl.specs.Trees.{IsRead, FirstFault}
+
+abbrev fails : {X : Type 0} → SyntaxError → Result X SyntaxError
+fails e = Err e
+
+err_ok : {X : Type 0} (e : SyntaxError) (x : X) → Ok x ≡ fails e → ⊥
+err_ok e x clash = cc
+
+module _ {X : Type 0} (reading : List Token → Result X SyntaxError) (Is : List Token → X → Type 0) (text : List ℕ) where
+  abbrev Spelled : X → Type 0
+  Spelled x = (ts : List Token) × TextTokens text ts × Is ts x
+
+  pub found : (r : Result X SyntaxError) → ((ts : List Token) (x : X) → reading ts ≡ Ok x → Is ts x) → IsRead reading text r → IfOk r (λ x. (ts : List Token) × TextTokens text ts × Is ts x)
+  found (Ok x) sound (ts, are, e) = (ts, are, sound ts x e)
+  found (Err e) sound is = tt
+
+  pub only : (r : Result X SyntaxError) → ((ts : List Token) (x : X) → Is ts x → reading ts ≡ Ok x) → ((ts : List Token) → TextTokens text ts → Gives (λ y. y) r (reading ts))
+      → (x : X) → (ts : List Token) × TextTokens text ts × Is ts x → Gives (λ y. y) r (Ok x)
+  only r complete all x (ts, are, is) = subst (λ (q : Result X SyntaxError). Gives (λ y. y) r q) (complete ts x is) (all ts are)
+
+  pub none : (r : Result X SyntaxError) → ((ts : List Token) (x : X) → Is ts x → reading ts ≡ Ok x) → ((ts : List Token) → TextTokens text ts → Gives (λ y. y) r (reading ts))
+      → IfErr r (λ e. e ≢ errors.Memory → (x : X) → (ts : List Token) × TextTokens text ts × Is ts x → ⊥)
+  none (Ok y) complete all = tt
+  none (Err e) complete all = λ some x spelled. err_ok e x (sym (complete spelled.0 x spelled.2) ∙ all spelled.0 spelled.1 some)
+
+  pub first : (r : Result X SyntaxError) → ((ts : List Token) (e : SyntaxError) → reading ts ≡ Err e → IsFault X Is ts e) → IsRead reading text r → IfErr r (λ e. e ≢ errors.Memory → FirstFault X Is text e)
+  first (Ok x) fault is = tt
+  first (Err e) fault is = λ some. let u = is some in (u.0, u.1, fault u.0 e u.2)

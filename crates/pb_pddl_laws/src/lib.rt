@@ -1,0 +1,60 @@
+//! Laws of the definitions in `pb_pddl`: what a list of tokens is read as is what the grammar has, an error is at the
+//! first token that can't go on, and the limit on nested parentheses changes neither; a text has one list of tokens, and
+//! the names in its tree are words. It has no code that runs.
+#![tactic(auto)]
+
+ghost use Rattle.std.specs.Prelude.{◌≡◌, ℕ, List, Ok, Err};
+ghost use Rattle.pb_pddl.specs.declared.error.SyntaxError.{SyntaxError};
+ghost use Rattle.pb_pddl.specs.declared.token.Token.{Token};
+ghost use Rattle.pb_pddl.specs.declared.tree.Domain.{Domain};
+ghost use Rattle.pb_pddl.specs.declared.tree.Problem.{Problem};
+ghost use Rattle.pb_pddl.specs.Tokens.{TextTokens};
+ghost use Rattle.pb_pddl.specs.Reading.{limited, unlimited, domain_at, problem_at};
+ghost use Rattle.pb_pddl.specs.Grammar.{IsDomain, IsProblem};
+ghost use Rattle.pb_pddl.specs.Places.{IsFault};
+ghost use Rattle.pb_pddl.specs.Trees.{SpellsDomain, SpellsProblem};
+ghost use Rattle.pb_pddl.specs.Readings.{tokens_of};
+ghost use Rattle.pb_pddl.specs.Words.{DomainHasWords, ProblemHasWords};
+
+/// A law: tokens are read as a domain exactly where the grammar has them as that domain.
+pub fn domain_reading_is_exact()
+    ensures sound { (ts : List Token) (domain : Domain) → domain_at unlimited ts ≡ Ok domain → IsDomain ts domain }
+    ensures complete { (ts : List Token) (domain : Domain) → IsDomain ts domain → domain_at unlimited ts ≡ Ok domain }
+{}
+
+/// A law: tokens are read as a problem exactly where the grammar has them as that problem.
+pub fn problem_reading_is_exact()
+    ensures sound { (ts : List Token) (problem : Problem) → problem_at unlimited ts ≡ Ok problem → IsProblem ts problem }
+    ensures complete { (ts : List Token) (problem : Problem) → IsProblem ts problem → problem_at unlimited ts ≡ Ok problem }
+{}
+
+/// A law: what stands before the token that is refused is the beginning of a form, that token can't follow it, and the
+/// error is the first that fits it.
+pub fn error_is_first()
+    ensures domain { (ts : List Token) (e : SyntaxError) → domain_at unlimited ts ≡ Err e → IsFault Domain IsDomain ts e }
+    ensures problem { (ts : List Token) (e : SyntaxError) → problem_at unlimited ts ≡ Err e → IsFault Problem IsProblem ts e }
+{}
+
+/// A law: in the tokens of a text a `(` that is too deep is refused before the limit on recursion could decide, so what
+/// is read within the limit is what is read without any.
+pub fn limit_never_decides()
+    ensures domain { (text : List ℕ) (ts : List Token) → TextTokens text ts → domain_at unlimited ts ≡ domain_at limited ts }
+    ensures problem { (text : List ℕ) (ts : List Token) → TextTokens text ts → problem_at unlimited ts ≡ problem_at limited ts }
+{}
+
+/// A law: each text has tokens, which are those that `tokens_of` gives.
+pub fn texts_have_tokens()
+    ensures { (text : List ℕ) → TextTokens text (tokens_of text) }
+{}
+
+/// A law: a text has no other tokens than those that `tokens_of` gives.
+pub fn tokens_are_unique()
+    ensures { (text : List ℕ) (ts : List Token) → TextTokens text ts → ts ≡ tokens_of text }
+{}
+
+/// A law: where a text spells a tree, the names of its actions and constants, or of its objects, are words: lower-case letters,
+/// digits, `-` and `_` alone, of which the first is a letter or a digit.
+pub fn names_are_words()
+    ensures domain { (text : List ℕ) (domain : Domain) → SpellsDomain text domain → DomainHasWords domain }
+    ensures problem { (text : List ℕ) (problem : Problem) → SpellsProblem text problem → ProblemHasWords problem }
+{}

@@ -1,8 +1,0 @@
-use Rattle.std.proofs.Common.{refl}
-use Rattle.clap.proofs.OnLiterals.{clap_on_literals}
-use Rattle.pb_words.specs.Parser.{the_program, the_solve, the_check}
-use Rattle.pb_words.proofs.laws.solve_with_two_names_is_read.Goals as goal
-
-pub returns : goal.returns
-unfolding the_program the_solve the_check clap_on_literals
-returns c = λ map scenario hm hs. rw (hm.no_dashes, hm.no_long, hm.no_short, hs.no_dashes, hs.no_long, hs.no_short) refl
