@@ -1,16 +1,10 @@
 -- The laws of this crate. Each is proved, as the contract of the public function that has its name.
 use Rattle.std.specs.Prelude.{◌≡◌, ℕ, List, [], ◌∷◌, None, false, codes}
+use Rattle.pb_command.specs.Names.{IsName}
 use Rattle.std.specs.Str.{bytes_eq}
-use Rattle.clap.specs.Lexer.{long_of, short_of}
 use Rattle.pb_command.specs.Values.{Grid, Tiles, Strips}
 use Rattle.pb_command.specs.Meaning.{Read, Refused, Solve, Check, reading_of_words}
 use Rattle.pb_command.specs.declared.refusal.CommandFault.TheVariants as fault
-
--- a word that is neither `--`, nor a long option, nor short ones
-pub record IsName (w : List ℕ) : Type 0 where
-  pub no_dashes : bytes_eq w (45 ∷ 45 ∷ []) ≡ false
-  pub no_long : long_of w ≡ None
-  pub no_short : short_of w ≡ None
 
 abbrev pub SolveWithTwoNamesIsRead : Type 0
 SolveWithTwoNamesIsRead = (map scenario : List ℕ) → IsName map → IsName scenario

@@ -12,9 +12,10 @@ mod values;
 
 pub use command::{CheckCommand, CommandLine, GridFiles, Input, SolveCommand, StripsFiles};
 pub use laws::{
-    check_with_domain_and_problem_is_read, check_with_one_board_is_read,
-    check_with_three_names_is_read, faults_are_found, solve_with_domain_and_problem_is_read,
-    solve_with_one_board_is_read, solve_with_two_names_is_read,
+    check_reads_options, check_with_domain_and_problem_is_read, check_with_one_board_is_read,
+    check_with_three_names_is_read, faults_are_found, solve_reads_options,
+    solve_with_domain_and_problem_is_read, solve_with_one_board_is_read,
+    solve_with_two_names_is_read,
 };
 pub use reader::read_words;
 pub use refusal::{CommandFault, CommandRefusal, Message};
