@@ -9,3 +9,8 @@ pub mod StatesAgree
 pub mod StepsAgree
 pub mod TaskParts
 pub mod Words
+pub mod Apart
+pub mod DifferentRows
+pub mod Texts
+pub mod Telling
+pub mod Printed

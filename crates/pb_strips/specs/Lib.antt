@@ -3,3 +3,4 @@ pub mod Grounding
 pub mod Refusals
 pub mod Correspondence
 pub mod Packing
+pub mod Naming

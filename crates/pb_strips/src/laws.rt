@@ -1,5 +1,6 @@
 ghost use Rattle.pb_strips.specs.Correspondence.{PackedStepsAreSteps, StepsArePackedSteps, StartsAgree, GoalsAgree, PackedPlansArePlans, PlansArePackedPlans};
 ghost use Rattle.pb_strips.specs.Names.{TextsKeepNames};
+ghost use Rattle.pb_strips.specs.Naming.{NamesTellActions, NamesArePrinted};
 
 /// Where a domain and a problem are a task, the steps of the packed states are those of the states by names, in both directions, at the same cost and
 /// under the name that is printed; start and goals agree.
@@ -19,4 +20,16 @@ pub fn plans_are_lifted()
 /// The text of a ground action's name has the bytes of the names of the action and its objects, where these are UTF-8.
 pub fn texts_keep_names()
     ensures { TextsKeepNames }
+{}
+
+/// Where a domain and a problem whose names are words are a task, its ground actions are told apart by the names that are printed, and no name
+/// has a line feed.
+pub fn names_tell_actions()
+    ensures { NamesTellActions }
+{}
+
+/// Where the names of a domain and a problem are words, the actions of each plan by names are printed as `(name object ..)`, with the bytes of
+/// these names.
+pub fn names_are_printed()
+    ensures { NamesArePrinted }
 {}

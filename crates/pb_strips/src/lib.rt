@@ -10,7 +10,9 @@ mod sets;
 
 pub use error::StripsError;
 pub use grounding::ground;
-pub use laws::{plans_are_lifted, steps_are_lifted, texts_keep_names};
+pub use laws::{
+    names_are_printed, names_tell_actions, plans_are_lifted, steps_are_lifted, texts_keep_names,
+};
 
 #[cfg(test)]
 mod tests;

@@ -19,7 +19,7 @@ use Rattle.pb_pddl_laws.proofs.FormsRead.{domain_is, problem_is}
 use Rattle.pb_pddl_laws.proofs.TokensOf.{texts_have_tokens}
 use Rattle.pb_pddl_laws.proofs.NamesAreWords.{domain_has_words, problem_has_words}
 use Rattle.pb_strips.specs.Names.{action_bytes, action_text}
-use Rattle.pb_naming.proofs.Printed.{names_are_printed}
+use Rattle.pb_strips.proofs.Printed.{names_are_printed}
 use Rattle.pb_strips.specs.Grounding.{strips_of}
 use Rattle.pb_strips.specs.Refusals.{first_fault}
 use Rattle.pb_strips.specs.Correspondence.{PackedPlansArePlans, PlansArePackedPlans}

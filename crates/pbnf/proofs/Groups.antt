@@ -17,7 +17,7 @@ use Rattle.pb_tiles.specs.declared.error.TilesError.{TilesError}
 use Rattle.pb_tiles.specs.Reading.{tiles_reading}
 use Rattle.pb_task.specs.Parts.{space_of, action_name, IsTask, greatest_cost}
 use Rattle.pb_model.proofs.Tests.{not_both, by_cases, equal}
-use Rattle.pb_naming.specs.Names.{AreTellingNames}
+use Rattle.pb_strips.specs.Naming.{AreTellingNames}
 use Rattle.pb_task.proofs.Grids.{tasks_are_proper}
 use Rattle.pb_report.specs.Texts.{plan_text, input_text, tiles_text}
 use Rattle.pbnf.specs.Loaded.{refused_with, grid_told, grid_task, tiles_told, tiles_task}

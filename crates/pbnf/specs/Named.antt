@@ -9,7 +9,7 @@ use Rattle.pb_pddl.specs.declared.tree.Problem.{Problem}
 use Rattle.pb_pddl.specs.Readings.{domain_reading, problem_reading}
 use Rattle.pb_lifted.specs.Plans.{NamedAction, IsPlan}
 use Rattle.pb_strips.specs.Names.{action_bytes}
-use Rattle.pb_naming.specs.Names.{AreTellingNames}
+use Rattle.pb_strips.specs.Naming.{AreTellingNames}
 use Rattle.pb_check.specs.declared.fault.Verdict.{Verdict}
 use Rattle.pb_check.specs.declared.fault.Verdict.TheVariants.{Bounded, Unsolvable}
 use Rattle.pb_report.specs.Texts.{verdict_text}

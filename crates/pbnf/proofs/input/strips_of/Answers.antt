@@ -1,5 +1,5 @@
 use Rattle.std.proofs.Common.{sym, subst}
-use Rattle.pb_naming.proofs.Telling.{names_tell_actions}
+use Rattle.pb_strips.proofs.Telling.{names_tell_actions}
 use Rattle.pbnf.specs.Named.{NamesTell}
 use Rattle.pbnf.proofs.input.strips_of.Goals as goal
 

@@ -7,7 +7,7 @@ use Rattle.std.proofs.lemmas.Str.Ascii.{IsAscii-from_all}
 use Rattle.std.specs.Str.Lossy.{utf8_lossy}
 use Rattle.pb_pddl.specs.Words.{is_word_byte, AreWordBytes}
 use Rattle.pb_strips.specs.Names.{spaced}
-use Rattle.pb_naming.proofs.Apart.{never}
+use Rattle.pb_strips.proofs.Apart.{never}
 
 -- ---- words
 

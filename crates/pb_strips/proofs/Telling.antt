@@ -31,10 +31,10 @@ use Rattle.pb_strips.specs.Grounding.{packed_action, strips_of}
 use Rattle.pb_strips.specs.Refusals.{first_fault, or_too_many}
 use Rattle.pb_strips.proofs.Instances.{IsInstance, is_instance_at}
 use Rattle.pb_model.proofs.Tests.{and_true, by_cases}
-use Rattle.pb_naming.specs.Names.{AreTellingNames, NamesTellActions}
-use Rattle.pb_naming.proofs.Apart.{same_place}
-use Rattle.pb_naming.proofs.DifferentRows.{row_of, actions_apart}
-use Rattle.pb_naming.proofs.Texts.{IsPlain, ArePlain, plain, same_parts, IsOfLine, text_of_line, text_is}
+use Rattle.pb_strips.specs.Naming.{AreTellingNames, NamesTellActions}
+use Rattle.pb_strips.proofs.Apart.{same_place}
+use Rattle.pb_strips.proofs.DifferentRows.{row_of, actions_apart}
+use Rattle.pb_strips.proofs.Texts.{IsPlain, ArePlain, plain, same_parts, IsOfLine, text_of_line, text_is}
 
 -- ---- lists
 

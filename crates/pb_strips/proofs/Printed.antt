@@ -13,9 +13,9 @@ use Rattle.pb_lifted.specs.Facts.{name_at}
 use Rattle.pb_lifted.specs.Space.{State, FitsParameter, AreGiven, IsStep, start_of}
 use Rattle.pb_lifted.specs.Plans.{NamedAction, Leads}
 use Rattle.pb_strips.specs.Names.{action_word, action_bytes, action_text}
-use Rattle.pb_naming.specs.Names.{NamesArePrinted}
-use Rattle.pb_naming.proofs.Texts.{IsPlain, ArePlain, plain, text_of_line, text_is}
-use Rattle.pb_naming.proofs.Telling.{plain_at, actions_plain}
+use Rattle.pb_strips.specs.Naming.{NamesArePrinted}
+use Rattle.pb_strips.proofs.Texts.{IsPlain, ArePlain, plain, text_of_line, text_is}
+use Rattle.pb_strips.proofs.Telling.{plain_at, actions_plain}
 
 abbrev pub HasWord : Typed → Type 0
 HasWord t = IsWord t.name.text
