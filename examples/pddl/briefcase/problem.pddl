@@ -1,0 +1,7 @@
+(define (problem day)
+  (:domain briefcase)
+  (:objects office bank - place book letter cash - thing)
+  (:init (case-at office)
+         (thing-at book office) (thing-at letter home) (thing-at cash bank))
+  (:goal (and (thing-at book home) (thing-at letter office) (thing-at cash home)
+              (door-shut) (case-at home))))

@@ -1,0 +1,6 @@
+(define (problem three-cars)
+  (:domain ferry)
+  (:objects west east island - shore red green blue - car)
+  (:init (ferry-at west) (empty)
+         (car-at red east) (car-at green island) (car-at blue west))
+  (:goal (and (car-at red west) (car-at green east) (car-at blue island))))

@@ -1,0 +1,7 @@
+(define (problem locked-in)
+  (:domain keys)
+  (:objects hall cellar tower - room iron brass - key)
+  (:init (in hall) (lies iron hall) (lies brass tower)
+         (door hall cellar iron) (door cellar hall iron)
+         (door hall tower brass) (door tower hall brass))
+  (:goal (in tower)))

@@ -1,0 +1,13 @@
+(define (problem soil-rock-and-picture)
+  (:domain rovers)
+  (:objects rover - rover base plain ridge crater - waypoint mast - camera
+            hill cairn - objective soil rock - sample view - picture)
+  (:init (at rover base) (store-empty rover)
+         (way rover base plain) (way rover plain base)
+         (way rover plain ridge) (way rover ridge plain)
+         (way rover plain crater) (way rover crater plain)
+         (lies soil plain) (lies rock crater)
+         (mounted mast rover) (target mast cairn)
+         (sees plain cairn) (sees ridge hill) (shows view hill)
+         (hears base) (hears ridge))
+  (:goal (and (sent soil) (sent rock) (sent view))))

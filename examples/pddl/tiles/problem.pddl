@@ -1,0 +1,12 @@
+; Two rows of three cells, c11 to c13 and c21 to c23.
+(define (problem two-by-three)
+  (:domain tiles)
+  (:objects t1 t2 t3 t4 t5 - tile c11 c12 c13 c21 c22 c23 - cell)
+  (:init (beside c11 c12) (beside c12 c11) (beside c12 c13) (beside c13 c12)
+         (beside c21 c22) (beside c22 c21) (beside c22 c23) (beside c23 c22)
+         (beside c11 c21) (beside c21 c11) (beside c12 c22) (beside c22 c12)
+         (beside c13 c23) (beside c23 c13)
+         (lies t4 c11) (lies t5 c12) (empty c13)
+         (lies t1 c21) (lies t2 c22) (lies t3 c23))
+  (:goal (and (empty c11) (lies t1 c12) (lies t2 c13)
+              (lies t3 c21) (lies t4 c22) (lies t5 c23))))

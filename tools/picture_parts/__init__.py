@@ -1,0 +1,1 @@
+"""The parts of `tools/picture`: readers of the formats, a canvas, a module for each picture."""

@@ -1,0 +1,366 @@
+"""Reads maps, scenarios, boards, reports, certificates and journals as docs/FORMATS.md says.
+
+A file of another form is refused: `Refused` has one line with the file, the place and the fault.
+"""
+
+import os
+import re
+
+INPUT_BYTES = 16 * 2**20
+CERTIFICATE_BYTES = 2**30
+GRID_MOVES = {"up": (0, -1), "down": (0, 1), "left": (-1, 0), "right": (1, 0)}
+NUMBER = re.compile(rb"0|[1-9][0-9]*")
+
+
+class Refused(Exception):
+    """A file that isn't as its format says."""
+
+    def __init__(self, name, place, fault):
+        where = f"{name}: {place}: " if place else f"{name}: "
+        super().__init__(where + fault)
+
+
+class Map:
+    """Cells by row, each `.` (land), `W` (water) or `@` (blocked); a start and a goal as (x, y)."""
+
+    def __init__(self, rows, start, goal):
+        self.rows = rows
+        self.width = len(rows[0])
+        self.height = len(rows)
+        self.start = start
+        self.goal = goal
+
+    def has(self, x, y):
+        return 0 <= x < self.width and 0 <= y < self.height
+
+    def step(self, cell, move):
+        """The cell that a move leads to, or None."""
+        dx, dy = GRID_MOVES[move]
+        x, y = cell[0] + dx, cell[1] + dy
+        if not self.has(x, y) or self.rows[y][x] != self.rows[cell[1]][cell[0]]:
+            return None
+        return (x, y)
+
+
+class Report:
+    """What `solve` printed: the plan's cost and steps, or that there is none, or a stop."""
+
+    def __init__(self, cost=None, steps=None, bound=None, budget=None):
+        self.cost = cost
+        self.steps = steps
+        self.bound = bound
+        self.budget = budget
+
+    def headline(self):
+        if self.steps is not None:
+            steps = "1 step" if len(self.steps) == 1 else f"{len(self.steps)} steps"
+            return f"a plan of cost {self.cost} in {steps}; no plan costs less than {self.bound}"
+        if self.budget is not None:
+            return f"stopped after {self.budget} expansions; nothing is claimed"
+        return "no plan exists"
+
+
+class Certificate:
+    """The head of a certificate; its rows go to the caller one by one."""
+
+    def __init__(self, kind, weight, plan, cost, rows):
+        self.kind = kind
+        self.weight = weight
+        self.plan = plan
+        self.cost = cost
+        self.rows = rows
+
+
+def load(name, most=INPUT_BYTES):
+    try:
+        if os.path.getsize(name) > most:
+            raise Refused(name, "", f"longer than {most // 2**20} MiB")
+        with open(name, "rb") as file:
+            return file.read()
+    except OSError as fault:
+        raise Refused(name, "", os.strerror(fault.errno or 0)) from None
+
+
+def lines_of(data):
+    lines = data.split(b"\n")
+    if lines[-1] == b"":
+        lines.pop()
+    return [line[:-1] if line.endswith(b"\r") else line for line in lines]
+
+
+def words_of(line):
+    return [word for word in re.split(rb"[ \t]+", line) if word]
+
+
+def is_number(word):
+    return re.fullmatch(rb"[0-9]{1,9}", word) is not None
+
+
+def read_map_rows(name):
+    lines = lines_of(load(name))
+    sizes = []
+    for at, head in enumerate((b"type", b"height", b"width", b"map")):
+        words = words_of(lines[at]) if at < len(lines) else []
+        if at in (1, 2) and len(words) == 2 and words[0] == head and is_number(words[1]):
+            sizes.append(int(words[1]))
+        elif words != ([b"type", b"octile"], None, None, [b"map"])[at]:
+            raise Refused(name, f"line {at + 1}", "not the head of a map")
+    height, width = sizes
+    if not (1 <= height <= 2048 and 1 <= width <= 2048):
+        raise Refused(name, "line 2", "height or width isn't 1 to 2048")
+    classes = bytes.maketrans(b".GSW@OT", b"...W@@@")
+    rows = []
+    for y in range(height):
+        place = f"line {y + 5}"
+        if y + 4 >= len(lines) or len(lines[y + 4]) != width:
+            raise Refused(name, place, f"not a row of {width} cells")
+        other = re.search(rb"[^.GSW@OT]", lines[y + 4])
+        if other:
+            raise Refused(name, f"{place}, column {other.start() + 1}", "no cell of a map")
+        rows.append(lines[y + 4].translate(classes))
+    for at in range(height + 4, len(lines)):
+        if words_of(lines[at]):
+            raise Refused(name, f"line {at + 1}", "a line below the last row isn't blank")
+    return rows
+
+
+def read_grid(map_name, scenario_name, row):
+    rows = read_map_rows(map_name)
+    lines = lines_of(load(scenario_name))
+    if not lines or not lines[0].startswith(b"version"):
+        raise Refused(scenario_name, "line 1", "doesn't begin with `version`")
+    places = [at for at in range(1, len(lines)) if words_of(lines[at])]
+    if row >= len(places):
+        raise Refused(scenario_name, "", f"has {len(places)} rows, and no row {row}")
+    place = f"line {places[row] + 1}"
+    words = words_of(lines[places[row]])
+    if len(words) < 9 or not all(is_number(word) for word in words[-7:-1]):
+        raise Refused(scenario_name, place, "not a row of a scenario")
+    width, height, start_x, start_y, goal_x, goal_y = (int(word) for word in words[-7:-1])
+    grid = Map(rows, (start_x, start_y), (goal_x, goal_y))
+    if (width, height) != (grid.width, grid.height):
+        raise Refused(scenario_name, place, "width or height isn't the map's")
+    for what, cell in (("start", grid.start), ("goal", grid.goal)):
+        if not grid.has(*cell):
+            raise Refused(scenario_name, place, f"the {what} isn't on the map")
+    for what, (x, y) in (("start", grid.start), ("goal", grid.goal)):
+        if rows[y][x] == ord("@"):
+            raise Refused(scenario_name, place, f"the {what} is blocked")
+    return grid
+
+
+def read_tiles(name):
+    """Rows, columns, the start board and the goal board, each a list of numbers."""
+    data = load(name)
+    found = [(m.group(), data.count(b"\n", 0, m.start()) + 1)
+             for m in re.finditer(rb"[^ \t\r\n]+", data)]
+    goal_at = None
+    for at, (word, line) in enumerate(found):
+        if word == b"goal" and goal_at is None and at >= 2:
+            goal_at = at
+        elif not is_number(word):
+            raise Refused(name, f"line {line}", "neither a number nor the first `goal`")
+    numbers = [int(word) for word, _ in found if word != b"goal"]
+    if len(numbers) < 2:
+        raise Refused(name, "", "fewer than two numbers")
+    rows, columns = numbers[:2]
+    if not (2 <= rows <= 4 and 2 <= columns <= 4):
+        raise Refused(name, f"line {found[0][1]}", "rows or columns aren't 2 to 4")
+    cells = rows * columns
+    cut = len(numbers) if goal_at is None else goal_at
+    boards = [numbers[2:cut]] + ([] if goal_at is None else [numbers[cut:]])
+    for what, board in zip(("start", "goal"), boards):
+        if len(board) != cells:
+            raise Refused(name, "", f"the {what} has {len(board)} numbers and not {cells}")
+    for board in boards:
+        for number in board:
+            if number >= cells or board.count(number) > 1:
+                fault = "isn't on such a board" if number >= cells else "stands twice"
+                raise Refused(name, "", f"the number {number} {fault}")
+    return rows, columns, boards[0], boards[1] if len(boards) > 1 else list(range(cells))
+
+
+def read_report(name, is_step):
+    """A report of `solve`; `is_step` says of a line's text whether it is a step of this kind."""
+    lines = load(name, CERTIFICATE_BYTES).decode("utf-8", "replace").split("\n")
+    if lines[-1] != "":
+        raise Refused(name, f"line {len(lines)}", "the line has no end")
+    lines.pop()
+    head = re.fullmatch(r"plan (0|[1-9][0-9]*) (0|[1-9][0-9]*)", lines[0]) if lines else None
+    if head is None:
+        stop = re.fullmatch(r"none|stopped budget ([1-9][0-9]*)", lines[0]) if lines else None
+        if stop is None:
+            raise Refused(name, "line 1", "not the report of `solve`")
+        if len(lines) > 1:
+            raise Refused(name, "line 2", "a line below the report")
+        return Report(budget=int(stop.group(1)) if stop.group(1) else None)
+    steps = lines[1 : 1 + int(head.group(2))]
+    for at, step in enumerate(steps):
+        if not is_step(step):
+            raise Refused(name, f"line {at + 2}", "not a step")
+    at = 1 + int(head.group(2))
+    bound = re.fullmatch(r"bound (0|[1-9][0-9]*)", lines[at]) if at < len(lines) else None
+    if bound is None or len(lines) != at + 1:
+        raise Refused(name, f"line {min(at, len(lines)) + 1}", "not the bound, as the last line")
+    return Report(int(head.group(1)), steps, int(bound.group(1)))
+
+
+class _Lines:
+    """The lines of a certificate or a journal, one by one, with the place of the latest."""
+
+    def __init__(self, name, file):
+        self.name = name
+        self.file = file
+        self.line = 0
+
+    def next(self):
+        self.line += 1
+        return self.file.readline()
+
+    def refuse(self, fault):
+        raise Refused(self.name, f"line {self.line}", fault)
+
+    def number(self, word):
+        if NUMBER.fullmatch(word) is None or int(word) >= 2**63:
+            self.refuse("not a number")
+        return int(word)
+
+    def words(self, heads, count):
+        """The numbers after the first word of a line, which is one of `heads`."""
+        line = self.next()
+        words = line[:-1].split(b" ")
+        if not line.endswith(b"\n") or len(words) != count + 1 or words[0] not in heads:
+            self.refuse("expected " + " or ".join(f"`{head.decode()}`" for head in heads))
+        return [self.number(word) for word in words[1:]]
+
+
+def read_certificate(name, take):
+    """Gives each row to `take` as (line, state, g, is closed) and the rest to the caller."""
+    try:
+        with open(name, "rb") as file:
+            if os.fstat(file.fileno()).st_size > CERTIFICATE_BYTES:
+                raise Refused(name, "", "longer than 1 GiB")
+            return _read_certificate(_Lines(name, file), take)
+    except OSError as fault:
+        raise Refused(name, "", os.strerror(fault.errno or 0)) from None
+
+
+def _read_certificate(lines, take):
+    if lines.next() != b"pbnf-certificate 1\n":
+        lines.refuse("not `pbnf-certificate 1`")
+    kind = re.fullmatch(rb"kind (grid|tiles|strips)\n", lines.next())
+    if kind is None:
+        lines.refuse("expected `kind` and grid, tiles or strips")
+    weight = lines.words([b"weight"], 2)
+    if not 1 <= weight[1] <= weight[0] <= 1000:
+        lines.refuse("the weight isn't 1 to 1000")
+    plan, cost = _read_certificate_plan(lines)
+    count = lines.words([b"rows"], 1)[0]
+    before, unordered = -1, None
+    row = re.compile(rb"([0-9a-f]{64}) (0|[1-9][0-9]*) (closed|cut)\n")
+    for _ in range(count):
+        found = row.fullmatch(lines.next())
+        if found is None:
+            lines.refuse("not a row")
+        state = int(found.group(1), 16)
+        if state <= before and unordered is None:
+            unordered = lines.line
+        before = state
+        take(lines.line, state, lines.number(found.group(2)), found.group(3) == b"closed")
+    if lines.next() != b"end\n":
+        lines.refuse("not `end`")
+    if lines.next() != b"":
+        lines.refuse("a line below `end`")
+    if unordered is not None:
+        fault = "the state isn't above that of the row before"
+        raise Refused(lines.name, f"line {unordered}", fault)
+    return Certificate(kind.group(1).decode(), weight, plan, cost, count)
+
+
+def _read_certificate_plan(lines):
+    line = lines.next()
+    if line == b"none\n":
+        return None, None
+    head = re.fullmatch(rb"plan (0|[1-9][0-9]*)\n", line)
+    if head is None:
+        lines.refuse("expected `plan` or `none`")
+    plan = []
+    for _ in range(lines.number(head.group(1))):
+        step = lines.next()
+        plan.append(lines.number(step[:-1]) if step.endswith(b"\n") else lines.refuse("not a step"))
+    return plan, lines.words([b"cost"], 1)[0]
+
+
+class Journal:
+    """The settings by name, and the events, each a tuple of its line's words as numbers."""
+
+    def __init__(self, settings, events):
+        self.settings = settings
+        self.events = events
+
+
+HEADER = (("blocks", 16, 4096), ("workers", 1, 64), ("budget", 1, 2**40), ("lot", 1, 2**20),
+          ("plain", 0, 1))
+EVENTS = [re.compile(form) for form in (
+    rb"(lease) (N) (N) (N)", rb"(renew) (N) (N) (N)", rb"(hot) (N) (N)", rb"(cold) (N) (N)",
+    rb"(release) (N) (N) (ok|memory)", rb"(off) (N) (ok|memory)", rb"(end) (quiet|budget|memory)")]
+EVENTS = [re.compile(form.pattern.replace(b"N", NUMBER.pattern)) for form in EVENTS]
+
+
+def read_journal(name):
+    """A journal whose lines are spelled as the format says, and that can be drawn.
+
+    Tested are the spelling, the ranges of the settings, that a worker leases only without a lease
+    and renews, marks and releases only with one, and that nothing is missing at its end. Whether
+    each event was allowed (scopes, hot blocks, quotas) is judged by `pbnf journal`, and not here.
+    """
+    data = load(name, CERTIFICATE_BYTES)
+    lines = data.split(b"\n")
+    last = lines.pop()
+    if last:
+        raise Refused(name, f"line {len(lines) + 1}", "the line has no end")
+    if not lines or lines[0] != b"pbnf-journal 1":
+        raise Refused(name, "line 1", "not `pbnf-journal 1`")
+    settings = {}
+    for at, (key, least, most) in enumerate(HEADER):
+        line = lines[at + 1] if at + 1 < len(lines) else b""
+        head = re.fullmatch(key.encode() + b" (" + NUMBER.pattern + b")", line)
+        if head is None or not least <= int(head.group(1)) <= most:
+            raise Refused(name, f"line {at + 2}", f"expected `{key}` and {least} to {most}")
+        settings[key] = int(head.group(1))
+    events = [_read_event(name, at + 1, lines[at]) for at in range(6, len(lines))]
+    _test_journal(name, settings, events)
+    return Journal(settings, events)
+
+
+def _read_event(name, line, text):
+    for form in EVENTS:
+        found = form.fullmatch(text)
+        if found:
+            return tuple(int(word) if word.isdigit() else word.decode() for word in found.groups())
+    raise Refused(name, f"line {line}", "not an event")
+
+
+def _test_journal(name, settings, events):
+    held, off, ended = set(), set(), False
+    for at, event in enumerate(events):
+        fault = None
+        kind, worker = event[0], event[1]
+        if ended and kind not in ("release", "off"):
+            fault = "the search has ended before"
+        elif kind == "end":
+            ended = True
+        elif worker >= settings["workers"] or worker in off:
+            fault = f"no worker {worker}, or it has signed off"
+        elif (worker in held) == (kind in ("lease", "off")):
+            fault = f"worker {worker} has " + ("a lease" if worker in held else "no lease")
+        if fault:
+            raise Refused(name, f"line {at + 7}", fault)
+        if kind == "lease":
+            held.add(worker)
+        elif kind == "release":
+            held.discard(worker)
+        elif kind == "off":
+            off.add(worker)
+    if not ended or len(off) < settings["workers"]:
+        raise Refused(name, f"line {len(events) + 7}", "the journal isn't finished")
