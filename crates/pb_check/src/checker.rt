@@ -1,7 +1,7 @@
 ghost use Rattle.std.specs.Prelude.{◌≡◌, ◌<◌, ◌^◌, length, IfOk, Ok};
 ghost use Rattle.pb_task.specs.Parts.{space_of, IsTask};
 ghost use Rattle.pb_estimate.specs.Estimates.{estimate_of};
-ghost use Rattle.pb_estimate.specs.Tables.{tables_of};
+ghost use Rattle.pb_estimate.specs.Tables.{IsOfTask};
 ghost use Rattle.pb_check.specs.declared.fault.Verdict.{Verdict};
 ghost use Rattle.pb_check.specs.Faults.{Gives};
 ghost use Rattle.pb_check.specs.Judging.{checked};
@@ -22,11 +22,11 @@ fn first_fault(
     estimator: &mut Estimator,
     bytes: &[u8],
 ) -> Result<Verdict, CheckError>
-    requires task { estimator.old ≡ tables_of task.now }
+    requires task { IsOfTask estimator.old task.now }
     requires bytes { length bytes.now < 2 ^ 63 }
     ensures exact { Gives (λ x. x) result (checked (space_of task.now) (estimate_of task.now) (kind_of task.now) bytes.now) }
     ensures lawful { IfOk result (λ verdict. IsTask task.now) }
-    ensures task { estimator.new ≡ tables_of task.now }
+    ensures task { IsOfTask estimator.new task.now }
 {
     let text = text_of(alloc, bytes)?;
     judge(
@@ -49,7 +49,7 @@ pub fn check(
     estimator: &mut Estimator,
     bytes: &[u8],
 ) -> Result<Verdict, CheckError>
-    requires task { estimator.old ≡ tables_of task.now }
+    requires task { IsOfTask estimator.old task.now }
     requires bytes { length bytes.now < 2 ^ 63 }
     // Which verdict or fault it is, unless memory ran out.
     ensures exact { Gives (λ x. x) result (checked (space_of task.now) (estimate_of task.now) (kind_of task.now) bytes.now) }
@@ -61,7 +61,7 @@ pub fn check(
     ensures claim { IfOk result (λ verdict. ShowsClaim (space_of task.now) (kind_of task.now) bytes.now verdict) }
     // So what the verdict says is true of the task.
     ensures holds { IfOk result (λ verdict. VerdictHolds (space_of task.now) verdict) }
-    ensures task { estimator.new ≡ tables_of task.now }
+    ensures task { IsOfTask estimator.new task.now }
 {
     first_fault(alloc, task, estimator, bytes)
 }

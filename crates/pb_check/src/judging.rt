@@ -4,7 +4,7 @@ ghost use Rattle.pb_model.specs.Plan.{Plan};
 ghost use Rattle.pb_model.specs.Certificate.{Line, Certificate, cost_of};
 ghost use Rattle.pb_task.specs.Parts.{space_of, IsTask, greatest_cost};
 ghost use Rattle.pb_estimate.specs.Estimates.{estimate_of};
-ghost use Rattle.pb_estimate.specs.Tables.{tables_of};
+ghost use Rattle.pb_estimate.specs.Tables.{IsOfTask};
 ghost use Rattle.pb_check.specs.Faults.{Gives};
 ghost use Rattle.pb_check.specs.Reading.{Text};
 ghost use Rattle.pb_check.specs.Kinds.{kind_of};
@@ -292,12 +292,12 @@ fn row_fault(
     line: u64,
     row: &StatedRow,
 ) -> Option<CertificateFault>
-    requires task { estimator.old ≡ tables_of task.now }
+    requires task { IsOfTask estimator.old task.now }
     requires weight { is_weight (record { num = weight.now.num; den = weight.now.den }) ≡ true }
     requires rise { Rise rows.now }
     requires state { IsTrue ((space_of task.now).is_state row.now.state) }
     ensures fault { result ≡ row_fault (space_of task.now) (estimate_of task.now) (record { num = weight.now.num; den = weight.now.den }) best rows.now line row.now }
-    ensures task { estimator.new ≡ tables_of task.now }
+    ensures task { IsOfTask estimator.new task.now }
 {
     if row.is_closed {
         if task.is_goal(&row.state) {
@@ -323,13 +323,13 @@ fn rows_fault(
     rows: &[StatedRow],
     line: u64,
 ) -> Option<CertificateFault>
-    requires task { estimator.old ≡ tables_of task.now }
+    requires task { IsOfTask estimator.old task.now }
     requires weight { is_weight (record { num = weight.now.num; den = weight.now.den }) ≡ true }
     requires rise { Rise rows.now }
     requires states { first_fault_by (state_fault (space_of task.now)) line rows.now ≡ None }
     requires lines { line + length rows.now < 2 ^ 64 }
     ensures fault { result ≡ first_fault_by (row_fault (space_of task.now) (estimate_of task.now) (record { num = weight.now.num; den = weight.now.den }) best rows.now) line rows.now }
-    ensures task { estimator.new ≡ tables_of task.now }
+    ensures task { IsOfTask estimator.new task.now }
 {
     let mut at = line;
     for row in rows {
@@ -393,13 +393,13 @@ fn need_rows(
     rows: &[StatedRow],
     line: u64,
 ) -> Result<bool, CheckError>
-    requires task { estimator.old ≡ tables_of task.now }
+    requires task { IsOfTask estimator.old task.now }
     requires weight { is_weight (record { num = weight.now.num; den = weight.now.den }) ≡ true }
     requires rise { Rise rows.now }
     requires states { first_fault_by (state_fault (space_of task.now)) line rows.now ≡ None }
     requires lines { line + length rows.now < 2 ^ 64 }
     ensures gives { Gives (λ x. x) result (passes (first_fault_by (row_fault (space_of task.now) (estimate_of task.now) (record { num = weight.now.num; den = weight.now.den }) (cost_of plan.now) rows.now) line rows.now)) }
-    ensures task { estimator.new ≡ tables_of task.now }
+    ensures task { IsOfTask estimator.new task.now }
 {
     let fault = rows_fault(task, estimator, weight, cost_of(plan), rows, line);
     pass(fault)
@@ -416,11 +416,11 @@ pub fn judge(
     rows: &[StatedRow],
     first: u64,
 ) -> Result<Verdict, CheckError>
-    requires task { estimator.old ≡ tables_of task.now }
+    requires task { IsOfTask estimator.old task.now }
     requires lines { first + length rows.now < 2 ^ 64 }
     ensures verdict { Gives (λ x. x) result (judged (space_of task.now) (estimate_of task.now) (kind_of task.now) (record { kind = kind; certificate = record { weight = record { num = weight.now.num; den = weight.now.den }; plan = plan.now; lines = rows.now }; first = first })) }
     ensures lawful { IsTask task.now }
-    ensures task { estimator.new ≡ tables_of task.now }
+    ensures task { IsOfTask estimator.new task.now }
 {
     let start = task.initial();
     need(same_kind(kind_of(task), kind), CertificateFault::Kind)?;

@@ -8,6 +8,12 @@ pub mod Costs
 pub mod Rounds
 pub mod Fixed
 pub mod Reached
-pub mod Lowering
-pub mod Relaxation
+pub mod Counts
 pub mod Lowered
+pub mod Least
+pub mod Queue
+pub mod Released
+pub mod Sets
+pub mod Underway
+pub mod Steps
+pub mod Relaxing

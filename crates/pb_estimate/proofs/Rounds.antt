@@ -3,24 +3,19 @@ use Rattle.std.proofs.Common.{◌≡◌, ℕ, zero, suc, ◌+◌, ◌<◌, ◌�
 use Rattle.std.proofs.lemmas.Bool.{le-leb, leb-true, false_from_ne_true}
 use Rattle.pb_task.specs.declared.parts.StripsParts.{StripsParts}
 use Rattle.pb_estimate.specs.Hmax.{IsAtMost, cheapest_by, atom_cost}
+use Rattle.pb_estimate.specs.Exploring.{count}
 use Rattle.pb_estimate.proofs.Costs.{at_most_more, lesser_left, lesser_right, lesser_cases, same_cost, CostsBy, CostsByOne, cheapest_is, cheapest_from}
 
 -- ---- how many of the first numbers pass a test
 
-count : (accepts : ℕ → Bool) → (below : ℕ) → ℕ
-count accepts zero = 0
-count accepts (suc n) = count accepts n + (if accepts n then 1 else 0)
-
-count_is_small : (accepts : ℕ → Bool) (below : ℕ) → count accepts below ≤ below
-unfolding count
+pub count_is_small : (accepts : ℕ → Bool) (below : ℕ) → count accepts below ≤ below
 count_is_small accepts zero = omega arith
 count_is_small accepts (suc n) = go (accepts n) (count_is_small accepts n) where
   go : (test : Bool) → count accepts n ≤ n → count accepts n + (if test then 1 else 0) ≤ suc n
   go true rest = omega arith
   go false rest = omega arith
 
-count_grows : (accepts accepts' : ℕ → Bool) (below : ℕ) → ((k : ℕ) → k < below → accepts k ≡ true → accepts' k ≡ true) → count accepts below ≤ count accepts' below
-unfolding count
+pub count_grows : (accepts accepts' : ℕ → Bool) (below : ℕ) → ((k : ℕ) → k < below → accepts k ≡ true → accepts' k ≡ true) → count accepts below ≤ count accepts' below
 count_grows accepts accepts' zero more = omega arith
 count_grows accepts accepts' (suc n) more = go (accepts n) (accepts' n) (more n (omega arith)) (count_grows accepts accepts' n (λ k less. more k (omega (arith, less)))) where
   go : (test test' : Bool) → (test ≡ true → test' ≡ true) → count accepts n ≤ count accepts' n → count accepts n + (if test then 1 else 0) ≤ count accepts' n + (if test' then 1 else 0)
@@ -30,9 +25,8 @@ count_grows accepts accepts' (suc n) more = go (accepts n) (accepts' n) (more n 
   go false false h rest = omega arith
 
 -- a test that accepts what another accepts, and one number more
-count_rises : (accepts accepts' : ℕ → Bool) (below : ℕ) → ((k : ℕ) → k < below → accepts k ≡ true → accepts' k ≡ true) → (one : ℕ) → one < below → accepts one ≡ false → accepts' one ≡ true
+pub count_rises : (accepts accepts' : ℕ → Bool) (below : ℕ) → ((k : ℕ) → k < below → accepts k ≡ true → accepts' k ≡ true) → (one : ℕ) → one < below → accepts one ≡ false → accepts' one ≡ true
     → suc (count accepts below) ≤ count accepts' below
-unfolding count
 count_rises accepts accepts' zero more one less not_in in_other = absurd (omega (arith, less))
 count_rises accepts accepts' (suc n) more one less not_in in_other = go (count_rises accepts accepts' n (λ k k_less. more k (omega (arith, k_less))) one) (last one n less) where
   last : (one n : ℕ) → one < suc n → (one ≡ n) ⊎ (one < n)

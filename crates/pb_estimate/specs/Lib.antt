@@ -1,5 +1,5 @@
 pub mod Hmax
 pub mod Estimates
+pub mod Exploring
 pub mod Tables
-pub mod Rows
 pub mod Laws

@@ -1,14 +1,18 @@
 -- What the estimator of a task keeps. A further kind of task is one case more.
-use Rattle.std.specs.Prelude.{ℕ, zero, suc, List, [], ◌∷◌, ◌++◌, map, if◌then◌else◌}
-use Rattle.std.specs.List.{range_with_len}
+use Rattle.std.specs.Prelude.{◌≡◌, ℕ, zero, suc, ◌+◌, ◌<◌, ◌≤◌, ◌^◌, Bool, true, false, not, List, [], ◌∷◌, ◌++◌, map, length, All, Contains, slice_index, slice_index_or, if◌then◌else◌}
+use Rattle.std.specs.List.{range_with_len, filter, list_any}
 use Rattle.pb_task.specs.declared.parts.GroundAction.{GroundAction}
 use Rattle.pb_task.specs.declared.parts.StripsParts.{StripsParts}
 use Rattle.pb_task.specs.declared.parts.TaskParts.{TaskParts}
 use Rattle.pb_task.specs.declared.parts.TaskParts.TheVariants as parts
 use Rattle.pb_task.specs.Strips.{has_atom}
 use Rattle.pb_estimate.specs.Estimates.{cell_with}
+use Rattle.pb_estimate.specs.Hmax.{IsAtMost}
+use Rattle.pb_estimate.specs.Exploring.{count, cost_in, IsExploration}
+use Rattle.pb_estimate.specs.declared.exploration.AtomCost.{AtomCost}
 use Rattle.pb_estimate.specs.declared.relaxed.RelaxedAction.{RelaxedAction}
 use Rattle.pb_estimate.specs.declared.relaxed.RelaxedTask.{RelaxedTask}
+use Rattle.pb_estimate.specs.declared.strips.Counters.{Counters}
 use Rattle.pb_estimate.specs.declared.estimator.Tables.{Tables}
 use Rattle.pb_estimate.specs.declared.estimator.Tables.TheVariants as tables
 
@@ -16,20 +20,90 @@ use Rattle.pb_estimate.specs.declared.estimator.Tables.TheVariants as tables
 abbrev pub goal_cells : (goal : List ℕ) → List ℕ
 goal_cells goal = map (cell_with goal) (range_with_len 0 16)
 
+-- ---- actions without what they delete
+
 -- the numbers of those of the first `count` atoms that are in a set, in ascending order
 abbrev pub atoms_in : (set count : ℕ) → List ℕ
 atoms_in set zero = []
 atoms_in set (suc atom) = atoms_in set atom ++ (if has_atom set atom then atom ∷ [] else [])
 
+-- whether an atom is among these that isn't in the set
+abbrev pub has_more : (atoms : List ℕ) → (set : ℕ) → Bool
+has_more atoms set = list_any (λ atom. not (has_atom set atom)) atoms
+
+-- those of some actions that add an atom that they don't need: no other makes an atom cheaper
+abbrev pub useful_actions : (count : ℕ) → List GroundAction → List GroundAction
+useful_actions count actions = filter (λ action. has_more (atoms_in action.adds count) action.needs) actions
+
 -- an action without what it deletes
 abbrev pub relaxed_action : (count : ℕ) → GroundAction → RelaxedAction
-relaxed_action count action = record { needs = atoms_in action.needs count; adds = atoms_in action.adds count; cost = action.cost }
+relaxed_action count action = record { adds = atoms_in action.adds count; cost = action.cost }
 
--- the delete relaxation of a STRIPS task: its actions without what they delete, and its goal
-abbrev pub relaxed_task : StripsParts → RelaxedTask
-relaxed_task strips = record { actions = map (relaxed_action strips.atoms) strips.actions; goal = atoms_in strips.goal strips.atoms }
+-- the action of a number, and one that changes nothing where there are fewer
+abbrev pub action_at : List GroundAction → (number : ℕ) → GroundAction
+action_at actions number = slice_index_or actions number (record { name = []; needs = 0; adds = 0; deletes = 0; cost = 1 })
 
-abbrev pub tables_of : TaskParts → Tables
-tables_of (parts.Grid grid) = tables.Grid
-tables_of (parts.Tiles tiles) = tables.Tiles (goal_cells tiles.goal)
-tables_of (parts.Strips strips) = tables.Strips (relaxed_task strips)
+abbrev pub relaxed_at : List RelaxedAction → (number : ℕ) → RelaxedAction
+relaxed_at actions number = slice_index_or actions number (record { adds = []; cost = 1 })
+
+-- an action adds atoms of so many, and costs at most 2^20
+pub record IsRelaxed (count : ℕ) (action : RelaxedAction) : Type 0 where
+  pub adds : All (λ atom. atom < count) action.adds
+  pub cost : action.cost ≤ 2 ^ 20
+
+-- an action adds an atom, and this cost is enough for it if the atoms that the action needs cost at most `level`
+abbrev pub AddsAt : RelaxedAction → (level atom cost : ℕ) → Type 0
+AddsAt action level atom cost = Contains action.adds atom × (level + action.cost ≤ cost)
+
+-- what an action adds costs at most `level` and the action
+abbrev pub AddsAtMost : RelaxedAction → (level : ℕ) → (costs : List AtomCost) → Type 0
+AddsAtMost action level costs = All (λ atom. IsAtMost (cost_in costs atom) (level + action.cost)) action.adds
+
+-- an action adds an atom at a cost, by the action of a number, of whose counter nothing is left
+abbrev pub IsAddedBy : List RelaxedAction → (level : ℕ) → (counts : List ℕ) → (user atom cost : ℕ) → Type 0
+IsAddedBy actions level counts user atom cost = (slice_index counts user ≡ 0) × AddsAt (relaxed_at actions user) level atom cost
+
+-- ---- who needs what
+
+-- exactly the numbers of those actions that need an atom, in ascending order
+pub record AreUsers (actions : List GroundAction) (atom : ℕ) (users : List ℕ) : Type 0 where
+  pub need : All (λ user. (user < length actions) × (has_atom (action_at actions user).needs atom ≡ true)) users
+  pub all : (user : ℕ) → user < length actions → has_atom (action_at actions user).needs atom ≡ true → Contains users user
+  pub ascend : (j k : ℕ) → j < k → k < length users → slice_index users j < slice_index users k
+
+-- all numbers of those actions that need none of the first `count` atoms, and no others
+pub record AreFree (count : ℕ) (actions : List GroundAction) (free : List ℕ) : Type 0 where
+  pub inside : All (λ user. user < length actions) free
+  pub need : All (λ user. (atom : ℕ) → atom < count → has_atom (action_at actions user).needs atom ≡ false) free
+  pub all : (user : ℕ) → user < length actions → ((atom : ℕ) → atom < count → has_atom (action_at actions user).needs atom ≡ false) → Contains free user
+
+-- The useful actions without what they delete, and who needs what, of some actions over so many atoms.
+pub record AreRelaxed (count : ℕ) (actions : List GroundAction) (task : RelaxedTask) : Type 0 where
+  pub relaxed : task.actions ≡ map (relaxed_action count) (useful_actions count actions)
+  pub needs : task.needs.items ≡ map (λ (action : GroundAction). length (atoms_in action.needs count)) (useful_actions count actions)
+  pub many : length task.users ≡ count
+  pub users : (atom : ℕ) → atom < count → AreUsers (useful_actions count actions) atom (slice_index_or task.users atom [])
+  pub free : AreFree count (useful_actions count actions) task.free
+
+-- Which atoms the goal has, and how many.
+pub record IsWanted (goal atoms : ℕ) (task : RelaxedTask) : Type 0 where
+  pub long : length task.goal.items ≡ atoms
+  pub flags : (atom : ℕ) → atom < atoms → slice_index_or task.goal.items atom false ≡ has_atom goal atom
+  pub wanted : task.wanted ≡ count (has_atom goal) atoms
+
+-- ---- estimators
+
+-- The counters are of a task: the task's actions and goal, and room for a counter for each action and a cost for each atom.
+pub record AreCounters (strips : StripsParts) (counters : Counters) : Type 0 where
+  pub actions : AreRelaxed strips.atoms strips.actions counters.task
+  pub goal : IsWanted strips.goal strips.atoms counters.task
+  pub counts : length counters.counts.items ≡ length counters.task.needs.items
+  pub costs : length counters.exploration.costs.items ≡ strips.atoms
+  pub exploration : IsExploration counters.exploration
+
+-- An estimator is of this task: it keeps what the task's estimates need. What more it keeps is its own.
+unfoldable pub IsOfTask : Tables → TaskParts → Type 0
+IsOfTask tables.Grid (parts.Grid grid) = Unit {0}
+IsOfTask (tables.Tiles cells) (parts.Tiles tiles) = cells ≡ goal_cells tiles.goal
+IsOfTask (tables.Strips counters) (parts.Strips strips) = AreCounters strips counters
+IsOfTask estimator task = ⊥

@@ -1,9 +1,9 @@
 ghost use Rattle.std.specs.Prelude.{◌≡◌, IsTrue, IfOk};
 ghost use Rattle.pb_task.specs.Parts.{space_of};
 ghost use Rattle.pb_estimate.specs.Estimates.{estimate_of};
-ghost use Rattle.pb_estimate.specs.Tables.{tables_of};
+ghost use Rattle.pb_estimate.specs.Tables.{IsOfTask};
 
-use crate::relaxed::{RelaxedTask, relaxed_task};
+use crate::strips::Counters;
 use crate::{grid, strips, tiles};
 use pb_model::Estimate;
 use pb_packed::Packed;
@@ -18,11 +18,11 @@ pub enum Tables {
     Grid,
     /// The cell of each number from 0 to 15 on the goal board, and 0 for a number that it doesn't have.
     Tiles([u8; 16]),
-    /// The task without what its actions delete.
-    Strips(RelaxedTask),
+    /// The task without what its actions delete, and room for counters and costs.
+    Strips(Counters),
 }
 
-/// Tells the estimates of one task's states. Contracts see what it keeps.
+/// Tells the estimates of one task's states. Contracts see what it keeps, and that it is of the task.
 #[derive(Drop)]
 pub struct Estimator {
     tables: Tables,
@@ -40,30 +40,30 @@ impl Estimator {
     /// The estimator of a task. All the memory that its estimates need is taken here; on a grid and for tiles
     /// they need none.
     pub fn of(alloc: Global, task: &Task) -> Result<Estimator, AllocError>
-        ensures { IfOk result (λ estimator. estimator ≡ tables_of task.now) }
+        ensures { IfOk result (λ estimator. IsOfTask estimator task.now) }
     {
         let tables = match task.parts() {
             TaskParts::Grid(_) => Tables::Grid,
             TaskParts::Tiles(parts) => Tables::Tiles(tiles::goal_cells(parts.goal.numbers())),
-            TaskParts::Strips(parts) => Tables::Strips(relaxed_task(alloc, parts)?),
+            TaskParts::Strips(parts) => Tables::Strips(strips::counters_of(alloc, parts)?),
         };
         Ok(Estimator { tables })
     }
 
     /// The estimate of a state of the estimator's own task, in the unit of the task's action costs. It takes no memory.
     pub fn estimate(&mut self, task: &Task, state: &Packed) -> Estimate
-        requires task { self.old ≡ tables_of task.now }
+        requires task { IsOfTask self.old task.now }
         requires state { IsTrue ((space_of task.now).is_state state.now) }
         ensures estimate { result ≡ estimate_of task.now state.now }
-        ensures task { self.new ≡ tables_of task.now }
+        ensures task { IsOfTask self.new task.now }
     {
-        match (task.parts(), &self.tables) {
+        match (task.parts(), &mut self.tables) {
             (TaskParts::Grid(parts), _) => Estimate::Cost(grid::distance(parts, state)),
             (TaskParts::Tiles(parts), Tables::Tiles(cells)) => {
                 Estimate::Cost(tiles::distance(parts, cells, state))
             }
-            (TaskParts::Strips(parts), Tables::Strips(relaxed)) => {
-                strips::estimate(parts, relaxed, state)
+            (TaskParts::Strips(parts), Tables::Strips(counters)) => {
+                strips::estimate(parts, counters, state)
             }
             (TaskParts::Tiles(_), Tables::Grid) => unreachable!(),
             (TaskParts::Tiles(_), Tables::Strips(_)) => unreachable!(),

@@ -7,6 +7,7 @@
 
 mod distance;
 mod estimator;
+mod exploration;
 mod grid;
 mod laws;
 mod relaxed;
@@ -14,8 +15,10 @@ mod strips;
 mod tiles;
 
 pub use estimator::{Estimator, Tables};
+pub use exploration::{AtomCost, Exploration};
 pub use laws::{estimates_are_admissible, estimates_count_tiles, hmax_is_fixed};
-pub use relaxed::{AtomList, RelaxedAction, RelaxedActions, RelaxedTask};
+pub use relaxed::{ActionList, AtomList, RelaxedAction, RelaxedActions, RelaxedTask, Users};
+pub use strips::Counters;
 
 #[cfg(test)]
 mod strips_tests;

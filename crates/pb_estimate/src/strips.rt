@@ -1,142 +1,208 @@
-ghost use Rattle.std.specs.Prelude.{◌⊎◌, Contains, [], ◌∷◌, ◌≡◌, ℕ, ◌+◌, ◌*◌, ◌^◌, ◌<◌, ◌≤◌, ◌↔◌, ◌&&◌, IsTrue, All, length, nat_lt, true, false, None, Some, slice_set, if◌then◌else◌};
-ghost use Rattle.pb_task.specs.Strips.{IsStrips, has_atom};
-ghost use Rattle.pb_estimate.specs.Hmax.{IsAtMost, lesser, atom_cost, hmax};
-ghost use Rattle.pb_estimate.specs.Rows.{cost_in, AreWithin, IsRelaxed, SomeIsCheaper, Lowers};
-ghost use Rattle.pb_estimate.specs.Tables.{relaxed_task};
+ghost use Rattle.std.specs.Prelude.{◌⊎◌, ◌≡◌, ℕ, ◌+◌, ◌-◌, ◌<◌, ◌≤◌, ◌^◌, All, Contains, IfOk, length, slice_index, slice_set, None};
+ghost use Rattle.pb_task.specs.Strips.{IsStrips};
+ghost use Rattle.pb_estimate.specs.Hmax.{IsAtMost, goal_cost, hmax};
+ghost use Rattle.pb_estimate.specs.Exploring.{cost_in, final_in, AreNoLess, HaveSameFinals, FinalsAreWithin, IsExploration};
+ghost use Rattle.pb_estimate.specs.Tables.{AddsAt, AddsAtMost, IsAddedBy, relaxed_at, AreFree, AreRelaxed, IsWanted, IsRelaxed, AreCounters};
 
-use crate::relaxed::{RelaxedAction, RelaxedTask};
+use crate::exploration::Exploration;
+use crate::relaxed::{RelaxedAction, RelaxedTask, relaxed_task};
 use pb_model::Estimate;
 use pb_packed::Packed;
 use pb_task::StripsParts;
+use std::alloc::{AllocError, Global};
 
-// No task has more atoms.
-const MOST_ATOMS: usize = 256;
-
-// What each atom costs in a state at first: nothing where it holds.
-fn initial_costs(count: u32, state: &Packed) -> [Option<u64>; MOST_ATOMS]
-    requires { count ≤ 256 }
-    ensures costs { (atom : ℕ) → cost_in result atom ≡ (if nat_lt atom count && has_atom state.now atom then Some 0 else None) }
-    ensures within { AreWithin 0 result }
-{
-    let mut costs = [None; MOST_ATOMS];
-    for atom in 0..count {
-        if state.has(atom) {
-            costs[atom as usize] = Some(0);
-        }
-    }
-    costs
+/// What an estimator keeps for a STRIPS task.
+#[derive(Drop)]
+pub struct Counters {
+    /// The task without what its actions delete.
+    pub task: RelaxedTask,
+    /// How many of the atoms that each action needs have no final cost.
+    pub counts: Vec<u16>,
+    /// What the atoms cost.
+    pub exploration: Exploration,
 }
 
-// What the dearest of some atoms costs.
-fn dearest(costs: &[Option<u64>], atoms: &[u8]) -> Option<u64>
-    requires { All (λ atom. atom < length costs.now) atoms.now }
-    ensures { (cost : ℕ) → IsAtMost result cost ↔ All (λ atom. IsAtMost (cost_in costs.now atom) cost) atoms.now }
+/// The counters of a task. All the memory that estimates need is taken here.
+pub fn counters_of(alloc: Global, strips: &StripsParts) -> Result<Counters, AllocError>
+    requires { IsStrips strips.now }
+    ensures { IfOk result (AreCounters strips.now) }
 {
-    let mut most = 0;
-    for atom in atoms {
-        let cost = costs[*atom as usize]?;
-        most = cost.max(most);
-    }
-    Some(most)
+    let task = relaxed_task(alloc, strips)?;
+    let counts = task.needs.clone()?;
+    let exploration = Exploration::of(alloc, strips.atoms as usize)?;
+    Ok(Counters {
+        task,
+        counts,
+        exploration,
+    })
 }
 
-// Lowers the cost of an atom to this one, where it is greater, and says whether it was.
-fn lower(costs: &mut [Option<u64>], atom: u8, cost: u64) -> bool
-    requires { atom < length costs.old }
-    ensures lowered { costs.new ≡ slice_set costs.old atom (lesser (cost_in costs.old atom) (Some cost)) }
-    ensures changed { result ≡ true → SomeIsCheaper costs.old costs.new }
-    ensures unchanged { result ≡ false → costs.new ≡ costs.old }
+// Counts that one more of the atoms that an action needs has a final cost, `level`. After the last
+// of them, what the action adds costs no more than `level` and the action.
+fn count_down(
+    exploration: &mut Exploration,
+    counts: &mut [u16],
+    actions: &[RelaxedAction],
+    user: u16,
+    level: u32,
+)
+    requires is { IsExploration exploration.old }
+    requires actions { All (IsRelaxed (length exploration.old.costs.items)) actions.now }
+    requires counts { length counts.old ≡ length actions.now }
+    requires user { user < length actions.now }
+    requires some { 1 ≤ slice_index counts.old user }
+    requires level { level ≤ 2 ^ 28 }
+    requires finals { FinalsAreWithin level exploration.old.costs.items }
+    ensures is { IsExploration exploration.new }
+    ensures long { length exploration.new.costs.items ≡ length exploration.old.costs.items }
+    ensures counts { counts.new ≡ slice_set counts.old user (slice_index counts.old user - 1) }
+    ensures finals { HaveSameFinals exploration.old.costs.items exploration.new.costs.items }
+    ensures falls { AreNoLess (cost_in exploration.old.costs.items)
+        (cost_in exploration.new.costs.items) }
+    ensures reaches { slice_index counts.new user ≡ 0
+        → AddsAtMost (relaxed_at actions.now user) level exploration.new.costs.items }
+    ensures only { (atom cost : ℕ) → IsAtMost (cost_in exploration.new.costs.items atom) cost
+        → IsAtMost (cost_in exploration.old.costs.items atom) cost
+        ⊎ IsAddedBy actions.now level counts.new user atom cost }
 {
-    let known = costs[atom as usize];
-    let is_less = match known {
-        None => true,
-        Some(known) => cost < known,
-    };
-    if is_less {
-        costs[atom as usize] = Some(cost);
-    }
-    is_less
-}
-
-// Lowers the costs of some atoms to this one, where they are greater, and says whether any was.
-fn lower_each(costs: &mut [Option<u64>], atoms: &[u8], cost: u64) -> bool
-    requires { All (λ atom. atom < length costs.old) atoms.now }
-    ensures lowered { (atom c : ℕ) → IsAtMost (cost_in costs.new atom) c
-        ↔ (IsAtMost (cost_in costs.old atom) c ⊎ (Contains atoms.now atom × (cost ≤ c))) }
-    ensures within { (bound : ℕ) → cost ≤ bound → AreWithin bound costs.old → AreWithin bound costs.new }
-    ensures changed { result ≡ true → SomeIsCheaper costs.old costs.new }
-    ensures unchanged { result ≡ false → costs.new ≡ costs.old }
-{
-    let mut is_changed = false;
-    for atom in atoms {
-        if lower(costs, *atom, cost) {
-            is_changed = true;
-        }
-    }
-    is_changed
-}
-
-// Lowers the costs of what an action adds to its own cost and that of the dearest atom that it needs, and says whether any was greater.
-fn relax(costs: &mut [Option<u64>], action: &RelaxedAction) -> bool
-    requires action { IsRelaxed (length costs.old) action.now }
-    requires fits { AreWithin (2 ^ 63) costs.old }
-    ensures lowered { Lowers (action.now ∷ []) costs.old costs.new }
-    ensures within { (bound : ℕ) → AreWithin bound costs.old → AreWithin (bound + 2 ^ 20) costs.new }
-    ensures changed { result ≡ true → SomeIsCheaper costs.old costs.new }
-    ensures unchanged { result ≡ false → costs.new ≡ costs.old }
-{
-    match dearest(costs, action.needs.as_slice()) {
-        None => false,
-        Some(needed) => lower_each(costs, action.adds.as_slice(), action.cost + needed),
+    let left = counts[user as usize] - 1;
+    counts[user as usize] = left;
+    if left == 0 {
+        let action = &actions[user as usize];
+        exploration.lower_each(action.adds.as_slice(), level + action.cost);
     }
 }
 
-// Goes over all actions once, and says whether any cost was lowered.
-fn relax_all(costs: &mut [Option<u64>], actions: &[RelaxedAction]) -> bool
-    requires actions { All (IsRelaxed (length costs.old)) actions.now }
-    requires few { length actions.now ≤ 65536 }
-    requires fits { AreWithin (2 ^ 62) costs.old }
-    ensures lowered { Lowers actions.now costs.old costs.new }
-    ensures within { (bound : ℕ) → AreWithin bound costs.old → AreWithin (bound + 2 ^ 36) costs.new }
-    ensures changed { result ≡ true → SomeIsCheaper costs.old costs.new }
-    ensures unchanged { result ≡ false → costs.new ≡ costs.old }
+// Counts for each of some actions that one more of the atoms that it needs has a final cost,
+// `level`.
+fn count_down_each(
+    exploration: &mut Exploration,
+    counts: &mut [u16],
+    actions: &[RelaxedAction],
+    users: &[u16],
+    level: u32,
+)
+    requires is { IsExploration exploration.old }
+    requires actions { All (IsRelaxed (length exploration.old.costs.items)) actions.now }
+    requires counts { length counts.old ≡ length actions.now }
+    requires users { All (λ user. (user < length actions.now)
+        × (1 ≤ slice_index counts.old user)) users.now }
+    requires ascend { (j k : ℕ) → j < k → k < length users.now
+        → slice_index users.now j < slice_index users.now k }
+    requires level { level ≤ 2 ^ 28 }
+    requires finals { FinalsAreWithin level exploration.old.costs.items }
+    ensures is { IsExploration exploration.new }
+    ensures long { length exploration.new.costs.items ≡ length exploration.old.costs.items }
+    ensures counted { All (λ user. slice_index counts.new user + 1
+        ≡ slice_index counts.old user) users.now }
+    ensures others { (user : ℕ) → (Contains users.now user → ⊥) → slice_index counts.new user
+        ≡ slice_index counts.old user }
+    ensures finals { HaveSameFinals exploration.old.costs.items exploration.new.costs.items }
+    ensures falls { AreNoLess (cost_in exploration.old.costs.items)
+        (cost_in exploration.new.costs.items) }
+    ensures reaches { All (λ user. slice_index counts.new user ≡ 0
+        → AddsAtMost (relaxed_at actions.now user) level exploration.new.costs.items) users.now }
+    ensures only { (atom cost : ℕ) → IsAtMost (cost_in exploration.new.costs.items atom) cost
+        → IsAtMost (cost_in exploration.old.costs.items atom) cost
+        ⊎ ((user : ℕ) × Contains users.now user
+        × IsAddedBy actions.now level counts.new user atom cost) }
 {
-    let mut is_changed = false;
-    for action in actions {
-        if relax(costs, action) {
-            is_changed = true;
-        }
+    for user in users {
+        count_down(exploration, counts, actions, *user, level);
     }
-    is_changed
 }
 
-// What each atom costs in the end. A round that lowers no cost is the last.
-fn atom_costs(strips: &StripsParts, task: &RelaxedTask, state: &Packed) -> [Option<u64>; MOST_ATOMS]
+// Lowers the costs of what some actions add to those of the actions.
+fn lower_free(exploration: &mut Exploration, actions: &[RelaxedAction], free: &[u16])
+    requires is { IsExploration exploration.old }
+    requires actions { All (IsRelaxed (length exploration.old.costs.items)) actions.now }
+    requires free { All (λ user. user < length actions.now) free.now }
+    requires finals { (atom : ℕ) → final_in exploration.old.costs.items atom ≡ None }
+    ensures is { IsExploration exploration.new }
+    ensures long { length exploration.new.costs.items ≡ length exploration.old.costs.items }
+    ensures finals { HaveSameFinals exploration.old.costs.items exploration.new.costs.items }
+    ensures falls { AreNoLess (cost_in exploration.old.costs.items)
+        (cost_in exploration.new.costs.items) }
+    ensures reaches { All (λ user. All (λ atom. IsAtMost
+        (cost_in exploration.new.costs.items atom) (relaxed_at actions.now user).cost)
+        (relaxed_at actions.now user).adds) free.now }
+    ensures only { (atom cost : ℕ) → IsAtMost (cost_in exploration.new.costs.items atom) cost
+        → IsAtMost (cost_in exploration.old.costs.items atom) cost
+        ⊎ ((user : ℕ) × Contains free.now user × AddsAt (relaxed_at actions.now user) 0 atom cost) }
+{
+    for user in free {
+        let action = &actions[*user as usize];
+        exploration.lower_each(action.adds.as_slice(), action.cost);
+    }
+}
+
+// What the dearest atom of the goal costs.
+fn goal_cost(
+    strips: &StripsParts,
+    task: &RelaxedTask,
+    counts: &mut [u16],
+    exploration: &mut Exploration,
+    state: &Packed,
+) -> Option<u32>
     requires strips { IsStrips strips.now }
-    requires task { task.now ≡ relaxed_task strips.now }
-    ensures { (atom : ℕ) → atom < strips.now.atoms → cost_in result atom ≡ atom_cost strips.now state.now strips.now.atoms atom }
+    requires actions { AreRelaxed strips.now.atoms strips.now.actions task.now }
+    requires goal { IsWanted strips.now.goal strips.now.atoms task.now }
+    requires counts { counts.old ≡ task.now.needs.items }
+    requires some { 1 ≤ task.now.wanted }
+    requires is { IsExploration exploration.old }
+    requires costs { length exploration.old.costs.items ≡ strips.now.atoms }
+    ensures cost { result ≡ goal_cost strips.now state.now }
+    ensures is { IsExploration exploration.new }
+    ensures costs { length exploration.new.costs.items ≡ strips.now.atoms }
 {
-    let mut costs = initial_costs(strips.atoms, state);
-    for _round in 0..strips.atoms {
-        if !relax_all(&mut costs, task.actions.as_slice()) {
-            return costs;
+    exploration.begin(strips.atoms, state);
+    lower_free(exploration, task.actions.as_slice(), task.free.as_slice());
+    let mut wanted = task.wanted;
+    let mut level = 0;
+    while let Some((atom, cost)) = exploration.next(level) {
+        level = cost;
+        if task.goal[atom as usize] {
+            wanted -= 1;
+            if wanted == 0 {
+                return Some(cost);
+            }
         }
+        count_down_each(
+            exploration,
+            counts,
+            task.actions.as_slice(),
+            task.users.of(atom),
+            cost,
+        );
     }
-    costs
+    None
 }
 
-/// The estimate hmax of a state. `task` is the task without what its actions delete.
-pub fn estimate(strips: &StripsParts, task: &RelaxedTask, state: &Packed) -> Estimate
+/// The estimate hmax of a state. `counters` are those of the task.
+pub fn estimate(strips: &StripsParts, counters: &mut Counters, state: &Packed) -> Estimate
     requires strips { IsStrips strips.now }
-    requires task { task.now ≡ relaxed_task strips.now }
-    ensures { result ≡ hmax strips.now state.now }
+    requires counters { AreCounters strips.now counters.old }
+    ensures estimate { result ≡ hmax strips.now state.now }
+    ensures counters { AreCounters strips.now counters.new }
 {
     if strips.never {
         return Estimate::Dead;
     }
-    let costs = atom_costs(strips, task, state);
-    match dearest(&costs, task.goal.as_slice()) {
+    if counters.task.wanted == 0 {
+        return Estimate::Cost(0);
+    }
+    counters
+        .counts
+        .copy_from_slice(counters.task.needs.as_slice());
+    let cost = goal_cost(
+        strips,
+        &counters.task,
+        counters.counts.as_mut_slice(),
+        &mut counters.exploration,
+        state,
+    );
+    match cost {
         None => Estimate::Dead,
-        Some(cost) => Estimate::Cost(cost),
+        Some(cost) => Estimate::Cost(u64::from(cost)),
     }
 }

@@ -3,7 +3,7 @@ ghost use Rattle.std.specs.Prelude.{◌≡◌, ◌<◌, ◌^◌, IsTrue, IsSome,
 ghost use Rattle.pb_model.specs.Space.{steps, IsProper};
 ghost use Rattle.pb_task.specs.Parts.{space_of, greatest_cost};
 ghost use Rattle.pb_estimate.specs.Estimates.{estimate_of};
-ghost use Rattle.pb_estimate.specs.Tables.{tables_of};
+ghost use Rattle.pb_estimate.specs.Tables.{IsOfTask};
 ghost use Rattle.pb_abstract.specs.Graph.{IsGraphOf};
 ghost use Rattle.pb_bundles.specs.Parts.{content_in, away_rows};
 ghost use Rattle.pb_lease.specs.Leased.{guide_of};
@@ -26,12 +26,12 @@ fn offered_estimate(
     block: u32,
     state: &Packed,
 ) -> Estimate
-    requires tables { estimator.old ≡ tables_of task.now }
+    requires tables { IsOfTask estimator.old task.now }
     requires state { IsTrue ((space_of task.now).is_state state.now) }
     requires there { IsSome (content_in lease.now.parts block) }
     ensures known { IfSome (away_rows lease.now.parts block state.now) (λ row. result ≡ row.estimate) }
     ensures new { IfNone (away_rows lease.now.parts block state.now) (result ≡ estimate_of task.now state.now) }
-    ensures tables { estimator.new ≡ tables_of task.now }
+    ensures tables { IsOfTask estimator.new task.now }
 {
     match known_estimate(lease, block, state) {
         Some(estimate) => estimate,
@@ -50,7 +50,7 @@ pub fn offer_all(
     parent: &Packed,
     g: u64,
 ) -> Result<(), AllocError>
-    requires tables { estimator.old ≡ tables_of task.now }
+    requires tables { IsOfTask estimator.old task.now }
     requires graph { IsGraphOf task.now graph.now }
     requires proper { IsProper (space_of task.now) greatest_cost }
     requires succs { succs.now ≡ steps (space_of task.now) parent.now }
@@ -59,7 +59,7 @@ pub fn offer_all(
     ensures offers { OnOk result (HasOffers (guide_of task.now graph.now) parent.now g succs.now lease.old lease.new) }
     ensures broken { OnErr result (IsBrokenOff (guide_of task.now graph.now) parent.now g succs.now lease.old lease.new) }
     ensures changes { ChangesRows lease.old lease.new }
-    ensures tables { estimator.new ≡ tables_of task.now }
+    ensures tables { IsOfTask estimator.new task.now }
 {
     for succ in succs {
         let cost = g + succ.cost;

@@ -3,7 +3,7 @@ ghost use Rattle.std.specs.Prelude.{◌≡◌, ◌+◌, ◌<◌, ◌≤◌, true
 ghost use Rattle.pb_model.specs.Store.{HasOpened};
 ghost use Rattle.pb_model.specs.Key.{IsFirstRow};
 ghost use Rattle.pb_task.specs.Parts.{space_of, max_degree_of};
-ghost use Rattle.pb_estimate.specs.Tables.{tables_of};
+ghost use Rattle.pb_estimate.specs.Tables.{IsOfTask};
 ghost use Rattle.pb_abstract.specs.Graph.{AbstractGraph, IsGraphOf};
 ghost use Rattle.pb_bundles.specs.Parts.{content_in};
 ghost use Rattle.pb_lease.specs.LeaseValue.{leased_store, HasWeights, IsSameLease};
@@ -76,7 +76,7 @@ pub fn expand(
     state: &Packed,
     row: &Row,
 ) -> Result<(), AllocError>
-    requires tables { estimator.old ≡ tables_of task.now }
+    requires tables { IsOfTask estimator.old task.now }
     requires graph { IsGraphOf task.now graph.now }
     requires room { max_degree_of task.now ≤ vec_capacity succs.old }
     requires at_work { IsAtWork task.now graph.now lease.old }
@@ -89,7 +89,7 @@ pub fn expand(
     ensures opened { OnErr result (HasOpened (own_rows lease.new)) }
     ensures same { IsSameLease lease.old lease.new }
     ensures weights { HasWeights lease.new }
-    ensures tables { estimator.new ≡ tables_of task.now }
+    ensures tables { IsOfTask estimator.new task.now }
     ensures room { vec_capacity succs.old ≤ vec_capacity succs.new }
 {
     task.successors(state, succs);

@@ -4,7 +4,7 @@ ghost use Rattle.pb_model.specs.declared.row.Row.{Row};
 ghost use Rattle.pb_machine.specs.declared.settings.Settings.{Settings};
 ghost use Rattle.pb_machine.specs.Machine.{Machine};
 ghost use Rattle.pb_task.specs.Parts.{space_of, max_degree_of};
-ghost use Rattle.pb_estimate.specs.Tables.{tables_of};
+ghost use Rattle.pb_estimate.specs.Tables.{IsOfTask};
 ghost use Rattle.pb_abstract.specs.Graph.{IsGraphOf};
 ghost use Rattle.pb_lease.specs.LeaseValue.{leased_store, IsSameLease};
 ghost use Rattle.pb_lease.specs.Leased.{guide_of, setup_of, HasScope, IsOut, IsInTurns};
@@ -40,7 +40,7 @@ pub fn work(
     lease: &mut Lease,
     succs: &mut Vec<Succ>,
 ) -> Worked
-    requires tables { estimator.old ≡ tables_of task.now }
+    requires tables { IsOfTask estimator.old task.now }
     requires graph { IsGraphOf task.now graph.now }
     requires room { max_degree_of task.now ≤ vec_capacity succs.old }
     requires at_work { IsAtWork task.now graph.now lease.old }
@@ -67,7 +67,7 @@ pub fn work(
     // What stays.
     ensures same { IsSameLease lease.old lease.new }
     ensures scope { HasScope graph.now lease.new }
-    ensures tables { estimator.new ≡ tables_of task.now }
+    ensures tables { IsOfTask estimator.new task.now }
     ensures room { vec_capacity succs.old ≤ vec_capacity succs.new }
 {
     let quota = lease.quota();

@@ -1,7 +1,7 @@
 ghost use Rattle.std.specs.Prelude.{◌≡◌, ◌≤◌, ◌⊎◌, None, Some, IsTrue, IsFalse, OnOk, OnErr, vec_capacity};
 ghost use Rattle.pb_machine.specs.declared.event.End.TheVariants.{Quiet, Budget, Memory};
 ghost use Rattle.pb_task.specs.Parts.{max_degree_of};
-ghost use Rattle.pb_estimate.specs.Tables.{tables_of};
+ghost use Rattle.pb_estimate.specs.Tables.{IsOfTask};
 ghost use Rattle.pb_lease.specs.GraphValue.{counts_in};
 ghost use Rattle.pb_lease.specs.Choices.{is_out_in};
 ghost use Rattle.pb_workers.specs.Runs.{IsSameSearch, IsAnyMoment, RunsOn};
@@ -66,7 +66,7 @@ fn search<G: Gate>(
     gate: &G,
     succs: &mut Vec<Succ>,
 ) -> Option<End>
-    requires tables { estimator.old ≡ tables_of task.now }
+    requires tables { IsOfTask estimator.old task.now }
     requires room { max_degree_of task.now ≤ vec_capacity succs.old }
     requires task { graph.old.task ≡ task.now }
     requires abstraction { graph.old.table.graph ≡ abstraction.now }

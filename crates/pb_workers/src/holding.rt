@@ -1,6 +1,6 @@
 ghost use Rattle.std.specs.Prelude.{◌≡◌, ◌≤◌, None, vec_capacity};
 ghost use Rattle.pb_task.specs.Parts.{max_degree_of};
-ghost use Rattle.pb_estimate.specs.Tables.{tables_of};
+ghost use Rattle.pb_estimate.specs.Tables.{IsOfTask};
 ghost use Rattle.pb_lease.specs.GraphValue.{counts_in};
 ghost use Rattle.pb_workers.specs.Runs.{IsSameSearch};
 ghost use Rattle.pb_workers.specs.Holding.{IsHeld, RunsHome, IsNearer};
@@ -23,7 +23,7 @@ pub fn hold<G: Gate>(
     succs: &mut Vec<Succ>,
     lease: Lease,
 )
-    requires tables { estimator.old ≡ tables_of task.now }
+    requires tables { IsOfTask estimator.old task.now }
     requires room { max_degree_of task.now ≤ vec_capacity succs.old }
     requires task { graph.old.task ≡ task.now }
     requires abstraction { graph.old.table.graph ≡ abstraction.now }
@@ -33,7 +33,7 @@ pub fn hold<G: Gate>(
     ensures nearer { IsNearer graph.old lease graph.new }
     ensures same { IsSameSearch graph.old graph.new }
     ensures signed_off { (counts_in graph.new).signed_off ≡ (counts_in graph.old).signed_off }
-    ensures tables { estimator.new ≡ tables_of task.now }
+    ensures tables { IsOfTask estimator.new task.now }
     ensures room { max_degree_of task.now ≤ vec_capacity succs.new }
 {
     let mut held = lease;

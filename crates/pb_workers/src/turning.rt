@@ -1,6 +1,6 @@
 ghost use Rattle.std.specs.Prelude.{◌≡◌, ◌<◌, ◌≤◌, IfSome, IfNone, None, vec_capacity};
 ghost use Rattle.pb_task.specs.Parts.{max_degree_of};
-ghost use Rattle.pb_estimate.specs.Tables.{tables_of};
+ghost use Rattle.pb_estimate.specs.Tables.{IsOfTask};
 ghost use Rattle.pb_lease.specs.Tables.{rooms};
 ghost use Rattle.pb_lease.specs.GraphValue.{counts_in};
 ghost use Rattle.pb_workers.specs.Runs.{IsSameSearch};
@@ -26,7 +26,7 @@ pub fn turn<G: Gate>(
     succs: &mut Vec<Succ>,
     mut lease: Lease,
 ) -> Option<Lease>
-    requires tables { estimator.old ≡ tables_of task.now }
+    requires tables { IsOfTask estimator.old task.now }
     requires room { max_degree_of task.now ≤ vec_capacity succs.old }
     requires task { graph.old.task ≡ task.now }
     requires abstraction { graph.old.table.graph ≡ abstraction.now }
@@ -47,7 +47,7 @@ pub fn turn<G: Gate>(
     // What stays.
     ensures same { IsSameSearch graph.old graph.new }
     ensures signed_off { (counts_in graph.new).signed_off ≡ (counts_in graph.old).signed_off }
-    ensures tables { estimator.new ≡ tables_of task.now }
+    ensures tables { IsOfTask estimator.new task.now }
     ensures room { max_degree_of task.now ≤ vec_capacity succs.new }
 {
     let _ = graph.abstraction();

@@ -1,6 +1,6 @@
 use Rattle.std.proofs.Common.{◌≡◌, ◌-◌, ◌≤◌, vec_capacity}
 use Rattle.pb_task.specs.Parts.{space_of}
-use Rattle.pb_estimate.specs.Tables.{tables_of}
+use Rattle.pb_estimate.specs.Tables.{IsOfTask}
 use Rattle.pb_lease.specs.LeaseValue.{leased_store, IsSameLease}
 use Rattle.pb_lease.specs.Leased.{guide_of}
 use Rattle.pb_expand.specs.Turned.{IsAtWork, HasTurned, reads_none}
@@ -13,7 +13,7 @@ invariant-loop-state l = record {
   within : l.lease.used ≤ l.lease.quota;
   at_work : IsAtWork l.task l.graph l.lease;
   same : IsSameLease l.initial.lease l.lease;
-  tables : l.estimator ≡ tables_of l.task;
+  tables : IsOfTask l.estimator l.task;
   room : vec_capacity l.initial.succs ≤ vec_capacity l.succs;
 }
 

@@ -1,6 +1,6 @@
 use Rattle.std.proofs.Common.{◌≡◌, ◌≤◌, IsFalse, vec_capacity}
 use Rattle.pb_task.specs.Parts.{max_degree_of}
-use Rattle.pb_estimate.specs.Tables.{tables_of}
+use Rattle.pb_estimate.specs.Tables.{IsOfTask}
 use Rattle.pb_lease.specs.GraphValue.{counts_in}
 use Rattle.pb_lease.specs.Choices.{is_out_in}
 use Rattle.pb_workers.specs.Runs.{IsSameSearch, IsAnyMoment, RunsOn}
@@ -9,7 +9,7 @@ use Rattle.pb_workers.proofs.alone.search.Given as goal
 
 abbrev pub invariant-leases : goal.invariant-leases
 invariant-leases g l = record {
-  tables : l.estimator ≡ tables_of l.task;
+  tables : IsOfTask l.estimator l.task;
   room : max_degree_of l.task ≤ vec_capacity l.succs;
   task : l.graph.task ≡ l.task;
   abstraction : l.graph.table.graph ≡ l.abstraction;

@@ -1,6 +1,6 @@
 use Rattle.std.proofs.Common.{◌≡◌, ◌≤◌, vec_capacity}
 use Rattle.pb_task.specs.Parts.{max_degree_of}
-use Rattle.pb_estimate.specs.Tables.{tables_of}
+use Rattle.pb_estimate.specs.Tables.{IsOfTask}
 use Rattle.pb_lease.specs.Tables.{rooms}
 use Rattle.pb_lease.specs.GraphValue.{counts_in}
 use Rattle.pb_workers.specs.Runs.{IsSameSearch}
@@ -10,7 +10,7 @@ use Rattle.pb_workers.proofs.holding.hold.Given as goal
 
 abbrev pub invariant-turns : goal.invariant-turns
 invariant-turns g l = record {
-  tables : l.estimator ≡ tables_of l.task;
+  tables : IsOfTask l.estimator l.task;
   room : max_degree_of l.task ≤ vec_capacity l.succs;
   task : l.graph.task ≡ l.task;
   abstraction : l.graph.table.graph ≡ l.abstraction;

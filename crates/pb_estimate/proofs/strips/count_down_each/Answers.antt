@@ -1,0 +1,54 @@
+use Rattle.std.proofs.Common.{◌≡◌, ℕ, ◌+◌, ◌<◌, ◌≤◌, ◌⊎◌, List, length, get_or, take, All, Contains, subst, sym, arith, ◌∙◌}
+use Rattle.std.proofs.lemmas.List.{take_all}
+use Rattle.pb_estimate.specs.Hmax.{IsAtMost}
+use Rattle.pb_estimate.specs.Exploring.{cost_in}
+use Rattle.pb_estimate.specs.Tables.{relaxed_at, IsAddedBy}
+use Rattle.pb_estimate.proofs.Released.{not_before, counted_more, others_more, reaches_more, only_more}
+use Rattle.pb_estimate.proofs.strips.count_down_each.Goals as goal
+
+pub loop-user-preserved : goal.loop-user-preserved
+loop-user-preserved c =
+    let i = c.loop-user.user-index in
+    let less : c.loop-user.user-index < length c.args.users.now = c.loop-user-test.true in
+    let inside : get_or c.args.users.now c.loop-user.user-index 0 < length c.loop-user.counts =
+    (let user = (c.requires.users c.loop-user.user-index 0 c.loop-user-test.true).0 in omega (arith, user, c.loop-user.auto.counts, c.requires.counts)) in
+    let some : 1 ≤ get_or c.loop-user.counts (get_or c.args.users.now c.loop-user.user-index 0) 0 =
+    subst (λ n. 1 ≤ n) (sym (c.loop-user.invariant.others (get_or c.args.users.now c.loop-user.user-index 0) (not_before c.args.users.now c.loop-user.user-index less c.requires.ascend)))
+    (c.requires.users c.loop-user.user-index 0 c.loop-user-test.true).1 in
+    record {
+      is = c.count_down.ensures.is;
+      long = c.count_down.ensures.long ∙ c.loop-user.invariant.long;
+      counted = counted_more c.args.users.now c.loop-user.user-index less c.requires.ascend c.args.counts.now c.loop-user.counts c.count_down.new.counts inside some c.count_down.ensures.counts
+          c.loop-user.invariant.counted c.loop-user.invariant.others;
+      others = others_more c.args.users.now c.loop-user.user-index less c.requires.ascend c.args.counts.now c.loop-user.counts c.count_down.new.counts inside some c.count_down.ensures.counts
+          c.loop-user.invariant.others;
+      finals = λ atom. c.count_down.ensures.finals atom ∙ c.loop-user.invariant.finals atom;
+      falls = λ atom cost h. c.count_down.ensures.falls atom cost (c.loop-user.invariant.falls atom cost h);
+      reaches = reaches_more c.args.users.now c.loop-user.user-index less c.requires.ascend c.args.counts.now c.loop-user.counts c.count_down.new.counts inside some c.count_down.ensures.counts
+          c.args.actions.now c.args.level c.args.exploration.now.costs.items c.loop-user.exploration.costs.items c.count_down.new.exploration.costs.items c.count_down.ensures.falls
+          c.loop-user.invariant.reaches c.count_down.ensures.reaches;
+      only = only_more c.args.users.now c.loop-user.user-index less c.requires.ascend c.args.counts.now c.loop-user.counts c.count_down.new.counts inside some c.count_down.ensures.counts
+          c.args.actions.now c.args.level c.args.exploration.now.costs.items c.loop-user.exploration.costs.items c.count_down.new.exploration.costs.items c.count_down.ensures.falls
+          c.loop-user.invariant.only c.count_down.ensures.only;
+    }
+
+pub returns-clause-counted : goal.returns-clause-counted
+returns-clause-counted c =
+    let all : take c.loop-user.user-index c.args.users.now ≡ c.args.users.now = take_all c.loop-user.user-index c.args.users.now c.loop-user-test.false in
+    subst (λ users. All (λ user. get_or c.loop-user.counts user 0 + 1 ≡ get_or c.args.counts.now user 0) users) all c.loop-user.invariant.counted
+
+pub returns-clause-reaches : goal.returns-clause-reaches
+returns-clause-reaches c =
+    let all : take c.loop-user.user-index c.args.users.now ≡ c.args.users.now = take_all c.loop-user.user-index c.args.users.now c.loop-user-test.false in
+    subst
+    (λ users. All (λ user. get_or c.loop-user.counts user 0 ≡ 0
+    → All (λ atom. IsAtMost (cost_in c.loop-user.exploration.costs.items atom) (c.args.level + (relaxed_at c.args.actions.now user).cost)) (relaxed_at c.args.actions.now user).adds) users)
+    all c.loop-user.invariant.reaches
+
+pub returns-clause-only : goal.returns-clause-only
+returns-clause-only c =
+    let all : take c.loop-user.user-index c.args.users.now ≡ c.args.users.now = take_all c.loop-user.user-index c.args.users.now c.loop-user-test.false in
+    subst
+    (λ (users : List ℕ). (atom cost : ℕ) → IsAtMost (cost_in c.loop-user.exploration.costs.items atom) cost
+    → IsAtMost (cost_in c.args.exploration.now.costs.items atom) cost ⊎ ((user : ℕ) × Contains users user × IsAddedBy c.args.actions.now c.args.level c.loop-user.counts user atom cost)) all
+    c.loop-user.invariant.only

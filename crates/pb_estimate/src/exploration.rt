@@ -1,0 +1,204 @@
+ghost use Rattle.std.specs.Prelude.{[], ◌∷◌, ◌≡◌, ℕ, ◌<◌, ◌≤◌, ◌↔◌, IsTrue, IfOk, IfSome, IfNone, All, length, slice_index, slice_set, true, None, is_some};
+ghost use Rattle.pb_task.specs.Strips.{has_atom};
+ghost use Rattle.pb_estimate.specs.declared.exploration.AtomCost.TheVariants.{Unreached, Open, Final};
+ghost use Rattle.pb_estimate.specs.Hmax.{IsAtMost};
+ghost use Rattle.pb_estimate.specs.Exploring.{known_in, cost_in, final_in, final_cost, is_final_in, AreLowered, HaveSameFinals, FinalsAreWithin, OpensAreFrom, IsExploration, IsLeastOpen, IsOneOf};
+
+use pb_packed::Packed;
+use std::alloc::{AllocError, Global};
+
+/// What is known of the cost of an atom.
+#[derive(Clone, Copy)]
+pub enum AtomCost {
+    /// No action was found yet that adds it.
+    Unreached,
+    /// It costs at most this.
+    Open(u32),
+    /// It costs this.
+    Final(u32),
+}
+
+/// An exploration of what can hold after a state if nothing is deleted: what each atom costs so
+/// far, and a queue of the atoms that were reached.
+#[derive(Drop)]
+pub struct Exploration {
+    /// The cost of each atom.
+    pub costs: Vec<AtomCost>,
+    /// The atoms that were reached, in the order in which they were. Later places are unused.
+    pub queue: Vec<u8>,
+    /// The costs of the atoms at the places before this one are final.
+    pub first: usize,
+    /// How many atoms were reached.
+    pub reached: usize,
+}
+
+// Whether a cost is final.
+fn is_final(cost: AtomCost) -> bool
+    ensures { result ≡ is_some (final_cost cost) }
+{
+    match cost {
+        AtomCost::Final(_) => true,
+        AtomCost::Unreached => false,
+        AtomCost::Open(_) => false,
+    }
+}
+
+// The one of two atoms that costs less.
+fn lesser(best: Option<(u8, u32)>, other: (u8, u32)) -> Option<(u8, u32)>
+    ensures one { IfSome result (λ least. IsOneOf best other least) }
+    ensures some { IsTrue (is_some result) }
+    ensures no_more { IfSome result (λ least. (least.1 ≤ other.1)
+        × IfSome best (λ b. least.1 ≤ b.1)) }
+{
+    match best {
+        Some((atom, cost)) if cost <= other.1 => Some((atom, cost)),
+        _ => Some(other),
+    }
+}
+
+// An atom of these that costs least of those whose cost is open. No open cost is less than `level`.
+fn least(costs: &[AtomCost], atoms: &[u8], level: u32) -> Option<(u8, u32)>
+    requires inside { All (λ atom. atom < length costs.now) atoms.now }
+    requires level { OpensAreFrom level costs.now }
+    ensures found { IfSome result (λ found. (found.0 < length costs.now)
+        × (known_in costs.now found.0 ≡ Open found.1)) }
+    ensures least { IfSome result (λ found. All (λ atom. (cost : ℕ) → known_in costs.now atom
+        ≡ Open cost → found.1 ≤ cost) atoms.now) }
+    ensures none { IfNone result (All (λ atom. (cost : ℕ) → known_in costs.now atom ≡ Open cost
+        → ⊥) atoms.now) }
+{
+    let mut best = None;
+    for atom in atoms {
+        if let AtomCost::Open(cost) = costs[*atom as usize] {
+            if cost == level {
+                return Some((*atom, cost));
+            }
+            best = lesser(best, (*atom, cost));
+        }
+    }
+    best
+}
+
+impl Exploration {
+    /// An exploration of so many atoms, with none reached.
+    pub fn of(alloc: Global, count: usize) -> Result<Exploration, AllocError>
+        requires { count ≤ 256 }
+        ensures is { IfOk result IsExploration }
+        ensures long { IfOk result (λ made. length made.costs.items ≡ count) }
+    {
+        Ok(Exploration {
+            costs: vec![in alloc; AtomCost::Unreached; count]?,
+            queue: vec![in alloc; 0; count]?,
+            first: 0,
+            reached: 0,
+        })
+    }
+
+    // Forgets all costs.
+    fn clear(&mut self)
+        requires is { IsExploration self.old }
+        ensures is { IsExploration self.new }
+        ensures long { length self.new.costs.items ≡ length self.old.costs.items }
+        ensures none { (atom : ℕ) → known_in self.new.costs.items atom ≡ Unreached }
+    {
+        self.costs.fill(AtomCost::Unreached);
+        self.first = 0;
+        self.reached = 0;
+    }
+
+    /// Begins anew at a state: the atoms that hold cost nothing, and no other is reached.
+    pub fn begin(&mut self, count: u32, state: &Packed)
+        requires is { IsExploration self.old }
+        requires count { count ≡ length self.old.costs.items }
+        ensures is { IsExploration self.new }
+        ensures long { length self.new.costs.items ≡ count }
+        ensures holds { (atom : ℕ) → atom < count → has_atom state.now atom ≡ true
+            → IsAtMost (cost_in self.new.costs.items atom) 0 }
+        ensures only { (atom cost : ℕ) → IsAtMost (cost_in self.new.costs.items atom) cost
+            → has_atom state.now atom ≡ true }
+        ensures finals { (atom : ℕ) → final_in self.new.costs.items atom ≡ None }
+    {
+        self.clear();
+        for atom in 0..count {
+            if state.has(atom) {
+                self.lower(atom as u8, 0);
+            }
+        }
+    }
+
+    // Lowers the cost of an atom to this one, if it isn't reached or costs more.
+    fn lower(&mut self, atom: u8, cost: u32)
+        requires is { IsExploration self.old }
+        requires inside { atom < length self.old.costs.items }
+        requires finals { FinalsAreWithin cost self.old.costs.items }
+        ensures is { IsExploration self.new }
+        ensures long { length self.new.costs.items ≡ length self.old.costs.items }
+        ensures lowered { AreLowered (atom ∷ []) cost self.old.costs.items self.new.costs.items }
+        ensures finals { HaveSameFinals self.old.costs.items self.new.costs.items }
+    {
+        match self.costs[atom as usize] {
+            AtomCost::Unreached => {
+                self.costs[atom as usize] = AtomCost::Open(cost);
+                self.queue[self.reached] = atom;
+                self.reached += 1;
+            }
+            AtomCost::Open(known) => {
+                if cost < known {
+                    self.costs[atom as usize] = AtomCost::Open(cost);
+                }
+            }
+            AtomCost::Final(_) => {}
+        }
+    }
+
+    /// Lowers the costs of some atoms to this one, where they aren't reached or cost more.
+    pub fn lower_each(&mut self, atoms: &[u8], cost: u32)
+        requires is { IsExploration self.old }
+        requires inside { All (λ atom. atom < length self.old.costs.items) atoms.now }
+        requires finals { FinalsAreWithin cost self.old.costs.items }
+        ensures is { IsExploration self.new }
+        ensures long { length self.new.costs.items ≡ length self.old.costs.items }
+        ensures lowered { AreLowered atoms.now cost self.old.costs.items self.new.costs.items }
+        ensures finals { HaveSameFinals self.old.costs.items self.new.costs.items }
+    {
+        for atom in atoms {
+            self.lower(*atom, cost);
+        }
+    }
+
+    // The place in the queue before which all costs are final.
+    fn first_open(&self) -> usize
+        requires is { IsExploration self.now }
+        ensures reached { result ≤ self.now.reached }
+        ensures places { self.now.reached ≤ length self.now.queue.items }
+        ensures passed { (k : ℕ) → k < result
+            → is_final_in self.now.costs.items (slice_index self.now.queue.items k) ≡ true }
+    {
+        let queue = self.queue.as_slice();
+        let costs = self.costs.as_slice();
+        let mut first = self.first;
+        while first < self.reached && is_final(costs[queue[first] as usize]) {
+            first += 1;
+        }
+        first
+    }
+
+    /// Makes the least cost that is open, with its atom, final. No open cost is less than `level`.
+    pub fn next(&mut self, level: u32) -> Option<(u8, u32)>
+        requires is { IsExploration self.old }
+        requires level { OpensAreFrom level self.old.costs.items }
+        ensures is { IsExploration self.new }
+        ensures long { length self.new.costs.items ≡ length self.old.costs.items }
+        ensures least { IfSome result (λ found. IsLeastOpen self.old.costs.items found.0 found.1) }
+        ensures made { IfSome result (λ found. self.new.costs.items
+            ≡ slice_set self.old.costs.items found.0 (Final found.1)) }
+        ensures none { IfNone result ((atom cost : ℕ) → known_in self.old.costs.items atom
+            ≡ Open cost → ⊥) }
+    {
+        self.first = self.first_open();
+        let queue = &self.queue.as_slice()[self.first..self.reached];
+        let (atom, cost) = least(self.costs.as_slice(), queue, level)?;
+        self.costs[atom as usize] = AtomCost::Final(cost);
+        Some((atom, cost))
+    }
+}
