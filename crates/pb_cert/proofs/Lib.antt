@@ -4,5 +4,6 @@ mod Back
 mod Goals
 mod Distinct
 mod Sorted
+mod Places
 mod TwoRows
 pub mod AtHome

@@ -1,7 +1,7 @@
 -- The lines of a certificate's text, by their numbers and one after another.
 use Rattle.std.proofs.Common.{◌≡◌, ℕ, zero, suc, ◌+◌, ◌-◌, ◌<◌, ◌≤◌, Option, None, Some, List, [], ◌∷◌, ◌++◌, map, length, slice_get, get_or, refl, sym, subst, ap, arith, ◌∙◌, append_assoc, append-nil, codes}
 use Rattle.std.proofs.lemmas.List.{length-append, length-map}
-use Rattle.std.proofs.lemmas.Option.{slice_get_read, slice_get-get_or}
+use Rattle.std.proofs.lemmas.Option.{slice_get-get_or}
 use Rattle.std.specs.Fmt.{decimal}
 use Rattle.pb_model.specs.Plan.{Plan}
 use Rattle.pb_model.specs.Certificate.{Line, Certificate}
@@ -152,27 +152,24 @@ module _ (old new : List ℕ) (plan : Plan) (at : ℕ) where
       )
 
 module _ (old new : List ℕ) (certificate : Certificate) (at : ℕ) where
-  pub count_put : (rows : List Line) → rows ≡ certificate.lines → at ≡ 0 → new ≡ old ++ line (spaced (codes "rows") (decimal (length rows))) → length new ≤ length old + 128 → PutsLine old new (rows_lines certificate) at
+  pub count_put : (rows : ℕ) → rows ≡ length certificate.lines → at ≡ 0 → new ≡ old ++ line (spaced (codes "rows") (decimal rows)) → length new ≤ length old + 128 → PutsLine old new (rows_lines certificate) at
   count_put rows same zeroth e short =
       let first : List ℕ = spaced (codes "rows") (decimal (length certificate.lines)) in
-      (first, get_first (line_text 64) first (codes "end") certificate.lines at zeroth, subst (λ xs. new ≡ old ++ line (spaced (codes "rows") (decimal (length xs)))) same e, short)
+      (first, get_first (line_text 64) first (codes "end") certificate.lines at zeroth, subst (λ n. new ≡ old ++ line (spaced (codes "rows") (decimal n))) same e, short)
 
-  pub row_put : (rows : List Line) (row : Line) → rows ≡ certificate.lines → (at ≡ 0 → ⊥) → at ≤ length rows → row ≡ get_or rows (at - 1) row → new ≡ old ++ line (line_text 64 row) → length new ≤ length old + 128
-      → PutsLine old new (rows_lines certificate) at
-  row_put rows row same positive within is e short =
-      let found : slice_get rows (at - 1) ≡ Some row = slice_get_read rows (length rows) (at - 1) row refl (grind (arith, positive, within)) is in (
-        line_text 64 row,
-        get_middle (line_text 64) (spaced (codes "rows") (decimal (length certificate.lines))) (codes "end") certificate.lines at row (grind (arith, positive))
-            (subst (λ xs. slice_get xs (at - 1) ≡ Some row) same found),
-        e,
-        short,
-      )
+  pub row_put : (row : Line) → (at ≡ 0 → ⊥) → slice_get certificate.lines (at - 1) ≡ Some row → new ≡ old ++ line (line_text 64 row) → length new ≤ length old + 128 → PutsLine old new (rows_lines certificate) at
+  row_put row positive found e short = (
+    line_text 64 row,
+    get_middle (line_text 64) (spaced (codes "rows") (decimal (length certificate.lines))) (codes "end") certificate.lines at row (grind (arith, positive)) found,
+    e,
+    short,
+  )
 
-  pub end_put : (rows : List Line) → rows ≡ certificate.lines → length rows < at → at < length (rows_lines certificate) → new ≡ old ++ line (codes "end") → PutsLine old new (rows_lines certificate) at
-  end_put rows same past within e =
+  pub end_put : length certificate.lines < at → at < length (rows_lines certificate) → new ≡ old ++ line (codes "end") → PutsLine old new (rows_lines certificate) at
+  end_put past within e =
       let all : length (rows_lines certificate) ≡ length certificate.lines + 2 = counted certificate.lines (spaced (codes "rows") (decimal (length certificate.lines))) in (
         codes "end",
-        get_last (line_text 64) (spaced (codes "rows") (decimal (length certificate.lines))) (codes "end") certificate.lines at (subst (λ xs. length xs < at) same past) (omega (arith, all, within)),
+        get_last (line_text 64) (spaced (codes "rows") (decimal (length certificate.lines))) (codes "end") certificate.lines at past (omega (arith, all, within)),
         e,
         short_enough old new (line (codes "end")) e (omega arith),
       )

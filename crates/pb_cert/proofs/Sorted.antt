@@ -1,11 +1,11 @@
 -- The lines of all rows, part after part, in order of the states, and the certificate that they make.
-use Rattle.std.proofs.Common.{◌≡◌, ◌⊎◌, inl, inr, ℕ, zero, suc, ◌+◌, ◌<◌, ◌≤◌, false, Option, None, Some, nat_eq, All, Contains, List, [], ◌∷◌, ◌++◌, map, take, length, slice_get, get_or, refl, sym, subst, ap, arith, ◌∙◌, append_assoc}
+use Rattle.std.proofs.Common.{◌≡◌, ◌⊎◌, inl, inr, ℕ, ◌+◌, ◌<◌, ◌≤◌, false, Option, None, Some, nat_eq, All, Contains, List, [], ◌∷◌, ◌++◌, map, length, get_or, refl, sym, subst, ap, arith, ◌∙◌}
 use Rattle.std.specs.Map.{keys_of}
 use Rattle.std.specs.List.{IsDistinct}
 use Rattle.std.specs.List.Sorted.{IsPermutation, IsNonDecreasing, IsNonDecreasingBy}
 use Rattle.std.proofs.lemmas.Cmp.{nat_eq_equiv}
-use Rattle.std.proofs.lemmas.Option.{slice_get-get_or, slice_get_within, get_or_from_slice_get}
-use Rattle.std.proofs.lemmas.List.{length-map, get_or-map, map-append, map_more}
+use Rattle.std.proofs.lemmas.Option.{slice_get-get_or}
+use Rattle.std.proofs.lemmas.List.{length-map, get_or-map, map-append}
 use Rattle.std.proofs.lemmas.List.Elements.{All-append, All-map, All-weaker, Contains-append_left, Contains-append_right}
 use Rattle.std.proofs.lemmas.List.Sorted.{IsPermutation-map, All-permutation, Contains-permutation}
 use Rattle.std.proofs.lemmas.Map.Keys.{IsDistinct-IsPermutation, IsStrictlyIncreasing-from_distinct, sorted_from_strictly_increasing}
@@ -25,22 +25,6 @@ use Rattle.pb_lists.specs.Bundle.{row_in}
 use Rattle.pb_cert.specs.Store.{IsPlaced, HasNoneFrom, store_with}
 use Rattle.pb_cert.specs.Listed.{entry_line}
 use Rattle.pb_cert.proofs.Distinct.{IsDistinct-append}
-
--- ---- the lines of the first entries of a part
-
-pub next_line : (before : List Line) (entries : List (ℕ × Row)) (i state : ℕ) (row : Row) (lines : List Line) → slice_get entries i ≡ Some (state, row) → lines ≡ before ++ map entry_line (take i entries)
-    → lines ++ line_of state row ∷ [] ≡ before ++ map entry_line (take (i + 1) entries)
-next_line before entries i state row lines at so_far =
-    let within : i < length entries = slice_get_within entries i (state, row) at in
-    let there : ◌≡◌ {A = ℕ × Row} (get_or entries i (state, row)) (state, row) = get_or_from_slice_get entries i (state, row) (state, row) at in
-    ap (λ t. t ++ line_of state row ∷ []) so_far ∙ append_assoc before (map entry_line (take i entries)) (line_of state row ∷ [])
-    ∙ ap (λ e. before ++ (map entry_line (take i entries) ++ entry_line e ∷ [])) (sym there) ∙ sym (ap (λ t. before ++ t) (map_more entry_line entries i (state, row) within))
-
-pub whole_list : (entries : List (ℕ × Row)) (i : ℕ) → length entries ≤ i → take i entries ≡ entries
-whole_list [] zero le = refl
-whole_list [] (suc i) le = refl
-whole_list (entry ∷ entries) zero le = absurd (omega (arith, le))
-whole_list (entry ∷ entries) (suc i) le = ap (λ t. entry ∷ t) (whole_list entries i (omega (arith, le)))
 
 -- ---- the lines of the first parts
 
@@ -125,6 +109,15 @@ module _ (rows : Rows) (i : ℕ) (lines : List Line) (entries : List (ℕ × Row
         ];
         distinct = states_apart;
       }
+
+-- in another order they are the same lines
+pub in_any_order : (rows : Rows) (i : ℕ) (lines others : List Line) → IsPermutation lines others → AreLinesBelow rows i lines → AreLinesBelow rows i others
+in_any_order rows i lines others permuted are =
+    record {
+      sound = All-permutation (IsLineBelow rows i) lines others permuted are.sound;
+      complete = λ home state row below found. Contains-permutation lines others (line_of state row) permuted (are.complete home state row below found);
+      distinct = λ homes placed. IsDistinct-IsPermutation nat_eq equal_swap (states_of lines) (states_of others) (IsPermutation-map (λ (line : Line). line.state) lines others permuted) (are.distinct homes placed);
+    }
 
 -- ---- all lines, sorted
 

@@ -6,8 +6,9 @@ ghost use Rattle.pb_model.specs.Sound.{IsSound};
 ghost use Rattle.pb_model.specs.Certificate.{AreLinesOf, IsPlanIfAny, IsBackedBy, IsValid};
 ghost use Rattle.pb_cert.specs.Store.{IsPlaced, store_with};
 
-use crate::rows::lines_for;
+use crate::rows::{Place, parts_of, places_for};
 use crate::{Plan, Store};
+use pb_lists::Bundle;
 use pb_packed::Packed;
 use std::alloc::{AllocError, Global};
 use std::marker::Model;
@@ -28,28 +29,31 @@ impl Model for Line {
     ghost view = { λ l. record { state = l.state; g = l.g; is_closed = l.is_closed } };
 }
 
-/// A certificate of optimality, with the kind of its task. Contracts see that kind and the model's certificate.
+/// A certificate of optimality, with the kind of its task. It borrows the rows of the store that it is of. Contracts see that kind
+/// and the model's certificate.
 #[derive(Drop)]
-pub struct Certificate {
+pub struct Certificate<'a> {
     pub(crate) kind: &'static str,
     pub(crate) num: u64,
     pub(crate) den: u64,
     pub(crate) plan: Option<Plan>,
-    pub(crate) lines: Vec<Line>,
+    pub(crate) parts: Vec<&'a Bundle>,
+    pub(crate) places: Vec<Place>,
 }
 
-impl Model for Certificate {
-    ghost use Rattle.std.specs.Prelude.{◌≤◌, length};
+impl<'a> Model for Certificate<'a> {
+    ghost use Rattle.std.specs.Prelude.{◌≤◌, length, map};
     ghost use Rattle.pb_cert.specs.Stated.{Stated};
+    ghost use Rattle.pb_cert.specs.Listed.{line_at};
 
     ghost Value = { Stated };
 
-    ghost view = { λ c. record { kind = c.kind.now; certificate = record { weight = record { num = c.num; den = c.den }; plan = c.plan; lines = c.lines.items } } };
+    ghost view = { λ c. record { kind = c.kind.now; certificate = record { weight = record { num = c.num; den = c.den }; plan = c.plan; lines = map (line_at c.parts.items) c.places.items } } };
 
     ghost invariant = { λ c. length c.kind.now ≤ 64 };
 }
 
-impl Certificate {
+impl<'a> Certificate<'a> {
     /// The certificate of a store's rows, for a search at the weight num / den, with a plan or with the claim that there is
     /// none. `kind` is what a task of its kind is called on a command line. An error is want of memory.
     pub fn of<S: Store>(
@@ -58,8 +62,8 @@ impl Certificate {
         num: u64,
         den: u64,
         plan: Option<Plan>,
-        store: &S,
-    ) -> Result<Certificate, AllocError>
+        store: &'a S,
+    ) -> Result<Certificate<'a>, AllocError>
         requires kind { length kind.now ≤ 64 }
         requires whole { S.is_whole store.now }
         requires weight { S.weight store.now ≡ record { num = num; den = den } }
@@ -70,13 +74,15 @@ impl Certificate {
         ensures valid { IfOk result (λ c. (space : Space) (guide : Guide) (incumbent : Option ℕ) → IsSound space guide (store_with (S.rows store.now) (S.weight store.now) incumbent)
             → IsQuiet (store_with (S.rows store.now) (S.weight store.now) incumbent) → IsPlanIfAny space plan → IsBackedBy incumbent plan → IsValid space guide.estimate c.certificate) }
     {
-        let lines = lines_for(alloc, store)?;
+        let parts = parts_of(alloc, store)?;
+        let places = places_for(alloc, &parts)?;
         Ok(Certificate {
             kind,
             num,
             den,
             plan,
-            lines,
+            parts,
+            places,
         })
     }
 

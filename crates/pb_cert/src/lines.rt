@@ -1,10 +1,11 @@
-ghost use Rattle.std.specs.Prelude.{◌≡◌, ◌+◌, ◌<◌, ◌≤◌, ◌^◌, ◌++◌, Some, length, codes};
+ghost use Rattle.std.specs.Prelude.{◌≡◌, ◌+◌, ◌<◌, ◌≤◌, ◌^◌, ◌++◌, Some, length, slice_get, codes};
 ghost use Rattle.std.specs.Fmt.{decimal};
 ghost use Rattle.pb_model.specs.Texts.{line, spaced, line_text};
 ghost use Rattle.pb_cert.specs.Stated.{lines_of, head_lines, plan_lines, rows_lines, weight_line, PutsLine};
 
 use crate::Plan;
 use crate::certificate::{Certificate, Line};
+use crate::rows::line_at;
 use pb_print::Piece;
 
 // Puts a line of a word and a number behind the piece.
@@ -63,12 +64,20 @@ fn put_plan_line(plan: &Plan, at: u128, out: &mut Piece)
     }
 }
 
-impl Certificate {
-    // The states with their rows.
-    fn rows(&self) -> &[Line]
-        ensures { result.now ≡ self.now.certificate.lines }
+impl Certificate<'_> {
+    // How many rows there are.
+    fn rows(&self) -> usize
+        ensures { result ≡ length self.now.certificate.lines }
     {
-        &self.lines
+        self.places.len()
+    }
+
+    // The line of the row of this number, counted from 0.
+    fn row(&self, i: usize) -> Line
+        requires { i < length self.now.certificate.lines }
+        ensures { slice_get self.now.certificate.lines i ≡ Some result }
+    {
+        line_at(&self.parts, &self.places[i])
     }
 
     // How many lines state the plan, or that there is none.
@@ -87,7 +96,7 @@ impl Certificate {
         ensures count { result ≡ length (lines_of self.now) }
         ensures most { result < 2 ^ 66 }
     {
-        3 + self.plan_count() + self.rows().len() as u128 + 2
+        3 + self.plan_count() + self.rows() as u128 + 2
     }
 
     // Puts the line of this number, counted from 0, behind the piece.
@@ -160,9 +169,9 @@ impl Certificate {
     {
         let rows = self.rows();
         if at == 0 {
-            put_numbered(b"rows", rows.len() as u64, out);
-        } else if at <= rows.len() as u128 {
-            put_row(&rows[(at - 1) as usize], out);
+            put_numbered(b"rows", rows as u64, out);
+        } else if at <= rows as u128 {
+            put_row(&self.row((at - 1) as usize), out);
         } else {
             out.push(b"end\n");
         }

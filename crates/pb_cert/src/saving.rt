@@ -41,7 +41,7 @@ fn make_room<H: Shelf>(shelf: &mut H, name: &str, piece: &mut Piece) -> Result<(
     append_piece(shelf, name, piece)
 }
 
-impl Certificate {
+impl Certificate<'_> {
     /// How many bytes the certificate's text has. It takes no memory.
     pub fn len(&self) -> u128
         ensures { result ≡ length (text_of self.now) }

@@ -23,7 +23,7 @@ use Rattle.pb_check.specs.Shown.{IsAccepted}
 use Rattle.pb_check.specs.Faults.{◌>>=◌, Gives}
 use Rattle.pb_check.specs.Reading.{Text, plan_lines}
 use Rattle.pb_check.specs.Judging.{or_then, unless, same_kind, is_weight, after_step, walk, plan_fault, plan_fault_if_any, AreAbove, Rise, order_fault, rows_order_fault, first_fault_by, state_fault, g_of, is_zero, target_fault, step_fault, steps_fault, may_be_cut, row_fault, verdict_of, judged, checked}
-use Rattle.pb_check.proofs.Halving.{equal_at}
+use Rattle.pb_check.proofs.Finding.{equal_at}
 use Rattle.pb_check.proofs.Readable.{readable}
 use Rattle.pb_check.proofs.Written.{spells}
 

@@ -2,11 +2,13 @@ pub mod Lines
 pub mod Places
 pub mod Loops
 pub mod Walks
-pub mod Halving
+pub mod Finding
+pub mod Arrays
 pub mod Passes
 pub mod Spelled
 pub mod Readable
 pub mod States
+pub mod Sixteens
 pub mod Numbers
 pub mod Written
 pub mod Validity

@@ -1,5 +1,5 @@
 -- States as words of hexadecimal digits.
-use Rattle.std.proofs.Common.{lit<, ◌≡◌, ℕ, zero, suc, ◌+◌, ◌-◌, ◌*◌, ◌/◌, ◌%◌, ◌^◌, ◌<◌, ◌≤◌, Bool, true, false, ◌&&◌, ltb, Option, None, Some, List, [], ◌∷◌, ◌++◌, length, refl, sym, ap, ◌∙◌, subst, arith, append-nil, append_assoc, mul-le-mul_right, mul_assoc, mul_comm}
+use Rattle.std.proofs.Common.{lit<, ◌≡◌, ℕ, zero, suc, ◌+◌, ◌-◌, ◌*◌, ◌/◌, ◌%◌, ◌^◌, ◌<◌, ◌≤◌, Bool, true, false, ◌&&◌, ltb, List, [], ◌∷◌, ◌++◌, length, refl, sym, ap, ◌∙◌, subst, arith, append-nil, append_assoc, mul-le-mul_right, mul_assoc, mul_comm}
 use Rattle.std.specs.List.{list_all}
 use Rattle.std.proofs.Math.Nat.{pow-suc, div-eq_of_lt, zero-mod}
 use Rattle.std.proofs.lemmas.Nat.{mod_below, div-add-mod', div_below}
@@ -7,13 +7,11 @@ use Rattle.std.proofs.lemmas.Bool.{ltb-true, lt-ltb}
 use Rattle.std.proofs.lemmas.Bool.Decides.{nat_tests}
 use Rattle.std.proofs.lemmas.List.Folds.{list_all-append}
 use Rattle.pb_packed.specs.Bits.{bits_of, with_bits_of}
-use Rattle.pb_packed.specs.Digits.{hex_digit, hex_digits, AreHexDigits}
+use Rattle.pb_packed.specs.Digits.{hex_digit, hex_digits}
 use Rattle.pb_packed.proofs.HexDigits.{no_digits, one_more, followed}
 use Rattle.pb_packed.proofs.DigitLaws.{digits_are_hex}
-use Rattle.pb_check.specs.Words.{hex_value, state_of}
+use Rattle.pb_check.specs.Words.{hex_value}
 use Rattle.pb_check.proofs.Lines.{hex_value_after, IsStateWord}
-use Rattle.pb_check.proofs.Spelled.{state_is}
-use Rattle.pb_check.proofs.Readable.{state_again}
 
 abbrev are_values : List ℕ → Bool
 are_values word = list_all (λ b. ltb (hex_value b) 16) word
@@ -100,30 +98,8 @@ state_word_is word state is =
       (let v = is.value in omega (arith, v, limit)),
     )
 
--- ---- what reading digits returns
-
--- the digits of a number are those of its lowest bits
-digits_above : (count q r : ℕ) → hex_digits count (q * 16 ^ count + r) ≡ hex_digits count r
-digits_above zero q r = no_digits (q * 16 ^ 0 + r) ∙ sym (no_digits r)
-digits_above (suc count) q r =
-    let p : ℕ = q * 16 ^ count in
-    let e : q * 16 ^ suc count ≡ p * 16 = ap (λ k. q * k) (pow-suc 16 count) ∙ sym (mul_assoc q (16 ^ count) 16) in
-    let front : (q * 16 ^ suc count + r) / 16 ≡ p + r / 16 = divided p r (q * 16 ^ suc count) e in
-    let last : (q * 16 ^ suc count + r) % 16 ≡ r % 16 = left p r (q * 16 ^ suc count) e in
-    one_more count (q * 16 ^ suc count + r) ∙ ap (λ k. hex_digits count k ++ hex_digit ((q * 16 ^ suc count + r) % 16) ∷ []) front
-    ∙ ap (λ k. hex_digits count (p + r / 16) ++ hex_digit k ∷ []) last ∙ ap (λ (t : List ℕ). t ++ hex_digit (r % 16) ∷ []) (digits_above count q (r / 16)) ∙ sym (one_more count r)
-  where
-    divided : (p r whole : ℕ) → whole ≡ p * 16 → (whole + r) / 16 ≡ p + r / 16
-    divided p r whole e = omega (arith, e)
-
-    left : (p r whole : ℕ) → whole ≡ p * 16 → (whole + r) % 16 ≡ r % 16
-    left p r whole e = omega (arith, e)
-
-digits_of_lowest : (n : ℕ) → hex_digits 64 (n % 2 ^ 256) ≡ hex_digits 64 n
-digits_of_lowest n = sym (ap (λ k. hex_digits 64 k) (let e : n ≡ n / 2 ^ 256 * 16 ^ 64 + n % 2 ^ 256 = omega arith in e) ∙ digits_above 64 (n / 2 ^ 256) (n % 2 ^ 256))
-
 -- a field above all bits of a number is added to it
-field_above : (n at len value : ℕ) → n < 2 ^ at → with_bits_of n at len value ≡ n + value * 2 ^ at
+pub field_above : (n at len value : ℕ) → n < 2 ^ at → with_bits_of n at len value ≡ n + value * 2 ^ at
 field_above n at len value small =
     let none : n / 2 ^ at ≡ 0 = div-eq_of_lt small in
     let field : bits_of n at len ≡ 0 = ap (λ k. k % 2 ^ len) none ∙ zero-mod (2 ^ len) in
@@ -131,30 +107,3 @@ field_above n at len value small =
   where
     rest : (n field power : ℕ) → n - 0 * power + field ≡ n + field
     rest n field power = omega arith
-
-pub of_fields : (n a b c d : ℕ) → a ≡ bits_of n 0 64 → b ≡ bits_of n 64 64 → c ≡ bits_of n 128 64 → d ≡ bits_of n 192 64
-    → with_bits_of (with_bits_of (with_bits_of (with_bits_of 0 0 64 a) 64 64 b) 128 64 c) 192 64 d ≡ n % 2 ^ 256
-of_fields n a b c d e f g h =
-    let one : with_bits_of 0 0 64 a ≡ a = field_above 0 0 64 a (omega arith) ∙ (let z : 0 + a * 2 ^ 0 ≡ a = omega arith in z) in
-    let a_small : a < 2 ^ 64 = omega (arith, e) in
-    let b_small : b < 2 ^ 64 = omega (arith, f) in
-    let c_small : c < 2 ^ 64 = omega (arith, g) in
-    let two : with_bits_of a 64 64 b ≡ a + b * 2 ^ 64 = field_above a 64 64 b a_small in
-    let three : with_bits_of (a + b * 2 ^ 64) 128 64 c ≡ a + b * 2 ^ 64 + c * 2 ^ 128 = field_above (a + b * 2 ^ 64) 128 64 c (omega (arith, a_small, b_small)) in
-    let four : with_bits_of (a + b * 2 ^ 64 + c * 2 ^ 128) 192 64 d ≡ a + b * 2 ^ 64 + c * 2 ^ 128 + d * 2 ^ 192 =
-    field_above (a + b * 2 ^ 64 + c * 2 ^ 128) 192 64 d (omega (arith, a_small, b_small, c_small)) in
-    ap (λ k. with_bits_of (with_bits_of (with_bits_of k 64 64 b) 128 64 c) 192 64 d) one ∙ ap (λ k. with_bits_of (with_bits_of k 128 64 c) 192 64 d) two
-    ∙ ap (λ k. with_bits_of k 192 64 d) three ∙ four ∙ omega (arith, e, f, g, h)
-
-pub state_read : (word : List ℕ) (n read : ℕ) → word ≡ hex_digits 64 n → read ≡ n % 2 ^ 256 → ◌≡◌ {A = Option ℕ} (Some read) (state_of word)
-state_read word n read is low =
-    sym (state_again word read (state_word word read (is ∙ sym (digits_of_lowest n) ∙ ap (λ k. hex_digits 64 k) (sym low)) (omega (arith, low))))
-
-pub no_state : (word : List ℕ) → (AreHexDigits word → ⊥) → ◌≡◌ {A = Option ℕ} None (state_of word)
-no_state word none = go (state_of word) refl
-  where
-    go : (found : Option ℕ) → state_of word ≡ found → ◌≡◌ {A = Option ℕ} None (state_of word)
-    go None e = sym e
-    go (Some state) e =
-        let is : word ≡ hex_digits 64 state = (state_word_is word state (state_is word state e)).0 in
-        absurd (none (subst AreHexDigits (sym is) (digits_are_hex 64 state)))

@@ -25,7 +25,7 @@ use Rattle.pb_check.specs.Shown.{IsAccepted}
 use Rattle.pb_check.specs.Faults.{◌>>=◌, Gives}
 use Rattle.pb_check.specs.Reading.{Text, text_of}
 use Rattle.pb_check.specs.Judging.{passes, or_then, unless, same_kind, is_weight, after_step, walk, plan_fault, plan_fault_if_any, AreAbove, Rise, rows_order_fault, first_fault_by, state_fault, g_of, is_zero, target_fault, step_fault, steps_fault, may_be_cut, row_fault, verdict_of, judged, checked}
-use Rattle.pb_check.proofs.Halving.{order_rises}
+use Rattle.pb_check.proofs.Finding.{order_rises}
 use Rattle.pb_check.specs.Spelling.{IsSpelled}
 use Rattle.pb_check.proofs.Spelled.{spelled}
 use Rattle.pb_check.proofs.Written.{is_spelled}

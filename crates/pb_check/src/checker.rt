@@ -30,6 +30,7 @@ fn first_fault(
 {
     let text = text_of(alloc, bytes)?;
     judge(
+        alloc,
         task,
         estimator,
         text.kind,

@@ -12,11 +12,13 @@ ghost use Rattle.pb_check.specs.Judging.{passes, unless, same_kind, is_weight, w
 
 use crate::fault::{CertificateFault, CheckError, Verdict};
 use crate::kind::{TaskKind, kind_of};
-use crate::stated::{StatedPlan, StatedRow, StatedWeight};
+use crate::rows::{StatedRow, StatedRows};
+use crate::stated::{StatedPlan, StatedWeight};
 use pb_estimate::Estimator;
 use pb_model::Estimate;
 use pb_packed::Packed;
 use pb_task::Task;
+use std::alloc::Global;
 use std::cmp::Ordering;
 
 fn pass(fault: Option<CertificateFault>) -> Result<bool, CheckError>
@@ -128,25 +130,6 @@ fn judge_plan_if_any(task: &Task, plan: &Option<StatedPlan>) -> Result<bool, Che
 
 // ---- the rows
 
-// The first row whose state is not above that of the row before it.
-fn rows_order_fault(line: u64, rows: &[StatedRow]) -> Option<CertificateFault>
-    requires { line + length rows.now < 2 ^ 64 }
-    ensures fault { result ≡ rows_order_fault line rows.now }
-    ensures rises { result ≡ None → Rise rows.now }
-{
-    first_in_order(line, rows)
-}
-
-fn first_in_order(line: u64, rows: &[StatedRow]) -> Option<CertificateFault>
-    requires { line + length rows.now < 2 ^ 64 }
-    ensures { result ≡ rows_order_fault line rows.now }
-{
-    match rows {
-        [] => None,
-        [first, others @ ..] => order_fault(line + 1, first.state, others),
-    }
-}
-
 fn is_above(state: &Packed, other: &Packed) -> bool
     ensures yes { result ≡ true → other.now < state.now }
     ensures no { result ≡ false → state.now ≤ other.now }
@@ -154,29 +137,43 @@ fn is_above(state: &Packed, other: &Packed) -> bool
     state.cmp(other) == Ordering::Greater
 }
 
-fn order_fault(line: u64, before: Packed, rows: &[StatedRow]) -> Option<CertificateFault>
+// The first row whose state is not above that of the row before it.
+fn rows_order_fault(line: u64, rows: &StatedRows) -> Option<CertificateFault>
     requires { line + length rows.now < 2 ^ 64 }
-    ensures { result ≡ order_fault line before rows.now }
+    ensures fault { result ≡ rows_order_fault line rows.now }
+    ensures rises { result ≡ None → Rise rows.now }
 {
-    let mut at = line;
-    let mut last = before;
-    for row in rows {
+    first_in_order(line, rows)
+}
+
+fn first_in_order(line: u64, rows: &StatedRows) -> Option<CertificateFault>
+    requires { line + length rows.now < 2 ^ 64 }
+    ensures { result ≡ rows_order_fault line rows.now }
+{
+    if rows.len() == 0 {
+        return None;
+    }
+    let first = rows.at(0);
+    let mut last = first.state;
+    for i in 1..rows.len() {
+        let row = rows.at(i);
         if !is_above(&row.state, &last) {
+            let at = line + i as u64;
             return Some(CertificateFault::RowOrder { line: at });
         }
         last = row.state;
-        at += 1;
     }
     None
 }
 
 // The first row whose state is no state of the task.
-fn states_fault(task: &Task, line: u64, rows: &[StatedRow]) -> Option<CertificateFault>
+fn states_fault(task: &Task, line: u64, rows: &StatedRows) -> Option<CertificateFault>
     requires { line + length rows.now < 2 ^ 64 }
     ensures { result ≡ first_fault_by (state_fault (space_of task.now)) line rows.now }
 {
-    let mut at = line;
-    for row in rows {
+    for i in 0..rows.len() {
+        let row = rows.at(i);
+        let at = line + i as u64;
         let fault = unless(
             task.is_state(&row.state),
             CertificateFault::BadState { line: at },
@@ -184,31 +181,8 @@ fn states_fault(task: &Task, line: u64, rows: &[StatedRow]) -> Option<Certificat
         if fault.is_some() {
             return fault;
         }
-        at += 1;
     }
     None
-}
-
-// The g of the row of a state, found by halving the rows, which rise.
-fn g_of(rows: &[StatedRow], state: &Packed) -> Option<u64>
-    requires { Rise rows.now }
-    ensures { result ≡ g_of rows.now state.now }
-{
-    if rows.len() == 0 {
-        return None;
-    }
-    let middle = rows.len() / 2;
-    let row = &rows[middle];
-    if row.state == *state {
-        return Some(row.g);
-    }
-    if is_above(state, &row.state) {
-        let (_, back) = rows.split_at(middle + 1);
-        g_of(back, state)
-    } else {
-        let (front, _) = rows.split_at(middle);
-        g_of(front, state)
-    }
 }
 
 fn target_fault(line: u64, action: u32, most: u128, g: Option<u64>) -> Option<CertificateFault>
@@ -224,11 +198,12 @@ fn target_fault(line: u64, action: u32, most: u128, g: Option<u64>) -> Option<Ce
 }
 
 fn step_fault(
-    rows: &[StatedRow],
+    rows: &StatedRows,
     line: u64,
     g: u64,
     action: u32,
     step: Option<(Packed, u64)>,
+    near: &mut usize,
 ) -> Option<CertificateFault>
     requires { Rise rows.now }
     ensures { result ≡ step_fault rows.now line g action step }
@@ -239,25 +214,45 @@ fn step_fault(
             line,
             action,
             u128::from(g) + u128::from(cost),
-            g_of(rows, &to),
+            rows.g_of(&to, near),
         ),
     }
 }
 
-// The fault of the first action that has one.
+// Where the state that an action leads to may have its row.
+fn place_near(places: &[usize], action: u32) -> usize {
+    match places.get(action as usize) {
+        Some(place) => *place,
+        None => 0,
+    }
+}
+
+// Keeps where the next state that an action leads to may have its row.
+fn keep_near(places: &mut [usize], action: u32, near: usize) {
+    if (action as usize) < places.len() {
+        places[action as usize] = near;
+    }
+}
+
+// The fault of the first action that has one. Of each action it is kept where the row behind that of
+// its state stands: of rows that rise, the next one often leads there by the same action.
 fn steps_fault(
     task: &Task,
-    rows: &[StatedRow],
+    rows: &StatedRows,
     line: u64,
     g: u64,
     state: &Packed,
+    places: &mut [usize],
 ) -> Option<CertificateFault>
     requires rise { Rise rows.now }
     requires state { IsTrue ((space_of task.now).is_state state.now) }
     ensures { result ≡ steps_fault (space_of task.now) rows.now line g state.now (space_of task.now).actions }
 {
     for action in 0..task.actions() {
-        let fault = step_fault(rows, line, g, action, task.apply(state, action));
+        let mut near = place_near(places, action);
+        let step = task.apply(state, action);
+        let fault = step_fault(rows, line, g, action, step, &mut near);
+        keep_near(places, action, near);
         if fault.is_some() {
             return fault;
         }
@@ -288,9 +283,10 @@ fn row_fault(
     estimator: &mut Estimator,
     weight: &StatedWeight,
     best: Option<u64>,
-    rows: &[StatedRow],
+    rows: &StatedRows,
     line: u64,
     row: &StatedRow,
+    places: &mut [usize],
 ) -> Option<CertificateFault>
     requires task { IsOfTask estimator.old task.now }
     requires weight { is_weight (record { num = weight.now.num; den = weight.now.den }) ≡ true }
@@ -303,7 +299,7 @@ fn row_fault(
         if task.is_goal(&row.state) {
             Some(CertificateFault::GoalClosed { line })
         } else {
-            steps_fault(task, rows, line, row.g, &row.state)
+            steps_fault(task, rows, line, row.g, &row.state, places)
         }
     } else {
         let estimate = estimator.estimate(task, &row.state);
@@ -320,8 +316,9 @@ fn rows_fault(
     estimator: &mut Estimator,
     weight: &StatedWeight,
     best: Option<u64>,
-    rows: &[StatedRow],
+    rows: &StatedRows,
     line: u64,
+    places: &mut [usize],
 ) -> Option<CertificateFault>
     requires task { IsOfTask estimator.old task.now }
     requires weight { is_weight (record { num = weight.now.num; den = weight.now.den }) ≡ true }
@@ -331,13 +328,13 @@ fn rows_fault(
     ensures fault { result ≡ first_fault_by (row_fault (space_of task.now) (estimate_of task.now) (record { num = weight.now.num; den = weight.now.den }) best rows.now) line rows.now }
     ensures task { IsOfTask estimator.new task.now }
 {
-    let mut at = line;
-    for row in rows {
-        let fault = row_fault(task, estimator, weight, best, rows, at, row);
+    for i in 0..rows.len() {
+        let row = rows.at(i);
+        let at = line + i as u64;
+        let fault = row_fault(task, estimator, weight, best, rows, at, &row, places);
         if fault.is_some() {
             return fault;
         }
-        at += 1;
     }
     None
 }
@@ -386,11 +383,12 @@ fn is_zero(g: Option<u64>) -> bool
 
 // Goes on only where no row has a fault.
 fn need_rows(
+    alloc: Global,
     task: &Task,
     estimator: &mut Estimator,
     weight: &StatedWeight,
     plan: &Option<StatedPlan>,
-    rows: &[StatedRow],
+    rows: &StatedRows,
     line: u64,
 ) -> Result<bool, CheckError>
     requires task { IsOfTask estimator.old task.now }
@@ -401,19 +399,22 @@ fn need_rows(
     ensures gives { Gives (λ x. x) result (passes (first_fault_by (row_fault (space_of task.now) (estimate_of task.now) (record { num = weight.now.num; den = weight.now.den }) (cost_of plan.now) rows.now) line rows.now)) }
     ensures task { IsOfTask estimator.new task.now }
 {
-    let fault = rows_fault(task, estimator, weight, cost_of(plan), rows, line);
+    let mut places = Vec::from_elem(alloc, 0usize, task.actions() as usize)?;
+    let best = cost_of(plan);
+    let fault = rows_fault(task, estimator, weight, best, rows, line, &mut places);
     pass(fault)
 }
 
 /// The verdict on what a text says, or its first fault.
 #[tactic(auto, unfolding(crate::specs::Judging::judged))]
 pub fn judge(
+    alloc: Global,
     task: &Task,
     estimator: &mut Estimator,
     kind: TaskKind,
     weight: &StatedWeight,
     plan: &Option<StatedPlan>,
-    rows: &[StatedRow],
+    rows: &StatedRows,
     first: u64,
 ) -> Result<Verdict, CheckError>
     requires task { IsOfTask estimator.old task.now }
@@ -428,7 +429,10 @@ pub fn judge(
     judge_plan_if_any(task, plan)?;
     pass(rows_order_fault(first, rows))?;
     pass(states_fault(task, first, rows))?;
-    need(is_zero(g_of(rows, &start)), CertificateFault::NoStart)?;
-    need_rows(task, estimator, weight, plan, rows, first)?;
+    need(
+        is_zero(rows.g_of(&start, &mut 0)),
+        CertificateFault::NoStart,
+    )?;
+    need_rows(alloc, task, estimator, weight, plan, rows, first)?;
     Ok(verdict_of(weight, plan))
 }

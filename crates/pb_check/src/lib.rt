@@ -9,6 +9,7 @@ mod judging;
 mod kind;
 mod laws;
 mod reading;
+mod rows;
 mod stated;
 mod words;
 

@@ -8,7 +8,8 @@ ghost use Rattle.pb_check.specs.Reading.{Text, plan_lines, part, line_at, is_tex
 
 use crate::fault::{CertificateFault, CheckError};
 use crate::kind::TaskKind;
-use crate::stated::{StatedPlan, StatedRow, StatedText, StatedWeight};
+use crate::rows::{StatedRow, StatedRows};
+use crate::stated::{StatedPlan, StatedText, StatedWeight};
 use crate::words::{behind, number_of, place_of, state_of};
 use pb_packed::Packed;
 use std::alloc::Global;
@@ -229,25 +230,34 @@ fn actions_at(
     Ok((actions, rest))
 }
 
-// That many rows, one a line.
+// That many rows, one a line. The arrays grow with the lines that were read.
 fn rows_at(
     alloc: Global,
     count: u64,
     line: u64,
     text: &[u8],
-) -> Result<(Vec<StatedRow>, &[u8]), CheckError>
+) -> Result<(StatedRows, &[u8]), CheckError>
     requires { line + length text.now < 2 ^ 64 }
-    ensures gives { Gives (λ x. (x.0.items, x.1.now)) result (rows_at count line text.now) }
-    ensures shorter { IfOk result (λ x. length x.1.now + length x.0.items ≤ length text.now) }
-    ensures many { IfOk result (λ x. length x.0.items ≡ count) }
+    ensures gives { Gives (λ x. (x.0, x.1.now)) result (rows_at count line text.now) }
+    ensures shorter { IfOk result (λ x. length x.1.now + length x.0 ≤ length text.now) }
+    ensures many { IfOk result (λ x. length x.0 ≡ count) }
 {
-    let mut rows = Vec::new(alloc);
+    let mut states = Vec::new(alloc);
+    let mut costs = Vec::new(alloc);
+    let mut closed = Vec::new(alloc);
     let mut rest = text;
     for i in 0..count {
         let (row, after) = row_at(line + i, rest)?;
-        rows.push(row)?;
+        states.push(row.state)?;
+        costs.push(row.g)?;
+        closed.push(row.is_closed)?;
         rest = after;
     }
+    let rows = StatedRows {
+        states,
+        costs,
+        closed,
+    };
     Ok((rows, rest))
 }
 
@@ -297,10 +307,10 @@ fn end_at(line: u64, text: &[u8]) -> Result<bool, CheckError>
 }
 
 #[tactic(auto, unfolding(crate::specs::Reading::body_at))]
-fn body_at(alloc: Global, line: u64, text: &[u8]) -> Result<Vec<StatedRow>, CheckError>
+fn body_at(alloc: Global, line: u64, text: &[u8]) -> Result<StatedRows, CheckError>
     requires { line + length text.now < 2 ^ 64 }
-    ensures gives { Gives (λ x. x.items) result (body_at line text.now) }
-    ensures shorter { IfOk result (λ x. length x.items + 2 ≤ length text.now) }
+    ensures gives { Gives (λ x. x) result (body_at line text.now) }
+    ensures shorter { IfOk result (λ x. length x + 2 ≤ length text.now) }
 {
     let (count, rest) = number_at(line, text, b"rows ")?;
     let (rows, rest) = rows_at(alloc, count, line + 1, rest)?;

@@ -1,24 +1,8 @@
 ghost use Rattle.std.specs.Prelude.{◌≡◌};
 
 use crate::kind::TaskKind;
-use pb_packed::Packed;
+use crate::rows::StatedRows;
 use std::marker::Model;
-
-/// A row of a certificate. Contracts see a line of the model.
-#[derive(Debug, Drop)]
-pub struct StatedRow {
-    pub state: Packed,
-    pub g: u64,
-    pub is_closed: bool,
-}
-
-impl Model for StatedRow {
-    ghost use Rattle.pb_model.specs.Certificate.{Line};
-
-    ghost Value = { Line };
-
-    ghost view = { λ r. record { state = r.state; g = r.g; is_closed = r.is_closed } };
-}
 
 /// The weight that a certificate states, in range or not.
 #[derive(Clone, Copy, Debug, PartialEq, Eq)]
@@ -48,7 +32,7 @@ pub struct StatedText {
     pub kind: TaskKind,
     pub weight: StatedWeight,
     pub plan: Option<StatedPlan>,
-    pub rows: Vec<StatedRow>,
+    pub rows: StatedRows,
     pub first: u64,
 }
 
@@ -57,5 +41,5 @@ impl Model for StatedText {
 
     ghost Value = { Text };
 
-    ghost view = { λ p. record { kind = p.kind; certificate = record { weight = record { num = p.weight.num; den = p.weight.den }; plan = p.plan; lines = p.rows.items }; first = p.first } };
+    ghost view = { λ p. record { kind = p.kind; certificate = record { weight = record { num = p.weight.num; den = p.weight.den }; plan = p.plan; lines = p.rows }; first = p.first } };
 }

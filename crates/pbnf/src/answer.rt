@@ -17,6 +17,7 @@ use crate::searching::solution;
 use crate::texts::Texts;
 use pb_cert::Certificate;
 use pb_command::{CheckCommand, CommandLine, CommandRefusal, Message, SolveCommand, read_words};
+use pb_lease::LeaseGraph;
 use pb_outside::Gate;
 use pb_report::Report;
 use std::alloc::{AllocError, Global};
@@ -27,7 +28,7 @@ pub struct SavedCertificate<'a> {
     /// The name of its file.
     pub name: &'a str,
     /// What is to be saved.
-    pub certificate: Certificate,
+    pub certificate: Certificate<'a>,
 }
 
 /// What is answered: the exit status, the text to print, and the certificate that is to be saved, if any.
@@ -69,12 +70,13 @@ fn answer_solve<'a, G: Gate>(
     solve: SolveCommand<'a>,
     texts: &Texts,
     gate: &G,
+    kept: &'a mut Option<LeaseGraph>,
 ) -> Result<Answer<'a>, AllocError>
     requires { IsInRange (Solve (solve_meant solve)) }
     ensures { IfOk result (λ a. OrRefused (solve_task (solve_meant solve.entry) texts.now) (IsFound (solve_meant solve.entry)) (said_of a)) }
 {
     match input_task(alloc, &solve.input, solve.row, texts, 0) {
-        Ok(task) => solution(alloc, task, solve, gate),
+        Ok(task) => solution(alloc, task, solve, gate, kept),
         Err(NoTask::Refused(report)) => Ok(refused(report)),
         Err(NoTask::Memory) => Err(AllocError),
     }
@@ -104,11 +106,12 @@ fn answered<'a, G: Gate>(
     words: &'a [String],
     texts: &Texts,
     gate: &G,
+    kept: &'a mut Option<LeaseGraph>,
 ) -> Result<Answer<'a>, AllocError>
     ensures { IfOk result (λ a. Answers (map string_bytes words.entry.now) texts.now (said_of a)) }
 {
     match read_words(alloc, words) {
-        Ok(CommandLine::Solve(solve)) => answer_solve(alloc, solve, texts, gate),
+        Ok(CommandLine::Solve(solve)) => answer_solve(alloc, solve, texts, gate, kept),
         Ok(CommandLine::Check(check)) => answer_check(alloc, check, texts),
         Err(CommandRefusal::Words(_, message)) => faulty(alloc, &message),
         Err(CommandRefusal::Memory) => Err(AllocError),
@@ -116,7 +119,8 @@ fn answered<'a, G: Gate>(
 }
 
 /// What is answered of the words and of the texts that were loaded of the files that they name. Where a file was too long, its text
-/// and the later ones are left out. An error is want of memory.
+/// and the later ones are left out. The graph that was searched is kept where `kept` lies: the certificate borrows its rows. An error is
+/// want of memory.
 ///
 /// This is the whole program but its reading, saving and printing: no clause has a premise on files or output.
 pub fn answer_words<'a, G: Gate>(
@@ -124,6 +128,7 @@ pub fn answer_words<'a, G: Gate>(
     words: &'a [String],
     texts: &Texts,
     gate: &G,
+    kept: &'a mut Option<LeaseGraph>,
 ) -> Result<Answer<'a>, AllocError>
     // All of one plan: it is reported with its cost and bound, it is a plan of the task, no plan costs less, and the certificate has it.
     ensures solved { IfOk result (λ a. a.status ≡ 0 → IfSolve (reading_of_words (map string_bytes words.entry.now)) (λ solve.
@@ -160,6 +165,6 @@ pub fn answer_words<'a, G: Gate>(
     // All of it at once, with the refusals of words and texts.
     ensures answer { IfOk result (λ a. Answers (map string_bytes words.entry.now) texts.now (said_of a)) }
 {
-    let answer = answered(alloc, words, texts, gate)?;
+    let answer = answered(alloc, words, texts, gate, kept)?;
     Ok(answer)
 }

@@ -11,6 +11,7 @@ ghost use Rattle.pbnf.specs.declared.loading.Fault.TheVariants.{ShelfFailed};
 use crate::answer::{Answer, answer_words};
 use crate::files::{Wanted, files_of};
 use crate::texts::Texts;
+use pb_lease::LeaseGraph;
 use pb_outside::{Gate, Load, Shelf};
 use std::alloc::{AllocError, Global};
 
@@ -65,12 +66,13 @@ fn load_all<H: Shelf>(alloc: Global, files: &[Wanted<'_>], shelf: &mut H) -> Res
     Ok(texts)
 }
 
-/// Reads the words, loads the files that they name, and answers what they ask.
+/// Reads the words, loads the files that they name, and answers what they ask. What the answer borrows is kept where `kept` lies.
 pub fn decide<'a, H: Shelf, G: Gate>(
     alloc: Global,
     words: &'a [String],
     shelf: &mut H,
     gate: &G,
+    kept: &'a mut Option<LeaseGraph>,
 ) -> Result<Answer<'a>, Fault>
     ensures answers { IfOk result (λ a. AnswersFiles (reading_of_words (map string_bytes words.entry.now)) (H.files shelf.old) (said_of a)) }
     ensures asked { result ≡ Err ShelfFailed → IsFaulty (reading_of_words (map string_bytes words.entry.now)) → ⊥ }
@@ -82,6 +84,6 @@ pub fn decide<'a, H: Shelf, G: Gate>(
         Ok(texts) => texts,
         Err(fault) => return Err(fault),
     };
-    let answer = answer_words(alloc, words, &texts, gate)?;
+    let answer = answer_words(alloc, words, &texts, gate, kept)?;
     Ok(answer)
 }

@@ -23,22 +23,23 @@ use pb_task::Task;
 use std::alloc::{AllocError, Global};
 use std::sync::Arc;
 
-/// Searches a task as the words ask, and makes the report and, where it is to be saved under a name, the certificate. An error is want of
-/// memory.
+/// Searches a task as the words ask, and makes the report and, where it is to be saved under a name, the certificate. The graph is kept where
+/// `kept` lies: the certificate borrows its rows. An error is want of memory.
 pub fn solution<'a, G: Gate>(
     alloc: Global,
     task: Task,
     solve: SolveCommand<'a>,
     gate: &G,
+    kept: &'a mut Option<LeaseGraph>,
 ) -> Result<Answer<'a>, AllocError>
     requires range { IsInRange (Solve (solve_meant solve)) }
     requires names { NamesTell task }
     ensures { IfOk result (λ a. IsFound (solve_meant solve.entry) task (said_of a)) }
 {
     let task = Arc::new(alloc, task)?;
-    let graph = searched(alloc, &task, &solve, gate)?;
+    let graph = kept.insert(searched(alloc, &task, &solve, gate)?);
     match graph.end() {
-        Some(End::Quiet) => quiet(alloc, &task, solve.certificate, &graph),
+        Some(End::Quiet) => quiet(alloc, &task, solve.certificate, graph),
         Some(End::Budget) => stopped(alloc, solve.budget),
         Some(End::Memory) | None => unreachable!(),
     }
@@ -60,7 +61,7 @@ fn quiet<'a>(
     alloc: Global,
     task: &Task,
     name: Option<&'a str>,
-    graph: &LeaseGraph,
+    graph: &'a LeaseGraph,
 ) -> Result<Answer<'a>, AllocError>
     requires best { IsBestOf task.now graph.now }
     requires names { NamesTell task.now }
@@ -77,7 +78,7 @@ fn solved<'a>(
     alloc: Global,
     task: &Task,
     name: Option<&'a str>,
-    graph: &LeaseGraph,
+    graph: &'a LeaseGraph,
 ) -> Result<Answer<'a>, AllocError>
     requires best { IsBestOf task.now graph.now }
     requires names { NamesTell task.now }
@@ -100,7 +101,7 @@ fn unsolvable<'a>(
     alloc: Global,
     task: &Task,
     name: Option<&'a str>,
-    graph: &LeaseGraph,
+    graph: &'a LeaseGraph,
 ) -> Result<Answer<'a>, AllocError>
     requires best { IsBestOf task.now graph.now }
     requires none { graph.now.incumbent ≡ None }
@@ -121,7 +122,7 @@ fn certificate<'a>(
     task: &Task,
     name: Option<&'a str>,
     plan: Option<Plan>,
-    graph: &LeaseGraph,
+    graph: &'a LeaseGraph,
 ) -> Result<Option<SavedCertificate<'a>>, AllocError>
     requires { IsBestOf task.now graph.now }
     ensures { IfOk result (λ saved. IsPlanIfAny (space_of task.now) plan → IsBackedBy graph.now.incumbent plan

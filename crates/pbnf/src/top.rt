@@ -97,7 +97,8 @@ pub fn run<R: Threads + Wait, H: Shelf, K: Sink, G: Gate>(
     ensures complete_check { HasNoFault (H.faults shelf.old) (H.faults shelf.new) → HasNoFault (K.faults out.old) (K.faults out.new)
         → IfCheck (reading_of_words (map string_bytes words.now)) (λ check. IsWellChecked check (H.files shelf.old) → (result ≡ 0) ⊎ (result ≡ 71)) }
 {
-    match decide(alloc, words, shelf, gate) {
+    let mut kept = None;
+    match decide(alloc, words, shelf, gate, &mut kept) {
         Ok(answer) => match hand_out(shelf, out, &answer) {
             Ending::Done => answer.status,
             Ending::NotSaved => 73,

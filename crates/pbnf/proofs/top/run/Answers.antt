@@ -1,7 +1,8 @@
 -- The clauses of `run`.
-use Rattle.std.proofs.Common.{map, string_bytes, Global, inl, inr, refl}
+use Rattle.std.proofs.Common.{◌≡◌, ◌⊎◌, ℕ, map, string_bytes, Global, inl, inr, refl}
 use Rattle.pb_command.specs.Meaning.{reading_of_words}
 use Rattle.pbnf.specs.Answer.{said_of, file_of}
+use Rattle.pbnf.specs.Run.{IsBroken}
 use Rattle.pbnf.proofs.Ended.{saved_after, part_after, solved, named_plan, named_none, named_accepted, plan, cheapest, certified, certified_none, none as no_plan, none_text, stopped, stopped_text, stop_saves_nothing, accepted, rejected, words_say, words_exact, faulty_saves, input, input_answers, check_exact, statuses, not_broken, unnamed_kept, unnamed_part, shelf_left, complete, complete_check, check_broken, input_broken, no_certificate}
 use Rattle.pbnf.proofs.top.run.Goals as goal
 
@@ -100,3 +101,24 @@ returns-in-Done-clause-named_none g c = λ e. named_none (reading_of_words (map 
 
 pub returns-in-Done-clause-named_accepted : goal.returns-in-Done-clause-named_accepted
 returns-in-Done-clause-named_accepted g c = λ e. named_accepted (reading_of_words (map (string_bytes {Z = Global}) c.args.words.now)) (g.H.Shelf.files c.args.shelf.now) (g.H.Shelf.files c.hand_out.new.shelf) (g.K.Sink.written c.args.out.now) (g.K.Sink.written c.hand_out.new.out) (said_of c.in-Ok.answer) c.in-Ok.ensures.answers e (c.hand_out.ensures.done c.in-Done.is)
+
+pub returns-in-Done-clause-silent : goal.returns-in-Done-clause-silent
+returns-in-Done-clause-silent g c = λ e. absurd (not_broken (reading_of_words (map (string_bytes {Z = Global}) c.args.words.now)) (g.H.Shelf.files c.args.shelf.now) (g.H.Shelf.files c.hand_out.new.shelf) (g.K.Sink.written c.args.out.now) (g.K.Sink.written c.hand_out.new.out) (said_of c.in-Ok.answer) c.in-Ok.ensures.answers (broken c.in-Ok.answer.status e))
+  where
+    broken : (status : ℕ) → (status ≡ 71) ⊎ (status ≡ 73) → IsBroken status
+    broken status (inl e) = inl e
+    broken status (inr e) = inr (inl e)
+
+pub returns-in-Done-clause-shelf_fault : goal.returns-in-Done-clause-shelf_fault
+returns-in-Done-clause-shelf_fault g c = λ e. absurd (not_broken (reading_of_words (map (string_bytes {Z = Global}) c.args.words.now)) (g.H.Shelf.files c.args.shelf.now) (g.H.Shelf.files c.hand_out.new.shelf) (g.K.Sink.written c.args.out.now) (g.K.Sink.written c.hand_out.new.out) (said_of c.in-Ok.answer) c.in-Ok.ensures.answers (inr (inl e)))
+
+pub returns-in-Done-clause-sink_fault : goal.returns-in-Done-clause-sink_fault
+returns-in-Done-clause-sink_fault g c = λ e. absurd (not_broken (reading_of_words (map (string_bytes {Z = Global}) c.args.words.now)) (g.H.Shelf.files c.args.shelf.now) (g.H.Shelf.files c.hand_out.new.shelf) (g.K.Sink.written c.args.out.now) (g.K.Sink.written c.hand_out.new.out) (said_of c.in-Ok.answer) c.in-Ok.ensures.answers (inr (inr e)))
+
+pub returns-in-Ok-clause-sink_left : goal.returns-in-Ok-clause-sink_left
+returns-in-Ok-clause-sink_left g c = λ e. (
+  said_of c.in-Ok.answer,
+  c.in-Ok.ensures.answers,
+  c.hand_out.ensures.sink_left c.in-NotPrinted.is,
+  saved_after (g.H.Shelf.files c.args.shelf.now) (g.H.Shelf.files c.decide.new.shelf) (g.H.Shelf.files c.hand_out.new.shelf) (said_of c.in-Ok.answer).saved c.in-Ok.ensures.same (c.hand_out.ensures.sink_saved c.in-NotPrinted.is),
+)
