@@ -1,9 +1,10 @@
-mod LineTexts
-mod Files
+pub mod AtHome
 mod Back
-mod Goals
 mod Distinct
+mod Files
+mod Goals
+mod LineTexts
+mod SavedCalls
 mod Sorted
 mod Places
 mod TwoRows
-pub mod AtHome

@@ -1,4 +1,4 @@
-ghost use Rattle.std.specs.Prelude.{◌≡◌, ◌≤◌, ℕ, Option, IfOk, length, option_copied};
+ghost use Rattle.std.specs.Prelude.{◌≡◌, ◌^◌, ◌<◌, ◌≤◌, ℕ, Option, IfOk, length, option_copied};
 ghost use Rattle.pb_model.specs.Space.{Space};
 ghost use Rattle.pb_model.specs.Guide.{Guide};
 ghost use Rattle.pb_model.specs.Store.{IsQuiet};
@@ -70,6 +70,7 @@ impl<'a> Certificate<'a> {
         ensures kind { IfOk result (λ c. c.kind ≡ kind.now) }
         ensures weight { IfOk result (λ c. c.certificate.weight ≡ S.weight store.now) }
         ensures plan { IfOk result (λ c. c.certificate.plan ≡ plan) }
+        ensures count { IfOk result (λ c. length c.certificate.lines < 2 ^ 63) }
         ensures lines { IfOk result (λ c. (guide : Guide) → IsPlaced guide.home (S.rows store.now) → AreLinesOf guide (S.rows store.now) c.certificate.lines) }
         ensures valid { IfOk result (λ c. (space : Space) (guide : Guide) (incumbent : Option ℕ) → IsSound space guide (store_with (S.rows store.now) (S.weight store.now) incumbent)
             → IsQuiet (store_with (S.rows store.now) (S.weight store.now) incumbent) → IsPlanIfAny space plan → IsBackedBy incumbent plan → IsValid space guide.estimate c.certificate) }

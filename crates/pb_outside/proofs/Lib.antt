@@ -3,3 +3,4 @@ mod Known
 mod Places
 pub mod Told
 mod Untold
+mod Walks

@@ -1,6 +1,6 @@
 -- What stands under each name after a place was changed, or one was added.
 use Rattle.std.proofs.Common.{◌≡◌, ℕ, ◌-◌, ◌<◌, ◌≤◌, take, Bool, true, false, Option, None, Some, List, [], ◌∷◌, ◌++◌, length, refl, sym, ap, subst, ◌∙◌, arith}
-use Rattle.std.specs.Prelude.{if◌then◌else◌, slice_index_or, slice_set, slice_get, unwrap_or, OnOk, Result, Ok, Err}
+use Rattle.std.specs.Prelude.{if◌then◌else◌, slice_index_or, slice_set, slice_get, unwrap_or, OnOk, OnErr, IfErr, Result, Ok, Err}
 use Rattle.std.specs.List.{position, position_or_len}
 use Rattle.std.specs.Option.{option_or, option_map, option_and_then}
 use Rattle.std.specs.Str.{bytes_eq}
@@ -117,6 +117,14 @@ some_if false x y = refl
 pub on_ok_then : {T E P Q : Type 0} (r : Result T E) → OnOk r P → (P → Q) → OnOk r Q
 on_ok_then (Ok x) p f = f p
 on_ok_then (Err e) p f = tt
+
+pub on_err_then : {T E P Q : Type 0} (r : Result T E) → OnErr r P → (P → Q) → OnErr r Q
+on_err_then (Ok x) p f = tt
+on_err_then (Err e) p f = f p
+
+pub if_err_then : {T E : Type 0} {P Q : E → Type 0} (r : Result T E) → IfErr r P → ((e : E) → P e → Q e) → IfErr r Q
+if_err_then (Ok x) p f = tt
+if_err_then (Err e) p f = f e p
 
 pub on_ok_both : {T E P Q R : Type 0} (r : Result T E) → OnOk r P → OnOk r Q → (P → Q → R) → OnOk r R
 on_ok_both (Ok x) p q f = f p q

@@ -1,8 +1,9 @@
 -- What contracts see of the outside in memory.
-use Rattle.std.specs.Prelude.{◌≡◌, ◌≢◌, ℕ, ◌+◌, ◌-◌, ◌<◌, ◌≤◌, min, Bool, ◌||◌, is_some, is_none, IsSome, IsSomeAnd, Option, None, Some, List, [], ◌∷◌, ◌++◌, length, take, if◌then◌else◌, ◌==◌, find, unwrap_or}
+use Rattle.std.specs.Prelude.{◌≡◌, ◌≢◌, ℕ, ◌+◌, ◌-◌, ◌<◌, ◌≤◌, min, Bool, false, ◌||◌, IsTrue, is_some, is_none, IsSome, IsSomeAnd, Option, None, Some, List, [], ◌∷◌, ◌++◌, length, take, if◌then◌else◌, ◌==◌, find, unwrap_or}
 use Rattle.std.specs.Option.{option_map, option_and_then}
 use Rattle.std.specs.Str.{bytes_eq}
 use Rattle.pb_outside.specs.Outside.{counted, Files}
+use Rattle.pb_outside.specs.Calls.{Call}
 use Rattle.pb_outside.specs.declared.shelf.Load.{Load}
 use Rattle.pb_outside.specs.declared.shelf.Load.TheVariants.{Failed, TooLong, Memory}
 use Rattle.pb_outside.specs.declared.calls.ListedFailure.{ListedFailure}
@@ -40,15 +41,20 @@ abbrev pub most_kept : Option ℕ → ℕ → ℕ
 most_kept None left = left
 most_kept (Some kept) left = min kept left
 
--- a sink's bytes, how many there may be, and its calls
+-- a sink's bytes, how many there may be, how many calls there were, and its transcript
 pub record SinkView : Type 0 where
   pub bytes : List ℕ
   pub room : ℕ
   pub calls : CallsView
+  pub transcript : List Call
 
 -- the next call isn't listed, and so many bytes have room
 abbrev pub PutSucceeds : SinkView → ℕ → Type 0
 PutSucceeds sink len = (kept_next sink.calls ≡ None) × (len ≤ sink.room - length sink.bytes)
+
+-- nothing is to fail, and so many bytes have room
+abbrev pub CanTake : SinkView → ℕ → Type 0
+CanTake sink n = (sink.calls.listed ≡ []) × (n ≤ sink.room - length sink.bytes)
 
 -- what stands under a name: a file's bytes, where there is one, and how many there may be, where room is reserved
 pub record PlaceView : Type 0 where
@@ -62,10 +68,11 @@ is_named name place = bytes_eq place.name name
 abbrev pub place_of : List PlaceView → List ℕ → Option PlaceView
 place_of places name = find (is_named name) places
 
--- a shelf's places, and its calls
+-- a shelf's places, how many calls there were, and its transcript
 pub record ShelfView : Type 0 where
   pub places : List PlaceView
   pub calls : CallsView
+  pub transcript : List Call
 
 -- the file of this name
 abbrev pub file_in : List PlaceView → List ℕ → Option (List ℕ)
@@ -95,6 +102,10 @@ KeepsOtherRooms old new name = (other : List ℕ) → other ≢ name → room_of
 abbrev pub HasRoom : ShelfView → List ℕ → ℕ → Type 0
 HasRoom shelf name n = (shelf.calls.listed ≡ []) × IsSomeAnd (room_of shelf name) (λ room. n ≤ room)
 
+-- nothing is to fail, and the file is there
+abbrev pub HasFile : ShelfView → List ℕ → Type 0
+HasFile shelf name = (shelf.calls.listed ≡ []) × IsSome (file_of shelf name)
+
 -- the next call isn't listed, and room is reserved for the name
 abbrev pub CreateSucceeds : ShelfView → List ℕ → Type 0
 CreateSucceeds shelf name = (kept_next shelf.calls ≡ None) × IsSome (room_of shelf name)
@@ -103,6 +114,10 @@ CreateSucceeds shelf name = (kept_next shelf.calls ≡ None) × IsSome (room_of 
 abbrev pub AppendSucceeds : ShelfView → List ℕ → ℕ → Type 0
 AppendSucceeds shelf name len =
     (kept_next shelf.calls ≡ None) × IsSomeAnd (file_of shelf name) (λ bytes. len ≤ unwrap_or (room_of shelf name) 0 - length bytes)
+
+-- so many bytes of the piece stand behind those that the file had, where it is there
+abbrev pub GrowsBy : (kept : ℕ) → (old new : Option (List ℕ)) → (piece : List ℕ) → Type 0
+GrowsBy kept old new piece = (kept ≤ length piece) × (new ≡ option_map (λ bytes. bytes ++ take kept piece) old)
 
 -- how many bytes the next call keeps of a longer piece behind a file of these bytes
 abbrev pub append_keeps : ShelfView → List ℕ → List ℕ → ℕ
@@ -138,3 +153,9 @@ abbrev pub IsCopyError : Load → ℕ → ℕ → Type 0
 IsCopyError Failed len most = ⊥
 IsCopyError (TooLong seen) len most = (seen ≡ most + 1) × (most < len)
 IsCopyError Memory len most = len ≤ most
+
+-- why a file wasn't loaded, where the call is to fail or not
+abbrev pub IsLoadError : (fails : Bool) → (file : Option (List ℕ)) → (most : ℕ) → Load → Type 0
+IsLoadError fails file most Failed = IsTrue (fails || is_none file)
+IsLoadError fails file most (TooLong seen) = (fails ≡ false) × (seen ≡ most + 1) × IsSomeAnd file (λ bytes. most < length bytes)
+IsLoadError fails file most Memory = (fails ≡ false) × IsSomeAnd file (λ bytes. length bytes ≤ most)

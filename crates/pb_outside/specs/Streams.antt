@@ -1,6 +1,7 @@
 -- What reading to the end and writing all do to the known bytes of a reader and a writer.
 use Rattle.std.specs.Prelude.{◌≡◌, ℕ, ◌<◌, ◌≤◌, Option, List, length, take, IfSome}
 use Rattle.std.specs.Io.KnownBytes.{Appends, Consumes}
+use Rattle.pb_outside.specs.Calls.{Call, AppendFailed, PutFailed, Notes}
 use Rattle.pb_outside.specs.declared.shelf.Load.{Load}
 use Rattle.pb_outside.specs.declared.shelf.Load.TheVariants.{Failed, TooLong, Memory}
 
@@ -13,10 +14,6 @@ IsLonger most (TooLong seen) all = most < length all
 -- at most so many bytes were read
 abbrev pub ConsumesUpTo : Option (List ℕ) → Option (List ℕ) → ℕ → Type 0
 ConsumesUpTo old new most = (bytes : List ℕ) × (length bytes ≤ most) × Consumes old new bytes
-
--- a first part of the bytes was written
-abbrev pub AppendsUpTo : Option (List ℕ) → Option (List ℕ) → List ℕ → Type 0
-AppendsUpTo old new bytes = (kept : ℕ) × (kept ≤ length bytes) × Appends old new (take kept bytes)
 
 -- there is a file that has exactly these bytes to give, where it tells them
 abbrev pub IsAllOfFile : {F : Type 0} → (F → Option (List ℕ)) → List ℕ → Type 0
@@ -32,7 +29,26 @@ IsLongerFile {F} remaining most (TooLong seen) = (file : F) × IfSome (remaining
 abbrev pub AppendsToFile : {F : Type 0} → (F → Option (List ℕ)) → List ℕ → Type 0
 AppendsToFile {F} contents bytes = (old : F) × (new : F) × Appends (contents old) (contents new) bytes
 
--- what contracts see of a sink over a writer: what the writer holds, where it tells it, and how often it failed
+-- what contracts see of a shelf of the system's files: how often it failed, and its calls
+pub record FilesView : Type 0 where
+  pub faults : ℕ
+  pub transcript : List Call
+
+-- what contracts see of a sink over a writer: what the writer holds, where it tells it, how often it failed, and its calls
 pub record OutView : Type 0 where
   pub contents : Option (List ℕ)
   pub faults : ℕ
+  pub transcript : List Call
+
+-- A call of `append` failed: so many bytes of the piece were appended.
+pub record IsAppendFailure (old new : List Call) (name piece : List ℕ) : Type 0 where
+  pub kept : ℕ
+  pub within : kept ≤ length piece
+  pub noted : Notes old new (AppendFailed name piece kept)
+
+-- A call of `put` failed: so many bytes of the piece were put, also where the writer tells what it holds.
+pub record IsPutFailure (old new : OutView) (piece : List ℕ) : Type 0 where
+  pub kept : ℕ
+  pub within : kept ≤ length piece
+  pub noted : Notes old.transcript new.transcript (PutFailed piece kept)
+  pub written : Appends old.contents new.contents (take kept piece)

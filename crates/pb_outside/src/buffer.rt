@@ -1,5 +1,5 @@
 //! Bytes whose room was taken before.
-ghost use Rattle.std.specs.Prelude.{◌≡◌, ◌+◌, ◌-◌, ◌≤◌, ◌↔◌, None, [], ◌++◌, take, length, IsTrue, IfOk};
+ghost use Rattle.std.specs.Prelude.{◌≡◌, ◌+◌, ◌-◌, ◌≤◌, ◌↔◌, None, [], ◌++◌, take, length, min, IsOk, IfOk, IfErr};
 ghost use Rattle.pb_outside.specs.Memory.{most_kept};
 
 use crate::Memory;
@@ -51,11 +51,12 @@ impl Buffer {
         self.bytes.clear();
     }
 
-    // Appends what has room of the piece, or what a listed failure keeps of that. Answers whether all was to be
-    // kept. Takes no memory.
-    pub(crate) fn append(&mut self, piece: &[u8], kept: Option<u64>) -> bool
-        ensures whole { IsTrue result ↔ (kept ≡ None) × (length piece.now ≤ self.old.room - length self.old.bytes) }
+    // Appends what has room of the piece, or what a listed failure keeps of that. An error is how many bytes of it
+    // were kept, where not all was to be. Takes no memory.
+    pub(crate) fn append(&mut self, piece: &[u8], kept: Option<u64>) -> Result<(), usize>
+        ensures whole { IsOk result ↔ (kept ≡ None) × (length piece.now ≤ self.old.room - length self.old.bytes) }
         ensures after { self.new ≡ record self.old { bytes = self.old.bytes ++ take (most_kept kept (self.old.room - length self.old.bytes)) piece.now } }
+        ensures part { IfErr result (λ n. n ≡ min (most_kept kept (self.old.room - length self.old.bytes)) (length piece.now)) }
     {
         let most = most_of(kept, self.room.saturating_sub(self.bytes.len()));
         let fits = most.min(piece.len());
@@ -64,7 +65,11 @@ impl Buffer {
             Ok(()) => {}
             Err(_) => unreachable!(),
         }
-        kept.is_none() && rest.is_empty()
+        if kept.is_none() && rest.is_empty() {
+            Ok(())
+        } else {
+            Err(fits)
+        }
     }
 }
 

@@ -1,8 +1,11 @@
-ghost use Rattle.std.specs.Prelude.{◌≡◌, ◌≤◌, None, length, IfOk, IfErr, OnOk};
+ghost use Rattle.std.specs.Prelude.{◌≡◌, ◌≤◌, ◌∷◌, ◌++◌, [], None, length, IfOk, IfErr, OnOk, OnErr};
 ghost use Rattle.pb_outside.specs.Outside.{HasCause, HasLoadCause, SeesOneMore, count_after, count_after_load};
-ghost use Rattle.pb_outside.specs.Streams.{IsAllOfFile, IsLongerFile, AppendsToFile};
+ghost use Rattle.pb_outside.specs.Calls.{Loaded, LoadFailed, Appended, create_call, Notes};
+ghost use Rattle.pb_outside.specs.Streams.{IsAllOfFile, IsLongerFile, AppendsToFile, IsAppendFailure};
 
+use crate::events::{Begun, Grown, PartlyGrown, Read, Unread};
 use crate::streams::{read_whole, write_whole};
+use crate::transcript::Transcript;
 use crate::{Failed, Load, Shelf};
 use std::alloc::Global;
 use std::fs;
@@ -11,68 +14,114 @@ use std::marker::Model;
 use std::rt::Files;
 
 /// The files of the system, a name being a path: relative to the folder where the program runs, or absolute.
-/// It counts its faults, and tells nothing of contents. What the system refuses is a fault: no file of the name,
-/// a name that is empty or has a NUL, a folder, no leave, a full device, want of the system's own memory.
+/// It counts its faults, notes its calls, and tells nothing of contents. What the system refuses is a fault: no
+/// file of the name, a name that is empty or has a NUL, a folder, no leave, a full device, want of the system's
+/// own memory.
 #[derive(Drop)]
 pub struct FileShelf<'a, R: Files> {
     rt: &'a R,
     faults: u64,
+    transcript: Transcript,
 }
 
-// A contract sees its count of faults.
+// A contract sees its count of faults and its calls.
 impl<'a, R: Files> Model for FileShelf<'a, R> {
-    ghost use Rattle.std.specs.Prelude.{ℕ};
+    ghost use Rattle.pb_outside.specs.Streams.{FilesView};
 
-    ghost Value = { ℕ };
+    ghost Value = { FilesView };
 
-    ghost view = { λ s. s.faults };
+    ghost view = { λ s. record { faults = s.faults; transcript = s.transcript.calls } };
 }
 
 impl<'a, R: Files> FileShelf<'a, R> {
     /// The files that this runtime reaches.
     pub fn new(rt: &'a R) -> FileShelf<'a, R>
-        ensures { result ≡ 0 }
+        ensures { result ≡ record { faults = 0; transcript = [] } }
     {
-        FileShelf { rt, faults: 0 }
+        FileShelf {
+            rt,
+            faults: 0,
+            transcript: Transcript::new(),
+        }
     }
 }
 
+// Reads a file of the system to its end.
+fn read_file<R: Files>(rt: &R, alloc: Global, name: &str, most: u64) -> Result<Vec<u8>, Load>
+    ensures short { IfOk result (λ bytes. length bytes.items ≤ most) }
+    ensures seen { IfErr result (λ e. SeesOneMore most e) }
+    ensures read { IfOk result (λ bytes. IsAllOfFile R.File.remaining bytes.items) }
+    ensures longer { IfErr result (λ e. IsLongerFile R.File.remaining most e) }
+{
+    let Ok(mut file) = fs::open(rt, name) else {
+        return Err(Load::Failed);
+    };
+    read_whole(alloc, &mut file, most)
+}
+
+// Writes the piece behind a file of the system. An error is how many bytes of it were written.
+fn append_file<R: Files>(rt: &R, name: &str, piece: &[u8]) -> Result<(), usize>
+    ensures written { OnOk result (AppendsToFile R.File.contents piece.now) }
+    ensures within { IfErr result (λ kept. kept ≤ length piece.now) }
+{
+    let mut options = OpenOptions::new();
+    options.append(true);
+    let Ok(mut file) = options.open(rt, name) else {
+        return Err(0);
+    };
+    write_whole(&mut file, piece)
+}
+
 impl<'a, R: Files> Shelf for FileShelf<'a, R> {
+    ghost calls = { λ s. s.transcript };
+
     ghost files = { λ _. None };
 
-    ghost faults = { λ s. s };
+    ghost faults = { λ s. s.faults };
 
     fn load(&mut self, alloc: Global, name: &str, most: u64) -> Result<Vec<u8>, Load>
         ensures short { IfOk result (λ bytes. length bytes.items ≤ most) }
         ensures seen { IfErr result (λ e. SeesOneMore most e) }
-        ensures cause { HasLoadCause self.old self.new result }
+        ensures noted { IfOk result (λ bytes. Notes self.old.transcript self.new.transcript (Loaded name.now most bytes.items)) }
+        ensures noted_error { IfErr result (λ e. Notes self.old.transcript self.new.transcript (LoadFailed name.now most e)) }
+        ensures cause { HasLoadCause self.old.faults self.new.faults result }
 
         // A file of the system was opened, and its bytes were read to the end, or beyond `most`.
         ensures read { IfOk result (λ bytes. IsAllOfFile R.File.remaining bytes.items) }
         ensures longer { IfErr result (λ e. IsLongerFile R.File.remaining most e) }
-        ensures count { self.new ≡ count_after_load self.old result }
+        ensures count { self.new.faults ≡ count_after_load self.old.faults result }
     {
-        let Ok(mut file) = fs::open(self.rt, name) else {
-            self.faults = self.faults.saturating_add(1);
-            return Err(Load::Failed);
-        };
-        match read_whole(alloc, &mut file, most) {
-            Err(Load::Failed) => {
-                self.faults = self.faults.saturating_add(1);
-                Err(Load::Failed)
+        match read_file(self.rt, alloc, name, most) {
+            Ok(bytes) => {
+                let call = Read {
+                    name,
+                    most,
+                    bytes: &bytes,
+                };
+                self.transcript = self.transcript.and(&call);
+                Ok(bytes)
             }
-            answer => answer,
+            Err(why) => {
+                if why == Load::Failed {
+                    self.faults = self.faults.saturating_add(1);
+                }
+                self.transcript = self.transcript.and(&Unread { name, most, why });
+                Err(why)
+            }
         }
     }
 
     fn create(&mut self, name: &str) -> Result<(), Failed>
-        ensures cause { HasCause self.old self.new result }
+        ensures noted { Notes self.old.transcript self.new.transcript (create_call name.now result) }
+        ensures cause { HasCause self.old.faults self.new.faults result }
 
         // A file of the system was opened: the fact is that file.
         ensures opened { OnOk result R.File }
-        ensures count { self.new ≡ count_after self.old result }
+        ensures count { self.new.faults ≡ count_after self.old.faults result }
     {
-        if fs::create(self.rt, name).is_err() {
+        let done = fs::create(self.rt, name).is_ok();
+        self.transcript = self.transcript.and(&Begun { name, done });
+        if !done {
             self.faults = self.faults.saturating_add(1);
             return Err(Failed);
         }
@@ -80,22 +129,24 @@ impl<'a, R: Files> Shelf for FileShelf<'a, R> {
     }
 
     fn append(&mut self, name: &str, piece: &[u8]) -> Result<(), Failed>
-        ensures cause { HasCause self.old self.new result }
+        ensures noted { OnOk result (Notes self.old.transcript self.new.transcript (Appended name.now piece.now)) }
+        ensures noted_error { OnErr result (IsAppendFailure self.old.transcript self.new.transcript name.now piece.now) }
+        ensures cause { HasCause self.old.faults self.new.faults result }
 
         // A file of the system was opened, and all of the piece was written to it.
         ensures written { OnOk result (AppendsToFile R.File.contents piece.now) }
-        ensures count { self.new ≡ count_after self.old result }
+        ensures count { self.new.faults ≡ count_after self.old.faults result }
     {
-        let mut options = OpenOptions::new();
-        options.append(true);
-        let Ok(mut file) = options.open(self.rt, name) else {
-            self.faults = self.faults.saturating_add(1);
-            return Err(Failed);
-        };
-        if write_whole(&mut file, piece).is_err() {
-            self.faults = self.faults.saturating_add(1);
-            return Err(Failed);
+        match append_file(self.rt, name, piece) {
+            Ok(()) => {
+                self.transcript = self.transcript.and(&Grown { name, piece });
+                Ok(())
+            }
+            Err(kept) => {
+                self.faults = self.faults.saturating_add(1);
+                self.transcript = self.transcript.and(&PartlyGrown { name, piece, kept });
+                Err(Failed)
+            }
         }
-        Ok(())
     }
 }

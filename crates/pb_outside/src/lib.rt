@@ -3,6 +3,7 @@
 
 mod buffer;
 mod calls;
+mod events;
 mod file_shelf;
 mod gate;
 mod memory;
@@ -15,6 +16,7 @@ mod sink;
 mod streams;
 #[cfg(test)]
 mod tests;
+mod transcript;
 
 pub use file_shelf::FileShelf;
 pub use gate::{Gate, OpenGate};
@@ -24,3 +26,4 @@ pub use memory_sink::MemSink;
 pub use out_sink::OutSink;
 pub use shelf::{Load, Shelf};
 pub use sink::{Failed, Sink};
+pub use transcript::{Event, Transcript};

@@ -1,11 +1,14 @@
-ghost use Rattle.std.specs.Prelude.{◌≡◌, ◌+◌, ◌-◌, ◌≤◌, ◌↔◌, ℕ, Some, None, [], length, not, is_some, is_ok, IsTrue, IsSome, IsOk, IsErrOf, IsSomeAnd, IfSome, IfOk, IfErr, OnOk, OnErr, if◌then◌else◌, unwrap_or};
+ghost use Rattle.std.specs.Prelude.{◌≡◌, ◌+◌, ◌-◌, ◌≤◌, ◌↔◌, ℕ, Some, None, [], length, not, is_some, is_ok, IsTrue, IsSome, IsOk, IsErrOf, IsSomeAnd, IfSome, IfOk, IfErr, OnOk, OnErr, if◌then◌else◌, unwrap_or, false};
 ghost use Rattle.std.specs.Option.{option_map};
 ghost use Rattle.std.specs.List.{position};
 ghost use Rattle.pb_outside.specs.Outside.{IfTold, IfHeld, KeepsAll, KeepsOthers, KeepsHolds, IsTooLong, SeesOneMore, IsSameOrEmpty, AppendsTo, AppendsPartTo, HasCause, HasLoadCause};
-ghost use Rattle.pb_outside.specs.Memory.{is_named, place_of, place_or_new, file_in, room_in, file_of, room_of, emptied, grown, grown_file, load_fails, after_call, with_listed, KeepsFiles, KeepsRooms, KeepsOtherRooms, KeepsOtherPlaces, IsCopyError, HasRoom, CreateSucceeds, AppendSucceeds};
+ghost use Rattle.pb_outside.specs.Calls.{Loaded, LoadFailed, Appended, create_call, Notes, NotesAppendFailed, IsNoFault, KeepsLoads};
+ghost use Rattle.pb_outside.specs.Memory.{is_named, place_of, place_or_new, file_in, room_in, file_of, room_of, emptied, grown, grown_file, load_fails, after_call, with_listed, KeepsFiles, KeepsRooms, KeepsOtherRooms, KeepsOtherPlaces, IsCopyError, IsLoadError, HasRoom, HasFile, GrowsBy, CreateSucceeds, AppendSucceeds};
 
 use crate::calls::Calls;
+use crate::events::{Begun, Grown, PartlyGrown, Read, Unread};
 use crate::place::Place;
+use crate::transcript::Transcript;
 use crate::{Failed, Load, Memory, Shelf};
 use std::alloc::Global;
 use std::marker::Model;
@@ -16,6 +19,7 @@ pub struct MemShelf {
     alloc: Global,
     places: Vec<Place>,
     calls: Calls,
+    transcript: Transcript,
 }
 
 impl Model for MemShelf {
@@ -23,7 +27,7 @@ impl Model for MemShelf {
 
     ghost Value = { ShelfView };
 
-    ghost view = { λ s. record { places = s.places.items; calls = s.calls } };
+    ghost view = { λ s. record { places = s.places.items; calls = s.calls; transcript = s.transcript.calls } };
 }
 
 // The index of the place of this name.
@@ -88,28 +92,35 @@ fn create_file(places: &mut [Place], name: &str) -> bool
     }
 }
 
-// Appends to the file of the name what has room of the piece, or what a listed failure keeps of that. Answers
-// whether all was to be kept.
-fn append_file(places: &mut [Place], name: &str, piece: &[u8], kept: Option<u64>) -> bool
-    ensures done { IsTrue result ↔ (kept ≡ None) × IsSomeAnd (file_in places.old name.now) (λ bytes. length piece.now ≤ unwrap_or (room_in places.old name.now) 0 - length bytes) }
+// Appends to the file of the name what has room of the piece, or what a listed failure keeps of that. An error is
+// how many bytes of it were kept, where not all was to be.
+fn append_file(
+    places: &mut [Place],
+    name: &str,
+    piece: &[u8],
+    kept: Option<u64>,
+) -> Result<(), usize>
+    ensures done { IsOk result ↔ (kept ≡ None) × IsSomeAnd (file_in places.old name.now) (λ bytes. length piece.now ≤ unwrap_or (room_in places.old name.now) 0 - length bytes) }
     ensures here { place_of places.new name.now ≡ option_map (λ place. grown place kept piece.now) (place_of places.old name.now) }
     ensures others { KeepsOtherPlaces places.old places.new name.now }
+    ensures part { IfErr result (λ n. GrowsBy n (file_in places.old name.now) (file_in places.new name.now) piece.now) }
 {
     match index_of(places, name) {
         Some(i) => places[i].append(piece, kept),
-        None => false,
+        None => Err(0),
     }
 }
 
 impl MemShelf {
     /// A shelf with no file, no room and no listed failure.
     pub fn new(alloc: Global) -> Result<MemShelf, Memory>
-        ensures { IfOk result (λ shelf. shelf ≡ record { places = []; calls = record { count = 0; faults = 0; listed = [] } }) }
+        ensures { IfOk result (λ shelf. shelf ≡ record { places = []; calls = record { count = 0; faults = 0; listed = [] }; transcript = [] }) }
     {
         Ok(MemShelf {
             alloc,
             places: Vec::new(alloc),
             calls: Calls::new(alloc),
+            transcript: Transcript::new(),
         })
     }
 
@@ -168,11 +179,15 @@ impl MemShelf {
 }
 
 impl Shelf for MemShelf {
+    ghost calls = { λ s. s.transcript };
+
     ghost files = { λ s. Some (file_of s) };
 
     ghost faults = { λ s. s.calls.faults };
 
     ghost can_hold = { HasRoom };
+
+    ghost can_load = { HasFile };
 
     fn load(&mut self, alloc: Global, name: &str, most: u64) -> Result<Vec<u8>, Load>
         ensures whole { IfOk result (λ bytes. file_of self.old name.now ≡ Some bytes.items) }
@@ -180,23 +195,39 @@ impl Shelf for MemShelf {
         ensures long { IfErr result (λ e. IsTooLong (file_of self.old) name.now most e) }
         ensures seen { IfErr result (λ e. SeesOneMore most e) }
         ensures same { IfTold (Some (file_of self.old)) (Some (file_of self.new)) KeepsAll }
+        ensures sure { HasFile self.old name.now → IfErr result IsNoFault }
         ensures holds { KeepsHolds (HasRoom self.old) (HasRoom self.new) }
+        ensures loads { KeepsLoads (HasFile self.old) (HasFile self.new) }
+        ensures noted { IfOk result (λ bytes. Notes self.old.transcript self.new.transcript (Loaded name.now most bytes.items)) }
+        ensures noted_error { IfErr result (λ e. Notes self.old.transcript self.new.transcript (LoadFailed name.now most e)) }
         ensures cause { HasLoadCause self.old.calls.faults self.new.calls.faults result }
 
         // It fails exactly where the call is listed or no file has the name, and memory is wanting only for a
         // file that isn't too long.
         ensures exact { IsErrOf result Load.Failed ↔ IsTrue (load_fails self.old name.now) }
         ensures memory { IsErrOf result Load.Memory → IsSomeAnd (file_of self.old name.now) (λ bytes. length bytes ≤ most) }
-        ensures after { self.new ≡ record self.old { calls = after_call self.old.calls (not (load_fails self.old name.now)) } }
+        ensures places { self.new.places ≡ self.old.places }
+        ensures calls { self.new.calls ≡ after_call self.old.calls (not (load_fails self.old name.now)) }
     {
-        let kept = self.calls.begin();
-        if kept.is_none() {
-            if let Some(bytes) = find_file(&self.places, name) {
-                return copy_of(alloc, bytes, most);
+        let listed = self.calls.begin();
+        match load_from(alloc, &self.places, name, most, listed.is_some()) {
+            Ok(bytes) => {
+                let call = Read {
+                    name,
+                    most,
+                    bytes: &bytes,
+                };
+                self.transcript = self.transcript.and(&call);
+                Ok(bytes)
+            }
+            Err(why) => {
+                if why == Load::Failed {
+                    self.calls.fault();
+                }
+                self.transcript = self.transcript.and(&Unread { name, most, why });
+                Err(why)
             }
         }
-        self.calls.fault();
-        Err(Load::Failed)
     }
 
     fn create(&mut self, name: &str) -> Result<(), Failed>
@@ -205,6 +236,8 @@ impl Shelf for MemShelf {
         ensures others { IfTold (Some (file_of self.old)) (Some (file_of self.new)) (λ old new. KeepsOthers old new name.now) }
         ensures sure { (n : ℕ) → HasRoom self.old name.now n → IsOk result }
         ensures holds { KeepsHolds (HasRoom self.old) (HasRoom self.new) }
+        ensures loads { KeepsLoads (HasFile self.old) (HasFile self.new) }
+        ensures noted { Notes self.old.transcript self.new.transcript (create_call name.now result) }
         ensures cause { HasCause self.old.calls.faults self.new.calls.faults result }
 
         // It fails exactly where the call is listed or no room is reserved, and then changes no file.
@@ -213,13 +246,15 @@ impl Shelf for MemShelf {
         ensures rooms { KeepsRooms self.old self.new }
         ensures calls { self.new.calls ≡ after_call self.old.calls (is_ok result) }
     {
-        let kept = self.calls.begin();
-        if kept.is_none() {
+        let listed = self.calls.begin();
+        if listed.is_none() {
             if create_file(&mut self.places, name) {
+                self.transcript = self.transcript.and(&Begun { name, done: true });
                 return Ok(());
             }
         }
         self.calls.fault();
+        self.transcript = self.transcript.and(&Begun { name, done: false });
         Err(Failed)
     }
 
@@ -229,6 +264,9 @@ impl Shelf for MemShelf {
         ensures others { IfTold (Some (file_of self.old)) (Some (file_of self.new)) (λ old new. KeepsOthers old new name.now) }
         ensures sure { IfHeld (Some (file_of self.old)) name.now (length piece.now) (HasRoom self.old name.now) (IsOk result) }
         ensures holds { KeepsHolds (HasRoom self.old) (HasRoom self.new) }
+        ensures loads { KeepsLoads (HasFile self.old) (HasFile self.new) }
+        ensures noted { OnOk result (Notes self.old.transcript self.new.transcript (Appended name.now piece.now)) }
+        ensures noted_error { OnErr result (NotesAppendFailed self.old.transcript self.new.transcript (Some (file_of self.old)) (Some (file_of self.new)) name.now piece.now) }
         ensures cause { HasCause self.old.calls.faults self.new.calls.faults result }
 
         // It fails exactly where the call is listed, no file has the name or the room ends, and then keeps what
@@ -238,13 +276,39 @@ impl Shelf for MemShelf {
         ensures rooms { KeepsRooms self.old self.new }
         ensures calls { self.new.calls ≡ after_call self.old.calls (is_ok result) }
     {
-        let kept = self.calls.begin();
-        if append_file(&mut self.places, name, piece, kept) {
-            return Ok(());
+        let listed = self.calls.begin();
+        match append_file(&mut self.places, name, piece, listed) {
+            Ok(()) => {
+                self.transcript = self.transcript.and(&Grown { name, piece });
+                Ok(())
+            }
+            Err(kept) => {
+                self.calls.fault();
+                self.transcript = self.transcript.and(&PartlyGrown { name, piece, kept });
+                Err(Failed)
+            }
         }
-        self.calls.fault();
-        Err(Failed)
     }
+}
+
+// The bytes of the file of this name, if the call isn't to fail.
+fn load_from(
+    alloc: Global,
+    places: &[Place],
+    name: &str,
+    most: u64,
+    fails: bool,
+) -> Result<Vec<u8>, Load>
+    ensures whole { IfOk result (λ bytes. (fails ≡ false) × (file_in places.now name.now ≡ Some bytes.items)) }
+    ensures short { IfOk result (λ bytes. length bytes.items ≤ most) }
+    ensures causes { IfErr result (IsLoadError fails (file_in places.now name.now) most) }
+{
+    if !fails {
+        if let Some(bytes) = find_file(places, name) {
+            return copy_of(alloc, bytes, most);
+        }
+    }
+    Err(Load::Failed)
 }
 
 // A copy of a file's bytes, if there are at most so many.

@@ -1,7 +1,7 @@
 //! What a shelf in memory keeps under one name.
-ghost use Rattle.std.specs.Prelude.{◌≡◌, ◌-◌, ◌≤◌, ◌↔◌, None, Some, [], length, is_some, if◌then◌else◌, IsTrue, IsSomeAnd, IfOk, OnOk, OnErr, unwrap_or};
+ghost use Rattle.std.specs.Prelude.{◌≡◌, ◌-◌, ◌≤◌, ◌↔◌, None, Some, [], length, is_some, if◌then◌else◌, IsOk, IsSomeAnd, IfOk, IfErr, OnOk, OnErr, unwrap_or};
 ghost use Rattle.std.specs.Option.{option_map};
-ghost use Rattle.pb_outside.specs.Memory.{is_named, grown};
+ghost use Rattle.pb_outside.specs.Memory.{is_named, grown, GrowsBy};
 
 use crate::Memory;
 use crate::buffer::Buffer;
@@ -93,12 +93,17 @@ impl Place {
         self.is_reserved
     }
 
-    // Appends what has room of the piece, or what a listed failure keeps of that, where the file is there.
-    // Answers whether all was to be kept.
-    pub(crate) fn append(&mut self, piece: &[u8], kept: Option<u64>) -> bool
-        ensures done { IsTrue result ↔ (kept ≡ None) × IsSomeAnd self.old.bytes (λ bytes. length piece.now ≤ unwrap_or self.old.room 0 - length bytes) }
+    // Appends what has room of the piece, or what a listed failure keeps of that, where the file is there. An error
+    // is how many bytes of it were kept, where not all was to be.
+    pub(crate) fn append(&mut self, piece: &[u8], kept: Option<u64>) -> Result<(), usize>
+        ensures done { IsOk result ↔ (kept ≡ None) × IsSomeAnd self.old.bytes (λ bytes. length piece.now ≤ unwrap_or self.old.room 0 - length bytes) }
         ensures after { self.new ≡ grown self.old kept piece.now }
+        ensures part { IfErr result (λ n. GrowsBy n self.old.bytes self.new.bytes piece.now) }
     {
-        self.is_there && self.buffer.append(piece, kept)
+        if self.is_there {
+            self.buffer.append(piece, kept)
+        } else {
+            Err(0)
+        }
     }
 }

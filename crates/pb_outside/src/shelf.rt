@@ -1,4 +1,4 @@
-ghost use Rattle.std.specs.Prelude.{◌≡◌, ◌≤◌, Option, Some, [], ℕ, List, IsOk, OnOk, OnErr, IfOk, IfErr, IfSome, length};
+ghost use Rattle.std.specs.Prelude.{◌≡◌, ◌≤◌, ◌∷◌, ◌++◌, Option, Some, [], ℕ, List, IsOk, OnOk, OnErr, IfOk, IfErr, IfSome, length};
 ghost use Rattle.pb_outside.specs.Outside.{Files, IfTold, IfHeld, KeepsAll, KeepsOthers, KeepsHolds, IsTooLong, SeesOneMore, IsSameOrEmpty, AppendsTo, AppendsPartTo, HasCause};
 
 use crate::Failed;
@@ -20,6 +20,10 @@ pub enum Load {
 /// Keeps files by name.
 pub trait Shelf {
     ghost use Rattle.pb_outside.specs.Outside.{HasLoadCause};
+    ghost use Rattle.pb_outside.specs.Calls.{Call, Loaded, LoadFailed, Appended, create_call, Notes, NotesAppendFailed, IsNoFault, KeepsLoads};
+
+    /// The calls so far, in order, with what they were given and what they gave.
+    ghost calls: { Self → List Call };
 
     /// The files by the bytes of their names, where the shelf tells them.
     ghost files: { Self → Option Files };
@@ -31,6 +35,10 @@ pub trait Shelf {
     /// further calls. Most shelves can't promise it of any name.
     ghost can_hold: { Self → List ℕ → ℕ → Type 0 } = { λ _ _ _. ⊥ };
 
+    /// That a file of this name can be loaded with no fault, now and after any further calls. Most shelves can't
+    /// promise it of any name.
+    ghost can_load: { Self → List ℕ → Type 0 } = { λ _ _. ⊥ };
+
     /// The whole file, if it has at most `most` bytes. Changes no file.
     fn load(&mut self, alloc: Global, name: &str, most: u64) -> Result<Vec<u8>, Load>
         ensures whole { IfOk result (λ bytes. IfSome (files self.old) (λ old. old name.now ≡ Some bytes.items)) }
@@ -38,7 +46,11 @@ pub trait Shelf {
         ensures long { IfErr result (λ e. IfSome (files self.old) (λ old. IsTooLong old name.now most e)) }
         ensures seen { IfErr result (λ e. SeesOneMore most e) }
         ensures same { IfTold (files self.old) (files self.new) KeepsAll }
+        ensures sure { can_load self.old name.now → IfErr result IsNoFault }
         ensures holds { KeepsHolds (can_hold self.old) (can_hold self.new) }
+        ensures loads { KeepsLoads (can_load self.old) (can_load self.new) }
+        ensures noted { IfOk result (λ bytes. Notes (calls self.old) (calls self.new) (Loaded name.now most bytes.items)) }
+        ensures noted_error { IfErr result (λ e. Notes (calls self.old) (calls self.new) (LoadFailed name.now most e)) }
         ensures cause { HasLoadCause (faults self.old) (faults self.new) result };
 
     /// Begins an empty file under the name, in place of one that may be there. After a failure the file is as
@@ -49,6 +61,8 @@ pub trait Shelf {
         ensures others { IfTold (files self.old) (files self.new) (λ old new. KeepsOthers old new name.now) }
         ensures sure { (n : ℕ) → can_hold self.old name.now n → IsOk result }
         ensures holds { KeepsHolds (can_hold self.old) (can_hold self.new) }
+        ensures loads { KeepsLoads (can_load self.old) (can_load self.new) }
+        ensures noted { Notes (calls self.old) (calls self.new) (create_call name.now result) }
         ensures cause { HasCause (faults self.old) (faults self.new) result };
 
     /// Appends the piece to the file of the name. After a failure a first part of the piece was appended. Takes
@@ -59,5 +73,8 @@ pub trait Shelf {
         ensures others { IfTold (files self.old) (files self.new) (λ old new. KeepsOthers old new name.now) }
         ensures sure { IfHeld (files self.old) name.now (length piece.now) (can_hold self.old name.now) (IsOk result) }
         ensures holds { KeepsHolds (can_hold self.old) (can_hold self.new) }
+        ensures loads { KeepsLoads (can_load self.old) (can_load self.new) }
+        ensures noted { OnOk result (Notes (calls self.old) (calls self.new) (Appended name.now piece.now)) }
+        ensures noted_error { OnErr result (NotesAppendFailed (calls self.old) (calls self.new) (files self.old) (files self.new) name.now piece.now) }
         ensures cause { HasCause (faults self.old) (faults self.new) result };
 }

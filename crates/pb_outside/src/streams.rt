@@ -2,7 +2,7 @@
 ghost use Rattle.std.specs.Prelude.{◌≡◌, ℕ, ◌+◌, ◌-◌, ◌<◌, ◌≤◌, List, take, length, IfOk, IfErr, IfSome, OnOk, OnErr};
 ghost use Rattle.std.specs.Io.KnownBytes.{Keeps, Appends, Consumes, IsAtEnd};
 ghost use Rattle.pb_outside.specs.Outside.{SeesOneMore};
-ghost use Rattle.pb_outside.specs.Streams.{IsLonger, ConsumesUpTo, AppendsUpTo};
+ghost use Rattle.pb_outside.specs.Streams.{IsLonger, ConsumesUpTo};
 
 use crate::{Failed, Load};
 use std::alloc::Global;
@@ -92,21 +92,24 @@ fn write_some<W: Write>(file: &mut W, piece: &[u8]) -> Result<usize, Failed>
     Err(Failed)
 }
 
-// Writes all bytes, and leaves none in a buffer. After a failure a first part of them was written.
-pub(crate) fn write_whole<W: Write>(file: &mut W, bytes: &[u8]) -> Result<(), Failed>
+// Writes all bytes, and leaves none in a buffer. An error is how many of them were written.
+pub(crate) fn write_whole<W: Write>(file: &mut W, bytes: &[u8]) -> Result<(), usize>
     ensures ok { OnOk result (Appends (W.contents file.old) (W.contents file.new) bytes.now) }
-    ensures err { OnErr result (AppendsUpTo (W.contents file.old) (W.contents file.new) bytes.now) }
+    ensures within { IfErr result (λ kept. kept ≤ length bytes.now) }
+    ensures err { IfErr result (λ kept. Appends (W.contents file.old) (W.contents file.new) (take kept bytes.now)) }
 {
     let mut done = 0;
     'turns: while done < bytes.len() {
-        let count = write_some(file, &bytes[done..])?;
+        let Ok(count) = write_some(file, &bytes[done..]) else {
+            return Err(done);
+        };
         if count == 0 {
-            return Err(Failed);
+            return Err(done);
         }
         done += count;
     }
     match file.flush() {
         Ok(()) => Ok(()),
-        Err(_) => Err(Failed),
+        Err(_) => Err(done),
     }
 }

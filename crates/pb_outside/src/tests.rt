@@ -190,12 +190,6 @@ fn interrupted_calls_are_tried_again(rt: HostRuntime) {
         (Err(Load::Failed), 0)
     );
     assert_eq!(rt; write_whole(&mut Trickle::new(4, true), b"none"), Ok(()));
-    assert_eq!(rt;
-        write_whole(&mut Trickle::new(3, true), b"none"),
-        Err(Failed)
-    );
-    assert_eq!(rt;
-        write_whole(&mut Trickle::new(3, false), b"none"),
-        Err(Failed)
-    );
+    assert_eq!(rt; write_whole(&mut Trickle::new(3, true), b"none"), Err(3));
+    assert_eq!(rt; write_whole(&mut Trickle::new(3, false), b"none"), Err(3));
 }

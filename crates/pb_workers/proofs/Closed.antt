@@ -9,7 +9,7 @@ use Rattle.pb_lease.specs.GraphValue.{GraphValue, counts_in}
 use Rattle.pb_lease.specs.Choices.{is_out_in}
 use Rattle.pb_lease.specs.Steps.{IsSignedOff, KeepsLeases}
 use Rattle.pb_workers.specs.Runs.{IsSameSearch, RunsOn}
-use Rattle.pb_workers.proofs.Going.{keeping_runs}
+use Rattle.pb_workers.proofs.Going.{keeping_runs, ending_grants_none}
 use Rattle.pb_workers.proofs.Returned.{ending_same, ended_by_memory}
 
 module _ (old : GraphValue) (trouble : Bool) (new : GraphValue) (s : IsSignedOff old 0 trouble new) where
@@ -29,7 +29,7 @@ module _ (old : GraphValue) (trouble : Bool) (new : GraphValue) (s : IsSignedOff
   closed_signed = ap (λ (c : Counts). c.signed_off 0) s.events.counts ∙ ending_same (λ c. c.signed_off 0) (blocks old.table) old.table.settings Gone trouble old.table.end (λ c. refl)
 
   pub closed_runs : KeepsLeases old (Off 0 trouble ∷ ending trouble old.table.end) new → RunsOn old new
-  closed_runs keeps = keeping_runs old (Off 0 trouble ∷ ending trouble old.table.end) new keeps (ap (λ (v : GraphValue). v.incumbent) s.rest) s.events.journal
+  closed_runs keeps = keeping_runs old (Off 0 trouble ∷ ending trouble old.table.end) new (ending_grants_none trouble old.table.end) keeps (ap (λ (v : GraphValue). v.incumbent) s.rest) s.events.journal
 
 pub closed_end : (old new : GraphValue) → IsSignedOff old 0 false new → new.table.end ≡ old.table.end
 closed_end old new s = ap (λ (c : Counts). c.end) s.events.counts

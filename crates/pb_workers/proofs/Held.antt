@@ -24,7 +24,7 @@ use Rattle.pb_lease.proofs.InOrder.{releases_in_order, renews_in_order}
 use Rattle.pb_expand.specs.Turned.{IsAtWork}
 use Rattle.pb_workers.specs.Runs.{IsSameSearch}
 use Rattle.pb_workers.specs.Holding.{IsHeld, RunsOut, RunsHome, left_with, IsNearer, IsMarkedAtMost}
-use Rattle.pb_workers.proofs.Going.{same_then, run_one, run_then}
+use Rattle.pb_workers.proofs.Going.{same_then, run_one, run_then, alone_one, alone_events, ending_grants_none}
 use Rattle.pb_workers.proofs.Marked.{marked_same, marked_leases, marked_signed, marked_left, marked_end, marked_room, marked_runs}
 use Rattle.pb_workers.proofs.Returned.{returned_vacant, returned_left, returned_end, fewer_opened}
 
@@ -73,8 +73,12 @@ module _ (g : GraphValue) (lease : LeaseValue) (held : IsHeld g lease) (task : T
     pub returned_home : (trouble : Bool) → Works task graph lease worked (one_if trouble) → (new : GraphValue) → IsReleased g worked trouble new → ReleasesNext g worked trouble new
         → RunsHome g lease new
     returned_home trouble works new r next recorded machine m out =
-        let step = releases_in_order g worked new r.incumbent recorded machine m trouble next (worked_out (one_if trouble) works machine out) in
-        (recorded, step.0, run_one g machine (Release worked.worker worked.used trouble ∷ ending trouble g.table.end) new recorded step.0 step.1 r.events.journal)
+        let step = releases_in_order g worked new r.incumbent recorded machine m trouble next (worked_out (one_if trouble) works machine out) in (
+          recorded,
+          step.0,
+          run_one g machine (Release worked.worker worked.used trouble ∷ ending trouble g.table.end) new recorded step.0 step.1
+              (alone_events (setup_in g) (Release worked.worker worked.used trouble ∷ ending trouble g.table.end) machine step.0 (ending_grants_none trouble g.table.end) step.1.moves) r.events.journal,
+        )
 
     pub vacant_then : (old : GraphValue) (trouble : Bool) (new : GraphValue) → IsReleased old worked trouble new → (counts_in new).leases lease.worker ≡ None
     vacant_then old trouble new r = ap (counts_in new).leases (sym same.worker) ∙ returned_vacant old worked trouble new r
@@ -115,7 +119,8 @@ module _ (g : GraphValue) (lease : LeaseValue) (held : IsHeld g lease) (task : T
             recorded,
             step.0,
             run_then g marked new machine along.0 step.0 recorded recorded (marked_same g worked.worker marked mark) along.1
-                (run_one marked along.0 (Release worked.worker worked.used false ∷ ending false marked.table.end) new recorded step.0 step.1 r.events.journal),
+                (run_one marked along.0 (Release worked.worker worked.used false ∷ ending false marked.table.end) new recorded step.0 step.1
+                (alone_events (setup_in marked) (Release worked.worker worked.used false ∷ ending false marked.table.end) along.0 step.0 (ending_grants_none false marked.table.end) step.1.moves) r.events.journal),
           )
 
       pub nearer_given : worked.used ≡ worked.quota → (new : GraphValue) → IsReleased marked worked false new → IsNearer g lease new
@@ -158,6 +163,9 @@ module _ (g : GraphValue) (lease : LeaseValue) (held : IsHeld g lease) (task : T
             let before = marked_left g worked.worker marked mark in
             omega (arith, left, low, before, spent, some_quota, kept_quota)
 
+        given_whole : (machine : Machine) → machine.store.incumbent ≡ new.incumbent → machine.given kept.worker ≡ kept.incumbent → machine.given worked.worker ≡ machine.store.incumbent
+        given_whole machine whole given = ap machine.given (sym kept_by) ∙ given ∙ ap (λ (l : LeaseValue). l.incumbent) n.kept_is ∙ sym n.incumbent ∙ sym whole
+
         pub kept_out : Works task graph lease worked 0 → RenewsNext marked worked kept new → RunsOut g lease new kept
         kept_out works next recorded machine m out =
             let along = marked_runs g worked.worker marked mark recorded machine m in
@@ -167,6 +175,7 @@ module _ (g : GraphValue) (lease : LeaseValue) (held : IsHeld g lease) (task : T
               step.0,
               run_then g marked new machine along.0 step.0 recorded after (marked_same g worked.worker marked mark) along.1
                   (run_one marked along.0 (Renew worked.worker worked.used kept.quota ∷ []) new after step.0 step.1
+                  (alone_one (setup_in marked) (Renew worked.worker worked.used kept.quota) along.0 step.0 (given_whole step.0 step.1.moment.incumbent step.2) step.1.moves)
                   (n.events.journal ∙ ap (λ q. marked.table.journal ++ Renew worked.worker worked.used q ∷ []) (sym kept_quota))),
               step.3,
             )

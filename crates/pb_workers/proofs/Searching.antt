@@ -13,14 +13,14 @@ use Rattle.pb_bundles.specs.Homes.{key_at}
 use Rattle.pb_lease.specs.Tables.{blocks}
 use Rattle.pb_lease.specs.Events.{counts_along}
 use Rattle.pb_lease.specs.LeaseValue.{LeaseValue}
-use Rattle.pb_lease.specs.GraphValue.{GraphValue, counts_in}
+use Rattle.pb_lease.specs.GraphValue.{GraphValue, setup_in, counts_in}
 use Rattle.pb_lease.specs.Choices.{is_out_in, IsOver}
 use Rattle.pb_lease.specs.Steps.{IsLeased, LeasesNext, IsEnded, KeepsLeases, end_events}
 use Rattle.pb_lease.proofs.GraphBasics.{passes_from}
 use Rattle.pb_lease.proofs.InOrder.{leases_in_order}
 use Rattle.pb_workers.specs.Runs.{IsSameSearch, IsAnyMoment, RunsOn}
 use Rattle.pb_workers.specs.Holding.{IsHeld, RunsHome, left_with, opened_blocks, IsNearer}
-use Rattle.pb_workers.proofs.Going.{run_one, run_then, run_home, on_then, keeping_runs}
+use Rattle.pb_workers.proofs.Going.{run_one, run_then, run_home, on_then, keeping_runs, alone_one, end_grants_none}
 
 -- ---- one worker
 
@@ -79,6 +79,7 @@ leased_runs first old mid new worker lease l next back same home before recorded
     let after = with_entry recorded lease.worker (away_rows lease.parts) in
     let c = back after b.0 b.1.moment b.3 in
     let leased = run_one old a.0 (Lease lease.worker lease.block lease.quota ∷ []) mid after b.0 b.1
+    (alone_one (setup_in old) (Lease lease.worker lease.block lease.quota) a.0 b.0 (b.2 ∙ l.lent_incumbent ∙ sym l.incumbent ∙ sym b.1.moment.incumbent) b.1.moves)
     (subst (λ w. mid.table.journal ≡ old.table.journal ++ Lease w lease.block lease.quota ∷ []) (sym l.worker_is) l.events.journal) in (
       c.1,
       run_then first old new machine a.0 c.1 recorded recorded same a.1
@@ -154,7 +155,7 @@ module _ (old : GraphValue) (end : End) (new : GraphValue) (e : IsEnded old end 
       here (Some standing) none = absurd (true≢false (ap is_some none))
 
   pub ended_runs : (first : GraphValue) → IsSameSearch first old → RunsOn first old → KeepsLeases old (end_events old.table.end end) new → RunsOn first new
-  ended_runs first same before keeps = on_then first old new same before (keeping_runs old (end_events old.table.end end) new keeps (ap (λ (v : GraphValue). v.incumbent) e.rest) e.events.journal)
+  ended_runs first same before keeps = on_then first old new same before (keeping_runs old (end_events old.table.end end) new (end_grants_none old.table.end end) keeps (ap (λ (v : GraphValue). v.incumbent) e.rest) e.events.journal)
 
 -- no end stands where the search isn't over
 pub none_stands : (g : GraphValue) → ((end : End) → IsOver g end → ⊥) → g.table.end ≡ None

@@ -1,8 +1,9 @@
 -- A search by leases goes on, and a graph with it.
-use Rattle.std.specs.Prelude.{◌≡◌, ℕ, List, ◌++◌}
+use Rattle.std.specs.Prelude.{◌≡◌, ℕ, List, [], ◌∷◌, ◌++◌, ⊤}
 use Rattle.pb_model.specs.Store.{Rows}
-use Rattle.pb_machine.specs.Machine.{Machine, Move, journal_of}
-use Rattle.pb_machine.specs.Turns.{RunsInOrder}
+use Rattle.pb_machine.specs.declared.event.Event.TheVariants.{Lease, Renew}
+use Rattle.pb_machine.specs.Machine.{Setup, Machine, Move, event_move, Moves, journal_of}
+use Rattle.pb_machine.specs.Turns.{IsInOrder}
 use Rattle.pb_lease.specs.GraphValue.{GraphValue, setup_in}
 use Rattle.pb_lease.specs.Moments.{IsMoment}
 
@@ -16,16 +17,28 @@ pub record IsSameSearch (old new : GraphValue) : Type 0 where
 abbrev pub IsAnyMoment : GraphValue → Type 0
 IsAnyMoment g = (recorded : (worker : ℕ) → Rows) × (machine : Machine) × IsMoment g recorded machine
 
--- From this machine a run in order leads to one that the new graph is a moment of, with these rows recorded for the leases that are out.
--- So each block that was leased was the first choice, and each row that was taken the first of its block. The events of the run are those
--- that the journal got.
+-- a lease that is given, or goes on, is given the incumbent that the whole store has
+abbrev pub GivesWholeIncumbent : Move → (new : Machine) → Type 0
+GivesWholeIncumbent (event_move (Lease worker block quota)) new = new.given worker ≡ new.store.incumbent
+GivesWholeIncumbent (event_move (Renew worker used quota)) new = new.given worker ≡ new.store.incumbent
+GivesWholeIncumbent move new = ⊤
+
+-- The run of a worker that searches alone: these moves, one after another, each in order, and each lease with the incumbent of the whole store.
+abbrev pub RunsAlone : Setup → (old : Machine) → List Move → (new : Machine) → Type 0
+RunsAlone setup old [] new = new ≡ old
+RunsAlone setup old (move ∷ moves) new =
+    (between : Machine) × Moves setup old move between × IsInOrder setup old move between × GivesWholeIncumbent move between × RunsAlone setup between moves new
+
+-- From this machine a run of a worker that searches alone leads to one that the new graph is a moment of, with these rows recorded for the
+-- leases that are out. So each block that was leased was the first choice, each row that was taken the first of its block, and no lease was
+-- given another incumbent than that of the whole store. The events of the run are those that the journal got.
 pub record RunsTo (old : GraphValue) (machine : Machine) (new : GraphValue) (recorded : (worker : ℕ) → Rows) (next : Machine) : Type 0 where
   pub moves : List Move
-  pub run : RunsInOrder (setup_in old) machine moves next
+  pub run : RunsAlone (setup_in old) machine moves next
   pub events : new.table.journal ≡ old.table.journal ++ journal_of moves
   pub moment : IsMoment new recorded next
 
--- from whichever machine the old graph is a moment of a run in order leads to one that the new graph is a moment of
+-- from whichever machine the old graph is a moment of such a run leads to one that the new graph is a moment of
 abbrev pub RunsOn : (old new : GraphValue) → Type 0
 RunsOn old new =
     (recorded : (worker : ℕ) → Rows) (machine : Machine) → IsMoment old recorded machine

@@ -1,5 +1,6 @@
 -- What is claimed of a STRIPS task by names follows from what is claimed of its packed task.
-use Rattle.std.proofs.Common.{◌≡◌, ℕ, ◌+◌, ◌*◌, ◌≤◌, Option, None, Some, IfSome, List, length, map, slice_get, Result, Ok, Err, refl, sym, ap, ◌∙◌, subst, arith}
+use Rattle.std.proofs.Common.{◌≡◌, ℕ, ◌+◌, ◌*◌, ◌≤◌, Option, None, Some, List, length, map, slice_get, Result, Ok, Err, refl, sym, ap, ◌∙◌, subst, arith}
+use Rattle.pb_model.specs.Weight.{Weight}
 use Rattle.pb_model.specs.Plan.{Plan, IsPlan as IsPackedPlan, HasNoPlan, NoneCheaper, IsBound}
 use Rattle.pb_model.specs.Texts.{plan_report}
 use Rattle.pb_task.specs.declared.parts.TaskParts.{TaskParts}
@@ -28,14 +29,12 @@ use Rattle.pb_check.specs.declared.fault.Verdict.{Verdict}
 use Rattle.pb_check.specs.declared.fault.Verdict.TheVariants.{Bounded, Unsolvable}
 use Rattle.pb_check.specs.Shown.{VerdictHolds}
 use Rattle.pb_report.specs.Texts.{plan_text, syntax_text, strips_text}
-use Rattle.pb_outside.specs.Outside.{Files}
 use Rattle.pb_command.specs.Values.{InputNames, Grid, Tiles, Strips}
-use Rattle.pb_command.specs.Meaning.{Reading, Refused, Read, Solve, Check, SolveMeaning, CheckMeaning}
-use Rattle.pbnf.specs.Asked.{Wanted, IsSolve, IfSolve, IfCheck}
-use Rattle.pbnf.specs.Loaded.{loads_of, AreLoaded, refused_with, strips_told, problem_told, domain_told, strips_task, input_task, with_certificate, check_task, solve_task, OfTexts, OfCheckedTexts}
-use Rattle.pbnf.specs.Leases.{unweighted}
-use Rattle.pbnf.specs.Claims.{Saved, Solves, Accepts}
-use Rattle.pbnf.specs.Named.{SpellTrees, OfTrees, OfTreeFiles, NoneShorter, HasNoNamedPlan, PrintsNamedPlan, NamedVerdict, AcceptsNamed}
+use Rattle.pb_command.specs.Meaning.{SolveMeaning, CheckMeaning}
+use Rattle.pbnf.specs.Calls.{Output}
+use Rattle.pbnf.specs.Loaded.{refused_with, strips_told, problem_told, domain_told, strips_task, input_task, with_certificate, check_task, solve_task, OfTexts, OfCheckedTexts}
+use Rattle.pbnf.specs.Claims.{Solves, Accepts}
+use Rattle.pbnf.specs.Named.{SpellTrees, OfTrees, named_cost, HasNoNamedPlan, PrintsNamedPlan, NamedVerdict, AcceptsNamed}
 
 -- ---- the trees of a task
 
@@ -117,92 +116,53 @@ module _ (domain : Domain) (problem : Problem) (are : AreTask domain problem) wh
   abbrev pub task : TaskParts
   task = parts.Strips (strips_of domain problem)
 
-  -- a plan by names has no fewer actions than a packed plan that none is cheaper than costs
-  none_shorter : (cost bound : ℕ) → bound ≤ cost → ((plan : Plan) → IsPackedPlan (space_of task) plan → cost ≤ plan.cost) → NoneShorter domain problem bound
-  none_shorter cost bound less least others is =
-      let packed = plans_are_packed_plans domain problem others are.accepted is in
-      let short = least (record { actions = packed.0; cost = length others }) packed.1 in
-      omega (arith, less, short)
+  -- a plan by names is a packed plan of the same cost
+  packed : (others : List NamedAction) → IsPlan domain problem others → (plan : Plan) × IsPackedPlan (space_of task) plan × (plan.cost ≡ named_cost domain others)
+  packed others is = let found = plans_are_packed_plans domain problem others are.accepted is in (record { actions = found.0; cost = length others }, found.1, refl)
 
   pub no_named_plan : HasNoPlan (space_of task) → HasNoNamedPlan domain problem
   no_named_plan none actions is =
       let packed = plans_are_packed_plans domain problem actions are.accepted is in
       none (record { actions = packed.0; cost = length actions }) packed.1
 
-  pub prints_named_plan : (says : List ℕ → Type 0) (saves : Option Saved → Type 0) (name : Option (List ℕ)) → Solves says saves name task → PrintsNamedPlan says domain problem
-  prints_named_plan says saves name (plan, bound, text, is, bounded, least, saved, fits) =
+  pub prints_named_plan : (says : List ℕ → Type 0) (saves : List Output → Type 0) (name : Option (List ℕ)) (weight : Weight) → Solves says saves name task weight
+      → PrintsNamedPlan says weight domain problem
+  prints_named_plan says saves name weight (plan, bound, text, is, bounded, least, saved, fits) =
       let named = packed_plans_are_plans domain problem plan are.accepted is in
-      let cost : plan.cost ≡ length named.0 = named.3 in
-      let names = sym named.2 ∙ names_are_printed domain problem named.0 are.words are.others named.1 in
-      let over = bounded.enough in
-      let under = bounded.least plan.cost (omega arith) in
-      let bound_is : bound ≡ length named.0 = omega (arith, over, under, cost) in (
+      let cost : plan.cost ≡ named_cost domain named.0 = named.3 in
+      let names = sym named.2 ∙ names_are_printed domain problem named.0 are.words are.others named.1 in (
         named.0,
-        subst says
-            (ap (λ steps. plan_report steps plan.cost bound) names
-            ∙ (ap (λ n. plan_report (map (action_bytes domain) named.0) n bound) cost ∙ ap (λ n. plan_report (map (action_bytes domain) named.0) (length named.0) n) bound_is)) text,
+        bound,
+        subst says (ap (λ steps. plan_report steps plan.cost bound) names ∙ ap (λ n. plan_report (map (action_bytes domain) named.0) n bound) cost) text,
         named.1,
-        none_shorter plan.cost (length named.0) (omega (arith, cost)) (λ other other_is. let cheap = least other other_is in omega (arith, cheap)),
+        subst (λ n. IsBound weight n bound) cost bounded,
+        λ others other_is.
+            let other = packed others other_is in
+            subst (λ n. weight.den * n ≤ weight.num * named_cost domain others) cost
+            (subst (λ n. weight.den * plan.cost ≤ weight.num * n) other.2 (least other.0 other.1)),
       )
 
   pub named_verdict : (verdict : Verdict) → VerdictHolds (space_of task) verdict → NamedVerdict domain problem verdict
   named_verdict Unsolvable none = no_named_plan none
   named_verdict (Bounded cost bound) ((plan, is, costs), least) =
-      let named = packed_plans_are_plans domain problem plan are.accepted is in
-      ((named.0, named.1, sym named.3 ∙ costs), none_shorter bound bound (omega arith) least)
+      let named = packed_plans_are_plans domain problem plan are.accepted is in (
+        (named.0, named.1, sym named.3 ∙ costs),
+        λ others other_is. let other = packed others other_is in subst (λ n. bound ≤ n) other.2 (least other.0 other.1),
+      )
 
 -- ---- of what is answered
 
 module _ (texts : List (List ℕ)) where
-  pub solved_by_names : (says : List ℕ → Type 0) (saves : Option Saved → Type 0) (reading : Reading) → IfSolve reading (λ solve. OfTexts solve texts (Solves says saves solve.certificate))
-      → IfSolve reading (λ solve. OfTrees solve.input 0 texts (PrintsNamedPlan says))
-  solved_by_names says saves (Refused fault) h = tt
-  solved_by_names says saves (Read (Check check)) h = tt
-  solved_by_names says saves (Read (Solve solve)) (task, is, holds) =
-      by_trees (Solves says saves solve.certificate) (PrintsNamedPlan says) (λ domain problem are solves. prints_named_plan domain problem are says saves solve.certificate solves) solve.input solve.row
-      0 texts task is holds
+  pub solved_by_names : (says : List ℕ → Type 0) (saves : List Output → Type 0) (name : Option (List ℕ)) (weight : Weight) (solve : SolveMeaning)
+      → OfTexts solve texts (λ parts. Solves says saves name parts weight) → OfTrees solve.input 0 texts (PrintsNamedPlan says weight)
+  solved_by_names says saves name weight solve (task, is, holds) =
+      by_trees (λ parts. Solves says saves name parts weight) (PrintsNamedPlan says weight) (λ domain problem are solves. prints_named_plan domain problem are says saves name weight solves)
+      solve.input solve.row 0 texts task is holds
 
-  pub none_by_names : (reading : Reading) → IsSolve reading (λ solve. OfTexts solve texts (λ task. HasNoPlan (space_of task))) → IsSolve reading (λ solve. OfTrees solve.input 0 texts HasNoNamedPlan)
-  none_by_names (Refused fault) h = h
-  none_by_names (Read (Check check)) h = h
-  none_by_names (Read (Solve solve)) (task, is, holds) = by_trees (λ t. HasNoPlan (space_of t)) HasNoNamedPlan no_named_plan solve.input solve.row 0 texts task is holds
+  pub none_by_names : (solve : SolveMeaning) → OfTexts solve texts (λ task. HasNoPlan (space_of task)) → OfTrees solve.input 0 texts HasNoNamedPlan
+  none_by_names solve (task, is, holds) = by_trees (λ t. HasNoPlan (space_of t)) HasNoNamedPlan no_named_plan solve.input solve.row 0 texts task is holds
 
-  pub accepted_by_names : (says : List ℕ → Type 0) (reading : Reading) → IfCheck reading (λ check. OfCheckedTexts check texts (Accepts says)) → IfCheck reading (λ check. OfTrees check.input 1 texts (AcceptsNamed says))
-  accepted_by_names says (Refused fault) h = tt
-  accepted_by_names says (Read (Solve solve)) h = tt
-  accepted_by_names says (Read (Check check)) (task, certificate, is, holds) =
+  pub accepted_by_names : (says : List ℕ → Type 0) (check : CheckMeaning) → OfCheckedTexts check texts (Accepts says) → OfTrees check.input 1 texts (AcceptsNamed says)
+  accepted_by_names says check (task, certificate, is, holds) =
       by_trees (λ t. Accepts says t certificate) (AcceptsNamed says) (λ domain problem are claims. (claims.0, claims.1, named_verdict domain problem are claims.0 claims.5)) check.input check.row 1 texts
       task (checked_input (slice_get texts 0) (input_task check.input check.row 1 texts) task certificate is) holds
-
--- ---- of the files
-
-more_of_trees : (P Q : Domain → Problem → Type 0) → ((domain : Domain) (problem : Problem) → P domain problem → Q domain problem) → (input : InputNames) (first : ℕ) (texts : List (List ℕ))
-    → OfTrees input first texts P → OfTrees input first texts Q
-more_of_trees P Q f (Grid names) first texts h = tt
-more_of_trees P Q f (Tiles board) first texts h = tt
-more_of_trees P Q f (Strips names) first texts (domain, problem, spelled, holds) = (domain, problem, spelled, f domain problem holds)
-
-of_files : (files : Option Files) (wanted : List Wanted) (texts : List (List ℕ)) → AreLoaded files wanted texts → (P Q : Domain → Problem → Type 0)
-    → ((domain : Domain) (problem : Problem) → P domain problem → Q domain problem) → (input : InputNames) (first : ℕ) → OfTrees input first texts P → OfTreeFiles files wanted input first Q
-of_files None wanted texts loaded P Q f input first h = tt
-of_files (Some shelf) wanted texts loaded P Q f input first h = (texts, loaded, more_of_trees P Q f input first texts h)
-
-pub if_solve_files : (files : Option Files) (wanted : List Wanted) (texts : List (List ℕ)) → AreLoaded files wanted texts → (P Q : Domain → Problem → Type 0)
-    → ((domain : Domain) (problem : Problem) → P domain problem → Q domain problem) → (reading : Reading) → IfSolve reading (λ solve. OfTrees solve.input 0 texts P)
-    → IfSolve reading (λ solve. OfTreeFiles files wanted solve.input 0 Q)
-if_solve_files files wanted texts loaded P Q f (Refused fault) h = tt
-if_solve_files files wanted texts loaded P Q f (Read (Check check)) h = tt
-if_solve_files files wanted texts loaded P Q f (Read (Solve solve)) h = of_files files wanted texts loaded P Q f solve.input 0 h
-
-pub is_solve_files : (files : Option Files) (wanted : List Wanted) (texts : List (List ℕ)) → AreLoaded files wanted texts → (P : Domain → Problem → Type 0) → (reading : Reading)
-    → IsSolve reading (λ solve. OfTrees solve.input 0 texts P) → IsSolve reading (λ solve. OfTreeFiles files wanted solve.input 0 P)
-is_solve_files files wanted texts loaded P (Refused fault) h = h
-is_solve_files files wanted texts loaded P (Read (Check check)) h = h
-is_solve_files files wanted texts loaded P (Read (Solve solve)) h = of_files files wanted texts loaded P P (λ domain problem holds. holds) solve.input 0 h
-
-pub if_check_files : (files : Option Files) (wanted : List Wanted) (texts : List (List ℕ)) → AreLoaded files wanted texts → (P Q : Domain → Problem → Type 0)
-    → ((domain : Domain) (problem : Problem) → P domain problem → Q domain problem) → (reading : Reading) → IfCheck reading (λ check. OfTrees check.input 1 texts P)
-    → IfCheck reading (λ check. OfTreeFiles files wanted check.input 1 Q)
-if_check_files files wanted texts loaded P Q f (Refused fault) h = tt
-if_check_files files wanted texts loaded P Q f (Read (Solve solve)) h = tt
-if_check_files files wanted texts loaded P Q f (Read (Check check)) h = of_files files wanted texts loaded P Q f check.input 1 h

@@ -1,5 +1,6 @@
 -- What a quiet search shows, with its plan and its certificate.
-use Rattle.std.proofs.Common.{◌≡◌, ◌⊎◌, inl, inr, ℕ, ◌^◌, ◌<◌, ◌≤◌, IsTrue, Option, Some, List, Result, Ok, Err, IfOk, ap, sym, ◌∙◌, subst, arith}
+use Rattle.std.proofs.Common.{◌≡◌, ◌⊎◌, inl, inr, ℕ, ◌^◌, ◌<◌, ◌≤◌, IsTrue, Option, Some, List, [], ◌∷◌, length, Result, Ok, Err, IfOk, refl, ap, sym, ◌∙◌, subst, arith}
+use Rattle.std.proofs.lemmas.List.Elements.{All-from_recursion}
 use Rattle.pb_model.specs.declared.row.Row.{Row}
 use Rattle.pb_model.specs.Space.{Space}
 use Rattle.pb_model.specs.Weight.{Weight}
@@ -7,10 +8,12 @@ use Rattle.pb_model.specs.Guide.{Guide}
 use Rattle.pb_model.specs.Plan.{Plan, IsPlan, NoneCheaper, IsBound, IncumbentHolds}
 use Rattle.pb_model.specs.Store.{IsShown, IsQuiet}
 use Rattle.pb_model.specs.Sound.{IsSound}
-use Rattle.pb_model.specs.Certificate.{Certificate, IsValid, IsPlanIfAny, IsBackedBy}
-use Rattle.pb_model.specs.Texts.{head_1, certificate_text}
+use Rattle.pb_model.specs.Certificate.{Line, Certificate, AreLinesOf, IsValid, IsPlanIfAny, IsBackedBy}
+use Rattle.pb_model.specs.Texts.{head_1, certificate_text, stopped_report}
 use Rattle.pb_task.specs.declared.parts.TaskParts.{TaskParts}
-use Rattle.pb_task.specs.Parts.{space_of, IsTask}
+use Rattle.pb_task.specs.declared.parts.TaskParts.TheVariants.{Grid, Tiles, Strips}
+use Rattle.pb_task.specs.Parts.{space_of, IsTask, greatest_cost}
+use Rattle.pb_task.proofs.Grids.{tasks_are_proper}
 use Rattle.pb_estimate.specs.Estimates.{estimate_of}
 use Rattle.pb_machine.specs.Settings.{weight_of}
 use Rattle.pb_abstract.specs.Graph.{home_of}
@@ -18,22 +21,55 @@ use Rattle.pb_bundles.specs.Homes.{home_rows}
 use Rattle.pb_lease.specs.Leased.{guide_of}
 use Rattle.pb_lease.specs.GraphValue.{GraphValue}
 use Rattle.pb_workers.specs.Ends.{home_store}
+use Rattle.pb_check.specs.declared.fault.CertificateFault.{CertificateFault}
+use Rattle.pb_check.specs.declared.fault.Verdict.{Verdict}
+use Rattle.pb_check.specs.declared.fault.CheckError.TheVariants as errors
 use Rattle.pb_check.specs.Kinds.{kind_of, kind_name}
-use Rattle.pb_cert.specs.Store.{store_with, IsSoundAt}
+use Rattle.pb_check.specs.Judging.{checked, verdict_of}
+use Rattle.pb_check.specs.Shown.{IsAccepted}
+use Rattle.pb_check.specs.Spelling.{PlanFits, PlanFitsIfAny, Fits}
+use Rattle.pb_check.proofs.Completeness.{gives_accepted}
+use Rattle.pb_cert.specs.Store.{store_with, IsPlaced, IsSoundAt}
 use Rattle.pb_cert.specs.Traced.{HasGoal}
 use Rattle.pb_cert.specs.Stated.{Stated, text_of}
 use Rattle.pb_cert.proofs.AtHome.{shown_rows_can_be_traced}
 use Rattle.pb_command.specs.Meaning.{SolveMeaning}
 use Rattle.pb_report.specs.Texts.{plan_text}
-use Rattle.pbnf.specs.Leases.{unweighted, IsBestOf}
+use Rattle.pb_machine.specs.declared.event.Event.{Event}
+use Rattle.pbnf.specs.Leases.{unweighted, settings_of, IsBestOf, StopsWith}
 use Rattle.pbnf.specs.Named.{NamesTell}
-use Rattle.pbnf.specs.Claims.{Saved, certificate_of, Certifies, Solves}
+use Rattle.pbnf.specs.Calls.{Output, output}
+use Rattle.pbnf.specs.Claims.{certificate_of, certificate_bytes, Certifies, Solves}
 use Rattle.pbnf.specs.declared.answer.Answer.{Answer}
 use Rattle.pbnf.specs.Answer.{Said, Says, Saves, IsSolved, IsUnsolvable, IsFound, said_of}
-use Rattle.pbnf.proofs.Groups.{prints_least_cost, saves_plan}
+use Rattle.pbnf.proofs.Groups.{walk_actions, walk_length, prints_least_cost, saves_plan}
 
 bound_is : (cost : ℕ) → IsBound unweighted cost cost
 bound_is cost = record { enough = omega arith; least = λ other h. omega (arith, h) }
+
+-- a task has few actions
+few_actions : (parts : TaskParts) → IsTask parts → (space_of parts).actions ≤ 65536
+few_actions (Grid grid) lawful = omega arith
+few_actions (Tiles tiles) lawful = omega arith
+few_actions (Strips strips) lawful = lawful.few
+
+-- the text of a valid certificate whose numbers can be stated is accepted
+text_is_accepted : (parts : TaskParts) (certificate : Certificate) → IsValid (space_of parts) (estimate_of parts) certificate → Fits certificate
+    → checked (space_of parts) (estimate_of parts) (kind_of parts) (certificate_bytes parts certificate) ≡ Ok (verdict_of certificate.weight certificate.plan)
+text_is_accepted parts certificate valid fits = go (checked (space_of parts) (estimate_of parts) (kind_of parts) bytes) refl
+  where
+    bytes : List ℕ
+    bytes = certificate_bytes parts certificate
+
+    accepted : IsAccepted (space_of parts) (estimate_of parts) (kind_of parts) bytes (verdict_of certificate.weight certificate.plan)
+    accepted = record { certificate = certificate; spelled = record { text = refl; fits = fits }; valid = valid; verdict_is = refl }
+
+    go : (r : Result Verdict CertificateFault) → checked (space_of parts) (estimate_of parts) (kind_of parts) bytes ≡ r
+        → checked (space_of parts) (estimate_of parts) (kind_of parts) bytes ≡ Ok (verdict_of certificate.weight certificate.plan)
+    go (Ok verdict) e = e ∙ sym (gives_accepted (space_of parts) (estimate_of parts) (kind_of parts) bytes (Ok verdict) e (verdict_of certificate.weight certificate.plan) accepted)
+    go (Err fault) e =
+        let bad : ◌≡◌ {A = Result Verdict CertificateFault} (Ok (verdict_of certificate.weight certificate.plan)) (Err fault) =
+        gives_accepted (space_of parts) (estimate_of parts) (kind_of parts) bytes (Err (errors.Fault fault)) e (verdict_of certificate.weight certificate.plan) accepted in cc
 
 module _ (parts : TaskParts) (graph : GraphValue) (is : IsBestOf parts graph) where
   is_sound : IsSound (space_of parts) (guide_of parts graph.table.graph) (home_store graph)
@@ -59,38 +95,96 @@ module _ (parts : TaskParts) (graph : GraphValue) (is : IsBestOf parts graph) wh
   IsValidFor plan c = (space : Space) (guide : Guide) (incumbent : Option ℕ) → IsSound space guide (store_with (home_rows graph.homes) (weight_of graph.table.settings) incumbent)
       → IsQuiet (store_with (home_rows graph.homes) (weight_of graph.table.settings) incumbent) → IsPlanIfAny space plan → IsBackedBy incumbent plan → IsValid space guide.estimate c.certificate
 
-  same_certificate : (c : Stated) (plan : Option Plan) → c.certificate.weight ≡ weight_of graph.table.settings → c.certificate.plan ≡ plan → c.certificate ≡ certificate_of plan c.certificate.lines
+  same_certificate : (c : Stated) (plan : Option Plan) → c.certificate.weight ≡ weight_of graph.table.settings → c.certificate.plan ≡ plan
+      → c.certificate ≡ certificate_of unweighted plan c.certificate.lines
   same_certificate c plan w p = λ i. record { weight = (w ∙ is.weight) i; plan = p i; lines = c.certificate.lines }
 
-  pub certifies : (c : Stated) (plan : Option Plan) (name at : List ℕ) → name ≡ at → c.kind ≡ kind_name (kind_of parts) → c.certificate.weight ≡ weight_of graph.table.settings → c.certificate.plan ≡ plan
-      → IsValidFor plan c → IsPlanIfAny (space_of parts) plan → IsBackedBy graph.incumbent plan
-      → Certifies (λ file. ◌≡◌ {A = Option Saved} (Some (name, text_of c)) file) (Some at) parts plan
-  certifies c plan name at named kind w p valid a_plan backed =
-      let same = same_certificate c plan w p in (
+  -- what is said of a certificate's lines
+  abbrev pub HasLines : Stated → Type 0
+  HasLines c = (guide : Guide) → IsPlaced guide.home (home_rows graph.homes) → AreLinesOf guide (home_rows graph.homes) c.certificate.lines
+
+  small_row : (home state : ℕ) (row : Row) → home_rows graph.homes home state ≡ Some row → row.g < 2 ^ 63
+  small_row home state row found = let small = is.small home state row found in omega (arith, small)
+
+  -- the numbers of a certificate can be stated
+  fits : IsTask parts → (c : Stated) (plan : Option Plan) → IsValid (space_of parts) (estimate_of parts) (certificate_of unweighted plan c.certificate.lines)
+      → length c.certificate.lines < 2 ^ 63 → HasLines c → PlanFitsIfAny plan → Fits (certificate_of unweighted plan c.certificate.lines)
+  fits lawful c plan valid count lines plan_fits =
+      let are = lines (guide_of parts graph.table.graph) (λ home state row found. (is_sound.place home state row found).0) in
+      record {
+        weight = (omega arith, omega arith);
+        plan = plan_fits;
+        count = count;
+        lines = λ k d less.
+            let line = are.sound k d less in (
+              (tasks_are_proper parts lawful).1 _ (valid.states k d less),
+              subst (λ (l : Line). l.g < 2 ^ 63) (sym line.2) (small_row _ _ line.0 line.1),
+            );
+      }
+
+  pub certifies : IsTask parts → (c : Stated) (plan : Option Plan) (name at : List ℕ) → name ≡ at → c.kind ≡ kind_name (kind_of parts) → c.certificate.weight ≡ weight_of graph.table.settings
+      → c.certificate.plan ≡ plan → length c.certificate.lines < 2 ^ 63 → HasLines c → IsValidFor plan c → IsPlanIfAny (space_of parts) plan → IsBackedBy graph.incumbent plan → PlanFitsIfAny plan
+      → Certifies (λ outputs. ◌≡◌ {A = List Output} (output name (text_of c) ∷ []) outputs) (Some at) parts unweighted plan
+  certifies lawful c plan name at named kind w p count lines valid a_plan backed plan_fits =
+      let same = same_certificate c plan w p in
+      let here : IsValid (space_of parts) (estimate_of parts) (certificate_of unweighted plan c.certificate.lines) =
+      subst (λ (k : Certificate). IsValid (space_of parts) (estimate_of parts) k) same
+      (valid (space_of parts) (guide_of parts graph.table.graph) graph.incumbent is_sound is.best.quiet a_plan backed) in (
         c.certificate.lines,
-        subst (λ (k : Certificate). IsValid (space_of parts) (estimate_of parts) k) same
-            (valid (space_of parts) (guide_of parts graph.table.graph) graph.incumbent is_sound is.best.quiet a_plan backed),
-        λ i. Some (named i, (ap (λ k. certificate_text (head_1 k) 64 c.certificate) kind ∙ ap (λ (k : Certificate). certificate_text (head_1 (kind_name (kind_of parts))) 64 k) same) i),
+        here,
+        text_is_accepted parts (certificate_of unweighted plan c.certificate.lines) here (fits lawful c plan here count lines plan_fits),
+        λ i. output (named i) ((ap (λ k. certificate_text (head_1 k) 64 c.certificate) kind ∙ ap (λ (k : Certificate). certificate_text (head_1 (kind_name (kind_of parts))) 64 k) same) i) ∷ [],
       )
+
+  -- the numbers of a plan that costs no more than a goal's row can be stated
+  plan_is_small : IsTask parts → (plan : Plan) → IsPlan (space_of parts) plan → plan.cost < 2 ^ 63 → PlanFits plan
+  plan_is_small lawful plan a_plan small =
+      let proper = (tasks_are_proper parts lawful).0 in
+      let short = walk_length (space_of parts) greatest_cost proper plan.actions (space_of parts).start plan.cost a_plan.0 a_plan.1 in
+      let few = few_actions parts lawful in
+      record {
+        count = omega (arith, short, small);
+        actions = λ k d less.
+            let action = All-from_recursion (λ (action : ℕ). action < (space_of parts).actions) plan.actions
+            (walk_actions (space_of parts) greatest_cost proper plan.actions (space_of parts).start plan.cost a_plan.0 a_plan.1) k d less in
+            omega (arith, action, few);
+        cost = small;
+      }
 
   -- of a search that knows an incumbent
   pub solved : (lawful : IsTask parts) → NamesTell parts → (cost : ℕ) → graph.incumbent ≡ Some cost → (plan : Plan) → IsPlan (space_of parts) plan
       → ((home goal : ℕ) (row : Row) → home_rows graph.homes home goal ≡ Some row → IsTrue ((space_of parts).is_goal goal) → plan.cost ≤ row.g)
       → (name : Option (List ℕ)) (said : Said) → said.status ≡ 0 → said.report ≡ plan_text parts plan plan.cost → plan.cost < 2 ^ 64
-      → (IsPlanIfAny (space_of parts) (Some plan) → IsBackedBy graph.incumbent (Some plan) → Certifies (Saves said) name parts (Some plan))
-      → IsSolved name parts said
-  solved lawful names cost known plan a_plan cheapest name said status says fits saved =
+      → (IsPlanIfAny (space_of parts) (Some plan) → IsBackedBy graph.incumbent (Some plan) → PlanFitsIfAny (Some plan) → Certifies (Saves said) name parts unweighted (Some plan))
+      → IsSolved name parts unweighted said
+  solved lawful names cost known plan a_plan cheapest name said status says fits_it saved =
       let goal = is_shown cost known in
-      let within : plan.cost ≤ cost = omega (arith, cheapest ((guide_of parts graph.table.graph).home goal.0) goal.0 goal.2.0 goal.2.1 goal.1, goal.2.2) in
+      let under = cheapest ((guide_of parts graph.table.graph).home goal.0) goal.0 goal.2.0 goal.2.1 goal.1 in
+      let within : plan.cost ≤ cost = omega (arith, under, goal.2.2) in
+      let low = small_row ((guide_of parts graph.table.graph).home goal.0) goal.0 goal.2.0 goal.2.1 in
+      let small : plan.cost < 2 ^ 63 = omega (arith, under, low) in
       let least : NoneCheaper (space_of parts) unweighted plan.cost = λ other other_is. omega (arith, (holds (Some cost) known).1 other other_is, within) in
       let backed : IsBackedBy graph.incumbent (Some plan) = subst (λ (o : Option ℕ). IsBackedBy o (Some plan)) (sym known) within in
-      let solves : Solves (Says said) (Saves said) name parts =
-      (plan, plan.cost, says, a_plan, bound_is plan.cost, least, saved a_plan backed, fits) in
-      (status, solves, prints_least_cost parts lawful names said.report (Saves said) name solves, saves_plan parts lawful names said.report (Saves said) name solves)
+      let solves : Solves (Says said) (Saves said) name parts unweighted =
+      (plan, plan.cost, says, a_plan, bound_is plan.cost, least, saved a_plan backed (plan_is_small lawful plan a_plan small), fits_it) in
+      (status, solves, prints_least_cost parts lawful names said.report (Saves said) name unweighted solves, saves_plan parts lawful names said.report (Saves said) name unweighted solves)
 
 -- what a quiet search of the task shows is an answer to the words
 pub found : {E : Type 0} → (solve : SolveMeaning) (parts task : TaskParts) → parts ≡ task → (result : Result Answer E)
-    → IfOk result (λ a. IsSolved solve.certificate parts (said_of a) ⊎ IsUnsolvable solve.certificate parts (said_of a)) → IfOk result (λ a. IsFound solve task (said_of a))
+    → IfOk result (λ a. IsSolved solve.certificate parts unweighted (said_of a) ⊎ IsUnsolvable solve.certificate parts unweighted (said_of a)) → IfOk result (λ a. IsFound solve task (said_of a))
 found solve parts task same (Err e) h = tt
-found solve parts task same (Ok a) (inl h) = inl (subst (λ (p : TaskParts). IsSolved solve.certificate p (said_of a)) same h)
-found solve parts task same (Ok a) (inr h) = inr (inl (subst (λ (p : TaskParts). IsUnsolvable solve.certificate p (said_of a)) same h))
+found solve parts task same (Ok a) (inl h) = inl (subst (λ (p : TaskParts). IsSolved solve.certificate p unweighted (said_of a)) same h)
+found solve parts task same (Ok a) (inr h) = inr (inl (subst (λ (p : TaskParts). IsUnsolvable solve.certificate p unweighted (said_of a)) same h))
+
+-- what a search that stopped shows is an answer to the words
+pub stop_found : {E : Type 0} → (solve : SolveMeaning) (parts task : TaskParts) → parts ≡ task → (result : Result Answer E)
+    → IfOk result (λ a. said_of a ≡ record { status = 2; report = stopped_report solve.budget; outputs = [] }) → (journal : List Event) → StopsWith parts (settings_of solve) journal
+    → IfOk result (λ a. IsFound solve task (said_of a))
+stop_found solve parts task same (Err e) h journal stops = tt
+stop_found solve parts task same (Ok a) h journal stops = inr (inr (
+  ap (λ (s : Said). s.status) h,
+  ap (λ (s : Said). s.report) h,
+  ap (λ (s : Said). s.outputs) h,
+  journal,
+  subst (λ (p : TaskParts). StopsWith p (settings_of solve) journal) same stops,
+))

@@ -24,8 +24,9 @@ use Rattle.pbnf.specs.Loaded.{refused_with, grid_told, grid_task, tiles_told, ti
 use Rattle.pbnf.specs.Named.{NamesTell}
 use Rattle.pbnf.specs.Files.{GivesTask}
 use Rattle.pbnf.specs.declared.input.NoTask.{NoTask}
-use Rattle.pbnf.specs.Leases.{unweighted}
-use Rattle.pbnf.specs.Claims.{Saved, Certifies, Solves, PrintsLeastCost, SavesPlan}
+use Rattle.pb_model.specs.Weight.{Weight}
+use Rattle.pbnf.specs.Calls.{Output}
+use Rattle.pbnf.specs.Claims.{Certifies, Solves, PrintsLeastCost, SavesPlan}
 use Rattle.pbnf.proofs.Reports.{IsFree, AreFree, report_tells_cost, report_tells_steps}
 
 -- ---- the names of actions
@@ -143,7 +144,7 @@ module _ (space : Space) (most : ℕ) (proper : IsProper space most) where
   walk_actions (action ∷ actions) from cost to walk = (proper.action from action walk.0 walk.1 walk.3, walk_actions actions walk.0 walk.2 to walk.4)
 
   -- each step costs at least 1
-  walk_length : (actions : List ℕ) (from cost to : ℕ) → Walk space from actions cost to → length actions ≤ cost
+  pub walk_length : (actions : List ℕ) (from cost to : ℕ) → Walk space from actions cost to → length actions ≤ cost
   walk_length [] from cost to walk = omega arith
   walk_length (action ∷ actions) from cost to walk =
       let rest = walk_length actions walk.0 walk.2 to walk.4 in
@@ -152,8 +153,8 @@ module _ (space : Space) (most : ℕ) (proper : IsProper space most) where
 
 -- ---- the plan that a report tells
 
-module _ (parts : TaskParts) (lawful : IsTask parts) (names : NamesTell parts) (report : List ℕ) (saves : Option Saved → Type 0) (name : Option (List ℕ))
-    (solves : Solves (λ text. report ≡ text) saves name parts) where
+module _ (parts : TaskParts) (lawful : IsTask parts) (names : NamesTell parts) (report : List ℕ) (saves : List Output → Type 0) (name : Option (List ℕ)) (weight : Weight)
+    (solves : Solves (λ text. report ≡ text) saves name parts weight) where
   proper : IsProper (space_of parts) greatest_cost
   proper = (tasks_are_proper parts lawful).0
 
@@ -162,10 +163,10 @@ module _ (parts : TaskParts) (lawful : IsTask parts) (names : NamesTell parts) (
       let short = walk_length (space_of parts) greatest_cost proper plan.actions (space_of parts).start plan.cost is.0 is.1 in
       omega (arith, length-map plan.actions (action_name parts), short, small)
 
-  pub prints_least_cost : PrintsLeastCost (λ text. report ≡ text) parts
+  pub prints_least_cost : PrintsLeastCost (λ text. report ≡ text) parts weight
   prints_least_cost steps cost bound small says =
       let same = report_tells_cost (map (action_name parts) solves.0.actions) steps solves.0.cost solves.1 cost bound solves.7 small (sym solves.2 ∙ says) in
-      subst (λ c. NoneCheaper (space_of parts) unweighted c) same solves.5
+      subst (λ c. NoneCheaper (space_of parts) weight c) same solves.5
 
   same_plan : (plan : Plan) (bound : ℕ) → IsPlan (space_of parts) plan → plan.cost < 2 ^ 64 → report ≡ plan_text parts plan bound → solves.0 ≡ plan
   same_plan plan bound is small says =
@@ -178,8 +179,8 @@ module _ (parts : TaskParts) (lawful : IsTask parts) (names : NamesTell parts) (
       (walk_actions (space_of parts) greatest_cost proper plan.actions (space_of parts).start plan.cost is.0 is.1) steps in
       λ i. record { actions = actions i; cost = cost i }
 
-  pub saves_plan : SavesPlan (λ text. report ≡ text) saves name parts
-  saves_plan plan bound is small says = subst (λ (p : Plan). Certifies saves name parts (Some p)) (same_plan plan bound is small says) solves.6
+  pub saves_plan : SavesPlan (λ text. report ≡ text) saves name parts weight
+  saves_plan plan bound is small says = subst (λ (p : Plan). Certifies saves name parts weight (Some p)) (same_plan plan bound is small says) solves.6
 
 -- where a task is given only with telling names, what is returned has them
 pub given_names : (result : Result TaskParts NoTask) (given : Result TaskParts (List ℕ)) → GivesTask result given → ((task : TaskParts) → given ≡ Ok task → NamesTell task) → IfOk result NamesTell

@@ -5,4 +5,7 @@ pub mod Searched
 pub mod Loads
 pub mod ByNames
 pub mod Told
-pub mod Ended
+pub mod CallLists
+pub mod Loading
+pub mod Doing
+pub mod Handing

@@ -1,307 +1,318 @@
 -- What is answered of the words and of the texts that were loaded, promise by promise.
-use Rattle.std.proofs.Common.{◌≡◌, ◌⊎◌, inl, inr, ℕ, Option, None, Some, List, Result, Ok, Err, refl, sym, ap, subst, ◌∙◌, arith, []}
-use Rattle.pb_model.specs.Plan.{Plan, HasNoPlan}
+use Rattle.std.proofs.Common.{◌≡◌, ◌≢◌, ◌⊎◌, inl, inr, ℕ, Option, None, Some, List, [], ◌∷◌, ◌++◌, map, Result, Ok, Err, refl, sym, ap, subst, ◌∙◌, arith, append-nil}
+use Rattle.pb_model.specs.Plan.{Plan}
 use Rattle.pb_model.specs.Texts.{none_report, stopped_report}
 use Rattle.pb_task.specs.declared.parts.TaskParts.{TaskParts}
 use Rattle.pb_task.specs.Parts.{space_of}
 use Rattle.pb_estimate.specs.Estimates.{estimate_of}
 use Rattle.pb_check.specs.Judging.{checked}
 use Rattle.pb_check.specs.Kinds.{kind_of}
+use Rattle.pb_check.specs.declared.fault.Verdict.{Verdict}
+use Rattle.pb_check.specs.Shown.{IsAccepted}
 use Rattle.pb_command.specs.Meaning.{Reading, Refused, Read, Solve, Check, SolveMeaning, CheckMeaning}
-use Rattle.pbnf.specs.Asked.{saved_name, IsFaulty, IsSolve, IfSolve, IsCheck, IfCheck}
+use Rattle.pbnf.specs.Asked.{listed, saved_names}
+use Rattle.pbnf.specs.Calls.{Output}
 use Rattle.pbnf.specs.Loaded.{solve_task, check_task, OfTexts, OfCheckedTexts, RefusesTexts}
-use Rattle.pbnf.specs.Leases.{settings_of, StopsAtBudget}
-use Rattle.pbnf.specs.Claims.{Saved, Certifies, Solves, PrintsPlan, PrintsLeastCost, SavesPlan, Accepts, Rejects}
+use Rattle.pbnf.specs.Leases.{weight_asked}
+use Rattle.pbnf.specs.Claims.{Certifies, Solves, Accepts, Rejects}
 use Rattle.pbnf.specs.Answer.{Said, Says, Saves, IsSolved, IsUnsolvable, IsStopped, IsFound, IsChecked, OrRefused, AnswersReading}
-use Rattle.pbnf.specs.Run.{RefusesWords, IsOfVerdict, IsAnswered}
+use Rattle.pbnf.specs.Course.{Ran}
+use Rattle.pbnf.specs.Headline.{IsAnswer, AllOfOnePlan, PlanIsPlan, NoneIsCheaper, CertificateHolds, NoneMeansNone, CertificateOfNone, StopHasCause, AcceptedIsValid, RejectedIsFaulty, IsOfVerdict, CheckIsDecided, NamedPlanIsPlan, NamedNoneMeansNone, NamedVerdictHolds, WordsAreRefused, InputIsRefused, OutputsAreNamed, IsAnswered}
+use Rattle.pbnf.proofs.ByNames.{solved_by_names, none_by_names, accepted_by_names}
 
 module _ (texts : List (List ℕ)) (said : Said) where
+  abbrev pub Done : Ran
+  Done = record { texts = texts; said = said }
+
   -- ---- which statuses there are
 
-  abbrev pub IsKnown : Type 0
-  IsKnown = (said.status ≡ 0) ⊎ (said.status ≡ 1) ⊎ (said.status ≡ 2) ⊎ (said.status ≡ 3) ⊎ (said.status ≡ 64) ⊎ (said.status ≡ 65)
+  of_task : (solve : SolveMeaning) (task : Result TaskParts (List ℕ)) → OrRefused task (IsFound solve) said → IsAnswer said.status
+  of_task solve (Ok parts) (inl found) = inl found.0
+  of_task solve (Ok parts) (inr (inl none)) = inr (inl none.0)
+  of_task solve (Ok parts) (inr (inr stop)) = inr (inr (inl stop.0))
+  of_task solve (Err report) refused = inr (inr (inr (inr (inr refused.0))))
 
-  pub known : (reading : Reading) → AnswersReading reading texts said → IsKnown
+  of_certificate : (task : Result (TaskParts × List ℕ) (List ℕ)) → OrRefused task (λ t. IsChecked t.0 t.1) said → IsAnswer said.status
+  of_certificate (Ok task) (inl valid) = inl valid.0
+  of_certificate (Ok task) (inr faulty) = inr (inr (inr (inl faulty.0)))
+  of_certificate (Err report) refused = inr (inr (inr (inr (inr refused.0))))
+
+  pub known : (reading : Reading) → AnswersReading reading texts said → IsAnswer said.status
   known (Refused fault) answers = inr (inr (inr (inr (inl answers.0))))
-  known (Read (Solve solve)) answers = go (solve_task solve texts) answers
-    where
-      go : (task : Result TaskParts (List ℕ)) → OrRefused task (IsFound solve) said → IsKnown
-      go (Ok parts) (inl found) = inl found.0
-      go (Ok parts) (inr (inl none)) = inr (inl none.0)
-      go (Ok parts) (inr (inr stop)) = inr (inr (inl stop.0))
-      go (Err report) refused = inr (inr (inr (inr (inr refused.0))))
-  known (Read (Check check)) answers = go (check_task check texts) answers
-    where
-      go : (task : Result (TaskParts × List ℕ) (List ℕ)) → OrRefused task (λ t. IsChecked t.0 t.1) said → IsKnown
-      go (Ok task) (inl valid) = inl valid.0
-      go (Ok task) (inr faulty) = inr (inr (inr (inl faulty.0)))
-      go (Err report) refused = inr (inr (inr (inr (inr refused.0))))
+  known (Read (Solve solve)) answers = of_task solve (solve_task solve texts) answers
+  known (Read (Check check)) answers = of_certificate (check_task check texts) answers
 
   -- ---- of a search
 
-  pub of_solved : (P : SolveMeaning → TaskParts → Type 0) → ((solve : SolveMeaning) (parts : TaskParts) → IsSolved solve.certificate parts said → P solve parts)
-      → (reading : Reading) → AnswersReading reading texts said → said.status ≡ 0 → IfSolve reading (λ solve. OfTexts solve texts (P solve))
-  of_solved P f (Refused fault) answers zero = tt
-  of_solved P f (Read (Check check)) answers zero = tt
-  of_solved P f (Read (Solve solve)) answers zero = go (solve_task solve texts) refl answers
-    where
-      go : (task : Result TaskParts (List ℕ)) → solve_task solve texts ≡ task → OrRefused task (IsFound solve) said → OfTexts solve texts (P solve)
-      go (Ok parts) is (inl found) = (parts, is, f solve parts found)
-      go (Ok parts) is (inr (inl none)) = absurd (omega (arith, zero, none.0))
-      go (Ok parts) is (inr (inr stop)) = absurd (omega (arith, zero, stop.0))
-      go (Err report) is refused = absurd (omega (arith, zero, refused.0))
+  module _ (solve : SolveMeaning) (answers : AnswersReading (Read (Solve solve)) texts said) where
+    of_zero : (P : TaskParts → Type 0) → ((parts : TaskParts) → IsSolved solve.certificate parts (weight_asked solve) said → P parts) → said.status ≡ 0 → OfTexts solve texts P
+    of_zero P f zero = go (solve_task solve texts) refl answers
+      where
+        go : (task : Result TaskParts (List ℕ)) → solve_task solve texts ≡ task → OrRefused task (IsFound solve) said → OfTexts solve texts P
+        go (Ok parts) is (inl found) = (parts, is, f parts found)
+        go (Ok parts) is (inr (inl none)) = absurd (omega (arith, zero, none.0))
+        go (Ok parts) is (inr (inr stop)) = absurd (omega (arith, zero, stop.0))
+        go (Err report) is refused = absurd (omega (arith, zero, refused.0))
 
-  pub of_none : (P : SolveMeaning → TaskParts → Type 0) → ((solve : SolveMeaning) (parts : TaskParts) → IsUnsolvable solve.certificate parts said → P solve parts)
-      → (reading : Reading) → AnswersReading reading texts said → said.status ≡ 1 → IsSolve reading (λ solve. OfTexts solve texts (P solve))
-  of_none P f (Refused fault) answers one = absurd (omega (arith, one, answers.0))
-  of_none P f (Read (Check check)) answers one = go (check_task check texts) answers
-    where
-      go : {A : Type 0} → (task : Result (TaskParts × List ℕ) (List ℕ)) → OrRefused task (λ t. IsChecked t.0 t.1) said → A
-      go (Ok task) (inl valid) = absurd (omega (arith, one, valid.0))
-      go (Ok task) (inr faulty) = absurd (omega (arith, one, faulty.0))
-      go (Err report) refused = absurd (omega (arith, one, refused.0))
-  of_none P f (Read (Solve solve)) answers one = go (solve_task solve texts) refl answers
-    where
-      go : (task : Result TaskParts (List ℕ)) → solve_task solve texts ≡ task → OrRefused task (IsFound solve) said → OfTexts solve texts (P solve)
-      go (Ok parts) is (inl found) = absurd (omega (arith, one, found.0))
-      go (Ok parts) is (inr (inl none)) = (parts, is, f solve parts none)
-      go (Ok parts) is (inr (inr stop)) = absurd (omega (arith, one, stop.0))
-      go (Err report) is refused = absurd (omega (arith, one, refused.0))
+    of_one : (P : TaskParts → Type 0) → ((parts : TaskParts) → IsUnsolvable solve.certificate parts (weight_asked solve) said → P parts) → said.status ≡ 1 → OfTexts solve texts P
+    of_one P f one = go (solve_task solve texts) refl answers
+      where
+        go : (task : Result TaskParts (List ℕ)) → solve_task solve texts ≡ task → OrRefused task (IsFound solve) said → OfTexts solve texts P
+        go (Ok parts) is (inl found) = absurd (omega (arith, one, found.0))
+        go (Ok parts) is (inr (inl none)) = (parts, is, f parts none)
+        go (Ok parts) is (inr (inr stop)) = absurd (omega (arith, one, stop.0))
+        go (Err report) is refused = absurd (omega (arith, one, refused.0))
 
-  -- of the stop itself, whatever the task
-  pub of_stopped : (P : SolveMeaning → Type 0) → ((solve : SolveMeaning) (parts : TaskParts) → solve_task solve texts ≡ Ok parts → IsStopped solve parts said → P solve)
-      → (reading : Reading) → AnswersReading reading texts said → said.status ≡ 2 → IsSolve reading P
-  of_stopped P f (Refused fault) answers two = absurd (omega (arith, two, answers.0))
-  of_stopped P f (Read (Check check)) answers two = go (check_task check texts) answers
-    where
-      go : {A : Type 0} → (task : Result (TaskParts × List ℕ) (List ℕ)) → OrRefused task (λ t. IsChecked t.0 t.1) said → A
-      go (Ok task) (inl valid) = absurd (omega (arith, two, valid.0))
-      go (Ok task) (inr faulty) = absurd (omega (arith, two, faulty.0))
-      go (Err report) refused = absurd (omega (arith, two, refused.0))
-  of_stopped P f (Read (Solve solve)) answers two = go (solve_task solve texts) refl answers
-    where
-      go : (task : Result TaskParts (List ℕ)) → solve_task solve texts ≡ task → OrRefused task (IsFound solve) said → P solve
-      go (Ok parts) is (inl found) = absurd (omega (arith, two, found.0))
-      go (Ok parts) is (inr (inl none)) = absurd (omega (arith, two, none.0))
-      go (Ok parts) is (inr (inr stop)) = f solve parts is stop
-      go (Err report) is refused = absurd (omega (arith, two, refused.0))
+    of_two : (P : TaskParts → Type 0) → ((parts : TaskParts) → IsStopped solve parts said → P parts) → said.status ≡ 2 → OfTexts solve texts P
+    of_two P f two = go (solve_task solve texts) refl answers
+      where
+        go : (task : Result TaskParts (List ℕ)) → solve_task solve texts ≡ task → OrRefused task (IsFound solve) said → OfTexts solve texts P
+        go (Ok parts) is (inl found) = absurd (omega (arith, two, found.0))
+        go (Ok parts) is (inr (inl none)) = absurd (omega (arith, two, none.0))
+        go (Ok parts) is (inr (inr stop)) = (parts, is, f parts stop)
+        go (Err report) is refused = absurd (omega (arith, two, refused.0))
+
+    solve_not_three : said.status ≢ 3
+    solve_not_three three = go (solve_task solve texts) answers
+      where
+        go : (task : Result TaskParts (List ℕ)) → OrRefused task (IsFound solve) said → ⊥
+        go (Ok parts) (inl found) = omega (arith, three, found.0)
+        go (Ok parts) (inr (inl none)) = omega (arith, three, none.0)
+        go (Ok parts) (inr (inr stop)) = omega (arith, three, stop.0)
+        go (Err report) refused = omega (arith, three, refused.0)
+
+    solve_refuses : (report : List ℕ) → solve_task solve texts ≡ Err report → said.status ≡ 65
+    solve_refuses report is = (subst (λ (t : Result TaskParts (List ℕ)). OrRefused t (IsFound solve) said) is answers).0
+
+    solve_refused : said.status ≡ 65 → solve_task solve texts ≡ Err said.report
+    solve_refused e = go (solve_task solve texts) refl answers
+      where
+        go : (task : Result TaskParts (List ℕ)) → solve_task solve texts ≡ task → OrRefused task (IsFound solve) said → solve_task solve texts ≡ Err said.report
+        go (Ok parts) is (inl found) = absurd (omega (arith, e, found.0))
+        go (Ok parts) is (inr (inl none)) = absurd (omega (arith, e, none.0))
+        go (Ok parts) is (inr (inr stop)) = absurd (omega (arith, e, stop.0))
+        go (Err report) is refused = is ∙ ap (λ (t : List ℕ). Err t) (sym refused.1)
+
+    solve_not_words : said.status ≢ 64
+    solve_not_words e = go (solve_task solve texts) answers
+      where
+        go : (task : Result TaskParts (List ℕ)) → OrRefused task (IsFound solve) said → ⊥
+        go (Ok parts) (inl found) = omega (arith, e, found.0)
+        go (Ok parts) (inr (inl none)) = omega (arith, e, none.0)
+        go (Ok parts) (inr (inr stop)) = omega (arith, e, stop.0)
+        go (Err report) refused = omega (arith, e, refused.0)
+
+    -- ---- what is saved
+
+    certificate_named : (parts : TaskParts) (given : Option (List ℕ)) (plan : Option Plan) → Certifies (Saves said) given parts (weight_asked solve) plan → given ≡ solve.certificate
+        → OutputsAreNamed (Read (Solve solve)) Done
+    certificate_named parts None plan none is = ([], ap listed (sym is) ∙ ap (λ (os : List Output). map (λ (o : Output). o.name) os ++ []) (sym none))
+    certificate_named parts (Some name) plan holds is = ([], ap listed (sym is) ∙ ap (λ (os : List Output). map (λ (o : Output). o.name) os ++ []) (sym holds.3))
+
+    none_named : said.outputs ≡ [] → OutputsAreNamed (Read (Solve solve)) Done
+    none_named none = (saved_names (Read (Solve solve)), ap (λ (os : List Output). map (λ (o : Output). o.name) os ++ saved_names (Read (Solve solve))) (sym none))
+
+    solve_named : OutputsAreNamed (Read (Solve solve)) Done
+    solve_named = go (solve_task solve texts) answers
+      where
+        go : (task : Result TaskParts (List ℕ)) → OrRefused task (IsFound solve) said → OutputsAreNamed (Read (Solve solve)) Done
+        go (Ok parts) (inl found) = certificate_named parts solve.certificate (Some found.1.0) found.1.6 refl
+        go (Ok parts) (inr (inl none)) = certificate_named parts solve.certificate None none.3 refl
+        go (Ok parts) (inr (inr stop)) = none_named stop.2
+        go (Err report) refused = none_named refused.2
+
+    solve_saves_none : (said.status ≡ 0 → ⊥) → (said.status ≡ 1 → ⊥) → said.outputs ≡ []
+    solve_saves_none not_zero not_one = go (solve_task solve texts) answers
+      where
+        go : (task : Result TaskParts (List ℕ)) → OrRefused task (IsFound solve) said → said.outputs ≡ []
+        go (Ok parts) (inl found) = absurd (not_zero found.0)
+        go (Ok parts) (inr (inl none)) = absurd (not_one none.0)
+        go (Ok parts) (inr (inr stop)) = stop.2
+        go (Err report) refused = refused.2
+
+    pub solve_answered : IsAnswered (Read (Solve solve)) texts said.status
+    solve_answered parts is = go (subst (λ (t : Result TaskParts (List ℕ)). OrRefused t (IsFound solve) said) is answers)
+      where
+        go : IsFound solve parts said → (said.status ≡ 0) ⊎ ((said.status ≡ 1) ⊎ ((said.status ≡ 2) ⊎ (said.status ≡ 71)))
+        go (inl found) = inl found.0
+        go (inr (inl none)) = inr (inl none.0)
+        go (inr (inr stop)) = inr (inr (inl stop.0))
 
   -- ---- of a check
 
-  pub of_accepted : (P : CheckMeaning → TaskParts → List ℕ → Type 0) → ((check : CheckMeaning) (parts : TaskParts) (certificate : List ℕ) → Accepts (Says said) parts certificate → P check parts certificate)
-      → (reading : Reading) → AnswersReading reading texts said → said.status ≡ 0 → IfCheck reading (λ check. OfCheckedTexts check texts (P check))
-  of_accepted P f (Refused fault) answers zero = tt
-  of_accepted P f (Read (Solve solve)) answers zero = tt
-  of_accepted P f (Read (Check check)) answers zero = go (check_task check texts) refl answers
-    where
-      go : (task : Result (TaskParts × List ℕ) (List ℕ)) → check_task check texts ≡ task → OrRefused task (λ t. IsChecked t.0 t.1) said → OfCheckedTexts check texts (P check)
-      go (Ok (parts, certificate)) is (inl valid) = (parts, certificate, is, f check parts certificate valid.2)
-      go (Ok (parts, certificate)) is (inr faulty) = absurd (omega (arith, zero, faulty.0))
-      go (Err report) is refused = absurd (omega (arith, zero, refused.0))
+  module _ (check : CheckMeaning) (answers : AnswersReading (Read (Check check)) texts said) where
+    check_zero : (P : TaskParts → List ℕ → Type 0) → ((parts : TaskParts) (certificate : List ℕ) → Accepts (Says said) parts certificate → P parts certificate)
+        → said.status ≡ 0 → OfCheckedTexts check texts P
+    check_zero P f zero = go (check_task check texts) refl answers
+      where
+        go : (task : Result (TaskParts × List ℕ) (List ℕ)) → check_task check texts ≡ task → OrRefused task (λ t. IsChecked t.0 t.1) said → OfCheckedTexts check texts P
+        go (Ok (parts, certificate)) is (inl valid) = (parts, certificate, is, f parts certificate valid.2)
+        go (Ok (parts, certificate)) is (inr faulty) = absurd (omega (arith, zero, faulty.0))
+        go (Err report) is refused = absurd (omega (arith, zero, refused.0))
 
-  pub of_rejected : (P : CheckMeaning → TaskParts → List ℕ → Type 0) → ((check : CheckMeaning) (parts : TaskParts) (certificate : List ℕ) → Rejects (Says said) parts certificate → P check parts certificate)
-      → (reading : Reading) → AnswersReading reading texts said → said.status ≡ 3 → IsCheck reading (λ check. OfCheckedTexts check texts (P check))
-  of_rejected P f (Refused fault) answers three = absurd (omega (arith, three, answers.0))
-  of_rejected P f (Read (Solve solve)) answers three = go (solve_task solve texts) answers
-    where
-      go : {A : Type 0} → (task : Result TaskParts (List ℕ)) → OrRefused task (IsFound solve) said → A
-      go (Ok parts) (inl found) = absurd (omega (arith, three, found.0))
-      go (Ok parts) (inr (inl none)) = absurd (omega (arith, three, none.0))
-      go (Ok parts) (inr (inr stop)) = absurd (omega (arith, three, stop.0))
-      go (Err report) refused = absurd (omega (arith, three, refused.0))
-  of_rejected P f (Read (Check check)) answers three = go (check_task check texts) refl answers
-    where
-      go : (task : Result (TaskParts × List ℕ) (List ℕ)) → check_task check texts ≡ task → OrRefused task (λ t. IsChecked t.0 t.1) said → OfCheckedTexts check texts (P check)
-      go (Ok (parts, certificate)) is (inl valid) = absurd (omega (arith, three, valid.0))
-      go (Ok (parts, certificate)) is (inr faulty) = (parts, certificate, is, f check parts certificate faulty.2)
-      go (Err report) is refused = absurd (omega (arith, three, refused.0))
+    check_three : (P : TaskParts → List ℕ → Type 0) → ((parts : TaskParts) (certificate : List ℕ) → Rejects (Says said) parts certificate → P parts certificate)
+        → said.status ≡ 3 → OfCheckedTexts check texts P
+    check_three P f three = go (check_task check texts) refl answers
+      where
+        go : (task : Result (TaskParts × List ℕ) (List ℕ)) → check_task check texts ≡ task → OrRefused task (λ t. IsChecked t.0 t.1) said → OfCheckedTexts check texts P
+        go (Ok (parts, certificate)) is (inl valid) = absurd (omega (arith, three, valid.0))
+        go (Ok (parts, certificate)) is (inr faulty) = (parts, certificate, is, f parts certificate faulty.2)
+        go (Err report) is refused = absurd (omega (arith, three, refused.0))
 
-  -- what is answered of a certificate of a task
-  pub of_check : (check : CheckMeaning) (parts : TaskParts) (certificate : List ℕ) → AnswersReading (Read (Check check)) texts said → check_task check texts ≡ Ok (parts, certificate)
-      → IsChecked parts certificate said
-  of_check check parts certificate answers is = go (check_task check texts) is answers
-    where
-      go : (task : Result (TaskParts × List ℕ) (List ℕ)) → task ≡ Ok (parts, certificate) → OrRefused task (λ t. IsChecked t.0 t.1) said → IsChecked parts certificate said
-      go task is answer = subst (λ (t : Result (TaskParts × List ℕ) (List ℕ)). OrRefused t (λ t. IsChecked t.0 t.1) said) is answer
+    check_other : (n : ℕ) → n ≢ 0 → n ≢ 3 → n ≢ 65 → said.status ≢ n
+    check_other n not_zero not_three not_refused e = go (check_task check texts) answers
+      where
+        go : (task : Result (TaskParts × List ℕ) (List ℕ)) → OrRefused task (λ t. IsChecked t.0 t.1) said → ⊥
+        go (Ok task) (inl valid) = not_zero (sym e ∙ valid.0)
+        go (Ok task) (inr faulty) = not_three (sym e ∙ faulty.0)
+        go (Err report) refused = not_refused (sym e ∙ refused.0)
 
-  pub decides : (check : CheckMeaning) (parts : TaskParts) (certificate : List ℕ) → AnswersReading (Read (Check check)) texts said → check_task check texts ≡ Ok (parts, certificate)
-      → IsOfVerdict (checked (space_of parts) (estimate_of parts) (kind_of parts) certificate) said.status
-  decides check parts certificate answers is = go (of_check check parts certificate answers is)
-    where
-      go : IsChecked parts certificate said → IsOfVerdict (checked (space_of parts) (estimate_of parts) (kind_of parts) certificate) said.status
-      go (inl valid) = subst (λ v. IsOfVerdict v said.status) (sym valid.2.2) (inl valid.0)
-      go (inr faulty) = subst (λ v. IsOfVerdict v said.status) (sym faulty.2.2) (inl faulty.0)
+    of_checked : (parts : TaskParts) (certificate : List ℕ) → check_task check texts ≡ Ok (parts, certificate) → IsChecked parts certificate said
+    of_checked parts certificate is = subst (λ (t : Result (TaskParts × List ℕ) (List ℕ)). OrRefused t (λ t. IsChecked t.0 t.1) said) is answers
 
-  -- what is answered of a task that is to be solved
-  pub searched : (solve : SolveMeaning) (parts : TaskParts) → AnswersReading (Read (Solve solve)) texts said → solve_task solve texts ≡ Ok parts → IsAnswered said.status
-  searched solve parts answers is = go (subst (λ (t : Result TaskParts (List ℕ)). OrRefused t (IsFound solve) said) is answers)
+    check_refuses : (report : List ℕ) → check_task check texts ≡ Err report → said.status ≡ 65
+    check_refuses report is = (subst (λ (t : Result (TaskParts × List ℕ) (List ℕ)). OrRefused t (λ t. IsChecked t.0 t.1) said) is answers).0
+
+    check_refused : said.status ≡ 65 → check_task check texts ≡ Err said.report
+    check_refused e = go (check_task check texts) refl answers
+      where
+        go : (task : Result (TaskParts × List ℕ) (List ℕ)) → check_task check texts ≡ task → OrRefused task (λ t. IsChecked t.0 t.1) said → check_task check texts ≡ Err said.report
+        go (Ok task) is (inl valid) = absurd (omega (arith, e, valid.0))
+        go (Ok task) is (inr faulty) = absurd (omega (arith, e, faulty.0))
+        go (Err report) is refused = is ∙ ap (λ (t : List ℕ). Err t) (sym refused.1)
+
+    check_saves_none : said.outputs ≡ []
+    check_saves_none = go (check_task check texts) answers
+      where
+        go : (task : Result (TaskParts × List ℕ) (List ℕ)) → OrRefused task (λ t. IsChecked t.0 t.1) said → said.outputs ≡ []
+        go (Ok task) (inl valid) = valid.1
+        go (Ok task) (inr faulty) = faulty.1
+        go (Err report) refused = refused.2
+
+    pub check_answered : IsAnswered (Read (Check check)) texts said.status
+    check_answered parts certificate verdict is valid = go (of_checked parts certificate is)
+      where
+        go : IsChecked parts certificate said → (said.status ≡ 0) ⊎ (said.status ≡ 71)
+        go (inl accepted) = inl accepted.0
+        go (inr rejected) = absurd (rejected.2.3 verdict valid)
+
+  -- ---- the promises
+
+  pub all_of_one : (reading : Reading) → AnswersReading reading texts said → AllOfOnePlan reading Done
+  all_of_one (Refused fault) answers = tt
+  all_of_one (Read (Solve solve)) answers = of_zero solve answers (λ parts. Solves (Says said) (Saves said) solve.certificate parts (weight_asked solve)) (λ parts is. is.1)
+  all_of_one (Read (Check check)) answers = tt
+
+  pub plan_is_plan : (reading : Reading) → AnswersReading reading texts said → PlanIsPlan reading Done
+  plan_is_plan (Refused fault) answers = tt
+  plan_is_plan (Read (Solve solve)) answers = of_zero solve answers _ (λ parts is. (is.1.0, is.1.1, is.1.2, is.1.3, is.1.4))
+  plan_is_plan (Read (Check check)) answers = tt
+
+  pub none_is_cheaper : (reading : Reading) → AnswersReading reading texts said → NoneIsCheaper reading Done
+  none_is_cheaper (Refused fault) answers = tt
+  none_is_cheaper (Read (Solve solve)) answers = of_zero solve answers _ (λ parts is. is.2)
+  none_is_cheaper (Read (Check check)) answers = tt
+
+  pub certificate_holds : (reading : Reading) → AnswersReading reading texts said → CertificateHolds reading Done
+  certificate_holds (Refused fault) answers = tt
+  certificate_holds (Read (Solve solve)) answers = of_zero solve answers _ (λ parts is. is.3)
+  certificate_holds (Read (Check check)) answers = tt
+
+  report_of_none : (solve : SolveMeaning) → OfTexts solve texts (λ parts. Says said none_report) → Says said none_report
+  report_of_none solve h = h.2
+
+  pub none_means_none : (reading : Reading) → AnswersReading reading texts said → NoneMeansNone reading Done
+  none_means_none (Refused fault) answers = λ one. omega (arith, one, answers.0)
+  none_means_none (Read (Solve solve)) answers = λ one. (
+    report_of_none solve (of_one solve answers (λ parts. Says said none_report) (λ parts is. is.1) one),
+    of_one solve answers _ (λ parts is. is.2) one,
+  )
+  none_means_none (Read (Check check)) answers = check_other check answers 1 (λ e. omega (arith, e)) (λ e. omega (arith, e)) (λ e. omega (arith, e))
+
+  pub certificate_of_none : (reading : Reading) → AnswersReading reading texts said → CertificateOfNone reading Done
+  certificate_of_none (Refused fault) answers = tt
+  certificate_of_none (Read (Solve solve)) answers = of_one solve answers _ (λ parts is. is.3)
+  certificate_of_none (Read (Check check)) answers = tt
+
+  pub stop_has_cause : (reading : Reading) → AnswersReading reading texts said → StopHasCause reading Done
+  stop_has_cause (Refused fault) answers = λ two. omega (arith, two, answers.0)
+  stop_has_cause (Read (Solve solve)) answers = λ two. (
+    (of_two solve answers (λ parts. Says said (stopped_report solve.budget)) (λ parts is. is.1) two).2,
+    (of_two solve answers (λ parts. said.outputs ≡ []) (λ parts is. is.2) two).2,
+    of_two solve answers _ (λ parts is. (is.3, is.4)) two,
+  )
+  stop_has_cause (Read (Check check)) answers = check_other check answers 2 (λ e. omega (arith, e)) (λ e. omega (arith, e)) (λ e. omega (arith, e))
+
+  pub accepted_is_valid : (reading : Reading) → AnswersReading reading texts said → AcceptedIsValid reading Done
+  accepted_is_valid (Refused fault) answers = λ zero. omega (arith, zero, answers.0)
+  accepted_is_valid (Read (Solve solve)) answers = tt
+  accepted_is_valid (Read (Check check)) answers = check_zero check answers (Accepts (Says said)) (λ parts certificate is. is)
+
+  pub rejected_is_faulty : (reading : Reading) → AnswersReading reading texts said → RejectedIsFaulty reading Done
+  rejected_is_faulty (Refused fault) answers = λ three. omega (arith, three, answers.0)
+  rejected_is_faulty (Read (Solve solve)) answers = solve_not_three solve answers
+  rejected_is_faulty (Read (Check check)) answers = check_three check answers (Rejects (Says said)) (λ parts certificate is. is)
+
+  pub check_is_decided : (reading : Reading) → AnswersReading reading texts said → CheckIsDecided reading Done
+  check_is_decided (Refused fault) answers = tt
+  check_is_decided (Read (Solve solve)) answers = tt
+  check_is_decided (Read (Check check)) answers = λ parts certificate is. go parts certificate (of_checked check answers parts certificate is)
     where
-      go : IsFound solve parts said → IsAnswered said.status
-      go (inl found) = inl found.0
-      go (inr (inl none)) = inr (inl none.0)
-      go (inr (inr stop)) = inr (inr (inl stop.0))
+      go : (parts : TaskParts) (certificate : List ℕ) → IsChecked parts certificate said → IsOfVerdict (checked (space_of parts) (estimate_of parts) (kind_of parts) certificate) said.status
+      go parts certificate (inl valid) = subst (λ v. IsOfVerdict v said.status) (sym valid.2.2) (inl valid.0)
+      go parts certificate (inr faulty) = subst (λ v. IsOfVerdict v said.status) (sym faulty.2.2) (inl faulty.0)
+
+  -- ---- by names
+
+  pub named_plan_is_plan : (reading : Reading) → AnswersReading reading texts said → NamedPlanIsPlan reading Done
+  named_plan_is_plan (Refused fault) answers = tt
+  named_plan_is_plan (Read (Solve solve)) answers = λ zero.
+      solved_by_names texts (Says said) (Saves said) solve.certificate (weight_asked solve) solve (all_of_one (Read (Solve solve)) answers zero)
+  named_plan_is_plan (Read (Check check)) answers = tt
+
+  pub named_none_means_none : (reading : Reading) → AnswersReading reading texts said → NamedNoneMeansNone reading Done
+  named_none_means_none (Refused fault) answers = tt
+  named_none_means_none (Read (Solve solve)) answers = λ one. none_by_names texts solve (none_means_none (Read (Solve solve)) answers one).1
+  named_none_means_none (Read (Check check)) answers = tt
+
+  pub named_verdict_holds : (reading : Reading) → AnswersReading reading texts said → NamedVerdictHolds reading Done
+  named_verdict_holds (Refused fault) answers = tt
+  named_verdict_holds (Read (Solve solve)) answers = tt
+  named_verdict_holds (Read (Check check)) answers = λ zero. accepted_by_names texts (Says said) check (accepted_is_valid (Read (Check check)) answers zero)
 
   -- ---- refusals
 
-  pub words_say : (reading : Reading) → AnswersReading reading texts said → said.status ≡ 64 → RefusesWords reading (Says said)
-  words_say (Refused fault) answers e = (fault, said.report, refl, answers.1, refl)
-  words_say (Read (Solve solve)) answers e = go (solve_task solve texts) answers
-    where
-      go : {A : Type 0} → (task : Result TaskParts (List ℕ)) → OrRefused task (IsFound solve) said → A
-      go (Ok parts) (inl found) = absurd (omega (arith, e, found.0))
-      go (Ok parts) (inr (inl none)) = absurd (omega (arith, e, none.0))
-      go (Ok parts) (inr (inr stop)) = absurd (omega (arith, e, stop.0))
-      go (Err report) refused = absurd (omega (arith, e, refused.0))
-  words_say (Read (Check check)) answers e = go (check_task check texts) answers
-    where
-      go : {A : Type 0} → (task : Result (TaskParts × List ℕ) (List ℕ)) → OrRefused task (λ t. IsChecked t.0 t.1) said → A
-      go (Ok task) (inl valid) = absurd (omega (arith, e, valid.0))
-      go (Ok task) (inr faulty) = absurd (omega (arith, e, faulty.0))
-      go (Err report) refused = absurd (omega (arith, e, refused.0))
+  pub words_are_refused : (reading : Reading) → AnswersReading reading texts said → WordsAreRefused reading Done
+  words_are_refused (Refused fault) answers = inl answers
+  words_are_refused (Read (Solve solve)) answers = solve_not_words solve answers
+  words_are_refused (Read (Check check)) answers = check_other check answers 64 (λ e. omega (arith, e)) (λ e. omega (arith, e)) (λ e. omega (arith, e))
 
-  pub words_exact : (reading : Reading) → AnswersReading reading texts said → IsFaulty reading → (said.status ≡ 64) × Saves said None
-  words_exact (Refused fault) answers faulty = (answers.0, answers.2)
-  words_exact (Read meaning) answers faulty = absurd faulty
+  pub input_is_refused : (reading : Reading) → AnswersReading reading texts said → InputIsRefused reading Done
+  input_is_refused (Refused fault) answers = (λ e. omega (arith, e, answers.0), λ report refuses. absurd refuses)
+  input_is_refused (Read (Solve solve)) answers = (solve_refused solve answers, λ report refuses. inl (solve_refuses solve answers report refuses))
+  input_is_refused (Read (Check check)) answers = (check_refused check answers, λ report refuses. inl (check_refuses check answers report refuses))
 
-  pub input_says : (reading : Reading) → AnswersReading reading texts said → said.status ≡ 65 → RefusesTexts reading texts said.report
-  input_says (Refused fault) answers e = absurd (omega (arith, e, answers.0))
-  input_says (Read (Solve solve)) answers e = go (solve_task solve texts) refl answers
-    where
-      go : (task : Result TaskParts (List ℕ)) → solve_task solve texts ≡ task → OrRefused task (IsFound solve) said → solve_task solve texts ≡ Err said.report
-      go (Ok parts) is (inl found) = absurd (omega (arith, e, found.0))
-      go (Ok parts) is (inr (inl none)) = absurd (omega (arith, e, none.0))
-      go (Ok parts) is (inr (inr stop)) = absurd (omega (arith, e, stop.0))
-      go (Err report) is refused = is ∙ ap (λ (t : List ℕ). Err t) (sym refused.1)
-  input_says (Read (Check check)) answers e = go (check_task check texts) refl answers
-    where
-      go : (task : Result (TaskParts × List ℕ) (List ℕ)) → check_task check texts ≡ task → OrRefused task (λ t. IsChecked t.0 t.1) said → check_task check texts ≡ Err said.report
-      go (Ok task) is (inl valid) = absurd (omega (arith, e, valid.0))
-      go (Ok task) is (inr faulty) = absurd (omega (arith, e, faulty.0))
-      go (Err report) is refused = is ∙ ap (λ (t : List ℕ). Err t) (sym refused.1)
+  -- ---- what is saved
 
-  pub input_exact : (reading : Reading) (report : List ℕ) → AnswersReading reading texts said → RefusesTexts reading texts report → said.status ≡ 65
-  input_exact (Refused fault) report answers refuses = absurd refuses
-  input_exact (Read (Solve solve)) report answers refuses =
-      (subst (λ (t : Result TaskParts (List ℕ)). OrRefused t (IsFound solve) said) refuses answers).0
-  input_exact (Read (Check check)) report answers refuses =
-      (subst (λ (t : Result (TaskParts × List ℕ) (List ℕ)). OrRefused t (λ t. IsChecked t.0 t.1) said) refuses answers).0
+  pub outputs_are_named : (reading : Reading) → AnswersReading reading texts said → OutputsAreNamed reading Done
+  outputs_are_named (Refused fault) answers = ([], ap (λ (os : List Output). map (λ (o : Output). o.name) os ++ []) (sym answers.2))
+  outputs_are_named (Read (Solve solve)) answers = solve_named solve answers
+  outputs_are_named (Read (Check check)) answers = ([], ap (λ (os : List Output). map (λ (o : Output). o.name) os ++ []) (sym (check_saves_none check answers)))
 
-  -- ---- what is to be saved
+  pub nothing_to_save : (reading : Reading) → AnswersReading reading texts said → (said.status ≡ 0 → ⊥) → (said.status ≡ 1 → ⊥) → said.outputs ≡ []
+  nothing_to_save (Refused fault) answers not_zero not_one = answers.2
+  nothing_to_save (Read (Solve solve)) answers not_zero not_one = solve_saves_none solve answers not_zero not_one
+  nothing_to_save (Read (Check check)) answers not_zero not_one = check_saves_none check answers
 
-  pub none_saved : (reading : Reading) → AnswersReading reading texts said → (said.status ≡ 0 → ⊥) → (said.status ≡ 1 → ⊥) → Saves said None
-  none_saved (Refused fault) answers not_zero not_one = answers.2
-  none_saved (Read (Solve solve)) answers not_zero not_one = go (solve_task solve texts) answers
-    where
-      go : (task : Result TaskParts (List ℕ)) → OrRefused task (IsFound solve) said → Saves said None
-      go (Ok parts) (inl found) = absurd (not_zero found.0)
-      go (Ok parts) (inr (inl none)) = absurd (not_one none.0)
-      go (Ok parts) (inr (inr stop)) = stop.2
-      go (Err report) refused = refused.2
-  none_saved (Read (Check check)) answers not_zero not_one = go (check_task check texts) answers
-    where
-      go : (task : Result (TaskParts × List ℕ) (List ℕ)) → OrRefused task (λ t. IsChecked t.0 t.1) said → Saves said None
-      go (Ok task) (inl valid) = valid.1
-      go (Ok task) (inr faulty) = faulty.1
-      go (Err report) refused = refused.2
+  -- ---- completeness
 
-  same_file : (a b c d : List ℕ) → ◌≡◌ {A = Option Saved} (Some (a, b)) (Some (c, d)) → (a ≡ c) × (b ≡ d)
-  same_file a b c d e = (ap (λ o. first o) e, ap (λ o. second o) e)
-    where
-      first : Option Saved → List ℕ
-      first None = []
-      first (Some file) = file.0
+  pub answered : (reading : Reading) → AnswersReading reading texts said → IsAnswered reading texts said.status
+  answered (Refused fault) answers = inl answers.0
+  answered (Read (Solve solve)) answers = solve_answered solve answers
+  answered (Read (Check check)) answers = check_answered check answers
 
-      second : Option Saved → List ℕ
-      second None = []
-      second (Some file) = file.1
-
-  not_both : {A : Type 0} (name text : List ℕ) → Saves said None → Saves said (Some (name, text)) → A
-  not_both name text e f = let bad : ◌≡◌ {A = Option Saved} None (Some (name, text)) = sym e ∙ f in cc
-
-  -- what is to be saved is a certificate, under the name that is given for it
-  of_saved : (parts : TaskParts) (plan : Option Plan) (given : Option (List ℕ)) (name text : List ℕ) → Certifies (Saves said) given parts plan → Saves said (Some (name, text))
-      → (given ≡ Some name) × Certifies (λ saved. saved ≡ Some (name, text)) (Some name) parts plan
-  of_saved parts plan None name text none is = not_both name text none is
-  of_saved parts plan (Some at) name text (lines, valid, saves) is =
-      let same = same_file at _ name text (sym saves ∙ is) in
-      (ap (λ (t : List ℕ). Some t) same.0, (lines, valid, λ i. Some (name, same.1 i)))
-
-  -- a certificate of the task that is to be solved is to be saved
-  pub record SavesOne (name text : List ℕ) (solve : SolveMeaning) : Type 0 where
-    pub parts : TaskParts
-    pub plan : Option Plan
-    pub task : solve_task solve texts ≡ Ok parts
-    pub named : solve.certificate ≡ Some name
-    pub certifies : Certifies (λ saved. saved ≡ Some (name, text)) (Some name) parts plan
-
-  pub saves_one : (reading : Reading) (name text : List ℕ) → AnswersReading reading texts said → Saves said (Some (name, text)) → IsSolve reading (SavesOne name text)
-  saves_one (Refused fault) name text answers is = not_both name text answers.2 is
-  saves_one (Read (Solve solve)) name text answers is = go (solve_task solve texts) refl answers
-    where
-      go : (task : Result TaskParts (List ℕ)) → solve_task solve texts ≡ task → OrRefused task (IsFound solve) said → SavesOne name text solve
-      go (Ok parts) e (inl found) =
-          let one = of_saved parts (Some found.1.0) solve.certificate name text found.1.6 is in
-          record { parts = parts; plan = Some found.1.0; task = e; named = one.0; certifies = one.1 }
-      go (Ok parts) e (inr (inl none)) =
-          let one = of_saved parts None solve.certificate name text none.3 is in
-          record { parts = parts; plan = None; task = e; named = one.0; certifies = one.1 }
-      go (Ok parts) e (inr (inr stop)) = not_both name text stop.2 is
-      go (Err report) e refused = not_both name text refused.2 is
-  saves_one (Read (Check check)) name text answers is = go (check_task check texts) answers
-    where
-      go : {A : Type 0} → (task : Result (TaskParts × List ℕ) (List ℕ)) → OrRefused task (λ t. IsChecked t.0 t.1) said → A
-      go (Ok task) (inl valid) = not_both name text valid.1 is
-      go (Ok task) (inr faulty) = not_both name text faulty.1 is
-      go (Err report) refused = not_both name text refused.2 is
-
-  pub saved_under : (reading : Reading) (name text : List ℕ) → AnswersReading reading texts said → Saves said (Some (name, text)) → saved_name reading ≡ Some name
-  saved_under reading name text answers is = go reading (saves_one reading name text answers is)
-    where
-      go : (reading : Reading) → IsSolve reading (SavesOne name text) → saved_name reading ≡ Some name
-      go (Refused fault) one = absurd one
-      go (Read (Solve solve)) one = one.named
-      go (Read (Check check)) one = absurd one
-
-  -- ---- the clauses of what is answered of words and texts
-
-  module _ (reading : Reading) (answers : AnswersReading reading texts said) where
-    pub solved : said.status ≡ 0 → IfSolve reading (λ solve. OfTexts solve texts (Solves (Says said) (Saves said) solve.certificate))
-    solved = of_solved (λ solve. Solves (Says said) (Saves said) solve.certificate) (λ solve parts is. is.1) reading answers
-
-    pub plan : said.status ≡ 0 → IfSolve reading (λ solve. OfTexts solve texts (PrintsPlan (Says said)))
-    plan = of_solved (λ solve. PrintsPlan (Says said)) (λ solve parts is. (is.1.0, is.1.1, is.1.2, is.1.3, is.1.4)) reading answers
-
-    pub cheapest : said.status ≡ 0 → IfSolve reading (λ solve. OfTexts solve texts (PrintsLeastCost (Says said)))
-    cheapest = of_solved (λ solve. PrintsLeastCost (Says said)) (λ solve parts is. is.2) reading answers
-
-    pub certified : said.status ≡ 0 → IfSolve reading (λ solve. OfTexts solve texts (SavesPlan (Says said) (Saves said) solve.certificate))
-    certified = of_solved (λ solve. SavesPlan (Says said) (Saves said) solve.certificate) (λ solve parts is. is.3) reading answers
-
-    pub certified_none : said.status ≡ 1 → IsSolve reading (λ solve. OfTexts solve texts (λ parts. Certifies (Saves said) solve.certificate parts None))
-    certified_none = of_none (λ solve parts. Certifies (Saves said) solve.certificate parts None) (λ solve parts is. is.3) reading answers
-
-    pub no_plan : said.status ≡ 1 → IsSolve reading (λ solve. OfTexts solve texts (λ parts. HasNoPlan (space_of parts)))
-    no_plan = of_none (λ solve parts. HasNoPlan (space_of parts)) (λ solve parts is. is.2) reading answers
-
-    pub none_says : said.status ≡ 1 → Says said none_report
-    none_says one = go reading (of_none (λ solve parts. Says said none_report) (λ solve parts is. is.1) reading answers one)
-      where
-        go : (reading : Reading) → IsSolve reading (λ solve. OfTexts solve texts (λ parts. Says said none_report)) → Says said none_report
-        go (Refused fault) h = absurd h
-        go (Read (Solve solve)) (parts, is, h) = h
-        go (Read (Check check)) h = absurd h
-
-    pub none : said.status ≡ 1 → Says said none_report × IsSolve reading (λ solve. OfTexts solve texts (λ parts. HasNoPlan (space_of parts)))
-    none one = (none_says one, no_plan one)
-
-    pub stopped : said.status ≡ 2 → IsSolve reading (λ solve. Says said (stopped_report solve.budget) × Saves said None
-        × OfTexts solve texts (λ parts. StopsAtBudget parts (settings_of solve)))
-    stopped = of_stopped (λ solve. Says said (stopped_report solve.budget) × Saves said None
-        × OfTexts solve texts (λ parts. StopsAtBudget parts (settings_of solve)))
-        (λ solve parts is stop. (stop.1, stop.2, (parts, is, stop.3))) reading answers
-
-    pub accepted : said.status ≡ 0 → IfCheck reading (λ check. OfCheckedTexts check texts (Accepts (Says said)))
-    accepted = of_accepted (λ check. Accepts (Says said)) (λ check parts certificate is. is) reading answers
-
-    pub rejected : said.status ≡ 3 → IsCheck reading (λ check. OfCheckedTexts check texts (Rejects (Says said)))
-    rejected = of_rejected (λ check. Rejects (Says said)) (λ check parts certificate is. is) reading answers
+-- want of memory is an answer to all
+pub memory_answers : (reading : Reading) (texts : List (List ℕ)) (n : ℕ) → n ≡ 71 → IsAnswered reading texts n
+memory_answers (Refused fault) texts n is = inr is
+memory_answers (Read (Solve solve)) texts n is = λ parts task. inr (inr (inr is))
+memory_answers (Read (Check check)) texts n is = λ parts certificate verdict task valid. inr is

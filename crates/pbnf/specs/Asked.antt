@@ -1,5 +1,5 @@
 -- What a command line asks for, and which files it names. A further kind of task is one case more of `input_files`.
-use Rattle.std.specs.Prelude.{ℕ, List, [], ◌∷◌, Option, None, ⊤}
+use Rattle.std.specs.Prelude.{ℕ, List, [], ◌∷◌, Option, None, Some, ⊤}
 use Rattle.pb_command.specs.Values.{InputNames, Grid, Tiles, Strips}
 use Rattle.pb_command.specs.Meaning.{Reading, Refused, Read, Solve, Check, SolveMeaning, CheckMeaning}
 
@@ -19,6 +19,11 @@ pub record Wanted : Type 0 where
 abbrev pub wanted : (most : ℕ) → (name : List ℕ) → Wanted
 wanted most name = record { name = name; most = most }
 
+-- a name, if there is one
+abbrev pub listed : Option (List ℕ) → List (List ℕ)
+listed None = []
+listed (Some name) = name ∷ []
+
 -- the files of a task, in order of the words
 abbrev pub input_files : InputNames → List Wanted
 input_files (Grid names) = wanted longest_input names.map ∷ wanted longest_input names.scenario ∷ []
@@ -31,11 +36,16 @@ files_of (Refused fault) = []
 files_of (Read (Solve solve)) = input_files solve.input
 files_of (Read (Check check)) = wanted longest_certificate check.certificate ∷ input_files check.input
 
--- the name under which a certificate is to be saved, if any
-abbrev pub saved_name : Reading → Option (List ℕ)
-saved_name (Refused fault) = None
-saved_name (Read (Solve solve)) = solve.certificate
-saved_name (Read (Check check)) = None
+-- the names under which a command line asks to save something, in the order in which that is saved
+abbrev pub saved_names : Reading → List (List ℕ)
+saved_names (Refused fault) = []
+saved_names (Read (Solve solve)) = listed solve.certificate
+saved_names (Read (Check check)) = []
+
+-- each of these files can be loaded
+abbrev pub CanLoad : (can_load : List ℕ → Type 0) → List Wanted → Type 0
+CanLoad can_load [] = ⊤
+CanLoad can_load (file ∷ files) = can_load file.name × CanLoad can_load files
 
 -- ---- which command it is
 
@@ -43,27 +53,3 @@ saved_name (Read (Check check)) = None
 abbrev pub IsFaulty : Reading → Type 0
 IsFaulty (Refused fault) = ⊤
 IsFaulty (Read meaning) = ⊥
-
--- the words ask to solve, and P holds of what they ask
-abbrev pub IsSolve : Reading → (P : SolveMeaning → Type 0) → Type 0
-IsSolve (Refused fault) P = ⊥
-IsSolve (Read (Solve solve)) P = P solve
-IsSolve (Read (Check check)) P = ⊥
-
--- where the words ask to solve, P holds of what they ask
-abbrev pub IfSolve : Reading → (P : SolveMeaning → Type 0) → Type 0
-IfSolve (Refused fault) P = ⊤
-IfSolve (Read (Solve solve)) P = P solve
-IfSolve (Read (Check check)) P = ⊤
-
--- the words ask to check a certificate, and P holds of what they ask
-abbrev pub IsCheck : Reading → (P : CheckMeaning → Type 0) → Type 0
-IsCheck (Refused fault) P = ⊥
-IsCheck (Read (Solve solve)) P = ⊥
-IsCheck (Read (Check check)) P = P check
-
--- where the words ask to check a certificate, P holds of what they ask
-abbrev pub IfCheck : Reading → (P : CheckMeaning → Type 0) → Type 0
-IfCheck (Refused fault) P = ⊤
-IfCheck (Read (Solve solve)) P = ⊤
-IfCheck (Read (Check check)) P = P check

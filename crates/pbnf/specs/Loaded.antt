@@ -20,7 +20,7 @@ use Rattle.pb_report.specs.Texts.{input_text, tiles_text, syntax_text, strips_te
 use Rattle.pb_command.specs.Values.{InputNames, Grid, Tiles, Strips}
 use Rattle.pb_command.specs.Meaning.{Reading, Refused, Read, Solve, Check, SolveMeaning, CheckMeaning}
 use Rattle.pb_outside.specs.Outside.{Files}
-use Rattle.pbnf.specs.Asked.{Wanted, files_of}
+use Rattle.pbnf.specs.Asked.{Wanted}
 
 -- ---- loading
 
@@ -111,17 +111,6 @@ OfTexts solve texts P = (parts : TaskParts) × (solve_task solve texts ≡ Ok pa
 abbrev pub OfCheckedTexts : CheckMeaning → (texts : List (List ℕ)) → (P : TaskParts → List ℕ → Type 0) → Type 0
 OfCheckedTexts check texts P = (parts : TaskParts) × (certificate : List ℕ) × (check_task check texts ≡ Ok (parts, certificate)) × P parts certificate
 
--- ---- of the files that a shelf tells
-
--- the files spell the task that is to be solved
-abbrev pub SpellTask : Files → SolveMeaning → TaskParts → Type 0
-SpellTask told solve parts = (texts : List (List ℕ)) × (loads_of told (files_of (Read (Solve solve))) ≡ Some texts) × (solve_task solve texts ≡ Ok parts)
-
--- the files spell the task, and the one that is to be checked is this certificate
-abbrev pub SpellChecked : Files → CheckMeaning → TaskParts → (certificate : List ℕ) → Type 0
-SpellChecked told check parts certificate =
-    (texts : List (List ℕ)) × (loads_of told (files_of (Read (Check check))) ≡ Some texts) × (check_task check texts ≡ Ok (parts, certificate))
-
 abbrev pub IsErr : {A : Type 0} → Result A (List ℕ) → (report : List ℕ) → Type 0
 IsErr result report = result ≡ Err report
 
@@ -130,17 +119,3 @@ abbrev pub RefusesTexts : Reading → (texts : List (List ℕ)) → (report : Li
 RefusesTexts (Refused fault) texts report = ⊥
 RefusesTexts (Read (Solve solve)) texts report = IsErr (solve_task solve texts) report
 RefusesTexts (Read (Check check)) texts report = IsErr (check_task check texts) report
-
--- the files that the words name are refused with this report
-abbrev pub RefusesFiles : Reading → Files → (report : List ℕ) → Type 0
-RefusesFiles reading told report = (texts : List (List ℕ)) × (loads_of told (files_of reading) ≡ Some texts) × RefusesTexts reading texts report
-
--- ---- where the shelf tells its files, P holds
-
--- of the task that the files spell
-abbrev pub OfTask : Option Files → SolveMeaning → (P : TaskParts → Type 0) → Type 0
-OfTask files solve P = IfSome files (λ told. (parts : TaskParts) × SpellTask told solve parts × P parts)
-
--- of the task that the files spell and the certificate that is to be checked
-abbrev pub OfChecked : Option Files → CheckMeaning → (P : TaskParts → List ℕ → Type 0) → Type 0
-OfChecked files check P = IfSome files (λ told. (parts : TaskParts) × (certificate : List ℕ) × SpellChecked told check parts certificate × P parts certificate)

@@ -1,6 +1,8 @@
 -- What is claimed of a STRIPS task by names: of the domain and the problem that the texts spell, where a state is a set of facts and an action is one
 -- of the domain's with objects. Neither ground atoms nor bits occur in these claims.
-use Rattle.std.specs.Prelude.{◌≡◌, ℕ, ◌+◌, ◌≤◌, ⊤, Option, None, Some, IfSome, List, length, map, slice_get, Ok}
+use Rattle.std.specs.Prelude.{◌≡◌, ℕ, ◌+◌, ◌*◌, ◌≤◌, ⊤, Option, None, Some, List, length, map, slice_get, Ok}
+use Rattle.pb_model.specs.Weight.{Weight}
+use Rattle.pb_model.specs.Plan.{IsBound}
 use Rattle.pb_model.specs.Texts.{plan_report}
 use Rattle.pb_task.specs.declared.parts.TaskParts.{TaskParts}
 use Rattle.pb_task.specs.Parts.{space_of, action_name}
@@ -13,10 +15,7 @@ use Rattle.pb_strips.specs.Naming.{AreTellingNames}
 use Rattle.pb_check.specs.declared.fault.Verdict.{Verdict}
 use Rattle.pb_check.specs.declared.fault.Verdict.TheVariants.{Bounded, Unsolvable}
 use Rattle.pb_report.specs.Texts.{verdict_text}
-use Rattle.pb_outside.specs.Outside.{Files}
 use Rattle.pb_command.specs.Values.{InputNames, Grid, Tiles, Strips}
-use Rattle.pbnf.specs.Asked.{Wanted}
-use Rattle.pbnf.specs.Loaded.{loads_of}
 
 -- ---- what a plan's text tells
 
@@ -39,30 +38,38 @@ OfTrees (Tiles board) first texts P = ⊤
 OfTrees (Strips names) first texts P =
     (domain : Domain) × (problem : Problem) × SpellTrees (slice_get texts first) (slice_get texts (first + 1)) domain problem × P domain problem
 
--- the same of the files, where the shelf tells them
-abbrev pub OfTreeFiles : Option Files → List Wanted → InputNames → (first : ℕ) → (P : Domain → Problem → Type 0) → Type 0
-OfTreeFiles files wanted input first P = IfSome files (λ told. (texts : List (List ℕ)) × (loads_of told wanted ≡ Some texts) × OfTrees input first texts P)
-
 -- ---- plans
 
--- no plan has fewer actions than this; each costs 1
-abbrev pub NoneShorter : Domain → Problem → (count : ℕ) → Type 0
-NoneShorter domain problem count = (others : List NamedAction) → IsPlan domain problem others → count ≤ length others
+-- what the actions cost together: each costs 1
+abbrev pub named_cost : Domain → List NamedAction → ℕ
+named_cost domain actions = length actions
+
+-- no plan costs less than this
+abbrev pub NoneBelow : Domain → Problem → (bound : ℕ) → Type 0
+NoneBelow domain problem bound = (others : List NamedAction) → IsPlan domain problem others → bound ≤ named_cost domain others
+
+-- no plan costs less than this cost divided by the weight
+abbrev pub NoneCheaperByNames : Domain → Problem → Weight → (cost : ℕ) → Type 0
+NoneCheaperByNames domain problem weight cost =
+    (others : List NamedAction) → IsPlan domain problem others → weight.den * cost ≤ weight.num * named_cost domain others
 
 abbrev pub HasNoNamedPlan : Domain → Problem → Type 0
 HasNoNamedPlan domain problem = (actions : List NamedAction) → IsPlan domain problem actions → ⊥
 
--- A plan is printed by the names of its actions and their objects, as `(name object ..)` each; its cost and its bound are the number of its actions, and no plan has fewer.
-abbrev pub PrintsNamedPlan : (says : List ℕ → Type 0) → Domain → Problem → Type 0
-PrintsNamedPlan says domain problem =
-    (actions : List NamedAction) × says (plan_report (map (action_bytes domain) actions) (length actions) (length actions)) × IsPlan domain problem actions
-    × NoneShorter domain problem (length actions)
+-- A plan is printed by the names of its actions and their objects, as `(name object ..)` each, with its cost and bound, and no plan costs
+-- less than its cost divided by the weight.
+abbrev pub PrintsNamedPlan : (says : List ℕ → Type 0) → Weight → Domain → Problem → Type 0
+PrintsNamedPlan says weight domain problem =
+    (actions : List NamedAction) × (bound : ℕ) × says (plan_report (map (action_bytes domain) actions) (named_cost domain actions) bound)
+    × IsPlan domain problem actions × IsBound weight (named_cost domain actions) bound
+    × NoneCheaperByNames domain problem weight (named_cost domain actions)
 
 -- ---- verdicts
 
--- what an accepted certificate shows: some plan has as many actions as it costs, and none has fewer than the bound; or there is none
+-- what an accepted certificate shows: some plan has its cost, and none costs less than the bound; or there is none
 abbrev pub NamedVerdict : Domain → Problem → Verdict → Type 0
-NamedVerdict domain problem (Bounded cost bound) = ((actions : List NamedAction) × IsPlan domain problem actions × (length actions ≡ cost)) × NoneShorter domain problem bound
+NamedVerdict domain problem (Bounded cost bound) =
+    ((actions : List NamedAction) × IsPlan domain problem actions × (named_cost domain actions ≡ cost)) × NoneBelow domain problem bound
 NamedVerdict domain problem Unsolvable = HasNoNamedPlan domain problem
 
 abbrev pub AcceptsNamed : (says : List ℕ → Type 0) → Domain → Problem → Type 0

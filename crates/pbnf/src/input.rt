@@ -1,4 +1,4 @@
-ghost use Rattle.std.specs.Prelude.{◌≡◌, ◌≤◌, Err, IfOk, option_map};
+ghost use Rattle.std.specs.Prelude.{◌≡◌, ◌≤◌, Err, Some, IfOk, option_map};
 ghost use Rattle.pb_command.specs.Causes.{input_meant};
 ghost use Rattle.pb_pddl.specs.Words.{DomainHasWords};
 ghost use Rattle.pb_pddl.specs.Readings.{problem_reading};
@@ -140,17 +140,25 @@ fn strips_of(alloc: Global, domain: &Domain, text: &[u8]) -> Result<Task, NoTask
     }
 }
 
+// Reads the texts of a domain and a problem, and grounds their task.
+fn read_strips(alloc: Global, domain: &[u8], problem: &[u8]) -> Result<Task, NoTask>
+    ensures task { GivesTask result (strips_task (Some domain.now) (Some problem.now)) }
+    ensures names { IfOk result NamesTell }
+{
+    match read_domain(alloc, domain) {
+        Ok(domain) => strips_of(alloc, &domain, problem),
+        Err(SyntaxError::Memory) => Err(NoTask::Memory),
+        Err(error) => Err(refused_text(alloc, File::Domain, error)),
+    }
+}
+
 // The task of a domain and a problem.
 fn strips(alloc: Global, domain: Option<&[u8]>, problem: Option<&[u8]>) -> Result<Task, NoTask>
     ensures task { GivesTask result (strips_task (option_map (λ t. t.now) domain.entry) (option_map (λ t. t.now) problem.entry)) }
     ensures names { IfOk result NamesTell }
 {
     match (domain, problem) {
-        (Some(domain), Some(problem)) => match read_domain(alloc, domain) {
-            Ok(domain) => strips_of(alloc, &domain, problem),
-            Err(SyntaxError::Memory) => Err(NoTask::Memory),
-            Err(error) => Err(refused_text(alloc, File::Domain, error)),
-        },
+        (Some(domain), Some(problem)) => read_strips(alloc, domain, problem),
         _ => Err(too_long(alloc)),
     }
 }

@@ -5,18 +5,20 @@
 #![tactic(auto)]
 
 mod answer;
-mod checking;
-mod ending;
+mod check;
 mod files;
 mod input;
-mod leases;
-mod loading;
-mod searching;
+mod lease_search;
+mod load;
+mod output;
+mod solve;
 mod start;
+mod status;
 mod texts;
 mod top;
 
 use crate::start::{unread, words_of};
+use crate::status::Status;
 use crate::top::run;
 use pb_outside::{FileShelf, OpenGate, OutSink};
 use std::alloc::AllocError;
@@ -31,7 +33,7 @@ fn main(rt: HostRuntime) -> ExitCode {
                 let mut shelf = FileShelf::new(&rt);
                 run(&rt, rt.alloc(), &words, &mut shelf, &mut out, &OpenGate)
             }
-            Err(AllocError) => 71,
+            Err(AllocError) => Status::OutOfMemory.number(),
         },
         Err(error) => unread(error, &mut out),
     };

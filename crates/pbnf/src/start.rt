@@ -1,10 +1,11 @@
-ghost use Rattle.std.specs.Prelude.{◌≡◌, ◌≢◌, ◌⊎◌, IfOk, codes, drop};
+ghost use Rattle.std.specs.Prelude.{◌≡◌, ◌≢◌, ◌⊎◌, ◌++◌, ◌∷◌, [], IfOk, codes, drop};
 ghost use Rattle.std.specs.IoError.{error_kind};
 ghost use Rattle.std.specs.Vec.Iter.{into_iter_items};
 ghost use Rattle.pb_model.specs.Texts.{line};
-ghost use Rattle.pb_outside.specs.Outside.{IfTold, AppendsPart, Rose};
-ghost use Rattle.pbnf.specs.Run.{Prints, PrintsNothing};
+ghost use Rattle.pb_outside.specs.Outside.{Rose};
+ghost use Rattle.pb_outside.specs.Calls.{Put, Notes, NotesPutFailed};
 
+use crate::status::Status;
 use pb_outside::Sink;
 use std::alloc::{AllocError, Global};
 use std::env;
@@ -26,19 +27,20 @@ pub fn words_of(alloc: Global, args: env::Args) -> Result<Vec<String>, AllocErro
 // What is printed where a word isn't UTF-8.
 const NOT_UTF8: &[u8] = b"error: invalid UTF-8 was detected in one or more arguments\n";
 
-// The status where the words couldn't be read: want of memory, or a word that isn't UTF-8, which is a faulty command line.
+// The status where the words couldn't be read: want of memory, or a word that isn't UTF-8, which is a faulty command
+// line.
 pub fn unread<K: Sink>(error: io::Error, out: &mut K) -> u8
-    ensures memory { result ≡ 71 → (error_kind error ≡ ErrorKind.OutOfMemory) × PrintsNothing (K.written out.old) (K.written out.new) }
-    ensures words { result ≡ 64 → (error_kind error ≢ ErrorKind.OutOfMemory) × Prints (K.written out.old) (K.written out.new) (line (codes "error: invalid UTF-8 was detected in one or more arguments")) }
+    ensures memory { result ≡ 71 → (error_kind error ≡ ErrorKind.OutOfMemory) × (K.calls out.new ≡ K.calls out.old) }
+    ensures words { result ≡ 64 → (error_kind error ≢ ErrorKind.OutOfMemory) × Notes (K.calls out.old) (K.calls out.new) (Put (line (codes "error: invalid UTF-8 was detected in one or more arguments"))) }
     ensures sink_fault { result ≡ 74 → (error_kind error ≢ ErrorKind.OutOfMemory) × Rose (K.faults out.old) (K.faults out.new) }
-    ensures sink_left { result ≡ 74 → IfTold (K.written out.old) (K.written out.new) (λ before after. AppendsPart before after (line (codes "error: invalid UTF-8 was detected in one or more arguments"))) }
+    ensures sink_left { result ≡ 74 → NotesPutFailed (K.calls out.old) (K.calls out.new) (K.written out.old) (K.written out.new) (line (codes "error: invalid UTF-8 was detected in one or more arguments")) }
     ensures statuses { (result ≡ 71) ⊎ (result ≡ 64) ⊎ (result ≡ 74) }
 {
     match error.kind() {
-        ErrorKind::OutOfMemory => 71,
+        ErrorKind::OutOfMemory => Status::OutOfMemory.number(),
         _ => match out.put(NOT_UTF8) {
-            Ok(()) => 64,
-            Err(_) => 74,
+            Ok(()) => Status::WordsRefused.number(),
+            Err(_) => Status::SinkFailed.number(),
         },
     }
 }

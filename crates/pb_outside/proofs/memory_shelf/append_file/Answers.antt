@@ -22,3 +22,8 @@ returns-in-None-clause-done c = rw (absent _ _ (sym c.index_of.ensures ∙ c.in-
 
 pub returns-in-None-clause-here : goal.returns-in-None-clause-here
 returns-in-None-clause-here c = rw (absent _ _ (sym c.index_of.ensures ∙ c.in-None.is)) refl
+
+pub returns-in-Some-clause-part : goal.returns-in-Some-clause-part
+returns-in-Some-clause-part c =
+    let change = changed c.args.places.now c.args.name.now c.in-Some.i c.index-places-i.result c.append.new.self (sym c.index_of.ensures ∙ c.in-Some.is) (ap (λ (p : PlaceView). p.name) c.append.ensures.after) in
+    rw (change.was, change.here) c.append.ensures.part

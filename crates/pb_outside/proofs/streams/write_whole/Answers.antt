@@ -8,9 +8,9 @@ pub turns-preserved : goal.turns-preserved
 turns-preserved g c =
     let P : List ℕ → Type 0 = λ bs. Appends (g.W.Write.contents c.args.file.now) (g.W.Write.contents c.write_some.new.file) bs in
     record {
-      within = next_part_within c.args.bytes.now c.turns.done c.in_ok-count.count c.turns.invariant.within c.in_ok-count.ensures.within;
-      written = subst P (next_part c.args.bytes.now c.turns.done c.in_ok-count.count c.in_ok-count.ensures.within)
+      within = next_part_within c.args.bytes.now c.turns.done c.in-Ok.count c.turns.invariant.within c.in-Ok.ensures.within;
+      written = subst P (next_part c.args.bytes.now c.turns.done c.in-Ok.count c.in-Ok.ensures.within)
           (appends_then (g.W.Write.contents c.args.file.now) (g.W.Write.contents c.turns.file) (g.W.Write.contents c.write_some.new.file)
-          (take c.turns.done c.args.bytes.now) (take c.in_ok-count.count (take (length c.args.bytes.now - c.turns.done) (drop c.turns.done c.args.bytes.now)))
-          c.turns.invariant.written c.in_ok-count.ensures.bytes);
+          (take c.turns.done c.args.bytes.now) (take c.in-Ok.count (take (length c.args.bytes.now - c.turns.done) (drop c.turns.done c.args.bytes.now)))
+          c.turns.invariant.written c.in-Ok.ensures.bytes);
     }

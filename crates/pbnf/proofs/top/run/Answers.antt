@@ -1,124 +1,109 @@
 -- The clauses of `run`.
-use Rattle.std.proofs.Common.{◌≡◌, ◌⊎◌, ℕ, map, string_bytes, Global, inl, inr, refl}
+use Rattle.std.proofs.Common.{◌≡◌, ◌⊎◌, ◌↔◌, ◌∙◌, ℕ, List, [], IsTrue, map, string_bytes, Global, refl, sym, subst}
+use Rattle.pb_outside.specs.Outside.{IfTold, KeepsAll}
 use Rattle.pb_command.specs.Meaning.{reading_of_words}
-use Rattle.pbnf.specs.Answer.{said_of, file_of}
-use Rattle.pbnf.specs.Run.{IsBroken}
-use Rattle.pbnf.proofs.Ended.{saved_after, part_after, solved, named_plan, named_none, named_accepted, plan, cheapest, certified, certified_none, none as no_plan, none_text, stopped, stopped_text, stop_saves_nothing, accepted, rejected, words_say, words_exact, faulty_saves, input, input_answers, check_exact, statuses, not_broken, unnamed_kept, unnamed_part, shelf_left, complete, complete_check, check_broken, input_broken, no_certificate}
+use Rattle.pbnf.specs.Asked.{files_of}
+use Rattle.pbnf.specs.Statuses.{number_of}
+use Rattle.pbnf.specs.Calls.{loaded_texts, outputs_in, put_bytes, have_failed}
+use Rattle.pbnf.specs.Loaded.{AreLoaded}
+use Rattle.pbnf.specs.Contents.{SavesIn, LeavesPart}
+use Rattle.pbnf.specs.Headline.{IsAnswer, IsBroken, AllOfOnePlan, PlanIsPlan, NoneIsCheaper, CertificateHolds, NoneMeansNone, CertificateOfNone, StopHasCause, AcceptedIsValid, RejectedIsFaulty, CheckIsDecided, NamedPlanIsPlan, NamedNoneMeansNone, NamedVerdictHolds, WordsAreRefused, InputIsRefused, OutputsAreNamed, IsComplete}
+use Rattle.pbnf.proofs.Doing as doing
 use Rattle.pbnf.proofs.top.run.Goals as goal
 
-pub returns-in-Done-clause-solved : goal.returns-in-Done-clause-solved
-returns-in-Done-clause-solved g c = λ e. solved (reading_of_words (map (string_bytes {Z = Global}) c.args.words.now)) (g.H.Shelf.files c.args.shelf.now) (g.H.Shelf.files c.hand_out.new.shelf) (g.K.Sink.written c.args.out.now) (g.K.Sink.written c.hand_out.new.out) (said_of c.in-Ok.answer) c.in-Ok.ensures.answers e (c.hand_out.ensures.done c.in-Done.is) (saved_after (g.H.Shelf.files c.args.shelf.now) (g.H.Shelf.files c.decide.new.shelf) (g.H.Shelf.files c.hand_out.new.shelf) (said_of c.in-Ok.answer).saved c.in-Ok.ensures.same (c.hand_out.ensures.saved c.in-Done.is))
+pub returns-clause-calls : goal.returns-clause-calls
+returns-clause-calls g c = doing.does_since (reading_of_words (map (string_bytes {Z = Global}) c.args.words.now)) (number_of c.carry_out-status.result) (g.H.Shelf.files c.args.shelf.now) (g.H.Shelf.files c.carry_out-status.new.shelf) (g.H.Shelf.calls c.args.shelf.now) (g.H.Shelf.calls c.carry_out-status.new.shelf) (g.K.Sink.calls c.args.out.now) (g.K.Sink.calls c.carry_out-status.new.out) c.carry_out-status.ensures.goes c.number.result c.number.ensures
 
-pub returns-in-Done-clause-plan : goal.returns-in-Done-clause-plan
-returns-in-Done-clause-plan g c = λ e. plan (reading_of_words (map (string_bytes {Z = Global}) c.args.words.now)) (g.H.Shelf.files c.args.shelf.now) (g.H.Shelf.files c.hand_out.new.shelf) (g.K.Sink.written c.args.out.now) (g.K.Sink.written c.hand_out.new.out) (said_of c.in-Ok.answer) c.in-Ok.ensures.answers e (c.hand_out.ensures.done c.in-Done.is)
+pub returns-clause-solved : goal.returns-clause-solved
+returns-clause-solved g c = doing.promised (reading_of_words (map (string_bytes {Z = Global}) c.args.words.now)) (number_of c.carry_out-status.result) (g.H.Shelf.files c.args.shelf.now) (g.H.Shelf.files c.carry_out-status.new.shelf) (g.H.Shelf.calls c.args.shelf.now) (g.H.Shelf.calls c.carry_out-status.new.shelf) (g.K.Sink.calls c.args.out.now) (g.K.Sink.calls c.carry_out-status.new.out) c.carry_out-status.ensures.goes AllOfOnePlan (doing.all_of_one (reading_of_words (map (string_bytes {Z = Global}) c.args.words.now))) c.number.result c.number.ensures
 
-pub returns-in-Done-clause-cheapest : goal.returns-in-Done-clause-cheapest
-returns-in-Done-clause-cheapest g c = λ e. cheapest (reading_of_words (map (string_bytes {Z = Global}) c.args.words.now)) (g.H.Shelf.files c.args.shelf.now) (g.H.Shelf.files c.hand_out.new.shelf) (g.K.Sink.written c.args.out.now) (g.K.Sink.written c.hand_out.new.out) (said_of c.in-Ok.answer) c.in-Ok.ensures.answers e (c.hand_out.ensures.done c.in-Done.is)
+pub returns-clause-plan : goal.returns-clause-plan
+returns-clause-plan g c = doing.promised (reading_of_words (map (string_bytes {Z = Global}) c.args.words.now)) (number_of c.carry_out-status.result) (g.H.Shelf.files c.args.shelf.now) (g.H.Shelf.files c.carry_out-status.new.shelf) (g.H.Shelf.calls c.args.shelf.now) (g.H.Shelf.calls c.carry_out-status.new.shelf) (g.K.Sink.calls c.args.out.now) (g.K.Sink.calls c.carry_out-status.new.out) c.carry_out-status.ensures.goes PlanIsPlan (doing.plan_is_plan (reading_of_words (map (string_bytes {Z = Global}) c.args.words.now))) c.number.result c.number.ensures
 
-pub returns-in-Done-clause-certified : goal.returns-in-Done-clause-certified
-returns-in-Done-clause-certified g c = λ e. certified (reading_of_words (map (string_bytes {Z = Global}) c.args.words.now)) (g.H.Shelf.files c.args.shelf.now) (g.H.Shelf.files c.hand_out.new.shelf) (g.K.Sink.written c.args.out.now) (g.K.Sink.written c.hand_out.new.out) (said_of c.in-Ok.answer) c.in-Ok.ensures.answers e (c.hand_out.ensures.done c.in-Done.is) (saved_after (g.H.Shelf.files c.args.shelf.now) (g.H.Shelf.files c.decide.new.shelf) (g.H.Shelf.files c.hand_out.new.shelf) (said_of c.in-Ok.answer).saved c.in-Ok.ensures.same (c.hand_out.ensures.saved c.in-Done.is))
+pub returns-clause-cheapest : goal.returns-clause-cheapest
+returns-clause-cheapest g c = doing.promised (reading_of_words (map (string_bytes {Z = Global}) c.args.words.now)) (number_of c.carry_out-status.result) (g.H.Shelf.files c.args.shelf.now) (g.H.Shelf.files c.carry_out-status.new.shelf) (g.H.Shelf.calls c.args.shelf.now) (g.H.Shelf.calls c.carry_out-status.new.shelf) (g.K.Sink.calls c.args.out.now) (g.K.Sink.calls c.carry_out-status.new.out) c.carry_out-status.ensures.goes NoneIsCheaper (doing.none_is_cheaper (reading_of_words (map (string_bytes {Z = Global}) c.args.words.now))) c.number.result c.number.ensures
 
-pub returns-in-Done-clause-certified_none : goal.returns-in-Done-clause-certified_none
-returns-in-Done-clause-certified_none g c = λ e. certified_none (reading_of_words (map (string_bytes {Z = Global}) c.args.words.now)) (g.H.Shelf.files c.args.shelf.now) (g.H.Shelf.files c.hand_out.new.shelf) (g.K.Sink.written c.args.out.now) (g.K.Sink.written c.hand_out.new.out) (said_of c.in-Ok.answer) c.in-Ok.ensures.answers e (saved_after (g.H.Shelf.files c.args.shelf.now) (g.H.Shelf.files c.decide.new.shelf) (g.H.Shelf.files c.hand_out.new.shelf) (said_of c.in-Ok.answer).saved c.in-Ok.ensures.same (c.hand_out.ensures.saved c.in-Done.is))
+pub returns-clause-certified : goal.returns-clause-certified
+returns-clause-certified g c = doing.promised (reading_of_words (map (string_bytes {Z = Global}) c.args.words.now)) (number_of c.carry_out-status.result) (g.H.Shelf.files c.args.shelf.now) (g.H.Shelf.files c.carry_out-status.new.shelf) (g.H.Shelf.calls c.args.shelf.now) (g.H.Shelf.calls c.carry_out-status.new.shelf) (g.K.Sink.calls c.args.out.now) (g.K.Sink.calls c.carry_out-status.new.out) c.carry_out-status.ensures.goes CertificateHolds (doing.certificate_holds (reading_of_words (map (string_bytes {Z = Global}) c.args.words.now))) c.number.result c.number.ensures
 
-pub returns-in-Done-clause-none : goal.returns-in-Done-clause-none
-returns-in-Done-clause-none g c = λ e. no_plan (reading_of_words (map (string_bytes {Z = Global}) c.args.words.now)) (g.H.Shelf.files c.args.shelf.now) (g.H.Shelf.files c.hand_out.new.shelf) (g.K.Sink.written c.args.out.now) (g.K.Sink.written c.hand_out.new.out) (said_of c.in-Ok.answer) c.in-Ok.ensures.answers e
+pub returns-clause-certified_none : goal.returns-clause-certified_none
+returns-clause-certified_none g c = doing.promised (reading_of_words (map (string_bytes {Z = Global}) c.args.words.now)) (number_of c.carry_out-status.result) (g.H.Shelf.files c.args.shelf.now) (g.H.Shelf.files c.carry_out-status.new.shelf) (g.H.Shelf.calls c.args.shelf.now) (g.H.Shelf.calls c.carry_out-status.new.shelf) (g.K.Sink.calls c.args.out.now) (g.K.Sink.calls c.carry_out-status.new.out) c.carry_out-status.ensures.goes CertificateOfNone (doing.certificate_of_none (reading_of_words (map (string_bytes {Z = Global}) c.args.words.now))) c.number.result c.number.ensures
 
-pub returns-in-Done-clause-none_text : goal.returns-in-Done-clause-none_text
-returns-in-Done-clause-none_text g c = λ e. none_text (reading_of_words (map (string_bytes {Z = Global}) c.args.words.now)) (g.H.Shelf.files c.args.shelf.now) (g.H.Shelf.files c.hand_out.new.shelf) (g.K.Sink.written c.args.out.now) (g.K.Sink.written c.hand_out.new.out) (said_of c.in-Ok.answer) c.in-Ok.ensures.answers e (c.hand_out.ensures.done c.in-Done.is)
+pub returns-clause-none : goal.returns-clause-none
+returns-clause-none g c = doing.promised (reading_of_words (map (string_bytes {Z = Global}) c.args.words.now)) (number_of c.carry_out-status.result) (g.H.Shelf.files c.args.shelf.now) (g.H.Shelf.files c.carry_out-status.new.shelf) (g.H.Shelf.calls c.args.shelf.now) (g.H.Shelf.calls c.carry_out-status.new.shelf) (g.K.Sink.calls c.args.out.now) (g.K.Sink.calls c.carry_out-status.new.out) c.carry_out-status.ensures.goes NoneMeansNone (doing.none_means_none (reading_of_words (map (string_bytes {Z = Global}) c.args.words.now))) c.number.result c.number.ensures
 
-pub returns-in-Done-clause-stopped : goal.returns-in-Done-clause-stopped
-returns-in-Done-clause-stopped g c = λ e. stopped (reading_of_words (map (string_bytes {Z = Global}) c.args.words.now)) (g.H.Shelf.files c.args.shelf.now) (g.H.Shelf.files c.hand_out.new.shelf) (g.K.Sink.written c.args.out.now) (g.K.Sink.written c.hand_out.new.out) (said_of c.in-Ok.answer) c.in-Ok.ensures.answers e
+pub returns-clause-stopped : goal.returns-clause-stopped
+returns-clause-stopped g c = doing.promised (reading_of_words (map (string_bytes {Z = Global}) c.args.words.now)) (number_of c.carry_out-status.result) (g.H.Shelf.files c.args.shelf.now) (g.H.Shelf.files c.carry_out-status.new.shelf) (g.H.Shelf.calls c.args.shelf.now) (g.H.Shelf.calls c.carry_out-status.new.shelf) (g.K.Sink.calls c.args.out.now) (g.K.Sink.calls c.carry_out-status.new.out) c.carry_out-status.ensures.goes StopHasCause (doing.stop_has_cause (reading_of_words (map (string_bytes {Z = Global}) c.args.words.now))) c.number.result c.number.ensures
 
-pub returns-in-Done-clause-stopped_text : goal.returns-in-Done-clause-stopped_text
-returns-in-Done-clause-stopped_text g c = λ e. stopped_text (reading_of_words (map (string_bytes {Z = Global}) c.args.words.now)) (g.H.Shelf.files c.args.shelf.now) (g.H.Shelf.files c.hand_out.new.shelf) (g.K.Sink.written c.args.out.now) (g.K.Sink.written c.hand_out.new.out) (said_of c.in-Ok.answer) c.in-Ok.ensures.answers e (c.hand_out.ensures.done c.in-Done.is)
+pub returns-clause-accepted : goal.returns-clause-accepted
+returns-clause-accepted g c = doing.promised (reading_of_words (map (string_bytes {Z = Global}) c.args.words.now)) (number_of c.carry_out-status.result) (g.H.Shelf.files c.args.shelf.now) (g.H.Shelf.files c.carry_out-status.new.shelf) (g.H.Shelf.calls c.args.shelf.now) (g.H.Shelf.calls c.carry_out-status.new.shelf) (g.K.Sink.calls c.args.out.now) (g.K.Sink.calls c.carry_out-status.new.out) c.carry_out-status.ensures.goes AcceptedIsValid (doing.accepted_is_valid (reading_of_words (map (string_bytes {Z = Global}) c.args.words.now))) c.number.result c.number.ensures
 
-pub returns-in-Done-clause-accepted : goal.returns-in-Done-clause-accepted
-returns-in-Done-clause-accepted g c = λ e. accepted (reading_of_words (map (string_bytes {Z = Global}) c.args.words.now)) (g.H.Shelf.files c.args.shelf.now) (g.H.Shelf.files c.hand_out.new.shelf) (g.K.Sink.written c.args.out.now) (g.K.Sink.written c.hand_out.new.out) (said_of c.in-Ok.answer) c.in-Ok.ensures.answers e (c.hand_out.ensures.done c.in-Done.is)
+pub returns-clause-rejected : goal.returns-clause-rejected
+returns-clause-rejected g c = doing.promised (reading_of_words (map (string_bytes {Z = Global}) c.args.words.now)) (number_of c.carry_out-status.result) (g.H.Shelf.files c.args.shelf.now) (g.H.Shelf.files c.carry_out-status.new.shelf) (g.H.Shelf.calls c.args.shelf.now) (g.H.Shelf.calls c.carry_out-status.new.shelf) (g.K.Sink.calls c.args.out.now) (g.K.Sink.calls c.carry_out-status.new.out) c.carry_out-status.ensures.goes RejectedIsFaulty (doing.rejected_is_faulty (reading_of_words (map (string_bytes {Z = Global}) c.args.words.now))) c.number.result c.number.ensures
 
-pub returns-in-Done-clause-rejected : goal.returns-in-Done-clause-rejected
-returns-in-Done-clause-rejected g c = λ e. rejected (reading_of_words (map (string_bytes {Z = Global}) c.args.words.now)) (g.H.Shelf.files c.args.shelf.now) (g.H.Shelf.files c.hand_out.new.shelf) (g.K.Sink.written c.args.out.now) (g.K.Sink.written c.hand_out.new.out) (said_of c.in-Ok.answer) c.in-Ok.ensures.answers e (c.hand_out.ensures.done c.in-Done.is)
+pub returns-clause-check_exact : goal.returns-clause-check_exact
+returns-clause-check_exact g c = doing.promised (reading_of_words (map (string_bytes {Z = Global}) c.args.words.now)) (number_of c.carry_out-status.result) (g.H.Shelf.files c.args.shelf.now) (g.H.Shelf.files c.carry_out-status.new.shelf) (g.H.Shelf.calls c.args.shelf.now) (g.H.Shelf.calls c.carry_out-status.new.shelf) (g.K.Sink.calls c.args.out.now) (g.K.Sink.calls c.carry_out-status.new.out) c.carry_out-status.ensures.goes CheckIsDecided (doing.check_is_decided (reading_of_words (map (string_bytes {Z = Global}) c.args.words.now))) c.number.result c.number.ensures
 
-pub returns-in-Done-clause-words : goal.returns-in-Done-clause-words
-returns-in-Done-clause-words g c = λ e. words_say (reading_of_words (map (string_bytes {Z = Global}) c.args.words.now)) (g.H.Shelf.files c.args.shelf.now) (g.H.Shelf.files c.hand_out.new.shelf) (g.K.Sink.written c.args.out.now) (g.K.Sink.written c.hand_out.new.out) (said_of c.in-Ok.answer) c.in-Ok.ensures.answers e (c.hand_out.ensures.done c.in-Done.is)
+pub returns-clause-named_plan : goal.returns-clause-named_plan
+returns-clause-named_plan g c = doing.promised (reading_of_words (map (string_bytes {Z = Global}) c.args.words.now)) (number_of c.carry_out-status.result) (g.H.Shelf.files c.args.shelf.now) (g.H.Shelf.files c.carry_out-status.new.shelf) (g.H.Shelf.calls c.args.shelf.now) (g.H.Shelf.calls c.carry_out-status.new.shelf) (g.K.Sink.calls c.args.out.now) (g.K.Sink.calls c.carry_out-status.new.out) c.carry_out-status.ensures.goes NamedPlanIsPlan (doing.named_plan_is_plan (reading_of_words (map (string_bytes {Z = Global}) c.args.words.now))) c.number.result c.number.ensures
 
-pub returns-in-Done-clause-input : goal.returns-in-Done-clause-input
-returns-in-Done-clause-input g c = λ e. input (reading_of_words (map (string_bytes {Z = Global}) c.args.words.now)) (g.H.Shelf.files c.args.shelf.now) (g.H.Shelf.files c.hand_out.new.shelf) (g.K.Sink.written c.args.out.now) (g.K.Sink.written c.hand_out.new.out) (said_of c.in-Ok.answer) c.in-Ok.ensures.answers e (c.hand_out.ensures.done c.in-Done.is)
+pub returns-clause-named_none : goal.returns-clause-named_none
+returns-clause-named_none g c = doing.promised (reading_of_words (map (string_bytes {Z = Global}) c.args.words.now)) (number_of c.carry_out-status.result) (g.H.Shelf.files c.args.shelf.now) (g.H.Shelf.files c.carry_out-status.new.shelf) (g.H.Shelf.calls c.args.shelf.now) (g.H.Shelf.calls c.carry_out-status.new.shelf) (g.K.Sink.calls c.args.out.now) (g.K.Sink.calls c.carry_out-status.new.out) c.carry_out-status.ensures.goes NamedNoneMeansNone (doing.named_none_means_none (reading_of_words (map (string_bytes {Z = Global}) c.args.words.now))) c.number.result c.number.ensures
 
-pub returns-in-Done-clause-words_exact : goal.returns-in-Done-clause-words_exact
-returns-in-Done-clause-words_exact g c = λ faulty. inl (words_exact (reading_of_words (map (string_bytes {Z = Global}) c.args.words.now)) (g.H.Shelf.files c.args.shelf.now) (g.H.Shelf.files c.hand_out.new.shelf) (g.K.Sink.written c.args.out.now) (g.K.Sink.written c.hand_out.new.out) (said_of c.in-Ok.answer) c.in-Ok.ensures.answers faulty)
+pub returns-clause-named_accepted : goal.returns-clause-named_accepted
+returns-clause-named_accepted g c = doing.promised (reading_of_words (map (string_bytes {Z = Global}) c.args.words.now)) (number_of c.carry_out-status.result) (g.H.Shelf.files c.args.shelf.now) (g.H.Shelf.files c.carry_out-status.new.shelf) (g.H.Shelf.calls c.args.shelf.now) (g.H.Shelf.calls c.carry_out-status.new.shelf) (g.K.Sink.calls c.args.out.now) (g.K.Sink.calls c.carry_out-status.new.out) c.carry_out-status.ensures.goes NamedVerdictHolds (doing.named_verdict_holds (reading_of_words (map (string_bytes {Z = Global}) c.args.words.now))) c.number.result c.number.ensures
 
-pub returns-in-Done-clause-input_exact : goal.returns-in-Done-clause-input_exact
-returns-in-Done-clause-input_exact g c = input_answers (reading_of_words (map (string_bytes {Z = Global}) c.args.words.now)) (g.H.Shelf.files c.args.shelf.now) (g.H.Shelf.files c.hand_out.new.shelf) (g.K.Sink.written c.args.out.now) (g.K.Sink.written c.hand_out.new.out) (said_of c.in-Ok.answer) c.in-Ok.ensures.answers
+pub returns-clause-words : goal.returns-clause-words
+returns-clause-words g c = doing.promised (reading_of_words (map (string_bytes {Z = Global}) c.args.words.now)) (number_of c.carry_out-status.result) (g.H.Shelf.files c.args.shelf.now) (g.H.Shelf.files c.carry_out-status.new.shelf) (g.H.Shelf.calls c.args.shelf.now) (g.H.Shelf.calls c.carry_out-status.new.shelf) (g.K.Sink.calls c.args.out.now) (g.K.Sink.calls c.carry_out-status.new.out) c.carry_out-status.ensures.goes WordsAreRefused (doing.words_are_refused (reading_of_words (map (string_bytes {Z = Global}) c.args.words.now))) c.number.result c.number.ensures
 
-pub returns-in-Done-clause-check_exact : goal.returns-in-Done-clause-check_exact
-returns-in-Done-clause-check_exact g c = check_exact (reading_of_words (map (string_bytes {Z = Global}) c.args.words.now)) (g.H.Shelf.files c.args.shelf.now) (g.H.Shelf.files c.hand_out.new.shelf) (g.K.Sink.written c.args.out.now) (g.K.Sink.written c.hand_out.new.out) (said_of c.in-Ok.answer) c.in-Ok.ensures.answers
+pub returns-clause-input : goal.returns-clause-input
+returns-clause-input g c = doing.promised (reading_of_words (map (string_bytes {Z = Global}) c.args.words.now)) (number_of c.carry_out-status.result) (g.H.Shelf.files c.args.shelf.now) (g.H.Shelf.files c.carry_out-status.new.shelf) (g.H.Shelf.calls c.args.shelf.now) (g.H.Shelf.calls c.carry_out-status.new.shelf) (g.K.Sink.calls c.args.out.now) (g.K.Sink.calls c.carry_out-status.new.out) c.carry_out-status.ensures.goes InputIsRefused (doing.input_is_refused (reading_of_words (map (string_bytes {Z = Global}) c.args.words.now))) c.number.result c.number.ensures
 
-pub returns-in-Done-clause-statuses : goal.returns-in-Done-clause-statuses
-returns-in-Done-clause-statuses g c = statuses (reading_of_words (map (string_bytes {Z = Global}) c.args.words.now)) (g.H.Shelf.files c.args.shelf.now) (g.H.Shelf.files c.hand_out.new.shelf) (g.K.Sink.written c.args.out.now) (g.K.Sink.written c.hand_out.new.out) (said_of c.in-Ok.answer) c.in-Ok.ensures.answers
+pub returns-clause-named : goal.returns-clause-named
+returns-clause-named g c = doing.promised (reading_of_words (map (string_bytes {Z = Global}) c.args.words.now)) (number_of c.carry_out-status.result) (g.H.Shelf.files c.args.shelf.now) (g.H.Shelf.files c.carry_out-status.new.shelf) (g.H.Shelf.calls c.args.shelf.now) (g.H.Shelf.calls c.carry_out-status.new.shelf) (g.K.Sink.calls c.args.out.now) (g.K.Sink.calls c.carry_out-status.new.out) c.carry_out-status.ensures.goes OutputsAreNamed (doing.outputs_are_named (reading_of_words (map (string_bytes {Z = Global}) c.args.words.now))) c.number.result c.number.ensures
 
-pub returns-in-Done-clause-others_stay : goal.returns-in-Done-clause-others_stay
-returns-in-Done-clause-others_stay g c = unnamed_kept (reading_of_words (map (string_bytes {Z = Global}) c.args.words.now)) (g.H.Shelf.files c.args.shelf.now) (g.H.Shelf.files c.hand_out.new.shelf) (g.K.Sink.written c.args.out.now) (g.K.Sink.written c.hand_out.new.out) (said_of c.in-Ok.answer) c.in-Ok.ensures.answers (saved_after (g.H.Shelf.files c.args.shelf.now) (g.H.Shelf.files c.decide.new.shelf) (g.H.Shelf.files c.hand_out.new.shelf) (said_of c.in-Ok.answer).saved c.in-Ok.ensures.same (c.hand_out.ensures.saved c.in-Done.is))
+pub returns-clause-shelf_fault : goal.returns-clause-shelf_fault
+returns-clause-shelf_fault g c = let o = c.carry_out-status.ensures.goes in doing.since (reading_of_words (map (string_bytes {Z = Global}) c.args.words.now)) (number_of c.carry_out-status.result) (g.H.Shelf.files c.args.shelf.now) (g.H.Shelf.files c.carry_out-status.new.shelf) (g.H.Shelf.calls c.args.shelf.now) (g.H.Shelf.calls c.carry_out-status.new.shelf) (g.K.Sink.calls c.args.out.now) (g.K.Sink.calls c.carry_out-status.new.out) c.carry_out-status.ensures.goes (λ m own out. m ≡ 73 ↔ IsTrue (have_failed own)) c.number.result c.number.ensures (λ by. doing.shelf_fails (reading_of_words (map (string_bytes {Z = Global}) c.args.words.now)) (number_of c.carry_out-status.result) o.0 o.1 (doing.does (reading_of_words (map (string_bytes {Z = Global}) c.args.words.now)) (number_of c.carry_out-status.result) o.0 o.1 (g.H.Shelf.files c.args.shelf.now) (g.H.Shelf.files c.carry_out-status.new.shelf) by))
 
-pub returns-in-Done-clause-complete : goal.returns-in-Done-clause-complete
-returns-in-Done-clause-complete g c = λ shelf sink. complete (reading_of_words (map (string_bytes {Z = Global}) c.args.words.now)) (g.H.Shelf.files c.args.shelf.now) (g.H.Shelf.files c.hand_out.new.shelf) (g.K.Sink.written c.args.out.now) (g.K.Sink.written c.hand_out.new.out) (said_of c.in-Ok.answer) c.in-Ok.ensures.answers
+pub returns-clause-sink_fault : goal.returns-clause-sink_fault
+returns-clause-sink_fault g c = let o = c.carry_out-status.ensures.goes in doing.since (reading_of_words (map (string_bytes {Z = Global}) c.args.words.now)) (number_of c.carry_out-status.result) (g.H.Shelf.files c.args.shelf.now) (g.H.Shelf.files c.carry_out-status.new.shelf) (g.H.Shelf.calls c.args.shelf.now) (g.H.Shelf.calls c.carry_out-status.new.shelf) (g.K.Sink.calls c.args.out.now) (g.K.Sink.calls c.carry_out-status.new.out) c.carry_out-status.ensures.goes (λ m own out. m ≡ 74 ↔ IsTrue (have_failed out)) c.number.result c.number.ensures (λ by. doing.sink_fails (reading_of_words (map (string_bytes {Z = Global}) c.args.words.now)) (number_of c.carry_out-status.result) o.0 o.1 (doing.does (reading_of_words (map (string_bytes {Z = Global}) c.args.words.now)) (number_of c.carry_out-status.result) o.0 o.1 (g.H.Shelf.files c.args.shelf.now) (g.H.Shelf.files c.carry_out-status.new.shelf) by))
 
-pub returns-in-Done-clause-complete_check : goal.returns-in-Done-clause-complete_check
-returns-in-Done-clause-complete_check g c = λ shelf sink. complete_check (reading_of_words (map (string_bytes {Z = Global}) c.args.words.now)) (g.H.Shelf.files c.args.shelf.now) (g.H.Shelf.files c.hand_out.new.shelf) (g.K.Sink.written c.args.out.now) (g.K.Sink.written c.hand_out.new.out) (said_of c.in-Ok.answer) c.in-Ok.ensures.answers
+pub returns-clause-statuses : goal.returns-clause-statuses
+returns-clause-statuses g c = let o = c.carry_out-status.ensures.goes in doing.since (reading_of_words (map (string_bytes {Z = Global}) c.args.words.now)) (number_of c.carry_out-status.result) (g.H.Shelf.files c.args.shelf.now) (g.H.Shelf.files c.carry_out-status.new.shelf) (g.H.Shelf.calls c.args.shelf.now) (g.H.Shelf.calls c.carry_out-status.new.shelf) (g.K.Sink.calls c.args.out.now) (g.K.Sink.calls c.carry_out-status.new.out) c.carry_out-status.ensures.goes (λ m own out. IsAnswer m ⊎ IsBroken m) c.number.result c.number.ensures (λ by. doing.statuses (reading_of_words (map (string_bytes {Z = Global}) c.args.words.now)) (number_of c.carry_out-status.result) o.0 o.1 (doing.does (reading_of_words (map (string_bytes {Z = Global}) c.args.words.now)) (number_of c.carry_out-status.result) o.0 o.1 (g.H.Shelf.files c.args.shelf.now) (g.H.Shelf.files c.carry_out-status.new.shelf) by))
 
-pub returns-in-NotSaved-clause-words_exact : goal.returns-in-NotSaved-clause-words_exact
-returns-in-NotSaved-clause-words_exact g c = λ faulty. no_certificate file_of c.in-Ok.answer.saved (c.hand_out.ensures.has c.in-NotSaved.is) (faulty_saves (reading_of_words (map (string_bytes {Z = Global}) c.args.words.now)) (g.H.Shelf.files c.args.shelf.now) (g.H.Shelf.files c.hand_out.new.shelf) (g.K.Sink.written c.args.out.now) (g.K.Sink.written c.hand_out.new.out) (said_of c.in-Ok.answer) c.in-Ok.ensures.answers faulty)
+pub returns-clause-nothing_saved : goal.returns-clause-nothing_saved
+returns-clause-nothing_saved g c = let o = c.carry_out-status.ensures.goes in doing.since (reading_of_words (map (string_bytes {Z = Global}) c.args.words.now)) (number_of c.carry_out-status.result) (g.H.Shelf.files c.args.shelf.now) (g.H.Shelf.files c.carry_out-status.new.shelf) (g.H.Shelf.calls c.args.shelf.now) (g.H.Shelf.calls c.carry_out-status.new.shelf) (g.K.Sink.calls c.args.out.now) (g.K.Sink.calls c.carry_out-status.new.out) c.carry_out-status.ensures.goes (λ m own out. (m ≡ 2) ⊎ (m ≡ 3) ⊎ (m ≡ 64) ⊎ (m ≡ 65) ⊎ (m ≡ 71) → outputs_in own ≡ []) c.number.result c.number.ensures (λ by. doing.nothing_saved (reading_of_words (map (string_bytes {Z = Global}) c.args.words.now)) (number_of c.carry_out-status.result) o.0 o.1 (doing.does (reading_of_words (map (string_bytes {Z = Global}) c.args.words.now)) (number_of c.carry_out-status.result) o.0 o.1 (g.H.Shelf.files c.args.shelf.now) (g.H.Shelf.files c.carry_out-status.new.shelf) by))
 
-pub returns-in-NotSaved-clause-shelf_left : goal.returns-in-NotSaved-clause-shelf_left
-returns-in-NotSaved-clause-shelf_left g c = λ e. shelf_left (reading_of_words (map (string_bytes {Z = Global}) c.args.words.now)) (g.H.Shelf.files c.args.shelf.now) (g.H.Shelf.files c.hand_out.new.shelf) (g.K.Sink.written c.args.out.now) (g.K.Sink.written c.hand_out.new.out) (said_of c.in-Ok.answer) c.in-Ok.ensures.answers (part_after (g.H.Shelf.files c.args.shelf.now) (g.H.Shelf.files c.decide.new.shelf) (g.H.Shelf.files c.hand_out.new.shelf) (said_of c.in-Ok.answer).saved c.in-Ok.ensures.same (c.hand_out.ensures.shelf_left c.in-NotSaved.is))
+pub returns-clause-silent : goal.returns-clause-silent
+returns-clause-silent g c = let o = c.carry_out-status.ensures.goes in doing.since (reading_of_words (map (string_bytes {Z = Global}) c.args.words.now)) (number_of c.carry_out-status.result) (g.H.Shelf.files c.args.shelf.now) (g.H.Shelf.files c.carry_out-status.new.shelf) (g.H.Shelf.calls c.args.shelf.now) (g.H.Shelf.calls c.carry_out-status.new.shelf) (g.K.Sink.calls c.args.out.now) (g.K.Sink.calls c.carry_out-status.new.out) c.carry_out-status.ensures.goes (λ m own out. (m ≡ 71) ⊎ (m ≡ 73) → put_bytes out ≡ []) c.number.result c.number.ensures (λ by. doing.silent (reading_of_words (map (string_bytes {Z = Global}) c.args.words.now)) (number_of c.carry_out-status.result) o.0 o.1 (doing.does (reading_of_words (map (string_bytes {Z = Global}) c.args.words.now)) (number_of c.carry_out-status.result) o.0 o.1 (g.H.Shelf.files c.args.shelf.now) (g.H.Shelf.files c.carry_out-status.new.shelf) by))
 
-pub returns-in-NotSaved-clause-others_stay : goal.returns-in-NotSaved-clause-others_stay
-returns-in-NotSaved-clause-others_stay g c = unnamed_part (reading_of_words (map (string_bytes {Z = Global}) c.args.words.now)) (g.H.Shelf.files c.args.shelf.now) (g.H.Shelf.files c.hand_out.new.shelf) (g.K.Sink.written c.args.out.now) (g.K.Sink.written c.hand_out.new.out) (said_of c.in-Ok.answer) c.in-Ok.ensures.answers (part_after (g.H.Shelf.files c.args.shelf.now) (g.H.Shelf.files c.decide.new.shelf) (g.H.Shelf.files c.hand_out.new.shelf) (said_of c.in-Ok.answer).saved c.in-Ok.ensures.same (c.hand_out.ensures.shelf_left c.in-NotSaved.is))
+pub returns-clause-loaded : goal.returns-clause-loaded
+returns-clause-loaded g c = let o = c.carry_out-status.ensures.goes in doing.since (reading_of_words (map (string_bytes {Z = Global}) c.args.words.now)) (number_of c.carry_out-status.result) (g.H.Shelf.files c.args.shelf.now) (g.H.Shelf.files c.carry_out-status.new.shelf) (g.H.Shelf.calls c.args.shelf.now) (g.H.Shelf.calls c.carry_out-status.new.shelf) (g.K.Sink.calls c.args.out.now) (g.K.Sink.calls c.carry_out-status.new.out) c.carry_out-status.ensures.goes (λ m own out. IsAnswer m → AreLoaded (g.H.Shelf.files c.args.shelf.now) (files_of (reading_of_words (map (string_bytes {Z = Global}) c.args.words.now))) (loaded_texts own)) c.number.result c.number.ensures (λ by. doing.texts_loaded (reading_of_words (map (string_bytes {Z = Global}) c.args.words.now)) (number_of c.carry_out-status.result) o.0 o.1 (g.H.Shelf.files c.args.shelf.now) (g.H.Shelf.files c.carry_out-status.new.shelf) by)
 
-pub returns-in-NotSaved-clause-input_exact : goal.returns-in-NotSaved-clause-input_exact
-returns-in-NotSaved-clause-input_exact g c = input_broken 73 (reading_of_words (map (string_bytes {Z = Global}) c.args.words.now)) (g.H.Shelf.files c.args.shelf.now) (inr (inl refl))
+pub returns-clause-saved : goal.returns-clause-saved
+returns-clause-saved g c = let o = c.carry_out-status.ensures.goes in doing.since (reading_of_words (map (string_bytes {Z = Global}) c.args.words.now)) (number_of c.carry_out-status.result) (g.H.Shelf.files c.args.shelf.now) (g.H.Shelf.files c.carry_out-status.new.shelf) (g.H.Shelf.calls c.args.shelf.now) (g.H.Shelf.calls c.carry_out-status.new.shelf) (g.K.Sink.calls c.args.out.now) (g.K.Sink.calls c.carry_out-status.new.out) c.carry_out-status.ensures.goes (λ m own out. IsAnswer m ⊎ (m ≡ 74) → IfTold (g.H.Shelf.files c.args.shelf.now) (g.H.Shelf.files c.carry_out-status.new.shelf) (SavesIn (outputs_in own))) c.number.result c.number.ensures (λ by. doing.files_saved (reading_of_words (map (string_bytes {Z = Global}) c.args.words.now)) (number_of c.carry_out-status.result) o.0 o.1 (g.H.Shelf.files c.args.shelf.now) (g.H.Shelf.files c.carry_out-status.new.shelf) by)
 
-pub returns-in-NotSaved-clause-check_exact : goal.returns-in-NotSaved-clause-check_exact
-returns-in-NotSaved-clause-check_exact g c = check_broken 73 (reading_of_words (map (string_bytes {Z = Global}) c.args.words.now)) (g.H.Shelf.files c.args.shelf.now) (inr (inl refl))
+pub returns-clause-kept : goal.returns-clause-kept
+returns-clause-kept g c = let o = c.carry_out-status.ensures.goes in doing.since (reading_of_words (map (string_bytes {Z = Global}) c.args.words.now)) (number_of c.carry_out-status.result) (g.H.Shelf.files c.args.shelf.now) (g.H.Shelf.files c.carry_out-status.new.shelf) (g.H.Shelf.calls c.args.shelf.now) (g.H.Shelf.calls c.carry_out-status.new.shelf) (g.K.Sink.calls c.args.out.now) (g.K.Sink.calls c.carry_out-status.new.out) c.carry_out-status.ensures.goes (λ m own out. m ≡ 71 → IfTold (g.H.Shelf.files c.args.shelf.now) (g.H.Shelf.files c.carry_out-status.new.shelf) KeepsAll) c.number.result c.number.ensures (λ by. doing.files_kept (reading_of_words (map (string_bytes {Z = Global}) c.args.words.now)) (number_of c.carry_out-status.result) o.0 o.1 (g.H.Shelf.files c.args.shelf.now) (g.H.Shelf.files c.carry_out-status.new.shelf) by)
 
-pub returns-in-Done-clause-nothing_saved : goal.returns-in-Done-clause-nothing_saved
-returns-in-Done-clause-nothing_saved g c = λ e. stop_saves_nothing (reading_of_words (map (string_bytes {Z = Global}) c.args.words.now)) (g.H.Shelf.files c.args.shelf.now) (g.H.Shelf.files c.hand_out.new.shelf) (g.K.Sink.written c.args.out.now) (g.K.Sink.written c.hand_out.new.out) (said_of c.in-Ok.answer) c.in-Ok.ensures.answers e (saved_after (g.H.Shelf.files c.args.shelf.now) (g.H.Shelf.files c.decide.new.shelf) (g.H.Shelf.files c.hand_out.new.shelf) (said_of c.in-Ok.answer).saved c.in-Ok.ensures.same (c.hand_out.ensures.saved c.in-Done.is))
+pub returns-clause-shelf_left : goal.returns-clause-shelf_left
+returns-clause-shelf_left g c = let o = c.carry_out-status.ensures.goes in doing.since (reading_of_words (map (string_bytes {Z = Global}) c.args.words.now)) (number_of c.carry_out-status.result) (g.H.Shelf.files c.args.shelf.now) (g.H.Shelf.files c.carry_out-status.new.shelf) (g.H.Shelf.calls c.args.shelf.now) (g.H.Shelf.calls c.carry_out-status.new.shelf) (g.K.Sink.calls c.args.out.now) (g.K.Sink.calls c.carry_out-status.new.out) c.carry_out-status.ensures.goes (λ m own out. m ≡ 73 → IfTold (g.H.Shelf.files c.args.shelf.now) (g.H.Shelf.files c.carry_out-status.new.shelf) (λ before after. KeepsAll before after ⊎ LeavesPart (reading_of_words (map (string_bytes {Z = Global}) c.args.words.now)) (loaded_texts own) before after)) c.number.result c.number.ensures (λ by. doing.files_left (reading_of_words (map (string_bytes {Z = Global}) c.args.words.now)) (number_of c.carry_out-status.result) o.0 o.1 (g.H.Shelf.files c.args.shelf.now) (g.H.Shelf.files c.carry_out-status.new.shelf) by)
 
-pub returns-in-Ok-clause-others_stay : goal.returns-in-Ok-clause-others_stay
-returns-in-Ok-clause-others_stay g c = unnamed_kept (reading_of_words (map (string_bytes {Z = Global}) c.args.words.now)) (g.H.Shelf.files c.args.shelf.now) (g.H.Shelf.files c.hand_out.new.shelf) (g.K.Sink.written c.args.out.now) (g.K.Sink.written c.hand_out.new.out) (said_of c.in-Ok.answer) c.in-Ok.ensures.answers (saved_after (g.H.Shelf.files c.args.shelf.now) (g.H.Shelf.files c.decide.new.shelf) (g.H.Shelf.files c.hand_out.new.shelf) (said_of c.in-Ok.answer).saved c.in-Ok.ensures.same (c.hand_out.ensures.sink_saved c.in-NotPrinted.is))
+pub returns-clause-others_stay : goal.returns-clause-others_stay
+returns-clause-others_stay g c = let o = c.carry_out-status.ensures.goes in doing.others_stay (reading_of_words (map (string_bytes {Z = Global}) c.args.words.now)) (number_of c.carry_out-status.result) o.0 o.1 (g.H.Shelf.files c.args.shelf.now) (g.H.Shelf.files c.carry_out-status.new.shelf) o.4
 
-pub returns-in-Done-clause-shelf_left : goal.returns-in-Done-clause-shelf_left
-returns-in-Done-clause-shelf_left g c = λ e. absurd (not_broken (reading_of_words (map (string_bytes {Z = Global}) c.args.words.now)) (g.H.Shelf.files c.args.shelf.now) (g.H.Shelf.files c.hand_out.new.shelf) (g.K.Sink.written c.args.out.now) (g.K.Sink.written c.hand_out.new.out) (said_of c.in-Ok.answer) c.in-Ok.ensures.answers (inr (inl e)))
+pub returns-clause-complete : goal.returns-clause-complete
+returns-clause-complete g c = λ can. let o = c.carry_out-status.ensures.goes in
+    subst (λ (m : ℕ). IsComplete (reading_of_words (map (string_bytes {Z = Global}) c.args.words.now)) (g.H.Shelf.files c.args.shelf.now) m) (sym c.number.ensures) (doing.complete (reading_of_words (map (string_bytes {Z = Global}) c.args.words.now)) (number_of c.carry_out-status.result) o.0 o.1 (g.H.Shelf.files c.args.shelf.now) (g.H.Shelf.files c.carry_out-status.new.shelf) o.4 (c.carry_out-status.ensures.sure can))
 
-pub returns-in-Done-clause-sink_left : goal.returns-in-Done-clause-sink_left
-returns-in-Done-clause-sink_left g c = λ e. absurd (not_broken (reading_of_words (map (string_bytes {Z = Global}) c.args.words.now)) (g.H.Shelf.files c.args.shelf.now) (g.H.Shelf.files c.hand_out.new.shelf) (g.K.Sink.written c.args.out.now) (g.K.Sink.written c.hand_out.new.out) (said_of c.in-Ok.answer) c.in-Ok.ensures.answers (inr (inr e)))
+pub returns-clause-written : goal.returns-clause-written
+returns-clause-written g c = doing.puts_since (g.K.Sink.written c.args.out.now) (g.K.Sink.written c.carry_out-status.new.out) (g.K.Sink.calls c.args.out.now) (g.K.Sink.calls c.carry_out-status.new.out) c.carry_out-status.ensures.written
 
-pub returns-in-Done-clause-named_plan : goal.returns-in-Done-clause-named_plan
-returns-in-Done-clause-named_plan g c = λ e. named_plan (reading_of_words (map (string_bytes {Z = Global}) c.args.words.now)) (g.H.Shelf.files c.args.shelf.now) (g.H.Shelf.files c.hand_out.new.shelf) (g.K.Sink.written c.args.out.now) (g.K.Sink.written c.hand_out.new.out) (said_of c.in-Ok.answer) c.in-Ok.ensures.answers e (c.hand_out.ensures.done c.in-Done.is)
+pub returns-clause-shelf_count : goal.returns-clause-shelf_count
+returns-clause-shelf_count g c = λ e. c.carry_out-status.ensures.shelf_count (sym c.number.ensures ∙ e)
 
-pub returns-in-Done-clause-named_none : goal.returns-in-Done-clause-named_none
-returns-in-Done-clause-named_none g c = λ e. named_none (reading_of_words (map (string_bytes {Z = Global}) c.args.words.now)) (g.H.Shelf.files c.args.shelf.now) (g.H.Shelf.files c.hand_out.new.shelf) (g.K.Sink.written c.args.out.now) (g.K.Sink.written c.hand_out.new.out) (said_of c.in-Ok.answer) c.in-Ok.ensures.answers e
+pub returns-clause-sink_count : goal.returns-clause-sink_count
+returns-clause-sink_count g c = λ e. c.carry_out-status.ensures.sink_count (sym c.number.ensures ∙ e)
 
-pub returns-in-Done-clause-named_accepted : goal.returns-in-Done-clause-named_accepted
-returns-in-Done-clause-named_accepted g c = λ e. named_accepted (reading_of_words (map (string_bytes {Z = Global}) c.args.words.now)) (g.H.Shelf.files c.args.shelf.now) (g.H.Shelf.files c.hand_out.new.shelf) (g.K.Sink.written c.args.out.now) (g.K.Sink.written c.hand_out.new.out) (said_of c.in-Ok.answer) c.in-Ok.ensures.answers e (c.hand_out.ensures.done c.in-Done.is)
-
-pub returns-in-Done-clause-silent : goal.returns-in-Done-clause-silent
-returns-in-Done-clause-silent g c = λ e. absurd (not_broken (reading_of_words (map (string_bytes {Z = Global}) c.args.words.now)) (g.H.Shelf.files c.args.shelf.now) (g.H.Shelf.files c.hand_out.new.shelf) (g.K.Sink.written c.args.out.now) (g.K.Sink.written c.hand_out.new.out) (said_of c.in-Ok.answer) c.in-Ok.ensures.answers (broken c.in-Ok.answer.status e))
-  where
-    broken : (status : ℕ) → (status ≡ 71) ⊎ (status ≡ 73) → IsBroken status
-    broken status (inl e) = inl e
-    broken status (inr e) = inr (inl e)
-
-pub returns-in-Done-clause-shelf_fault : goal.returns-in-Done-clause-shelf_fault
-returns-in-Done-clause-shelf_fault g c = λ e. absurd (not_broken (reading_of_words (map (string_bytes {Z = Global}) c.args.words.now)) (g.H.Shelf.files c.args.shelf.now) (g.H.Shelf.files c.hand_out.new.shelf) (g.K.Sink.written c.args.out.now) (g.K.Sink.written c.hand_out.new.out) (said_of c.in-Ok.answer) c.in-Ok.ensures.answers (inr (inl e)))
-
-pub returns-in-Done-clause-sink_fault : goal.returns-in-Done-clause-sink_fault
-returns-in-Done-clause-sink_fault g c = λ e. absurd (not_broken (reading_of_words (map (string_bytes {Z = Global}) c.args.words.now)) (g.H.Shelf.files c.args.shelf.now) (g.H.Shelf.files c.hand_out.new.shelf) (g.K.Sink.written c.args.out.now) (g.K.Sink.written c.hand_out.new.out) (said_of c.in-Ok.answer) c.in-Ok.ensures.answers (inr (inr e)))
-
-pub returns-in-Ok-clause-sink_left : goal.returns-in-Ok-clause-sink_left
-returns-in-Ok-clause-sink_left g c = λ e. (
-  said_of c.in-Ok.answer,
-  c.in-Ok.ensures.answers,
-  c.hand_out.ensures.sink_left c.in-NotPrinted.is,
-  saved_after (g.H.Shelf.files c.args.shelf.now) (g.H.Shelf.files c.decide.new.shelf) (g.H.Shelf.files c.hand_out.new.shelf) (said_of c.in-Ok.answer).saved c.in-Ok.ensures.same (c.hand_out.ensures.sink_saved c.in-NotPrinted.is),
-)
+pub returns-clause-answered : goal.returns-clause-answered
+returns-clause-answered g c = λ can. subst (λ (m : ℕ). IsAnswer m ⊎ (m ≡ 71)) (sym c.number.ensures) (c.carry_out-status.ensures.sure can)

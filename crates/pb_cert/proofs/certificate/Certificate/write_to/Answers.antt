@@ -5,6 +5,7 @@ use Rattle.pb_cert.specs.Stated.{lines_of, text_of}
 use Rattle.pb_cert.specs.Saved.{IsPartSaved, HoldsPart, IsWritten, AddsLine}
 use Rattle.pb_cert.proofs.LineTexts.{lines_are_text}
 use Rattle.pb_cert.proofs.Files.{on_err, on_ok_as, on_err_as, told_then, others_then, added_next, part_of_lines, all_written, all_lines}
+use Rattle.pb_cert.proofs.SavedCalls.{calls_next, failed_of_lines, lines_within, all_called, told_now}
 use Rattle.pb_cert.proofs.certificate.Certificate.write_to.Goals as goal
 
 pub returns-in_err-add_line-clause-err : goal.returns-in_err-add_line-clause-err
@@ -31,6 +32,10 @@ lines-preserved g c =
       others = told_then (g.H.Shelf.files c.args.shelf.now) (g.H.Shelf.files c.lines.shelf) (g.H.Shelf.files c.add_line.new.shelf)
           (λ old new. KeepsOthers old new c.args.name.now) (λ old new. KeepsOthers old new c.args.name.now) (λ old new. KeepsOthers old new c.args.name.now)
           c.lines.invariant.others c.add_line.ensures.others (λ x y z p q. others_then x y z c.args.name.now p q);
+      calls = calls_next (g.H.Shelf.calls c.args.shelf.now) (g.H.Shelf.calls c.add_line.new.shelf) c.args.name.now c.add_line.new.piece (lines_of c.args.self.now) c.lines.at
+          (c.in_ok-add_line.ensures.begun (g.H.Shelf.calls c.args.shelf.now) (lines (take c.lines.at (lines_of c.args.self.now))) c.lines.invariant.calls);
+      holds = λ name n h. c.add_line.ensures.holds name n (c.lines.invariant.holds name n h);
+      loads = λ name h. c.add_line.ensures.loads name (c.lines.invariant.loads name h);
       later = omega (arith, c.lines.invariant.later, c.add_line.ensures.cause.later);
     }
 
@@ -55,3 +60,37 @@ returns-clause-err g c =
     (λ old new. IsPartSaved old new c.args.name.now (text_of c.args.self.now))
     c.lines.invariant.written err
     (λ x y z written part. inr (part_of_lines z c.args.name.now (text_of c.args.self.now) (lines_of c.args.self.now) c.lines.at (lines_are_text c.args.self.now) (part (lines (take c.lines.at (lines_of c.args.self.now))) written))))
+
+pub returns-in_err-add_line-clause-failed : goal.returns-in_err-add_line-clause-failed
+returns-in_err-add_line-clause-failed g c =
+    on_err c.from_residual-in_err-add_line.result
+    (failed_of_lines (g.H.Shelf.calls c.args.shelf.now) (g.H.Shelf.calls c.add_line.new.shelf) c.args.name.now (text_of c.args.self.now) (lines_of c.args.self.now) c.lines.at (lines_are_text c.args.self.now)
+    (c.in_err-add_line.ensures.failed (g.H.Shelf.calls c.args.shelf.now) (lines (take c.lines.at (lines_of c.args.self.now))) c.lines.invariant.calls))
+
+pub returns-in_err-add_line-clause-sure : goal.returns-in_err-add_line-clause-sure
+returns-in_err-add_line-clause-sure g c = λ some can.
+    let ok = c.in_err-add_line.ensures.sure (lines (take c.lines.at (lines_of c.args.self.now))) (length (text_of c.args.self.now))
+    (told_now (g.H.Shelf.files c.args.shelf.now) (g.H.Shelf.files c.lines.shelf) c.args.name.now c.lines.piece (lines (take c.lines.at (lines_of c.args.self.now))) some c.lines.invariant.written)
+    (lines_within (text_of c.args.self.now) (lines_of c.args.self.now) c.lines.at (lines_are_text c.args.self.now))
+    (c.lines.invariant.holds c.args.name.now (length (text_of c.args.self.now)) can) in cc
+
+pub returns-clause-calls : goal.returns-clause-calls
+returns-clause-calls g c =
+    let whole : length (lines_of c.args.self.now) ≤ c.lines.at = omega (arith, c.lines-test.false, c.count-count.ensures.count) in
+    let all : lines (take c.lines.at (lines_of c.args.self.now)) ≡ text_of c.args.self.now = all_lines (lines_of c.args.self.now) c.lines.at whole ∙ lines_are_text c.args.self.now in
+    on_ok_as c.append_piece.result c.append_piece.ensures.begun (λ begun.
+    all_called (g.H.Shelf.calls c.args.shelf.now) (g.H.Shelf.calls c.append_piece.new.shelf) c.args.name.now (lines (take c.lines.at (lines_of c.args.self.now))) (text_of c.args.self.now) all
+    (begun (g.H.Shelf.calls c.args.shelf.now) (lines (take c.lines.at (lines_of c.args.self.now))) c.lines.invariant.calls))
+
+pub returns-clause-failed : goal.returns-clause-failed
+returns-clause-failed g c =
+    on_err_as c.append_piece.result c.append_piece.ensures.failed (λ failed.
+    failed_of_lines (g.H.Shelf.calls c.args.shelf.now) (g.H.Shelf.calls c.append_piece.new.shelf) c.args.name.now (text_of c.args.self.now) (lines_of c.args.self.now) c.lines.at (lines_are_text c.args.self.now)
+    (failed (g.H.Shelf.calls c.args.shelf.now) (lines (take c.lines.at (lines_of c.args.self.now))) c.lines.invariant.calls))
+
+pub returns-clause-sure : goal.returns-clause-sure
+returns-clause-sure g c = λ some can.
+    c.append_piece.ensures.sure (lines (take c.lines.at (lines_of c.args.self.now))) (length (text_of c.args.self.now))
+    (told_now (g.H.Shelf.files c.args.shelf.now) (g.H.Shelf.files c.lines.shelf) c.args.name.now c.lines.piece (lines (take c.lines.at (lines_of c.args.self.now))) some c.lines.invariant.written)
+    (lines_within (text_of c.args.self.now) (lines_of c.args.self.now) c.lines.at (lines_are_text c.args.self.now))
+    (c.lines.invariant.holds c.args.name.now (length (text_of c.args.self.now)) can)

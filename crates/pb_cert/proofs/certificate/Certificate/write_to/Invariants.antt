@@ -1,7 +1,8 @@
 use Rattle.std.proofs.Common.{◌≤◌, ◌-◌, take}
 use Rattle.pb_model.specs.Texts.{lines}
-use Rattle.pb_outside.specs.Outside.{IfTold, KeepsOthers}
-use Rattle.pb_cert.specs.Saved.{IsWritten, AreLines}
+use Rattle.pb_outside.specs.Outside.{IfTold, KeepsOthers, KeepsHolds}
+use Rattle.pb_outside.specs.Calls.{KeepsLoads}
+use Rattle.pb_cert.specs.Saved.{IsWritten, AreLines, HaveBegun}
 use Rattle.pb_cert.specs.Stated.{lines_of}
 use Rattle.pb_cert.proofs.certificate.Certificate.write_to.Given as goal
 
@@ -11,6 +12,9 @@ invariant-lines g l = record {
   whole : AreLines l.piece;
   written : IfTold (g.H.Shelf.files l.fn.shelf) (g.H.Shelf.files l.shelf) (λ old new. IsWritten new l.name l.piece (lines (take l.at (lines_of l.self))));
   others : IfTold (g.H.Shelf.files l.fn.shelf) (g.H.Shelf.files l.shelf) (λ old new. KeepsOthers old new l.name);
+  calls : HaveBegun (g.H.Shelf.calls l.fn.shelf) (g.H.Shelf.calls l.shelf) l.name l.piece (lines (take l.at (lines_of l.self)));
+  holds : KeepsHolds (g.H.Shelf.can_hold l.fn.shelf) (g.H.Shelf.can_hold l.shelf);
+  loads : KeepsLoads (g.H.Shelf.can_load l.fn.shelf) (g.H.Shelf.can_load l.shelf);
   later : g.H.Shelf.faults l.fn.shelf ≤ g.H.Shelf.faults l.shelf;
 }
 

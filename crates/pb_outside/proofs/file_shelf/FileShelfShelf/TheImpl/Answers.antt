@@ -1,4 +1,5 @@
 use Rattle.pb_outside.proofs.Untold.{ok_claims_nothing, err_claims_nothing, value_claims_nothing, error_claims_nothing}
+use Rattle.pb_outside.proofs.Places.{on_err_then}
 use Rattle.pb_outside.proofs.file_shelf.FileShelfShelf.TheImpl.Goals as goal
 
 pub load-tells : goal.load-tells
@@ -8,7 +9,11 @@ load-tells g c = record {
   long = error_claims_nothing c.result;
   seen = c.ensures.seen;
   same = tt;
+  sure = λ h. absurd h;
   holds = λ name n h. h;
+  loads = λ name h. h;
+  noted = c.ensures.noted;
+  noted_error = c.ensures.noted_error;
   cause = c.ensures.cause;
 }
 
@@ -19,6 +24,8 @@ create-tells g c = record {
   others = tt;
   sure = λ n h. absurd h;
   holds = λ name n h. h;
+  loads = λ name h. h;
+  noted = c.ensures.noted;
   cause = c.ensures.cause;
 }
 
@@ -29,5 +36,8 @@ append-tells g c = record {
   others = tt;
   sure = tt;
   holds = λ name n h. h;
+  loads = λ name h. h;
+  noted = c.ensures.noted;
+  noted_error = on_err_then c.result c.ensures.noted_error (λ f. record { kept = f.kept; within = f.within; noted = f.noted; told = tt });
   cause = c.ensures.cause;
 }

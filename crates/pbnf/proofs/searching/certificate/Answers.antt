@@ -1,9 +1,0 @@
-use Rattle.std.proofs.Common.{◌∙◌, refl}
-use Rattle.pbnf.proofs.Certified.{certifies}
-use Rattle.pbnf.proofs.searching.certificate.Goals as goal
-
-pub returns-in_ok-certificate-in-Some : goal.returns-in_ok-certificate-in-Some
-returns-in_ok-certificate-in-Some c = λ is backs.
-    rw c.in-Some.is
-    (certifies c.args.task.now c.args.graph.now c.requires c.in_ok-certificate-in-Some.certificate c.args.plan c.in-Some.name.now c.in-Some.name.now refl
-    (c.in_ok-certificate-in-Some.ensures.kind ∙ c.kind.ensures.kind) c.in_ok-certificate-in-Some.ensures.weight c.in_ok-certificate-in-Some.ensures.plan c.in_ok-certificate-in-Some.ensures.valid is backs)
