@@ -1,0 +1,133 @@
+-- The clauses of the calls that hold the graph.
+use Rattle.std.proofs.Common.{◌≡◌, ℕ, ◌↔◌, ◌⊎◌, inl, inr, Bool, true, false, IsTrue, IsFalse, List, [], ◌∷◌, ◌++◌, length, drop, set, Option, Some, None, refl, sym, ap, ◌∙◌, subst}
+use Rattle.std.proofs.lemmas.List.{append-nil}
+use lib.Seq.{drop-append_seam}
+use mathlib.Core.Option.{some}
+use lib.ListN.{get_elem?}
+use Rattle.pb_turn.specs.Obligations.{LeaveKeeps, Stands}
+use Rattle.pb_turn.proofs.PassLists.{put_there}
+use Rattle.pb_machine.specs.declared.event.End.{End}
+use Rattle.pb_machine.specs.declared.event.Event.{Event}
+use Rattle.pb_machine.specs.declared.event.Event.TheVariants.{Off}
+use Rattle.pb_machine.specs.Tables.{one_if}
+use Rattle.pb_machine.specs.Views.{AreBy}
+use Rattle.pb_lease.specs.declared.answer.LeaseReply.{LeaseReply}
+use Rattle.pb_lease.specs.declared.answer.LeaseReply.TheVariants.{Leased, NotYet, Over, Memory}
+use Rattle.pb_lease.specs.declared.answer.Renewed.{Renewed}
+use Rattle.pb_lease.specs.declared.answer.Renewed.TheVariants.{Kept, Given}
+use Rattle.pb_lease.specs.Events.{Adds, ending}
+use Rattle.pb_lease.specs.LeaseValue.{LeaseValue}
+use Rattle.pb_lease.specs.GraphValue.{GraphValue}
+use Rattle.pb_lease.specs.Choices.{IsOver, IsToWait}
+use Rattle.pb_lease.specs.Steps.{IsLeased, LeasesNext, IsEnded, end_events, KeepsLeases, IsMarked, GoesOn, ChoosesByRows, IsRenewed, RenewsNext, IsReleased, ReleasesNext}
+use Rattle.pb_yard.specs.declared.view.View.{View}
+use Rattle.pb_yard.specs.Views.{view_then, view_left}
+use Rattle.pb_yard.specs.Rule.{IsYard}
+use Rattle.pb_yard.specs.Replies.{NoneMayBeLeased, LeasesAs, lease_events, lent_by, told_by, RenewsAs, renewal_events, kept_by, ReleasesAs, release_events, ChangesMarkAs, mark_events, SignsOffAs, off_events}
+use Rattle.pb_yard.specs.Returning.{IsBrought}
+use Rattle.pb_yard.specs.Calls.{Holds}
+use Rattle.pb_yard.proofs.Holding.{holding_keeps}
+use Rattle.pb_yard.proofs.Steps.{Steps, keeps_step, lease_step, release_step, renew_step, same_rest, first_by, end_by, ending_by}
+use Rattle.pb_yard.proofs.Asks.{begins}
+
+abbrev pub Fact : GraphValue → List View → Type 0
+Fact g views = IsYard g g.incumbent views
+
+-- whatever the others know, the graph may go from x to y so, by these events, and the pass then has
+-- this lease and has told this cost
+abbrev pub MayGo : (x y : GraphValue) → (v : View) → v.journal.is_live ≡ true → List Event → Option LeaseValue → Option ℕ → Type 0
+MayGo x y v live events lent told =
+    (views : List View) (seat : ℕ) (h : Fact x views) (at : get_elem? views seat ≡ some v) → Steps x y x.incumbent views seat v h at live events lent told y.incumbent
+
+module _ (x y : GraphValue) (v : View) (live : v.journal.is_live ≡ true) (list : GraphValue → List Event) (lent : Option LeaseValue) (told : Option ℕ) (may : MayGo x y v live (list x) lent told) where
+  left_is : y.table.journal ≡ x.table.journal ++ list x → view_left x y lent told v ≡ view_then x.table.journal (list x) lent told v
+  left_is added = ap (λ events. view_then x.table.journal events lent told v) (ap (drop (length x.table.journal)) added ∙ drop-append_seam x.table.journal (list x))
+
+  pub leave_keeps : (seat : ℕ) → LeaveKeeps Fact seat v x y (view_left x y lent told v)
+  leave_keeps seat views h at =
+      let t = may views seat h at in
+      subst (λ (u : View). IsYard y y.incumbent (set views seat u)) (sym (left_is t.1.added))
+      (holding_keeps x y x.incumbent y.incumbent views seat v (list x) lent told h at live t.0 t.1 t.2).0
+
+  pub holds : (seat : ℕ) → Stands Fact seat v x → (step : GraphValue → GraphValue → Type 0) → step x y → Holds step list v lent told (view_left x y lent told v)
+  holds seat (views, h, at) step is =
+      let t = may views seat h at in
+      let after = holding_keeps x y x.incumbent y.incumbent views seat v (list x) lent told h at live t.0 t.1 t.2 in
+      subst (λ (u : View). Holds step list v lent told u) (sym (left_is t.1.added)) record {
+        found = x;
+        left = y;
+        before = record { shared = x.incumbent; seat = seat; views = views; yard = h; mine = at };
+        after = record { shared = y.incumbent; seat = seat; views = set views seat (view_then x.table.journal (list x) lent told v); yard = after.0; mine = put_there views seat v (view_then x.table.journal (list x) lent told v) at };
+        seen = begins x x.incumbent views seat v h at live;
+        step_is = is;
+        added = t.1.added;
+        moves = after.1;
+        view = refl;
+      }
+
+  -- the pass has seen the whole journal then
+  pub seen_is : (seat : ℕ) → Stands Fact seat v x → (view_left x y lent told v).journal.seen ≡ y.table.journal
+  seen_is seat (views, h, at) = let t = may views seat h at in ap (λ (u : View). u.journal.seen) (left_is t.1.added) ∙ sym t.1.added
+
+-- ---- the calls, by what the graph does
+
+-- nothing
+nothing : (x : GraphValue) → KeepsLeases x [] x
+nothing x recorded machine m = (machine, record { setup = refl; moves = refl; moment = m }, (refl, refl, refl, refl, refl), refl, refl)
+
+module _ (x y : GraphValue) (v : View) (live : v.journal.is_live ≡ true) where
+  abbrev Own : ℕ
+  Own = v.journal.own.worker
+
+  pub stays : y ≡ x → MayGo x y v live [] v.lent v.told
+  stays is views seat h at = subst (λ (z : GraphValue). Steps x z x.incumbent views seat v h at live [] v.lent v.told z.incumbent) (sym is)
+      (keeps_step x x x.incumbent views seat v h at live [] (nothing x) record { task = refl; graph = refl; settings = refl } (sym (append-nil x.table.journal)) (λ other else. refl))
+
+  -- all but the tables stay
+  pub keeps : (events : List Event) → Adds x.table y.table events → y ≡ record x { table = y.table } → KeepsLeases x events y → AreBy Own events → MayGo x y v live events v.lent v.told
+  keeps events adds rest k by views seat h at = subst (λ o. Steps x y x.incumbent views seat v h at live events v.lent v.told o) (sym (ap (λ (g : GraphValue). g.incumbent) rest))
+      (keeps_step x y x.incumbent views seat v h at live events k (same_rest x y events adds rest) adds.journal by)
+
+  pub may_lease : (reply : LeaseReply) → LeasesAs Own reply x y → MayGo x y v live (lease_events Own reply x) (lent_by reply v.lent) (told_by reply v.told)
+  may_lease (Leased lease) is = λ views seat h at. subst (λ o. Steps x y x.incumbent views seat v h at live (lease_events Own (Leased lease) x) (Some lease) None o) (sym is.0.incumbent)
+      (lease_step x y x.incumbent views seat v h at live lease is.0 is.1)
+  may_lease NotYet is = stays is.2
+  may_lease (Over end) is = keeps (end_events x.table.end end) is.1.events is.1.rest is.2 (end_by Own x.table.end end)
+  may_lease Memory is = stays is.2
+
+  pub may_renew : (lease : LeaseValue) (reply : Renewed) → IsBrought v 0 lease → RenewsAs lease reply x y → MayGo x y v live (renewal_events lease reply) (kept_by reply) None
+  may_renew lease (Kept kept) b is views seat h at = renew_step x y x.incumbent views seat v h at live lease kept b refl is.1 is.3
+  may_renew lease Given b is views seat h at = release_step x y x.incumbent views seat v h at live lease false b refl is.1 is.3
+
+  pub may_release : (lease : LeaseValue) (trouble : Bool) → IsBrought v (one_if trouble) lease → ReleasesAs lease trouble x y → MayGo x y v live (release_events lease trouble x) None None
+  may_release lease trouble b is views seat h at = release_step x y x.incumbent views seat v h at live lease trouble b refl is.0 is.1
+
+  pub may_mark : (may : Type 0) (event : Event) (done : Bool) → AreBy Own (event ∷ []) → ChangesMarkAs may Own event done x y → MayGo x y v live (mark_events event done) v.lent v.told
+  may_mark may event true by is = keeps (event ∷ []) is.1.events is.1.rest is.2 by
+  may_mark may event false by is = stays is.1
+
+  pub may_sign_off : (trouble : Bool) → SignsOffAs Own trouble x y → MayGo x y v live (off_events Own trouble x) v.lent v.told
+  may_sign_off trouble is =
+      keeps (Off Own trouble ∷ ending trouble x.table.end) is.0.events is.0.rest is.1 (first_by Own (Off Own trouble) (ending trouble x.table.end) (λ other. refl) (ending_by Own trouble x.table.end))
+
+-- ---- the replies of the graph, by cases
+
+module _ (x y : GraphValue) where
+  pub leases_as : (worker : ℕ) (reply : LeaseReply) → ((lease : LeaseValue) → reply ≡ Leased lease → IsLeased x worker lease y) → ((reply ≡ NotYet) ↔ IsToWait x) → ((end : End) → (reply ≡ Over end) ↔ IsOver x end)
+      → ((end : End) → reply ≡ Over end → IsEnded x end y) → ((reply ≡ NotYet) ⊎ (reply ≡ Memory) → y ≡ x) → ((lease : LeaseValue) → reply ≡ Leased lease → LeasesNext x lease y)
+      → ((end : End) → reply ≡ Over end → KeepsLeases x (end_events x.table.end end) y) → (reply ≡ NotYet → NoneMayBeLeased x) → LeasesAs worker reply x y
+  leases_as worker (Leased lease) leased wait over ended same leases_next ended_moment none = (leased lease refl, leases_next lease refl)
+  leases_as worker NotYet leased wait over ended same leases_next ended_moment none = (wait.0 refl, none refl, same (inl refl))
+  leases_as worker (Over end) leased wait over ended same leases_next ended_moment none = ((over end).0 refl, ended end refl, ended_moment end refl)
+  leases_as worker Memory leased wait over ended same leases_next ended_moment none =
+      (λ w. absurd (let e : ◌≡◌ {A = LeaseReply} Memory NotYet = wait.1 w in cc), λ end w. absurd (let e : ◌≡◌ {A = LeaseReply} Memory (Over end) = (over end).1 w in cc), same (inr refl))
+
+  pub renews_as : (lease : LeaseValue) (reply : Renewed) → ((kept : LeaseValue) → reply ≡ Kept kept → GoesOn x lease y × IsRenewed x lease kept y) → (reply ≡ Given → (GoesOn x lease y → ⊥) × IsReleased x lease false y)
+      → ChoosesByRows x lease y → ((kept : LeaseValue) → reply ≡ Kept kept → RenewsNext x lease kept y) → (reply ≡ Given → ReleasesNext x lease false y) → RenewsAs lease reply x y
+  renews_as lease (Kept kept) is given first next home = let k = is kept refl in (k.0, k.1, first, next kept refl)
+  renews_as lease Given is given first next home = let k = given refl in (k.0, k.1, first, home refl)
+
+  pub marks_as : (may : Type 0) (worker : ℕ) (event : Event) (done : Bool) → (IsTrue done ↔ may) → (IsTrue done → IsMarked x worker event y) → (IsFalse done → y ≡ x) → (IsTrue done → KeepsLeases x (event ∷ []) y)
+      → ChangesMarkAs may worker event done x y
+  marks_as may worker event true answer marked refused moment = (answer.0 refl, marked refl, moment refl)
+  marks_as may worker event false answer marked refused moment = (λ m. absurd (let e : false ≡ true = answer.1 m in cc), refused refl)

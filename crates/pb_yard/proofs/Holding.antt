@@ -1,0 +1,149 @@
+-- A call that holds the graph keeps the rule of the yard: the one lemma for all calls.
+use Rattle.std.proofs.Common.{◌≡◌, ◌≢◌, ℕ, ◌==◌, true, false, List, ◌++◌, map, set, Option, Some, None, refl, sym, ap, ◌∙◌, subst}
+use mathlib.Core.Option.{some}
+use lib.ListN.{get_elem?}
+use Rattle.pb_turn.proofs.PassLists.{each_set, put_there, map_set}
+use Rattle.pb_model.specs.Store.{Rows}
+use Rattle.pb_model.proofs.Tests.{by_cases, equal, equal_self, equal_swap}
+use Rattle.pb_task.specs.Parts.{greatest_cost}
+use Rattle.pb_machine.specs.declared.event.Event.{Event}
+use Rattle.pb_machine.specs.declared.event.Grant.{Grant}
+use Rattle.pb_machine.specs.declared.settings.Settings.{Settings}
+use Rattle.pb_machine.specs.Settings.{AreInRange}
+use Rattle.pb_machine.specs.Tables.{with_entry}
+use Rattle.pb_machine.specs.Counts.{Counts}
+use Rattle.pb_machine.specs.Views as of_machine
+use Rattle.pb_machine.specs.Views.{AreTrueOf, AreBy, view_after}
+use Rattle.pb_machine.specs.Machine.{Setup, IsSetup, Machine, opening_machine, Runs, journal_of}
+use Rattle.pb_machine.proofs.TableLaws.{entry_here, entry_else}
+use Rattle.pb_machine.proofs.Holding.{holding_keeps_views}
+use Rattle.pb_machine.proofs.LeaseTurns.{runs_go_on}
+use Rattle.pb_machine.proofs.MomentLaws.{known_stays}
+use Rattle.pb_machine.proofs.OwnMoves.{others_are_left}
+use Rattle.pb_lease.specs.LeaseValue.{LeaseValue}
+use Rattle.pb_lease.specs.GraphValue.{GraphValue, setup_in}
+use Rattle.pb_lease.specs.Moments.{moves_of, Follows}
+use Rattle.pb_lease.proofs.MomentsStay.{events_leave_others}
+use Rattle.pb_yard.specs.declared.view.View.{View}
+use Rattle.pb_yard.specs.Views.{view_then}
+use Rattle.pb_yard.specs.Rule.{rows_of, grant_in, journal_view, IsLent, IsKnownTo, IsViewOf, HasNoPass, IsYard}
+use Rattle.pb_yard.proofs.Parts.{events_of_moves, GoesOnAs, setup_same, search_same, still_of_graph, moment_where_leased, at_journal, workers_differ, no_pass_before}
+
+-- From the graph x at a moment of the rule these events of one pass's worker, or of nobody, lead to
+-- y.
+pub record IsStep (x y : GraphValue) (machine next : Machine) (worker : ℕ) (events : List Event) (lent_to : ℕ → Option LeaseValue) (lent : Option LeaseValue) (told : Option ℕ) : Type 0 where
+  pub recorded : ℕ → Rows
+  pub follows : Follows x machine events y recorded next
+  pub same : GoesOnAs x y
+  pub added : y.table.journal ≡ x.table.journal ++ events
+  pub by : AreBy worker events
+  pub records : (other : ℕ) (grant : Grant) → next.counts.leases other ≡ Some grant → rows_of (with_entry lent_to worker lent other) ≡ recorded other
+  pub leases : next.counts.leases worker ≡ grant_in lent
+  pub lent_is : (lease : LeaseValue) → lent ≡ Some lease → IsLent y next worker lease
+  pub told_is : next.told worker ≡ told
+
+module _ (x y : GraphValue) (shared later : Option ℕ) (views : List View) (seat : ℕ) (v : View) (events : List Event) (lent : Option LeaseValue) (told : Option ℕ)
+    (h : IsYard x shared views) (at : get_elem? views seat ≡ some v) (live : v.journal.is_live ≡ true)
+    (next : Machine) (s : IsStep x y h.machine next v.journal.own.worker events h.lent lent told) (shared_is : next.store.incumbent ≡ later) where
+  abbrev Own : ℕ
+  Own = v.journal.own.worker
+
+  abbrev New : View
+  New = view_then x.table.journal events lent told v
+
+  abbrev Lent : ℕ → Option LeaseValue
+  Lent = with_entry h.lent Own lent
+
+  here : get_elem? (set views seat New) seat ≡ some New
+  here = put_there views seat v New at
+
+  setup : setup_in y ≡ setup_in x
+  setup = setup_same x y s.same
+
+  left : (other : ℕ) → (other == Own) ≡ false
+      → (next.counts.leases other ≡ h.machine.counts.leases other) × (next.given other ≡ h.machine.given other) × (next.told other ≡ h.machine.told other)
+  left other else = others_are_left (setup_in x) (moves_of events) h.machine next other s.follows.moves (events_leave_others Own other events s.by else)
+
+  run : Runs (setup_in x) (opening_machine (setup_in x)) (h.moves ++ moves_of events) next
+  run = (runs_go_on (setup_in x) h.moves (moves_of events) (opening_machine (setup_in x)) h.machine next).0 h.run s.follows.moves
+
+  journal : journal_of (h.moves ++ moves_of events) ≡ y.table.journal
+  journal = (runs_go_on (setup_in x) h.moves (moves_of events) (opening_machine (setup_in x)) h.machine next).2
+      ∙ ap (λ l. l ++ journal_of (moves_of events)) h.journal ∙ ap (λ l. x.table.journal ++ l) (events_of_moves events) ∙ sym s.added
+
+  leases : (other : ℕ) → next.counts.leases other ≡ grant_in (Lent other)
+  leases other = by_cases (other == Own)
+      (λ e. ap next.counts.leases (equal other Own e) ∙ s.leases ∙ ap grant_in (sym (entry_here h.lent Own other lent e)))
+      (λ e. (left other e).0 ∙ h.leases other ∙ ap grant_in (sym (entry_else h.lent Own other lent e)))
+
+  lent_else : (other : ℕ) (lease : LeaseValue) → (other == Own) ≡ false → IsLent x h.machine other lease → IsLent y next other lease
+  lent_else other lease e is = record {
+    worker_is = is.worker_is;
+    of_graph = still_of_graph x y s.same lease
+        (ap (λ (c : Counts). c.leases lease.worker) (sym s.follows.moment.counts) ∙ (left lease.worker (ap (λ k. k == Own) is.worker_is ∙ e)).0 ∙ ap (λ (c : Counts). c.leases lease.worker) h.moment.counts) is.of_graph;
+    unused = is.unused;
+    given = (left other e).1 ∙ is.given;
+  }
+
+  lent_is : (other : ℕ) (lease : LeaseValue) → Lent other ≡ Some lease → IsLent y next other lease
+  lent_is other lease is = by_cases (other == Own)
+      (λ e. subst (λ k. IsLent y next k lease) (sym (equal other Own e)) (s.lent_is lease (sym (entry_here h.lent Own other lent e) ∙ is)))
+      (λ e. lent_else other lease e (h.lent_is other lease (sym (entry_else h.lent Own other lent e) ∙ is)))
+
+  journals : AreTrueOf y.table.settings.workers y.table.journal (map journal_view (set views seat New))
+  journals = subst (λ (l : List of_machine.View). AreTrueOf y.table.settings.workers y.table.journal l) (sym (map_set journal_view views seat New))
+      (subst (λ (j : List Event). AreTrueOf y.table.settings.workers j (set (map journal_view views) seat (view_after x.table.journal events v.journal))) (sym s.added)
+      (subst (λ (t : Settings). AreTrueOf t.workers (x.table.journal ++ events) (set (map journal_view views) seat (view_after x.table.journal events v.journal))) (sym s.same.settings)
+      (holding_keeps_views x.table.settings.workers x.table.journal events (map journal_view views) seat v.journal h.journals
+      (at_journal x.table.settings.workers x.table.journal views h.journals seat v at) live s.by)))
+
+  known : (u : View) → IsKnownTo h.machine u → IsKnownTo next u
+  known u is = record {
+    read = λ incumbent has other. known_stays (setup_in x) (moves_of events) h.machine next s.follows.moves other incumbent (is.read incumbent has other);
+    last = known_stays (setup_in x) (moves_of events) h.machine next s.follows.moves u.journal.own.worker u.last is.last;
+  }
+
+  mine : IsViewOf y next Lent New
+  mine = let k = known v (h.each seat v at live).known in record {
+    lent = entry_here h.lent Own Own lent (equal_self Own);
+    told = s.told_is;
+    search = let q = search_same x y s.same v (h.each seat v at live).search in record { task = q.task; graph = q.graph; settings = q.settings };
+    known = record { read = k.read; last = k.last };
+  }
+
+  theirs : (other : ℕ) (u : View) → other ≢ seat → get_elem? views other ≡ some u → u.journal.is_live ≡ true → IsViewOf y next Lent u
+  theirs other u apart there up =
+      let e = workers_differ x.table.settings.workers x.table.journal views h.journals seat other v u at live there up apart in
+      let is = h.each other u there up in
+      record {
+        lent = entry_else h.lent Own u.journal.own.worker lent e ∙ is.lent;
+        told = (left u.journal.own.worker e).2 ∙ is.told;
+        search = search_same x y s.same u is.search;
+        known = known u is.known;
+      }
+
+  others : (other : ℕ) → HasNoPass other (set views seat New) → Lent other ≡ None
+  others other none =
+      entry_else h.lent Own other lent (equal_swap other Own ∙ none seat New here live) ∙ h.others other (no_pass_before other views seat v New at live live refl here none)
+
+  held : IsYard y later (set views seat New)
+  held = record {
+    is_setup = subst (λ (t : Setup). IsSetup t greatest_cost) (sym setup) h.is_setup;
+    in_range = subst AreInRange (sym s.same.settings) h.in_range;
+    moves = h.moves ++ moves_of events;
+    machine = next;
+    lent = Lent;
+    run = subst (λ (t : Setup). Runs t (opening_machine t) (h.moves ++ moves_of events) next) (sym setup) run;
+    journal = journal;
+    moment = moment_where_leased y s.recorded (λ other. rows_of (Lent other)) next s.records s.follows.moment;
+    shared_is = shared_is;
+    leases = leases;
+    lent_is = lent_is;
+    journals = journals;
+    each = each_set (λ j u. u.journal.is_live ≡ true → IsViewOf y next Lent u) views seat New (λ _. mine) theirs;
+    others = others;
+  }
+
+  pub holding_keeps : (after : IsYard y later (set views seat New)) × Runs (setup_in x) h.machine (moves_of events) after.machine
+  unfolding held
+  holding_keeps = (held, s.follows.moves)

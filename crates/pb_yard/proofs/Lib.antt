@@ -1,0 +1,9 @@
+pub mod Parts
+pub mod Holding
+pub mod Meaning
+pub mod Steps
+pub mod Asks
+pub mod Clauses
+pub mod Passing
+pub mod Closing
+pub mod Told

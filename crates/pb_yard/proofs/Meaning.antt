@@ -1,0 +1,53 @@
+-- What the rule of a yard means.
+use Rattle.std.proofs.Common.{◌≡◌, ℕ, List, Option, Some, refl, sym, ap, ◌∙◌, subst, arith}
+use Rattle.pb_task.specs.Parts.{greatest_cost}
+use Rattle.pb_machine.specs.declared.event.Event.{Event}
+use Rattle.pb_machine.specs.Counts.{Counts}
+use Rattle.pb_machine.specs.History.{IsHistory}
+use Rattle.pb_machine.specs.Machine.{opening_machine, lent_store}
+use Rattle.pb_machine.proofs.MomentLaws.{journals_are_histories, scopes_are_apart}
+use Rattle.pb_machine.proofs.WholeStore.{recorded_rows_are_lent}
+use Rattle.pb_bundles.specs.Homes.{home_rows}
+use Rattle.pb_lease.specs.Tables.{blocks}
+use Rattle.pb_lease.specs.LeaseValue.{LeaseValue, leased_store}
+use Rattle.pb_lease.specs.Leased.{grant_of}
+use Rattle.pb_lease.specs.GraphValue.{GraphValue, setup_in, counts_in}
+use Rattle.pb_yard.specs.declared.view.View.{View}
+use Rattle.pb_yard.specs.Rule.{rows_of, grant_in, IsYard}
+use Rattle.pb_yard.specs.Laws.{YardsAreLawful, LentLeasesAreOut, ViewsBeginTheHistory}
+use Rattle.pb_yard.proofs.Parts.{at_journal}
+
+module _ (g : GraphValue) (shared : Option ℕ) (views : List View) (yard : IsYard g shared views) where
+  pub history : IsHistory (blocks g.table) g.table.settings 0 g.table.journal (counts_in g)
+  history = subst (λ (c : Counts). IsHistory (blocks g.table) g.table.settings 0 g.table.journal c) yard.moment.counts
+      (subst (λ (j : List Event). IsHistory (blocks g.table) g.table.settings 0 j yard.machine.counts) yard.journal
+      (journals_are_histories (setup_in g) yard.moves (opening_machine (setup_in g)) yard.machine 0 yard.in_range (omega arith) refl yard.run))
+
+  module _ (worker : ℕ) (lease : LeaseValue) (is : yard.lent worker ≡ Some lease) where
+    pub leased : yard.machine.counts.leases worker ≡ Some (grant_of lease)
+    leased = yard.leases worker ∙ ap grant_in is
+
+    pub begins : leased_store lease ≡ lent_store (setup_in g) lease.block yard.machine.store (yard.machine.given worker)
+    begins = let it = yard.lent_is worker lease is in λ i. record {
+      rows = λ home state. sym (recorded_rows_are_lent (setup_in g) yard.machine.counts yard.machine.store (home_rows g.homes) (λ w. rows_of (yard.lent w)) worker (grant_of lease) (yard.machine.given worker) yard.moment.whole leased home state
+          ∙ (λ j. rows_of (is j) home state)) i;
+      incumbent = sym it.given i;
+      weight = (it.of_graph.weight ∙ sym yard.moment.lawful.weight) i;
+    }
+
+pub yards_are_lawful : YardsAreLawful
+yards_are_lawful g shared views yard = (
+  yard.moment.lawful,
+  history g shared views yard,
+  λ worker other lease second is there differ. scopes_are_apart (setup_in g) greatest_cost yard.machine yard.is_setup yard.moment.lawful worker other (grant_of lease) (grant_of second)
+      (leased g shared views yard worker lease is) (leased g shared views yard other second there) differ,
+  λ block other hot too. yard.moment.lawful.counts.hot_are_apart block other (ap (λ (c : Counts). c.hot block) yard.moment.counts ∙ hot) (ap (λ (c : Counts). c.hot other) yard.moment.counts ∙ too),
+)
+
+pub lent_leases_are_out : LentLeasesAreOut
+lent_leases_are_out g shared views yard worker lease is = (leased g shared views yard worker lease is, begins g shared views yard worker lease is)
+
+pub views_begin_the_history : ViewsBeginTheHistory
+views_begin_the_history g view at live =
+    let h = at.yard.journals.each at.seat view.journal (at_journal g.table.settings.workers g.table.journal at.views at.yard.journals at.seat view at.mine) live in
+    (h.seen, h.shares.0.0)

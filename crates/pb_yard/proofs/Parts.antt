@@ -1,0 +1,84 @@
+-- The parts of the rule, as the graph goes on.
+use Rattle.std.proofs.Common.{◌≡◌, ◌≢◌, ℕ, ◌==◌, ◌<◌, true, false, List, [], ◌∷◌, map, set, Some, refl, sym, ap, ◌∙◌}
+use mathlib.Core.Option.{some, some-injective}
+use lib.ListN.{get_elem?}
+use Rattle.atomic_table.proofs.Lists.{set_else, at_map}
+use Rattle.pb_model.specs.Store.{Rows}
+use Rattle.pb_model.proofs.Tests.{by_cases, equal, equal_self, not_both}
+use Rattle.pb_machine.specs.declared.event.Event.{Event}
+use Rattle.pb_machine.specs.declared.event.Grant.{Grant}
+use Rattle.pb_machine.specs.Settings.{weight_of}
+use Rattle.pb_machine.specs.Views.{AreTrueOf}
+use Rattle.pb_machine.specs.Machine.{Machine, journal_of}
+use Rattle.pb_machine.proofs.OwnMoves.{recorded_where_leased}
+use Rattle.pb_bundles.specs.Homes.{home_rows}
+use Rattle.pb_abstract.specs.Graph.{AbstractGraph, blocks_of}
+use Rattle.pb_lease.specs.LeaseValue.{LeaseValue}
+use Rattle.pb_lease.specs.Leased.{setup_of}
+use Rattle.pb_lease.specs.GraphValue.{GraphValue, setup_in, counts_in, IsOfGraph}
+use Rattle.pb_lease.specs.Moments.{IsMomentAt, moves_of}
+use Rattle.pb_yard.specs.declared.view.View.{View}
+use Rattle.pb_yard.specs.Rule.{journal_view, IsSearchOf, HasNoPass}
+
+-- the events of moves that are events
+pub events_of_moves : (events : List Event) → journal_of (moves_of events) ≡ events
+events_of_moves [] = refl
+events_of_moves (event ∷ events) = ap (λ l. event ∷ l) (events_of_moves events)
+
+-- the same search goes on, and this is what stays of it
+pub record GoesOnAs (old new : GraphValue) : Type 0 where
+  pub task : new.task ≡ old.task
+  pub graph : new.table.graph ≡ old.table.graph
+  pub settings : new.table.settings ≡ old.table.settings
+
+module _ (old new : GraphValue) (same : GoesOnAs old new) where
+  pub setup_same : setup_in new ≡ setup_in old
+  setup_same = λ i. setup_of (same.task i) (same.graph i) (same.settings i) 0
+
+  pub search_same : (view : View) → IsSearchOf old view → IsSearchOf new view
+  search_same view is = record { task = is.task ∙ sym same.task; graph = is.graph ∙ sym same.graph; settings = is.settings ∙ sym same.settings }
+
+  -- a lease whose grant stays is one of the graph as before
+  pub still_of_graph : (lease : LeaseValue) → (counts_in new).leases lease.worker ≡ (counts_in old).leases lease.worker → IsOfGraph old lease → IsOfGraph new lease
+  still_of_graph lease leases of = record {
+    leased = leases ∙ of.leased;
+    weight = of.weight ∙ ap weight_of (sym same.settings);
+    scope = record { blocks = λ b. of.scope.blocks b ∙ ap (λ (g : AbstractGraph). (blocks_of g).scope lease.block b) (sym same.graph); weights = of.scope.weights };
+  }
+
+-- what is recorded for workers without a lease is of no account
+pub moment_where_leased : (g : GraphValue) (recorded other : ℕ → Rows) (machine : Machine) → ((worker : ℕ) (grant : Grant) → machine.counts.leases worker ≡ Some grant → other worker ≡ recorded worker)
+    → IsMomentAt g recorded machine → IsMomentAt g other machine
+moment_where_leased g recorded other machine same m = record {
+  lawful = m.lawful;
+  counts = m.counts;
+  whole = recorded_where_leased (setup_in g) machine.counts machine.store (home_rows g.homes) recorded other same m.whole;
+  keys = m.keys;
+  incumbent = m.incumbent;
+}
+
+-- ---- the views of live passes are of workers that differ
+
+module _ (workers : ℕ) (journal : List Event) (views : List View) (h : AreTrueOf workers journal (map journal_view views)) where
+  pub at_journal : (seat : ℕ) (view : View) → get_elem? views seat ≡ some view → get_elem? (map journal_view views) seat ≡ some view.journal
+  at_journal seat view at = at_map journal_view views seat view at
+
+  pub seat_is : (seat : ℕ) (view : View) → get_elem? views seat ≡ some view → view.journal.is_live ≡ true → h.seat_of view.journal.own.worker ≡ seat
+  seat_is seat view at live = (h.each seat view.journal (at_journal seat view at) live).shares.0.2
+
+  pub below_made : (seat : ℕ) (view : View) → get_elem? views seat ≡ some view → view.journal.is_live ≡ true → view.journal.own.worker < h.made
+  below_made seat view at live = (h.each seat view.journal (at_journal seat view at) live).shares.0.1
+
+  pub workers_differ : (seat other : ℕ) (view left : View) → get_elem? views seat ≡ some view → view.journal.is_live ≡ true → get_elem? views other ≡ some left → left.journal.is_live ≡ true
+      → other ≢ seat → (left.journal.own.worker == view.journal.own.worker) ≡ false
+  workers_differ seat other view left at live there up apart = by_cases (left.journal.own.worker == view.journal.own.worker)
+      (λ e. absurd (apart (sym (seat_is other left there up) ∙ ap h.seat_of (equal left.journal.own.worker view.journal.own.worker e) ∙ seat_is seat view at live)))
+      (λ e. e)
+
+-- a worker without a live pass has none where one view changed and its worker stays
+pub no_pass_before : (worker : ℕ) (views : List View) (seat : ℕ) (view new : View) → get_elem? views seat ≡ some view → view.journal.is_live ≡ true → new.journal.is_live ≡ true
+    → new.journal.own.worker ≡ view.journal.own.worker → get_elem? (set views seat new) seat ≡ some new → HasNoPass worker (set views seat new) → HasNoPass worker views
+no_pass_before worker views seat view new at live up same here none other left there on = by_cases (other == seat)
+    (λ e. let is : view ≡ left = some-injective view left (sym at ∙ ap (get_elem? views) (sym (equal other seat e)) ∙ there) in
+    ap (λ (u : View). u.journal.own.worker == worker) (sym is) ∙ ap (λ n. n == worker) (sym same) ∙ none seat new here up)
+    (λ e. none other left (set_else views seat other new (λ p. not_both (other == seat) (ap (λ k. k == seat) p ∙ equal_self seat) e) ∙ there) on)

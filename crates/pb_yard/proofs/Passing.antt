@@ -1,0 +1,222 @@
+-- The first pass, passes that are split, and passes that meet keep the rule of the yard.
+use Rattle.std.proofs.Common.{◌≡◌, ◌≢◌, ℕ, zero, suc, ◌==◌, ◌<◌, true, false, List, [], ◌∷◌, ◌++◌, map, set, Option, Some, None, refl, sym, ap, ◌∙◌, subst, inl, true≢false, arith}
+use mathlib.Core.Option.{some, some-injective, some-ne-none}
+use lib.ListN.{get_elem?}
+use Rattle.atomic_table.proofs.Lists.{set_else, at_longer, at_map}
+use Rattle.pb_turn.specs.Obligations.{SplitKeeps, MeetKeeps}
+use Rattle.pb_turn.proofs.PassLists.{each_set, each_snoc, put_there, map_set, map_snoc}
+use Rattle.pb_model.proofs.Tests.{by_cases, equal, equal_self, not_both}
+use Rattle.pb_machine.specs.declared.event.Event.{Event}
+use Rattle.pb_machine.specs.declared.settings.Settings.{Settings}
+use Rattle.pb_machine.specs.Views as of_machine
+use Rattle.pb_machine.specs.Views.{AreTrueOf, first_view, spent_view, with_one_more, next_view, met_view}
+use Rattle.pb_machine.specs.Machine.{opening_machine}
+use Rattle.pb_machine.proofs.Holding.{first_views_are_true}
+use Rattle.pb_machine.proofs.Splitting.{splitting_keeps_views}
+use Rattle.pb_machine.proofs.Meeting.{meeting_keeps_views}
+use Rattle.pb_machine.proofs.MomentLaws.{known_stays}
+use Rattle.pb_lease.specs.LeaseValue.{LeaseValue}
+use Rattle.pb_lease.specs.GraphValue.{GraphValue, setup_in, IsLeaseGraph}
+use Rattle.pb_lease.proofs.GraphBasics.{setup_is}
+use Rattle.pb_yard.specs.declared.view.View.{View}
+use Rattle.pb_yard.specs.Views.{opening_view, split_view, next_pass_view, met_pass_view, spent_pass_view}
+use Rattle.pb_yard.specs.Rule.{rows_of, grant_in, journal_view, was_read, IsViewOf, HasNoPass, IsYard}
+use Rattle.pb_yard.specs.Calls.{IsOpening}
+use Rattle.pb_yard.proofs.Parts.{at_journal, below_made, no_pass_before}
+
+-- ---- the first pass
+
+pub opens : (g : GraphValue) → IsLeaseGraph g → IsOpening g → IsYard g g.incumbent (opening_view g ∷ [])
+opens g k o = record {
+  is_setup = setup_is g k;
+  in_range = k.legal.range;
+  moves = [];
+  machine = opening_machine (setup_in g);
+  lent = λ worker. None;
+  run = refl;
+  journal = sym o.empty;
+  moment = (o.moment (λ worker. rows_of None)).at;
+  shared_is = (o.moment (λ worker. rows_of None)).incumbent;
+  leases = λ worker. refl;
+  lent_is = λ worker lease is. none_lease lease is;
+  journals = subst (λ (j : List Event). AreTrueOf g.table.settings.workers j (first_view ∷ [])) (sym o.empty) (first_views_are_true g.table.settings.workers k.legal.range.workers.0);
+  each = one;
+  others = λ worker none. refl;
+}
+  where
+    none_lease : {A : Type 0} (a : LeaseValue) → None ≡ Some a → A
+    none_lease a e = absurd cc
+
+    one : (seat : ℕ) (view : View) → get_elem? (opening_view g ∷ []) seat ≡ some view → view.journal.is_live ≡ true → IsViewOf g (opening_machine (setup_in g)) (λ worker. None) view
+    one zero view e up = subst (IsViewOf g (opening_machine (setup_in g)) (λ worker. None)) (some-injective (opening_view g) view e) record {
+      lent = refl;
+      told = refl;
+      search = record { task = refl; graph = refl; settings = refl };
+      known = record { read = λ incumbent has. unread incumbent has; last = refl };
+    }
+      where
+        unread : (incumbent : Option ℕ) → was_read (opening_view g) incumbent ≡ true → (worker : ℕ) → (opening_machine (setup_in g)).known worker incumbent ≡ true
+        unread None has worker = refl
+        unread (Some cost) has worker = absurd (true≢false (sym has))
+    one (suc seat) view e up = absurd (some-ne-none view (sym e))
+
+-- ---- a pass that is split
+
+module _ (x : GraphValue) (shared : Option ℕ) (views : List View) (seat : ℕ) (v : View) (h : IsYard x shared views) (at : get_elem? views seat ≡ some v) (live : v.journal.is_live ≡ true)
+    (first : v.journal.own.worker ≡ 0) (more : v.journal.made < x.table.settings.workers) where
+  abbrev Kept : View
+  Kept = split_view v
+
+  abbrev New : View
+  New = next_pass_view v
+
+  abbrev Both : List View
+  Both = set views seat Kept ++ New ∷ []
+
+  here : get_elem? (set views seat Kept) seat ≡ some Kept
+  here = put_there views seat v Kept at
+
+  made_is : v.journal.made ≡ h.journals.made
+  made_is = (h.journals.each seat v.journal (at_journal x.table.settings.workers x.table.journal views h.journals seat v at) live).counts_passes (inl first)
+
+  -- nobody has the new pass's number yet
+  no_pass : HasNoPass v.journal.made views
+  no_pass other u there up = by_cases (u.journal.own.worker == v.journal.made)
+      (λ e. let lt = below_made x.table.settings.workers x.table.journal views h.journals other u there up in let is = equal u.journal.own.worker v.journal.made e in absurd (omega (arith, lt, is, made_is)))
+      (λ e. e)
+
+  free : h.lent v.journal.made ≡ None
+  free = h.others v.journal.made no_pass
+
+  untold : h.machine.told v.journal.made ≡ None
+  untold = go (h.machine.told v.journal.made) refl
+    where
+      go : (o : Option ℕ) → h.machine.told v.journal.made ≡ o → o ≡ None
+      go None is = refl
+      go (Some cost) is =
+          let t = (h.moment.lawful.teller v.journal.made cost is).0 in
+          let bad : None ≡ Some t.0 = sym (h.leases v.journal.made ∙ ap grant_in free) ∙ t.1 in absurd cc
+
+  known_none : (worker : ℕ) → h.machine.known worker None ≡ true
+  known_none worker = known_stays (setup_in x) h.moves (opening_machine (setup_in x)) h.machine h.run worker None refl
+
+  journals : AreTrueOf x.table.settings.workers x.table.journal (map journal_view Both)
+  journals = subst (λ (l : List of_machine.View). AreTrueOf x.table.settings.workers x.table.journal l)
+      (sym (map_snoc journal_view (set views seat Kept) New ∙ ap (λ (l : List of_machine.View). l ++ next_view v.journal ∷ []) (map_set journal_view views seat Kept)))
+      (splitting_keeps_views x.table.settings.workers x.table.journal (map journal_view views) seat v.journal h.journals
+      (at_journal x.table.settings.workers x.table.journal views h.journals seat v at) live first more)
+
+  kept : IsViewOf x h.machine h.lent Kept
+  kept = let m = h.each seat v at live in record {
+    lent = m.lent;
+    told = m.told;
+    search = record { task = m.search.task; graph = m.search.graph; settings = m.search.settings };
+    known = record { read = m.known.read; last = m.known.last };
+  }
+
+  given : IsViewOf x h.machine h.lent New
+  given = let m = h.each seat v at live in record {
+    lent = free;
+    told = untold;
+    search = record { task = m.search.task; graph = m.search.graph; settings = m.search.settings };
+    known = record { read = λ incumbent has. unread incumbent has; last = known_none v.journal.made };
+  }
+    where
+      unread : (incumbent : Option ℕ) → was_read New incumbent ≡ true → (worker : ℕ) → h.machine.known worker incumbent ≡ true
+      unread None has worker = known_none worker
+      unread (Some cost) has worker = absurd (true≢false (sym has))
+
+  pub split_yard : IsYard x shared Both
+  split_yard = record {
+    is_setup = h.is_setup;
+    in_range = h.in_range;
+    moves = h.moves;
+    machine = h.machine;
+    lent = h.lent;
+    run = h.run;
+    journal = h.journal;
+    moment = h.moment;
+    shared_is = h.shared_is;
+    leases = h.leases;
+    lent_is = h.lent_is;
+    journals = journals;
+    each = each_snoc (λ j u. u.journal.is_live ≡ true → IsViewOf x h.machine h.lent u) (set views seat Kept) New (λ _ _. given)
+        (each_set (λ j u. u.journal.is_live ≡ true → IsViewOf x h.machine h.lent u) views seat Kept (λ _. kept) (λ j u apart e up. h.each j u e up));
+    others = λ worker none. h.others worker (no_pass_before worker views seat v Kept at live live refl here
+        (λ j u e up. none j u (at_longer (set views seat Kept) (New ∷ []) j u e) up));
+  }
+
+pub split_keeps : (seat : ℕ) (v : View) → v.journal.is_live ≡ true → v.journal.own.worker ≡ 0 → v.journal.made < v.settings.workers
+    → SplitKeeps (λ (g : GraphValue) (views : List View). IsYard g g.incumbent views) seat v (split_view v) (next_pass_view v)
+split_keeps seat v live first more x views h at = split_yard x x.incumbent views seat v h at live first
+    (subst (λ (t : Settings). v.journal.made < t.workers) (h.each seat v at live).search.settings more)
+
+-- ---- passes that meet
+
+module _ (x : GraphValue) (shared : Option ℕ) (views : List View) (seat : ℕ) (v : View) (other : ℕ) (w : View) (h : IsYard x shared views) (at : get_elem? views seat ≡ some v) (live : v.journal.is_live ≡ true)
+    (apart : other ≢ seat) (at_other : get_elem? views other ≡ some w) (up : w.journal.is_live ≡ true) (free : w.lent ≡ None) where
+  abbrev Met : View
+  Met = met_pass_view v w
+
+  abbrev Taken : List View
+  Taken = set views seat Met
+
+  abbrev Left : List View
+  Left = set Taken other spent_pass_view
+
+  there : get_elem? Taken other ≡ some w
+  there = set_else views seat other Met apart ∙ at_other
+
+  met_here : get_elem? Left seat ≡ some Met
+  met_here = set_else Taken other seat spent_pass_view (λ e. apart (sym e)) ∙ put_there views seat v Met at
+
+  met_journals : AreTrueOf x.table.settings.workers x.table.journal (map journal_view Left)
+  met_journals = subst (λ (l : List of_machine.View). AreTrueOf x.table.settings.workers x.table.journal l)
+      (sym (map_set journal_view Taken other spent_pass_view ∙ ap (λ (l : List of_machine.View). set l other spent_view) (map_set journal_view views seat Met)))
+      (meeting_keeps_views x.table.settings.workers x.table.journal (map journal_view views) seat other v.journal w.journal h.journals
+      (at_journal x.table.settings.workers x.table.journal views h.journals seat v at) live apart
+      (subst (λ (l : List of_machine.View). get_elem? l other ≡ some w.journal) (map_set journal_view views seat Met) (at_map journal_view Taken other w there)) up)
+
+  met : IsViewOf x h.machine h.lent Met
+  met = let m = h.each seat v at live in record {
+    lent = m.lent;
+    told = m.told;
+    search = record { task = m.search.task; graph = m.search.graph; settings = m.search.settings };
+    known = record { read = m.known.read; last = m.known.last };
+  }
+
+  differ : (i j : ℕ) → (i == j) ≡ false → i ≢ j
+  differ i j e p = not_both (i == j) (ap (λ k. k == j) p ∙ equal_self j) e
+
+  none_left : (worker : ℕ) → HasNoPass worker Left → h.lent worker ≡ None
+  none_left worker none = by_cases (w.journal.own.worker == worker)
+      (λ e. ap h.lent (sym (equal w.journal.own.worker worker e)) ∙ (h.each other w at_other up).lent ∙ free)
+      (λ e. h.others worker (λ j u is on. by_cases (j == other)
+      (λ same. let q : w ≡ u = some-injective w u (sym at_other ∙ ap (get_elem? views) (sym (equal j other same)) ∙ is) in ap (λ (z : View). z.journal.own.worker == worker) (sym q) ∙ e)
+      (λ far. by_cases (j == seat)
+      (λ same. let q : v ≡ u = some-injective v u (sym at ∙ ap (get_elem? views) (sym (equal j seat same)) ∙ is) in ap (λ (z : View). z.journal.own.worker == worker) (sym q) ∙ none seat Met met_here live)
+      (λ off. none j u (set_else Taken other j spent_pass_view (differ j other far) ∙ set_else views seat j Met (differ j seat off) ∙ is) on))))
+
+  pub met_yard : IsYard x shared Left
+  met_yard = record {
+    is_setup = h.is_setup;
+    in_range = h.in_range;
+    moves = h.moves;
+    machine = h.machine;
+    lent = h.lent;
+    run = h.run;
+    journal = h.journal;
+    moment = h.moment;
+    shared_is = h.shared_is;
+    leases = h.leases;
+    lent_is = h.lent_is;
+    journals = met_journals;
+    each = each_set (λ j u. u.journal.is_live ≡ true → IsViewOf x h.machine h.lent u) Taken other spent_pass_view (λ on. absurd (true≢false (sym on)))
+        (λ j u far e on. each_set (λ k z. z.journal.is_live ≡ true → IsViewOf x h.machine h.lent z) views seat Met (λ _. met) (λ k z off q. h.each k z q) j u e on);
+    others = none_left;
+  }
+
+pub meet_keeps : (seat : ℕ) (v : View) (other : ℕ) (w : View) → v.journal.is_live ≡ true → w.journal.is_live ≡ true → w.lent ≡ None
+    → MeetKeeps (λ (g : GraphValue) (views : List View). IsYard g g.incumbent views) seat v other w (met_pass_view v w) spent_pass_view
+meet_keeps seat v other w live up free x views h at apart there =
+    met_yard x x.incumbent views seat v other w h at live apart (sym (set_else views seat other (met_pass_view v w) apart) ∙ there) up free

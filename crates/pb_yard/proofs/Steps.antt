@@ -1,0 +1,276 @@
+-- What each call of a graph does is a step of the rule.
+use Rattle.std.proofs.Common.{◌≡◌, ℕ, ◌==◌, Bool, true, false, cond, nat_eq, is_some, List, [], ◌∷◌, ◌++◌, Option, Some, None, refl, sym, ap, ◌∙◌, subst}
+use mathlib.Core.Option.{some}
+use lib.ListN.{get_elem?}
+use Rattle.pb_model.specs.Store.{Rows, Store, HasGoalWithin, lesser}
+use Rattle.pb_model.proofs.Tests.{by_cases, equal, equal_self, equal_swap}
+use Rattle.pb_task.specs.declared.parts.TaskParts.{TaskParts}
+use Rattle.pb_task.specs.Parts.{space_of}
+use Rattle.pb_machine.specs.declared.event.End.{End}
+use Rattle.pb_machine.specs.declared.event.Event.{Event}
+use Rattle.pb_machine.specs.declared.event.Event.TheVariants.{Lease, Renew, Release}
+use Rattle.pb_machine.specs.declared.event.Grant.{Grant}
+use Rattle.pb_machine.specs.Tables.{with_entry, one_if}
+use Rattle.pb_machine.specs.Counts.{Counts, counts_after}
+use Rattle.pb_machine.specs.History.{is_event_of, events_of}
+use Rattle.pb_machine.specs.Views.{AreBy}
+use Rattle.pb_machine.specs.Machine.{Machine, IsWorked, with_incumbent, KeepsRows}
+use Rattle.pb_machine.specs.Turns.{RunsInOrder}
+use Rattle.pb_machine.proofs.Known.{known_new}
+use Rattle.pb_machine.proofs.TableLaws.{entry_here, entry_else}
+use Rattle.pb_bundles.specs.Parts.{content_in}
+use Rattle.pb_lists.specs.Bundle.{Content}
+use Rattle.std.specs.Map.{keys_of}
+use Rattle.pb_abstract.specs.Graph.{AbstractGraph}
+use Rattle.pb_bundles.specs.Parts.{away_rows}
+use Rattle.pb_lease.specs.Tables.{blocks}
+use Rattle.pb_lease.specs.Events.{Adds, ending}
+use Rattle.pb_lease.specs.LeaseValue.{LeaseValue, leased_store}
+use Rattle.pb_lease.specs.Leased.{guide_of, grant_of, IsOut}
+use Rattle.pb_lease.specs.GraphValue.{GraphValue, setup_in, counts_in, IsOfGraph}
+use Rattle.pb_lease.specs.Moments.{Follows, moves_of, ShowsTold, IsKnownThen}
+use Rattle.pb_lease.specs.Steps.{IsLeased, LeasesNext, end_events, KeepsLeases, IsReleased, ReleasesNext, IsRenewed, RenewsNext}
+use Rattle.pb_lease.proofs.MomentReturns.{ending_leases}
+use Rattle.pb_lease.proofs.WorkedOut.{worked_leases_are_out}
+use Rattle.pb_yard.specs.declared.view.View.{View}
+use Rattle.pb_yard.specs.Rule.{rows_of, grant_in, was_read, IsLent, IsViewOf, IsYard}
+use Rattle.pb_yard.specs.Returning.{IsBrought}
+use Rattle.pb_yard.proofs.Parts.{GoesOnAs, still_of_graph}
+use Rattle.pb_yard.proofs.Holding.{IsStep}
+
+-- ---- small facts
+
+pub rows_entry : (lent : ℕ → Option LeaseValue) (own : ℕ) (o : Option LeaseValue) (other : ℕ) → rows_of (with_entry lent own o other) ≡ with_entry (λ w. rows_of (lent w)) own (rows_of o) other
+rows_entry lent own o other = by_cases (other == own)
+    (λ e. ap rows_of (entry_here lent own other o e) ∙ sym (entry_here (λ w. rows_of (lent w)) own other (rows_of o) e))
+    (λ e. ap rows_of (entry_else lent own other o e) ∙ sym (entry_else (λ w. rows_of (lent w)) own other (rows_of o) e))
+
+-- the table with what it has at a number is the same
+pub entry_same : (lent : ℕ → Option LeaseValue) (own : ℕ) (o : Option LeaseValue) (other : ℕ) → lent own ≡ o → with_entry lent own o other ≡ lent other
+entry_same lent own o other is = by_cases (other == own) (λ e. entry_here lent own other o e ∙ sym is ∙ ap lent (sym (equal other own e))) (λ e. entry_else lent own other o e)
+
+-- an event of this worker is nobody else's, and ends that follow are nobody's
+pub first_by : (own : ℕ) (event : Event) (events : List Event) → ((other : ℕ) → is_event_of other event ≡ (own == other)) → AreBy own events → AreBy own (event ∷ events)
+first_by own event events is rest other else =
+    ap (λ r. cond r (event ∷ events_of other events) (events_of other events)) (is other ∙ equal_swap own other ∙ else) ∙ rest other else
+
+pub end_by : (own : ℕ) (standing : Option End) (end : End) → AreBy own (end_events standing end)
+end_by own None end other else = refl
+end_by own (Some e) end other else = refl
+
+pub ending_by : (own : ℕ) (memory : Bool) (end : Option End) → AreBy own (ending memory end)
+ending_by own true None other else = refl
+ending_by own true (Some e) other else = refl
+ending_by own false end other else = refl
+
+same_adds : (x y : GraphValue) (events : List Event) → Adds x.table y.table events → y.task ≡ x.task → GoesOnAs x y
+same_adds x y events adds task = record { task = task; graph = adds.graph; settings = adds.settings }
+
+pub same_rest : (x y : GraphValue) (events : List Event) → Adds x.table y.table events → y ≡ record x { table = y.table } → GoesOnAs x y
+same_rest x y events adds rest = same_adds x y events adds (ap (λ (g : GraphValue). g.task) rest)
+
+some_lease : (a b : LeaseValue) → Some a ≡ Some b → a ≡ b
+some_lease a b e = cc
+
+none_lease : {A : Type 0} (a : LeaseValue) → None ≡ Some a → A
+none_lease a e = absurd cc
+
+none_grant : {A : Type 0} (a : Grant) → None ≡ Some a → A
+none_grant a e = absurd cc
+
+-- whether a number is among these
+has_number : List ℕ → (number : ℕ) → Bool
+has_number [] number = false
+has_number (other ∷ numbers) number = cond (nat_eq number other) true (has_number numbers number)
+
+has_by_key : (parts : List (ℕ × Content)) (block : ℕ) → is_some (content_in parts block) ≡ has_number (keys_of parts) block
+unfolding has_number
+has_by_key [] block = refl
+has_by_key (part ∷ parts) block = go (nat_eq block part.0) (has_by_key parts block)
+  where
+    go : (b : Bool) → is_some (content_in parts block) ≡ has_number (keys_of parts) block
+        → is_some (cond b (Some part.1) (content_in parts block)) ≡ cond b true (has_number (keys_of parts) block)
+    go true h = refl
+    go false h = h
+
+-- bundles of the same blocks
+same_places : (parts others : List (ℕ × Content)) (block : ℕ) → keys_of others ≡ keys_of parts → is_some (content_in others block) ≡ is_some (content_in parts block)
+same_places parts others block same = has_by_key others block ∙ ap (λ keys. has_number keys block) same ∙ sym (has_by_key parts block)
+
+-- ---- a step from a yard
+
+module _ (x y : GraphValue) (shared : Option ℕ) (views : List View) (seat : ℕ) (v : View) (h : IsYard x shared views) (at : get_elem? views seat ≡ some v) (live : v.journal.is_live ≡ true) where
+  abbrev Own : ℕ
+  Own = v.journal.own.worker
+
+  mine : IsViewOf x h.machine h.lent v
+  mine = h.each seat v at live
+
+  abbrev Recorded : ℕ → Rows
+  Recorded = λ w. rows_of (h.lent w)
+
+  -- a step, and the incumbent that the machine has then
+  abbrev pub Steps : List Event → Option LeaseValue → Option ℕ → Option ℕ → Type 0
+  Steps events lent told incumbent = (next : Machine) × IsStep x y h.machine next Own events h.lent lent told × (next.store.incumbent ≡ incumbent)
+
+  -- what leaves all leases as they are
+  pub keeps_step : (events : List Event) → KeepsLeases x events y → GoesOnAs x y → y.table.journal ≡ x.table.journal ++ events → AreBy Own events → Steps events v.lent v.told shared
+  keeps_step events keeps same added by = (
+    next,
+    record {
+      recorded = Recorded;
+      follows = k.1;
+      same = same;
+      added = added;
+      by = by;
+      records = λ other grant leased. ap rows_of (entry_same h.lent Own v.lent other mine.lent);
+      leases = leases Own ∙ h.leases Own ∙ ap grant_in mine.lent;
+      lent_is = λ lease is. lent_is lease (h.lent_is Own lease (mine.lent ∙ is));
+      told_is = (λ i. k.2.2 i Own) ∙ mine.told;
+    },
+    ap (λ (s : Store). s.incumbent) k.2.0 ∙ h.shared_is,
+  )
+    where
+      k : (next : Machine) × Follows x h.machine events y Recorded next × KeepsRows h.machine next × (next.counts.leases ≡ h.machine.counts.leases)
+          × RunsInOrder (setup_in x) h.machine (moves_of events) next
+      k = keeps Recorded h.machine h.moment
+
+      next : Machine
+      next = k.0
+
+      leases : (other : ℕ) → next.counts.leases other ≡ h.machine.counts.leases other
+      leases other = λ i. k.3 i other
+
+      lent_is : (lease : LeaseValue) → IsLent x h.machine Own lease → IsLent y next Own lease
+      lent_is lease is = record {
+        worker_is = is.worker_is;
+        of_graph = still_of_graph x y same lease
+            (ap (λ (c : Counts). c.leases lease.worker) (sym k.1.moment.counts) ∙ leases lease.worker ∙ ap (λ (c : Counts). c.leases lease.worker) h.moment.counts) is.of_graph;
+        unused = is.unused;
+        given = (λ i. k.2.1 i Own) ∙ is.given;
+      }
+
+  -- ---- a lease
+
+  module _ (lease : LeaseValue) (l : IsLeased x Own lease y) (n : LeasesNext x lease y) where
+    leased_next : (next : Machine) × Follows x h.machine (Lease Own lease.block lease.quota ∷ []) y (with_entry Recorded Own (away_rows lease.parts)) next
+        × (next.given Own ≡ lease.incumbent) × (next.counts.leases Own ≡ Some (grant_of lease)) × (next.store ≡ h.machine.store) × (next.told ≡ with_entry h.machine.told Own None)
+    leased_next = let t = n Recorded h.machine h.moment in (
+      t.0,
+      subst (λ w. Follows x h.machine (Lease w lease.block lease.quota ∷ []) y (with_entry Recorded w (away_rows lease.parts)) t.0) l.worker_is t.1,
+      subst (λ w. t.0.given w ≡ lease.incumbent) l.worker_is t.2,
+      subst (λ w. t.0.counts.leases w ≡ Some (grant_of lease)) l.worker_is t.3.0.leased,
+      t.4,
+      subst (λ w. t.0.told ≡ with_entry h.machine.told w None) l.worker_is t.5,
+    )
+
+    pub lease_step : Steps (Lease Own lease.block lease.quota ∷ []) (Some lease) None shared
+    lease_step = let t = leased_next in (
+      t.0,
+      record {
+        recorded = with_entry Recorded Own (away_rows lease.parts);
+        follows = t.1;
+        same = same_adds x y (Lease Own lease.block lease.quota ∷ []) l.events l.task;
+        added = l.events.journal;
+        by = first_by Own (Lease Own lease.block lease.quota) [] (λ other. refl) (λ other else. refl);
+        records = λ other grant leased. rows_entry h.lent Own (Some lease) other;
+        leases = t.3;
+        lent_is = λ other is. subst (λ (k : LeaseValue). IsLent y t.0 Own k) (some_lease lease other is)
+            record { worker_is = l.worker_is; of_graph = l.of_graph; unused = l.used; given = t.2 };
+        told_is = (λ i. t.5 i Own) ∙ entry_here h.machine.told Own Own None (equal_self Own);
+      },
+      ap (λ (s : Store). s.incumbent) t.4 ∙ h.shared_is,
+    )
+
+  -- ---- a lease that comes back, or goes on
+
+  module _ (most_broken : ℕ) (lease : LeaseValue) (b : IsBrought v most_broken lease) where
+    lent_own : h.lent Own ≡ Some b.lent
+    lent_own = mine.lent ∙ b.lent_is
+
+    is_lent : IsLent x h.machine Own b.lent
+    is_lent = h.lent_is Own b.lent lent_own
+
+    pub is_own : lease.worker ≡ Own
+    is_own = b.same.worker ∙ is_lent.worker_is
+
+    worked : IsWorked (setup_in x).space (setup_in x).guide b.lent.block lease.used most_broken (was_read v) (leased_store b.lent) (leased_store lease)
+    worked = subst (λ (t : TaskParts). IsWorked (space_of t) (guide_of t x.table.graph) b.lent.block lease.used most_broken (was_read v) (leased_store b.lent) (leased_store lease)) mine.search.task
+        (subst (λ (a : AbstractGraph). IsWorked (space_of v.task) (guide_of v.task a) b.lent.block lease.used most_broken (was_read v) (leased_store b.lent) (leased_store lease)) mine.search.graph b.work)
+
+    out : IsOut (setup_in x) h.machine most_broken lease
+    out = (worked_leases_are_out x Recorded h.machine h.moment b.lent lease most_broken (was_read v) is_lent.of_graph b.same
+        (ap (λ k. rows_of (h.lent k)) is_lent.worker_is ∙ ap rows_of lent_own) (ap h.machine.given is_lent.worker_is ∙ is_lent.given)
+        (λ incumbent has. mine.known.read incumbent has b.lent.worker) worked).0
+
+    shows : ShowsTold x h.machine lease
+    shows cost told =
+        let t = b.told cost (sym mine.told ∙ ap h.machine.told (sym is_own) ∙ told) in
+        subst (λ (p : TaskParts). HasGoalWithin (space_of p) (guide_of p x.table.graph) (leased_store lease) cost) mine.search.task
+        (subst (λ (a : AbstractGraph). HasGoalWithin (space_of v.task) (guide_of v.task a) (leased_store lease) cost) mine.search.graph t)
+
+    brought : shared ≡ x.incumbent → y.incumbent ≡ lesser x.incumbent lease.incumbent → lesser h.machine.store.incumbent lease.incumbent ≡ y.incumbent
+    brought is incumbent = ap (λ o. lesser o lease.incumbent) (h.shared_is ∙ is) ∙ sym incumbent
+
+    known_then : shared ≡ x.incumbent → y.incumbent ≡ lesser x.incumbent lease.incumbent → IsKnownThen h.machine lease y.incumbent
+    known_then is incumbent worker = subst (λ o. with_incumbent h.machine.known o worker y.incumbent ≡ true) (sym (brought is incumbent)) (known_new (h.machine.known worker) y.incumbent)
+
+    pub brought_of_graph : IsOfGraph x lease
+    brought_of_graph = record {
+      leased = ap (counts_in x).leases b.same.worker ∙ is_lent.of_graph.leased ∙ (λ i. Some (record { block = sym b.same.block i; quota = sym b.same.quota i }));
+      weight = b.same.weight ∙ is_lent.of_graph.weight;
+      scope = record {
+        blocks = λ block. same_places b.lent.parts lease.parts block b.same.places ∙ is_lent.of_graph.scope.blocks block ∙ ap (λ own. (blocks x.table).scope own block) (sym b.same.block);
+        weights = b.weights;
+      };
+    }
+
+  module _ (lease : LeaseValue) (trouble : Bool) (b : IsBrought v (one_if trouble) lease) (is_shared : shared ≡ x.incumbent) (r : IsReleased x lease trouble y) (n : ReleasesNext x lease trouble y) where
+    pub release_step : Steps (Release lease.worker lease.used trouble ∷ ending trouble x.table.end) None None y.incumbent
+    release_step =
+        let t = n Recorded h.machine h.moment (out (one_if trouble) lease b) (shows (one_if trouble) lease b) (known_then (one_if trouble) lease b is_shared r.incumbent) in
+        let own : lease.worker ≡ Own = is_own (one_if trouble) lease b in
+        let gone : t.0.counts.leases Own ≡ None =
+        ap t.0.counts.leases (sym own) ∙ ap (λ (c : Counts). c.leases lease.worker) t.1.moment.counts ∙ ap (λ (c : Counts). c.leases lease.worker) r.events.counts
+        ∙ (λ i. ending_leases (blocks x.table) x.table.settings (counts_after (blocks x.table) x.table.settings (counts_in x) (Release lease.worker lease.used trouble)) trouble x.table.end i lease.worker)
+        ∙ entry_here (counts_in x).leases lease.worker lease.worker None (equal_self lease.worker) in (
+          t.0,
+          record {
+            recorded = Recorded;
+            follows = t.1;
+            same = same_adds x y (Release lease.worker lease.used trouble ∷ ending trouble x.table.end) r.events r.task;
+            added = r.events.journal;
+            by = first_by Own (Release lease.worker lease.used trouble) (ending trouble x.table.end) (λ other. ap (λ w. w == other) own) (ending_by Own trouble x.table.end);
+            records = λ other grant leased. by_cases (other == Own)
+                (λ e. none_grant grant (sym gone ∙ ap t.0.counts.leases (sym (equal other Own e)) ∙ leased))
+                (λ e. ap rows_of (entry_else h.lent Own other None e));
+            leases = gone;
+            lent_is = λ other is. none_lease other is;
+            told_is = (λ i. t.3 i Own) ∙ ap (λ w. with_entry h.machine.told w None Own) own ∙ entry_here h.machine.told Own Own None (equal_self Own);
+          },
+          t.2 ∙ brought (one_if trouble) lease b is_shared r.incumbent,
+        )
+
+  module _ (lease kept : LeaseValue) (b : IsBrought v 0 lease) (is_shared : shared ≡ x.incumbent) (r : IsRenewed x lease kept y) (n : RenewsNext x lease kept y) where
+    pub renew_step : Steps (Renew lease.worker lease.used kept.quota ∷ []) (Some kept) None y.incumbent
+    renew_step =
+        let t = n Recorded h.machine h.moment (out 0 lease b) (shows 0 lease b) (known_then 0 lease b is_shared r.incumbent) in
+        let own : lease.worker ≡ Own = is_own 0 lease b in
+        let kept_own : kept.worker ≡ Own = ap (λ (k : LeaseValue). k.worker) r.kept_is ∙ own in
+        let same : y.table.journal ≡ x.table.journal ++ Renew lease.worker lease.used kept.quota ∷ [] =
+        r.events.journal ∙ ap (λ (k : LeaseValue). x.table.journal ++ Renew lease.worker lease.used k.quota ∷ []) (sym r.kept_is) in (
+          t.0,
+          record {
+            recorded = with_entry Recorded lease.worker (away_rows kept.parts);
+            follows = t.1;
+            same = record { task = r.task; graph = r.events.graph; settings = r.events.settings };
+            added = same;
+            by = first_by Own (Renew lease.worker lease.used kept.quota) [] (λ other. ap (λ w. w == other) own) (λ other else. refl);
+            records = λ other grant leased. rows_entry h.lent Own (Some kept) other ∙ (λ i. with_entry Recorded (sym own i) (away_rows kept.parts) other);
+            leases = ap t.0.counts.leases (sym kept_own) ∙ t.3.0.leased;
+            lent_is = λ other is. subst (λ (k : LeaseValue). IsLent y t.0 Own k) (some_lease kept other is)
+                record { worker_is = kept_own; of_graph = r.of_graph; unused = ap (λ (k : LeaseValue). k.used) r.kept_is; given = ap t.0.given (sym kept_own) ∙ t.2 };
+            told_is = (λ i. t.5 i Own) ∙ ap (λ w. with_entry h.machine.told w None Own) own ∙ entry_here h.machine.told Own Own None (equal_self Own);
+          },
+          t.4 ∙ brought 0 lease b is_shared r.incumbent,
+        )

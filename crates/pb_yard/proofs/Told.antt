@@ -1,0 +1,173 @@
+-- What a worker knows after a call.
+use Rattle.std.proofs.Common.{◌≡◌, ℕ, ◌==◌, ◌||◌, Bool, true, false, cond, List, [], ◌∷◌, ◌++◌, Option, Some, None, ⊎_elim, refl, sym, ap, ◌∙◌, arith}
+use Rattle.std.specs.List.{list_any}
+use Rattle.pb_model.proofs.Incumbents.{at_most_self}
+use Rattle.pb_model.proofs.Tests.{by_cases, equal_self, or_false}
+use Rattle.pb_machine.specs.declared.event.End.{End}
+use Rattle.pb_machine.specs.declared.event.Event.{Event}
+use Rattle.pb_machine.specs.declared.event.Event.TheVariants.{Release, Off}
+use Rattle.pb_machine.specs.Counts.{Counts}
+use Rattle.pb_machine.specs.History.{is_event_of, events_of, is_off, end_in}
+use Rattle.pb_machine.proofs.EndsTold.{ends_are_told}
+use Rattle.pb_lease.specs.declared.answer.LeaseReply.{LeaseReply}
+use Rattle.pb_lease.specs.declared.answer.LeaseReply.TheVariants.{Leased, NotYet, Over, Memory}
+use Rattle.pb_lease.specs.Tables.{blocks}
+use Rattle.pb_lease.specs.Events.{counts_along, ending}
+use Rattle.pb_lease.specs.LeaseValue.{LeaseValue}
+use Rattle.pb_lease.specs.GraphValue.{GraphValue, counts_in}
+use Rattle.pb_lease.specs.Choices.{IsOver}
+use Rattle.pb_lease.specs.Steps.{IsEnded, end_events}
+use Rattle.pb_yard.specs.declared.view.View.{View}
+use Rattle.pb_yard.specs.Replies.{lease_events, lent_by, told_by}
+use Rattle.pb_yard.specs.Returning.{IsBrought}
+use Rattle.pb_yard.specs.Calls.{Holds, Leases, Releases, SignsOff, IsActive, IsReady, KeepsWorkers}
+use Rattle.pb_yard.specs.Laws.{LentLeasesMayComeBack, EndsAreSeen, ActiveStay, SigningOffIsSeen}
+use Rattle.pb_yard.proofs.Meaning.{history}
+
+-- a lease may come back as it was lent
+pub lent_leases_may_come_back : LentLeasesMayComeBack
+lent_leases_may_come_back g view at live lease is untold most_broken =
+    let own = (at.yard.each at.seat view at.mine live).lent ∙ is in
+    let it = at.yard.lent_is view.journal.own.worker lease own in
+    record {
+      lent = lease;
+      lent_is = is;
+      same = record { worker = refl; block = refl; quota = refl; weight = refl; places = refl; incumbent = at_most_self lease.incumbent };
+      weights = it.of_graph.scope.weights;
+      work = record { works = []; on = tt; comes = refl; used_is = sym it.unused; few_broken = omega arith; stops = tt };
+      told = λ cost told. let bad : None ≡ Some cost = sym untold ∙ told in absurd cc;
+    }
+
+-- ---- signing off, in lists of events
+
+any_both : (xs ys : List Event) → list_any is_off (xs ++ ys) ≡ (list_any is_off xs || list_any is_off ys)
+any_both [] ys = refl
+any_both (x ∷ xs) ys = go (is_off x) (any_both xs ys)
+  where
+    go : (r : Bool) → list_any is_off (xs ++ ys) ≡ (list_any is_off xs || list_any is_off ys) → (r || list_any is_off (xs ++ ys)) ≡ ((r || list_any is_off xs) || list_any is_off ys)
+    go true e = refl
+    go false e = e
+
+none_of : (worker : ℕ) (events : List Event) → list_any is_off events ≡ false → list_any is_off (events_of worker events) ≡ false
+none_of worker [] e = refl
+none_of worker (event ∷ events) e =
+    let p = or_false (is_off event) (list_any is_off events) e in
+    by_cases (is_event_of worker event)
+    (λ own. ap (λ r. list_any is_off (cond r (event ∷ events_of worker events) (events_of worker events))) own ∙ ap (λ r. r || list_any is_off (events_of worker events)) p.0 ∙ none_of worker events p.1)
+    (λ own. ap (λ r. list_any is_off (cond r (event ∷ events_of worker events) (events_of worker events))) own ∙ none_of worker events p.1)
+
+pub lease_none_off : (worker : ℕ) (reply : LeaseReply) (x : GraphValue) → list_any is_off (lease_events worker reply x) ≡ false
+lease_none_off worker (Leased lease) x = refl
+lease_none_off worker NotYet x = refl
+lease_none_off worker (Over end) x = go x.table.end
+  where
+    go : (standing : Option End) → list_any is_off (end_events standing end) ≡ false
+    go None = refl
+    go (Some e) = refl
+lease_none_off worker Memory x = refl
+
+pub release_none_off : (lease : LeaseValue) (trouble : Bool) (x : GraphValue) → list_any is_off (Release lease.worker lease.used trouble ∷ ending trouble x.table.end) ≡ false
+release_none_off lease true x = go x.table.end
+  where
+    go : (standing : Option End) → list_any is_off (ending true standing) ≡ false
+    go None = refl
+    go (Some e) = refl
+release_none_off lease false x = refl
+
+-- ---- after a call
+
+module _ (step : GraphValue → GraphValue → Type 0) (list : GraphValue → List Event) (old new : View) (lent : Option LeaseValue) (told : Option ℕ) (h : Holds step list old lent told new) where
+  pub keeps_workers : KeepsWorkers old new
+  keeps_workers = record {
+    worker = ap (λ (u : View). u.journal.own.worker) h.view;
+    taken_in = ap (λ (u : View). u.journal.taken_in) h.view;
+    made = ap (λ (u : View). u.journal.made) h.view;
+    settings = ap (λ (u : View). u.settings) h.view;
+    graph = ap (λ (u : View). u.graph) h.view;
+    task = ap (λ (u : View). u.task) h.view;
+  }
+
+  pub lent_then : new.lent ≡ lent
+  lent_then = ap (λ (u : View). u.lent) h.view
+
+  pub told_then : new.told ≡ told
+  told_then = ap (λ (u : View). u.told) h.view
+
+  pub seen_then : new.journal.seen ≡ h.left.table.journal
+  seen_then = ap (λ (u : View). u.journal.seen) h.view ∙ sym h.added
+
+  pub events_then : new.journal.own.events ≡ old.journal.own.events ++ events_of old.journal.own.worker (list h.found)
+  events_then = ap (λ (u : View). u.journal.own.events) h.view
+
+  pub off_then : list_any is_off new.journal.own.events ≡ (list_any is_off old.journal.own.events || list_any is_off (events_of old.journal.own.worker (list h.found)))
+  off_then = ap (list_any is_off) events_then ∙ any_both old.journal.own.events (events_of old.journal.own.worker (list h.found))
+
+pub active_stay : ActiveStay
+active_stay journal added lent told old new is none active =
+    ap (λ (u : View). list_any is_off u.journal.own.events) is ∙ any_both old.journal.own.events (events_of old.journal.own.worker added)
+    ∙ ap (λ r. r || list_any is_off (events_of old.journal.own.worker added)) active ∙ none_of old.journal.own.worker added none
+
+pub signing_off_is_seen : SigningOffIsSeen
+signing_off_is_seen worker trouble old new is h =
+    off_then _ (λ found. Off worker trouble ∷ ending trouble found.table.end) old new old.lent old.told h
+    ∙ ap (λ r. list_any is_off old.journal.own.events || list_any is_off (cond r (Off worker trouble ∷ events_of old.journal.own.worker (ending trouble h.found.table.end)) (events_of old.journal.own.worker (ending trouble h.found.table.end))))
+    (ap (λ k. worker == k) is ∙ equal_self worker)
+    ∙ last (list_any is_off old.journal.own.events)
+  where
+    last : (r : Bool) → (r || true) ≡ true
+    last true = refl
+    last false = refl
+
+-- the end that stands after the search was found to be over
+ended_end : (x y : GraphValue) (end : End) → IsOver x end → IsEnded x end y → y.table.end ≡ Some end
+ended_end x y end over is = ⊎_elim (λ (stands : x.table.end ≡ Some end). ap (λ (g : GraphValue). g.table.end) (is.standing stands) ∙ stands)
+    (λ rest. ap (λ (c : Counts). c.end) is.events.counts ∙ go x.table.end rest.0) over
+  where
+    go : (o : Option End) → o ≡ None → (counts_along (blocks x.table) x.table.settings (counts_in x) (end_events o end)).end ≡ Some end
+    go None none = refl
+    go (Some other) none = absurd cc
+
+pub ends_are_seen : EndsAreSeen
+ends_are_seen worker old new end h =
+    let y = h.left in
+    let at = h.after in
+    ap end_in (seen_then _ (lease_events worker (Over end)) old new (lent_by (Over end) old.lent) (told_by (Over end) old.told) h)
+    ∙ sym (ends_are_told (blocks y.table) y.table.settings 0 y.table.journal (counts_in y) (history y at.shared at.views at.yard)) ∙ ended_end h.found y end h.step_is.0 h.step_is.1
+
+-- ---- what a worker knows by the reply
+
+module _ (worker : ℕ) (old new : View) where
+  pub leased_active : (reply : LeaseReply) → Leases worker old reply new → IsActive old → IsActive new
+  leased_active reply h active = active_stay h.found.table.journal (lease_events worker reply h.found) (lent_by reply old.lent) (told_by reply old.told) old new h.view (lease_none_off worker reply h.found) active
+
+  pub may_bring : (lease : LeaseValue) → Leases worker old (Leased lease) new → new.journal.is_live ≡ true → (most_broken : ℕ) → IsBrought new most_broken lease
+  may_bring lease h live most_broken = lent_leases_may_come_back h.left new h.after live lease
+      (ap (λ (u : View). u.lent) h.view) (ap (λ (u : View). u.told) h.view) most_broken
+
+  pub not_leased_ready : (reply : LeaseReply) → lent_by reply old.lent ≡ old.lent → Leases worker old reply new → IsReady old → IsReady new
+  not_leased_ready reply same h ready = (ap (λ (u : View). u.lent) h.view ∙ same ∙ ready.0, leased_active reply h ready.1)
+
+  pub leased_keeps : (reply : LeaseReply) → Leases worker old reply new → KeepsWorkers old new
+  leased_keeps reply h = keeps_workers _ _ old new _ _ h
+
+pub released_ready : (lease : LeaseValue) (trouble : Bool) (old new : View) → Releases lease trouble old new → IsActive old → IsReady new
+released_ready lease trouble old new h active = (
+  ap (λ (u : View). u.lent) h.view,
+  active_stay h.found.table.journal (Release lease.worker lease.used trouble ∷ ending trouble h.found.table.end) None None old new h.view (release_none_off lease trouble h.found) active,
+)
+
+pub released_keeps : (lease : LeaseValue) (trouble : Bool) (old new : View) → Releases lease trouble old new → KeepsWorkers old new
+released_keeps lease trouble old new h = keeps_workers _ _ old new _ _ h
+
+pub signed_keeps : (worker : ℕ) (trouble : Bool) (old new : View) → SignsOff worker trouble old new → KeepsWorkers old new
+signed_keeps worker trouble old new h = keeps_workers _ _ old new _ _ h
+
+pub keeps_on : (old between new : View) → KeepsWorkers old between → KeepsWorkers between new → KeepsWorkers old new
+keeps_on old between new first later = record {
+  worker = later.worker ∙ first.worker;
+  taken_in = later.taken_in ∙ first.taken_in;
+  made = later.made ∙ first.made;
+  settings = later.settings ∙ first.settings;
+  graph = later.graph ∙ first.graph;
+  task = later.task ∙ first.task;
+}

@@ -1,0 +1,122 @@
+-- What the calls of a yard tell.
+use Rattle.std.specs.Prelude.{◌≡◌, ℕ, Bool, IsTrue, IsFalse, List, [], ◌∷◌, ◌++◌, Option, None}
+use Rattle.std.specs.List.{list_any, AllByRecursion}
+use Rattle.pb_model.specs.Store.{Rows}
+use Rattle.pb_machine.specs.declared.event.Event.{Event}
+use Rattle.pb_machine.specs.declared.event.Event.TheVariants.{Hot, Cold}
+use Rattle.pb_machine.specs.History.{StartsWith, is_off, AreFinished, IsHistory}
+use Rattle.pb_machine.specs.Views.{IsShareOf}
+use Rattle.pb_machine.specs.Machine.{Machine, opening_machine, Move, Runs, journal_of}
+use Rattle.pb_lease.specs.declared.answer.LeaseReply.{LeaseReply}
+use Rattle.pb_lease.specs.declared.answer.Renewed.{Renewed}
+use Rattle.pb_lease.specs.Tables.{blocks}
+use Rattle.pb_lease.specs.LeaseValue.{LeaseValue}
+use Rattle.pb_lease.specs.GraphValue.{GraphValue, setup_in, counts_in}
+use Rattle.pb_lease.specs.Choices.{is_out_in}
+use Rattle.pb_lease.specs.Moments.{IsMoment, moves_of}
+use Rattle.pb_yard.specs.declared.view.View.{View}
+use Rattle.pb_yard.specs.Views.{view_then}
+use Rattle.pb_yard.specs.Rule.{IsAt, IsSearchOf}
+use Rattle.pb_yard.specs.Replies.{LeasesAs, lease_events, lent_by, told_by, RenewsAs, renewal_events, kept_by, ReleasesAs, release_events, RivalsAs, MarksAs, CoolsAs, mark_events, SignsOffAs, off_events}
+
+-- ---- the graph that a yard begins with
+
+-- The search begins: nothing has happened, and the graph is the opening moment of the lease
+-- machine.
+pub record IsOpening (g : GraphValue) : Type 0 where
+  pub empty : g.table.journal ≡ []
+  pub moment : (recorded : (worker : ℕ) → Rows) → IsMoment g recorded (opening_machine (setup_in g))
+
+-- ---- a call that holds the graph
+
+-- The pass held the graph once. It found one that is a lawful moment, whose journal begins with all
+-- that the pass had seen. The graph went from there to the one that the pass left as `step` says,
+-- which is a lawful moment too. Exactly these events came to the journal, and they are the moves
+-- that lead from the one moment to the other. The pass has seen the whole journal then, and of the
+-- events that came has its own worker's; it has this lease, and has told this cost.
+pub record Holds (step : (found left : GraphValue) → Type 0) (events : (found : GraphValue) → List Event) (old : View) (lent : Option LeaseValue) (told : Option ℕ) (new : View) : Type 0 where
+  pub found : GraphValue
+  pub left : GraphValue
+  pub before : IsAt found old
+  pub after : IsAt left new
+  pub seen : StartsWith found.table.journal old.journal.seen
+  pub step_is : step found left
+  pub added : left.table.journal ≡ found.table.journal ++ events found
+  pub moves : Runs (setup_in found) before.yard.machine (moves_of (events found)) after.yard.machine
+  pub view : new ≡ view_then found.table.journal (events found) lent told old
+
+-- the pass asked for a lease, with this answer
+abbrev pub Leases : (worker : ℕ) → (old : View) → LeaseReply → (new : View) → Type 0
+Leases worker old reply new = Holds (LeasesAs worker reply) (lease_events worker reply) old (lent_by reply old.lent) (told_by reply old.told) new
+
+-- the pass asked to go on with its lease, with this answer
+abbrev pub Renews : LeaseValue → (old : View) → Renewed → (new : View) → Type 0
+Renews lease old reply new = Holds (RenewsAs lease reply) (λ found. renewal_events lease reply) old (kept_by reply) None new
+
+-- the pass brought its lease back
+abbrev pub Releases : LeaseValue → (trouble : Bool) → (old new : View) → Type 0
+Releases lease trouble old new = Holds (ReleasesAs lease trouble) (release_events lease trouble) old None None new
+
+-- The pass has the lease that it had.
+abbrev pub Looks : (step : (found left : GraphValue) → Type 0) → (events : (found : GraphValue) → List Event) → (old new : View) → Type 0
+Looks step events old new = Holds step events old old.lent old.told new
+
+abbrev pub AsksRival : LeaseValue → (old : View) → (rival : Option ℕ) → (new : View) → Type 0
+AsksRival lease old rival new = Looks (RivalsAs lease rival) (λ found. []) old new
+
+abbrev pub Marks : (worker block : ℕ) → (old : View) → (done : Bool) → (new : View) → Type 0
+Marks worker block old done new = Looks (MarksAs worker block done) (λ found. mark_events (Hot worker block) done) old new
+
+abbrev pub Cools : (worker block : ℕ) → (old : View) → (done : Bool) → (new : View) → Type 0
+Cools worker block old done new = Looks (CoolsAs worker block done) (λ found. mark_events (Cold worker block) done) old new
+
+abbrev pub SignsOff : (worker : ℕ) → (trouble : Bool) → (old new : View) → Type 0
+SignsOff worker trouble old new = Looks (SignsOffAs worker trouble) (off_events worker trouble) old new
+
+-- the pass's worker has signed off, or not
+abbrev pub HasSignedOff : View → Type 0
+HasSignedOff view = IsTrue (list_any is_off view.journal.own.events)
+
+abbrev pub IsActive : View → Type 0
+IsActive view = IsFalse (list_any is_off view.journal.own.events)
+
+-- it is the only pass that was made so far, and there are this many workers
+abbrev pub IsAlone : View → (workers : ℕ) → Type 0
+IsAlone view workers = (view.journal.made ≡ 1) × (view.journal.taken_in ≡ []) × (view.settings.workers ≡ workers)
+
+-- the pass may ask for a lease: it has none, and its worker has not signed off
+abbrev pub IsReady : View → Type 0
+IsReady view = (view.lent ≡ None) × IsActive view
+
+-- what no call that holds the graph changes of a view
+pub record KeepsWorkers (old new : View) : Type 0 where
+  pub worker : new.journal.own.worker ≡ old.journal.own.worker
+  pub taken_in : new.journal.taken_in ≡ old.journal.taken_in
+  pub made : new.journal.made ≡ old.journal.made
+  pub settings : new.settings ≡ old.settings
+  pub graph : new.graph ≡ old.graph
+  pub task : new.task ≡ old.task
+
+-- ---- the end
+
+-- There are as many passes as workers, and each worker that the pass knows of has signed off.
+pub record AllSignedOff (view : View) : Type 0 where
+  pub all_made : view.journal.made ≡ view.settings.workers
+  pub off : AllByRecursion (λ share. IsTrue (list_any is_off share.events)) (view.journal.own ∷ view.journal.taken_in)
+
+-- The graph is of the search that the yard began with. Its journal is what the pass has seen, and
+-- is a finished history: an end stands and every worker has signed off. Each worker's events in it
+-- are those that the pass has of it. No lease is out, and the graph is the moment of the lease
+-- machine to which moves from the opening lead whose events are the journal.
+pub record IsClosed (view : View) (g : GraphValue) : Type 0 where
+  pub search : IsSearchOf g view
+  pub seen : view.journal.seen ≡ g.table.journal
+  pub shares : AllByRecursion (IsShareOf g.table.journal view.journal.seen) (view.journal.own ∷ view.journal.taken_in)
+  pub history : IsHistory (blocks g.table) g.table.settings 0 g.table.journal (counts_in g)
+  pub finished : AreFinished g.table.settings (counts_in g)
+  pub home : IsFalse (is_out_in g)
+  pub moves : List Move
+  pub machine : Machine
+  pub run : Runs (setup_in g) (opening_machine (setup_in g)) moves machine
+  pub journal : journal_of moves ≡ g.table.journal
+  pub moment : (recorded : (worker : ℕ) → Rows) → IsMoment g recorded machine

@@ -1,0 +1,7 @@
+pub mod Views
+pub mod Rule
+pub mod Replies
+pub mod Returning
+pub mod Passes
+pub mod Calls
+pub mod Laws

@@ -1,0 +1,116 @@
+-- What each call of a graph leaves, by cases of its reply: as the graph's own contracts say. And
+-- which events it adds.
+use Rattle.std.specs.Prelude.{◌≡◌, ℕ, Bool, true, false, if◌then◌else◌, List, [], ◌∷◌, Option, Some, None}
+use Rattle.pb_model.specs.Store.{Rows}
+use Rattle.pb_machine.specs.declared.event.End.{End}
+use Rattle.pb_machine.specs.declared.event.Event.{Event}
+use Rattle.pb_machine.specs.declared.event.Event.TheVariants.{Lease, Renew, Hot, Cold, Release, Off}
+use Rattle.pb_machine.specs.Blocks.{interferes}
+use Rattle.pb_machine.specs.Choice.{MayBeLeased, IsRival}
+use Rattle.pb_machine.specs.Machine.{Machine}
+use Rattle.pb_bundles.specs.Homes.{key_at}
+use Rattle.pb_bundles.specs.Choosing.{IsRivalBy}
+use Rattle.pb_lease.specs.declared.answer.LeaseReply.{LeaseReply}
+use Rattle.pb_lease.specs.declared.answer.LeaseReply.TheVariants.{Leased, NotYet, Over, Memory}
+use Rattle.pb_lease.specs.declared.answer.Renewed.{Renewed}
+use Rattle.pb_lease.specs.declared.answer.Renewed.TheVariants.{Kept, Given}
+use Rattle.pb_lease.specs.Tables.{blocks}
+use Rattle.pb_lease.specs.Events.{ending}
+use Rattle.pb_lease.specs.LeaseValue.{LeaseValue}
+use Rattle.pb_lease.specs.GraphValue.{GraphValue}
+use Rattle.pb_lease.specs.Choices.{IsOver, IsToWait, MayMark, MayCool}
+use Rattle.pb_lease.specs.Moments.{IsMomentAt}
+use Rattle.pb_lease.specs.Steps.{IsLeased, LeasesNext, IsEnded, end_events, KeepsLeases, IsMarked, IsSignedOff, IsReleased, ReleasesNext, IsRenewed, RenewsNext, GoesOn, ChoosesByRows}
+
+-- ---- a lease
+
+-- at no moment that the graph is one of may a block be leased
+abbrev pub NoneMayBeLeased : GraphValue → Type 0
+NoneMayBeLeased g =
+    (recorded : (worker : ℕ) → Rows) (machine : Machine) → IsMomentAt g recorded machine
+    → (block : ℕ) → MayBeLeased (blocks g.table) g.table.settings machine.counts machine.store block → ⊥
+
+-- A worker asked for a lease. At want of memory it was neither to wait, nor was the search over;
+-- and then, as where it is to wait, nothing changes.
+abbrev pub LeasesAs : (worker : ℕ) → LeaseReply → (old new : GraphValue) → Type 0
+LeasesAs worker (Leased lease) old new = IsLeased old worker lease new × LeasesNext old lease new
+LeasesAs worker NotYet old new = IsToWait old × NoneMayBeLeased old × (new ≡ old)
+LeasesAs worker (Over end) old new = IsOver old end × IsEnded old end new × KeepsLeases old (end_events old.table.end end) new
+LeasesAs worker Memory old new = (IsToWait old → ⊥) × ((end : End) → IsOver old end → ⊥) × (new ≡ old)
+
+abbrev pub lease_events : (worker : ℕ) → LeaseReply → (old : GraphValue) → List Event
+lease_events worker (Leased lease) old = Lease worker lease.block lease.quota ∷ []
+lease_events worker NotYet old = []
+lease_events worker (Over end) old = end_events old.table.end end
+lease_events worker Memory old = []
+
+-- the lease that the worker has then, and what it has told since it was given, by what it had and
+-- had told before
+abbrev pub lent_by : LeaseReply → Option LeaseValue → Option LeaseValue
+lent_by (Leased lease) had = Some lease
+lent_by NotYet had = had
+lent_by (Over end) had = had
+lent_by Memory had = had
+
+abbrev pub told_by : LeaseReply → Option ℕ → Option ℕ
+told_by (Leased lease) had = None
+told_by NotYet had = had
+told_by (Over end) had = had
+told_by Memory had = had
+
+-- ---- a lease that goes on, or comes back
+
+-- A worker asked to go on with its lease.
+abbrev pub RenewsAs : LeaseValue → Renewed → (old new : GraphValue) → Type 0
+RenewsAs lease (Kept kept) old new = GoesOn old lease new × IsRenewed old lease kept new × ChoosesByRows old lease new × RenewsNext old lease kept new
+RenewsAs lease Given old new = (GoesOn old lease new → ⊥) × IsReleased old lease false new × ChoosesByRows old lease new
+    × ReleasesNext old lease false new
+
+abbrev pub renewal_events : LeaseValue → Renewed → List Event
+renewal_events lease (Kept kept) = Renew lease.worker lease.used kept.quota ∷ []
+renewal_events lease Given = Release lease.worker lease.used false ∷ []
+
+abbrev pub kept_by : Renewed → Option LeaseValue
+kept_by (Kept kept) = Some kept
+kept_by Given = None
+
+-- A worker brought its lease back.
+abbrev pub ReleasesAs : LeaseValue → (trouble : Bool) → (old new : GraphValue) → Type 0
+ReleasesAs lease trouble old new = IsReleased old lease trouble new × ReleasesNext old lease trouble new
+
+abbrev pub release_events : LeaseValue → (trouble : Bool) → (old : GraphValue) → List Event
+release_events lease trouble old = Release lease.worker lease.used trouble ∷ ending trouble old.table.end
+
+-- ---- marks
+
+-- A worker asked for the rival of its lease's block. Nothing changes.
+abbrev pub RivalsAs : LeaseValue → Option ℕ → (old new : GraphValue) → Type 0
+RivalsAs lease rival old new =
+    IsRivalBy (interferes (blocks old.table) lease.block) (key_at old.homes) lease.block rival
+    × ((recorded : (worker : ℕ) → Rows) (machine : Machine) → IsMomentAt old recorded machine → IsRival (blocks old.table) machine.store lease.block rival)
+    × (new ≡ old)
+
+-- The event is the mark, or the mark that is taken away, and the worker may do so; or it may not,
+-- and nothing changes.
+abbrev pub ChangesMarkAs : (may : Type 0) → (worker : ℕ) → Event → (done : Bool) → (old new : GraphValue) → Type 0
+ChangesMarkAs may worker event true old new = may × IsMarked old worker event new × KeepsLeases old (event ∷ []) new
+ChangesMarkAs may worker event false old new = (may → ⊥) × (new ≡ old)
+
+-- A worker asked that the block be hot, or cold.
+abbrev pub MarksAs : (worker block : ℕ) → (done : Bool) → (old new : GraphValue) → Type 0
+MarksAs worker block done old new = ChangesMarkAs (MayMark old worker block) worker (Hot worker block) done old new
+
+abbrev pub CoolsAs : (worker block : ℕ) → (done : Bool) → (old new : GraphValue) → Type 0
+CoolsAs worker block done old new = ChangesMarkAs (MayCool old worker block) worker (Cold worker block) done old new
+
+abbrev pub mark_events : Event → (done : Bool) → List Event
+mark_events event done = if done then event ∷ [] else []
+
+-- ---- signing off
+
+-- A worker signed off.
+abbrev pub SignsOffAs : (worker : ℕ) → (trouble : Bool) → (old new : GraphValue) → Type 0
+SignsOffAs worker trouble old new = IsSignedOff old worker trouble new × KeepsLeases old (Off worker trouble ∷ ending trouble old.table.end) new
+
+abbrev pub off_events : (worker : ℕ) → (trouble : Bool) → (old : GraphValue) → List Event
+off_events worker trouble old = Off worker trouble ∷ ending trouble old.table.end

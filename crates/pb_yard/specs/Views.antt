@@ -1,0 +1,51 @@
+-- How what a pass knows changes.
+use Rattle.std.specs.Prelude.{ℕ, false, List, [], Option, None, length, drop}
+use Rattle.pb_task.specs.declared.parts.TaskParts.TheVariants.{Tiles}
+use Rattle.pb_abstract.specs.declared.projection.Projection.TheVariants.{Blank}
+use Rattle.pb_machine.specs.declared.event.Event.{Event}
+use Rattle.pb_machine.specs.Views.{first_view, spent_view, view_after, with_one_more, next_view, met_view}
+use Rattle.pb_lease.specs.LeaseValue.{LeaseValue}
+use Rattle.pb_lease.specs.GraphValue.{GraphValue}
+use Rattle.pb_yard.specs.declared.view.View.{View}
+
+-- the first pass's
+abbrev pub opening_view : GraphValue → View
+opening_view g = record { journal = first_view; lent = None; task = g.task; graph = g.table.graph; settings = g.table.settings; told = None; last = None; read = [] }
+
+-- after a pass was split from it, and that pass's: it has the next worker's number, no lease and no
+-- events, and has seen what the first has
+abbrev pub split_view : View → View
+split_view view = record view { journal = with_one_more view.journal }
+
+abbrev pub next_pass_view : View → View
+next_pass_view view = record view { journal = next_view view.journal; lent = None; told = None; last = None; read = [] }
+
+-- after its pass took in another's; and what is left at that one's number, which says nothing
+abbrev pub met_pass_view : (view other : View) → View
+met_pass_view view other = record view { journal = met_view view.journal other.journal }
+
+abbrev pub spent_pass_view : View
+spent_pass_view =
+    record {
+      journal = spent_view;
+      lent = None;
+      task = Tiles (record { rows = 0; cols = 0; start = []; goal = [] });
+      graph = record { projection = Blank; scopes = [] };
+      settings = record { workers = 0; num = 0; den = 0; budget = 0; lot = 0; wish = 0; plain = false };
+      told = None;
+      last = None;
+      read = [];
+    }
+
+-- After its pass held the graph, where these events were added to the journal: it has seen the
+-- whole journal, and has the events that are its own worker's; it has this lease, and has told this
+-- cost.
+abbrev pub view_then : (journal added : List Event) → (lent : Option LeaseValue) → (told : Option ℕ) → View → View
+view_then journal added lent told view = record view { journal = view_after journal added view.journal; lent = lent; told = told }
+
+-- the events that the second graph's journal has and the first one's hasn't
+abbrev pub events_between : (old new : GraphValue) → List Event
+events_between old new = drop (length old.table.journal) new.table.journal
+
+abbrev pub view_left : (old new : GraphValue) → (lent : Option LeaseValue) → (told : Option ℕ) → View → View
+view_left old new lent told view = view_then old.table.journal (events_between old new) lent told view

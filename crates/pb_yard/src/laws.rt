@@ -1,0 +1,39 @@
+//! What the rule of a yard means. Each law is the contract of a function without a body.
+ghost use Rattle.pb_yard.specs.Laws.{YardsAreLawful, LentLeasesAreOut, ViewsBeginTheHistory, LentLeasesMayComeBack, EndsAreSeen, ActiveStay, SigningOffIsSeen};
+
+/// The moment is lawful, and the journal is a legal history. No block is in the scopes of two
+/// leases that are out, and no two hot blocks interfere.
+pub fn yards_are_lawful()
+    ensures { YardsAreLawful }
+{}
+
+/// At every moment the lease machine has each lease that is out as it was given or last renewed.
+pub fn lent_leases_are_out()
+    ensures { LentLeasesAreOut }
+{}
+
+/// What a pass has seen begins the journal at every moment, and its own events are all that its
+/// worker has in it.
+pub fn views_begin_the_history()
+    ensures { ViewsBeginTheHistory }
+{}
+
+/// A lease may come back as it was lent.
+pub fn lent_leases_may_come_back()
+    ensures { LentLeasesMayComeBack }
+{}
+
+/// A pass that was answered that the search is over has seen its end.
+pub fn ends_are_seen()
+    ensures { EndsAreSeen }
+{}
+
+/// A call that adds no signing off leaves a worker that has not signed off so.
+pub fn active_stay()
+    ensures { ActiveStay }
+{}
+
+/// After its own sign-off a worker has signed off.
+pub fn signing_off_is_seen()
+    ensures { SigningOffIsSeen }
+{}

@@ -1,0 +1,60 @@
+//! Leases that a worker takes, goes on with, and brings back.
+ghost use Rattle.std.specs.Prelude.{◌≡◌, None};
+ghost use Rattle.pb_machine.specs.Tables.{one_if};
+ghost use Rattle.pb_yard.specs.Passes.{view_of, worker_of, IsOf, KeepsPass};
+ghost use Rattle.pb_yard.specs.Returning.{IsBrought};
+ghost use Rattle.pb_yard.specs.Calls.{IsActive, Leases, Renews, Releases};
+
+use crate::pass::Pass;
+use crate::rule::{AfterLease, AfterRelease, AfterRenewal};
+use crate::yard::Yard;
+use pb_lease::{Lease, LeaseReply, Renewed};
+use std::sync::Wait;
+
+impl Yard {
+    /// The pass's worker asks for a lease. It is answered as the graph answers at some moment that
+    /// isn't before what the pass had seen.
+    pub fn lease<W: Wait>(&self, rt: &W, pass: &mut Pass) -> LeaseReply
+        requires own { IsOf self.now pass.old }
+        requires vacant { (view_of pass.old).lent ≡ None }
+        requires stays { IsActive (view_of pass.old) }
+        ensures same { KeepsPass pass.old pass.new }
+        ensures leased { Leases (worker_of pass.old) (view_of pass.old) result (view_of pass.new) }
+    {
+        let mut held = self.lock.enter(rt, &mut pass.turn);
+        let reply = held.state_mut().lease(pass.worker);
+        pass.seen = held.state().journal().len() as u64;
+        self.lock.leave::<AfterLease>(&mut pass.turn, held, &reply);
+        reply
+    }
+
+    /// The pass's worker asks to go on with its lease, which came from the one that it was lent by
+    /// its work alone.
+    pub fn renew<W: Wait>(&self, rt: &W, pass: &mut Pass, lease: Lease) -> Renewed
+        requires own { IsOf self.now pass.old }
+        requires brought { IsBrought (view_of pass.old) 0 lease }
+        ensures same { KeepsPass pass.old pass.new }
+        ensures renewed { Renews lease (view_of pass.old) result (view_of pass.new) }
+    {
+        let mut held = self.lock.enter(rt, &mut pass.turn);
+        let reply = held.state_mut().renew(lease);
+        pass.seen = held.state().journal().len() as u64;
+        self.lock
+            .leave::<AfterRenewal>(&mut pass.turn, held, &reply);
+        reply
+    }
+
+    /// The pass's worker brings its lease back, which came from the one that it was lent by its
+    /// work alone. An expansion may have been broken off only where want of memory is reported.
+    pub fn release<W: Wait>(&self, rt: &W, pass: &mut Pass, lease: Lease, trouble: bool)
+        requires own { IsOf self.now pass.old }
+        requires brought { IsBrought (view_of pass.old) (one_if trouble) lease }
+        ensures same { KeepsPass pass.old pass.new }
+        ensures released { Releases lease trouble (view_of pass.old) (view_of pass.new) }
+    {
+        let mut held = self.lock.enter(rt, &mut pass.turn);
+        held.state_mut().release(lease, trouble);
+        pass.seen = held.state().journal().len() as u64;
+        self.lock.leave::<AfterRelease>(&mut pass.turn, held, &());
+    }
+}

@@ -1,0 +1,32 @@
+//! The yard of a parallel best-first search by blocks (Burns, Lemons, Ruml and Zhou, "Best-First
+//! Heuristic Search for Multicore Machines", Journal of Artificial Intelligence Research 39, 2010):
+//! one graph of leases that any number of workers share.
+//!
+//! Each worker carries a pass. One pass at a time holds the graph; what workers do to the rows of
+//! their leases they do outside. What a pass knows is its view, which exists in proofs alone. The
+//! yard's rule ties the graph to the views of all passes: the graph is a lawful moment of the lease
+//! machine, its journal is one legal history, and each worker's events are those that its own calls
+//! made.
+#![tactic(auto)]
+
+mod bounds;
+mod laws;
+mod leases;
+mod lifecycle;
+mod marks;
+mod pass;
+mod passes;
+mod rule;
+#[cfg(test)]
+mod tests;
+mod view;
+mod yard;
+
+pub use laws::{
+    active_stay, ends_are_seen, lent_leases_are_out, lent_leases_may_come_back,
+    signing_off_is_seen, views_begin_the_history, yards_are_lawful,
+};
+pub use pass::Pass;
+pub use rule::YardRule;
+pub use view::{JournalView, View};
+pub use yard::Yard;

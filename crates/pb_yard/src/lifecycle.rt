@@ -1,0 +1,94 @@
+//! Making a yard, one pass for each worker, and taking the graph out at the end.
+ghost use Rattle.std.specs.Prelude.{◌≡◌, ◌+◌, ◌<◌, None, IfOk, IfErr};
+ghost use Rattle.pb_yard.specs.Views.{opening_view, split_view, next_pass_view, met_pass_view};
+ghost use Rattle.pb_yard.specs.Passes.{view_of, worker_of, parts_of, all_parts, IsOf, IsFirstPass, IsSamePass};
+ghost use Rattle.pb_yard.specs.Calls.{IsOpening, AllSignedOff, IsClosed};
+
+use crate::pass::Pass;
+use crate::yard::Yard;
+use pb_lease::LeaseGraph;
+use pb_turn::TurnLock;
+use std::alloc::{AllocError, Global};
+
+impl Yard {
+    /// A yard over the graph of a search that begins, and the pass of worker 0. An error is want of
+    /// memory: the graph comes back.
+    pub fn new(alloc: Global, graph: LeaseGraph) -> Result<(Yard, Pass), (AllocError, LeaseGraph)>
+        requires { IsOpening graph }
+        ensures pass { IfOk result (λ r. IsFirstPass r.0 r.1) }
+        ensures view { IfOk result (λ r. view_of r.1 ≡ opening_view graph) }
+        ensures err { IfErr result (λ r. r.1 ≡ graph) }
+    {
+        let _ = graph.abstraction();
+        let (lock, turn) = TurnLock::new(alloc, graph)?;
+        Ok((
+            Yard { lock },
+            Pass {
+                turn,
+                worker: 0,
+                made: 1,
+                seen: 0,
+            },
+        ))
+    }
+
+    /// The next worker's pass. Worker 0's pass makes them, which counts them.
+    pub fn split(&self, pass: &mut Pass) -> Pass
+        requires own { IsOf self.now pass.old }
+        requires first { worker_of pass.old ≡ 0 }
+        requires more { (view_of pass.old).journal.made < (view_of pass.old).settings.workers }
+        ensures same { IsSamePass pass.old pass.new }
+        ensures kept { view_of pass.new ≡ split_view (view_of pass.old) }
+        ensures left { parts_of pass.new + 1 ≡ parts_of pass.old }
+        ensures given { IsOf self.now result × (parts_of result ≡ 1) }
+        ensures worker { worker_of result ≡ (view_of pass.old).journal.made }
+        ensures view { view_of result ≡ next_pass_view (view_of pass.old) }
+    {
+        let turn = self.lock.split(&mut pass.turn);
+        let worker = pass.made;
+        pass.made += 1;
+        Pass {
+            turn,
+            worker,
+            made: 0,
+            seen: pass.seen,
+        }
+    }
+
+    /// Takes in the pass of another worker, which has no lease: the events of both are the taker's
+    /// from now on.
+    pub fn meet(&self, pass: &mut Pass, other: Pass)
+        requires own { IsOf self.now pass.old × IsOf self.now other }
+        requires free { (view_of other).lent ≡ None }
+        ensures same { IsSamePass pass.old pass.new }
+        ensures met { view_of pass.new ≡ met_pass_view (view_of pass.old) (view_of other) }
+        ensures parts { parts_of pass.new ≡ parts_of pass.old + parts_of other }
+    {
+        let Pass {
+            turn,
+            worker: _,
+            made,
+            seen,
+        } = other;
+        self.lock.meet(&mut pass.turn, turn);
+        pass.made = pass.made.wrapping_add(made);
+        pass.seen = pass.seen.max(seen);
+    }
+
+    /// Takes the graph out, after every worker signed off and all other passes were met.
+    pub fn close(self, pass: Pass) -> LeaseGraph
+        requires own { IsOf self pass }
+        requires met { parts_of pass ≡ all_parts }
+        requires off { AllSignedOff (view_of pass) }
+        ensures closed { IsClosed (view_of pass) result }
+    {
+        let Yard { lock } = self;
+        let Pass {
+            turn,
+            worker: _,
+            made: _,
+            seen: _,
+        } = pass;
+        lock.close_with(turn)
+    }
+}

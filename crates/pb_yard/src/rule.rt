@@ -1,0 +1,77 @@
+//! The rule that ties the graph to what the passes know.
+use crate::view::View;
+use pb_lease::{LeaseGraph, LeaseReply, Renewed};
+use pb_turn::{Leaving, TurnRule};
+
+/// The rule of the yard: the graph is a lawful moment of the lease machine, and the views of all
+/// passes are true of its journal and of the leases that are out.
+pub struct YardRule;
+
+impl TurnRule for YardRule {
+    ghost use Rattle.pb_yard.specs.Views.{opening_view, split_view, next_pass_view, met_pass_view, spent_pass_view};
+    ghost use Rattle.pb_yard.specs.Rule.{IsYard};
+
+    type State = LeaseGraph;
+
+    type View = View;
+
+    ghost fact = { λ g views. IsYard g g.incumbent views };
+
+    ghost first = { opening_view };
+
+    ghost kept = { split_view };
+
+    ghost given = { next_pass_view };
+
+    ghost met = { met_pass_view };
+
+    ghost spent = { spent_pass_view };
+}
+
+/// Leaving after a lease was asked for.
+pub(crate) struct AfterLease;
+
+impl Leaving<YardRule> for AfterLease {
+    ghost use Rattle.pb_yard.specs.Views.{view_left};
+    ghost use Rattle.pb_yard.specs.Replies.{lent_by, told_by};
+
+    type Said = LeaseReply;
+
+    ghost after = { λ reply x y v. view_left x y (lent_by reply v.lent) (told_by reply v.told) v };
+}
+
+/// Leaving after a renewal was asked for.
+pub(crate) struct AfterRenewal;
+
+impl Leaving<YardRule> for AfterRenewal {
+    ghost use Rattle.std.specs.Prelude.{None};
+    ghost use Rattle.pb_yard.specs.Views.{view_left};
+    ghost use Rattle.pb_yard.specs.Replies.{kept_by};
+
+    type Said = Renewed;
+
+    ghost after = { λ reply x y v. view_left x y (kept_by reply) None v };
+}
+
+/// Leaving after a lease came back.
+pub(crate) struct AfterRelease;
+
+impl Leaving<YardRule> for AfterRelease {
+    ghost use Rattle.std.specs.Prelude.{None};
+    ghost use Rattle.pb_yard.specs.Views.{view_left};
+
+    type Said = ();
+
+    ghost after = { λ _ x y v. view_left x y None None v };
+}
+
+/// Leaving after anything else: the pass has the lease that it had.
+pub(crate) struct AfterLook;
+
+impl Leaving<YardRule> for AfterLook {
+    ghost use Rattle.pb_yard.specs.Views.{view_left};
+
+    type Said = ();
+
+    ghost after = { λ _ x y v. view_left x y v.lent v.told v };
+}

@@ -1,0 +1,59 @@
+//! What a pass knows. No value of these types is made: they are what proofs see.
+ghost use Rattle.std.specs.Prelude.{map};
+
+use pb_abstract::AbsGraph;
+use pb_lease::Lease;
+use pb_machine::{Event, Settings};
+use pb_task::Task;
+use std::collections::LinkedList;
+use std::marker::Model;
+
+/// What a pass knows of the journal. To a contract it is the view of `pb_machine`'s laws of
+/// journals.
+pub struct JournalView {
+    is_live: bool,
+    worker: u32,
+    events: LinkedList<Event>,
+    seen: LinkedList<Event>,
+    taken_in: LinkedList<(u32, LinkedList<Event>)>,
+    made: u32,
+}
+
+impl Model for JournalView {
+    ghost use Rattle.std.specs.Prelude.{map, ℕ, List};
+    ghost use Rattle.pb_machine.specs.declared.event.Event.{Event};
+    ghost use Rattle.pb_machine.specs.Views.{Share};
+    ghost use Rattle.pb_machine.specs.Views as of_machine;
+
+    ghost Value = { of_machine.View };
+
+    ghost view = { λ v. record {
+      is_live = v.is_live;
+      own = record { worker = v.worker; events = v.events };
+      seen = v.seen;
+      taken_in = map (λ (s : ℕ × List Event). record { worker = s.0; events = s.1 }) v.taken_in;
+      made = v.made;
+    } };
+}
+
+/// What a pass knows.
+pub struct View {
+    /// The journal as it was last seen, the events that its own calls made, and those of the passes
+    /// that it took in.
+    pub journal: JournalView,
+    /// The lease that it has, as it was given or last renewed.
+    pub lent: Option<Lease>,
+    /// What is searched.
+    pub task: Task,
+    /// By which blocks.
+    pub graph: AbsGraph,
+    /// With what.
+    pub settings: Settings,
+    /// The least cost that it told since its lease was given or last renewed. Nothing is told yet,
+    /// so it is None.
+    pub told: Option<u64>,
+    /// The least cost that it has read or told. Nothing is read yet, so it is None.
+    pub last: Option<u64>,
+    /// The costs that it has read. Nothing is read yet, so there are none.
+    pub read: LinkedList<u64>,
+}
