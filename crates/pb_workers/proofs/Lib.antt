@@ -7,3 +7,5 @@ pub mod GoingOn
 pub mod Searching
 pub mod Closed
 pub mod Ended
+pub mod Sharing
+pub mod Teaming

@@ -1,3 +1,6 @@
 pub mod Runs
 pub mod Holding
 pub mod Ends
+pub mod Shared
+pub mod Teams
+pub mod Tools

@@ -1,14 +1,23 @@
-//! The workers of a parallel best-first search by blocks (Burns, Lemons, Ruml and Zhou, "Best-First Heuristic Search for Multicore
-//! Machines", Journal of Artificial Intelligence Research 39, 2010): so far one that searches alone.
+//! The workers of a parallel best-first search by blocks (Burns, Lemons, Ruml and Zhou, "Best-First
+//! Heuristic Search for Multicore Machines", Journal of Artificial Intelligence Research 39, 2010):
+//! one that searches alone, or any number that share a yard.
 #![tactic(auto)]
 
 mod alone;
 mod closing;
+mod event_count;
 mod holding;
 mod marking;
 mod turning;
+mod worker;
+mod workers;
+mod yard_search;
+mod yard_turns;
 
 pub use alone::run_alone;
+pub use workers::run_workers;
 
 #[cfg(test)]
 mod tests;
+#[cfg(test)]
+mod yard_tests;

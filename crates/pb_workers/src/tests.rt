@@ -14,7 +14,7 @@ use std::sync::atomic::{AtomicU64, Ordering};
 use std::test::Fail;
 
 // A board of 2 by 2 cells that is its goal.
-fn goal_board(alloc: Global) -> Result<Task, AllocError> {
+pub(crate) fn goal_board(alloc: Global) -> Result<Task, AllocError> {
     Ok(Task::of_tiles(TilesParts {
         rows: 2,
         cols: 2,
@@ -24,7 +24,7 @@ fn goal_board(alloc: Global) -> Result<Task, AllocError> {
 }
 
 // A board of 2 by 2 cells from which no goal is reached.
-fn far_board(alloc: Global) -> Result<Task, AllocError> {
+pub(crate) fn far_board(alloc: Global) -> Result<Task, AllocError> {
     Ok(Task::of_tiles(TilesParts {
         rows: 2,
         cols: 2,
@@ -34,7 +34,7 @@ fn far_board(alloc: Global) -> Result<Task, AllocError> {
 }
 
 // A board of 3 by 3 cells from which no goal is reached.
-fn board(alloc: Global) -> Result<Task, AllocError> {
+pub(crate) fn board(alloc: Global) -> Result<Task, AllocError> {
     Ok(Task::of_tiles(TilesParts {
         rows: 3,
         cols: 3,
@@ -44,7 +44,7 @@ fn board(alloc: Global) -> Result<Task, AllocError> {
 }
 
 // A map of 3 by 3 cells of land, from corner to corner.
-fn open_square(alloc: Global) -> Result<Task, AllocError> {
+pub(crate) fn open_square(alloc: Global) -> Result<Task, AllocError> {
     let land = Class::Land;
     Ok(Task::of_grid(GridParts {
         width: 3,
@@ -57,14 +57,14 @@ fn open_square(alloc: Global) -> Result<Task, AllocError> {
 
 // How a test's search is run.
 #[derive(Clone, Copy)]
-struct Words {
-    budget: u64,
-    lot: u64,
-    wish: u32,
-    plain: bool,
+pub(crate) struct Words {
+    pub(crate) budget: u64,
+    pub(crate) lot: u64,
+    pub(crate) wish: u32,
+    pub(crate) plain: bool,
 }
 
-const DEFAULTS: Words = Words {
+pub(crate) const DEFAULTS: Words = Words {
     budget: 16_777_216,
     lot: 256,
     wish: 256,
@@ -221,7 +221,7 @@ fn a_search_ends_by_its_budget(rt: HostRuntime) -> Result<(), Fail> {
 }
 
 // How many leases the journal has.
-fn leases(journal: &[Event]) -> usize {
+pub(crate) fn leases(journal: &[Event]) -> usize {
     journal
         .iter()
         .filter(|event| matches!(event, Event::Lease { .. }))
@@ -229,7 +229,7 @@ fn leases(journal: &[Event]) -> usize {
 }
 
 // How many renewals it has.
-fn renewals(journal: &[Event]) -> usize {
+pub(crate) fn renewals(journal: &[Event]) -> usize {
     journal
         .iter()
         .filter(|event| matches!(event, Event::Renew { .. }))
@@ -237,7 +237,7 @@ fn renewals(journal: &[Event]) -> usize {
 }
 
 // How many leases came back.
-fn releases(journal: &[Event]) -> usize {
+pub(crate) fn releases(journal: &[Event]) -> usize {
     journal
         .iter()
         .filter(|event| matches!(event, Event::Release { .. }))
@@ -245,7 +245,7 @@ fn releases(journal: &[Event]) -> usize {
 }
 
 // How many blocks were marked hot.
-fn marks(journal: &[Event]) -> usize {
+pub(crate) fn marks(journal: &[Event]) -> usize {
     journal
         .iter()
         .filter(|event| matches!(event, Event::Hot { .. }))

@@ -1,0 +1,303 @@
+-- A worker that shares a yard: what its pass knows after each of its calls.
+use Rattle.std.proofs.Common.{◌≡◌, ℕ, ◌-◌, ◌<◌, ◌||◌, Bool, true, false, cond, is_some, List, [], ◌∷◌, Option, Some, None, refl, sym, ap, ◌∙◌, arith, subst, inl, inr, true≢false}
+use Rattle.std.specs.List.{list_any}
+use Rattle.std.proofs.lemmas.List.Folds.{list_any-append}
+use Rattle.pb_model.proofs.Tests.{by_cases, equal_self}
+use Rattle.pb_machine.specs.declared.event.End.{End}
+use Rattle.pb_machine.specs.declared.event.Event.{Event}
+use Rattle.pb_machine.specs.declared.event.Event.TheVariants.{Hot, Off}
+use Rattle.pb_machine.specs.Counts.{Counts}
+use Rattle.pb_machine.specs.History.{events_of, is_event_of, is_off, end_in}
+use Rattle.pb_machine.specs.Machine.{IsWorked, lent_store}
+use Rattle.pb_machine.proofs.EndsTold.{ends_are_told}
+use Rattle.pb_machine.proofs.LeaseWork.{lease_work_stays}
+use Rattle.pb_task.specs.declared.parts.TaskParts.{TaskParts}
+use Rattle.pb_task.specs.Parts.{space_of}
+use Rattle.pb_abstract.specs.Graph.{AbstractGraph, blocks_of, IsGraphOf}
+use Rattle.pb_lease.specs.declared.answer.LeaseReply.TheVariants.{Leased, Over}
+use Rattle.pb_lease.specs.declared.answer.Renewed.TheVariants.{Kept, Given}
+use Rattle.pb_lease.specs.Tables.{blocks}
+use Rattle.pb_lease.specs.Events.{ending, counts_along}
+use Rattle.pb_lease.specs.LeaseValue.{LeaseValue, leased_store, IsSameLease}
+use Rattle.pb_lease.specs.Leased.{guide_of, HasScope}
+use Rattle.pb_lease.specs.GraphValue.{GraphValue, setup_in, counts_in}
+use Rattle.pb_lease.specs.Choices.{IsOver}
+use Rattle.pb_lease.specs.Steps.{end_events}
+use Rattle.pb_expand.specs.Turned.{IsAtWork, HasTurned, reads_none}
+use Rattle.pb_yard.specs.declared.view.View.{View}
+use Rattle.pb_yard.specs.Views.{view_then}
+use Rattle.pb_yard.specs.Rule.{rows_of, was_read, grant_in, IsViewOf}
+use Rattle.pb_yard.specs.Replies.{LeasesAs, lease_events, ReleasesAs, release_events, RenewsAs, renewal_events, RivalsAs, MarksAs, mark_events, off_events}
+use Rattle.pb_yard.specs.Returning.{IsLeaseOf, IsBrought}
+use Rattle.pb_yard.specs.Calls.{Holds, Looks, Leases, Renews, Releases, AsksRival, Marks, SignsOff, IsActive}
+use Rattle.pb_yard.proofs.Meaning.{history, leased, begins}
+use Rattle.pb_workers.specs.Shared.{IsSameHolder, IsIdle, IsLeased}
+
+-- ---- which events sign off
+
+abbrev HasNoOff : List Event → Type 0
+HasNoOff events = list_any is_off events ≡ false
+
+none_then : (a b : Bool) → a ≡ false → b ≡ false → (a || b) ≡ false
+none_then a b one two = ap (λ c. c || b) one ∙ two
+
+first_none : (a b : Bool) → (a || b) ≡ false → a ≡ false
+first_none true b e = absurd (true≢false e)
+first_none false b e = refl
+
+rest_none : (a b : Bool) → (a || b) ≡ false → b ≡ false
+rest_none true b e = absurd (true≢false e)
+rest_none false b e = e
+
+own_no_off : (worker : ℕ) (events : List Event) → HasNoOff events → HasNoOff (events_of worker events)
+own_no_off worker [] none = refl
+own_no_off worker (e ∷ es) none =
+    let first = first_none (is_off e) (list_any is_off es) none in
+    let rest = own_no_off worker es (rest_none (is_off e) (list_any is_off es) none) in
+    by_cases (is_event_of worker e)
+    (λ own. ap (λ r. list_any is_off (cond r (e ∷ events_of worker es) (events_of worker es))) own ∙ none_then (is_off e) (list_any is_off (events_of worker es)) first rest)
+    (λ own. ap (λ r. list_any is_off (cond r (e ∷ events_of worker es) (events_of worker es))) own ∙ rest)
+
+ending_no_off : (trouble : Bool) (end : Option End) → HasNoOff (ending trouble end)
+ending_no_off false end = refl
+ending_no_off true None = refl
+ending_no_off true (Some end) = refl
+
+end_no_off : (standing : Option End) (end : End) → HasNoOff (end_events standing end)
+end_no_off None end = refl
+end_no_off (Some standing) end = refl
+
+-- ---- a pass that held the graph
+
+module _ (step : GraphValue → GraphValue → Type 0) (list : GraphValue → List Event) (old : View) (lent : Option LeaseValue) (told : Option ℕ) (new : View) (h : Holds step list old lent told new) where
+  pub holder : IsSameHolder old new
+  holder = subst (λ (v : View). IsSameHolder old v) (sym h.view) record { worker = refl; taken_in = refl; made = refl; task = refl; graph = refl; settings = refl }
+
+  lent_is : new.lent ≡ lent
+  lent_is = ap (λ (v : View). v.lent) h.view
+
+  told_is : new.told ≡ told
+  told_is = ap (λ (v : View). v.told) h.view
+
+  still_active : IsActive old → HasNoOff (list h.found) → IsActive new
+  still_active stays none = subst (λ (v : View). IsActive v) (sym h.view)
+      (list_any-append is_off old.journal.own.events (events_of old.journal.own.worker (list h.found))
+      ∙ none_then (list_any is_off old.journal.own.events) (list_any is_off (events_of old.journal.own.worker (list h.found))) stays (own_no_off old.journal.own.worker (list h.found) none))
+
+  module _ (task : TaskParts) (graph : AbstractGraph) where
+    idle_then : IsIdle task graph old → lent ≡ None → HasNoOff (list h.found) → IsIdle task graph new
+    idle_then i free none = record { of_task = i.of_task; task_is = holder.task ∙ i.task_is; graph_is = holder.graph ∙ i.graph_is; vacant = lent_is ∙ free; stays = still_active i.stays none }
+
+-- ---- a lease that is asked for
+
+module _ (task : TaskParts) (graph : AbstractGraph) (worker : ℕ) (old new : View) (i : IsIdle task graph old) where
+  pub leased_then : (lease : LeaseValue) → Leases worker old (Leased lease) new → IsLeased task graph new lease
+  leased_then lease h =
+      let same = holder (LeasesAs worker (Leased lease)) (lease_events worker (Leased lease)) old (Some lease) None new h in
+      record {
+        of_task = i.of_task;
+        task_is = same.task ∙ i.task_is;
+        graph_is = same.graph ∙ i.graph_is;
+        lent = ap (λ (v : View). v.lent) h.view;
+        untold = ap (λ (v : View). v.told) h.view;
+        stays = still_active (LeasesAs worker (Leased lease)) (lease_events worker (Leased lease)) old (Some lease) None new h i.stays refl;
+        yard = h.left;
+        at = h.after;
+      }
+
+  -- the search is over, as the journal that the pass has seen tells
+  pub over_then : (end : End) → Leases worker old (Over end) new → IsIdle task graph new × (is_some (end_in new.journal.seen) ≡ true)
+  over_then end h = (
+    idle_then (LeasesAs worker (Over end)) (lease_events worker (Over end)) old old.lent old.told new h task graph i i.vacant (end_no_off h.found.table.end end),
+    ap (λ (v : View). is_some (end_in v.journal.seen)) h.view ∙ ap (λ j. is_some (end_in j)) (sym h.added)
+        ∙ ap is_some (sym (ends_are_told (blocks h.left.table) h.left.table.settings 0 h.left.table.journal (counts_in h.left) (history h.left h.after.shared h.after.views h.after.yard)))
+        ∙ ap is_some stands,
+  )
+    where
+      here : (o : Option End) → o ≡ None → (counts_along (blocks h.found.table) h.found.table.settings (counts_in h.found) (end_events o end)).end ≡ Some end
+      here None none = refl
+      here (Some standing) none = absurd (true≢false (ap is_some none))
+
+      stands : h.left.table.end ≡ Some end
+      stands = go h.step_is.0
+        where
+          go : IsOver h.found end → h.left.table.end ≡ Some end
+          go (inl standing) = ap (λ (g : GraphValue). g.table.end) (h.step_is.1.standing standing) ∙ standing
+          go (inr comes) = ap (λ (c : Counts). c.end) h.step_is.1.events.counts ∙ here h.found.table.end comes.0
+
+-- ---- work on a lease
+
+module _ (task : TaskParts) (graph : AbstractGraph) (view : View) (live : view.journal.is_live ≡ true) (lease : LeaseValue) (l : IsLeased task graph view lease) where
+  of_view : IsViewOf l.yard l.at.yard.machine l.at.yard.lent view
+  of_view = l.at.yard.each l.at.seat view l.at.mine live
+
+  lent_to : l.at.yard.lent view.journal.own.worker ≡ Some lease
+  lent_to = of_view.lent ∙ l.lent
+
+  worker_is : lease.worker ≡ view.journal.own.worker
+  worker_is = (l.at.yard.lent_is view.journal.own.worker lease lent_to).worker_is
+
+  unused : lease.used ≡ 0
+  unused = (l.at.yard.lent_is view.journal.own.worker lease lent_to).unused
+
+  pub at_work : IsAtWork task graph lease
+  at_work =
+      let y = l.at.yard in
+      let is = y.lent_is view.journal.own.worker lease lent_to in
+      subst (λ (a : AbstractGraph). IsAtWork task a lease) (sym of_view.search.graph ∙ l.graph_is) (subst (λ (p : TaskParts). IsAtWork p l.yard.table.graph lease) (sym of_view.search.task ∙ l.task_is) (record {
+        settings = l.yard.table.settings;
+        reopenings = 0;
+        machine = y.machine;
+        is_setup = y.is_setup;
+        in_range = y.in_range;
+        lawful = y.moment.lawful;
+        leased = ap y.machine.counts.leases worker_is ∙ leased l.yard l.at.shared l.at.views y view.journal.own.worker lease lent_to;
+        known = reads_none;
+        work = record {
+          works = [];
+          on = tt;
+          comes = begins l.yard l.at.shared l.at.views y view.journal.own.worker lease lent_to ∙ ap (λ w. lent_store (setup_in l.yard) lease.block y.machine.store (y.machine.given w)) (sym worker_is);
+          used_is = sym unused;
+          few_broken = omega arith;
+          stops = tt;
+        };
+        scope = is.of_graph.scope;
+      }))
+
+  module _ (worked : LeaseValue) (broken : ℕ) (turned : HasTurned (space_of task) (guide_of task graph) reads_none lease.block (worked.used - lease.used) broken (leased_store lease) (leased_store worked))
+      (same : IsSameLease lease worked) (scope : HasScope graph worked) where
+    used_is : worked.used - lease.used ≡ worked.used
+    used_is = omega (arith, unused)
+
+    told_none : (cost : ℕ) → view.told ≡ Some cost → {A : Type 0} → A
+    told_none cost is = let bad : ◌≡◌ {A = Option ℕ} None (Some cost) = sym l.untold ∙ is in absurd cc
+
+    pub lease_of : IsLeaseOf view worked
+    lease_of = (same.worker ∙ worker_is, ap grant_in l.lent ∙ (λ i. Some (record { block = sym same.block i; quota = sym same.quota i })))
+
+    pub brought : IsBrought view broken worked
+    brought = record {
+      lent = lease;
+      lent_is = l.lent;
+      same = same;
+      weights = scope.weights;
+      work = subst (λ (p : TaskParts). IsWorked (space_of p) (guide_of p view.graph) lease.block worked.used broken (was_read view) (leased_store lease) (leased_store worked)) (sym l.task_is)
+          (subst (λ (a : AbstractGraph). IsWorked (space_of task) (guide_of task a) lease.block worked.used broken (was_read view) (leased_store lease) (leased_store worked)) (sym l.graph_is)
+          (subst (λ used. IsWorked (space_of task) (guide_of task graph) lease.block used broken (was_read view) (leased_store lease) (leased_store worked)) used_is
+          (lease_work_stays (space_of task) (guide_of task graph) lease.block (worked.used - lease.used) broken broken reads_none (was_read view) (leased_store lease) (leased_store worked) turned.work (omega arith)
+          (λ incumbent bad. absurd (true≢false (sym bad)))).0));
+      told = λ cost is. told_none cost is;
+    }
+
+-- ---- marks
+
+-- the pass had a lease that is brought, and still has it after a look
+module _ (old : View) (most_broken : ℕ) (lease : LeaseValue) (b : IsBrought old most_broken lease) where
+  read_too : (journal events : List Event) (incumbent : Option ℕ) → was_read old incumbent ≡ true → was_read (view_then journal events old.lent old.told old) incumbent ≡ true
+  read_too journal events None is = is
+  read_too journal events (Some cost) is = is
+
+  pub still_brought : (step : GraphValue → GraphValue → Type 0) (list : GraphValue → List Event) (new : View) → Looks step list old new → IsBrought new most_broken lease
+  still_brought step list new h = subst (λ (v : View). IsBrought v most_broken lease) (sym h.view) record {
+    lent = b.lent;
+    lent_is = b.lent_is;
+    same = b.same;
+    weights = b.weights;
+    work = (lease_work_stays (space_of old.task) (guide_of old.task old.graph) b.lent.block lease.used most_broken most_broken (was_read old)
+        (was_read (view_then h.found.table.journal (list h.found) old.lent old.told old)) (leased_store b.lent) (leased_store lease) b.work (omega arith)
+        (read_too h.found.table.journal (list h.found))).0;
+    told = b.told;
+  }
+
+pub rival_known : (lease : LeaseValue) (old new : View) (rival : ℕ) → old.journal.is_live ≡ true → AsksRival lease old (Some rival) new → rival < (blocks_of new.graph).count
+rival_known lease old new rival live h =
+    let y = h.before.yard in
+    let known : rival < (blocks_of h.found.table.graph).count = (h.step_is.1 (λ worker. rows_of (y.lent worker)) y.machine y.moment).0.known in
+    subst (λ (a : AbstractGraph). rival < (blocks_of a).count)
+    (sym (y.each h.before.seat old h.before.mine live).search.graph ∙ sym (ap (λ (v : View). v.graph) h.view)) known
+
+mark_no_off : (event : Event) (done : Bool) → is_off event ≡ false → HasNoOff (mark_events event done)
+mark_no_off event true none = none_then (is_off event) false none refl
+mark_no_off event false none = refl
+
+pub look_stays : (lease : LeaseValue) (rival : Option ℕ) (old new : View) → AsksRival lease old rival new → IsActive old → IsActive new
+look_stays lease rival old new h stays = still_active (RivalsAs lease rival) (λ found. []) old old.lent old.told new h stays refl
+
+pub mark_stays : (worker block : ℕ) (done : Bool) (old new : View) → Marks worker block old done new → IsActive old → IsActive new
+mark_stays worker block done old new h stays =
+    still_active (MarksAs worker block done) (λ found. mark_events (Hot worker block) done) old old.lent old.told new h stays (mark_no_off (Hot worker block) done refl)
+
+-- ---- a lease that goes on, or comes back
+
+module _ (task : TaskParts) (graph : AbstractGraph) (old new : View) (of_task : IsGraphOf task graph) (task_is : old.task ≡ task) (graph_is : old.graph ≡ graph) (stays : IsActive old) (worked : LeaseValue) where
+  pub kept_then : (kept : LeaseValue) → Renews worked old (Kept kept) new → IsLeased task graph new kept
+  kept_then kept h =
+      let list : GraphValue → List Event = λ found. renewal_events worked (Kept kept) in
+      let same = holder (RenewsAs worked (Kept kept)) list old (Some kept) None new h in
+      record {
+        of_task = of_task;
+        task_is = same.task ∙ task_is;
+        graph_is = same.graph ∙ graph_is;
+        lent = ap (λ (v : View). v.lent) h.view;
+        untold = ap (λ (v : View). v.told) h.view;
+        stays = still_active (RenewsAs worked (Kept kept)) list old (Some kept) None new h stays refl;
+        yard = h.left;
+        at = h.after;
+      }
+
+  gone : (step : GraphValue → GraphValue → Type 0) (list : GraphValue → List Event) (h : Holds step list old None None new) → HasNoOff (list h.found) → IsIdle task graph new
+  gone step list h none =
+      let same = holder step list old None None new h in
+      record {
+        of_task = of_task;
+        task_is = same.task ∙ task_is;
+        graph_is = same.graph ∙ graph_is;
+        vacant = ap (λ (v : View). v.lent) h.view;
+        stays = still_active step list old None None new h stays none;
+      }
+
+  pub given_then : Renews worked old Given new → IsIdle task graph new
+  given_then h = gone (RenewsAs worked Given) (λ found. renewal_events worked Given) h refl
+
+  pub released_then : (trouble : Bool) → Releases worked trouble old new → IsIdle task graph new
+  released_then trouble h = gone (ReleasesAs worked trouble) (release_events worked trouble) h (ending_no_off trouble h.found.table.end)
+
+-- ---- signing off
+
+pub off_then : (worker : ℕ) (trouble : Bool) (old new : View) → old.journal.own.worker ≡ worker → SignsOff worker trouble old new → list_any is_off new.journal.own.events ≡ true
+off_then worker trouble old new own h =
+    ap (λ (v : View). list_any is_off v.journal.own.events) h.view
+    ∙ list_any-append is_off old.journal.own.events (events_of old.journal.own.worker (off_events worker trouble h.found))
+    ∙ ap (λ r. list_any is_off old.journal.own.events || r) there ∙ or_true (list_any is_off old.journal.own.events)
+  where
+    or_true : (b : Bool) → (b || true) ≡ true
+    or_true true = refl
+    or_true false = refl
+
+    there : list_any is_off (events_of old.journal.own.worker (off_events worker trouble h.found)) ≡ true
+    there = ap (λ k. list_any is_off (events_of k (off_events worker trouble h.found))) own
+        ∙ ap (λ r. list_any is_off (cond r (Off worker trouble ∷ events_of worker (ending trouble h.found.table.end)) (events_of worker (ending trouble h.found.table.end)))) (equal_self worker)
+
+-- ---- the same task and the same blocks
+
+module _ (task same_task : TaskParts) (graph same_graph : AbstractGraph) (task_is : same_task ≡ task) (graph_is : same_graph ≡ graph) where
+  pub leased_with : (view : View) (lease : LeaseValue) → IsLeased task graph view lease → IsLeased same_task same_graph view lease
+  leased_with view lease l = subst (λ (p : TaskParts). IsLeased p same_graph view lease) (sym task_is) (subst (λ (a : AbstractGraph). IsLeased task a view lease) (sym graph_is) l)
+
+  pub idle_with : (view : View) → IsIdle task graph view → IsIdle same_task same_graph view
+  idle_with view i = subst (λ (p : TaskParts). IsIdle p same_graph view) (sym task_is) (subst (λ (a : AbstractGraph). IsIdle task a view) (sym graph_is) i)
+
+-- ---- the same holder
+
+pub holder_self : (v : View) → IsSameHolder v v
+holder_self v = record { worker = refl; taken_in = refl; made = refl; task = refl; graph = refl; settings = refl }
+
+pub holder_then : (old mid new : View) → IsSameHolder old mid → IsSameHolder mid new → IsSameHolder old new
+holder_then old mid new one two = record {
+  worker = two.worker ∙ one.worker;
+  taken_in = two.taken_in ∙ one.taken_in;
+  made = two.made ∙ one.made;
+  task = two.task ∙ one.task;
+  graph = two.graph ∙ one.graph;
+  settings = two.settings ∙ one.settings;
+}

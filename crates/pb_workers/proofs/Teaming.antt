@@ -1,0 +1,65 @@
+-- Workers that search together: how their passes are split and meet again.
+use Rattle.std.proofs.Common.{◌≡◌, ℕ, true, [], ◌∷◌, suc, refl, sym, ap, ◌∙◌, arith, subst}
+use Rattle.std.specs.List.{list_any, AllByRecursion}
+use Rattle.pb_machine.specs.History.{is_off}
+use Rattle.pb_machine.specs.Views.{Share}
+use Rattle.pb_machine.proofs.Places.{all_append}
+use Rattle.pb_task.specs.declared.parts.TaskParts.{TaskParts}
+use Rattle.pb_abstract.specs.Graph.{AbstractGraph}
+use Rattle.pb_yard.specs.declared.view.View.{View}
+use Rattle.pb_yard.specs.Views.{split_view, next_pass_view, met_pass_view}
+use Rattle.pb_yard.specs.Calls.{AllSignedOff}
+use Rattle.pb_workers.specs.Shared.{IsSameHolder, IsIdle}
+use Rattle.pb_workers.specs.Teams.{IsToSplit, KeepsSearch}
+
+abbrev HasOff : Share → Type 0
+HasOff share = list_any is_off share.events ≡ true
+
+module _ (task : TaskParts) (graph : AbstractGraph) (v : View) where
+  -- a pass is split, and one fewer is still to be made
+  pub one_fewer : (more : ℕ) (u : View) → IsToSplit task graph (suc more) v → u ≡ split_view v → IsToSplit task graph more u
+  one_fewer more u s is = subst (λ (w : View). IsToSplit task graph more w) (sym is) record {
+    idle = record { of_task = s.idle.of_task; task_is = s.idle.task_is; graph_is = s.idle.graph_is; vacant = s.idle.vacant; stays = s.idle.stays };
+    none_taken_in = s.none_taken_in;
+    more_is = let all = s.more_is in omega (arith, all);
+  }
+
+  -- the pass that was split off is idle
+  pub next_idle : (more : ℕ) (u : View) → IsToSplit task graph more v → u ≡ next_pass_view v → IsIdle task graph u
+  next_idle more u s is = subst (λ (w : View). IsIdle task graph w) (sym is) record { of_task = s.idle.of_task; task_is = s.idle.task_is; graph_is = s.idle.graph_is; vacant = refl; stays = refl }
+
+  -- the last worker signed off
+  pub one_off : (u : View) → IsToSplit task graph 0 v → IsSameHolder v u → list_any is_off u.journal.own.events ≡ true → AllSignedOff u
+  one_off u s same off = record {
+    all_made = same.made ∙ (let all = s.more_is in omega (arith, all)) ∙ sym (ap (λ t. t.workers) same.settings);
+    off = (off, subst (λ shares. AllByRecursion HasOff shares) (sym (same.taken_in ∙ s.none_taken_in)) tt);
+  }
+
+pub search_of : (v u : View) → IsSameHolder v u → KeepsSearch v u
+search_of v u same = record { task = same.task; graph = same.graph; settings = same.settings }
+
+-- the first pass and those that it took in, of workers that have signed off, take in another such pass
+module _ (v split all next other met : View) (split_is : split ≡ split_view v) (keeps : KeepsSearch split all) (offs : AllSignedOff all) (next_is : next ≡ next_pass_view v) (same : IsSameHolder next other)
+    (off : list_any is_off other.journal.own.events ≡ true) (met_is : met ≡ met_pass_view all other) where
+  pub met_search : KeepsSearch v met
+  met_search = subst (λ (w : View). KeepsSearch v w) (sym met_is) record {
+    task = keeps.task ∙ ap (λ (w : View). w.task) split_is;
+    graph = keeps.graph ∙ ap (λ (w : View). w.graph) split_is;
+    settings = keeps.settings ∙ ap (λ (w : View). w.settings) split_is;
+  }
+
+  none_made : other.journal.made ≡ 0
+  none_made = same.made ∙ ap (λ (w : View). w.journal.made) next_is
+
+  none_taken : other.journal.taken_in ≡ []
+  none_taken = same.taken_in ∙ ap (λ (w : View). w.journal.taken_in) next_is
+
+  pub met_off : AllSignedOff met
+  met_off = subst (λ (w : View). AllSignedOff w) (sym met_is) record {
+    all_made = (let n = none_made in omega (arith, n)) ∙ offs.all_made;
+    off = (
+      offs.off.0,
+      all_append HasOff all.journal.taken_in (other.journal.own ∷ other.journal.taken_in) offs.off.1
+          (off, subst (λ shares. AllByRecursion HasOff shares) (sym none_taken) tt),
+    );
+  }

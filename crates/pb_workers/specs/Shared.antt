@@ -1,0 +1,41 @@
+-- A worker that shares a yard with others: what its pass knows between its calls.
+use Rattle.std.specs.Prelude.{◌≡◌, None, Some}
+use Rattle.pb_task.specs.declared.parts.TaskParts.{TaskParts}
+use Rattle.pb_abstract.specs.Graph.{AbstractGraph, IsGraphOf}
+use Rattle.pb_lease.specs.LeaseValue.{LeaseValue}
+use Rattle.pb_lease.specs.GraphValue.{GraphValue}
+use Rattle.pb_yard.specs.declared.view.View.{View}
+use Rattle.pb_yard.specs.Rule.{IsAt}
+use Rattle.pb_yard.specs.Calls.{IsActive}
+
+-- The pass is of the same worker in the same search, has taken in the same passes, and has made as
+-- many.
+pub record IsSameHolder (old new : View) : Type 0 where
+  pub worker : new.journal.own.worker ≡ old.journal.own.worker
+  pub taken_in : new.journal.taken_in ≡ old.journal.taken_in
+  pub made : new.journal.made ≡ old.journal.made
+  pub task : new.task ≡ old.task
+  pub graph : new.graph ≡ old.graph
+  pub settings : new.settings ≡ old.settings
+
+-- The search is for this task by these blocks of its own. The pass's worker has no lease and has
+-- not signed off.
+pub record IsIdle (task : TaskParts) (graph : AbstractGraph) (view : View) : Type 0 where
+  pub of_task : IsGraphOf task graph
+  pub task_is : view.task ≡ task
+  pub graph_is : view.graph ≡ graph
+  pub vacant : view.lent ≡ None
+  pub stays : IsActive view
+
+-- The search is for this task by these blocks of its own. The pass's worker has this lease, as it
+-- was given or last renewed, has told no cost, and has not signed off. The pass was one of a yard
+-- with some graph.
+pub record IsLeased (task : TaskParts) (graph : AbstractGraph) (view : View) (lease : LeaseValue) : Type 0 where
+  pub of_task : IsGraphOf task graph
+  pub task_is : view.task ≡ task
+  pub graph_is : view.graph ≡ graph
+  pub lent : view.lent ≡ Some lease
+  pub untold : view.told ≡ None
+  pub stays : IsActive view
+  pub yard : GraphValue
+  pub at : IsAt yard view

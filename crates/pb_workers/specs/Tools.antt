@@ -1,0 +1,14 @@
+-- What a worker needs memory for.
+use Rattle.std.specs.Prelude.{◌≡◌, ◌≤◌, List, All, vec_capacity}
+use Rattle.pb_task.specs.declared.parts.TaskParts.{TaskParts}
+use Rattle.pb_task.specs.Parts.{max_degree_of}
+use Rattle.pb_estimate.specs.Tables.{IsOfTask}
+use Rattle.pb_workers.specs.declared.worker.Tools.{Tools}
+
+-- the estimator is the task's, and the list has room for the successors of any state
+abbrev pub AreFor : (task : TaskParts) → Tools → Type 0
+AreFor task tools = IsOfTask tools.estimator task × (max_degree_of task ≤ vec_capacity tools.succs)
+
+-- all of them are for this task
+abbrev pub AllAreFor : (task : TaskParts) → List Tools → Type 0
+AllAreFor task list = All (AreFor task) list

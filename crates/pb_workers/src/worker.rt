@@ -1,0 +1,91 @@
+//! What a worker takes with it to its leases.
+ghost use Rattle.std.specs.Prelude.{◌≡◌, ◌-◌, ◌≤◌, IfOk, vec_capacity};
+ghost use Rattle.pb_task.specs.Parts.{space_of, max_degree_of};
+ghost use Rattle.pb_estimate.specs.Tables.{IsOfTask};
+ghost use Rattle.pb_abstract.specs.Graph.{IsGraphOf};
+ghost use Rattle.pb_lease.specs.LeaseValue.{leased_store, IsSameLease};
+ghost use Rattle.pb_lease.specs.Leased.{guide_of, HasScope};
+ghost use Rattle.pb_expand.specs.Turned.{IsAtWork, HasTurned, reads_none};
+ghost use Rattle.pb_expand.specs.Worked.{broken_by};
+ghost use Rattle.pb_workers.specs.Tools.{AreFor};
+
+use pb_abstract::AbsGraph;
+use pb_estimate::Estimator;
+use pb_expand::{Worked, work};
+use pb_lease::Lease;
+use pb_model::Succ;
+use pb_task::Task;
+use std::alloc::{AllocError, Global};
+
+/// What a worker needs memory for: an estimator, and a list for successors.
+#[derive(Drop)]
+pub struct Tools {
+    pub(crate) estimator: Estimator,
+    pub(crate) succs: Vec<Succ>,
+}
+
+impl Tools {
+    /// Tools for this task. An error is out of memory.
+    pub fn new(alloc: Global, task: &Task) -> Result<Tools, AllocError>
+        ensures { IfOk result (AreFor task.now) }
+    {
+        let estimator = Estimator::of(alloc, task)?;
+        let succs = Vec::with_capacity(alloc, task.max_degree() as usize)?;
+        Ok(Tools { estimator, succs })
+    }
+}
+
+/// What a worker needs to work on a lease: the task, its blocks, and tools. It takes no more
+/// memory.
+#[derive(Drop)]
+pub struct Worker<'a> {
+    pub(crate) task: &'a Task,
+    pub(crate) abstraction: &'a AbsGraph,
+    pub(crate) estimator: Estimator,
+    pub(crate) succs: Vec<Succ>,
+    ghost room: { max_degree_of task.now ≤ vec_capacity succs },
+}
+
+impl<'a> Worker<'a> {
+    /// A worker for this task by these blocks, with tools for the task.
+    pub fn new(task: &'a Task, abstraction: &'a AbsGraph, tools: Tools) -> Worker<'a>
+        requires { AreFor task.now tools }
+        ensures task { result.task.now ≡ task.now }
+        ensures abstraction { result.abstraction.now ≡ abstraction.now }
+        ensures tools { IsOfTask result.estimator result.task.now }
+    {
+        let Tools { estimator, succs } = tools;
+        Worker {
+            task,
+            abstraction,
+            estimator,
+            succs,
+        }
+    }
+
+    /// Works on a lease until its quota is used up, no row of its block is Opened, or memory is
+    /// out.
+    pub fn work(&mut self, lease: &mut Lease) -> Worked
+        requires graph { IsGraphOf self.old.task.now self.old.abstraction.now }
+        requires at_work { IsAtWork self.old.task.now self.old.abstraction.now lease.old }
+        requires tools { IsOfTask self.old.estimator self.old.task.now }
+        ensures turned { HasTurned (space_of self.old.task.now)
+            (guide_of self.old.task.now self.old.abstraction.now) reads_none lease.old.block
+            (lease.new.used - lease.old.used) (broken_by result)
+            (leased_store lease.old) (leased_store lease.new) }
+        ensures counted { lease.old.used ≤ lease.new.used }
+        ensures same { IsSameLease lease.old lease.new }
+        ensures scope { HasScope self.old.abstraction.now lease.new }
+        ensures task { self.new.task.now ≡ self.old.task.now }
+        ensures abstraction { self.new.abstraction.now ≡ self.old.abstraction.now }
+        ensures tools { IsOfTask self.new.estimator self.new.task.now }
+    {
+        work(
+            self.task,
+            &mut self.estimator,
+            self.abstraction,
+            lease,
+            &mut self.succs,
+        )
+    }
+}

@@ -1,0 +1,150 @@
+//! Workers that search together, each in a thread of its own.
+ghost use Rattle.std.specs.Prelude.{◌≡◌, ◌+◌, [], None, IsTrue, vec_len, IfOk, IfErr};
+ghost use Rattle.std.specs.List.{list_any};
+ghost use Rattle.std.specs.Thread.{IsSync};
+ghost use Rattle.pb_machine.specs.History.{is_off};
+ghost use Rattle.pb_abstract.specs.Graph.{IsGraphOf};
+ghost use Rattle.pb_yard.specs.Passes.{view_of, worker_of, parts_of, all_parts, IsOf};
+ghost use Rattle.pb_yard.specs.Calls.{IsActive, AllSignedOff};
+ghost use Rattle.pb_workers.specs.Shared.{IsSameHolder, IsIdle};
+ghost use Rattle.pb_workers.specs.Teams.{IsToSplit, KeepsSearch};
+ghost use Rattle.pb_workers.specs.Tools.{AreFor, AllAreFor};
+
+use crate::event_count::EventCount;
+use crate::worker::Tools;
+use crate::yard_search::run_worker;
+use pb_abstract::AbsGraph;
+use pb_outside::Gate;
+use pb_task::Task;
+use pb_yard::{Pass, Yard};
+use std::alloc::{AllocError, Global};
+use std::sync::Wait;
+use std::thread::{Threads, join};
+
+// Tools for so many workers.
+fn tools_for(alloc: Global, task: &Task, workers: u32) -> Result<Vec<Tools>, AllocError>
+    ensures tools { IfOk result (λ v. AllAreFor task.now v.items) }
+    ensures count { IfOk result (λ v. vec_len v ≡ workers) }
+{
+    let mut tools = Vec::with_capacity(alloc, workers as usize)?;
+    for _i in 0..workers {
+        tools.push_reserved(Tools::new(alloc, task)?);
+    }
+    Ok(tools)
+}
+
+// Each worker in a thread of its own, until all have signed off. The passes of the others are split
+// from the first one's, which takes them in again.
+fn run_all<R: Threads + Wait + Sync, G: Gate>(
+    rt: &R,
+    yard: &Yard,
+    count: &EventCount,
+    gate: &G,
+    task: &Task,
+    abstraction: &AbsGraph,
+    first: Tools,
+    mut others: Vec<Tools>,
+    mut pass: Pass,
+) -> Pass
+    requires own { IsOf yard.now pass }
+    requires first { worker_of pass ≡ 0 }
+    requires tools { AreFor task.now first × AllAreFor task.now others.items }
+    requires to_split { IsToSplit task.now abstraction.now (vec_len others) (view_of pass) }
+    ensures own { IsOf yard.now result }
+    ensures first { worker_of result ≡ 0 }
+    ensures met { parts_of result ≡ parts_of pass }
+    ensures signed_off { AllSignedOff (view_of result) }
+    ensures search { KeepsSearch (view_of pass) (view_of result) }
+{
+    let Some(tools) = others.pop() else {
+        return run_worker(rt, yard, count, gate, task, abstraction, first, pass);
+    };
+    let other = yard.split(&mut pass);
+    let (mut all, other) = join(
+        rt,
+        || -> Pass
+            requires { IsSync R.row × IsOf yard.now pass × (worker_of pass ≡ 0)
+                × AreFor task.now first × AllAreFor task.now others.items
+                × IsToSplit task.now abstraction.now (vec_len others) (view_of pass) }
+            ensures { IsOf yard.entry.now result × (worker_of result ≡ 0)
+                × (parts_of result ≡ parts_of pass) × AllSignedOff (view_of result)
+                × KeepsSearch (view_of pass) (view_of result) }
+        {
+            run_all(
+                rt,
+                yard,
+                count,
+                gate,
+                task,
+                abstraction,
+                first,
+                others,
+                pass,
+            )
+        },
+        || -> Pass
+            requires { IsOf yard.now other × AreFor task.now tools
+                × IsIdle task.now abstraction.now (view_of other) }
+            ensures { IsOf yard.entry.now result × (parts_of result ≡ parts_of other)
+                × IsSameHolder (view_of other) (view_of result)
+                × ((view_of result).lent ≡ None)
+                × IsTrue (list_any is_off (view_of result).journal.own.events) }
+        { run_worker(rt, yard, count, gate, task, abstraction, tools, other) },
+    );
+    yard.meet(&mut all, other);
+    all
+}
+
+/// Searches with as many workers as the yard's settings have, each in a thread of its own, until
+/// all have signed off. A worker leases blocks, works on each and brings it back; if it gets none,
+/// it sleeps until a lease came back or a worker signed off. The gate is told each time that a
+/// block was leased, and each time before a lease is renewed or comes back. An error is out of
+/// memory, before any pass was split: nothing was leased.
+pub fn run_workers<R: Threads + Wait + Sync, G: Gate>(
+    rt: &R,
+    alloc: Global,
+    task: &Task,
+    abstraction: &AbsGraph,
+    yard: &Yard,
+    gate: &G,
+    pass: Pass,
+    workers: u32,
+) -> Result<Pass, (AllocError, Pass)>
+    requires own { IsOf yard.now pass }
+    requires first { worker_of pass ≡ 0 }
+    requires alone { ((view_of pass).journal.made ≡ 1) × ((view_of pass).journal.taken_in ≡ []) }
+    requires workers { workers ≡ (view_of pass).settings.workers }
+    requires graph { IsGraphOf task.now abstraction.now }
+    requires task { (view_of pass).task ≡ task.now }
+    requires abstraction { (view_of pass).graph ≡ abstraction.now }
+    requires vacant { (view_of pass).lent ≡ None }
+    requires stays { IsActive (view_of pass) }
+
+    // So the yard may be closed with this pass if it had all parts.
+    ensures own { IfOk result (IsOf yard.now) }
+    ensures first { IfOk result (λ p. worker_of p ≡ 0) }
+    ensures met { IfOk result (λ p. parts_of p ≡ parts_of pass) }
+    ensures signed_off { IfOk result (λ p. AllSignedOff (view_of p)) }
+    ensures search { IfOk result (λ p. KeepsSearch (view_of pass) (view_of p)) }
+
+    ensures err { IfErr result (λ e. e.1 ≡ pass) }
+{
+    let Ok(first) = Tools::new(alloc, task) else {
+        return Err((AllocError, pass));
+    };
+    let Ok(others) = tools_for(alloc, task, workers.wrapping_sub(1)) else {
+        return Err((AllocError, pass));
+    };
+    let count = EventCount::new();
+    Ok(run_all(
+        rt,
+        yard,
+        &count,
+        gate,
+        task,
+        abstraction,
+        first,
+        others,
+        pass,
+    ))
+}

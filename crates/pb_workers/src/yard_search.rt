@@ -1,0 +1,77 @@
+//! The search of one worker that shares a yard.
+ghost use Rattle.std.specs.Prelude.{◌≡◌, ◌||◌, None, IsTrue, is_some};
+ghost use Rattle.std.specs.List.{list_any};
+ghost use Rattle.pb_machine.specs.History.{is_off, end_in};
+ghost use Rattle.pb_estimate.specs.Tables.{IsOfTask};
+ghost use Rattle.pb_yard.specs.Passes.{view_of, parts_of, IsOf, IsSamePass};
+ghost use Rattle.pb_workers.specs.Shared.{IsSameHolder, IsIdle};
+ghost use Rattle.pb_workers.specs.Tools.{AreFor};
+
+use crate::event_count::EventCount;
+use crate::worker::{Tools, Worker};
+use crate::yard_turns::yard_hold;
+use pb_abstract::AbsGraph;
+use pb_lease::LeaseReply;
+use pb_outside::Gate;
+use pb_task::Task;
+use pb_yard::{Pass, Yard};
+use std::sync::Wait;
+
+// Leases blocks and works on them until the search ends, or memory for a lease is out. Answers
+// whether it is.
+fn take_leases<W: Wait, G: Gate>(
+    rt: &W,
+    yard: &Yard,
+    count: &EventCount,
+    gate: &G,
+    worker: &mut Worker,
+    pass: &mut Pass,
+) -> bool
+    requires own { IsOf yard.now pass.old }
+    requires idle { IsIdle worker.old.task.now worker.old.abstraction.now (view_of pass.old) }
+    requires tools { IsOfTask worker.old.estimator worker.old.task.now }
+    ensures same { IsSamePass pass.old pass.new × (parts_of pass.new ≡ parts_of pass.old) }
+    ensures holder { IsSameHolder (view_of pass.old) (view_of pass.new) }
+    ensures idle { IsIdle worker.old.task.now worker.old.abstraction.now (view_of pass.new) }
+    ensures cause { IsTrue (result || is_some (end_in (view_of pass.new).journal.seen)) }
+{
+    for _ in rt.forever() {
+        let noted = count.note(rt);
+        match yard.lease(rt, pass) {
+            LeaseReply::Leased(lease) => {
+                gate.leased(pass.worker(), lease.block());
+                yard_hold(rt, yard, count, gate, worker, pass, lease);
+            }
+            LeaseReply::NotYet => count.sleep_past(rt, noted),
+            LeaseReply::Over(_) => return false,
+            LeaseReply::Memory => return true,
+        }
+    }
+    unreachable!()
+}
+
+/// One worker of a yard, until it has signed off.
+pub fn run_worker<W: Wait, G: Gate>(
+    rt: &W,
+    yard: &Yard,
+    count: &EventCount,
+    gate: &G,
+    task: &Task,
+    abstraction: &AbsGraph,
+    tools: Tools,
+    mut pass: Pass,
+) -> Pass
+    requires own { IsOf yard.now pass }
+    requires tools { AreFor task.now tools }
+    requires idle { IsIdle task.now abstraction.now (view_of pass) }
+    ensures same { IsSamePass pass result × (parts_of result ≡ parts_of pass) }
+    ensures holder { IsSameHolder (view_of pass) (view_of result) }
+    ensures vacant { (view_of result).lent ≡ None }
+    ensures signed_off { IsTrue (list_any is_off (view_of result).journal.own.events) }
+{
+    let mut worker = Worker::new(task, abstraction, tools);
+    let trouble = take_leases(rt, yard, count, gate, &mut worker, &mut pass);
+    yard.sign_off(rt, &mut pass, trouble);
+    count.advance(rt);
+    pass
+}

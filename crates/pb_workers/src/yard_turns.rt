@@ -1,0 +1,110 @@
+//! The turns of a worker that shares a yard.
+ghost use Rattle.std.specs.Prelude.{◌≡◌, IfSome, IfNone};
+ghost use Rattle.pb_estimate.specs.Tables.{IsOfTask};
+ghost use Rattle.pb_yard.specs.Passes.{view_of, parts_of, IsOf, IsSamePass};
+ghost use Rattle.pb_yard.specs.Returning.{IsLeaseOf, IsBrought};
+ghost use Rattle.pb_yard.specs.Calls.{IsActive};
+ghost use Rattle.pb_workers.specs.Shared.{IsSameHolder, IsIdle, IsLeased};
+
+use crate::event_count::EventCount;
+use crate::worker::Worker;
+use pb_expand::Worked;
+use pb_lease::{Lease, Renewed};
+use pb_outside::Gate;
+use pb_yard::{Pass, Yard};
+use std::sync::Wait;
+
+/// Marks the rival of the lease's block hot, where there is one and it may be marked: in a plain
+/// search it never may.
+fn mark_rival<W: Wait>(rt: &W, yard: &Yard, pass: &mut Pass, lease: &Lease)
+    requires own { IsOf yard.now pass.old }
+    requires leased { IsLeaseOf (view_of pass.old) lease.now }
+    requires brought { IsBrought (view_of pass.old) 0 lease.now }
+    ensures same { IsSamePass pass.old pass.new × (parts_of pass.new ≡ parts_of pass.old) }
+    ensures holder { IsSameHolder (view_of pass.old) (view_of pass.new) }
+    ensures brought { IsBrought (view_of pass.new) 0 lease.now }
+    ensures stays { IsActive (view_of pass.old) → IsActive (view_of pass.new) }
+{
+    if let Some(rival) = yard.rival(rt, pass, lease) {
+        yard.mark_hot(rt, pass, rival);
+    }
+}
+
+/// Works on a lease until its quota is used up, no row of its block is Opened, or memory is out.
+/// Then the lease goes on, where with it home its block would be the first choice, or comes back.
+pub fn yard_turn<W: Wait, G: Gate>(
+    rt: &W,
+    yard: &Yard,
+    gate: &G,
+    worker: &mut Worker,
+    pass: &mut Pass,
+    mut lease: Lease,
+) -> Option<Lease>
+    requires own { IsOf yard.now pass.old }
+    requires leased { IsLeased worker.old.task.now worker.old.abstraction.now
+        (view_of pass.old) lease }
+    requires tools { IsOfTask worker.old.estimator worker.old.task.now }
+    ensures same { IsSamePass pass.old pass.new × (parts_of pass.new ≡ parts_of pass.old) }
+    ensures holder { IsSameHolder (view_of pass.old) (view_of pass.new) }
+    ensures kept { IfSome result (IsLeased worker.old.task.now worker.old.abstraction.now
+        (view_of pass.new)) }
+    ensures home { IfNone result (IsIdle worker.old.task.now worker.old.abstraction.now
+        (view_of pass.new)) }
+    ensures task { worker.new.task.now ≡ worker.old.task.now }
+    ensures abstraction { worker.new.abstraction.now ≡ worker.old.abstraction.now }
+    ensures tools { IsOfTask worker.new.estimator worker.new.task.now }
+{
+    let worked = worker.work(&mut lease);
+    gate.giving(lease.worker(), lease.block());
+    match worked {
+        Worked::Spent => {
+            mark_rival(rt, yard, pass, &lease);
+            match yard.renew(rt, pass, lease) {
+                Renewed::Kept(kept) => Some(kept),
+                Renewed::Given => None,
+            }
+        }
+        Worked::Empty => {
+            yard.release(rt, pass, lease, false);
+            None
+        }
+        Worked::Memory => {
+            yard.release(rt, pass, lease, true);
+            None
+        }
+    }
+}
+
+/// Works on a lease for as long as it goes on, until it comes back, which moves the count.
+pub fn yard_hold<W: Wait, G: Gate>(
+    rt: &W,
+    yard: &Yard,
+    count: &EventCount,
+    gate: &G,
+    worker: &mut Worker,
+    pass: &mut Pass,
+    lease: Lease,
+)
+    requires own { IsOf yard.now pass.old }
+    requires leased { IsLeased worker.old.task.now worker.old.abstraction.now
+        (view_of pass.old) lease }
+    requires tools { IsOfTask worker.old.estimator worker.old.task.now }
+    ensures same { IsSamePass pass.old pass.new × (parts_of pass.new ≡ parts_of pass.old) }
+    ensures holder { IsSameHolder (view_of pass.old) (view_of pass.new) }
+    ensures home { IsIdle worker.old.task.now worker.old.abstraction.now (view_of pass.new) }
+    ensures task { worker.new.task.now ≡ worker.old.task.now }
+    ensures abstraction { worker.new.abstraction.now ≡ worker.old.abstraction.now }
+    ensures tools { IsOfTask worker.new.estimator worker.new.task.now }
+{
+    let mut held = lease;
+    for _ in rt.forever() {
+        match yard_turn(rt, yard, gate, worker, pass, held) {
+            Some(kept) => held = kept,
+            None => {
+                count.advance(rt);
+                return;
+            }
+        }
+    }
+    unreachable!()
+}
