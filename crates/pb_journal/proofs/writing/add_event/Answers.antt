@@ -1,0 +1,19 @@
+use Rattle.std.proofs.Common.{ℕ, List, ◌++◌}
+use Rattle.pb_model.specs.Texts.{line}
+use Rattle.pb_journal.specs.Texts.{event_line}
+use Rattle.pb_journal.specs.Saved.{IsWritten}
+use Rattle.pb_journal.proofs.Files.{told_as, line_written}
+use Rattle.pb_journal.proofs.writing.add_event.Goals as goal
+
+pub returns-clause-ok : goal.returns-clause-ok
+returns-clause-ok g c =
+    told_as (g.H.Shelf.files c.args.shelf.now) (g.H.Shelf.files c.make_room.new.shelf)
+    (λ old new. (text : List ℕ) → IsWritten old c.args.name.now c.args.piece.now text
+    → IsWritten new c.args.name.now c.make_room.new.piece text)
+    (λ old new. (text : List ℕ) → IsWritten old c.args.name.now c.args.piece.now text
+    → IsWritten new c.args.name.now c.put_event.new.out
+    (text ++ line (event_line c.args.event.now)))
+    c.in_ok-make_room.ensures.ok
+    (λ old new written text before. line_written new c.args.name.now c.make_room.new.piece
+    c.put_event.new.out text (event_line c.args.event.now) c.put_event.ensures.line
+    (written text before))

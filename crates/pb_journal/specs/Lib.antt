@@ -1,0 +1,9 @@
+pub mod Faults
+pub mod Words
+pub mod Texts
+pub mod Reading
+pub mod Stated
+pub mod Judging
+pub mod Replaying
+pub mod Saved
+pub mod Shown

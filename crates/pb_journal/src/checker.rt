@@ -1,0 +1,112 @@
+ghost use Rattle.std.specs.Prelude.{◌≡◌, ◌+◌, ◌<◌, ◌^◌, ℕ, Ok, length, OnOk, IfOk};
+ghost use Rattle.pb_abstract.specs.Graph.{blocks_of, IsGraph};
+ghost use Rattle.pb_journal.specs.Faults.{Reads, Gives};
+ghost use Rattle.pb_journal.specs.Judging.{after_line, end_fault, events_of, judged};
+ghost use Rattle.pb_journal.specs.Replaying.{counts_of, IsLawfulReplay};
+ghost use Rattle.pb_journal.specs.Shown.{IsFinishedJournal};
+
+use crate::error::{Fault, JournalError, Why, why_of};
+use crate::events::event_in;
+use crate::header::header;
+use crate::replay::Replay;
+use crate::words::part;
+use pb_abstract::AbsGraph;
+use pb_machine::Settings;
+use std::alloc::Global;
+
+// The event of a line comes next, if the line spells one that may.
+#[tactic(auto, unfolding(crate::specs::Judging::after_line))]
+fn read_event(
+    replay: &mut Replay,
+    graph: &AbsGraph,
+    settings: &Settings,
+    line: u64,
+    text: &[u8],
+) -> Result<(), Fault>
+    requires graph { IsGraph graph.now }
+    requires lawful { IsLawfulReplay (blocks_of graph.now) settings.now replay.old }
+    ensures reads { Reads (λ x. counts_of replay.new) result
+        (after_line (blocks_of graph.now) settings.now (counts_of replay.old) line text.now) }
+    ensures lawful { OnOk result (IsLawfulReplay (blocks_of graph.now) settings.now replay.new) }
+{
+    let event = event_in(line, text)?;
+    match replay.step(graph, settings, &event) {
+        None => Ok(()),
+        Some(refusal) => Err(Fault {
+            line,
+            why: why_of(refusal),
+        }),
+    }
+}
+
+// The text may end in this line, which has these bytes and no end.
+fn read_end(replay: &Replay, settings: &Settings, line: u64, tail: &[u8]) -> Result<bool, Fault>
+    requires { length replay.now.signed_off.items ≡ settings.now.workers }
+    ensures { Reads (λ x. x) result (end_fault settings.now (counts_of replay.now) line tail.now) }
+{
+    let why = if tail.len() > 0 {
+        Why::Spelling
+    } else if replay.is_finished(settings) {
+        return Ok(true);
+    } else {
+        Why::Short
+    };
+    Err(Fault { line, why })
+}
+
+// How many events the text has after its header.
+#[tactic(auto, unfolding(crate::specs::Judging::events_of))]
+fn read_events(
+    replay: &mut Replay,
+    graph: &AbsGraph,
+    settings: &Settings,
+    text: &[u8],
+) -> Result<u64, Fault>
+    requires graph { IsGraph graph.now }
+    requires lawful { IsLawfulReplay (blocks_of graph.now) settings.now replay.old }
+    ensures { Reads (λ n. n) result
+        (events_of (blocks_of graph.now) settings.now (counts_of replay.old) text.now) }
+{
+    let mut line: u64 = 7;
+    let mut rest = text;
+    'lines: while let Some((first, after)) = part(rest, b'\n') {
+        read_event(replay, graph, settings, line, first)?;
+        rest = after;
+        line += 1;
+    }
+    read_end(replay, settings, line, rest)?;
+    Ok(line - 7)
+}
+
+// How many events a journal has, or its first line that is refused. The graph has so many blocks.
+#[tactic(auto, unfolding(crate::specs::Judging::judged))]
+fn judge(alloc: Global, graph: &AbsGraph, blocks: u32, bytes: &[u8]) -> Result<u64, JournalError>
+    requires graph { IsGraph graph.now }
+    requires blocks { (blocks_of graph.now).count ≡ blocks }
+    ensures { Gives (λ n. n) result (judged (blocks_of graph.now) bytes.now) }
+{
+    let (settings, rest) = header(bytes)?;
+    let mut replay = Replay::new(alloc, blocks, &settings)?;
+    let events = read_events(&mut replay, graph, &settings, rest)?;
+    Ok(events)
+}
+
+/// How many events a journal has, or its first line that is refused. The graph has the blocks that
+/// were leased: it is that of the task by the number of blocks that the journal's header wishes
+/// for.
+///
+/// The memory that it takes grows with the workers and the blocks, and not with the journal.
+pub fn check_journal(alloc: Global, graph: &AbsGraph, bytes: &[u8]) -> Result<u64, JournalError>
+    // How many events or which line it is, unless memory ran out.
+    ensures exact { Gives (λ n. n) result (judged (blocks_of graph.now) bytes.now) }
+    // What is accepted is the text of a finished legal history of so many events, with the settings
+    // of its header.
+    ensures finished { IfOk result (λ n. IsFinishedJournal (blocks_of graph.now) bytes.now n) }
+    // The text of a finished legal history is accepted, with its number of events, unless memory
+    // ran out.
+    ensures only { (n : ℕ) → IsFinishedJournal (blocks_of graph.now) bytes.now n
+        → Gives (λ m. m) result (Ok n) }
+{
+    let blocks = graph.count();
+    judge(alloc, graph, blocks, bytes)
+}

@@ -1,0 +1,27 @@
+//! What the text of a journal means. Each law is the contract of a function without a body.
+ghost use Rattle.pb_journal.specs.Shown.{AcceptedJournalsAreFinished, CutJournalsAreRefused, RefusedLinesAreFirst, WrittenJournalsAreAccepted};
+
+/// A journal is accepted, with its number of events, exactly if it is the text of a finished legal
+/// history.
+pub fn accepted_journals_are_finished()
+    ensures { AcceptedJournalsAreFinished }
+{}
+
+/// What is written of a finished legal history is accepted, with its number of events, and its
+/// header is read.
+pub fn written_journals_are_accepted()
+    ensures { WrittenJournalsAreAccepted }
+{}
+
+/// A refused journal is refused in its header, as `read_header` says, or in the first line after it
+/// that can't follow those before it. The text ends too early or within that line, or the line
+/// spells no event, or one that may not come.
+pub fn refused_lines_are_first()
+    ensures { RefusedLinesAreFirst }
+{}
+
+/// A journal that is cut off is refused in the line that it ends in: each beginning of an accepted
+/// journal but the whole. The reason is that the line is misspelled, or that the text is short.
+pub fn cut_journals_are_refused()
+    ensures { CutJournalsAreRefused }
+{}

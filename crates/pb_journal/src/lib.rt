@@ -1,0 +1,29 @@
+//! The journal of a search: every event of the lease machine, written as a text, and judged line by
+//! line.
+#![tactic(auto)]
+
+mod checker;
+mod effects;
+mod error;
+mod events;
+mod header;
+mod laws;
+mod lines;
+mod reading;
+mod refusals;
+mod replay;
+mod stated;
+mod words;
+mod writing;
+
+pub use checker::check_journal;
+pub use error::{JournalError, Why};
+pub use header::read_header;
+pub use laws::{
+    accepted_journals_are_finished, cut_journals_are_refused, refused_lines_are_first,
+    written_journals_are_accepted,
+};
+pub use writing::write_journal;
+
+#[cfg(test)]
+mod tests;

@@ -1,0 +1,151 @@
+//! The lines of a journal, in a piece of its text.
+ghost use Rattle.std.specs.Prelude.{◌≡◌, ◌+◌, ◌≤◌, [], ◌++◌, length, codes};
+ghost use Rattle.std.specs.Fmt.{decimal};
+ghost use Rattle.pb_model.specs.Texts.{line, spaced};
+ghost use Rattle.pb_journal.specs.Texts.{numbered, plain_line, report_word, header_text, event_line};
+
+use pb_machine::{End, Event, Settings};
+use pb_print::Piece;
+
+// No line has more bytes, its line feed included.
+pub const LONGEST: usize = 128;
+
+// Puts a line of a word and a number at the piece's end.
+fn put_numbered(word: &[u8], n: u64, out: &mut Piece)
+    requires word { length word.now ≤ 8 }
+    requires room { length out.old + 128 ≤ 4096 }
+    ensures line { out.new ≡ out.old ++ line (numbered word.now n) }
+    ensures short { length out.new ≤ length out.old + 128 }
+{
+    out.push(word);
+    out.push(b" ");
+    out.push_number(n);
+    out.push(b"\n");
+}
+
+// Puts the line that says whether the search is plain at the piece's end.
+fn put_plain(plain: bool, out: &mut Piece)
+    requires room { length out.old + 128 ≤ 4096 }
+    ensures line { out.new ≡ out.old ++ line (plain_line plain) }
+    ensures short { length out.new ≤ length out.old + 128 }
+{
+    let text: &[u8] = if plain { b"plain 1\n" } else { b"plain 0\n" };
+    out.push(text);
+}
+
+/// Puts the lines of the settings into the piece.
+pub fn put_header(settings: &Settings, out: &mut Piece)
+    requires { length out.old ≡ 0 }
+    ensures text { out.new ≡ header_text settings.now }
+{
+    out.push(b"pbnf-journal 1\n");
+    put_numbered(b"blocks", u64::from(settings.wish), out);
+    put_numbered(b"workers", u64::from(settings.workers), out);
+    put_numbered(b"budget", settings.budget, out);
+    put_numbered(b"lot", settings.lot, out);
+    put_plain(settings.plain, out);
+}
+
+// Puts a word and the number of a worker at the piece's end, with a space after each.
+fn put_worker(word: &[u8], worker: u32, out: &mut Piece)
+    requires word { length word.now ≤ 8 }
+    requires room { length out.old + 128 ≤ 4096 }
+    ensures text { out.new ≡ out.old ++ spaced (numbered word.now worker) [] }
+    ensures short { length out.new ≤ length out.old + 32 }
+{
+    out.push(word);
+    out.push(b" ");
+    out.push_number(u64::from(worker));
+    out.push(b" ");
+}
+
+// Puts two numbers at the piece's end, with a space between them, and ends the line.
+fn put_two(first: u64, second: u64, out: &mut Piece)
+    requires room { length out.old + 64 ≤ 4096 }
+    ensures text { out.new ≡ out.old ++ line (spaced (decimal first) (decimal second)) }
+    ensures short { length out.new ≤ length out.old + 64 }
+{
+    out.push_number(first);
+    out.push(b" ");
+    out.push_number(second);
+    out.push(b"\n");
+}
+
+// Puts a number at the piece's end, and ends the line.
+fn put_last(n: u64, out: &mut Piece)
+    requires room { length out.old + 64 ≤ 4096 }
+    ensures text { out.new ≡ out.old ++ line (decimal n) }
+    ensures short { length out.new ≤ length out.old + 64 }
+{
+    out.push_number(n);
+    out.push(b"\n");
+}
+
+// Puts a report at the piece's end, and ends the line.
+fn put_report(memory: bool, out: &mut Piece)
+    requires room { length out.old + 16 ≤ 4096 }
+    ensures text { out.new ≡ out.old ++ line (report_word memory) }
+    ensures short { length out.new ≤ length out.old + 16 }
+{
+    let text: &[u8] = if memory { b"memory\n" } else { b"ok\n" };
+    out.push(text);
+}
+
+// Puts a number and a report at the piece's end, with a space between them, and ends the line.
+fn put_reported(n: u64, memory: bool, out: &mut Piece)
+    requires room { length out.old + 64 ≤ 4096 }
+    ensures text { out.new ≡ out.old ++ line (spaced (decimal n) (report_word memory)) }
+    ensures short { length out.new ≤ length out.old + 64 }
+{
+    out.push_number(n);
+    out.push(b" ");
+    put_report(memory, out);
+}
+
+/// Puts the line of an event at the piece's end.
+pub fn put_event(event: &Event, out: &mut Piece)
+    requires room { length out.old + 128 ≤ 4096 }
+    ensures line { out.new ≡ out.old ++ line (event_line event.now) }
+{
+    match *event {
+        Event::Lease {
+            worker,
+            block,
+            quota,
+        } => {
+            put_worker(b"lease", worker, out);
+            put_two(u64::from(block), quota, out);
+        }
+        Event::Renew {
+            worker,
+            used,
+            quota,
+        } => {
+            put_worker(b"renew", worker, out);
+            put_two(used, quota, out);
+        }
+        Event::Hot { worker, block } => {
+            put_worker(b"hot", worker, out);
+            put_last(u64::from(block), out);
+        }
+        Event::Cold { worker, block } => {
+            put_worker(b"cold", worker, out);
+            put_last(u64::from(block), out);
+        }
+        Event::Release {
+            worker,
+            used,
+            memory,
+        } => {
+            put_worker(b"release", worker, out);
+            put_reported(used, memory, out);
+        }
+        Event::Off { worker, memory } => {
+            put_worker(b"off", worker, out);
+            put_report(memory, out);
+        }
+        Event::Ended(End::Quiet) => out.push(b"end quiet\n"),
+        Event::Ended(End::Budget) => out.push(b"end budget\n"),
+        Event::Ended(End::Memory) => out.push(b"end memory\n"),
+    }
+}
