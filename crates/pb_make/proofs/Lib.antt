@@ -1,0 +1,4 @@
+pub mod Drawn
+pub mod Rows
+pub mod Nine
+pub mod Examples

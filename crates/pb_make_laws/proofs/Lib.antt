@@ -1,0 +1,6 @@
+pub mod MadeBoards
+pub mod SpelledBoards
+pub mod Words
+pub mod MapCells
+pub mod SpelledMaps
+pub mod SpelledDomain
