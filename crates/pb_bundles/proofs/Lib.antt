@@ -2,6 +2,7 @@ pub mod Lists
 pub mod Moving
 pub mod Noting
 pub mod Orders
+pub mod Trees
 pub mod Kept
 pub mod ByKey
 pub mod ByRows

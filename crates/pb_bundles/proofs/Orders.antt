@@ -1,5 +1,5 @@
 -- The order of blocks by their keys, and the best of some and one more.
-use Rattle.std.proofs.Common.{◌≡◌, ℕ, ◌+◌, ◌<◌, Bool, true, false, ◌||◌, ◌==◌, nat_lt, List, [], ◌∷◌, ◌++◌, Option, Some, None, refl, sym, ap, subst, ◌∙◌, ◌⊎◌, inl, inr, arith}
+use Rattle.std.proofs.Common.{◌≡◌, ℕ, ◌+◌, ◌<◌, Bool, true, false, ◌||◌, ◌==◌, nat_lt, List, [], ◌∷◌, ◌++◌, Option, Some, None, IsSome, is_some, true≢false, refl, sym, ap, subst, ◌∙◌, ◌⊎◌, inl, inr, arith}
 use Rattle.pb_model.specs.declared.key.Key.{Key}
 use Rattle.pb_model.specs.declared.key.Key.TheVariants.{Sum, Dead}
 use Rattle.pb_model.specs.Key.{IsKeyBelow, IsBefore}
@@ -32,7 +32,7 @@ before_trans x a y b z c (inr l) (inr g) = inr (l.0 ∙ g.0, omega (arith, l.1, 
 
 -- ---- blocks
 
-comes_trans : (x : Option Key) (a : ℕ) (y : Option Key) (b : ℕ) (z : Option Key) (c : ℕ) → ComesBefore x a y b → ComesBefore y b z c → ComesBefore x a z c
+pub comes_trans : (x : Option Key) (a : ℕ) (y : Option Key) (b : ℕ) (z : Option Key) (c : ℕ) → ComesBefore x a y b → ComesBefore y b z c → ComesBefore x a z c
 comes_trans None a None b None c l g = omega (arith, l, g)
 comes_trans None a None b (Some z) c l g = absurd g
 comes_trans None a (Some y) b z c l g = absurd l
@@ -41,7 +41,7 @@ comes_trans (Some x) a None b (Some z) c l g = absurd g
 comes_trans (Some x) a (Some y) b None c l g = tt
 comes_trans (Some x) a (Some y) b (Some z) c l g = before_trans x a y b z c l g
 
-comes_cases : (x : Option Key) (a : ℕ) (y : Option Key) (b : ℕ) → ComesBefore x a y b ⊎ ((a ≡ b) ⊎ ComesBefore y b x a)
+pub comes_cases : (x : Option Key) (a : ℕ) (y : Option Key) (b : ℕ) → ComesBefore x a y b ⊎ ((a ≡ b) ⊎ ComesBefore y b x a)
 comes_cases None a None b = number_cases a b
 comes_cases None a (Some y) b = inr (inr tt)
 comes_cases (Some x) a None b = inl tt
@@ -113,6 +113,13 @@ first_skip test keys n best not_so first =
     lower : (block : ℕ) → block < n + 1 → MayBeFirst test keys block → block < n
     lower block low q = by_cases (nat_lt block n) (λ e. below block n e)
         (λ e. let ge = not_below block n e in let same : block ≡ n = omega arith in absurd (not_so (subst (MayBeFirst test keys) same q)))
+
+-- the next block isn't better where it has an Opened row
+pub first_stays : (test : ℕ → Bool) (keys : ℕ → Option Key) (n : ℕ) (best : Option ℕ) → (IsSome (keys n) → IsBetterOf keys best n best)
+    → IsBestOf (λ block. (block < n) × MayBeFirst test keys block) keys best → IsBestOf (λ block. (block < n + 1) × MayBeFirst test keys block) keys best
+first_stays test keys n best worse first = by_cases (test n)
+    (λ e. by_cases (is_some (keys n)) (λ f. first_more test keys n best best (e, f) first (worse f)) (λ f. first_skip test keys n best (λ may. true≢false (sym may.1 ∙ f)) first))
+    (λ e. first_skip test keys n best (λ may. true≢false (sym may.0 ∙ e)) first)
 
 -- ---- going over a list of blocks
 

@@ -1,7 +1,9 @@
 pub mod Parts
+pub mod Rooms
 pub mod Homes
 pub mod Moves
 pub mod Choosing
+pub mod Tree
 pub mod Lending
 pub mod Stores
 pub mod Laws

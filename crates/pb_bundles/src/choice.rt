@@ -14,7 +14,7 @@ impl Homes {
     pub fn is_any_opened(&self) -> bool
         ensures { IsTrue result ↔ ((block : ℕ) × IsSome (key_at self.now block)) }
     {
-        self.keys.iter().any(|key| key.is_some())
+        self.keys.is_any()
     }
 
     /// Whether the one block is better than the other: by the lesser key, at one key by the lesser number; a block without an Opened row
@@ -31,13 +31,7 @@ impl Homes {
         ensures { (test : ℕ → Bool) → ((block : ℕ) (answer : Bool) → block < length self.now.bundles → F.post pass block answer → answer ≡ test block)
             → IsFirstBy test (key_at self.now) result }
     {
-        let mut best = None;
-        for block in 0..self.count() {
-            if self.key(block).is_some() && pass(block) {
-                best = self.better_of(best, block);
-            }
-        }
-        best
+        self.keys.first(&pass)
     }
 
     /// The best of the blocks nearby that are better than the block. None exactly where no such block is better.
@@ -70,8 +64,8 @@ impl Homes {
     }
 }
 
-// Whether the one comes before the other.
-fn comes_before(key: Option<Key>, block: u32, other_key: Option<Key>, other: u32) -> bool
+/// Whether the one comes before the other.
+pub fn comes_before(key: Option<Key>, block: u32, other_key: Option<Key>, other: u32) -> bool
     ensures { IsTrue result ↔ ComesBefore key block other_key other }
 {
     match (key, other_key) {

@@ -6,6 +6,7 @@ ghost use Rattle.pb_lists.specs.Bundle.{Content, row_of, SetsRow};
 ghost use Rattle.pb_bundles.specs.Homes.{content_at, key_at, home_rows, empty_homes, with_start, AreNoted};
 ghost use Rattle.pb_bundles.specs.Moves.{NotesKey};
 
+use crate::tree::KeyTree;
 use pb_lists::Bundle;
 use pb_model::{Estimate, Key};
 use pb_packed::Packed;
@@ -17,7 +18,7 @@ use std::marker::Model;
 #[derive(Drop)]
 pub struct Homes {
     pub(crate) bundles: Vec<Option<Bundle>>,
-    pub(crate) keys: Vec<Option<Key>>,
+    pub(crate) keys: KeyTree,
 }
 
 impl Model for Homes {
@@ -25,9 +26,9 @@ impl Model for Homes {
 
     ghost Value = { HomeTable };
 
-    ghost view = { λ h. record { bundles = h.bundles.items; keys = h.keys.items } };
+    ghost view = { λ h. record { bundles = h.bundles.items; keys = h.keys } };
 
-    ghost invariant = { λ h. AreHomes (record { bundles = h.bundles.items; keys = h.keys.items }) };
+    ghost invariant = { λ h. AreHomes (record { bundles = h.bundles.items; keys = h.keys }) };
 }
 
 impl Homes {
@@ -41,7 +42,7 @@ impl Homes {
     {
         Ok(Homes {
             bundles: empty_bundles(alloc, count as usize, num, den)?,
-            keys: Vec::from_elem(alloc, None, count as usize)?,
+            keys: KeyTree::new(alloc, count)?,
         })
     }
 
@@ -68,10 +69,7 @@ impl Homes {
     pub fn key(&self, block: u32) -> Option<Key>
         ensures { result ≡ key_at self.now block }
     {
-        match self.keys.get(block as usize) {
-            Some(key) => *key,
-            None => None,
-        }
+        self.keys.get(block)
     }
 
     /// The bundle of a block that is at home.
@@ -101,7 +99,7 @@ impl Homes {
         ensures err { OnErr result (self.new ≡ self.old) }
     {
         let key = offer_in(&mut self.bundles[block as usize], start, estimate)?;
-        self.keys[block as usize] = key;
+        self.keys.set(block, key);
         Ok(())
     }
 }

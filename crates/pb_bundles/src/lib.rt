@@ -7,6 +7,9 @@ mod homes;
 mod laws;
 mod moves;
 mod parts;
+mod rooms;
+mod tree;
+mod winner;
 
 pub use homes::Homes;
 pub use laws::{
@@ -17,6 +20,9 @@ pub use laws::{
     taken_rows_are_restricted,
 };
 pub use parts::{BundleRoom, LentBundles};
+pub use rooms::KeptRooms;
 
 #[cfg(test)]
 mod tests;
+#[cfg(test)]
+mod tree_tests;

@@ -11,9 +11,9 @@ ghost use Rattle.pb_bundles.specs.Moves.{is_among, vacated, moved, put_back, IsV
 
 use crate::homes::Homes;
 use crate::parts::{BundleRoom, LentBundles};
+use crate::tree::KeyTree;
 use indexmap::IndexMap;
 use pb_lists::Bundle;
-use pb_model::Key;
 
 impl Homes {
     /// Moves the bundles of these blocks out, each of which is at home. The keys stay noted as they are. It takes no memory.
@@ -32,15 +32,18 @@ impl Homes {
         LentBundles { bundles }
     }
 
-    /// Moves bundles home, each to its own place, where none is. Their blocks' keys are noted anew. It takes no memory.
-    pub fn bring_back(&mut self, parts: LentBundles)
+    /// Moves bundles home, each to its own place, where none is. Their blocks' keys are noted anew. The room that they leave empty is
+    /// answered. It takes no memory.
+    pub fn bring_back(&mut self, parts: LentBundles) -> BundleRoom
         requires { (block : _) → IsSome (content_in parts block) → IsVacant self.old.bundles block }
         ensures back { self.new.bundles ≡ put_back parts self.old.bundles }
         ensures noted { NotesKeys parts self.old.keys self.new.keys }
         ensures home { (block : _) → content_at self.new block ≡ option_or (content_in parts block) (content_at self.old block) }
     {
         note_keys(&mut self.keys, &parts.bundles);
-        move_home(&mut self.bundles, parts.bundles);
+        BundleRoom {
+            bundles: move_home(&mut self.bundles, parts.bundles),
+        }
     }
 
     /// Notes the keys of blocks whose bundles are away, and stay so. It takes no memory.
@@ -85,15 +88,20 @@ fn move_one(bundles: &mut Vec<Option<Bundle>>, block: u32, parts: &mut IndexMap<
     }
 }
 
-// Moves each bundle to its place.
-fn move_home(bundles: &mut Vec<Option<Bundle>>, parts: IndexMap<u32, Bundle>)
+// Moves each bundle to its place, and answers what is left, which is empty.
+fn move_home(
+    bundles: &mut Vec<Option<Bundle>>,
+    parts: IndexMap<u32, Bundle>,
+) -> IndexMap<u32, Bundle>
     requires { (block : _) → IsSome (content_in parts.entries block) → block < length bundles.old.items }
-    ensures { bundles.new.items ≡ put_back parts.entries bundles.old.items }
+    ensures back { bundles.new.items ≡ put_back parts.entries bundles.old.items }
+    ensures empty { result.entries ≡ [] }
 {
     let mut rest = parts;
     while let Some((block, bundle)) = rest.pop() {
         put_home(bundles, block, bundle);
     }
+    rest
 }
 
 // Moves one bundle to its place.
@@ -105,9 +113,9 @@ fn put_home(bundles: &mut Vec<Option<Bundle>>, block: u32, bundle: Bundle)
 }
 
 // Notes the key of each bundle.
-fn note_keys(keys: &mut Vec<Option<Key>>, parts: &IndexMap<u32, Bundle>)
-    requires { (block : _) → IsSome (content_in parts.now.entries block) → block < length keys.old.items }
-    ensures { NotesKeys parts.now.entries keys.old.items keys.new.items }
+fn note_keys(keys: &mut KeyTree, parts: &IndexMap<u32, Bundle>)
+    requires { (block : _) → IsSome (content_in parts.now.entries block) → block < length keys.old }
+    ensures { NotesKeys parts.now.entries keys.old keys.new }
 {
     for at in 0..parts.len() {
         note_one(keys, parts, at);
@@ -115,13 +123,13 @@ fn note_keys(keys: &mut Vec<Option<Key>>, parts: &IndexMap<u32, Bundle>)
 }
 
 // Notes the key of the bundle that stands here.
-fn note_one(keys: &mut Vec<Option<Key>>, parts: &IndexMap<u32, Bundle>, at: usize)
+fn note_one(keys: &mut KeyTree, parts: &IndexMap<u32, Bundle>, at: usize)
     requires within { at < length parts.now.entries }
-    requires place { (block : _) (content : Content) → slice_get parts.now.entries at ≡ Some (block, content) → block < length keys.old.items }
-    ensures { (block : _) (content : Content) → slice_get parts.now.entries at ≡ Some (block, content) → NotesKey content keys.old.items keys.new.items block }
+    requires place { (block : _) (content : Content) → slice_get parts.now.entries at ≡ Some (block, content) → block < length keys.old }
+    ensures { (block : _) (content : Content) → slice_get parts.now.entries at ≡ Some (block, content) → NotesKey content keys.old keys.new block }
 {
     match parts.get_index(at) {
-        Some((block, bundle)) => keys[*block as usize] = bundle.best(),
+        Some((block, bundle)) => keys.set(*block, bundle.best()),
         None => unreachable!(),
     }
 }

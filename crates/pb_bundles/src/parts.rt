@@ -1,5 +1,5 @@
 //! The bundles of some blocks, away from home.
-ghost use Rattle.std.specs.Prelude.{◌≡◌, ◌≤◌, ◌<◌, Some, IsSome, IfOk, nat_eq, length, position};
+ghost use Rattle.std.specs.Prelude.{◌≡◌, ◌≤◌, ◌<◌, Some, IsSome, IsOk, IfOk, nat_eq, length, position};
 ghost use Rattle.std.specs.Map.{keys_of};
 ghost use Rattle.std.specs.Borrow.{sem};
 ghost use Rattle.pb_bundles.specs.Parts.{content_in};
@@ -50,6 +50,16 @@ impl BundleRoom {
         Ok(BundleRoom {
             bundles: IndexMap::with_capacity(alloc, bundles)?,
         })
+    }
+
+    // The same room, made larger if fewer bundles fit. An error is want of memory.
+    pub(crate) fn enlarged(self, bundles: usize) -> Result<BundleRoom, AllocError>
+        ensures room { IfOk result (λ room. bundles ≤ room) }
+        ensures fits { bundles ≤ self → IsOk result }
+    {
+        let mut kept = self.bundles;
+        kept.reserve(bundles)?;
+        Ok(BundleRoom { bundles: kept })
     }
 }
 

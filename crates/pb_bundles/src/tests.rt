@@ -2,7 +2,7 @@ ghost use Rattle.std.specs.Prelude.{◌≡◌, IsSome, OnOk};
 ghost use Rattle.std.specs.Map.{keys_of};
 ghost use Rattle.pb_bundles.specs.Parts.{content_in};
 
-use crate::{BundleRoom, Homes, LentBundles};
+use crate::{BundleRoom, Homes, KeptRooms, LentBundles};
 use pb_model::{Estimate, Key};
 use pb_packed::Packed;
 use std::alloc::AllocError;
@@ -55,6 +55,20 @@ fn bundles_leave_home_and_come_back(rt: HostRuntime) -> Result<(), Fail> {
     open(&mut parts, 2, 8, 3)?;
     homes.bring_back(parts);
     assert!(rt; homes.is_home(2) && homes.key(2) == Some(Key::Sum { sum: 3, h: 3 }));
+    Ok(())
+}
+
+#[test]
+fn rooms_are_kept(rt: HostRuntime) -> Result<(), Fail> {
+    let mut kept = KeptRooms::new(rt.alloc(), 1)?;
+    let first = kept.take(rt.alloc(), 3)?;
+    let second = kept.take(rt.alloc(), 1)?;
+    kept.keep(first);
+    kept.keep(second);
+    let again = kept.take(rt.alloc(), 3)?;
+    kept.keep(again);
+    let larger = kept.take(rt.alloc(), 40)?;
+    kept.keep(larger);
     Ok(())
 }
 

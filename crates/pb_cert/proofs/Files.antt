@@ -1,12 +1,15 @@
 -- Calls on a shelf, one after another, and what a file then holds of a text.
-use Rattle.std.proofs.Common.{◌≡◌, ℕ, zero, suc, Result, Ok, Err, OnOk, OnErr, ◌+◌, ◌<◌, ◌≤◌, Option, None, Some, List, [], ◌∷◌, ◌++◌, length, take, drop, slice_get, refl, sym, subst, ap, arith, ◌∙◌, append_assoc, append-nil}
-use Rattle.std.proofs.lemmas.List.{length-append, take-append-le, take-append-drop}
+use Rattle.std.proofs.Common.{◌≡◌, ℕ, zero, suc, Result, Ok, Err, OnOk, OnErr, ◌+◌, ◌<◌, ◌≤◌, Option, None, Some, List, [], ◌∷◌, ◌++◌, length, take, drop, slice_get, refl, sym, subst, ap, arith, ◌∙◌}
+use Rattle.std.proofs.lemmas.List.{length-append, take-append-drop}
 use Rattle.std.proofs.Math.Seq.{take-suc}
 use Rattle.std.proofs.lemmas.Option.{get_or_from_slice_get, slice_get_within}
 use Rattle.pb_model.specs.Texts.{line, lines}
-use Rattle.pb_outside.specs.Outside.{Files, IfTold, KeepsOthers, AppendsTo, AppendsPartTo}
+use Rattle.pb_outside.specs.Outside.{Files, IfTold, KeepsOthers}
+use Rattle.pb_outside.specs.Calls.{HasBytes}
+use Rattle.pb_outside.specs.Saves.{HoldsPart, IsWritten}
+use Rattle.pb_outside.proofs.Saves.{added_written, part_of_more}
 use Rattle.pb_cert.specs.Stated.{PutsLine}
-use Rattle.pb_cert.specs.Saved.{HoldsPart, IsWritten, AreLines, AddsLine}
+use Rattle.pb_cert.specs.Saved.{AreLines, AddsLine}
 use Rattle.pb_cert.proofs.LineTexts.{lines-append, lines-last}
 
 -- ---- what holds on success or failure
@@ -46,29 +49,6 @@ told_as (Some x) None P R p f = absurd p
 pub others_then : (x y z : Files) (name : List ℕ) → KeepsOthers x y name → KeepsOthers y z name → KeepsOthers x z name
 others_then x y z name one two other ne = two other ne ∙ one other ne
 
--- ---- a piece that is appended
-
-pub appended : (old new : Files) (name piece text : List ℕ) → AppendsTo old new name piece → IsWritten old name piece text → IsWritten new name [] text
-appended old new name piece text appends written =
-    let there : ◌≡◌ {A = Option (List ℕ)} (Some written.0) (Some appends.0) = sym written.1 ∙ appends.1 in
-    let same : written.0 ≡ appends.0 = cc in
-    (appends.0 ++ piece, appends.2, append-nil (appends.0 ++ piece) ∙ subst (λ bytes. bytes ++ piece ≡ text) same written.2)
-
-pub part_appended : (old new : Files) (name piece text : List ℕ) → AppendsPartTo old new name piece → IsWritten old name piece text → HoldsPart new name text
-part_appended old new name piece text appends written =
-    let part = appends.there written.0 written.1 in (
-      length written.0 + part.0,
-      small (length written.0) part.0 (length piece) (length text) part.1 (sym (length-append written.0 piece) ∙ ap length written.2),
-      part.2 ∙ ap Some (joined written.0 piece part.0 part.1 ∙ ap (take (length written.0 + part.0)) written.2),
-    )
-  where
-    small : (n k m all : ℕ) → k ≤ m → n + m ≡ all → n + k ≤ all
-    small n k m all le e = omega (arith, le, e)
-
-    joined : (xs ys : List ℕ) (k : ℕ) → k ≤ length ys → xs ++ take k ys ≡ take (length xs + k) (xs ++ ys)
-    joined [] ys k le = let same : 0 + k ≡ k = omega arith in sym (ap (λ n. take n ys) same)
-    joined (x ∷ xs) ys k le = let more : suc (length xs) + k ≡ suc (length xs + k) = omega arith in ap (λ t. x ∷ t) (joined xs ys k le) ∙ sym (ap (λ n. take n (x ∷ (xs ++ ys))) more)
-
 -- ---- line after line
 
 pub begun : (old new : Files) (name : List ℕ) (texts : List (List ℕ)) → new name ≡ Some [] → IsWritten new name [] (lines (take 0 texts))
@@ -76,7 +56,7 @@ begun old new name texts e = ([], e, refl)
 
 pub line_written : (files : Files) (name piece new text : List ℕ) (texts : List (List ℕ)) (at : ℕ) → IsWritten files name piece text → (added : List ℕ) × (slice_get texts at ≡ Some added) × (new ≡ piece ++ line added) → AddsLine files name new text texts at
 line_written files name piece new text texts at written put =
-    (put.0, put.1, (written.0, written.1, ap (λ t. written.0 ++ t) put.2 ∙ sym (append_assoc written.0 piece (line put.0)) ∙ ap (λ t. t ++ line put.0) written.2))
+    (put.0, put.1, added_written files name piece new text (line put.0) put.2 written)
 
 pub line_of_lines : (piece new : List ℕ) (added : List ℕ) → new ≡ piece ++ line added → AreLines piece → AreLines new
 line_of_lines piece new added e (texts, is) = (texts ++ added ∷ [], e ∙ ap (λ t. t ++ line added) is ∙ sym (lines-last texts added))
@@ -89,10 +69,6 @@ one_more texts at added found =
 
 pub added_next : (files : Files) (name piece : List ℕ) (texts : List (List ℕ)) (at : ℕ) → AddsLine files name piece (lines (take at texts)) texts at → IsWritten files name piece (lines (take (at + 1) texts))
 added_next files name piece texts at adds = subst (IsWritten files name piece) (sym (one_more texts at adds.0 adds.1)) adds.2
-
-pub part_of_more : (files : Files) (name text more : List ℕ) → HoldsPart files name text → HoldsPart files name (text ++ more)
-part_of_more files name text more part =
-    (part.0, subst (λ n. part.0 ≤ n) (sym (length-append text more)) (omega (arith, part.1)), part.2 ∙ ap Some (sym (take-append-le part.0 text more part.1)))
 
 pub part_of_lines : (files : Files) (name whole : List ℕ) (texts : List (List ℕ)) (at : ℕ) → lines texts ≡ whole → HoldsPart files name (lines (take at texts)) → HoldsPart files name whole
 part_of_lines files name whole texts at is part =
@@ -109,9 +85,6 @@ longer texts at len more old new empty puts so_far is =
 pub short_line : (old new : List ℕ) (texts : List (List ℕ)) (at more : ℕ) → old ≡ [] → PutsLine old new texts at → more ≡ length new → more ≤ 128
 short_line old new texts at more empty puts is = let none : length old ≡ 0 = ap length empty in omega (arith, puts.3, is, none)
 
-pub all_written : (files : Files) (name : List ℕ) (text whole : List ℕ) → text ≡ whole → IsWritten files name [] text → files name ≡ Some whole
-all_written files name text whole is written = written.1 ∙ ap Some (sym (append-nil written.0) ∙ written.2 ∙ is)
-
 pub all_lines : (texts : List (List ℕ)) (at : ℕ) → length texts ≤ at → lines (take at texts) ≡ lines texts
 all_lines texts at le = ap lines (whole texts at le)
   where
@@ -120,3 +93,10 @@ all_lines texts at le = ap lines (whole texts at le)
     whole [] (suc at) le = refl
     whole (x ∷ texts) zero le = absurd (omega (arith, le))
     whole (x ∷ texts) (suc at) le = ap (λ t. x ∷ t) (whole texts at (omega (arith, le)))
+
+pub line_full : (old new : List ℕ) (texts : List (List ℕ)) (at : ℕ) → PutsLine old new texts at
+    → HasBytes new
+line_full old new texts at puts =
+    let all = ap length puts.2 ∙ length-append old (line puts.0) in
+    let last = length-append puts.0 (10 ∷ []) in
+    omega (arith, all, last)

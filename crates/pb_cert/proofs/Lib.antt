@@ -8,3 +8,4 @@ mod SavedCalls
 mod Sorted
 mod Places
 mod TwoRows
+pub mod Unique

@@ -72,6 +72,10 @@ impl<'a> Certificate<'a> {
         ensures plan { IfOk result (λ c. c.certificate.plan ≡ plan) }
         ensures count { IfOk result (λ c. length c.certificate.lines < 2 ^ 63) }
         ensures lines { IfOk result (λ c. (guide : Guide) → IsPlaced guide.home (S.rows store.now) → AreLinesOf guide (S.rows store.now) c.certificate.lines) }
+        // The same with what a search knows of its store.
+        ensures rows { IfOk result (λ c. (space : Space) (guide : Guide) (incumbent : Option ℕ)
+            → IsSound space guide (store_with (S.rows store.now) (S.weight store.now) incumbent)
+            → AreLinesOf guide (S.rows store.now) c.certificate.lines) }
         ensures valid { IfOk result (λ c. (space : Space) (guide : Guide) (incumbent : Option ℕ) → IsSound space guide (store_with (S.rows store.now) (S.weight store.now) incumbent)
             → IsQuiet (store_with (S.rows store.now) (S.weight store.now) incumbent) → IsPlanIfAny space plan → IsBackedBy incumbent plan → IsValid space guide.estimate c.certificate) }
     {

@@ -13,7 +13,9 @@ mod store;
 mod tracing;
 
 pub use certificate::Certificate;
-pub use laws::{home_rows_are_whole, shown_rows_can_be_traced};
+pub use laws::{
+    home_rows_are_whole, lines_are_unique, shown_rows_can_be_traced, sound_rows_are_placed,
+};
 pub use plan::Plan;
 pub use store::Store;
 pub use tracing::trace;

@@ -1,9 +1,10 @@
 ghost use Rattle.std.specs.Prelude.{◌≡◌, ◌+◌, ◌<◌, ◌≤◌, ◌++◌, ℕ, List, [], Some, IsOk, IsSome, OnOk, OnErr, length, slice_get};
 ghost use Rattle.pb_model.specs.Texts.{line};
 ghost use Rattle.pb_outside.specs.Outside.{IfTold, KeepsOthers, KeepsHolds, HasCause};
-ghost use Rattle.pb_outside.specs.Calls.{Call, KeepsLoads, SaveText, FailToSave};
+ghost use Rattle.pb_outside.specs.Calls.{Call, HasBytes, KeepsLoads};
+ghost use Rattle.pb_outside.specs.Saves.{IsPartSaved, HoldsPart, IsWritten, Saves, SavesPart, HaveBegun, KeepsBegun, BreaksSave, IfHasRoom};
 ghost use Rattle.pb_cert.specs.Stated.{text_of, lines_of};
-ghost use Rattle.pb_cert.specs.Saved.{IsPartSaved, HoldsPart, IsWritten, AreLines, AddsLine, HaveBegun, HaveFailed, CallForLine, IsToldWritten};
+ghost use Rattle.pb_cert.specs.Saved.{AreLines, AddsLine, CallForLine};
 
 use crate::certificate::Certificate;
 use pb_outside::{Failed, Shelf};
@@ -15,13 +16,17 @@ const LONGEST: usize = 128;
 // Appends what the piece holds to the file, and empties the piece.
 fn append_piece<H: Shelf>(shelf: &mut H, name: &str, piece: &mut Piece) -> Result<(), Failed>
     requires lines { AreLines piece.old }
+    requires full { HasBytes piece.old }
     ensures empty { OnOk result (piece.new ≡ []) }
     ensures ok { OnOk result (IfTold (H.files shelf.old) (H.files shelf.new) (λ old new. (text : List ℕ) → IsWritten old name.now piece.old text → IsWritten new name.now [] text)) }
     ensures err { OnErr result (IfTold (H.files shelf.old) (H.files shelf.new) (λ old new. (text : List ℕ) → IsWritten old name.now piece.old text → HoldsPart new name.now text)) }
     ensures others { IfTold (H.files shelf.old) (H.files shelf.new) (λ old new. KeepsOthers old new name.now) }
-    ensures begun { OnOk result ((start : List Call) (text : List ℕ) → HaveBegun start (H.calls shelf.old) name.now piece.old text → HaveBegun start (H.calls shelf.new) name.now [] text) }
-    ensures failed { OnErr result ((start : List Call) (text : List ℕ) → HaveBegun start (H.calls shelf.old) name.now piece.old text → HaveFailed start (H.calls shelf.new) name.now text) }
-    ensures sure { (text : List ℕ) (n : ℕ) → IsToldWritten (H.files shelf.old) name.now piece.old text → length text ≤ n → H.can_hold shelf.old name.now n → IsOk result }
+    ensures begun { OnOk result
+        (KeepsBegun (H.calls shelf.old) (H.calls shelf.new) name.now piece.old []) }
+    ensures failed { OnErr result
+        (BreaksSave (H.calls shelf.old) (H.calls shelf.new) name.now piece.old) }
+    ensures sure { IfHasRoom (H.files shelf.old) name.now piece.old
+        (H.can_hold shelf.old name.now) (IsOk result) }
     ensures holds { KeepsHolds (H.can_hold shelf.old) (H.can_hold shelf.new) }
     ensures loads { KeepsLoads (H.can_load shelf.old) (H.can_load shelf.new) }
     ensures cause { HasCause (H.faults shelf.old) (H.faults shelf.new) result }
@@ -39,9 +44,12 @@ fn make_room<H: Shelf>(shelf: &mut H, name: &str, piece: &mut Piece) -> Result<(
     ensures ok { OnOk result (IfTold (H.files shelf.old) (H.files shelf.new) (λ old new. (text : List ℕ) → IsWritten old name.now piece.old text → IsWritten new name.now piece.new text)) }
     ensures err { OnErr result (IfTold (H.files shelf.old) (H.files shelf.new) (λ old new. (text : List ℕ) → IsWritten old name.now piece.old text → HoldsPart new name.now text)) }
     ensures others { IfTold (H.files shelf.old) (H.files shelf.new) (λ old new. KeepsOthers old new name.now) }
-    ensures begun { OnOk result ((start : List Call) (text : List ℕ) → HaveBegun start (H.calls shelf.old) name.now piece.old text → HaveBegun start (H.calls shelf.new) name.now piece.new text) }
-    ensures failed { OnErr result ((start : List Call) (text : List ℕ) → HaveBegun start (H.calls shelf.old) name.now piece.old text → HaveFailed start (H.calls shelf.new) name.now text) }
-    ensures sure { (text : List ℕ) (n : ℕ) → IsToldWritten (H.files shelf.old) name.now piece.old text → length text ≤ n → H.can_hold shelf.old name.now n → IsOk result }
+    ensures begun { OnOk result
+        (KeepsBegun (H.calls shelf.old) (H.calls shelf.new) name.now piece.old piece.new) }
+    ensures failed { OnErr result
+        (BreaksSave (H.calls shelf.old) (H.calls shelf.new) name.now piece.old) }
+    ensures sure { IfHasRoom (H.files shelf.old) name.now piece.old
+        (H.can_hold shelf.old name.now) (IsOk result) }
     ensures holds { KeepsHolds (H.can_hold shelf.old) (H.can_hold shelf.new) }
     ensures loads { KeepsLoads (H.can_load shelf.old) (H.can_load shelf.new) }
     ensures cause { HasCause (H.faults shelf.old) (H.faults shelf.new) result }
@@ -80,12 +88,15 @@ impl Certificate<'_> {
         requires within { at < length (lines_of self.now) }
         requires lines { AreLines piece.old }
         ensures lines { OnOk result (AreLines piece.new) }
+        ensures full { OnOk result (HasBytes piece.new) }
         ensures ok { OnOk result (IfTold (H.files shelf.old) (H.files shelf.new) (λ old new. (text : List ℕ) → IsWritten old name.now piece.old text → AddsLine new name.now piece.new text (lines_of self.now) at)) }
         ensures err { OnErr result (IfTold (H.files shelf.old) (H.files shelf.new) (λ old new. (text : List ℕ) → IsWritten old name.now piece.old text → HoldsPart new name.now text)) }
         ensures others { IfTold (H.files shelf.old) (H.files shelf.new) (λ old new. KeepsOthers old new name.now) }
         ensures begun { OnOk result ((start : List Call) (text : List ℕ) → HaveBegun start (H.calls shelf.old) name.now piece.old text → CallForLine start (H.calls shelf.new) name.now piece.new text (lines_of self.now) at) }
-        ensures failed { OnErr result ((start : List Call) (text : List ℕ) → HaveBegun start (H.calls shelf.old) name.now piece.old text → HaveFailed start (H.calls shelf.new) name.now text) }
-        ensures sure { (text : List ℕ) (n : ℕ) → IsToldWritten (H.files shelf.old) name.now piece.old text → length text ≤ n → H.can_hold shelf.old name.now n → IsOk result }
+        ensures failed { OnErr result
+            (BreaksSave (H.calls shelf.old) (H.calls shelf.new) name.now piece.old) }
+        ensures sure { IfHasRoom (H.files shelf.old) name.now piece.old
+            (H.can_hold shelf.old name.now) (IsOk result) }
         ensures holds { KeepsHolds (H.can_hold shelf.old) (H.can_hold shelf.new) }
         ensures loads { KeepsLoads (H.can_load shelf.old) (H.can_load shelf.new) }
         ensures cause { HasCause (H.faults shelf.old) (H.faults shelf.new) result }
@@ -101,8 +112,10 @@ impl Certificate<'_> {
         ensures ok { OnOk result (IfTold (H.files shelf.old) (H.files shelf.new) (λ old new. new name.now ≡ Some (text_of self.now))) }
         ensures err { OnErr result (IfTold (H.files shelf.old) (H.files shelf.new) (λ old new. IsPartSaved old new name.now (text_of self.now))) }
         ensures others { IfTold (H.files shelf.old) (H.files shelf.new) (λ old new. KeepsOthers old new name.now) }
-        ensures calls { OnOk result ((calls : List Call) × (H.calls shelf.new ≡ H.calls shelf.old ++ calls) × SaveText calls name.now (text_of self.now)) }
-        ensures failed { OnErr result ((calls : List Call) × (H.calls shelf.new ≡ H.calls shelf.old ++ calls) × FailToSave calls name.now (text_of self.now)) }
+        ensures calls { OnOk result
+            (Saves (H.calls shelf.old) (H.calls shelf.new) name.now (text_of self.now)) }
+        ensures failed { OnErr result
+            (SavesPart (H.calls shelf.old) (H.calls shelf.new) name.now (text_of self.now)) }
         ensures sure { IsSome (H.files shelf.old) → H.can_hold shelf.old name.now (length (text_of self.now)) → IsOk result }
         ensures holds { KeepsHolds (H.can_hold shelf.old) (H.can_hold shelf.new) }
         ensures loads { KeepsLoads (H.can_load shelf.old) (H.can_load shelf.new) }

@@ -1,128 +1,196 @@
 -- What is found for the arguments of a subcommand, whatever their order.
-use Rattle.std.proofs.Common.{◌≡◌, ◌∙◌, ◌+◌, ◌≤◌, ◌<◌, ◌++◌, ℕ, Bool, true, false, List, [], ◌∷◌, None, Some, refl, sym, ap, subst, append_assoc, append-nil, arith}
-use Rattle.std.specs.Prelude.{fold, find, option_map, if◌then◌else◌}
+use Rattle.std.proofs.Common.{◌≡◌, ◌∙◌, ◌+◌, ◌++◌, ℕ, Bool, true, false, List, [], ◌∷◌, Option, None, Some, refl, sym, ap, subst, append_assoc, append-nil, codes}
+use Rattle.std.specs.Prelude.{fold, find, drop, option_map, if◌then◌else◌}
 use Rattle.std.specs.List.{AllByRecursion}
 use Rattle.std.specs.Str.{bytes_eq}
-use Rattle.clap.specs.Walk.{Held, Row as MatchRow, Text, walked, with_values, without, settled, has_row}
+use Rattle.std.proofs.lemmas.Slice.Eq.{bytes_eq-Decides}
+use Rattle.clap.specs.Walk.{Held, Row as MatchRow, Text, walked, walk_from, nothing_held, rows_after, with_values, without, settled, finished, with_default, has_row}
+use Rattle.clap.specs.Walk.{Walk}
 use Rattle.clap.specs.Simple.{Shape}
-use Rattle.clap.specs.Faults.{settle_fault, walk_fault}
+use Rattle.clap.specs.ValueTests.{accepts}
+use Rattle.clap.specs.Faults.{settle_fault, walk_fault, level_fault, check_fault, defaults_fault}
 use Rattle.clap.specs.declared.builder.value_parser.Reading.TheVariants.{AsWritten}
 use Rattle.clap.specs.declared.parser.matches.ValueSource.TheVariants.{CommandLine}
-use Rattle.pb_command.specs.Options.{ValuedOption, is_same, Argument, Plain, Valued, option_word, words_of, plain_words, value_given, AreDistinct}
-use Rattle.pb_command.proofs.Walking.{at, option_id, match_row, held_with, same_option, same_itself, ids_apart, ids_same, put_last, still_none}
+use Rattle.pb_command.specs.Options.{ValuedOption, Row, Workers, Num, Den, Budget, Lot, Blocks, Certificate, Journal, is_same, Argument, Placed, Valued, Plain, words_of, placed_words, value_given, plain_given, AreDistinct, IsArgumentOf}
+use Rattle.pb_command.proofs.Walking.{Place, Kind, FirstFile, SecondFile, CertificateFile, JournalFile, Seed, Size, place_id, place_parser, HasOption, HasPlain, HasPlace, at, option_id, match_row, held_with, held_plain}
+use Rattle.pb_command.proofs.Walking.{same_option, same_itself, ids_apart, ids_same, place_no_option, option_no_place, place_no_plain, plain_no_place, option_no_plain, plain_no_option, put_last, still_none}
+use Rattle.pb_command.proofs.Walking.{valued_step, placed_step, plain_step, valued_fault, placed_fault, plain_fault, valued_rows, placed_rows, plain_rows, valued_faultless, placed_faultless}
 
--- each of these words has a place, from this one on
-abbrev pub HavePlaces : (ℕ → Type 0) → List Text → ℕ → Type 0
-HavePlaces IsPlace [] place = Unit {0}
-HavePlaces IsPlace (word ∷ rest) place = IsPlace place × HavePlaces IsPlace rest (place + 1)
+-- the row of an identifier
+abbrev pub row_of : Text → List MatchRow → Option MatchRow
+row_of id rows = find (λ (r : MatchRow). bytes_eq r.id id) rows
+
+-- the identifier of the first place that is left
+abbrev pub first_id : List Place → Text
+first_id [] = []
+first_id (p ∷ ps) = place_id p
 
 -- what is found for each argument, in the order in which they are given
-abbrev pub rows_for : (ℕ → Text) → List Argument → ℕ → List MatchRow
-rows_for place_id [] place = []
-rows_for place_id (Plain word ∷ rest) place = match_row (place_id place) word ∷ rows_for place_id rest (place + 1)
-rows_for place_id (Valued option value ∷ rest) place = match_row (option_id option) value ∷ rows_for place_id rest place
+abbrev pub rows_for : List Place → List Argument → List MatchRow
+rows_for places [] = []
+rows_for places (Placed word ∷ rest) = match_row (first_id places) word ∷ rows_for (drop 1 places) rest
+rows_for places (Valued option value ∷ rest) = match_row (option_id option) value ∷ rows_for places rest
+rows_for places (Plain ∷ rest) = match_row (codes "plain") (codes "true") ∷ rows_for places rest
+
+-- the word in a place
+abbrev pub word_at : Place → List Place → List Text → Option Text
+word_at p places [] = None
+word_at p places (word ∷ rest) = if bytes_eq (first_id places) (place_id p) then Some word else word_at p (drop 1 places) rest
+
+same_place : (p q : Place) → bytes_eq (place_id p) (place_id q) ≡ true → place_id p ≡ place_id q
+same_place p q e = (bytes_eq-Decides (place_id p) (place_id q)).0 e
+
+first_no_option : (places : List Place) (o : ValuedOption) → bytes_eq (first_id places) (option_id o) ≡ false
+first_no_option [] Row = refl
+first_no_option [] Workers = refl
+first_no_option [] Num = refl
+first_no_option [] Den = refl
+first_no_option [] Budget = refl
+first_no_option [] Lot = refl
+first_no_option [] Blocks = refl
+first_no_option [] Certificate = refl
+first_no_option [] Journal = refl
+first_no_option (p ∷ ps) o = place_no_option p o
+
+first_no_plain : (places : List Place) → bytes_eq (first_id places) (codes "plain") ≡ false
+first_no_plain [] = refl
+first_no_plain (p ∷ ps) = place_no_plain p
 
 -- the value that is found for an option is the one that it was given
-pub found_option : (place_id : ℕ → Text) (option : ValuedOption) → ((place : ℕ) → bytes_eq (place_id place) (option_id option) ≡ false)
-    → (arguments : List Argument) (place : ℕ)
-    → find (λ (r : MatchRow). bytes_eq r.id (option_id option)) (rows_for place_id arguments place) ≡ option_map (match_row (option_id option)) (value_given option arguments)
-found_option place_id option apart [] place = refl
-found_option place_id option apart (Plain word ∷ rest) place = rw (apart place) (found_option place_id option apart rest (place + 1))
-found_option place_id option apart (Valued other value ∷ rest) place =
-    by (is_same option other) refl (found_option place_id option apart rest place) where
-      by : (b : Bool) → is_same option other ≡ b
-          → find (λ (r : MatchRow). bytes_eq r.id (option_id option)) (rows_for place_id rest place) ≡ option_map (match_row (option_id option)) (value_given option rest)
-          → (if bytes_eq (option_id other) (option_id option) then Some (match_row (option_id other) value)
-          else find (λ (r : MatchRow). bytes_eq r.id (option_id option)) (rows_for place_id rest place))
-          ≡ option_map (match_row (option_id option)) (if is_same option other then Some value else value_given option rest)
-      by true is found =
-          let same : option ≡ other = same_option option other is in
-          rw is (subst (λ o. (if bytes_eq (option_id o) (option_id option) then Some (match_row (option_id o) value)
-          else find (λ (r : MatchRow). bytes_eq r.id (option_id option)) (rows_for place_id rest place)) ≡ Some (match_row (option_id option) value)) same (rw (ids_same option) refl))
-      by false is found = rw (is, ids_apart option other is) found
+pub found_option : (places : List Place) (option : ValuedOption) (arguments : List Argument)
+    → row_of (option_id option) (rows_for places arguments) ≡ option_map (match_row (option_id option)) (value_given option arguments)
+found_option places option [] = refl
+found_option places option (Placed word ∷ rest) = rw (first_no_option places option) (found_option (drop 1 places) option rest)
+found_option places option (Plain ∷ rest) = rw (plain_no_option option) (found_option places option rest)
+found_option places option (Valued other value ∷ rest) = by (is_same option other) refl (found_option places option rest) where
+  by : (b : Bool) → is_same option other ≡ b
+      → row_of (option_id option) (rows_for places rest) ≡ option_map (match_row (option_id option)) (value_given option rest)
+      → (if bytes_eq (option_id other) (option_id option) then Some (match_row (option_id other) value) else row_of (option_id option) (rows_for places rest))
+      ≡ option_map (match_row (option_id option)) (if is_same option other then Some value else value_given option rest)
+  by true is found =
+      let same : option ≡ other = same_option option other is in
+      rw is (subst (λ o. (if bytes_eq (option_id o) (option_id option) then Some (match_row (option_id o) value)
+      else row_of (option_id option) (rows_for places rest)) ≡ Some (match_row (option_id option) value)) same (rw (ids_same option) refl))
+  by false is found = rw (is, ids_apart option other is) found
 
--- the word at the first place
-pub found_first : (place_id : ℕ → Text) → ((option : ValuedOption) (place : ℕ) → bytes_eq (option_id option) (place_id place) ≡ false)
-    → (place : ℕ) → bytes_eq (place_id place) (place_id place) ≡ true → (arguments : List Argument) (word : Text) (words : List Text) → plain_words arguments ≡ word ∷ words
-    → find (λ (r : MatchRow). bytes_eq r.id (place_id place)) (rows_for place_id arguments place) ≡ Some (match_row (place_id place) word)
-found_first place_id apart place same [] word words are = cc
-found_first place_id apart place same (Plain other ∷ rest) word words are = let is : other ≡ word = cc in rw same (ap (λ w. Some (match_row (place_id place) w)) is)
-found_first place_id apart place same (Valued option value ∷ rest) word words are = rw (apart option place) (found_first place_id apart place same rest word words are)
+-- the word that is found for a place is the one that stands there
+pub found_place : (p : Place) (places : List Place) (arguments : List Argument)
+    → row_of (place_id p) (rows_for places arguments) ≡ option_map (match_row (place_id p)) (word_at p places (placed_words arguments))
+found_place p places [] = refl
+found_place p places (Valued option value ∷ rest) = rw (option_no_place option p) (found_place p places rest)
+found_place p places (Plain ∷ rest) = rw (plain_no_place p) (found_place p places rest)
+found_place p [] (Placed word ∷ rest) = none p (found_place p [] rest) where
+  none : (p : Place) → row_of (place_id p) (rows_for [] rest) ≡ option_map (match_row (place_id p)) (word_at p [] (placed_words rest))
+      → row_of (place_id p) (rows_for [] (Placed word ∷ rest)) ≡ option_map (match_row (place_id p)) (word_at p [] (word ∷ placed_words rest))
+  none Kind found = found
+  none FirstFile found = found
+  none SecondFile found = found
+  none CertificateFile found = found
+  none JournalFile found = found
+  none Seed found = found
+  none Size found = found
+found_place p (q ∷ qs) (Placed word ∷ rest) = by (bytes_eq (place_id q) (place_id p)) refl (found_place p qs rest) where
+  by : (b : Bool) → bytes_eq (place_id q) (place_id p) ≡ b
+      → row_of (place_id p) (rows_for qs rest) ≡ option_map (match_row (place_id p)) (word_at p qs (placed_words rest))
+      → (if bytes_eq (place_id q) (place_id p) then Some (match_row (place_id q) word) else row_of (place_id p) (rows_for qs rest))
+      ≡ option_map (match_row (place_id p)) (if bytes_eq (place_id q) (place_id p) then Some word else word_at p qs (placed_words rest))
+  by true is found = rw is (ap (λ id. Some (match_row id word)) (same_place q p is))
+  by false is found = rw is found
 
--- what is found for a later place
-pub record Later (place_id : ℕ → Text) (arguments : List Argument) (place later : ℕ) (words : List Text) : Type 0 where
-  pub rest : List Argument
-  pub words_are : plain_words rest ≡ words
-  pub same : find (λ (r : MatchRow). bytes_eq r.id (place_id later)) (rows_for place_id arguments place)
-      ≡ find (λ (r : MatchRow). bytes_eq r.id (place_id later)) (rows_for place_id rest (place + 1))
+-- the flag is found where it is given
+pub found_plain : (places : List Place) (arguments : List Argument)
+    → row_of (codes "plain") (rows_for places arguments) ≡ (if plain_given arguments then Some (match_row (codes "plain") (codes "true")) else None)
+found_plain places [] = refl
+found_plain places (Placed word ∷ rest) = rw (first_no_plain places) (found_plain (drop 1 places) rest)
+found_plain places (Valued option value ∷ rest) = rw (option_no_plain option) (found_plain places rest)
+found_plain places (Plain ∷ rest) = refl
 
-pub found_later : (place_id : ℕ → Text) → ((option : ValuedOption) (place : ℕ) → bytes_eq (option_id option) (place_id place) ≡ false)
-    → (place later : ℕ) → bytes_eq (place_id place) (place_id later) ≡ false → (arguments : List Argument) (word : Text) (words : List Text) → plain_words arguments ≡ word ∷ words
-    → Later place_id arguments place later words
-found_later place_id apart place later not_it [] word words are = cc
-found_later place_id apart place later not_it (Plain other ∷ rest) word words are = record { rest = rest; words_are = cc; same = rw not_it refl }
-found_later place_id apart place later not_it (Valued option value ∷ rest) word words are =
-    let found = found_later place_id apart place later not_it rest word words are in
-    record { rest = found.rest; words_are = found.words_are; same = rw (apart option later) found.same }
+pub has_plain_row : (places : List Place) (arguments : List Argument) → has_row (codes "plain") (rows_for places arguments) ≡ plain_given arguments
+has_plain_row places [] = refl
+has_plain_row places (Placed word ∷ rest) = rw (first_no_plain places) (has_plain_row (drop 1 places) rest)
+has_plain_row places (Valued option value ∷ rest) = rw (option_no_plain option) (has_plain_row places rest)
+has_plain_row places (Plain ∷ rest) = refl
 
--- nothing is found for a place that has no word
-pub found_none : (place_id : ℕ → Text) → ((option : ValuedOption) (place : ℕ) → bytes_eq (option_id option) (place_id place) ≡ false)
-    → (place later : ℕ) (arguments : List Argument) → plain_words arguments ≡ []
-    → find (λ (r : MatchRow). bytes_eq r.id (place_id later)) (rows_for place_id arguments place) ≡ None
-found_none place_id apart place later [] are = refl
-found_none place_id apart place later (Plain other ∷ rest) are = cc
-found_none place_id apart place later (Valued option value ∷ rest) are = rw (apart option later) (found_none place_id apart place later rest are)
+-- ---- the walk
 
--- one step of the walk for each argument
-pub record HasSteps (s : Shape) (IsArgument : Argument → Type 0) (place_id : ℕ → Text) (IsPlace : ℕ → Type 0) : Type 0 where
-  pub plain : (word : Text) (h : Held) (place : ℕ) → IsPlace place → IsArgument (Plain word)
-      → walked s.rules [] (at h place) word ≡ at (held_with s (place_id place) word h) (place + 1)
-  pub valued : (option : ValuedOption) (value : Text) (h : Held) (place : ℕ) → IsArgument (Valued option value)
-      → walked s.rules [] (walked s.rules [] (at h place) (option_word option)) value ≡ at (held_with s (option_id option) value h) place
-  pub plain_fault : (word : Text) (h : Held) (place : ℕ) (rest : List Text) → IsPlace place → IsArgument (Plain word) → settle_fault s.rules false h ≡ []
-      → walk_fault s [] (at h place) (word ∷ rest) ≡ walk_fault s [] (at (held_with s (place_id place) word h) (place + 1)) rest
-  pub valued_fault : (option : ValuedOption) (value : Text) (h : Held) (place : ℕ) (rest : List Text) → IsArgument (Valued option value) → settle_fault s.rules false h ≡ []
-      → walk_fault s [] (at h place) (option_word option ∷ value ∷ rest) ≡ walk_fault s [] (at (held_with s (option_id option) value h) place) rest
-  pub plain_rows : (word : Text) (h : Held) (place : ℕ) → IsPlace place
-      → (settled s.rules (held_with s (place_id place) word h)).rows ≡ with_values (place_id place) AsWritten CommandLine (word ∷ []) (without (place_id place) (settled s.rules h).rows)
-  pub valued_rows : (option : ValuedOption) (value : Text) (h : Held) → IsArgument (Valued option value)
-      → (settled s.rules (held_with s (option_id option) value h)).rows ≡ with_values (option_id option) AsWritten CommandLine (value ∷ []) (without (option_id option) (settled s.rules h).rows)
-  pub plain_faultless : (word : Text) (h : Held) (place : ℕ) → IsPlace place → has_row (place_id place) (settled s.rules h).rows ≡ false
-      → settle_fault s.rules false (held_with s (place_id place) word h) ≡ []
-  pub valued_faultless : (option : ValuedOption) (value : Text) (h : Held) → IsArgument (Valued option value) → has_row (option_id option) (settled s.rules h).rows ≡ false
-      → settle_fault s.rules false (held_with s (option_id option) value h) ≡ []
-  pub places_apart : (place later : ℕ) → IsPlace place → IsPlace later → place < later → bytes_eq (place_id place) (place_id later) ≡ false
-  pub place_no_option : (option : ValuedOption) (place : ℕ) → bytes_eq (place_id place) (option_id option) ≡ false
-  pub option_no_place : (option : ValuedOption) (place : ℕ) → bytes_eq (option_id option) (place_id place) ≡ false
+-- the places of a command, from this one on
+abbrev pub HasPlaces : Shape → ℕ → List Place → Type 0
+HasPlaces s i [] = Unit {0}
+HasPlaces s i (p ∷ ps) = HasPlace s i p × HasPlaces s (i + 1) ps
 
-module _ (s : Shape) (IsArgument : Argument → Type 0) (place_id : ℕ → Text) (IsPlace : ℕ → Type 0) (steps : HasSteps s IsArgument place_id IsPlace) where
+-- the words have places, and stand in them
+abbrev pub FitPlaces : List Place → List Text → Type 0
+FitPlaces places [] = Unit {0}
+FitPlaces [] (word ∷ rest) = ⊥
+FitPlaces (p ∷ ps) (word ∷ rest) = (accepts false (place_parser p) word ≡ true) × FitPlaces ps rest
+
+abbrev pub AreApart : List Place → Type 0
+AreApart [] = Unit {0}
+AreApart (p ∷ ps) = AllByRecursion (λ q. bytes_eq (place_id p) (place_id q) ≡ false) ps × AreApart ps
+
+-- what the walk needs of a command
+pub record Takes (s : Shape) (has_option : ValuedOption → Bool) (has_plain : Bool) (places : List Place) : Type 0 where
+  pub strict : s.args_override_self ≡ false
+  pub option : (o : ValuedOption) → has_option o ≡ true → HasOption s o
+  pub plain : has_plain ≡ true → HasPlain s
+  pub each_place : HasPlaces s 1 places
+  pub apart : AreApart places
+
+module _ (s : Shape) (has_option : ValuedOption → Bool) (has_plain : Bool) (strict : s.args_override_self ≡ false)
+    (knows : (o : ValuedOption) → has_option o ≡ true → HasOption s o) (knows_plain : has_plain ≡ true → HasPlain s) where
   -- nothing is found yet for what these arguments are
-  pub record AreNew (arguments : List Argument) (place : ℕ) (rows : List MatchRow) : Type 0 where
+  pub record AreNew (places : List Place) (arguments : List Argument) (rows : List MatchRow) : Type 0 where
     pub options : (option : ValuedOption) (value : Text) → value_given option arguments ≡ Some value → has_row (option_id option) rows ≡ false
-    pub places : (later : ℕ) → place ≤ later → IsPlace later → has_row (place_id later) rows ≡ false
+    pub plain : plain_given arguments ≡ true → has_row (codes "plain") rows ≡ false
+    pub each_place : AllByRecursion (λ p. has_row (place_id p) rows ≡ false) places
 
   -- the walk over all of them
-  pub record IsWalked (arguments : List Argument) (place : ℕ) (h : Held) (rows : List MatchRow) : Type 0 where
+  pub record IsWalked (places : List Place) (arguments : List Argument) (i : ℕ) (h : Held) (rows : List MatchRow) : Type 0 where
     pub last : Held
     pub end : ℕ
-    pub walk : fold (walked s.rules []) (at h place) (words_of arguments) ≡ at last end
-    pub found : (settled s.rules last).rows ≡ rows ++ rows_for place_id arguments place
+    pub walk : fold (walked s.rules []) (at h i) (words_of arguments) ≡ at last end
+    pub found : (settled s.rules last).rows ≡ rows ++ rows_for places arguments
     pub faultless : settle_fault s.rules false last ≡ []
-    pub no_fault : walk_fault s [] (at h place) (words_of arguments) ≡ []
+    pub no_fault : walk_fault s [] (at h i) (words_of arguments) ≡ []
 
-  new_after_plain : (word : Text) (rest : List Argument) (place : ℕ) (rows : List MatchRow) → IsPlace place → AreNew (Plain word ∷ rest) place rows
-      → AreNew rest (place + 1) (rows ++ match_row (place_id place) word ∷ [])
-  new_after_plain word rest place rows is new = record {
-    options = λ option value given. still_none (option_id option) rows (place_id place) word (new.options option value given) (steps.place_no_option option place);
-    places = λ later from is_place. still_none (place_id later) rows (place_id place) word (new.places later (omega (arith, from)) is_place)
-        (steps.places_apart place later is is_place (omega (arith, from)));
+  places_still : (places : List Place) (rows : List MatchRow) (other value : Text) → AllByRecursion (λ p. has_row (place_id p) rows ≡ false) places
+      → AllByRecursion (λ q. bytes_eq other (place_id q) ≡ false) places → AllByRecursion (λ p. has_row (place_id p) (rows ++ match_row other value ∷ []) ≡ false) places
+  places_still [] rows other value none apart = tt
+  places_still (p ∷ ps) rows other value none apart = (still_none (place_id p) rows other value none.0 apart.0, places_still ps rows other value none.1 apart.1)
+
+  options_apart : (o : ValuedOption) (places : List Place) → AllByRecursion (λ q. bytes_eq (option_id o) (place_id q) ≡ false) places
+  options_apart o [] = tt
+  options_apart o (p ∷ ps) = (option_no_place o p, options_apart o ps)
+
+  plain_apart : (places : List Place) → AllByRecursion (λ q. bytes_eq (codes "plain") (place_id q) ≡ false) places
+  plain_apart [] = tt
+  plain_apart (p ∷ ps) = (plain_no_place p, plain_apart ps)
+
+  new_after_placed : (p : Place) (ps : List Place) (word : Text) (rest : List Argument) (rows : List MatchRow)
+      → AllByRecursion (λ q. bytes_eq (place_id p) (place_id q) ≡ false) ps → AreNew (p ∷ ps) (Placed word ∷ rest) rows
+      → AreNew ps rest (rows ++ match_row (place_id p) word ∷ [])
+  new_after_placed p ps word rest rows apart new = record {
+    options = λ option value given. still_none (option_id option) rows (place_id p) word (new.options option value given) (place_no_option p option);
+    plain = λ given. still_none (codes "plain") rows (place_id p) word (new.plain given) (place_no_plain p);
+    each_place = places_still ps rows (place_id p) word new.each_place.1 apart;
   }
 
-  new_after_valued : (option : ValuedOption) (value : Text) (rest : List Argument) (place : ℕ) (rows : List MatchRow) → value_given option rest ≡ None
-      → AreNew (Valued option value ∷ rest) place rows → AreNew rest place (rows ++ match_row (option_id option) value ∷ [])
-  new_after_valued option value rest place rows none new = record {
+  new_after_plain : (places : List Place) (rest : List Argument) (rows : List MatchRow) → plain_given rest ≡ false
+      → AreNew places (Plain ∷ rest) rows → AreNew places rest (rows ++ match_row (codes "plain") (codes "true") ∷ [])
+  new_after_plain places rest rows none new = record {
+    options = λ option value given. still_none (option_id option) rows (codes "plain") (codes "true") (new.options option value given) (plain_no_option option);
+    plain = λ given. absurd (never (sym none ∙ given));
+    each_place = places_still places rows (codes "plain") (codes "true") new.each_place (plain_apart places);
+  } where
+    never : false ≡ true → ⊥
+    never e = cc
+
+  new_after_valued : (places : List Place) (option : ValuedOption) (value : Text) (rest : List Argument) (rows : List MatchRow) → value_given option rest ≡ None
+      → AreNew places (Valued option value ∷ rest) rows → AreNew places rest (rows ++ match_row (option_id option) value ∷ [])
+  new_after_valued places option value rest rows none new = record {
     options = λ other given_value given. by other given_value given (is_same other option) refl;
-    places = λ later from is_place. still_none (place_id later) rows (option_id option) value (new.places later from is_place) (steps.option_no_place option later);
+    plain = λ given. still_none (codes "plain") rows (option_id option) value (new.plain given) (option_no_plain option);
+    each_place = places_still places rows (option_id option) value new.each_place (options_apart option places);
   } where
     by : (other : ValuedOption) (given_value : Text) → value_given other rest ≡ Some given_value → (b : Bool) → is_same other option ≡ b
         → has_row (option_id other) (rows ++ match_row (option_id option) value ∷ []) ≡ false
@@ -131,53 +199,98 @@ module _ (s : Shape) (IsArgument : Argument → Type 0) (place_id : ℕ → Text
     by other given_value given false is =
         still_none (option_id other) rows (option_id option) value (new.options other given_value (rw is given)) (ids_apart other option is)
 
-  pub walks : (arguments : List Argument) (place : ℕ) (h : Held) (rows : List MatchRow) → (settled s.rules h).rows ≡ rows → settle_fault s.rules false h ≡ []
-      → AreNew arguments place rows → AllByRecursion IsArgument arguments → AreDistinct arguments → HavePlaces IsPlace (plain_words arguments) place
-      → IsWalked arguments place h rows
+  pub walks : (arguments : List Argument) (places : List Place) (i : ℕ) (h : Held) (rows : List MatchRow) → HasPlaces s i places → AreApart places
+      → (settled s.rules h).rows ≡ rows → settle_fault s.rules false h ≡ []
+      → AreNew places arguments rows → AllByRecursion (IsArgumentOf has_option has_plain) arguments → AreDistinct arguments → FitPlaces places (placed_words arguments)
+      → IsWalked places arguments i h rows
   unfolding walk_fault
-  walks [] place h rows are faultless new all distinct have = record {
+  walks [] places i h rows has apart are faultless new all distinct fit = record {
     last = h;
-    end = place;
+    end = i;
     walk = refl;
     found = are ∙ sym (append-nil rows);
     faultless = faultless;
     no_fault = refl;
   }
-  walks (Plain word ∷ rest) place h rows are faultless new all distinct have =
-      let next = held_with s (place_id place) word h in
-      let none : has_row (place_id place) rows ≡ false = new.places place (omega arith) have.0 in
-      let next_rows : (settled s.rules next).rows ≡ rows ++ match_row (place_id place) word ∷ [] =
-      steps.plain_rows word h place have.0 ∙ ap (λ x. with_values (place_id place) AsWritten CommandLine (word ∷ []) (without (place_id place) x)) are ∙ put_last (place_id place) word rows none in
-      let after = walks rest (place + 1) next (rows ++ match_row (place_id place) word ∷ []) next_rows
-      (steps.plain_faultless word h place have.0 (ap (has_row (place_id place)) are ∙ none))
-      (new_after_plain word rest place rows have.0 new) all.1 distinct have.1 in
+  walks (Placed word ∷ rest) [] i h rows has apart are faultless new all distinct fit = absurd fit
+  walks (Placed word ∷ rest) (p ∷ ps) i h rows has apart are faultless new all distinct fit =
+      let next = held_with s (place_id p) word h in
+      let none : has_row (place_id p) rows ≡ false = new.each_place.0 in
+      let next_rows : (settled s.rules next).rows ≡ rows ++ match_row (place_id p) word ∷ [] =
+      placed_rows s p word h i has.0 ∙ ap (λ x. with_values (place_id p) AsWritten CommandLine (word ∷ []) (without (place_id p) x)) are ∙ put_last (place_id p) word rows none in
+      let after = walks rest ps (i + 1) next (rows ++ match_row (place_id p) word ∷ []) has.1 apart.1 next_rows
+      (placed_faultless s p word h i has.0 fit.0 (ap (has_row (place_id p)) are ∙ none))
+      (new_after_placed p ps word rest rows apart.0 new) all.1 distinct fit.1 in
       record {
         last = after.last;
         end = after.end;
-        walk = ap (λ w. fold (walked s.rules []) w (words_of rest)) (steps.plain word h place have.0 all.0) ∙ after.walk;
-        found = after.found ∙ append_assoc rows (match_row (place_id place) word ∷ []) (rows_for place_id rest (place + 1));
+        walk = ap (λ w. fold (walked s.rules []) w (words_of rest)) (placed_step s p word h i has.0 all.0) ∙ after.walk;
+        found = after.found ∙ append_assoc rows (match_row (place_id p) word ∷ []) (rows_for ps rest);
         faultless = after.faultless;
-        no_fault = steps.plain_fault word h place (words_of rest) have.0 all.0 faultless ∙ after.no_fault;
+        no_fault = placed_fault s p word h i (words_of rest) strict has.0 all.0 faultless ∙ after.no_fault;
       }
-  walks (Valued option value ∷ rest) place h rows are faultless new all distinct have =
+  walks (Valued option value ∷ rest) places i h rows has apart are faultless new all distinct fit =
+      let knows_it = knows option all.0.0 in
       let next = held_with s (option_id option) value h in
       let none : has_row (option_id option) rows ≡ false = new.options option value (rw (same_itself option) refl) in
       let next_rows : (settled s.rules next).rows ≡ rows ++ match_row (option_id option) value ∷ [] =
-      steps.valued_rows option value h all.0 ∙ ap (λ x. with_values (option_id option) AsWritten CommandLine (value ∷ []) (without (option_id option) x)) are ∙ put_last (option_id option) value rows none in
-      let after = walks rest place next (rows ++ match_row (option_id option) value ∷ []) next_rows
-      (steps.valued_faultless option value h all.0 (ap (has_row (option_id option)) are ∙ none))
-      (new_after_valued option value rest place rows distinct.0 new) all.1 distinct.1 have in
+      valued_rows s option value h knows_it ∙ ap (λ x. with_values (option_id option) AsWritten CommandLine (value ∷ []) (without (option_id option) x)) are ∙ put_last (option_id option) value rows none in
+      let after = walks rest places i next (rows ++ match_row (option_id option) value ∷ []) has apart next_rows
+      (valued_faultless s option value h knows_it all.0.2 (ap (has_row (option_id option)) are ∙ none))
+      (new_after_valued places option value rest rows distinct.0 new) all.1 distinct.1 fit in
       record {
         last = after.last;
         end = after.end;
-        walk = ap (λ w. fold (walked s.rules []) w (words_of rest)) (steps.valued option value h place all.0) ∙ after.walk;
-        found = after.found ∙ append_assoc rows (match_row (option_id option) value ∷ []) (rows_for place_id rest place);
+        walk = ap (λ w. fold (walked s.rules []) w (words_of rest)) (valued_step s option value h i knows_it all.0.1) ∙ after.walk;
+        found = after.found ∙ append_assoc rows (match_row (option_id option) value ∷ []) (rows_for places rest);
         faultless = after.faultless;
-        no_fault = steps.valued_fault option value h place (words_of rest) all.0 faultless ∙ after.no_fault;
+        no_fault = valued_fault s option value h i (words_of rest) strict knows_it all.0.1 faultless ∙ after.no_fault;
+      }
+  walks (Plain ∷ rest) places i h rows has apart are faultless new all distinct fit =
+      let knows_it = knows_plain all.0 in
+      let next = held_plain s h in
+      let none : has_row (codes "plain") rows ≡ false = new.plain refl in
+      let next_rows : (settled s.rules next).rows ≡ rows ++ match_row (codes "plain") (codes "true") ∷ [] =
+      plain_rows s h ∙ ap (λ x. with_values (codes "plain") AsWritten CommandLine (codes "true" ∷ []) (without (codes "plain") x)) are ∙ put_last (codes "plain") (codes "true") rows none in
+      let after = walks rest places i next (rows ++ match_row (codes "plain") (codes "true") ∷ []) has apart next_rows refl
+      (new_after_plain places rest rows distinct.0 new) all.1 distinct.1 fit in
+      record {
+        last = after.last;
+        end = after.end;
+        walk = ap (λ w. fold (walked s.rules []) w (words_of rest)) (plain_step s h i knows_it) ∙ after.walk;
+        found = after.found ∙ append_assoc rows (match_row (codes "plain") (codes "true") ∷ []) (rows_for places rest);
+        faultless = after.faultless;
+        no_fault = plain_fault s h i (words_of rest) strict knows_it faultless (ap (has_row (codes "plain")) are ∙ none) ∙ after.no_fault;
       }
 
-  -- from nothing
-  pub walks_all : (arguments : List Argument) → AllByRecursion IsArgument arguments → AreDistinct arguments → HavePlaces IsPlace (plain_words arguments) 1
-      → (h : Held) → (settled s.rules h).rows ≡ [] → settle_fault s.rules false h ≡ [] → IsWalked arguments 1 h []
-  walks_all arguments all distinct have h none faultless =
-      walks arguments 1 h [] none faultless (record { options = λ option value given. refl; places = λ later from is_place. refl }) all distinct have
+none_yet : (places : List Place) → AllByRecursion (λ p. has_row (place_id p) [] ≡ false) places
+none_yet [] = tt
+none_yet (p ∷ ps) = (refl, none_yet ps)
+
+-- the walk over all arguments of a command, from nothing
+pub record IsWalkedWhole (s : Shape) (places : List Place) (arguments : List Argument) : Type 0 where
+  pub last : Held
+  pub end : ℕ
+  pub walk : fold (walked s.rules []) (walk_from nothing_held) (words_of arguments) ≡ at last end
+  pub found : (settled s.rules last).rows ≡ rows_for places arguments
+  pub faultless : settle_fault s.rules false last ≡ []
+  pub no_fault : walk_fault s [] (walk_from nothing_held) (words_of arguments) ≡ []
+
+pub walks_all : (s : Shape) (has_option : ValuedOption → Bool) (has_plain : Bool) (places : List Place) → Takes s has_option has_plain places
+    → (arguments : List Argument) → AllByRecursion (IsArgumentOf has_option has_plain) arguments → AreDistinct arguments → FitPlaces places (placed_words arguments)
+    → IsWalkedWhole s places arguments
+walks_all s has_option has_plain places takes arguments all distinct fit =
+    let new : AreNew s has_option has_plain takes.strict takes.option takes.plain places arguments [] = record { options = λ option value given. refl; plain = λ given. refl; each_place = none_yet places } in
+    let w = walks s has_option has_plain takes.strict takes.option takes.plain arguments places 1 nothing_held [] takes.each_place takes.apart refl refl new all distinct fit in
+    record { last = w.last; end = w.end; walk = w.walk; found = w.found; faultless = w.faultless; no_fault = w.no_fault }
+
+-- the rows of all arguments, with the defaults
+pub rows_are : (s : Shape) (places : List Place) (arguments : List Argument) → IsWalkedWhole s places arguments
+    → rows_after s.rules [] (words_of arguments) ≡ fold with_default (rows_for places arguments) s.rules
+rows_are s places arguments w = ap (λ (x : Walk). finished s.rules x.held) w.walk ∙ ap (λ x. fold with_default x s.rules) w.found
+
+-- nothing fails where defaults don't and nothing is missing
+pub no_fault_at_all : (s : Shape) (places : List Place) (arguments : List Argument) → s.args_override_self ≡ false → IsWalkedWhole s places arguments
+    → defaults_fault (rows_for places arguments) s.rules ≡ [] → check_fault s (fold with_default (rows_for places arguments) s.rules) false ≡ []
+    → level_fault s [] nothing_held (words_of arguments) false [] ≡ []
+no_fault_at_all s places arguments strict w defaults check = rw (w.no_fault, w.walk, strict, w.faultless, w.found, defaults, check) refl

@@ -11,13 +11,13 @@ use Rattle.std.specs.Prelude.{Box}
 use Rattle.std.specs.Box.{box_value}
 use Rattle.clap.specs.declared.parser.matches.SubCommand.{SubCommand}
 use Rattle.clap.specs.declared.parser.matches.ArgMatches.TheViews.{out-ArgMatches, out-SubCommand}
-use Rattle.clap.proofs.OnLiterals.{clap_on_literals}
 use Rattle.clap.specs.declared.builder.value_parser.ValueParser.TheVariants as vp
 use Rattle.clap.specs.declared.builder.command.Command.{Command}
 use Rattle.clap.specs.declared.parser.matches.ArgMatches.{ArgMatches}
 use Rattle.clap.specs.declared.error.Error.{Error}
 use Rattle.clap.specs.declared.error.kind.ErrorKind.TheVariants.{OutOfMemory}
-use Rattle.pb_command.specs.Parser.{the_program, the_solve, the_check}
+use Rattle.pb_command.specs.Parser.{the_program}
+use Rattle.pb_command.proofs.Declared.{program_on_literals}
 use Rattle.pb_command.specs.Meaning.{Reading, Refused, reading_of_words, unless_faulty, command_met as command_at, command_of}
 use Rattle.pb_command.specs.Values.{number_in}
 use Rattle.pb_command.specs.Causes.{IsRefusal, IsCause, IsPrinted}
@@ -68,7 +68,7 @@ module _ {E : Type 0} (G : Text → Result ℕ E → Type 0) (only : (u : Text) 
 -- ---- all words
 
 is_simple_here : is_simple the_program ≡ true
-unfolding the_program the_solve the_check clap_on_literals
+unfolding program_on_literals
 is_simple_here = refl
 
 required_here : the_program.top.subcommand_required ≡ true
@@ -76,7 +76,7 @@ unfolding the_program
 required_here = refl
 
 is_free_here : is_simple_and_free the_program ≡ true
-unfolding the_program the_solve the_check clap_on_literals
+unfolding program_on_literals
 is_free_here = refl
 
 -- where clap has matches, the meaning is what the subcommand's values ask for

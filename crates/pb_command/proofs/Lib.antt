@@ -1,8 +1,13 @@
+pub mod Declared
 pub mod FromClap
+pub mod Stopped
 pub mod Walking
 pub mod Arguments
-pub mod SolveWalk
-pub mod Stopped
+pub mod Found
+pub mod Shapes
 pub mod SolveReading
-pub mod CheckWalk
 pub mod CheckReading
+pub mod JournalReading
+pub mod MakeReading
+pub mod OutOfForm
+pub mod Examples

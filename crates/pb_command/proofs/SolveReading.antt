@@ -1,167 +1,146 @@
 -- What `solve` reads of its arguments.
-use Rattle.std.proofs.Common.{◌≡◌, ◌∙◌, inl, inr, ℕ, Bool, true, false, List, [], ◌∷◌, Option, None, Some, refl, sym, ap, subst, codes}
-use Rattle.std.specs.Prelude.{fold, find, option_map, option_and_then, slice_get, if◌then◌else◌}
+use Rattle.std.proofs.Common.{◌≡◌, ◌∙◌, ◌≤◌, ◌<◌, ℕ, Bool, true, false, List, [], ◌∷◌, Option, None, Some, refl, sym, ap, ap₂, subst, codes, arith}
+use Rattle.std.specs.Prelude.{fold, nat_lt}
 use Rattle.std.specs.List.{AllByRecursion}
-use Rattle.std.specs.Option.{option_map_or}
 use Rattle.std.specs.Str.{bytes_eq}
-use Rattle.clap.specs.Walk.{Held, Row as MatchRow, Text, Walk, walked, nothing_held, walk_from, rows_after, settled, finished, with_default, first_of}
-use Rattle.clap.specs.Simple.{subcommand_of}
-use Rattle.clap.specs.Faults.{settle_fault, walk_fault, fault_of, level_fault}
-use Rattle.clap.specs.Kinds.{Kinds, or_else}
-use Rattle.clap.specs.ValueTests.{is_unsigned_in}
-use Rattle.clap.proofs.OnLiterals.{clap_on_literals}
-use Rattle.pb_command.specs.Parser.{NumberOption, the_program, the_solve, the_check, row_option, budget_option, lot_option, blocks_option}
-use Rattle.pb_command.specs.Meaning.{Read, Solve, reading_of_words, command_met, solve_of}
-use Rattle.pb_command.specs.Values.{InputNames, Grid, Tiles, Strips, option_of}
-use Rattle.pb_command.specs.Options.{ValuedOption, Row, Budget, Lot, Blocks, Certificate, is_same, Argument, Plain, Valued, words_of, plain_words, value_given, number_given, number_of, AreDistinct, IsValueOf, IsSolveArgument, kind_word, file_words}
-use Rattle.pb_command.proofs.Walking.{at, option_id, match_row, same_option, HasNoDefault, no_defaults, no_default_fault}
-use Rattle.pb_command.proofs.Arguments.{rows_for, found_option, found_first, found_later, found_none, walks_all, HavePlaces}
-use Rattle.pb_command.proofs.Stopped.{top, walk_to_solve, no_fault_to_solve}
-use Rattle.pb_command.proofs.SolveWalk.{solve_shape, first_shape, IsSolvePlace, solve_place_id, solve_place_no_option, option_no_solve_place, solve_steps}
+use Rattle.std.proofs.lemmas.Slice.Eq.{bytes_eq-Decides}
+use Rattle.clap.specs.Walk.{Row as MatchRow, Text, rows_after, with_default, first_of}
+use Rattle.clap.specs.Faults.{check_fault, defaults_fault}
+use Rattle.pb_command.specs.Values.{InputNames, Grid, Tiles, Strips, kind_of_text, are_one_name, flag_of}
+use Rattle.pb_command.specs.Meaning.{Read, Refused, Solve, SolveMeaning, reading_of_words, unless_faulty, solve_of, with_kind, solve_with, solve_meaning, solve_tested, numbers_of}
+use Rattle.pb_command.specs.Options.{Num, Den, Certificate, Journal, number_given, Argument, words_of, placed_words, value_given, plain_given, AreDistinct, IsArgumentOf, is_of_solve, kind_word, file_words, AreOfSolve, HaveTwoNames}
+use Rattle.pb_command.specs.declared.refusal.CommandFault.TheVariants as fault
+use Rattle.pb_command.proofs.Walking.{Place, Kind, FirstFile, SecondFile, match_row, plain_rule, plain_default, plain_default_fault}
+use Rattle.pb_command.proofs.Arguments.{row_of, rows_for, word_at, FitPlaces, IsWalkedWhole, walks_all, rows_are, no_fault_at_all}
+use Rattle.pb_command.proofs.Found.{finds_with_plain, plain_read, text_read, numbers_given, numbers_read}
+use Rattle.pb_command.proofs.Shapes.{solve_shape, plainless_rules, solve_takes, by_solve, no_default_in_solve, rules_of_solve}
 
-or_none : (kinds : Kinds) → or_else kinds [] ≡ kinds
-or_none [] = refl
-or_none (k ∷ ks) = refl
+abbrev pub solve_places : List Place
+solve_places = Kind ∷ FirstFile ∷ SecondFile ∷ []
 
-fault_is : (words : List Text) → fault_of the_program (codes "solve" ∷ words) ≡ or_else (level_fault solve_shape [] nothing_held words false []) []
-unfolding top solve_shape first_shape the_program the_solve the_check clap_on_literals
-fault_is words = rw (no_fault_to_solve words) (rw (walk_to_solve words) refl)
+-- nothing is missing where the kind and the first file were found
+nothing_missing : (rows : List MatchRow) (kind first : Text) → row_of (codes "KIND") rows ≡ Some (match_row (codes "KIND") kind)
+    → row_of (codes "FIRST_FILE") rows ≡ Some (match_row (codes "FIRST_FILE") first) → check_fault solve_shape rows false ≡ []
+unfolding solve_shape plainless_rules
+nothing_missing rows kind first has_kind has_first = rw (has_kind, has_first) refl
 
-values_are : (words : List Text) → command_met (subcommand_of the_program (codes "solve" ∷ words)) ≡ solve_of (rows_after solve_shape.rules [] words)
-unfolding top solve_shape first_shape the_program the_solve the_check clap_on_literals
-values_are words = rw (walk_to_solve words) refl
+-- the rows with the default of the flag
+with_plain : (arguments : List Argument) → fold with_default (rows_for solve_places arguments) solve_shape.rules ≡ with_default (rows_for solve_places arguments) plain_rule
+with_plain arguments = ap (fold with_default (rows_for solve_places arguments)) rules_of_solve ∙ plain_default (rows_for solve_places arguments) plainless_rules no_default_in_solve
 
--- the words of the program are read by the subcommand's words
-by_subcommand : (words : List Text) → level_fault solve_shape [] nothing_held words false [] ≡ []
-    → reading_of_words (codes "solve" ∷ words) ≡ solve_of (rows_after solve_shape.rules [] words)
-by_subcommand words none = rw (fault_is words ∙ or_none _ ∙ none) (values_are words)
+no_default_fails : (arguments : List Argument) → defaults_fault (rows_for solve_places arguments) solve_shape.rules ≡ []
+no_default_fails arguments = ap (defaults_fault (rows_for solve_places arguments)) rules_of_solve ∙ plain_default_fault (rows_for solve_places arguments) plainless_rules no_default_in_solve
 
-no_rule_has_default : AllByRecursion HasNoDefault solve_shape.rules
-unfolding solve_shape first_shape the_program the_solve the_check clap_on_literals
-no_rule_has_default = (refl, (refl, (refl, (refl, (refl, (refl, (refl, (refl, tt))))))))
+pub solve_walk : (arguments : List Argument) → AllByRecursion (IsArgumentOf is_of_solve true) arguments → AreDistinct arguments → FitPlaces solve_places (placed_words arguments)
+    → IsWalkedWhole solve_shape solve_places arguments
+solve_walk arguments all distinct fit = walks_all solve_shape is_of_solve true solve_places solve_takes arguments all distinct fit
 
--- at the end of the arguments nothing fails where the kind and the first file were found
-no_fault_at_end : (words : List Text) (last : Held) (end : ℕ) (rows : List MatchRow) → fold (walked solve_shape.rules []) (walk_from nothing_held) words ≡ at last end
-    → (settled solve_shape.rules last).rows ≡ rows → settle_fault solve_shape.rules false last ≡ [] → walk_fault solve_shape [] (walk_from nothing_held) words ≡ []
-    → (kind file : Text) → find (λ (r : MatchRow). bytes_eq r.id (codes "KIND")) rows ≡ Some (match_row (codes "KIND") kind)
-    → find (λ (r : MatchRow). bytes_eq r.id (codes "FIRST_FILE")) rows ≡ Some (match_row (codes "FIRST_FILE") file)
-    → level_fault solve_shape [] nothing_held words false [] ≡ []
-unfolding solve_shape first_shape the_program the_solve the_check clap_on_literals
-no_fault_at_end words last end rows walk found faultless no_fault kind file has_kind has_file =
-    rw (no_fault, walk, faultless, found, no_default_fault rows solve_shape.rules no_rule_has_default, no_defaults rows solve_shape.rules no_rule_has_default, has_kind, has_file) refl
+solve_values : (rows : List MatchRow) (kind first second certificate journal : Option Text) (plain : Bool) (arguments : List Argument)
+    → first_of (codes "KIND") rows ≡ kind → first_of (codes "FIRST_FILE") rows ≡ first → first_of (codes "SECOND_FILE") rows ≡ second
+    → numbers_of rows ≡ Some (numbers_given arguments) → flag_of (codes "plain") rows ≡ plain → first_of (codes "cert") rows ≡ certificate → first_of (codes "trace") rows ≡ journal
+    → solve_of rows ≡ with_kind (kind_of_text kind) (solve_with first second (Some (numbers_given arguments)) plain certificate journal)
+solve_values rows kind first second certificate journal plain arguments a b c d e f g =
+    ap₂ with_kind (ap kind_of_text a) (rw (b, c, d, e, f, g) refl)
 
--- the value that is found for an option is one that it takes
-value_fits : (option : ValuedOption) (value : Text) (arguments : List Argument) → AllByRecursion IsSolveArgument arguments → value_given option arguments ≡ Some value → IsValueOf option value
-value_fits option value [] all given = cc
-value_fits option value (Plain word ∷ rest) all given = value_fits option value rest all.1 given
-value_fits option value (Valued other given_value ∷ rest) all given = by (is_same option other) refl given (λ e. value_fits option value rest all.1 e) where
-  by : (b : Bool) → is_same option other ≡ b → (if b then Some given_value else value_given option rest) ≡ Some value
-      → (value_given option rest ≡ Some value → IsValueOf option value) → IsValueOf option value
-  by true is e later =
-      let same : option ≡ other = same_option option other is in
-      let value_is : given_value ≡ value = cc in
-      subst (λ o. IsValueOf o value) (sym same) (subst (λ v. IsValueOf other v) value_is all.0.1)
-  by false is e later = later e
+-- what the arguments of `solve` ask for, whatever its kind and the number of its files
+pub solve_is : (arguments : List Argument) → AllByRecursion (IsArgumentOf is_of_solve true) arguments → AreDistinct arguments → FitPlaces solve_places (placed_words arguments)
+    → (kind first : Text) → word_at Kind solve_places (placed_words arguments) ≡ Some kind → word_at FirstFile solve_places (placed_words arguments) ≡ Some first
+    → reading_of_words (codes "solve" ∷ words_of arguments) ≡ with_kind (kind_of_text (Some kind))
+    (solve_with (Some first) (word_at SecondFile solve_places (placed_words arguments)) (Some (numbers_given arguments)) (plain_given arguments)
+    (value_given Certificate arguments) (value_given Journal arguments))
+solve_is arguments all distinct fit kind first kind_is first_is =
+    let w = solve_walk arguments all distinct fit in
+    let rows = with_default (rows_for solve_places arguments) plain_rule in
+    let found = finds_with_plain solve_places arguments in
+    let kind_row : row_of (codes "KIND") rows ≡ Some (match_row (codes "KIND") kind) = found.place Kind ∙ rw kind_is refl in
+    let first_row : row_of (codes "FIRST_FILE") rows ≡ Some (match_row (codes "FIRST_FILE") first) = found.place FirstFile ∙ rw first_is refl in
+    let none = no_fault_at_all solve_shape solve_places arguments solve_takes.strict w (no_default_fails arguments)
+    (ap (λ x. check_fault solve_shape x false) (with_plain arguments) ∙ nothing_missing rows kind first kind_row first_row) in
+    let are : rows_after solve_shape.rules [] (words_of arguments) ≡ rows = rows_are solve_shape solve_places arguments w ∙ with_plain arguments in
+    by_solve (words_of arguments) ∙ (ap₂ unless_faulty none (ap solve_of are)
+    ∙ solve_values rows (Some kind) (Some first) (word_at SecondFile solve_places (placed_words arguments)) (value_given Certificate arguments) (value_given Journal arguments) (plain_given arguments) arguments
+    (text_read rows (codes "KIND") (Some kind) kind_row) (text_read rows (codes "FIRST_FILE") (Some first) first_row)
+    (text_read rows (codes "SECOND_FILE") (word_at SecondFile solve_places (placed_words arguments)) (found.place SecondFile))
+    (numbers_read is_of_solve true solve_places arguments rows all found) (plain_read solve_places arguments)
+    (text_read rows (codes "cert") (value_given Certificate arguments) (found.option Certificate))
+    (text_read rows (codes "trace") (value_given Journal arguments) (found.option Journal)))
 
--- a number that is found lies in its range, and is the one that was given
-number_read : (o : NumberOption) (rows : List MatchRow) (given : Option Text)
-    → find (λ (r : MatchRow). bytes_eq r.id o.name) rows ≡ option_map (match_row o.name) given
-    → ((value : Text) → given ≡ Some value → is_unsigned_in o.least o.most value ≡ true)
-    → option_of o rows ≡ Some (option_map_or number_of given o.default)
-number_read o rows None found fits = rw found refl
-number_read o rows (Some value) found fits = rw (found, fits value refl) refl
+-- the first of the files
+abbrev first_file : InputNames → Text
+first_file (Grid names) = names.map
+first_file (Tiles board) = board
+first_file (Strips names) = names.domain
 
--- the first file and the second, if the kind has one
-abbrev Files : InputNames → Text → Option Text → Type 0
-Files (Grid names) first second = (first ≡ names.map) × (second ≡ Some names.scenario)
-Files (Tiles board) first second = (first ≡ board) × (second ≡ None)
-Files (Strips names) first second = (first ≡ names.domain) × (second ≡ Some names.problem)
+pub files_fit : (input : InputNames) → FitPlaces solve_places (kind_word input ∷ file_words input)
+files_fit (Grid names) = (refl, (refl, (refl, tt)))
+files_fit (Tiles board) = (refl, (refl, tt))
+files_fit (Strips names) = (refl, (refl, (refl, tt)))
 
--- what the values ask for
-solve_read : (rows : List MatchRow) (input : InputNames) (first : Text) (second certificate : Option Text) (row budget lot blocks : ℕ)
-    → first_of (codes "KIND") rows ≡ Some (kind_word input) → first_of (codes "FIRST_FILE") rows ≡ Some first → first_of (codes "SECOND_FILE") rows ≡ second
-    → Files input first second
-    → option_of row_option rows ≡ Some row → option_of budget_option rows ≡ Some budget → option_of lot_option rows ≡ Some lot → option_of blocks_option rows ≡ Some blocks
-    → first_of (codes "cert") rows ≡ certificate
-    → solve_of rows ≡ Read (Solve (record { input = input; row = row; budget = budget; lot = lot; blocks = blocks; certificate = certificate }))
-solve_read rows (Grid names) first second certificate row budget lot blocks kind one two files has_row has_budget has_lot has_blocks cert = rw (kind, one, two, has_row, has_budget, has_lot, has_blocks, cert, files.0, files.1) refl
-solve_read rows (Tiles board) first second certificate row budget lot blocks kind one two files has_row has_budget has_lot has_blocks cert = rw (kind, one, two, has_row, has_budget, has_lot, has_blocks, cert, files.0, files.1) refl
-solve_read rows (Strips names) first second certificate row budget lot blocks kind one two files has_row has_budget has_lot has_blocks cert = rw (kind, one, two, has_row, has_budget, has_lot, has_blocks, cert, files.0, files.1) refl
+kind_at : (input : InputNames) → word_at Kind solve_places (kind_word input ∷ file_words input) ≡ Some (kind_word input)
+kind_at (Grid names) = refl
+kind_at (Tiles board) = refl
+kind_at (Strips names) = refl
 
--- what is found for the files
-record FoundFiles (input : InputNames) (rows : List MatchRow) : Type 0 where
-  pub first : Text
-  pub second : Option Text
-  pub first_row : find (λ (r : MatchRow). bytes_eq r.id (codes "FIRST_FILE")) rows ≡ Some (match_row (codes "FIRST_FILE") first)
-  pub second_is : first_of (codes "SECOND_FILE") rows ≡ second
-  pub files : Files input first second
+first_at : (input : InputNames) → word_at FirstFile solve_places (kind_word input ∷ file_words input) ≡ Some (first_file input)
+first_at (Grid names) = refl
+first_at (Tiles board) = refl
+first_at (Strips names) = refl
 
-two_files : (arguments : List Argument) (kind first second : Text) → plain_words arguments ≡ kind ∷ first ∷ second ∷ []
-    → (find (λ (r : MatchRow). bytes_eq r.id (codes "FIRST_FILE")) (rows_for solve_place_id arguments 1) ≡ Some (match_row (codes "FIRST_FILE") first))
-    × (find (λ (r : MatchRow). bytes_eq r.id (codes "SECOND_FILE")) (rows_for solve_place_id arguments 1) ≡ Some (match_row (codes "SECOND_FILE") second))
-two_files arguments kind first second words =
-    let to_first = found_later solve_place_id option_no_solve_place 1 2 refl arguments kind (first ∷ second ∷ []) words in
-    let past_kind = found_later solve_place_id option_no_solve_place 1 3 refl arguments kind (first ∷ second ∷ []) words in
-    let to_second = found_later solve_place_id option_no_solve_place 2 3 refl past_kind.rest first (second ∷ []) past_kind.words_are in (
-      to_first.same ∙ found_first solve_place_id option_no_solve_place 2 refl to_first.rest first (second ∷ []) to_first.words_are,
-      past_kind.same ∙ (to_second.same ∙ found_first solve_place_id option_no_solve_place 3 refl to_second.rest second [] to_second.words_are),
-    )
+-- what `solve` asks for before its tests
+abbrev pub meant_by : InputNames → List Argument → SolveMeaning
+meant_by input arguments = solve_meaning (numbers_given arguments) (plain_given arguments) (value_given Certificate arguments) (value_given Journal arguments) input
 
-one_file : (arguments : List Argument) (kind first : Text) → plain_words arguments ≡ kind ∷ first ∷ []
-    → (find (λ (r : MatchRow). bytes_eq r.id (codes "FIRST_FILE")) (rows_for solve_place_id arguments 1) ≡ Some (match_row (codes "FIRST_FILE") first))
-    × (find (λ (r : MatchRow). bytes_eq r.id (codes "SECOND_FILE")) (rows_for solve_place_id arguments 1) ≡ None)
-one_file arguments kind first words =
-    let to_first = found_later solve_place_id option_no_solve_place 1 2 refl arguments kind (first ∷ []) words in
-    let past_kind = found_later solve_place_id option_no_solve_place 1 3 refl arguments kind (first ∷ []) words in
-    let past_first = found_later solve_place_id option_no_solve_place 2 3 refl past_kind.rest first [] past_kind.words_are in (
-      to_first.same ∙ found_first solve_place_id option_no_solve_place 2 refl to_first.rest first [] to_first.words_are,
-      past_kind.same ∙ (past_first.same ∙ found_none solve_place_id option_no_solve_place 3 3 past_first.rest past_first.words_are),
-    )
+tested : (input : InputNames) (arguments : List Argument)
+    → with_kind (kind_of_text (Some (kind_word input)))
+    (solve_with (Some (first_file input)) (word_at SecondFile solve_places (kind_word input ∷ file_words input)) (Some (numbers_given arguments)) (plain_given arguments)
+    (value_given Certificate arguments) (value_given Journal arguments)) ≡ solve_tested (meant_by input arguments)
+tested (Grid names) arguments = refl
+tested (Tiles board) arguments = refl
+tested (Strips names) arguments = refl
 
-found_files : (input : InputNames) (arguments : List Argument) → plain_words arguments ≡ kind_word input ∷ file_words input → FoundFiles input (rows_for solve_place_id arguments 1)
-found_files (Grid names) arguments words = let two = two_files arguments (codes "grid") names.map names.scenario words in
-    record { first = names.map; second = Some names.scenario; first_row = two.0; second_is = rw two.1 refl; files = (refl, refl) }
-found_files (Tiles board) arguments words = let one = one_file arguments (codes "tiles") board words in
-    record { first = board; second = None; first_row = one.0; second_is = rw one.1 refl; files = (refl, refl) }
-found_files (Strips names) arguments words = let two = two_files arguments (codes "strips") names.domain names.problem words in
-    record { first = names.domain; second = Some names.problem; first_row = two.0; second_is = rw two.1 refl; files = (refl, refl) }
+pub solve_fits : (input : InputNames) (arguments : List Argument) → AreOfSolve input arguments → FitPlaces solve_places (placed_words arguments)
+solve_fits input arguments are = subst (FitPlaces solve_places) (sym are.placed) (files_fit input)
 
-have_places : (input : InputNames) → HavePlaces IsSolvePlace (kind_word input ∷ file_words input) 1
-have_places (Grid names) = (inl refl, (inr (inl refl), (inr (inr refl), tt)))
-have_places (Tiles board) = (inl refl, (inr (inl refl), tt))
-have_places (Strips names) = (inl refl, (inr (inl refl), (inr (inr refl), tt)))
+-- the arguments of `solve` with the files of its kind are tested
+pub solve_is_tested : (input : InputNames) (arguments : List Argument) → AreOfSolve input arguments
+    → reading_of_words (codes "solve" ∷ words_of arguments) ≡ solve_tested (meant_by input arguments)
+solve_is_tested input arguments are =
+    solve_is arguments are.each are.distinct (solve_fits input arguments are) (kind_word input) (first_file input)
+    (ap (word_at Kind solve_places) are.placed ∙ kind_at input) (ap (word_at FirstFile solve_places) are.placed ∙ first_at input)
+    ∙ (ap (λ ws. with_kind (kind_of_text (Some (kind_word input)))
+    (solve_with (Some (first_file input)) (word_at SecondFile solve_places ws) (Some (numbers_given arguments)) (plain_given arguments)
+    (value_given Certificate arguments) (value_given Journal arguments))) are.placed ∙ tested input arguments)
 
--- the text that is given with an option is what is found for it
-text_read : (rows : List MatchRow) (id : Text) (given : Option Text) → find (λ (r : MatchRow). bytes_eq r.id id) rows ≡ option_map (match_row id) given → first_of id rows ≡ given
-text_read rows id None found = rw found refl
-text_read rows id (Some value) found = rw found refl
+-- ---- the tests
+
+not_below : (n d : ℕ) → d ≤ n → nat_lt n d ≡ false
+not_below n d h = grind arith
+
+below : (n d : ℕ) → n < d → nat_lt n d ≡ true
+below n d h = grind arith
+
+pub passes : (m : SolveMeaning) → m.den ≤ m.num → are_one_name m.certificate m.journal ≡ false → solve_tested m ≡ Read (Solve m)
+passes m weight names = rw (not_below m.num m.den weight, names) refl
+
+pub low_weight : (m : SolveMeaning) → m.num < m.den → solve_tested m ≡ Refused fault.Weight
+low_weight m weight = rw (below m.num m.den weight) refl
+
+pub one_name : (m : SolveMeaning) → m.den ≤ m.num → are_one_name m.certificate m.journal ≡ true → solve_tested m ≡ Refused fault.Names
+one_name m weight names = rw (not_below m.num m.den weight, names) refl
+
+pub two_names : (a b : Option Text) → ((name : Text) → a ≡ Some name → b ≡ Some name → ⊥) → are_one_name a b ≡ false
+two_names None b apart = refl
+two_names (Some x) None apart = refl
+two_names (Some x) (Some y) apart = by (bytes_eq x y) refl where
+  by : (b : Bool) → bytes_eq x y ≡ b → b ≡ false
+  by true is = absurd (apart y (ap Some ((bytes_eq-Decides x y).0 is)) refl)
+  by false is = refl
+
+pub same_names : (a b : Option Text) (name : Text) → a ≡ Some name → b ≡ Some name → are_one_name a b ≡ true
+same_names a b name e f = rw (e, f) ((bytes_eq-Decides name name).1 refl)
 
 -- the law
-pub solve_reads : (input : InputNames) (arguments : List Argument) → AllByRecursion IsSolveArgument arguments → AreDistinct arguments
-    → plain_words arguments ≡ kind_word input ∷ file_words input
-    → reading_of_words (codes "solve" ∷ words_of arguments) ≡ Read (Solve (record {
-      input = input;
-      row = number_given Row 0 arguments;
-      budget = number_given Budget 16777216 arguments;
-      lot = number_given Lot 256 arguments;
-      blocks = number_given Blocks 256 arguments;
-      certificate = value_given Certificate arguments;
-    }))
-solve_reads input arguments all distinct words =
-    let rows = rows_for solve_place_id arguments 1 in
-    let have : HavePlaces IsSolvePlace (plain_words arguments) 1 = subst (λ ws. HavePlaces IsSolvePlace ws 1) (sym words) (have_places input) in
-    let w = walks_all solve_shape IsSolveArgument solve_place_id IsSolvePlace solve_steps arguments all distinct have nothing_held refl refl in
-    let kind = found_first solve_place_id option_no_solve_place 1 refl arguments (kind_word input) (file_words input) words in
-    let files = found_files input arguments words in
-    let none = no_fault_at_end (words_of arguments) w.last w.end rows w.walk w.found w.faultless w.no_fault (kind_word input) files.first kind files.first_row in
-    let found : (option : ValuedOption) → find (λ (r : MatchRow). bytes_eq r.id (option_id option)) rows ≡ option_map (match_row (option_id option)) (value_given option arguments) =
-    λ option. found_option solve_place_id option (solve_place_no_option option) arguments 1 in
-    let rows_are : rows_after solve_shape.rules [] (words_of arguments) ≡ rows =
-    ap (λ (x : Walk). finished solve_shape.rules x.held) w.walk ∙ (ap (λ x. fold with_default x solve_shape.rules) w.found ∙ no_defaults rows solve_shape.rules no_rule_has_default) in
-    by_subcommand (words_of arguments) none ∙ (ap solve_of rows_are
-    ∙ solve_read rows input files.first files.second (value_given Certificate arguments) _ _ _ _ (ap (option_and_then (λ (r : MatchRow). slice_get r.values 0)) kind) (ap (option_and_then (λ (r : MatchRow). slice_get r.values 0)) files.first_row) files.second_is files.files
-    (number_read row_option rows (value_given Row arguments) (found Row) (λ value given. value_fits Row value arguments all given))
-    (number_read budget_option rows (value_given Budget arguments) (found Budget) (λ value given. value_fits Budget value arguments all given))
-    (number_read lot_option rows (value_given Lot arguments) (found Lot) (λ value given. value_fits Lot value arguments all given))
-    (number_read blocks_option rows (value_given Blocks arguments) (found Blocks) (λ value given. value_fits Blocks value arguments all given))
-    (text_read rows (codes "cert") (value_given Certificate arguments) (found Certificate)))
+pub solve_reads : (input : InputNames) (arguments : List Argument) → AreOfSolve input arguments → number_given Den 1 arguments ≤ number_given Num 1 arguments → HaveTwoNames arguments
+    → reading_of_words (codes "solve" ∷ words_of arguments) ≡ Read (Solve (meant_by input arguments))
+solve_reads input arguments are weight names =
+    solve_is_tested input arguments are ∙ passes (meant_by input arguments) weight (two_names (value_given Certificate arguments) (value_given Journal arguments) names)

@@ -1,13 +1,17 @@
 -- What the answers of the reader mean.
-use Rattle.std.specs.Prelude.{◌≡◌, ◌++◌, ◌∷◌, ◌-◌, ℕ, List, [], Some, codes, length, option_map, slice_get}
+use Rattle.std.specs.Prelude.{◌≡◌, ◌≤◌, ◌++◌, ◌∷◌, ◌-◌, ℕ, List, [], Some, Result, MatchResult, codes, length, option_map, slice_get}
 use Rattle.pb_command.specs.Values.{InputNames, GridNames, StripsNames, Grid, Tiles, Strips}
-use Rattle.pb_command.specs.Meaning.{Meaning, Solve, Check, SolveMeaning, CheckMeaning, Reading, Refused}
+use Rattle.pb_command.specs.Parser.{row_option, workers_option, num_option, den_option, budget_option, lot_option, blocks_option}
+use Rattle.pb_command.specs.Meaning.{Meaning, Solve, Check, Journal, Make, SolveMeaning, SolveNumbers, CheckMeaning, JournalMeaning, MakeMeaning, Reading, Read, Refused, IsInRangeOf}
+use Rattle.pb_command.specs.declared.reader.GivenNumbers.{GivenNumbers}
 use Rattle.pb_command.specs.declared.command.GridFiles.{GridFiles}
 use Rattle.pb_command.specs.declared.command.StripsFiles.{StripsFiles}
 use Rattle.pb_command.specs.declared.command.Input.{Input}
 use Rattle.pb_command.specs.declared.command.Input.TheVariants as kinds
 use Rattle.pb_command.specs.declared.command.SolveCommand.{SolveCommand}
 use Rattle.pb_command.specs.declared.command.CheckCommand.{CheckCommand}
+use Rattle.pb_command.specs.declared.command.JournalCommand.{JournalCommand}
+use Rattle.pb_command.specs.declared.command.MakeCommand.{MakeCommand}
 use Rattle.pb_command.specs.declared.command.CommandLine.{CommandLine}
 use Rattle.pb_command.specs.declared.command.CommandLine.TheVariants as command
 use Rattle.pb_command.specs.declared.refusal.CommandFault.{CommandFault}
@@ -26,24 +30,67 @@ input_meant (kinds.Grid g) = Grid (grid_meant g)
 input_meant (kinds.Tiles board) = Tiles board.now
 input_meant (kinds.Strips s) = Strips (strips_meant s)
 
+abbrev pub numbers_meant : GivenNumbers → SolveNumbers
+numbers_meant n = record { row = n.row; workers = n.workers; num = n.num; den = n.den; budget = n.budget; lot = n.lot; blocks = n.blocks }
+
+-- each number lies in the range of its option
+abbrev pub AreInRange : GivenNumbers → Type 0
+AreInRange n = IsInRangeOf row_option n.row × IsInRangeOf workers_option n.workers × IsInRangeOf num_option n.num × IsInRangeOf den_option n.den
+    × IsInRangeOf budget_option n.budget × IsInRangeOf lot_option n.lot × IsInRangeOf blocks_option n.blocks
+
 abbrev pub solve_meant : SolveCommand → SolveMeaning
-solve_meant s = record { input = input_meant s.input; row = s.row; budget = s.budget; lot = s.lot; blocks = s.blocks; certificate = option_map (λ t. t.now) s.certificate }
+solve_meant s = record {
+  input = input_meant s.input;
+  row = s.row;
+  workers = s.workers;
+  num = s.num;
+  den = s.den;
+  budget = s.budget;
+  lot = s.lot;
+  blocks = s.blocks;
+  plain = s.plain;
+  certificate = option_map (λ t. t.now) s.certificate;
+  journal = option_map (λ t. t.now) s.journal;
+}
 
 abbrev pub check_meant : CheckCommand → CheckMeaning
 check_meant s = record { input = input_meant s.input; certificate = s.certificate.now; row = s.row }
 
+abbrev pub journal_meant : JournalCommand → JournalMeaning
+journal_meant s = record { input = input_meant s.input; journal = s.journal.now; row = s.row }
+
+abbrev pub make_meant : MakeCommand → MakeMeaning
+make_meant s = record { kind = s.kind; seed = s.seed; size = s.size; workers = s.workers }
+
 abbrev pub meaning_of : CommandLine → Meaning
 meaning_of (command.Solve s) = Solve (solve_meant s)
 meaning_of (command.Check s) = Check (check_meant s)
+meaning_of (command.Journal s) = Journal (journal_meant s)
+meaning_of (command.Make s) = Make (make_meant s)
+
+-- an answer is what the words mean, or the test that they fail
+abbrev pub Answers : {T : Type 0} → (T → Meaning) → Reading → Result T CommandFault → Type 0
+Answers meant reading result = MatchResult result (λ x. reading ≡ Read (meant x)) (λ f. reading ≡ Refused f)
 
 -- the last byte is a line feed
 abbrev pub EndsLine : List ℕ → Type 0
 EndsLine text = slice_get text (length text - 1) ≡ Some 10
 
--- what is printed: the line of the program, or clap's own text, of which only its end is told here
+-- a line of this text alone
+abbrev pub IsLine : List ℕ → List ℕ → Type 0
+IsLine line text = text ≡ line ++ 10 ∷ []
+
+-- how many bytes a text of clap has at most
+abbrev pub text_most : ℕ
+text_most = 65536
+
+-- what is printed: a line of the program, or clap's own text, of which only its end and its greatest length are told here
 abbrev pub IsPrinted : CommandFault → List ℕ → Type 0
-IsPrinted fault.Files text = text ≡ codes "words files" ++ 10 ∷ []
-IsPrinted _ text = EndsLine text
+IsPrinted fault.Files text = IsLine (codes "words files") text
+IsPrinted fault.Weight text = IsLine (codes "words weight") text
+IsPrinted fault.Names text = IsLine (codes "words names") text
+IsPrinted fault.Size text = IsLine (codes "words size") text
+IsPrinted _ text = EndsLine text × (length text ≤ text_most)
 
 -- the refusal of words that fail this test, unless memory is wanting
 abbrev pub IsRefusal : CommandFault → CommandRefusal → Type 0

@@ -1,6 +1,6 @@
 -- What a command reads of its options, in whatever order its words come. Names, ranges and defaults are written out here once more: they
 -- are what a user is promised.
-use Rattle.std.specs.Prelude.{◌≡◌, ℕ, List, [], ◌∷◌, Bool, true, false, Option, None, Some, if◌then◌else◌, codes}
+use Rattle.std.specs.Prelude.{◌≡◌, ◌≤◌, ◌<◌, ℕ, List, [], ◌∷◌, ◌++◌, Bool, true, false, Option, None, Some, if◌then◌else◌, codes}
 use Rattle.std.specs.List.{AllByRecursion}
 use Rattle.std.specs.Option.{option_map_or}
 use Rattle.std.specs.Str.Parse.{digits_value, without_leading_plus}
@@ -8,54 +8,80 @@ use Rattle.clap.specs.Words.{Text}
 use Rattle.clap.specs.ValueTests.{is_unsigned_in}
 use Rattle.pb_command.specs.Names.{IsName}
 use Rattle.pb_command.specs.Values.{InputNames, Grid, Tiles, Strips}
-use Rattle.pb_command.specs.Meaning.{Read, Solve, Check, reading_of_words}
+use Rattle.pb_command.specs.Meaning.{Read, Refused, Solve, Check, Journal as JournalCommand, Make, reading_of_words}
+use Rattle.pb_command.specs.declared.command.KindWord.{KindWord}
+use Rattle.pb_command.specs.declared.command.KindWord.TheVariants as kind
+use Rattle.pb_command.specs.declared.refusal.CommandFault.TheVariants as fault
 
 -- an option that has a value
 pub data ValuedOption : Type 0 where
   Row : ValuedOption
+  Workers : ValuedOption
+  Num : ValuedOption
+  Den : ValuedOption
   Budget : ValuedOption
   Lot : ValuedOption
   Blocks : ValuedOption
   Certificate : ValuedOption
+  Journal : ValuedOption
 
 -- the word that it is given by
 abbrev pub option_word : ValuedOption → Text
 option_word Row = codes "--row"
+option_word Workers = codes "--workers"
+option_word Num = codes "--num"
+option_word Den = codes "--den"
 option_word Budget = codes "--budget"
 option_word Lot = codes "--lot"
 option_word Blocks = codes "--blocks"
 option_word Certificate = codes "--cert"
+option_word Journal = codes "--trace"
 
 abbrev pub is_same : ValuedOption → ValuedOption → Bool
 is_same Row Row = true
+is_same Workers Workers = true
+is_same Num Num = true
+is_same Den Den = true
 is_same Budget Budget = true
 is_same Lot Lot = true
 is_same Blocks Blocks = true
 is_same Certificate Certificate = true
+is_same Journal Journal = true
 is_same _ _ = false
 
--- an argument of a command: a word that its place tells, or an option with its value
+-- an argument of a command: a word that its place tells, an option with its value, or the flag `--plain`
 pub data Argument : Type 0 where
-  Plain : Text → Argument
+  Placed : Text → Argument
   Valued : ValuedOption → Text → Argument
+  Plain : Argument
 
 -- the words of arguments
 abbrev pub words_of : List Argument → List Text
 words_of [] = []
-words_of (Plain word ∷ rest) = word ∷ words_of rest
+words_of (Placed word ∷ rest) = word ∷ words_of rest
 words_of (Valued option value ∷ rest) = option_word option ∷ value ∷ words_of rest
+words_of (Plain ∷ rest) = codes "--plain" ∷ words_of rest
 
 -- the words that their place tells, in order
-abbrev pub plain_words : List Argument → List Text
-plain_words [] = []
-plain_words (Plain word ∷ rest) = word ∷ plain_words rest
-plain_words (Valued option value ∷ rest) = plain_words rest
+abbrev pub placed_words : List Argument → List Text
+placed_words [] = []
+placed_words (Placed word ∷ rest) = word ∷ placed_words rest
+placed_words (Valued option value ∷ rest) = placed_words rest
+placed_words (Plain ∷ rest) = placed_words rest
 
 -- the value that the option is given, if it is
 abbrev pub value_given : ValuedOption → List Argument → Option Text
 value_given option [] = None
-value_given option (Plain word ∷ rest) = value_given option rest
+value_given option (Placed word ∷ rest) = value_given option rest
 value_given option (Valued other value ∷ rest) = if is_same option other then Some value else value_given option rest
+value_given option (Plain ∷ rest) = value_given option rest
+
+-- whether `--plain` is given
+abbrev pub plain_given : List Argument → Bool
+plain_given [] = false
+plain_given (Placed word ∷ rest) = plain_given rest
+plain_given (Valued option value ∷ rest) = plain_given rest
+plain_given (Plain ∷ rest) = true
 
 -- the number that a value of decimal digits writes
 abbrev pub number_of : Text → ℕ
@@ -68,27 +94,40 @@ number_given option default arguments = option_map_or number_of (value_given opt
 -- no option is given twice
 abbrev pub AreDistinct : List Argument → Type 0
 AreDistinct [] = Unit {0}
-AreDistinct (Plain word ∷ rest) = AreDistinct rest
+AreDistinct (Placed word ∷ rest) = AreDistinct rest
 AreDistinct (Valued option value ∷ rest) = (value_given option rest ≡ None) × AreDistinct rest
+AreDistinct (Plain ∷ rest) = (plain_given rest ≡ false) × AreDistinct rest
 
--- a row from 0 to 1,000,000, a budget from 1 to 2^40, a lot from 1 to 2^20, and from 16 to 4,096 blocks
-abbrev pub IsValueOf : ValuedOption → Text → Type 0
-IsValueOf Row value = is_unsigned_in 0 1000000 value ≡ true
-IsValueOf Budget value = is_unsigned_in 1 1099511627776 value ≡ true
-IsValueOf Lot value = is_unsigned_in 1 1048576 value ≡ true
-IsValueOf Blocks value = is_unsigned_in 16 4096 value ≡ true
-IsValueOf Certificate value = Unit {0}
+-- whether a value of the option lies in its range: a row from 0 to 1,000,000, 1 to 64 workers, a numerator and a denominator from 1 to 1,000, a budget from 1 to 2^40,
+-- a lot from 1 to 2^20, and from 16 to 4,096 blocks
+abbrev pub is_value_of : ValuedOption → Text → Bool
+is_value_of Row value = is_unsigned_in 0 1000000 value
+is_value_of Workers value = is_unsigned_in 1 64 value
+is_value_of Num value = is_unsigned_in 1 1000 value
+is_value_of Den value = is_unsigned_in 1 1000 value
+is_value_of Budget value = is_unsigned_in 1 1099511627776 value
+is_value_of Lot value = is_unsigned_in 1 1048576 value
+is_value_of Blocks value = is_unsigned_in 16 4096 value
+is_value_of Certificate value = true
+is_value_of Journal value = true
 
--- an argument of `solve`
-abbrev pub IsSolveArgument : Argument → Type 0
-IsSolveArgument (Plain word) = IsName word
-IsSolveArgument (Valued option value) = IsName value × IsValueOf option value
+-- an argument of a command that has these options, and the flag if `has_plain`
+abbrev pub IsArgumentOf : (has_option : ValuedOption → Bool) → (has_plain : Bool) → Argument → Type 0
+IsArgumentOf has_option has_plain (Placed word) = IsName word
+IsArgumentOf has_option has_plain (Valued option value) = (has_option option ≡ true) × IsName value × (is_value_of option value ≡ true)
+IsArgumentOf has_option has_plain Plain = has_plain ≡ true
 
--- an argument of `check`, whose one option is the row
-abbrev pub IsCheckArgument : Argument → Type 0
-IsCheckArgument (Plain word) = IsName word
-IsCheckArgument (Valued Row value) = IsName value × IsValueOf Row value
-IsCheckArgument (Valued _ value) = ⊥
+-- `solve` has every option and the flag
+abbrev pub is_of_solve : ValuedOption → Bool
+is_of_solve _ = true
+
+-- `check` and `journal` have the row alone
+abbrev pub is_of_check : ValuedOption → Bool
+is_of_check option = is_same option Row
+
+-- `make` has the number of workers alone
+abbrev pub is_of_make : ValuedOption → Bool
+is_of_make option = is_same option Workers
 
 -- the kind of a task and the names of its files
 abbrev pub kind_word : InputNames → Text
@@ -101,25 +140,120 @@ file_words (Grid names) = names.map ∷ names.scenario ∷ []
 file_words (Tiles board) = board ∷ []
 file_words (Strips names) = names.domain ∷ names.problem ∷ []
 
+-- arguments of `solve`: its kind and its files in their places, and options anywhere among them, none twice
+pub record AreOfSolve (input : InputNames) (arguments : List Argument) : Type 0 where
+  pub each : AllByRecursion (IsArgumentOf is_of_solve true) arguments
+  pub distinct : AreDistinct arguments
+  pub placed : placed_words arguments ≡ kind_word input ∷ file_words input
+
+-- certificate and journal are not given one name
+abbrev pub HaveTwoNames : List Argument → Type 0
+HaveTwoNames arguments = (name : Text) → value_given Certificate arguments ≡ Some name → value_given Journal arguments ≡ Some name → ⊥
+
 -- `solve` with the kind and its files, and with options anywhere among them, searches this task with their values.
 abbrev pub SolveReadsOptions : Type 0
-SolveReadsOptions = (input : InputNames) (arguments : List Argument) → AllByRecursion IsSolveArgument arguments → AreDistinct arguments
-    → plain_words arguments ≡ kind_word input ∷ file_words input
+SolveReadsOptions = (input : InputNames) (arguments : List Argument) → AreOfSolve input arguments
+    → number_given Den 1 arguments ≤ number_given Num 1 arguments → HaveTwoNames arguments
     → reading_of_words (codes "solve" ∷ words_of arguments) ≡ Read (Solve (record {
       input = input;
       row = number_given Row 0 arguments;
+      workers = number_given Workers 1 arguments;
+      num = number_given Num 1 arguments;
+      den = number_given Den 1 arguments;
       budget = number_given Budget 16777216 arguments;
       lot = number_given Lot 256 arguments;
       blocks = number_given Blocks 256 arguments;
+      plain = plain_given arguments;
       certificate = value_given Certificate arguments;
+      journal = value_given Journal arguments;
     }))
+
+-- Among them, a weight below 1 is refused.
+abbrev pub LowWeightIsRefused : Type 0
+LowWeightIsRefused = (input : InputNames) (arguments : List Argument) → AreOfSolve input arguments
+    → number_given Num 1 arguments < number_given Den 1 arguments
+    → reading_of_words (codes "solve" ∷ words_of arguments) ≡ Refused fault.Weight
+
+-- And if the weight isn't below 1, one name for the certificate and the journal is.
+abbrev pub OneNameIsRefused : Type 0
+OneNameIsRefused = (input : InputNames) (name : Text) (arguments : List Argument) → AreOfSolve input arguments
+    → number_given Den 1 arguments ≤ number_given Num 1 arguments
+    → value_given Certificate arguments ≡ Some name → value_given Journal arguments ≡ Some name
+    → reading_of_words (codes "solve" ∷ words_of arguments) ≡ Refused fault.Names
 
 -- `check` with the kind, the certificate and the files, and with a row anywhere among them, checks that certificate for this task.
 abbrev pub CheckReadsOptions : Type 0
-CheckReadsOptions = (input : InputNames) (certificate : Text) (arguments : List Argument) → AllByRecursion IsCheckArgument arguments → AreDistinct arguments
-    → plain_words arguments ≡ kind_word input ∷ certificate ∷ file_words input
+CheckReadsOptions = (input : InputNames) (certificate : Text) (arguments : List Argument) → AllByRecursion (IsArgumentOf is_of_check false) arguments → AreDistinct arguments
+    → placed_words arguments ≡ kind_word input ∷ certificate ∷ file_words input
     → reading_of_words (codes "check" ∷ words_of arguments) ≡ Read (Check (record {
       input = input;
       certificate = certificate;
       row = number_given Row 0 arguments;
     }))
+
+-- `journal` with the kind, the journal and the files, and with a row anywhere among them, checks that journal for this task.
+abbrev pub JournalReadsOptions : Type 0
+JournalReadsOptions = (input : InputNames) (journal : Text) (arguments : List Argument) → AllByRecursion (IsArgumentOf is_of_check false) arguments → AreDistinct arguments
+    → placed_words arguments ≡ kind_word input ∷ journal ∷ file_words input
+    → reading_of_words (codes "journal" ∷ words_of arguments) ≡ Read (JournalCommand (record {
+      input = input;
+      journal = journal;
+      row = number_given Row 0 arguments;
+    }))
+
+-- the word of a kind
+abbrev pub word_of_kind : KindWord → Text
+word_of_kind kind.Grid = codes "grid"
+word_of_kind kind.Tiles = codes "tiles"
+word_of_kind kind.Strips = codes "strips"
+
+-- a grid has a side from 1 to 2,048, a board from 0 to 1,000,000 moves, and a STRIPS problem from 1 to 14 blocks
+abbrev pub IsSizeOf : KindWord → ℕ → Type 0
+IsSizeOf kind.Grid n = (1 ≤ n) × (n ≤ 2048)
+IsSizeOf kind.Tiles n = n ≤ 1000000
+IsSizeOf kind.Strips n = (1 ≤ n) × (n ≤ 14)
+
+-- arguments of `make`: the kind, a seed from 0 to 2^32 - 1 and a number below 2^64 in their places, and the number of workers anywhere among them, once at most
+pub record AreOfMake (k : KindWord) (seed size : Text) (arguments : List Argument) : Type 0 where
+  pub each : AllByRecursion (IsArgumentOf is_of_make false) arguments
+  pub distinct : AreDistinct arguments
+  pub placed : placed_words arguments ≡ word_of_kind k ∷ seed ∷ size ∷ []
+  pub seed_fits : is_unsigned_in 0 4294967295 seed ≡ true
+  pub size_fits : is_unsigned_in 0 18446744073709551615 size ≡ true
+
+-- `make` with a kind, a seed and a size that the kind has makes that task.
+abbrev pub MakeReadsOptions : Type 0
+MakeReadsOptions = (k : KindWord) (seed size : Text) (arguments : List Argument) → AreOfMake k seed size arguments → IsSizeOf k (number_of size)
+    → reading_of_words (codes "make" ∷ words_of arguments) ≡ Read (Make (record {
+      kind = k;
+      seed = number_of seed;
+      size = number_of size;
+      workers = number_given Workers 1 arguments;
+    }))
+
+-- And another size is refused.
+abbrev pub OtherSizeIsRefused : Type 0
+OtherSizeIsRefused = (k : KindWord) (seed size : Text) (arguments : List Argument) → AreOfMake k seed size arguments → (IsSizeOf k (number_of size) → ⊥)
+    → reading_of_words (codes "make" ∷ words_of arguments) ≡ Refused fault.Size
+
+-- An option whose number isn't in its range is refused for its form.
+abbrev pub OutOfRangeIsRefused : Type 0
+OutOfRangeIsRefused = (input : InputNames) (arguments : List Argument) → AreOfSolve input arguments
+    → (option : ValuedOption) (value : Text) → IsName value → is_value_of option value ≡ false
+    → reading_of_words (codes "solve" ∷ words_of arguments ++ option_word option ∷ value ∷ []) ≡ Refused fault.Form
+
+-- So is an option that is given twice, whatever its second value.
+abbrev pub GivenTwiceIsRefused : Type 0
+GivenTwiceIsRefused = (input : InputNames) (arguments : List Argument) → AreOfSolve input arguments
+    → (option : ValuedOption) (first second : Text) → value_given option arguments ≡ Some first → IsName second
+    → reading_of_words (codes "solve" ∷ words_of arguments ++ option_word option ∷ second ∷ []) ≡ Refused fault.Form
+
+-- So is the flag that is given twice.
+abbrev pub PlainTwiceIsRefused : Type 0
+PlainTwiceIsRefused = (input : InputNames) (arguments : List Argument) → AreOfSolve input arguments → plain_given arguments ≡ true
+    → reading_of_words (codes "solve" ∷ words_of arguments ++ codes "--plain" ∷ []) ≡ Refused fault.Form
+
+-- So is a word for help.
+abbrev pub HelpIsRefused : Type 0
+HelpIsRefused = (input : InputNames) (arguments : List Argument) → AreOfSolve input arguments
+    → reading_of_words (codes "solve" ∷ words_of arguments ++ codes "--help" ∷ []) ≡ Refused fault.Form

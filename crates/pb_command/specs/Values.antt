@@ -1,10 +1,11 @@
 -- What the values of words are.
-use Rattle.std.specs.Prelude.{ℕ, List, Option, None, Some, if◌then◌else◌, codes}
+use Rattle.std.specs.Prelude.{ℕ, ◌&&◌, Bool, false, List, Option, None, Some, if◌then◌else◌, nat_le, codes}
+use Rattle.std.specs.Option.{option_map_or}
 use Rattle.std.specs.Str.{bytes_eq}
 use Rattle.std.specs.Str.Parse.{digits_value, without_leading_plus}
-use Rattle.clap.specs.Words.{Row, Text, one_of}
+use Rattle.clap.specs.Words.{Row, Text, first_of, one_of}
 use Rattle.clap.specs.ValueTests.{is_unsigned_in}
-use Rattle.pb_command.specs.Parser.{NumberOption}
+use Rattle.pb_command.specs.Parser.{NumberOption, seed_most, size_word_most}
 use Rattle.pb_command.specs.declared.command.KindWord.{KindWord}
 use Rattle.pb_command.specs.declared.command.KindWord.TheVariants as kind
 
@@ -47,3 +48,34 @@ number_in least most default (Some text) =
 
 abbrev pub option_of : NumberOption → List Row → Option ℕ
 option_of o rows = number_in o.least o.most (Some o.default) (one_of o.name rows)
+
+-- a seed from 0 to 2^32 - 1
+abbrev pub seed_of : List Row → Option ℕ
+seed_of rows = number_in 0 seed_most None (one_of (codes "SEED") rows)
+
+-- a whole number below 2^64, in the place of the size
+abbrev pub size_of : List Row → Option ℕ
+size_of rows = number_in 0 size_word_most None (one_of (codes "SIZE") rows)
+
+-- whether a flag is given
+abbrev pub flag_of : Text → List Row → Bool
+flag_of name rows = option_map_or (λ text. bytes_eq text (codes "true")) (first_of name rows) false
+
+-- the least and the greatest size of a made task: the side of a grid, the moves of a 3 by 3 board, and the blocks of a STRIPS problem
+abbrev pub least_size : KindWord → ℕ
+least_size kind.Grid = 1
+least_size kind.Tiles = 0
+least_size kind.Strips = 1
+
+abbrev pub most_size : KindWord → ℕ
+most_size kind.Grid = 2048
+most_size kind.Tiles = 1000000
+most_size kind.Strips = 14
+
+abbrev pub is_size : KindWord → ℕ → Bool
+is_size k n = nat_le (least_size k) n && nat_le n (most_size k)
+
+-- both names are given, and they are one
+abbrev pub are_one_name : Option Text → Option Text → Bool
+are_one_name (Some a) (Some b) = bytes_eq a b
+are_one_name _ _ = false

@@ -1,11 +1,11 @@
-// What kind of task a command is about.
+/// What kind of task a command is about.
 #[derive(Clone, Copy, Debug, PartialEq, Eq)]
-pub(crate) enum KindWord {
-    // A grid of a map and a scenario.
+pub enum KindWord {
+    /// A grid of a map and a scenario.
     Grid,
-    // A board of a sliding-tile puzzle.
+    /// A board of a sliding-tile puzzle.
     Tiles,
-    // A STRIPS problem of a domain and a problem in PDDL.
+    /// A STRIPS problem of a domain and a problem in PDDL.
     Strips,
 }
 
@@ -30,29 +30,44 @@ pub struct StripsFiles<'a> {
 /// The kind of the task, with the names of its files.
 #[derive(Clone, Copy, Debug)]
 pub enum Input<'a> {
-    /// `grid MAP SCEN`: a grid of the MovingAI benchmarks (Sturtevant, "Benchmarks for grid-based pathfinding", 2012).
+    /// `grid MAP SCEN`: a grid of the MovingAI benchmarks (Sturtevant, "Benchmarks for grid-based
+    /// pathfinding", 2012).
     Grid(GridFiles<'a>),
     /// `tiles BOARD`: a sliding-tile puzzle, with the name of the board's file.
     Tiles(&'a str),
-    /// `strips DOMAIN PROBLEM`: a STRIPS problem (Fikes and Nilsson, 1971) in PDDL (McDermott and others, "PDDL, the Planning Domain Definition Language", 1998).
+    /// `strips DOMAIN PROBLEM`: a STRIPS problem (Fikes and Nilsson, 1971) in PDDL (McDermott and
+    /// others, "PDDL, the Planning Domain Definition Language", 1998).
     Strips(StripsFiles<'a>),
 }
 
-/// `solve KIND FILE [FILE] [--row K] [--budget B] [--lot L] [--blocks C] [--cert NAME]`.
+/// `solve KIND FILE [FILE]` and its options.
 #[derive(Clone, Copy, Debug)]
 pub struct SolveCommand<'a> {
     /// The task.
     pub input: Input<'a>,
-    /// The row of the scenario, counted from 0: 0 to 1,000,000, and 0 where none is given. Only a grid has a scenario.
+    /// The row of the scenario, counted from 0: 0 to 1,000,000, and 0 where none is given. Only a
+    /// grid has a scenario.
     pub row: u64,
+    /// How many workers search: 1 to 64, and 1 where none is given.
+    pub workers: u64,
+    /// The numerator of the weight: 1 to 1,000, and 1 where none is given. It isn't below the
+    /// denominator.
+    pub num: u64,
+    /// The denominator of the weight: 1 to 1,000, and 1 where none is given.
+    pub den: u64,
     /// How many expansions the search may do: 1 to 2^40, and 16,777,216 where none is given.
     pub budget: u64,
     /// How many expansions a lease gets at most: 1 to 2^20, and 256 where none is given.
     pub lot: u64,
     /// How many blocks the abstract graph has at most: 16 to 4,096, and 256 where none is given.
     pub blocks: u64,
-    /// The name under which the certificate is to be saved, where one is given.
+    /// `--plain`: no block is marked hot.
+    pub plain: bool,
+    /// `--cert NAME`: the name under which the certificate is to be saved, where one is given.
     pub certificate: Option<&'a str>,
+    /// `--trace NAME`: the name under which the journal is to be saved, where one is given. It
+    /// isn't the certificate's.
+    pub journal: Option<&'a str>,
 }
 
 /// `check KIND CERT FILE [FILE] [--row K]`.
@@ -62,8 +77,35 @@ pub struct CheckCommand<'a> {
     pub input: Input<'a>,
     /// The certificate's file.
     pub certificate: &'a str,
-    /// The row of the scenario, counted from 0: 0 to 1,000,000, and 0 where none is given. Only a grid has a scenario.
+    /// The row of the scenario, counted from 0: 0 to 1,000,000, and 0 where none is given. Only a
+    /// grid has a scenario.
     pub row: u64,
+}
+
+/// `journal KIND JOURNAL FILE [FILE] [--row K]`.
+#[derive(Clone, Copy, Debug)]
+pub struct JournalCommand<'a> {
+    /// The task.
+    pub input: Input<'a>,
+    /// The journal's file.
+    pub journal: &'a str,
+    /// The row of the scenario, counted from 0: 0 to 1,000,000, and 0 where none is given. Only a
+    /// grid has a scenario.
+    pub row: u64,
+}
+
+/// `make KIND SEED SIZE [--workers W]`.
+#[derive(Clone, Copy, Debug)]
+pub struct MakeCommand {
+    /// The kind of the task that is made.
+    pub kind: KindWord,
+    /// What its numbers are drawn from: 0 to 2^32 - 1.
+    pub seed: u64,
+    /// Its size: the side of a grid, 1 to 2,048; the moves of a 3 by 3 board, 0 to 1,000,000; the
+    /// blocks of a STRIPS problem, 1 to 14.
+    pub size: u64,
+    /// How many workers search: 1 to 64, and 1 where none is given.
+    pub workers: u64,
 }
 
 /// What words ask for.
@@ -73,4 +115,8 @@ pub enum CommandLine<'a> {
     Solve(SolveCommand<'a>),
     /// Check a certificate.
     Check(CheckCommand<'a>),
+    /// Check a journal.
+    Journal(JournalCommand<'a>),
+    /// Make a task and solve it.
+    Make(MakeCommand),
 }

@@ -1,53 +1,128 @@
-ghost use Rattle.pb_command.specs.Laws.{SolveWithTwoNamesIsRead, CheckWithThreeNamesIsRead, SolveWithOneBoardIsRead, CheckWithOneBoardIsRead};
-ghost use Rattle.pb_command.specs.Laws.{SolveWithDomainAndProblemIsRead, CheckWithDomainAndProblemIsRead};
-ghost use Rattle.pb_command.specs.Options.{SolveReadsOptions, CheckReadsOptions};
-ghost use Rattle.pb_command.specs.Laws.{OneFileIsRefused, TwoBoardsAreRefused, DomainAloneIsRefused, OtherKindIsRefused, HelpIsRefused};
+ghost use Rattle.pb_command.specs.Laws.{SolveWithTwoNamesIsRead, CheckWithThreeNamesIsRead};
+ghost use Rattle.pb_command.specs.Laws.{SolveWithOneBoardIsRead, CheckWithOneBoardIsRead};
+ghost use Rattle.pb_command.specs.Laws.{SolveWithDomainAndProblemIsRead};
+ghost use Rattle.pb_command.specs.Laws.{CheckWithDomainAndProblemIsRead};
+ghost use Rattle.pb_command.specs.Laws.{JournalWithThreeNamesIsRead, JournalWithOneBoardIsRead};
+ghost use Rattle.pb_command.specs.Laws.{JournalWithDomainAndProblemIsRead};
+ghost use Rattle.pb_command.specs.Laws.{MakeGridIsRead, MakeTilesIsRead, MakeStripsIsRead};
+ghost use Rattle.pb_command.specs.Options.{SolveReadsOptions, LowWeightIsRefused, OneNameIsRefused};
+ghost use Rattle.pb_command.specs.Options.{CheckReadsOptions, JournalReadsOptions};
+ghost use Rattle.pb_command.specs.Options.{MakeReadsOptions, OtherSizeIsRefused};
+ghost use Rattle.pb_command.specs.Options.{OutOfRangeIsRefused, GivenTwiceIsRefused};
+ghost use Rattle.pb_command.specs.Options.{PlainTwiceIsRefused, HelpIsRefused};
+ghost use Rattle.pb_command.specs.Laws.{OneFileIsRefused, TwoBoardsAreRefused};
+ghost use Rattle.pb_command.specs.Laws.{DomainAloneIsRefused, OtherKindIsRefused};
+ghost use Rattle.pb_command.specs.Laws.{FilesComeBeforeWeight, WeightComesBeforeNames};
+ghost use Rattle.pb_command.specs.Laws.{WeightOfOneHalfIsRefused};
+ghost use Rattle.pb_command.specs.Laws.{SideOfZeroIsRefused, SeedOutOfRangeIsRefused};
 
-/// `solve grid MAP SCEN`, with names that don't begin with a hyphen, asks for a search with the defaults.
+/// `solve grid MAP SCEN`, with names that don't begin with a hyphen, asks for a search with the
+/// defaults.
 pub fn solve_with_two_names_is_read()
     ensures { SolveWithTwoNamesIsRead }
 {}
 
-/// `check grid CERT MAP SCEN`, with names that don't begin with a hyphen, asks for a check with the default.
+/// `check grid CERT MAP SCEN`, with names that don't begin with a hyphen, asks for a check with the
+/// default.
 pub fn check_with_three_names_is_read()
     ensures { CheckWithThreeNamesIsRead }
 {}
 
-/// `solve tiles BOARD`, with a name that doesn't begin with a hyphen, asks for a search with the defaults.
+/// `solve tiles BOARD`, with a name that doesn't begin with a hyphen, asks for a search with the
+/// defaults.
 pub fn solve_with_one_board_is_read()
     ensures { SolveWithOneBoardIsRead }
 {}
 
-/// `check tiles CERT BOARD`, with names that don't begin with a hyphen, asks for a check with the default.
+/// `check tiles CERT BOARD`, with names that don't begin with a hyphen, asks for a check with the
+/// default.
 pub fn check_with_one_board_is_read()
     ensures { CheckWithOneBoardIsRead }
 {}
 
-/// `solve strips DOMAIN PROBLEM`, with names that don't begin with a hyphen, asks for a search with the defaults.
+/// `solve strips DOMAIN PROBLEM`, with names that don't begin with a hyphen, asks for a search with
+/// the defaults.
 pub fn solve_with_domain_and_problem_is_read()
     ensures { SolveWithDomainAndProblemIsRead }
 {}
 
-/// `check strips CERT DOMAIN PROBLEM`, with names that don't begin with a hyphen, asks for a check with the default.
+/// `check strips CERT DOMAIN PROBLEM`, with names that don't begin with a hyphen, asks for a check
+/// with the default.
 pub fn check_with_domain_and_problem_is_read()
     ensures { CheckWithDomainAndProblemIsRead }
 {}
 
-/// `--row`, `--budget`, `--lot`, `--blocks` and `--cert` give `solve` their values, anywhere among the kind and its files; without one stands its default.
+/// `journal KIND JOURNAL` with the files of the kind, all names that don't begin with a hyphen,
+/// asks for a check with the default.
+pub fn journal_with_names_is_read()
+    ensures grid { JournalWithThreeNamesIsRead }
+    ensures tiles { JournalWithOneBoardIsRead }
+    ensures strips { JournalWithDomainAndProblemIsRead }
+{}
+
+/// `make KIND 4294967295 SIZE`, with the greatest size of the kind, asks for that task and for one
+/// worker.
+pub fn make_is_read()
+    ensures grid { MakeGridIsRead }
+    ensures tiles { MakeTilesIsRead }
+    ensures strips { MakeStripsIsRead }
+{}
+
+/// The options and `--plain` give `solve` their values, anywhere among the kind and its files;
+/// without one stands its default.
 pub fn solve_reads_options()
     ensures { SolveReadsOptions }
 {}
 
-/// `--row` gives `check` its value, anywhere among the kind, the certificate and the files; without it stands its default.
+/// Wherever the options of `solve` stand, a weight below 1 is refused, and so is one name for the
+/// certificate and the journal.
+pub fn solve_tests_options()
+    ensures weight { LowWeightIsRefused }
+    ensures names { OneNameIsRefused }
+{}
+
+/// `--row` gives `check` its value, anywhere among the kind, the certificate and the files; without
+/// it stands its default.
 pub fn check_reads_options()
     ensures { CheckReadsOptions }
 {}
 
-/// A grid with one file, tiles with two, a domain without a problem, a kind that isn't known, and a word for help are refused, each for its own fault.
+/// `--row` gives `journal` its value, anywhere among the kind, the journal and the files; without
+/// it stands its default.
+pub fn journal_reads_options()
+    ensures { JournalReadsOptions }
+{}
+
+/// `--workers` gives `make` its value, anywhere among the kind, the seed and the size; without it
+/// stands its default. A size that the kind doesn't have is refused.
+pub fn make_reads_options()
+    ensures read { MakeReadsOptions }
+    ensures size { OtherSizeIsRefused }
+{}
+
+/// A number out of its option's range is refused for its form, and so are an option or `--plain`
+/// that is given twice, a word for help and a seed that is too great.
+pub fn options_out_of_form_are_refused()
+    ensures range { OutOfRangeIsRefused }
+    ensures twice { GivenTwiceIsRefused }
+    ensures plain { PlainTwiceIsRefused }
+    ensures help { HelpIsRefused }
+    ensures seed { SeedOutOfRangeIsRefused }
+{}
+
+/// The number of files is tested before the weight, and the weight before the names.
+pub fn tests_come_in_order()
+    ensures files { FilesComeBeforeWeight }
+    ensures weight { WeightComesBeforeNames }
+{}
+
+/// A grid with one file, tiles with two, a domain without a problem, a kind that isn't known, a
+/// weight of one half and a grid of side 0 are refused, each for its own fault.
 pub fn faults_are_found()
     ensures files { OneFileIsRefused }
     ensures boards { TwoBoardsAreRefused }
     ensures domain { DomainAloneIsRefused }
     ensures kind { OtherKindIsRefused }
-    ensures help { HelpIsRefused }
+    ensures weight { WeightOfOneHalfIsRefused }
+    ensures size { SideOfZeroIsRefused }
 {}

@@ -2,11 +2,16 @@
 ghost use Rattle.std.specs.Prelude.{◌≡◌, false, IfOk};
 ghost use Rattle.clap.specs.Words.{app_of, rule_of, new_rule, with_rule, with_subcommand, shape_of};
 ghost use Rattle.clap.specs.declared.builder.command.Command.TheViews.{out-Command as fields_of};
-ghost use Rattle.pb_command.specs.Parser.{the_program, the_solve, the_check, bare_program, number_rule, text_rule, required_rule};
+ghost use Rattle.pb_command.specs.Parser.{the_program, the_solve, the_check, the_journal, the_make};
+ghost use Rattle.pb_command.specs.Parser.{bare_program, number_rule, text_rule, flag_rule};
+ghost use Rattle.pb_command.specs.Parser.{required_rule, required_number_rule};
 
-use crate::values::{BLOCKS_LEAST, BLOCKS_MOST, BUDGET_MOST, LOT_MOST, ROW_MOST};
+use crate::values::{
+    BLOCKS_LEAST, BLOCKS_MOST, BUDGET_MOST, LOT_MOST, ROW_MOST, SEED_MOST, SIZE_WORD_MOST,
+    WEIGHT_MOST, WORKERS_MOST,
+};
 use clap::builder::ValueParser;
-use clap::{Arg, Command};
+use clap::{Arg, ArgAction, Command};
 use std::alloc::{AllocError, Global};
 
 // `--NAME NUMBER`, a whole number from `least` to `most`.
@@ -27,12 +32,30 @@ fn text_option<'a>(alloc: Global, name: &'a str) -> Arg<'a>
     Arg::new(alloc, name).long(name)
 }
 
+// `--NAME`, without a value.
+fn flag<'a>(alloc: Global, name: &'a str) -> Arg<'a>
+    ensures rule { rule_of result ≡ flag_rule name.entry.now }
+    ensures local { result.global ≡ false }
+{
+    Arg::new(alloc, name).long(name).action(ArgAction::SetTrue)
+}
+
 // A word that must stand.
 fn required_word<'a>(alloc: Global, name: &'a str) -> Arg<'a>
     ensures rule { rule_of result ≡ required_rule name.entry.now }
     ensures local { result.global ≡ false }
 {
     Arg::new(alloc, name).required(true)
+}
+
+// A word that must stand, a whole number from `least` to `most`.
+fn required_number<'a>(alloc: Global, name: &'a str, least: u64, most: u64) -> Arg<'a>
+    ensures rule { rule_of result ≡ required_number_rule name.entry.now least most }
+    ensures local { result.global ≡ false }
+{
+    Arg::new(alloc, name)
+        .required(true)
+        .value_parser(ValueParser::Unsigned(least, most))
 }
 
 // A word that may stand.
@@ -47,7 +70,8 @@ fn optional_word<'a>(alloc: Global, name: &'a str) -> Arg<'a>
 fn add<'a>(command: Command<'a>, arg: Arg<'a>) -> Result<Command<'a>, AllocError>
     requires arg { arg.global ≡ false }
     requires command { (fields_of command).has_globals ≡ false }
-    ensures app { IfOk result (λ c. app_of c ≡ with_rule (app_of command.entry) (rule_of arg.entry)) }
+    ensures app { IfOk result (λ c. app_of c
+        ≡ with_rule (app_of command.entry) (rule_of arg.entry)) }
     ensures local { IfOk result (λ c. (fields_of c).has_globals ≡ false) }
 {
     command.arg(arg)
@@ -62,13 +86,18 @@ pub(crate) fn solve<'a>(alloc: Global) -> Result<Command<'a>, AllocError>
     let with_first = add(with_kind, required_word(alloc, "FIRST_FILE"))?;
     let with_second = add(with_first, optional_word(alloc, "SECOND_FILE"))?;
     let with_row = add(with_second, number_option(alloc, "row", 0, ROW_MOST))?;
-    let with_budget = add(with_row, number_option(alloc, "budget", 1, BUDGET_MOST))?;
+    let with_workers = add(with_row, number_option(alloc, "workers", 1, WORKERS_MOST))?;
+    let with_num = add(with_workers, number_option(alloc, "num", 1, WEIGHT_MOST))?;
+    let with_den = add(with_num, number_option(alloc, "den", 1, WEIGHT_MOST))?;
+    let with_budget = add(with_den, number_option(alloc, "budget", 1, BUDGET_MOST))?;
     let with_lot = add(with_budget, number_option(alloc, "lot", 1, LOT_MOST))?;
     let with_blocks = add(
         with_lot,
         number_option(alloc, "blocks", BLOCKS_LEAST, BLOCKS_MOST),
     )?;
-    add(with_blocks, text_option(alloc, "cert"))
+    let with_certificate = add(with_blocks, text_option(alloc, "cert"))?;
+    let with_journal = add(with_certificate, text_option(alloc, "trace"))?;
+    add(with_journal, flag(alloc, "plain"))
 }
 
 // `check KIND CERT FILE [FILE]` and its option.
@@ -81,6 +110,29 @@ pub(crate) fn check<'a>(alloc: Global) -> Result<Command<'a>, AllocError>
     let with_first = add(with_certificate, required_word(alloc, "FIRST_FILE"))?;
     let with_second = add(with_first, optional_word(alloc, "SECOND_FILE"))?;
     add(with_second, number_option(alloc, "row", 0, ROW_MOST))
+}
+
+// `journal KIND JOURNAL FILE [FILE]` and its option.
+pub(crate) fn journal<'a>(alloc: Global) -> Result<Command<'a>, AllocError>
+    ensures app { IfOk result (λ c. app_of c ≡ the_journal) }
+    ensures local { IfOk result (λ c. (fields_of c).has_globals ≡ false) }
+{
+    let with_kind = add(Command::new(alloc, "journal"), required_word(alloc, "KIND"))?;
+    let with_journal = add(with_kind, required_word(alloc, "JOURNAL"))?;
+    let with_first = add(with_journal, required_word(alloc, "FIRST_FILE"))?;
+    let with_second = add(with_first, optional_word(alloc, "SECOND_FILE"))?;
+    add(with_second, number_option(alloc, "row", 0, ROW_MOST))
+}
+
+// `make KIND SEED SIZE` and its option.
+pub(crate) fn make<'a>(alloc: Global) -> Result<Command<'a>, AllocError>
+    ensures app { IfOk result (λ c. app_of c ≡ the_make) }
+    ensures local { IfOk result (λ c. (fields_of c).has_globals ≡ false) }
+{
+    let with_kind = add(Command::new(alloc, "make"), required_word(alloc, "KIND"))?;
+    let with_seed = add(with_kind, required_number(alloc, "SEED", 0, SEED_MOST))?;
+    let with_size = add(with_seed, required_number(alloc, "SIZE", 0, SIZE_WORD_MOST))?;
+    add(with_size, number_option(alloc, "workers", 1, WORKERS_MOST))
 }
 
 // The program before it has subcommands, without words for help or the version.
@@ -99,7 +151,8 @@ fn without_commands<'a>(alloc: Global) -> Command<'a>
 fn add_command<'a>(program: Command<'a>, command: Command<'a>) -> Result<Command<'a>, AllocError>
     requires program { (fields_of program).has_globals ≡ false }
     requires command { (fields_of command).has_globals ≡ false }
-    ensures app { IfOk result (λ c. app_of c ≡ with_subcommand (app_of program.entry) (shape_of command.entry)) }
+    ensures app { IfOk result (λ c. app_of c
+        ≡ with_subcommand (app_of program.entry) (shape_of command.entry)) }
     ensures local { IfOk result (λ c. (fields_of c).has_globals ≡ false) }
 {
     program.subcommand(command)
@@ -111,5 +164,7 @@ pub(crate) fn program<'a>(alloc: Global) -> Result<Command<'a>, AllocError>
     ensures local { IfOk result (λ c. (fields_of c).has_globals ≡ false) }
 {
     let with_solve = add_command(without_commands(alloc), solve(alloc)?)?;
-    add_command(with_solve, check(alloc)?)
+    let with_check = add_command(with_solve, check(alloc)?)?;
+    let with_journal = add_command(with_check, journal(alloc)?)?;
+    add_command(with_journal, make(alloc)?)
 }

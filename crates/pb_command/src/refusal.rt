@@ -1,9 +1,11 @@
-ghost use Rattle.std.specs.Prelude.{◌≡◌, true, IfOk};
+ghost use Rattle.std.specs.Prelude.{◌≡◌, ◌≤◌, true, length, IfOk, codes};
 ghost use Rattle.std.specs.String.{string_bytes};
-ghost use Rattle.pb_command.specs.Causes.{IsRefusal, EndsLine, IsPrinted};
+ghost use Rattle.std.specs.String.Boundary.{IsSplitPoint};
+ghost use Rattle.pb_command.specs.Causes.{IsRefusal, EndsLine, IsLine, IsPrinted, text_most};
 ghost use Rattle.pb_command.specs.declared.refusal.CommandRefusal.TheVariants.{Memory};
 
-use crate::parser::{check, solve};
+use crate::parser::{check, journal, make, solve};
+use clap::Error;
 use clap::error::ErrorKind;
 use std::alloc::{AllocError, Global};
 use std::marker::Model;
@@ -11,14 +13,23 @@ use std::marker::Model;
 /// Which test words fail, the first of them in this order.
 #[derive(Clone, Copy, Debug, PartialEq, Eq)]
 pub enum CommandFault {
-    /// They are not of the declared form: an unknown command or option, a number out of its range, a word too many or
-    /// too few. Words for help and for the version are refused so too.
+    /// They are not of the declared form: an unknown command or option, a number out of its range,
+    /// a word too many or too few. Words for help and for the version are refused so too.
     Form,
     /// The word in the place of the kind names none.
     Kind,
     /// The kind has another number of files.
     Files,
+    /// The weight, `--num` over `--den`, is below 1.
+    Weight,
+    /// The certificate and the journal would be saved under one name.
+    Names,
+    /// A made task of this kind can't have this size.
+    Size,
 }
+
+// How many bytes a text of clap has at most. A longer one, which repeats a long word, is cut.
+const TEXT_MOST: usize = 65_536;
 
 /// Lines that are to be printed, each of which ends with LF.
 #[derive(Debug, Drop)]
@@ -36,14 +47,26 @@ impl Model for Message {
 }
 
 impl Message {
-    // The message with this text, the last line of which is ended where it isn't.
-    pub(crate) fn of(text: String) -> Result<Message, AllocError>
-        ensures { IfOk result (λ m. EndsLine m) }
+    // The message with a text of clap: a long one is cut, and the last line is ended where it
+    // isn't.
+    fn of_clap(text: String) -> Result<Message, AllocError>
+        ensures { IfOk result (λ m. EndsLine m × (length m ≤ text_most)) }
     {
         let mut text = text;
-        if is_ended(text.as_str()) {
+        if text.len() <= TEXT_MOST && is_ended(text.as_str()) {
             return Ok(Message { text });
         }
+        let end = cut_at(&text, TEXT_MOST - 1);
+        text.truncate(end);
+        text.push_str("\n")?;
+        Ok(Message { text })
+    }
+
+    // The message of one line.
+    fn of_line(alloc: Global, line: &str) -> Result<Message, AllocError>
+        ensures { IfOk result (λ m. IsLine line.now m) }
+    {
+        let mut text = String::from_str(alloc, line)?;
         text.push_str("\n")?;
         Ok(Message { text })
     }
@@ -54,6 +77,22 @@ impl Message {
     {
         self.text.as_bytes()
     }
+}
+
+// Where a text is cut so that it has at most `most` bytes: its end, or the last place below that
+// begins a character.
+fn cut_at(text: &String, most: usize) -> usize
+    ensures boundary { IsSplitPoint (string_bytes text.now) result }
+    ensures most { result ≤ most }
+{
+    if text.len() <= most {
+        return text.len();
+    }
+    let mut end = most;
+    while end > 0 && !text.is_char_boundary(end) {
+        end -= 1;
+    }
+    end
 }
 
 // Whether the last line of a text is ended.
@@ -83,21 +122,40 @@ impl From<AllocError> for CommandRefusal {
     }
 }
 
+// The text of an error of clap.
+fn error_message(alloc: Global, error: &Error) -> Result<Message, AllocError>
+    ensures { IfOk result (λ m. EndsLine m × (length m ≤ text_most)) }
+{
+    Message::of_clap(format!(in alloc; "{error}")?)
+}
+
+// The refusal of clap, with its text.
+pub(crate) fn form_refusal(alloc: Global, error: &Error) -> CommandRefusal
+    ensures { IsRefusal CommandFault.Form result }
+{
+    match error_message(alloc, error) {
+        Ok(message) => CommandRefusal::Words(CommandFault::Form, message),
+        Err(_) => CommandRefusal::Memory,
+    }
+}
+
 // The message of clap for a mistake in the words of a subcommand.
 fn clap_message(alloc: Global, name: &str, mistake: &str) -> Result<Message, AllocError>
-    ensures { IfOk result (λ m. EndsLine m) }
+    ensures { IfOk result (λ m. EndsLine m × (length m ≤ text_most)) }
 {
-    let command = if name == "check" {
-        check(alloc)?
-    } else {
-        solve(alloc)?
+    let command = match name {
+        "solve" => solve(alloc)?,
+        "check" => check(alloc)?,
+        "journal" => journal(alloc)?,
+        _ => make(alloc)?,
     };
     let mut command = command.disable_help_flag(true);
     let error = command.error(ErrorKind::InvalidValue, mistake)?;
-    Message::of(format!(in alloc; "{error}")?)
+    error_message(alloc, &error)
 }
 
-// What is printed where the words of a subcommand fail a test. The word stands in the place of the kind.
+// What is printed where the words of a subcommand fail a test. The word stands in the place of the
+// kind.
 pub(crate) fn message_of(
     alloc: Global,
     name: &str,
@@ -115,9 +173,10 @@ pub(crate) fn message_of(
             )?;
             clap_message(alloc, name, mistake.as_str())
         }
-        CommandFault::Files => Ok(Message {
-            text: String::from_str(alloc, "words files\n")?,
-        }),
+        CommandFault::Files => Message::of_line(alloc, "words files"),
+        CommandFault::Weight => Message::of_line(alloc, "words weight"),
+        CommandFault::Names => Message::of_line(alloc, "words names"),
+        CommandFault::Size => Message::of_line(alloc, "words size"),
     }
 }
 

@@ -67,12 +67,12 @@ fits_at types wanted n i (suc k) (kind ∷ kinds) e =
     at true here later = ap (λ b. b || list_any (nat_eq n) (fitting_from types wanted (suc i) kinds)) here ∙ later
     at false here later = later
 
-fitting_is : (lifted : Lifted) (wanted object : ℕ) → list_any (nat_eq object) (fitting lifted wanted) ≡ is_fitting lifted wanted object
+pub fitting_is : (lifted : Lifted) (wanted object : ℕ) → list_any (nat_eq object) (fitting lifted wanted) ≡ is_fitting lifted wanted object
 fitting_is lifted wanted object = fits_at lifted.types wanted object 0 object lifted.objects (omega arith)
 
 -- ---- the choices
 
-no_choice_is_empty : (rest : List (List ℕ)) (first : List ℕ) → list_any (bytes_eq []) (flat_map (λ x. map (λ xs. x ∷ xs) rest) first) ≡ false
+pub no_choice_is_empty : (rest : List (List ℕ)) (first : List ℕ) → list_any (bytes_eq []) (flat_map (λ x. map (λ xs. x ∷ xs) rest) first) ≡ false
 no_choice_is_empty rest [] = refl
 no_choice_is_empty rest (x ∷ first) =
     list_any-append (bytes_eq []) (map (λ xs. x ∷ xs) rest) (flat_map (λ y. map (λ xs. y ∷ xs) rest) first)
@@ -101,7 +101,7 @@ gather true false true = refl
 gather true false false = refl
 gather false b c = refl
 
-some_first : (y : ℕ) (ys : List ℕ) (rest : List (List ℕ)) (first : List ℕ)
+pub some_first : (y : ℕ) (ys : List ℕ) (rest : List (List ℕ)) (first : List ℕ)
     → list_any (bytes_eq (y ∷ ys)) (flat_map (λ x. map (λ xs. x ∷ xs) rest) first) ≡ (list_any (nat_eq y) first && list_any (bytes_eq ys) rest)
 some_first y ys rest [] = refl
 some_first y ys rest (x ∷ first) =

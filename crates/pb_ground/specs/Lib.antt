@@ -7,5 +7,6 @@ pub mod Errors
 pub mod Members
 pub mod Pruning
 pub mod Search
-pub mod Supports
+pub mod Known
+pub mod Index
 pub mod Count

@@ -5,8 +5,9 @@ ghost use Rattle.pb_ground.specs.Search.{TellsFull};
 
 use crate::atoms::Atoms;
 use crate::error::GroundError;
+use crate::instances::instances;
 use crate::numbers::numbers_of;
-use crate::search::{Search, copy_of, instances};
+use crate::search::{Search, copy_of};
 use crate::statics::Statics;
 use pb_lifted::{Lifted, Schema};
 use pb_pddl::Listed;
@@ -90,9 +91,10 @@ fn add_actions(
         statics,
         lifted,
         atoms: schema.pre.as_slice(),
+        kinds: schema.params.as_slice(),
         limit: LIMIT - actions.as_slice().len(),
     };
-    let rows = instances(alloc, &search, schema.params.as_slice())?;
+    let rows = instances(alloc, &search)?;
     add_rows(alloc, atoms, i, schema, rows.as_slice(), actions)?;
     Ok(())
 }

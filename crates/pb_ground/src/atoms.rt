@@ -1,16 +1,17 @@
 ghost use Rattle.std.specs.Prelude.{◌≡◌, ◌≤◌, ◌++◌, map, length, IfOk, OnOk, IfErr};
 ghost use Rattle.pb_ground.specs.Atoms.{ground_atoms, atoms_of, number_in, same_atom, atom_of};
 ghost use Rattle.pb_ground.specs.Errors.{TellsAtoms};
-ghost use Rattle.pb_ground.specs.Pruning.{AreStatics};
-ghost use Rattle.pb_ground.specs.Search.{TellsFull};
+ghost use Rattle.pb_ground.specs.Pruning.{AreFluent};
 
 use crate::count::count_atoms;
 use crate::error::GroundError;
-use crate::search::{Search, copy_of, instances};
-use crate::statics::Statics;
+use crate::fitting::candidates;
+use crate::search::{choices_of, copy_of};
+use crate::statics::fluent_of;
 use pb_lifted::Lifted;
 use pb_pddl::Listed;
 use std::alloc::{AllocError, Global};
+use std::collections::BTreeSet;
 use std::marker::Model;
 
 /// A predicate of objects, by numbers: a fact that a step can change.
@@ -85,31 +86,24 @@ fn add_rows(
     Ok(())
 }
 
-/// Adds the ground atoms of a predicate whose parameters are of these types. None is added where there are more than may be.
+/// Adds the ground atoms of a predicate whose parameters are of these types. It fails where memory runs out.
 fn add_atoms(
     alloc: Global,
-    statics: &Statics,
+    fluent: &BTreeSet<usize>,
     lifted: &Lifted,
     predicate: usize,
     kinds: &[usize],
     atoms: &mut Listed<GroundAtom>,
-) -> Result<(), GroundError>
-    requires { AreStatics statics.now lifted.now }
-    ensures added { OnOk result (atoms.new ≡ atoms.old ++ atoms_of lifted.now predicate kinds.now) }
-    ensures full { IfErr result (TellsFull 256 (atoms_of lifted.now predicate kinds.now)) }
+) -> Result<(), AllocError>
+    requires { AreFluent fluent.now lifted.now }
+    ensures { OnOk result (atoms.new ≡ atoms.old ++ atoms_of lifted.now predicate kinds.now) }
 {
-    if !statics.fluent.contains(&predicate) {
+    if !fluent.contains(&predicate) {
         return Ok(());
     }
-    let search = Search {
-        statics,
-        lifted,
-        atoms: &[],
-        limit: LIMIT,
-    };
-    let rows = instances(alloc, &search, kinds)?;
-    add_rows(alloc, predicate, rows.as_slice(), atoms)?;
-    Ok(())
+    let lists = candidates(alloc, lifted, kinds)?;
+    let rows = choices_of(alloc, lists.as_slice())?;
+    add_rows(alloc, predicate, rows.as_slice(), atoms)
 }
 
 /// The ground atoms of a lifted task: all instances of its fluent predicates by objects of fitting types, predicates in order of
@@ -120,15 +114,15 @@ pub fn ground_atoms(alloc: Global, lifted: &Lifted) -> Result<Atoms, GroundError
     ensures atoms { IfOk result (λ atoms. atoms ≡ ground_atoms lifted.now) }
     ensures refused { IfErr result (TellsAtoms lifted.now) }
 {
-    let statics = Statics::of(alloc, lifted)?;
-    let n = count_atoms(&statics, lifted);
+    let fluent = fluent_of(alloc, lifted.actions.as_slice())?;
+    let n = count_atoms(&fluent, lifted);
     if n > LIMIT as u64 {
         return Err(GroundError::TooManyAtoms { n });
     }
     let mut items = Listed::new(alloc);
     for (predicate, kinds) in lifted.predicates.as_slice().iter().enumerate() {
         let kinds = kinds.as_slice();
-        add_atoms(alloc, &statics, lifted, predicate, kinds, &mut items)?;
+        add_atoms(alloc, &fluent, lifted, predicate, kinds, &mut items)?;
     }
     Ok(Atoms { items })
 }

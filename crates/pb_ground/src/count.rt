@@ -2,11 +2,11 @@ ghost use Rattle.std.specs.Prelude.{◌≡◌, length};
 ghost use Rattle.pb_ground.specs.Atoms.{ground_atoms};
 ghost use Rattle.pb_ground.specs.Errors.{told};
 ghost use Rattle.pb_ground.specs.Instances.{fitting, instances};
-ghost use Rattle.pb_ground.specs.Pruning.{AreStatics};
+ghost use Rattle.pb_ground.specs.Pruning.{AreFluent};
 
 use crate::fitting::is_below;
-use crate::statics::Statics;
 use pb_lifted::Lifted;
+use std::collections::BTreeSet;
 
 /// The greatest number of atoms that is told.
 const MOST: u64 = 4_294_967_295;
@@ -39,13 +39,13 @@ fn count_instances(lifted: &Lifted, kinds: &[usize]) -> u64
 }
 
 /// How many ground atoms there are, or the greatest number that is told. None of them is built.
-pub(crate) fn count_atoms(statics: &Statics, lifted: &Lifted) -> u64
-    requires { AreStatics statics.now lifted.now }
+pub(crate) fn count_atoms(fluent: &BTreeSet<usize>, lifted: &Lifted) -> u64
+    requires { AreFluent fluent.now lifted.now }
     ensures { result ≡ told (length (ground_atoms lifted.now)) }
 {
     let mut count: u64 = 0;
     for (predicate, kinds) in lifted.predicates.as_slice().iter().enumerate() {
-        if statics.fluent.contains(&predicate) {
+        if fluent.contains(&predicate) {
             count = (count + count_instances(lifted, kinds.as_slice())).min(MOST);
         }
     }

@@ -1,6 +1,7 @@
 ghost use Rattle.std.specs.Prelude.{◌≡◌, IfOk, length, slice_index};
 ghost use Rattle.pb_lifted.specs.Tree.{comes_to};
 ghost use Rattle.pb_ground.specs.Instances.{fitting, candidates};
+ghost use Rattle.pb_ground.specs.Members.{is_fitting};
 
 use pb_lifted::Lifted;
 use pb_pddl::Listed;
@@ -29,6 +30,14 @@ pub(crate) fn is_below(types: &[usize], from: usize, wanted: usize) -> bool
         now = next;
     }
     now == wanted
+}
+
+/// Whether an object fits a parameter of this type.
+pub(crate) fn is_fitting(lifted: &Lifted, wanted: usize, object: usize) -> bool
+    ensures { result ≡ is_fitting lifted.now wanted object }
+{
+    let objects = lifted.objects.as_slice();
+    object < objects.len() && is_below(lifted.types.as_slice(), objects[object], wanted)
 }
 
 /// The numbers of the objects that fit a parameter of this type. It fails where memory runs out.

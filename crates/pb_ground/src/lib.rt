@@ -6,11 +6,15 @@ mod atoms;
 mod count;
 mod error;
 mod fitting;
+mod index;
+mod instances;
+mod join;
+mod known;
 mod laws;
 mod numbers;
+mod plan;
 mod search;
 mod statics;
-mod supports;
 
 pub use actions::{ActionInstance, ground_actions};
 pub use atoms::{Atoms, GroundAtom, ground_atoms};

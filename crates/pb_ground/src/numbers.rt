@@ -1,14 +1,17 @@
-ghost use Rattle.std.specs.Prelude.{◌≡◌, [], nat_eq, map, IfOk, OnOk};
+ghost use Rattle.std.specs.Prelude.{◌≡◌, [], ℕ, List, true, nat_eq, map, IfOk, OnOk};
 ghost use Rattle.std.specs.List.{list_any};
 ghost use Rattle.pb_lifted.specs.Facts.{value_of};
 ghost use Rattle.pb_ground.specs.Actions.{with_number, numbers_of, is_never};
 ghost use Rattle.pb_ground.specs.Atoms.{grounded, number_in};
+ghost use Rattle.pb_ground.specs.Pruning.{AreFluent};
+ghost use Rattle.pb_ground.specs.Statics.{statics_hold};
 
 use crate::atoms::Atoms;
-use crate::statics::{Statics, may_hold, value_of};
+use crate::statics::{Statics, fluent_of, statics_hold, value_of};
 use pb_lifted::{Argument, Lifted, LiftedAtom};
 use pb_pddl::Listed;
 use std::alloc::{AllocError, Global};
+use std::collections::BTreeSet;
 
 /// The objects that arguments stand for, where these are given to the parameters.
 fn values_of(
@@ -92,11 +95,28 @@ pub fn goal(alloc: Global, lifted: &Lifted, atoms: &Atoms) -> Result<Listed<usiz
     numbers_of(alloc, atoms, &[], lifted.goal.as_slice())
 }
 
+/// Whether the predicates of some atoms are all fluent.
+fn all_fluent(fluent: &BTreeSet<usize>, lifted: &Lifted, atoms: &[LiftedAtom]) -> bool
+    requires { AreFluent fluent.now lifted.now }
+    ensures { result ≡ true → (given : List ℕ) → statics_hold lifted.now atoms.now given ≡ true }
+{
+    for atom in atoms {
+        if !fluent.contains(&atom.predicate) {
+            return false;
+        }
+    }
+    true
+}
+
 /// Whether no state is a goal state, since a static atom of the goal does not hold at first. It fails where memory runs out.
 pub fn is_never(alloc: Global, lifted: &Lifted) -> Result<bool, AllocError>
     ensures { IfOk result (λ never. never ≡ is_never lifted.now) }
 {
+    let fluent = fluent_of(alloc, lifted.actions.as_slice())?;
+    if all_fluent(&fluent, lifted, lifted.goal.as_slice()) {
+        return Ok(false);
+    }
     let statics = Statics::of(alloc, lifted)?;
-    let holds = may_hold(&statics, lifted, true, lifted.goal.as_slice(), &[])?;
+    let holds = statics_hold(&statics, lifted, lifted.goal.as_slice(), &[])?;
     Ok(!holds)
 }

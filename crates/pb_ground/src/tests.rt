@@ -300,3 +300,69 @@ fn without_support_nothing_is_sought(rt: HostRuntime) -> Result<(), Fail> {
     assert_eq!(rt; actions.as_slice().len(), 0);
     Ok(())
 }
+
+// ---- static preconditions that two parameters share
+
+// n objects, a schema of six parameters with these preconditions that adds an atom without objects, and two static predicates: 0 holds of
+// each object and the next, and 1 of each and the one after that, each number below n. Predicate 1 also holds of 3 and 4 where it is to.
+fn contradiction(alloc: Global, n: usize, pre: &str, meets: bool) -> Result<Lifted, Fail> {
+    let init = if meets { "1 3 4" } else { "" };
+    let mut task = lifted(alloc, "0", "", "0 0,0 0,", init, "2")?;
+    for i in 0..n {
+        task.objects.push(0)?;
+        for step in 0..2usize {
+            if n - i > step + 1 {
+                let mut arguments = Listed::new(alloc);
+                arguments.push(Argument::Object(i))?;
+                arguments.push(Argument::Object(i + step + 1))?;
+                task.init.push(LiftedAtom {
+                    predicate: step,
+                    arguments,
+                })?;
+            }
+        }
+    }
+    act(alloc, &mut task, "0 0 0 0 0 0", pre, "2", "")?;
+    Ok(task)
+}
+
+// Both predicates hold of objects at each place, and of no two objects together. A search from the left would try 50 objects at five places.
+#[test]
+fn joint_contradictions_are_found(rt: HostRuntime) -> Result<(), Fail> {
+    let alloc = rt.alloc();
+    for pre in ["0 ?0 ?5, 1 ?0 ?5", "0 ?4 ?5, 1 ?4 ?5"] {
+        let task = contradiction(alloc, 50, pre, false)?;
+        let atoms = ground_atoms(alloc, &task)?;
+        let actions = ground_actions(alloc, &task, &atoms)?;
+        assert_eq!(rt; actions.as_slice().len(), 0);
+    }
+    Ok(())
+}
+
+// Two parameters can only be 3 and 4, so the other four multiply: 7 objects make 2,401 actions, and 50 too many. The order is the text's,
+// whichever parameters got their objects first.
+#[test]
+fn what_is_left_multiplies_in_order(rt: HostRuntime) -> Result<(), Fail> {
+    let alloc = rt.alloc();
+    for (pre, second, last) in [
+        ("0 ?0 ?5, 1 ?0 ?5", "3 0 0 0 1 4", "3 6 6 6 6 4"),
+        ("0 ?4 ?5, 1 ?4 ?5", "0 0 0 1 3 4", "6 6 6 6 3 4"),
+        ("0 ?5 ?1, 1 ?5 ?1", "0 4 0 0 1 3", "6 4 6 6 6 3"),
+    ] {
+        let task = contradiction(alloc, 7, pre, true)?;
+        let atoms = ground_atoms(alloc, &task)?;
+        let actions = ground_actions(alloc, &task, &atoms)?;
+        assert_eq!(rt; actions.as_slice().len(), 2_401);
+        for (i, objects) in [(1, second), (2_400, last)] {
+            let action = actions.as_slice().get(i).ok_or("few actions")?;
+            assert_eq!(rt; action.objects.as_slice(), list(alloc, objects)?.as_slice());
+        }
+        let large = contradiction(alloc, 50, pre, true)?;
+        let answer = ground_actions(alloc, &large, &ground_atoms(alloc, &large)?);
+        assert_eq!(rt;
+            answer.map(|all| all.as_slice().len()),
+            Err(GroundError::TooManyActions)
+        );
+    }
+    Ok(())
+}

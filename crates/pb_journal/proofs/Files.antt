@@ -1,12 +1,15 @@
 -- Calls on a shelf, one after another, and what a file then holds of a text.
+use Rattle.std.specs.Prelude.{codes}
 use Rattle.std.proofs.Common.{◌≡◌, ℕ, zero, suc, Result, Ok, Err, OnOk, OnErr, ◌+◌, ◌<◌, ◌≤◌, Option, None, Some, List, [], ◌∷◌, ◌++◌, length, take, drop, map, get_or, refl, sym, subst, ap, arith, ◌∙◌, append_assoc, append-nil}
-use Rattle.std.proofs.lemmas.List.{map-append, length-append, take-append-le, take-append-drop}
+use Rattle.std.proofs.lemmas.List.{map-append, length-append, take-append-drop}
 use Rattle.std.proofs.Math.Seq.{take-suc}
 use Rattle.pb_model.specs.Texts.{line, lines}
-use Rattle.pb_outside.specs.Outside.{Files, IfTold, KeepsOthers, AppendsTo, AppendsPartTo}
+use Rattle.pb_outside.specs.Outside.{Files, IfTold, KeepsOthers}
+use Rattle.pb_outside.specs.Calls.{Call, HasBytes}
+use Rattle.pb_outside.specs.Saves.{HoldsPart, SavesPart}
+use Rattle.pb_outside.proofs.Saves.{part_of_more, failed_more}
 use Rattle.pb_machine.specs.declared.event.Event.{Event}
-use Rattle.pb_journal.specs.Saved.{HoldsPart, IsWritten}
-use Rattle.pb_journal.specs.Texts.{event_line, header_text, events_text, journal_text}
+use Rattle.pb_journal.specs.Texts.{event_line, header_lines, header_text, events_text, journal_text}
 use Rattle.pb_machine.specs.declared.settings.Settings.{Settings}
 
 -- ---- what holds on success or failure
@@ -50,64 +53,7 @@ pub others_then : (x y z : Files) (name : List ℕ) → KeepsOthers x y name →
     → KeepsOthers x z name
 others_then x y z name one two other ne = two other ne ∙ one other ne
 
--- ---- a piece that is appended
-
-pub appended : (old new : Files) (name piece text : List ℕ) → AppendsTo old new name piece
-    → IsWritten old name piece text → IsWritten new name [] text
-appended old new name piece text appends written =
-    let there : ◌≡◌ {A = Option (List ℕ)} (Some written.0) (Some appends.0) =
-    sym written.1 ∙ appends.1 in
-    let same : written.0 ≡ appends.0 = cc in (
-      appends.0 ++ piece,
-      appends.2,
-      append-nil (appends.0 ++ piece)
-          ∙ subst (λ bytes. bytes ++ piece ≡ text) same written.2,
-    )
-
-pub part_appended : (old new : Files) (name piece text : List ℕ) → AppendsPartTo old new name piece
-    → IsWritten old name piece text → HoldsPart new name text
-part_appended old new name piece text appends written =
-    let part = appends.there written.0 written.1 in (
-      length written.0 + part.0,
-      small (length written.0) part.0 (length piece) (length text) part.1
-          (sym (length-append written.0 piece) ∙ ap length written.2),
-      part.2 ∙ ap Some
-          (joined written.0 piece part.0 part.1 ∙ ap (take (length written.0 + part.0)) written.2),
-    )
-  where
-    small : (n k m all : ℕ) → k ≤ m → n + m ≡ all → n + k ≤ all
-    small n k m all le e = omega (arith, le, e)
-
-    joined : (xs ys : List ℕ) (k : ℕ) → k ≤ length ys → xs ++ take k ys
-        ≡ take (length xs + k) (xs ++ ys)
-    joined [] ys k le = let same : 0 + k ≡ k = omega arith in sym (ap (λ n. take n ys) same)
-    joined (x ∷ xs) ys k le = let more : suc (length xs) + k ≡ suc (length xs + k) =
-        omega arith in
-        ap (λ t. x ∷ t) (joined xs ys k le) ∙ sym (ap (λ n. take n (x ∷ (xs ++ ys))) more)
-
--- ---- line after line
-
-pub line_written : (files : Files) (name piece new text added : List ℕ) → new ≡ piece ++ line added
-    → IsWritten files name piece text → IsWritten files name new (text ++ line added)
-line_written files name piece new text added put written = (
-  written.0,
-  written.1,
-  ap (λ t. written.0 ++ t) put
-      ∙ sym (append_assoc written.0 piece (line added)) ∙ ap (λ t. t ++ line added) written.2,
-)
-
-pub part_of_more : (files : Files) (name text more : List ℕ) → HoldsPart files name text
-    → HoldsPart files name (text ++ more)
-part_of_more files name text more part = (
-  part.0,
-  subst (λ n. part.0 ≤ n) (sym (length-append text more)) (omega (arith, part.1)),
-  part.2 ∙ ap Some (sym (take-append-le part.0 text more part.1)),
-)
-
-pub all_written : (files : Files) (name : List ℕ) (text whole : List ℕ) → text ≡ whole
-    → IsWritten files name [] text → files name ≡ Some whole
-all_written files name text whole is written =
-    written.1 ∙ ap Some (sym (append-nil written.0) ∙ written.2 ∙ is)
+-- ---- event after event
 
 -- the text as far as these many events
 abbrev pub text_before : Settings → List Event → (at : ℕ) → List ℕ
@@ -149,27 +95,62 @@ whole_text settings journal at le =
     whole (x ∷ xs) zero le = absurd (omega (arith, le))
     whole (x ∷ xs) (suc at) le = ap (λ t. x ∷ t) (whole xs at (omega (arith, le)))
 
+lines-append : (texts others : List (List ℕ)) → lines (texts ++ others) ≡ lines texts
+    ++ lines others
+lines-append [] others = refl
+lines-append (text ∷ texts) others =
+    ap (λ t. line text ++ t) (lines-append texts others)
+    ∙ sym (append_assoc (line text) (lines texts) (lines others))
+
+text_and_rest : (settings : Settings) (journal : List Event) (at : ℕ)
+    → text_before settings journal at ++ events_text (drop at journal)
+    ≡ journal_text settings journal
+text_and_rest settings journal at =
+    append_assoc (header_text settings) (events_text (take at journal))
+    (events_text (drop at journal))
+    ∙ ap (λ t. header_text settings ++ t)
+    (sym (lines-append (map event_line (take at journal)) (map event_line (drop at journal)))
+    ∙ ap lines (sym (map-append event_line (take at journal) (drop at journal)))
+    ∙ ap events_text (take-append-drop at journal))
+
 pub part_of_text : (files : Files) (name : List ℕ) (settings : Settings) (journal : List Event)
     (at : ℕ) → HoldsPart files name (text_before settings journal at)
     → HoldsPart files name (journal_text settings journal)
 part_of_text files name settings journal at part =
-    subst (HoldsPart files name) whole
+    subst (HoldsPart files name) (text_and_rest settings journal at)
     (part_of_more files name (text_before settings journal at) (events_text (drop at journal)) part)
-  where
-    lines-append : (texts others : List (List ℕ)) → lines (texts ++ others) ≡ lines texts
-        ++ lines others
-    lines-append [] others = refl
-    lines-append (text ∷ texts) others =
-        ap (λ t. line text ++ t) (lines-append texts others)
-        ∙ sym (append_assoc (line text) (lines texts) (lines others))
 
-    whole : text_before settings journal at ++ events_text (drop at journal)
-        ≡ journal_text settings journal
-    whole =
-        append_assoc (header_text settings) (events_text (take at journal))
-        (events_text (drop at journal))
-        ∙ ap (λ t. header_text settings ++ t)
-        (sym (lines-append (map event_line (take at journal))
-        (map event_line (drop at journal)))
-        ∙ ap lines (sym (map-append event_line (take at journal) (drop at journal)))
-        ∙ ap events_text (take-append-drop at journal))
+pub failed_of_text : (start now : List Call) (name : List ℕ) (settings : Settings)
+    (journal : List Event) (at : ℕ) → SavesPart start now name (text_before settings journal at)
+    → SavesPart start now name (journal_text settings journal)
+failed_of_text start now name settings journal at failed =
+    subst (SavesPart start now name) (text_and_rest settings journal at)
+    (failed_more start now name (text_before settings journal at) (events_text (drop at journal))
+    failed)
+
+pub text_within : (settings : Settings) (journal : List Event) (at : ℕ)
+    → length (text_before settings journal at) ≤ length (journal_text settings journal)
+text_within settings journal at =
+    let all = sym (length-append (text_before settings journal at) (events_text (drop at journal)))
+    ∙ ap length (text_and_rest settings journal at) in
+    omega (arith, all)
+
+-- ---- pieces have bytes
+
+pub line_full : (old new added : List ℕ) → new ≡ old ++ line added → HasBytes new
+line_full old new added put =
+    let all = ap length put ∙ length-append old (line added) in
+    let last = length-append added (10 ∷ []) in
+    omega (arith, all, last)
+
+pub header_full : (settings : Settings) (piece : List ℕ) → piece ≡ header_text settings
+    → HasBytes piece
+header_full settings piece is =
+    let all = ap length is
+    ∙ length-append (line (codes "pbnf-journal 1")) (lines (others (header_lines settings))) in
+    let first = length-append (codes "pbnf-journal 1") (10 ∷ []) in
+    omega (arith, all, first)
+  where
+    others : List (List ℕ) → List (List ℕ)
+    others [] = []
+    others (text ∷ texts) = texts

@@ -18,3 +18,4 @@ pub mod Finished
 pub mod Answered
 pub mod Faulty
 pub mod Cuts
+pub mod Searched

@@ -7,3 +7,4 @@ pub mod Judging
 pub mod Replaying
 pub mod Saved
 pub mod Shown
+pub mod Searched

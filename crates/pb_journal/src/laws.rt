@@ -1,5 +1,6 @@
 //! What the text of a journal means. Each law is the contract of a function without a body.
 ghost use Rattle.pb_journal.specs.Shown.{AcceptedJournalsAreFinished, CutJournalsAreRefused, RefusedLinesAreFirst, WrittenJournalsAreAccepted};
+ghost use Rattle.pb_journal.specs.Searched.{PlainJournalsHaveNoHot, PlainTextsHaveNoHot, RunsAreAccepted, SearchesAreAccepted};
 
 /// A journal is accepted, with its number of events, exactly if it is the text of a finished legal
 /// history.
@@ -24,4 +25,26 @@ pub fn refused_lines_are_first()
 /// journal but the whole. The reason is that the line is misspelled, or that the text is short.
 pub fn cut_journals_are_refused()
     ensures { CutJournalsAreRefused }
+{}
+
+/// What is written of a finished search with settings in range is accepted, over the blocks that it
+/// leased, with its number of events.
+pub fn runs_are_accepted()
+    ensures { RunsAreAccepted }
+{}
+
+/// What is written of a finished search of a task is accepted by whoever makes the graph of the same
+/// task by the number of blocks that the header wishes for.
+pub fn searches_are_accepted()
+    ensures { SearchesAreAccepted }
+{}
+
+/// An accepted journal whose header says that the search was plain has no hot mark.
+pub fn plain_journals_have_no_hot()
+    ensures { PlainJournalsHaveNoHot }
+{}
+
+/// So no line of such a text is a hot mark: one that has it is refused.
+pub fn plain_texts_have_no_hot()
+    ensures { PlainTextsHaveNoHot }
 {}

@@ -1,7 +1,9 @@
-ghost use Rattle.std.specs.Prelude.{◌≡◌, ◌+◌, ◌≤◌, ◌++◌, ℕ, List, [], Some, OnOk, OnErr, length};
-ghost use Rattle.pb_outside.specs.Outside.{IfTold, KeepsOthers, HasCause};
+ghost use Rattle.std.specs.Prelude.{◌≡◌, ◌+◌, ◌≤◌, [], Some, IsSome, IsOk, OnOk, OnErr, length};
+ghost use Rattle.pb_outside.specs.Outside.{IfTold, KeepsOthers, KeepsHolds, HasCause};
+ghost use Rattle.pb_outside.specs.Calls.{HasBytes, KeepsLoads};
+ghost use Rattle.pb_outside.specs.Saves.{IsPartSaved, Saves, SavesPart, KeepsBegun, BreaksSave, IfHasRoom};
 ghost use Rattle.pb_journal.specs.Texts.{event_line, journal_text};
-ghost use Rattle.pb_journal.specs.Saved.{IsPartSaved, KeepsText, LeavesPart, AddsLine};
+ghost use Rattle.pb_journal.specs.Saved.{KeepsText, LeavesPart, AddsLine, AddsToSave};
 
 use crate::lines::{LONGEST, put_event, put_header};
 use pb_machine::{Event, Settings};
@@ -10,6 +12,7 @@ use pb_print::Piece;
 
 // Appends what the piece holds to the file, and empties the piece.
 fn append_piece<H: Shelf>(shelf: &mut H, name: &str, piece: &mut Piece) -> Result<(), Failed>
+    requires full { HasBytes piece.old }
     ensures empty { OnOk result (piece.new ≡ []) }
     ensures ok { OnOk result
         (IfTold (H.files shelf.old) (H.files shelf.new)
@@ -19,6 +22,14 @@ fn append_piece<H: Shelf>(shelf: &mut H, name: &str, piece: &mut Piece) -> Resul
         (λ old new. LeavesPart old new name.now piece.old)) }
     ensures others { IfTold (H.files shelf.old) (H.files shelf.new)
         (λ old new. KeepsOthers old new name.now) }
+    ensures begun { OnOk result
+        (KeepsBegun (H.calls shelf.old) (H.calls shelf.new) name.now piece.old []) }
+    ensures failed { OnErr result
+        (BreaksSave (H.calls shelf.old) (H.calls shelf.new) name.now piece.old) }
+    ensures sure { IfHasRoom (H.files shelf.old) name.now piece.old (H.can_hold shelf.old name.now)
+        (IsOk result) }
+    ensures holds { KeepsHolds (H.can_hold shelf.old) (H.can_hold shelf.new) }
+    ensures loads { KeepsLoads (H.can_load shelf.old) (H.can_load shelf.new) }
     ensures cause { HasCause (H.faults shelf.old) (H.faults shelf.new) result }
 {
     shelf.append(name, piece.as_slice())?;
@@ -37,6 +48,14 @@ fn make_room<H: Shelf>(shelf: &mut H, name: &str, piece: &mut Piece) -> Result<(
         (λ old new. LeavesPart old new name.now piece.old)) }
     ensures others { IfTold (H.files shelf.old) (H.files shelf.new)
         (λ old new. KeepsOthers old new name.now) }
+    ensures begun { OnOk result
+        (KeepsBegun (H.calls shelf.old) (H.calls shelf.new) name.now piece.old piece.new) }
+    ensures failed { OnErr result
+        (BreaksSave (H.calls shelf.old) (H.calls shelf.new) name.now piece.old) }
+    ensures sure { IfHasRoom (H.files shelf.old) name.now piece.old (H.can_hold shelf.old name.now)
+        (IsOk result) }
+    ensures holds { KeepsHolds (H.can_hold shelf.old) (H.can_hold shelf.new) }
+    ensures loads { KeepsLoads (H.can_load shelf.old) (H.can_load shelf.new) }
     ensures cause { HasCause (H.faults shelf.old) (H.faults shelf.new) result }
 {
     if piece.len() + LONGEST <= Piece::SIZE {
@@ -52,6 +71,7 @@ fn add_event<H: Shelf>(
     piece: &mut Piece,
     event: &Event,
 ) -> Result<(), Failed>
+    ensures full { OnOk result (HasBytes piece.new) }
     ensures ok { OnOk result
         (IfTold (H.files shelf.old) (H.files shelf.new)
         (λ old new. AddsLine old new name.now piece.old piece.new (event_line event.now))) }
@@ -60,6 +80,15 @@ fn add_event<H: Shelf>(
         (λ old new. LeavesPart old new name.now piece.old)) }
     ensures others { IfTold (H.files shelf.old) (H.files shelf.new)
         (λ old new. KeepsOthers old new name.now) }
+    ensures begun { OnOk result
+        (AddsToSave (H.calls shelf.old) (H.calls shelf.new) name.now piece.old piece.new
+        (event_line event.now)) }
+    ensures failed { OnErr result
+        (BreaksSave (H.calls shelf.old) (H.calls shelf.new) name.now piece.old) }
+    ensures sure { IfHasRoom (H.files shelf.old) name.now piece.old (H.can_hold shelf.old name.now)
+        (IsOk result) }
+    ensures holds { KeepsHolds (H.can_hold shelf.old) (H.can_hold shelf.new) }
+    ensures loads { KeepsLoads (H.can_load shelf.old) (H.can_load shelf.new) }
     ensures cause { HasCause (H.faults shelf.old) (H.faults shelf.new) result }
 {
     make_room(shelf, name, piece)?;
@@ -84,6 +113,17 @@ pub fn write_journal<H: Shelf>(
         (λ old new. IsPartSaved old new name.now (journal_text settings.now journal.now))) }
     ensures others { IfTold (H.files shelf.old) (H.files shelf.new)
         (λ old new. KeepsOthers old new name.now) }
+    ensures calls { OnOk result
+        (Saves (H.calls shelf.old) (H.calls shelf.new) name.now
+        (journal_text settings.now journal.now)) }
+    ensures failed { OnErr result
+        (SavesPart (H.calls shelf.old) (H.calls shelf.new) name.now
+        (journal_text settings.now journal.now)) }
+    ensures sure { IsSome (H.files shelf.old)
+        → H.can_hold shelf.old name.now (length (journal_text settings.now journal.now))
+        → IsOk result }
+    ensures holds { KeepsHolds (H.can_hold shelf.old) (H.can_hold shelf.new) }
+    ensures loads { KeepsLoads (H.can_load shelf.old) (H.can_load shelf.new) }
     ensures cause { HasCause (H.faults shelf.old) (H.faults shelf.new) result }
 {
     shelf.create(name)?;

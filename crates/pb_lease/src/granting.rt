@@ -14,7 +14,6 @@ ghost use Rattle.pb_lease.specs.Steps.{IsLeased, LeasesNext, IsEnded, KeepsLease
 use crate::answer::LeaseReply;
 use crate::graph::LeaseGraph;
 use crate::lease::Lease;
-use pb_bundles::BundleRoom;
 use pb_machine::End;
 use std::alloc::AllocError;
 
@@ -73,7 +72,8 @@ impl LeaseGraph {
         ensures moment { IfOk result (λ lease. LeasesNext self.old lease self.new) }
         ensures err { OnErr result (self.new ≡ self.old) }
     {
-        let room = BundleRoom::new(self.alloc, self.tables.graph().scope(block).len())?;
+        let bundles = self.tables.graph().scope(block).len();
+        let room = self.rooms.take(self.alloc, bundles)?;
         let quota = self.tables.lease(worker, block)?;
         let parts = self.homes.take_out(self.tables.graph().scope(block), room);
         let settings = self.tables.settings();

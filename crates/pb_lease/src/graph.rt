@@ -19,7 +19,7 @@ ghost use Rattle.pb_lease.specs.Moments.{IsMomentAt, IsMoment};
 
 use crate::tables::MachineTables;
 use pb_abstract::AbsGraph;
-use pb_bundles::Homes;
+use pb_bundles::{Homes, KeptRooms};
 use pb_lists::Bundle;
 use pb_machine::{End, Event, Settings};
 use pb_model::Estimate;
@@ -37,6 +37,8 @@ pub struct LeaseGraph {
     pub(crate) tables: MachineTables,
     pub(crate) homes: Homes,
     pub(crate) incumbent: Option<u64>,
+    // emptied rooms of leases that came back, one a worker, for the bundles that leave next
+    pub(crate) rooms: KeptRooms,
     // the allocator of the lists of bundles that leave with leases
     pub(crate) alloc: Global,
 }
@@ -78,6 +80,7 @@ impl LeaseGraph {
     {
         let start = task.initial();
         let block = graph.block(&task, &start);
+        let rooms = KeptRooms::new(alloc, settings.workers as usize)?;
         let mut homes = Homes::new(alloc, graph.count(), settings.num, settings.den)?;
         homes.offer_start(block, start, estimate)?;
         let tables = MachineTables::new(alloc, graph, settings)?;
@@ -86,6 +89,7 @@ impl LeaseGraph {
             tables,
             homes,
             incumbent: None,
+            rooms,
             alloc,
         })
     }

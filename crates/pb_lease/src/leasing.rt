@@ -1,7 +1,9 @@
 //! Leases, their renewals and their returns.
-ghost use Rattle.std.specs.Prelude.{◌≡◌, ◌+◌, ◌-◌, ◌<◌, ◌≤◌, ℕ, min, [], ◌∷◌, IsTrue, IsFalse, IsSome, None, OnOk, OnErr, IfOk};
+ghost use Rattle.std.specs.Prelude.{◌≡◌, ◌==◌, ◌+◌, ◌-◌, ◌<◌, ◌≤◌, ℕ, min, [], ◌∷◌, IsTrue, IsFalse, IsSome, None, OnOk, OnErr, IfOk};
 ghost use Rattle.pb_machine.specs.declared.event.Event.TheVariants.{Lease, Renew, Release};
-ghost use Rattle.pb_machine.specs.Tables.{with_entry};
+ghost use Rattle.pb_machine.specs.Tables.{with_entry, one_if};
+ghost use Rattle.pb_machine.specs.Blocks.{interferes};
+ghost use Rattle.pb_machine.specs.Counters.{busy_count};
 ghost use Rattle.pb_machine.specs.Counts.{is_lease_of, quota_of, is_any_out};
 ghost use Rattle.pb_machine.specs.Choice.{counts_with_lease_home};
 ghost use Rattle.pb_lease.specs.Tables.{blocks, counts_of, rooms};
@@ -56,9 +58,21 @@ impl MachineTables {
         if block == own.block {
             return true;
         }
-        let own_near = count_of(self.graph.interference(own.block), block);
-        let others = self.busy[block as usize] - own_near;
-        (others == 0) & !is_leased(&self.seats, block)
+        self.is_clear_without(own.block, block) && !is_leased(&self.seats, block)
+    }
+
+    // Whether no leased block but the own one, if that, is in the interference of the block. The interference is looked at only where
+    // the counter doesn't tell.
+    fn is_clear_without(&self, own: u32, block: u32) -> bool
+        requires own { own < (blocks self.now).count }
+        requires block { block < (blocks self.now).count }
+        ensures { result ≡ (busy_count (blocks self.now) self.now.settings.workers (counts_of self.now).leases block - one_if (interferes (blocks self.now) own block) == 0) }
+    {
+        let busy = self.busy[block as usize];
+        if busy != 1 {
+            return busy == 0;
+        }
+        count_of(self.graph.interference(own), block) == 1
     }
 
     /// What the worker's lease grants.

@@ -34,7 +34,7 @@ impl LeaseGraph {
             parts,
         } = lease;
         self.tables.release(worker, used, trouble);
-        self.homes.bring_back(parts);
+        self.rooms.keep(self.homes.bring_back(parts));
         self.incumbent = least(self.incumbent, incumbent);
     }
 

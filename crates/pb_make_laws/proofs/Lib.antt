@@ -4,3 +4,11 @@ pub mod Words
 pub mod MapCells
 pub mod SpelledMaps
 pub mod SpelledDomain
+pub mod SpacedTokens
+pub mod BlocksTree
+pub mod BlocksAtoms
+pub mod BlocksProblems
+pub mod BlocksRead
+pub mod BlocksTyped
+pub mod BlocksFew
+pub mod BlocksTasks

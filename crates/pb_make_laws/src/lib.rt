@@ -3,4 +3,6 @@
 
 mod laws;
 
-pub use laws::{blocks_domain_is_read, made_boards_are_spelled, made_maps_are_spelled};
+pub use laws::{
+    blocks_domain_is_read, made_boards_are_spelled, made_maps_are_spelled, made_problems_are_tasks,
+};

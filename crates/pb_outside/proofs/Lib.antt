@@ -1,6 +1,7 @@
 mod Kept
 mod Known
 mod Places
+pub mod Saves
 pub mod Told
 mod Untold
 mod Walks

@@ -1,6 +1,6 @@
 -- The calls on the outside, with what they were given and what they gave. A list of them, in order, is a transcript.
 use Rattle.std.specs.Prelude.{◌≡◌, ◌⊎◌, ℕ, ◌+◌, ◌≤◌, Option, Some, List, [], ◌∷◌, ◌++◌, length, take, map, Result, Ok, Err}
-use Rattle.std.specs.List.{concat}
+use Rattle.std.specs.List.{concat, AllByRecursion}
 use Rattle.pb_outside.specs.declared.shelf.Load.{Load}
 use Rattle.pb_outside.specs.declared.shelf.Load.TheVariants.{Failed, TooLong, Memory}
 use Rattle.pb_outside.specs.Outside.{Files, IfTold}
@@ -56,16 +56,27 @@ append_calls name pieces = map (λ piece. Appended name piece) pieces
 abbrev pub save_calls : (name : List ℕ) → (pieces : List (List ℕ)) → List Call
 save_calls name pieces = Created name ∷ append_calls name pieces
 
--- the calls save pieces that are together this text
-abbrev pub SaveText : (calls : List Call) → (name text : List ℕ) → Type 0
-SaveText calls name text = (pieces : List (List ℕ)) × (calls ≡ save_calls name pieces) × (concat pieces ≡ text)
+-- the piece has at least one byte
+abbrev pub HasBytes : List ℕ → Type 0
+HasBytes piece = 1 ≤ length piece
 
--- The calls began to save the text, up to one that failed: so many bytes of a piece were appended, and all before it.
+-- The calls save pieces that are together this text. Each has a byte, so that there are at most as
+-- many as the text has bytes.
+pub record SaveText (calls : List Call) (name text : List ℕ) : Type 0 where
+  pub pieces : List (List ℕ)
+  pub full : AllByRecursion HasBytes pieces
+  pub are : calls ≡ save_calls name pieces
+  pub text_is : concat pieces ≡ text
+
+-- The calls began to save the text, up to one that failed: so many bytes of a piece were appended,
+-- and all before it. Each piece has a byte.
 pub record BreakOff (calls : List Call) (name text : List ℕ) : Type 0 where
   pub pieces : List (List ℕ)
   pub last : List ℕ
   pub kept : ℕ
   pub rest : List ℕ
+  pub full : AllByRecursion HasBytes pieces
+  pub last_full : HasBytes last
   pub within : kept ≤ length last
   pub are : calls ≡ save_calls name pieces ++ AppendFailed name last kept ∷ []
   pub text_is : concat pieces ++ last ++ rest ≡ text

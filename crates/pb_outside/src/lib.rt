@@ -6,6 +6,7 @@ mod calls;
 mod events;
 mod file_shelf;
 mod gate;
+mod laws;
 mod memory;
 mod memory_shelf;
 mod memory_sink;
@@ -20,6 +21,7 @@ mod transcript;
 
 pub use file_shelf::FileShelf;
 pub use gate::{Gate, OpenGate};
+pub use laws::{memory_serves, saves_are_bounded};
 pub use memory::Memory;
 pub use memory_shelf::MemShelf;
 pub use memory_sink::MemSink;

@@ -131,6 +131,7 @@ impl MemShelf {
         ensures others { OnOk result (KeepsOthers (file_of self.old) (file_of self.new) name.now) }
         ensures rooms { OnOk result (KeepsRooms self.old self.new) }
         ensures calls { self.new.calls ≡ self.old.calls }
+        ensures transcript { self.new.transcript ≡ self.old.transcript }
         ensures err { OnErr result (self.new ≡ self.old) }
     {
         put_file(self.alloc, &mut self.places, name, bytes)
@@ -144,6 +145,7 @@ impl MemShelf {
         ensures others { OnOk result (KeepsOtherRooms self.old self.new name.now) }
         ensures files { OnOk result (KeepsFiles self.old self.new) }
         ensures calls { self.new.calls ≡ self.old.calls }
+        ensures transcript { self.new.transcript ≡ self.old.transcript }
         ensures err { OnErr result (self.new ≡ self.old) }
     {
         let Ok(room) = usize::try_from(room) else {

@@ -24,6 +24,8 @@ use Rattle.pb_lifted.specs.declared.refusal.TypingRefusal.{TypingRefusal}
 use Rattle.pb_lifted.specs.declared.refusal.TypingRefusal.TheVariants.{Named, TooManyObjects}
 use Rattle.pb_strips.specs.declared.error.StripsError.{StripsError}
 use Rattle.pb_strips.specs.declared.error.StripsError.TheVariants as strips
+use Rattle.pb_journal.specs.declared.error.Why.{Why}
+use Rattle.pb_journal.specs.declared.error.Why.TheVariants as why
 use Rattle.pb_check.specs.declared.fault.Verdict.{Verdict}
 use Rattle.pb_check.specs.declared.fault.Verdict.TheVariants.{Bounded, Unsolvable}
 use Rattle.pb_check.specs.declared.fault.CertificateFault.{CertificateFault}
@@ -73,6 +75,32 @@ fault_text (GoalClosed at) = with_number (codes "refused GoalClosed") at
 fault_text (Missing at action) = with_numbers (codes "refused Missing") at action
 fault_text (TooDear at action) = with_numbers (codes "refused TooDear") at action
 fault_text (Low at) = with_number (codes "refused Low") at
+
+-- ---- a judged journal
+
+-- how many events an accepted journal has
+abbrev pub journal_report : (events : ℕ) → List ℕ
+journal_report events = with_number (codes "journal") events
+
+-- why a line is refused, in a word
+abbrev pub why_word : Why → List ℕ
+why_word why.Spelling = codes "Spelling"
+why_word why.Settings = codes "Settings"
+why_word why.Ended = codes "Ended"
+why_word why.Worker = codes "Worker"
+why_word why.Holds = codes "Holds"
+why_word why.Block = codes "Block"
+why_word why.Scope = codes "Scope"
+why_word why.Hot = codes "Hot"
+why_word why.Quota = codes "Quota"
+why_word why.NoEnd = codes "NoEnd"
+why_word why.Trouble = codes "Trouble"
+why_word why.Short = codes "Short"
+
+-- the first line of a journal that is refused, and why
+abbrev pub journal_fault_text : (line_number : ℕ) → Why → List ℕ
+journal_fault_text line_number reason =
+    line (spaced (codes "refused") (spaced (why_word reason) (decimal line_number)))
 
 -- ---- the input: maps and tiles
 

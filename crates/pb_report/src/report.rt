@@ -3,15 +3,16 @@ ghost use Rattle.std.specs.Fmt.{decimal};
 ghost use Rattle.pb_model.specs.Texts.{line, spaced, none_report, stopped_report};
 ghost use Rattle.pb_task.specs.Parts.{space_of};
 ghost use Rattle.pb_lifted.specs.declared.refusal.TypingRefusal.TheVariants.{Named};
-ghost use Rattle.pb_report.specs.Texts.{AreActions, plan_text, verdict_text, fault_text, input_text, tiles_text, file_number, syntax_text, refusal_text, strips_text};
+ghost use Rattle.pb_report.specs.Texts.{AreActions, plan_text, verdict_text, fault_text, input_text, tiles_text, file_number, syntax_text, refusal_text, strips_text, journal_report, journal_fault_text};
 
 use crate::pieces::{
     push_steps, push_with_number, push_with_numbers, push_with_numbers_and_word, push_with_wide,
 };
-use crate::words::{cause_word, file_number, left_out_word, want_word};
+use crate::words::{cause_word, file_number, left_out_word, want_word, why_word};
 use pb_cert::Plan;
 use pb_check::{CertificateFault, Verdict};
 use pb_grid::GridError;
+use pb_journal::Why;
 use pb_lifted::{Cause, File, Place, TypingRefusal};
 use pb_pddl::SyntaxError;
 use pb_print::{push_line, push_text};
@@ -69,13 +70,14 @@ impl Report {
         Report::numbered(alloc, b"stopped budget ", budget)
     }
 
-    /// A plan of the task, whose cost is its bound too, in the unit of the action costs.
-    pub fn plan(alloc: Global, task: &Task, plan: &Plan) -> Result<Report, AllocError>
+    /// A plan of the task with its cost, and the bound, which no plan costs less than. Both are in
+    /// the unit of the action costs.
+    pub fn plan(alloc: Global, task: &Task, plan: &Plan, bound: u64) -> Result<Report, AllocError>
         requires { AreActions (space_of task.now) plan.now.actions }
-        ensures report { IfOk result (λ report. report ≡ plan_text task.now plan.now plan.now.cost) }
+        ensures report { IfOk result (λ report. report ≡ plan_text task.now plan.now bound) }
         ensures fits { plan.now.cost < 2 ^ 64 }
     {
-        Report::of_steps(alloc, task, plan.actions(), plan.cost())
+        Report::of_steps(alloc, task, plan.actions(), plan.cost(), bound)
     }
 
     /// That a certificate is accepted, and what it shows.
@@ -130,6 +132,24 @@ impl Report {
             }
             CertificateFault::Low { line } => Report::numbered(alloc, b"refused Low ", line),
         }
+    }
+
+    /// That a journal is accepted, and how many events it has.
+    pub fn journal(alloc: Global, events: u64) -> Result<Report, AllocError>
+        ensures { IfOk result (λ report. report ≡ journal_report events) }
+    {
+        Report::numbered(alloc, b"journal ", events)
+    }
+
+    /// That a journal is refused: why, and the number of the first line that is refused.
+    pub fn journal_fault(alloc: Global, line: u64, why: Why) -> Result<Report, AllocError>
+        ensures { IfOk result (λ report. report ≡ journal_fault_text line why) }
+    {
+        let mut bytes = Vec::new(alloc);
+        push_text(&mut bytes, b"refused ")?;
+        push_text(&mut bytes, why_word(why).as_bytes())?;
+        push_with_number(&mut bytes, b" ", line)?;
+        Ok(Report { bytes })
     }
 
     /// That the texts of a map and a scenario are refused, and why: the error's name, and its numbers in the order of its fields.
@@ -220,20 +240,21 @@ impl Report {
         &self.bytes
     }
 
-    // The actions of a plan, and its cost.
+    // The actions of a plan, its cost and the bound.
     pub(crate) fn of_steps(
         alloc: Global,
         task: &Task,
         actions: &[u32],
         cost: u64,
+        bound: u64,
     ) -> Result<Report, AllocError>
         requires { AreActions (space_of task.now) actions.now }
-        ensures { IfOk result (λ report. report ≡ plan_text task.now (record { actions = actions.now; cost = cost }) cost) }
+        ensures { IfOk result (λ report. report ≡ plan_text task.now (record { actions = actions.now; cost = cost }) bound) }
     {
         let mut bytes = Vec::new(alloc);
         push_with_numbers(&mut bytes, b"plan ", cost, b" ", actions.len() as u64)?;
         push_steps(alloc, &mut bytes, task, actions)?;
-        push_with_number(&mut bytes, b"bound ", cost)?;
+        push_with_number(&mut bytes, b"bound ", bound)?;
         Ok(Report { bytes })
     }
 

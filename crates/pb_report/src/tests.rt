@@ -4,6 +4,7 @@ ghost use Rattle.pb_task.specs.Parts.{space_of};
 use crate::Report;
 use pb_check::{CertificateFault, Verdict};
 use pb_grid::GridError;
+use pb_journal::Why;
 use pb_lifted::{Cause, File, Place, TypingRefusal};
 use pb_packed::Packed;
 use pb_pddl::{LeftOut, SyntaxError, Want};
@@ -286,8 +287,17 @@ fn a_plan_is_printed_by_the_names_of_its_steps(rt: HostRuntime) -> Result<(), Fa
         start: (0, 0),
         goal: (1, 1),
     });
-    let report = Report::of_steps(rt.alloc(), &task, &[3, 1], 2)?;
+    let report = Report::of_steps(rt.alloc(), &task, &[3, 1], 2, 2)?;
     assert!(rt; report.as_slice() == b"plan 2 2\nright\ndown\nbound 2\n".as_slice());
+    Ok(())
+}
+
+#[test]
+fn judged_journals_have_their_words(rt: HostRuntime) -> Result<(), Fail> {
+    let report = Report::journal(rt.alloc(), 16)?;
+    assert!(rt; report.as_slice() == b"journal 16\n".as_slice());
+    let report = Report::journal_fault(rt.alloc(), 8, Why::Quota)?;
+    assert!(rt; report.as_slice() == b"refused Quota 8\n".as_slice());
     Ok(())
 }
 
@@ -324,8 +334,8 @@ fn two_places(alloc: Global) -> Result<Task, AllocError>
 #[test]
 fn a_plan_of_ground_actions_is_printed_by_their_names(rt: HostRuntime) -> Result<(), Fail> {
     let task = two_places(rt.alloc())?;
-    let report = Report::of_steps(rt.alloc(), &task, &[0, 1, 0], 3)?;
-    let text = "plan 3 3\n(move one other)\n(move other one)\n(move one other)\nbound 3\n";
+    let report = Report::of_steps(rt.alloc(), &task, &[0, 1, 0], 3, 2)?;
+    let text = "plan 3 3\n(move one other)\n(move other one)\n(move one other)\nbound 2\n";
     assert!(rt; report.as_slice() == text.as_bytes());
     Ok(())
 }

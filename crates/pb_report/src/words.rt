@@ -1,6 +1,7 @@
 ghost use Rattle.std.specs.Prelude.{◌≡◌};
-ghost use Rattle.pb_report.specs.Texts.{file_number, want_word, left_out_word, cause_word};
+ghost use Rattle.pb_report.specs.Texts.{file_number, want_word, left_out_word, cause_word, why_word};
 
+use pb_journal::Why;
 use pb_lifted::{Cause, File};
 use pb_pddl::{LeftOut, Want};
 
@@ -59,5 +60,25 @@ pub(crate) fn cause_word(cause: Cause) -> &'static str
         Cause::UnknownObject => "UnknownObject",
         Cause::WrongType => "WrongType",
         Cause::TooWide => "TooWide",
+    }
+}
+
+// Why a line of a journal is refused.
+pub(crate) fn why_word(why: Why) -> &'static str
+    ensures { result.now ≡ why_word why }
+{
+    match why {
+        Why::Spelling => "Spelling",
+        Why::Settings => "Settings",
+        Why::Ended => "Ended",
+        Why::Worker => "Worker",
+        Why::Holds => "Holds",
+        Why::Block => "Block",
+        Why::Scope => "Scope",
+        Why::Hot => "Hot",
+        Why::Quota => "Quota",
+        Why::NoEnd => "NoEnd",
+        Why::Trouble => "Trouble",
+        Why::Short => "Short",
     }
 }

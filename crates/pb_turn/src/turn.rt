@@ -7,8 +7,21 @@ use crate::lock::TurnLock;
 use crate::pass::{Held, Pass};
 use crate::rule::{Leaving, TurnRule};
 use crate::table_rule::{TAKEN, TURN};
+use std::hint::spin_loop;
 use std::snapshot::Snapshot;
 use std::sync::Wait;
+
+/// How often a pass tries for the turn before it sleeps. The pauses between double, so they are some 130 spins together: a few
+/// microseconds, as long as a holder has the turn mostly. To sleep and be woken costs more than that, and makes the holder
+/// call the system.
+const TRIES: u32 = 7;
+
+// Spins as often as two to the power of the round.
+fn pause(round: u32) {
+    for _ in 0..1u32 << round.min(TRIES) {
+        spin_loop();
+    }
+}
 
 impl<R: TurnRule> TurnLock<R> {
     /// Tries once to take the turn, and never waits. None comes only where this call's own step found the turn held by
@@ -39,12 +52,31 @@ impl<R: TurnRule> TurnLock<R> {
         ensures misses { misses pass.old ≤ misses pass.new }
     {
         for _ in rt.forever() {
-            if let Some(held) = self.try_enter(pass) {
+            if let Some(held) = self.try_often(pass) {
                 return held;
             }
             self.table.shared.park(rt, TURN, TAKEN as u32);
         }
         unreachable!()
+    }
+
+    // Tries a bounded number of times to take the turn. It doesn't sleep between two tries, but pauses, each time twice as long.
+    fn try_often(&self, pass: &mut Pass<R>) -> Option<Held<R>>
+        requires own { IsPassOf self.now pass.old }
+        requires rests { IsResting pass.old }
+        ensures same { IsSamePass pass.old pass.new × (view pass.new ≡ view pass.old) }
+        ensures won { IfSome result (λ h. HoldsTurn pass.new (found h) × (state h ≡ found h)) }
+        ensures rule { IfSome result (λ h. Stands R.fact (number pass.old) (view pass.old) (found h)) }
+        ensures lost { IfNone result (IsResting pass.new) }
+        ensures misses { misses pass.old ≤ misses pass.new }
+    {
+        for round in 0..TRIES {
+            if let Some(held) = self.try_enter(pass) {
+                return Some(held);
+            }
+            pause(round);
+        }
+        None
     }
 
     /// Puts the state back and leaves the turn. All that the holder did takes effect here, at one step. The caller shows

@@ -21,7 +21,7 @@ use Rattle.pb_lease.proofs.GraphBasics.{setup_is, all_rows}
 use Rattle.pb_workers.specs.Ends.{home_store, IsBestEnd, IsSpentEnd}
 
 module _ (g : GraphValue) (k : IsLeaseGraph g) (home : is_out_in g ≡ false) (recorded : (worker : ℕ) → Rows) (machine : Machine) (m : IsMoment g recorded machine) where
-  store_is : machine.store ≡ home_store g
+  pub store_is : machine.store ≡ home_store g
   store_is = λ i. record {
     rows = λ block state. all_rows g k recorded machine m.at home block state i;
     incumbent = m.incumbent i;

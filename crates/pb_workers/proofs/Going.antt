@@ -7,7 +7,7 @@ use Rattle.pb_machine.specs.declared.event.End.TheVariants.{Memory}
 use Rattle.pb_machine.specs.declared.event.Event.{Event}
 use Rattle.pb_machine.specs.declared.event.Event.TheVariants.{Lease, Renew, Hot, Cold, Release, Off, Ended}
 use Rattle.pb_machine.specs.Counts.{Counts, is_any_out}
-use Rattle.pb_machine.specs.Machine.{Setup, Machine, Move, event_move, tell_move, journal_of}
+use Rattle.pb_machine.specs.Machine.{Setup, Machine, Move, event_move, journal_of}
 use Rattle.pb_machine.specs.Turns.{RunsInOrder}
 use Rattle.pb_machine.proofs.LeaseTurns.{runs_go_on}
 use Rattle.pb_machine.proofs.WholeStore.{all_is_home}
@@ -19,7 +19,7 @@ use Rattle.pb_lease.specs.Moments.{IsMoment, FollowsInOrder, moves_of}
 use Rattle.pb_lease.specs.Events.{ending}
 use Rattle.pb_lease.specs.Steps.{KeepsLeases, end_events}
 use Rattle.pb_lease.proofs.InOrder.{keeps_in_order}
-use Rattle.pb_workers.specs.Runs.{IsSameSearch, GivesWholeIncumbent, RunsAlone, RunsTo, RunsOn}
+use Rattle.pb_workers.specs.Runs.{IsSameSearch, GivesWholeIncumbent, IsTimely, RunsAlone, RunsTo, RunsOn}
 
 -- ---- the same search
 
@@ -38,32 +38,42 @@ module _ (setup : Setup) where
   -- they are in order
   pub alone_is_in_order : (moves : List Move) (old new : Machine) → RunsAlone setup old moves new → RunsInOrder setup old moves new
   alone_is_in_order [] old new runs = runs
-  alone_is_in_order (move ∷ moves) old new runs = (runs.0, runs.1, runs.2, alone_is_in_order moves runs.0 new runs.4)
+  alone_is_in_order (move ∷ moves) old new runs = (runs.0, runs.1, runs.2, alone_is_in_order moves runs.0 new runs.5)
 
   alone_on : (moves more : List Move) (old between new : Machine) → RunsAlone setup old moves between → RunsAlone setup between more new → RunsAlone setup old (moves ++ more) new
   alone_on [] more old between new first later = subst (λ (q : Machine). RunsAlone setup q more new) first later
-  alone_on (move ∷ moves) more old between new first later = (first.0, first.1, first.2, first.3, alone_on moves more first.0 between new first.4 later)
+  alone_on (move ∷ moves) more old between new first later = (first.0, first.1, first.2, first.3, first.4, alone_on moves more first.0 between new first.5 later)
 
   -- one event
-  pub alone_one : (event : Event) (old new : Machine) → GivesWholeIncumbent (event_move event) new → RunsInOrder setup old (event_move event ∷ []) new → RunsAlone setup old (event_move event ∷ []) new
-  alone_one event old new gives runs = (runs.0, runs.1, runs.2, subst (λ (m : Machine). GivesWholeIncumbent (event_move event) m) runs.3 gives, runs.3)
+  pub alone_one : (event : Event) (old new : Machine) → GivesWholeIncumbent (event_move event) new → IsTimely setup old (event_move event) new
+      → RunsInOrder setup old (event_move event ∷ []) new → RunsAlone setup old (event_move event ∷ []) new
+  alone_one event old new gives timely runs = (
+    runs.0,
+    runs.1,
+    runs.2,
+    subst (λ (m : Machine). GivesWholeIncumbent (event_move event) m) runs.3 gives,
+    subst (λ (m : Machine). IsTimely setup old (event_move event) m) runs.3 timely,
+    runs.3,
+  )
 
--- no lease is given among these events, and none goes on
+-- among these events no lease is given, none goes on, and none comes back but for want of memory
 abbrev pub GrantsNone : List Event → Type 0
 GrantsNone [] = Unit {0}
 GrantsNone (Lease worker block quota ∷ events) = ⊥
 GrantsNone (Renew worker used quota ∷ events) = ⊥
+GrantsNone (Release worker used false ∷ events) = ⊥
 GrantsNone (event ∷ events) = GrantsNone events
 
 pub alone_events : (setup : Setup) (events : List Event) (old new : Machine) → GrantsNone events → RunsInOrder setup old (moves_of events) new → RunsAlone setup old (moves_of events) new
 alone_events setup [] old new none runs = runs
 alone_events setup (Lease worker block quota ∷ events) old new none runs = absurd none
 alone_events setup (Renew worker used quota ∷ events) old new none runs = absurd none
-alone_events setup (Hot worker block ∷ events) old new none runs = (runs.0, runs.1, runs.2, tt, alone_events setup events runs.0 new none runs.3)
-alone_events setup (Cold worker block ∷ events) old new none runs = (runs.0, runs.1, runs.2, tt, alone_events setup events runs.0 new none runs.3)
-alone_events setup (Release worker used trouble ∷ events) old new none runs = (runs.0, runs.1, runs.2, tt, alone_events setup events runs.0 new none runs.3)
-alone_events setup (Off worker trouble ∷ events) old new none runs = (runs.0, runs.1, runs.2, tt, alone_events setup events runs.0 new none runs.3)
-alone_events setup (Ended end ∷ events) old new none runs = (runs.0, runs.1, runs.2, tt, alone_events setup events runs.0 new none runs.3)
+alone_events setup (Hot worker block ∷ events) old new none runs = (runs.0, runs.1, runs.2, tt, tt, alone_events setup events runs.0 new none runs.3)
+alone_events setup (Cold worker block ∷ events) old new none runs = (runs.0, runs.1, runs.2, tt, tt, alone_events setup events runs.0 new none runs.3)
+alone_events setup (Release worker used false ∷ events) old new none runs = absurd none
+alone_events setup (Release worker used true ∷ events) old new none runs = (runs.0, runs.1, runs.2, tt, tt, alone_events setup events runs.0 new none runs.3)
+alone_events setup (Off worker trouble ∷ events) old new none runs = (runs.0, runs.1, runs.2, tt, tt, alone_events setup events runs.0 new none runs.3)
+alone_events setup (Ended end ∷ events) old new none runs = (runs.0, runs.1, runs.2, tt, tt, alone_events setup events runs.0 new none runs.3)
 
 pub ending_grants_none : (memory : Bool) (end : Option End) → GrantsNone (ending memory end)
 ending_grants_none memory end = go (memory && is_none end)

@@ -1,39 +1,36 @@
 -- The turns of a worker that has a lease.
-use Rattle.std.proofs.Common.{◌≡◌, ℕ, ◌+◌, ◌-◌, ◌<◌, ◌≤◌, Bool, true, false, is_some, [], ◌∷◌, ◌++◌, Option, Some, None, sym, ap, ◌∙◌, arith, subst, inl, inr, nat_lt}
-use Rattle.pb_model.specs.Store.{HasOpened}
+use Rattle.std.proofs.Common.{◌≡◌, ℕ, ◌+◌, ◌-◌, ◌<◌, ◌≤◌, Bool, true, false, is_some, length, [], ◌∷◌, ◌++◌, Option, Some, None, sym, ap, ◌∙◌, arith, subst, inl, inr, nat_lt}
+use Rattle.pb_model.specs.Store.{Rows, HasOpened}
 use Rattle.pb_model.proofs.Tests.{by_cases, below, not_below, equal_self}
 use Rattle.pb_machine.specs.declared.event.Event.TheVariants.{Renew, Release}
 use Rattle.pb_machine.specs.declared.event.Grant.{Grant}
-use Rattle.pb_machine.specs.declared.settings.Settings.{Settings}
-use Rattle.pb_machine.specs.Tables.{with_entry, one_if}
+use Rattle.pb_machine.specs.Tables.{with_entry}
 use Rattle.pb_machine.specs.Counts.{Counts, quota_of}
+use Rattle.pb_machine.specs.Choice.{IsFirstChoice, counts_with_lease_home}
 use Rattle.pb_machine.specs.Machine.{Machine}
 use Rattle.pb_machine.proofs.TableLaws.{entry_here}
 use Rattle.pb_task.specs.declared.parts.TaskParts.{TaskParts}
-use Rattle.pb_abstract.specs.Graph.{AbstractGraph}
+use Rattle.pb_abstract.specs.Graph.{AbstractGraph, blocks_of}
 use Rattle.pb_bundles.specs.Parts.{away_rows}
-use Rattle.pb_bundles.specs.Homes.{key_at}
-use Rattle.pb_lease.specs.Tables.{rooms}
+use Rattle.pb_bundles.specs.Homes.{HomeTable, key_at}
+use Rattle.pb_bundles.proofs.Lists.{past}
+use Rattle.pb_bundles.proofs.ByKey.{first_choices_are_by_key}
+use Rattle.pb_lease.specs.Tables.{blocks, rooms}
 use Rattle.pb_lease.specs.Events.{ending}
 use Rattle.pb_lease.specs.LeaseValue.{LeaseValue, leased_store, IsSameLease}
-use Rattle.pb_lease.specs.Leased.{setup_of, grant_of, HasScope, IsOut, IsInTurns, IsOutInTurns}
+use Rattle.pb_lease.specs.Leased.{grant_of, HasScope, IsOutInTurns}
 use Rattle.pb_lease.specs.GraphValue.{GraphValue, setup_in, counts_in, IsLeaseGraph, IsOfGraph}
 use Rattle.pb_lease.specs.Steps.{IsReleased, ReleasesNext, IsRenewed, RenewsNext, GoesOn, renewed_quota}
-use Rattle.pb_lease.proofs.GraphBasics.{setup_is}
+use Rattle.pb_lease.specs.Leasing.{can_be_leased}
+use Rattle.pb_lease.specs.Moments.{IsMoment}
+use Rattle.pb_lease.proofs.GraphBasics.{setup_is, passes_from, passes_to}
 use Rattle.pb_lease.proofs.InOrder.{releases_in_order, renews_in_order}
 use Rattle.pb_expand.specs.Turned.{IsAtWork}
 use Rattle.pb_workers.specs.Runs.{IsSameSearch}
-use Rattle.pb_workers.specs.Holding.{IsHeld, RunsOut, RunsHome, left_with, IsNearer, IsMarkedAtMost}
+use Rattle.pb_workers.specs.Holding.{Works, IsHeld, RunsOut, RunsHome, left_with, IsNearer, IsMarkedAtMost}
 use Rattle.pb_workers.proofs.Going.{same_then, run_one, run_then, alone_one, alone_events, ending_grants_none}
-use Rattle.pb_workers.proofs.Marked.{marked_same, marked_leases, marked_signed, marked_left, marked_end, marked_room, marked_runs}
-use Rattle.pb_workers.proofs.Returned.{returned_vacant, returned_left, returned_end, fewer_opened}
-
--- what work makes of a lease that is out
-abbrev pub Works : TaskParts → AbstractGraph → LeaseValue → LeaseValue → (broken : ℕ) → Type 0
-Works task graph old new broken =
-    (settings : Settings) (reopenings : ℕ) (machine : Machine) → (before : IsOut (setup_of task graph settings reopenings) machine 0 old)
-    → (after : IsOut (setup_of task graph settings reopenings) machine broken new)
-    × (IsInTurns (setup_of task graph settings reopenings) machine 0 old before → IsInTurns (setup_of task graph settings reopenings) machine broken new after)
+use Rattle.pb_workers.proofs.Marked.{marked_same, marked_homes, marked_leases, marked_signed, marked_left, marked_end, marked_room, marked_runs}
+use Rattle.pb_workers.proofs.Returned.{returned_vacant, returned_left, returned_end, none_left, fewer_opened}
 
 module _ (g : GraphValue) (lease : LeaseValue) (held : IsHeld g lease) (task : TaskParts) (graph : AbstractGraph) (task_is : g.task ≡ task) (graph_is : g.table.graph ≡ graph) where
   pub at_work : IsLeaseGraph g → IsAtWork task graph lease
@@ -70,14 +67,27 @@ module _ (g : GraphValue) (lease : LeaseValue) (held : IsHeld g lease) (task : T
 
     -- ---- a lease that comes back
 
-    pub returned_home : (trouble : Bool) → Works task graph lease worked (one_if trouble) → (new : GraphValue) → IsReleased g worked trouble new → ReleasesNext g worked trouble new
-        → RunsHome g lease new
-    returned_home trouble works new r next recorded machine m out =
-        let step = releases_in_order g worked new r.incumbent recorded machine m trouble next (worked_out (one_if trouble) works machine out) in (
+    -- for want of memory
+    pub broken_home : Works task graph lease worked 1 → (new : GraphValue) → IsReleased g worked true new → ReleasesNext g worked true new → RunsHome g lease new
+    broken_home works new r next recorded machine m out =
+        let step = releases_in_order g worked new r.incumbent recorded machine m true next (worked_out 1 works machine out) in (
           recorded,
           step.0,
-          run_one g machine (Release worked.worker worked.used trouble ∷ ending trouble g.table.end) new recorded step.0 step.1
-              (alone_events (setup_in g) (Release worked.worker worked.used trouble ∷ ending trouble g.table.end) machine step.0 (ending_grants_none trouble g.table.end) step.1.moves) r.events.journal,
+          run_one g machine (Release worked.worker worked.used true ∷ ending true g.table.end) new recorded step.0 step.1
+              (alone_events (setup_in g) (Release worked.worker worked.used true ∷ ending true g.table.end) machine step.0 (ending_grants_none true g.table.end) step.1.moves) r.events.journal,
+        )
+
+    -- since no row of its block is Opened
+    pub empty_home : IsLeaseGraph g → Works task graph lease worked 0 → (HasOpened ((leased_store worked).rows worked.block) → ⊥) → (new : GraphValue)
+        → IsReleased g worked false new → ReleasesNext g worked false new → RunsHome g lease new
+    empty_home k works none new r next recorded machine m out =
+        let after = worked_out 0 works machine out in
+        let step = releases_in_order g worked new r.incumbent recorded machine m false next after in (
+          recorded,
+          step.0,
+          run_one g machine (Release worked.worker worked.used false ∷ []) new recorded step.0 step.1
+              (alone_one (setup_in g) (Release worked.worker worked.used false) machine step.0 tt
+              (grant_of worked, after.0.leased, inr (none_left g k worked worked_of_graph new r recorded machine m after none recorded step.0 step.1.moment)) step.1.moves) r.events.journal,
         )
 
     pub vacant_then : (old : GraphValue) (trouble : Bool) (new : GraphValue) → IsReleased old worked trouble new → (counts_in new).leases lease.worker ≡ None
@@ -112,15 +122,17 @@ module _ (g : GraphValue) (lease : LeaseValue) (held : IsHeld g lease) (task : T
         scope = subst (λ (a : AbstractGraph). HasScope a worked) (sym (marked_same g worked.worker marked mark).graph) worked_of_graph.scope;
       }
 
-      pub given_home : Works task graph lease worked 0 → (new : GraphValue) → IsReleased marked worked false new → ReleasesNext marked worked false new → RunsHome g lease new
-      given_home works new r next recorded machine m out =
+      pub given_home : Works task graph lease worked 0 → worked.used ≡ worked.quota → (new : GraphValue) → IsReleased marked worked false new → ReleasesNext marked worked false new
+          → RunsHome g lease new
+      given_home works spent new r next recorded machine m out =
           let along = marked_runs g worked.worker marked mark recorded machine m in
-          let step = releases_in_order marked worked new r.incumbent recorded along.0 along.1.moment false next (along.2 worked 0 (worked_out 0 works machine out)) in (
+          let after = along.2 worked 0 (worked_out 0 works machine out) in
+          let step = releases_in_order marked worked new r.incumbent recorded along.0 along.1.moment false next after in (
             recorded,
             step.0,
             run_then g marked new machine along.0 step.0 recorded recorded (marked_same g worked.worker marked mark) along.1
-                (run_one marked along.0 (Release worked.worker worked.used false ∷ ending false marked.table.end) new recorded step.0 step.1
-                (alone_events (setup_in marked) (Release worked.worker worked.used false ∷ ending false marked.table.end) along.0 step.0 (ending_grants_none false marked.table.end) step.1.moves) r.events.journal),
+                (run_one marked along.0 (Release worked.worker worked.used false ∷ []) new recorded step.0 step.1
+                (alone_one (setup_in marked) (Release worked.worker worked.used false) along.0 step.0 tt (grant_of worked, after.0.leased, inl spent) step.1.moves) r.events.journal),
           )
 
       pub nearer_given : worked.used ≡ worked.quota → (new : GraphValue) → IsReleased marked worked false new → IsNearer g lease new
@@ -166,23 +178,46 @@ module _ (g : GraphValue) (lease : LeaseValue) (held : IsHeld g lease) (task : T
         given_whole : (machine : Machine) → machine.store.incumbent ≡ new.incumbent → machine.given kept.worker ≡ kept.incumbent → machine.given worked.worker ≡ machine.store.incumbent
         given_whole machine whole given = ap machine.given (sym kept_by) ∙ given ∙ ap (λ (l : LeaseValue). l.incumbent) n.kept_is ∙ sym n.incumbent ∙ sym whole
 
-        pub kept_out : Works task graph lease worked 0 → RenewsNext marked worked kept new → RunsOut g lease new kept
-        kept_out works next recorded machine m out =
+        -- no block above the greatest number has a key
+        none_above : IsLeaseGraph g → (block : ℕ) → (blocks marked.table).count ≤ block → key_at new.homes block ≡ None
+        none_above k block above =
+            let places : length marked.homes.keys ≡ length g.homes.keys = ap (λ (h : HomeTable). length h.keys) (marked_homes g worked.worker marked mark) in
+            let count : (blocks marked.table).count ≡ (blocks g.table).count = ap (λ (a : AbstractGraph). (blocks_of a).count) (marked_same g worked.worker marked mark).graph in
+            past new.homes.keys block (omega (arith, above, places, count, n.noted.count, k.key_places))
+
+        -- with the lease home its block is the first choice, by the rows that the whole store has then
+        still_first : IsLeaseGraph g → (before after : (worker : ℕ) → Rows) (machine next : Machine) → IsMoment marked before machine → IsMoment new after next
+            → IsFirstChoice (blocks marked.table) marked.table.settings (counts_with_lease_home machine.counts worked.worker worked.used) next.store worked.block
+        still_first k before after machine next m at =
+            let home = counts_with_lease_home (counts_in marked) worked.worker worked.used in
+            let pass = can_be_leased (blocks marked.table) marked.table.settings home in
+            let both = (first_choices_are_by_key (blocks marked.table) marked.table.settings home next.store (key_at new.homes) pass at.at.keys (none_above k)
+            (λ block lt. (
+              passes_from (blocks marked.table) marked.table.settings home block,
+              λ p. passes_to (blocks marked.table) marked.table.settings home block p.0 p.1 p.2 p.3,
+            ))).0 worked.block in
+            subst (λ (c : Counts). IsFirstChoice (blocks marked.table) marked.table.settings (counts_with_lease_home c worked.worker worked.used) next.store worked.block)
+            (sym m.at.counts) (both.0 goes.0)
+
+        pub kept_out : IsLeaseGraph g → Works task graph lease worked 0 → worked.used ≡ worked.quota → RenewsNext marked worked kept new → RunsOut g lease new kept
+        kept_out k works spent next recorded machine m out =
             let along = marked_runs g worked.worker marked mark recorded machine m in
-            let step = renews_in_order marked worked new n.incumbent recorded along.0 along.1.moment kept next (along.2 worked 0 (worked_out 0 works machine out)) in
+            let before = along.2 worked 0 (worked_out 0 works machine out) in
+            let step = renews_in_order marked worked new n.incumbent recorded along.0 along.1.moment kept next before in
             let after = with_entry recorded worked.worker (away_rows kept.parts) in (
               after,
               step.0,
               run_then g marked new machine along.0 step.0 recorded after (marked_same g worked.worker marked mark) along.1
                   (run_one marked along.0 (Renew worked.worker worked.used kept.quota ∷ []) new after step.0 step.1
-                  (alone_one (setup_in marked) (Renew worked.worker worked.used kept.quota) along.0 step.0 (given_whole step.0 step.1.moment.incumbent step.2) step.1.moves)
+                  (alone_one (setup_in marked) (Renew worked.worker worked.used kept.quota) along.0 step.0 (given_whole step.0 step.1.moment.incumbent step.2)
+                  (grant_of worked, before.0.leased, spent, still_first k recorded after along.0 step.0 along.1.moment step.1.moment) step.1.moves)
                   (n.events.journal ∙ ap (λ q. marked.table.journal ++ Renew worked.worker worked.used q ∷ []) (sym kept_quota))),
               step.3,
             )
 
-        pub kept_held : Works task graph lease worked 0 → RenewsNext marked worked kept new → IsHeld new kept
-        kept_held works next =
-            let runs = kept_out works next held.recorded held.machine held.moment held.out in
+        pub kept_held : IsLeaseGraph g → Works task graph lease worked 0 → worked.used ≡ worked.quota → RenewsNext marked worked kept new → IsHeld new kept
+        kept_held k works spent next =
+            let runs = kept_out k works spent next held.recorded held.machine held.moment held.out in
             record {
               of_graph = n.of_graph;
               no_end = ap (λ (c : Counts). c.end) n.events.counts ∙ marked_end g worked.worker marked mark ∙ held.no_end;

@@ -1,4 +1,5 @@
 pub mod Going
+pub mod Serving
 pub mod Opened
 pub mod Marked
 pub mod Returned

@@ -80,30 +80,10 @@ opened_best weight part None best there = absurd (true≢false (sym there))
 opened_best weight part (Some key) best there = (best.0.0, best.0.1, best.0.2, best.0.3)
 
 module _ (old : GraphValue) (k : IsLeaseGraph old) (lease : LeaseValue) (of : IsOfGraph old lease) (new : GraphValue) (r : IsReleased old lease false new)
-    (recorded : (worker : ℕ) → Rows) (machine : Machine) (m : IsMoment old recorded machine) (out : IsOutInTurns (setup_in old) machine 0 lease)
-    (unused : lease.used ≡ 0) where
+    (recorded : (worker : ℕ) → Rows) (machine : Machine) (m : IsMoment old recorded machine) (out : IsOutInTurns (setup_in old) machine 0 lease) where
   brought : (block : ℕ) (content : Content) → content_in lease.parts block ≡ Some content → is_some (key_at new.homes block) ≡ true → HasOpened ((leased_store lease).rows block)
   brought block content is there =
       subst (λ (o : Option Content). HasOpened (rows_in o)) (sym is) (opened_best content.weight (row_of content) (key_at new.homes block) (r.noted.noted block content is) there)
-
-  lent : (block : ℕ) → HasOpened ((leased_store lease).rows block) → HasOpened ((lent_store (setup_in old) lease.block machine.store (machine.given lease.worker)).rows block)
-  lent block h = none_opened (setup_in old).space (setup_in old).guide lease.block (machine.known lease.worker) out.0.work.works
-      (lent_store (setup_in old) lease.block machine.store (machine.given lease.worker)) (leased_store lease) out.0.work.on out.0.work.comes
-      (out.0.work.used_is ∙ unused) (let few = out.0.work.few_broken in omega (arith, few)) block h
-
-  inside : (block : ℕ) → HasOpened ((lent_store (setup_in old) lease.block machine.store (machine.given lease.worker)).rows block) → HasOpened (machine.store.rows block)
-  inside block h = (h.0, h.1, go ((blocks old.table).scope lease.block block) h.2, h.3)
-    where
-      go : (b : Bool) → cond b (machine.store.rows block h.0) None ≡ Some h.1 → machine.store.rows block h.0 ≡ Some h.1
-      go true e = e
-      go false e = absurd (true≢false (sym (ap is_some e)))
-
-  still_opened : (block : ℕ) → is_some (key_at new.homes block) ≡ true → is_some (key_at old.homes block) ≡ true
-  still_opened block there = go (content_in lease.parts block) refl
-    where
-      go : (o : Option Content) → content_in lease.parts block ≡ o → is_some (key_at old.homes block) ≡ true
-      go None is = ap is_some (sym (r.noted.others block is)) ∙ there
-      go (Some content) is = ((opened_is_by_key machine.store (key_at old.homes) m.at.keys).0 block).1 (inside block (lent block (brought block content is there)))
 
   block_known : lease.block < (blocks old.table).count
   block_known = (m.at.lawful.counts.known lease.worker (grant_of lease) out.0.leased).1
@@ -118,8 +98,35 @@ module _ (old : GraphValue) (k : IsLeaseGraph old) (lease : LeaseValue) (of : Is
       go None is some there = absurd (true≢false (sym some))
       go (Some content) is some there = brought lease.block content is there
 
-  -- fewer blocks have an Opened row: not the lease's any more, and no other one that had none
-  pub fewer_opened : is_some (key_at old.homes lease.block) ≡ true → (HasOpened ((leased_store lease).rows lease.block) → ⊥) → opened_blocks new < opened_blocks old
-  fewer_opened opened none =
-      subst (λ (a : AbstractGraph). count_below (blocks_of a).count (λ block. is_some (key_at new.homes block)) < opened_blocks old) (sym r.events.graph)
-      (count_fewer (blocks old.table).count lease.block (λ block. is_some (key_at new.homes block)) (λ block. is_some (key_at old.homes block)) still_opened block_known (none_here none) opened)
+  -- no row of its block is Opened in the whole store then
+  pub none_left : (HasOpened ((leased_store lease).rows lease.block) → ⊥) → (after : (worker : ℕ) → Rows) (next : Machine) → IsMoment new after next
+      → HasOpened (next.store.rows lease.block) → ⊥
+  none_left none after next n opened =
+      let there = ((opened_is_by_key next.store (key_at new.homes) n.at.keys).0 lease.block).1 opened in
+      true≢false (sym there ∙ none_here none)
+
+  module _ (unused : lease.used ≡ 0) where
+    lent : (block : ℕ) → HasOpened ((leased_store lease).rows block) → HasOpened ((lent_store (setup_in old) lease.block machine.store (machine.given lease.worker)).rows block)
+    lent block h = none_opened (setup_in old).space (setup_in old).guide lease.block (machine.known lease.worker) out.0.work.works
+        (lent_store (setup_in old) lease.block machine.store (machine.given lease.worker)) (leased_store lease) out.0.work.on out.0.work.comes
+        (out.0.work.used_is ∙ unused) (let few = out.0.work.few_broken in omega (arith, few)) block h
+
+    inside : (block : ℕ) → HasOpened ((lent_store (setup_in old) lease.block machine.store (machine.given lease.worker)).rows block) → HasOpened (machine.store.rows block)
+    inside block h = (h.0, h.1, go ((blocks old.table).scope lease.block block) h.2, h.3)
+      where
+        go : (b : Bool) → cond b (machine.store.rows block h.0) None ≡ Some h.1 → machine.store.rows block h.0 ≡ Some h.1
+        go true e = e
+        go false e = absurd (true≢false (sym (ap is_some e)))
+
+    still_opened : (block : ℕ) → is_some (key_at new.homes block) ≡ true → is_some (key_at old.homes block) ≡ true
+    still_opened block there = go (content_in lease.parts block) refl
+      where
+        go : (o : Option Content) → content_in lease.parts block ≡ o → is_some (key_at old.homes block) ≡ true
+        go None is = ap is_some (sym (r.noted.others block is)) ∙ there
+        go (Some content) is = ((opened_is_by_key machine.store (key_at old.homes) m.at.keys).0 block).1 (inside block (lent block (brought block content is there)))
+
+    -- fewer blocks have an Opened row: not the lease's any more, and no other one that had none
+    pub fewer_opened : is_some (key_at old.homes lease.block) ≡ true → (HasOpened ((leased_store lease).rows lease.block) → ⊥) → opened_blocks new < opened_blocks old
+    fewer_opened opened none =
+        subst (λ (a : AbstractGraph). count_below (blocks_of a).count (λ block. is_some (key_at new.homes block)) < opened_blocks old) (sym r.events.graph)
+        (count_fewer (blocks old.table).count lease.block (λ block. is_some (key_at new.homes block)) (λ block. is_some (key_at old.homes block)) still_opened block_known (none_here none) opened)

@@ -2,19 +2,29 @@
 use Rattle.std.specs.Prelude.{◌≡◌, ℕ, ◌+◌, ◌<◌, IsSome, is_some, None, Some, ◌⊎◌, ◌∷◌, []}
 use Rattle.pb_model.specs.Store.{Rows}
 use Rattle.pb_machine.specs.declared.event.Event.TheVariants.{Hot}
+use Rattle.pb_machine.specs.declared.settings.Settings.{Settings}
 use Rattle.pb_machine.specs.Tables.{count_below}
 use Rattle.pb_machine.specs.Blocks.{interferes}
 use Rattle.pb_machine.specs.Machine.{Machine}
+use Rattle.pb_task.specs.declared.parts.TaskParts.{TaskParts}
+use Rattle.pb_abstract.specs.Graph.{AbstractGraph}
 use Rattle.pb_bundles.specs.Homes.{key_at}
 use Rattle.pb_bundles.specs.Choosing.{IsRivalBy}
 use Rattle.pb_lease.specs.Tables.{blocks}
 use Rattle.pb_lease.specs.LeaseValue.{LeaseValue}
-use Rattle.pb_lease.specs.Leased.{IsOutInTurns}
+use Rattle.pb_lease.specs.Leased.{setup_of, IsOut, IsInTurns, IsOutInTurns}
 use Rattle.pb_lease.specs.GraphValue.{GraphValue, setup_in, IsOfGraph}
 use Rattle.pb_lease.specs.Choices.{MayMark}
 use Rattle.pb_lease.specs.Moments.{IsMoment}
 use Rattle.pb_lease.specs.Steps.{IsMarked, KeepsLeases}
 use Rattle.pb_workers.specs.Runs.{RunsTo}
+
+-- what work makes of a lease that is out
+abbrev pub Works : TaskParts → AbstractGraph → LeaseValue → LeaseValue → (broken : ℕ) → Type 0
+Works task graph old new broken =
+    (settings : Settings) (reopenings : ℕ) (machine : Machine) → (before : IsOut (setup_of task graph settings reopenings) machine 0 old)
+    → (after : IsOut (setup_of task graph settings reopenings) machine broken new)
+    × (IsInTurns (setup_of task graph settings reopenings) machine 0 old before → IsInTurns (setup_of task graph settings reopenings) machine broken new after)
 
 -- The lease is the graph's, which has no end, and its block's noted key is that of an Opened row. At some moment that the graph is, the lease
 -- is out and has worked in turns.

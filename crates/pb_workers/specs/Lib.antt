@@ -4,3 +4,4 @@ pub mod Ends
 pub mod Shared
 pub mod Teams
 pub mod Tools
+pub mod Serving

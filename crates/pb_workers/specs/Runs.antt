@@ -1,7 +1,9 @@
 -- A search by leases goes on, and a graph with it.
-use Rattle.std.specs.Prelude.{◌≡◌, ℕ, List, [], ◌∷◌, ◌++◌, ⊤}
-use Rattle.pb_model.specs.Store.{Rows}
-use Rattle.pb_machine.specs.declared.event.Event.TheVariants.{Lease, Renew}
+use Rattle.std.specs.Prelude.{◌≡◌, ◌⊎◌, ℕ, false, List, [], ◌∷◌, ◌++◌, Some, ⊤}
+use Rattle.pb_model.specs.Store.{Rows, HasOpened}
+use Rattle.pb_machine.specs.declared.event.Event.TheVariants.{Lease, Renew, Release}
+use Rattle.pb_machine.specs.declared.event.Grant.{Grant}
+use Rattle.pb_machine.specs.Choice.{IsFirstChoice, counts_with_lease_home}
 use Rattle.pb_machine.specs.Machine.{Setup, Machine, Move, event_move, Moves, journal_of}
 use Rattle.pb_machine.specs.Turns.{IsInOrder}
 use Rattle.pb_lease.specs.GraphValue.{GraphValue, setup_in}
@@ -23,11 +25,25 @@ GivesWholeIncumbent (event_move (Lease worker block quota)) new = new.given work
 GivesWholeIncumbent (event_move (Renew worker used quota)) new = new.given worker ≡ new.store.incumbent
 GivesWholeIncumbent move new = ⊤
 
--- The run of a worker that searches alone: these moves, one after another, each in order, and each lease with the incumbent of the whole store.
+-- A lease goes on if its quota is used up and its block, with the lease home, is still the first
+-- choice. A lease comes back, without want of memory, if its quota is used up or no row of its block
+-- is Opened.
+abbrev pub IsTimely : Setup → (old : Machine) → Move → (new : Machine) → Type 0
+IsTimely setup old (event_move (Renew worker used quota)) new =
+    (grant : Grant) × (old.counts.leases worker ≡ Some grant) × (used ≡ grant.quota)
+    × IsFirstChoice setup.blocks setup.settings (counts_with_lease_home old.counts worker used) new.store grant.block
+IsTimely setup old (event_move (Release worker used false)) new =
+    (grant : Grant) × (old.counts.leases worker ≡ Some grant)
+    × ((used ≡ grant.quota) ⊎ (HasOpened (new.store.rows grant.block) → ⊥))
+IsTimely setup old move new = ⊤
+
+-- The run of a worker that searches alone: these moves, one after another, each in order and in time, and each lease with the incumbent of
+-- the whole store.
 abbrev pub RunsAlone : Setup → (old : Machine) → List Move → (new : Machine) → Type 0
 RunsAlone setup old [] new = new ≡ old
 RunsAlone setup old (move ∷ moves) new =
-    (between : Machine) × Moves setup old move between × IsInOrder setup old move between × GivesWholeIncumbent move between × RunsAlone setup between moves new
+    (between : Machine) × Moves setup old move between × IsInOrder setup old move between × GivesWholeIncumbent move between
+    × IsTimely setup old move between × RunsAlone setup between moves new
 
 -- From this machine a run of a worker that searches alone leads to one that the new graph is a moment of, with these rows recorded for the
 -- leases that are out. So each block that was leased was the first choice, each row that was taken the first of its block, and no lease was

@@ -1,12 +1,12 @@
 -- A worker that shares a yard with others: what its pass knows between its calls.
-use Rattle.std.specs.Prelude.{◌≡◌, None, Some}
+use Rattle.std.specs.Prelude.{◌≡◌, ℕ, Bool, Option, None, Some}
 use Rattle.pb_task.specs.declared.parts.TaskParts.{TaskParts}
 use Rattle.pb_abstract.specs.Graph.{AbstractGraph, IsGraphOf}
 use Rattle.pb_lease.specs.LeaseValue.{LeaseValue}
 use Rattle.pb_lease.specs.GraphValue.{GraphValue}
 use Rattle.pb_yard.specs.declared.view.View.{View}
 use Rattle.pb_yard.specs.Rule.{IsAt}
-use Rattle.pb_yard.specs.Calls.{IsActive}
+use Rattle.pb_yard.specs.Calls.{IsActive, AsksRival, Marks}
 
 -- The pass is of the same worker in the same search, has taken in the same passes, and has made as
 -- many.
@@ -39,3 +39,15 @@ pub record IsLeased (task : TaskParts) (graph : AbstractGraph) (view : View) (le
   pub stays : IsActive view
   pub yard : GraphValue
   pub at : IsAt yard view
+
+-- The worker asked that this block be hot, and that of no other; without a block it asked nothing.
+abbrev pub AsksToMark : (worker : ℕ) → (block : Option ℕ) → (old new : View) → Type 0
+AsksToMark worker None old new = new ≡ old
+AsksToMark worker (Some block) old new = (done : Bool) × Marks worker block old done new
+
+-- The pass was told the rival of its lease's block: the best block of its interference that is
+-- better, or none. Then the worker asked that the rival be hot, and that of no other block.
+abbrev pub MarksRivalTold : (worker : ℕ) → LeaseValue → (old new : View) → Type 0
+MarksRivalTold worker lease old new =
+    (told : View) × (rival : Option ℕ) × AsksRival lease old rival told
+    × AsksToMark worker rival told new

@@ -1,5 +1,5 @@
 -- What a worker needs memory for.
-use Rattle.std.specs.Prelude.{◌≡◌, ◌≤◌, List, All, vec_capacity}
+use Rattle.std.specs.Prelude.{◌≤◌, List, All, vec_capacity}
 use Rattle.pb_task.specs.declared.parts.TaskParts.{TaskParts}
 use Rattle.pb_task.specs.Parts.{max_degree_of}
 use Rattle.pb_estimate.specs.Tables.{IsOfTask}

@@ -1,19 +1,17 @@
-ghost use Rattle.std.specs.Prelude.{◌≡◌, ◌≤◌, ◌⊎◌, None, Some, IsTrue, IsFalse, OnOk, OnErr, vec_capacity};
+ghost use Rattle.std.specs.Prelude.{◌≡◌, ◌⊎◌, None, Some, IsTrue, IsFalse, OnOk, OnErr};
 ghost use Rattle.pb_machine.specs.declared.event.End.TheVariants.{Quiet, Budget, Memory};
-ghost use Rattle.pb_task.specs.Parts.{max_degree_of};
-ghost use Rattle.pb_estimate.specs.Tables.{IsOfTask};
 ghost use Rattle.pb_lease.specs.GraphValue.{counts_in};
 ghost use Rattle.pb_lease.specs.Choices.{is_out_in};
 ghost use Rattle.pb_workers.specs.Runs.{IsSameSearch, IsAnyMoment, RunsOn};
 ghost use Rattle.pb_workers.specs.Ends.{IsBestEnd, IsSpentEnd};
+ghost use Rattle.pb_workers.specs.Serving.{Serves};
 
 use crate::closing::sign_off;
 use crate::holding::hold;
+use crate::worker::{Tools, Worker};
 use pb_abstract::AbsGraph;
-use pb_estimate::Estimator;
 use pb_lease::{LeaseGraph, LeaseReply};
 use pb_machine::End;
-use pb_model::Succ;
 use pb_outside::Gate;
 use pb_task::Task;
 use std::alloc::{AllocError, Global};
@@ -51,25 +49,15 @@ pub fn run_alone<G: Gate>(
     ensures same { IsSameSearch graph.old graph.new }
 {
     let _ = graph.abstraction();
-    let mut estimator = Estimator::of(alloc, task)?;
-    let mut succs = Vec::with_capacity(alloc, task.max_degree() as usize)?;
-    let end = search(task, &mut estimator, abstraction, graph, gate, &mut succs);
+    let tools = Tools::new(alloc, task)?;
+    let mut worker = Worker::new(task, abstraction, tools);
+    let end = search(&mut worker, graph, gate);
     sign_off(graph, end)
 }
 
 // Leases blocks and works on them until the search ends, and answers the end, or none where memory is wanted for a lease.
-fn search<G: Gate>(
-    task: &Task,
-    estimator: &mut Estimator,
-    abstraction: &AbsGraph,
-    graph: &mut LeaseGraph,
-    gate: &G,
-    succs: &mut Vec<Succ>,
-) -> Option<End>
-    requires tables { IsOfTask estimator.old task.now }
-    requires room { max_degree_of task.now ≤ vec_capacity succs.old }
-    requires task { graph.old.task ≡ task.now }
-    requires abstraction { graph.old.table.graph ≡ abstraction.now }
+fn search<G: Gate>(worker: &mut Worker, graph: &mut LeaseGraph, gate: &G) -> Option<End>
+    requires serves { Serves worker.old graph.old }
     requires alone { graph.old.table.settings.workers ≡ 1 }
     requires moment { IsAnyMoment graph.old }
     requires home { IsFalse (is_out_in graph.old) }
@@ -84,7 +72,7 @@ fn search<G: Gate>(
         match graph.lease(0) {
             LeaseReply::Leased(lease) => {
                 gate.leased(0, lease.block());
-                hold(task, estimator, abstraction, graph, gate, succs, lease);
+                hold(worker, graph, gate, lease);
             }
             LeaseReply::NotYet => unreachable!(),
             LeaseReply::Over(end) => return Some(end),

@@ -1,13 +1,16 @@
 //! What a worker takes with it to its leases.
-ghost use Rattle.std.specs.Prelude.{◌≡◌, ◌-◌, ◌≤◌, IfOk, vec_capacity};
+ghost use Rattle.std.specs.Prelude.{◌≡◌, ◌↔◌, ◌-◌, ◌≤◌, IfOk, vec_capacity};
+ghost use Rattle.pb_model.specs.Store.{HasOpened};
 ghost use Rattle.pb_task.specs.Parts.{space_of, max_degree_of};
 ghost use Rattle.pb_estimate.specs.Tables.{IsOfTask};
 ghost use Rattle.pb_abstract.specs.Graph.{IsGraphOf};
 ghost use Rattle.pb_lease.specs.LeaseValue.{leased_store, IsSameLease};
 ghost use Rattle.pb_lease.specs.Leased.{guide_of, HasScope};
-ghost use Rattle.pb_expand.specs.Turned.{IsAtWork, HasTurned, reads_none};
+ghost use Rattle.pb_expand.specs.Turned.{own_rows, IsAtWork, HasTurned, reads_none};
 ghost use Rattle.pb_expand.specs.Worked.{broken_by};
+ghost use Rattle.pb_expand.specs.declared.working.Worked.TheVariants.{Spent, Empty};
 ghost use Rattle.pb_workers.specs.Tools.{AreFor};
+ghost use Rattle.pb_workers.specs.Holding.{Works};
 
 use pb_abstract::AbsGraph;
 use pb_estimate::Estimator;
@@ -74,6 +77,12 @@ impl<'a> Worker<'a> {
             (lease.new.used - lease.old.used) (broken_by result)
             (leased_store lease.old) (leased_store lease.new) }
         ensures counted { lease.old.used ≤ lease.new.used }
+        ensures within { lease.new.used ≤ lease.new.quota }
+        ensures out { Works self.old.task.now self.old.abstraction.now lease.old lease.new
+            (broken_by result) }
+        ensures spent { (result ≡ Spent)
+            ↔ (HasOpened (own_rows lease.new) × (lease.new.used ≡ lease.new.quota)) }
+        ensures empty { (result ≡ Empty) ↔ (HasOpened (own_rows lease.new) → ⊥) }
         ensures same { IsSameLease lease.old lease.new }
         ensures scope { HasScope self.old.abstraction.now lease.new }
         ensures task { self.new.task.now ≡ self.old.task.now }

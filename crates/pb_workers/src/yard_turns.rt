@@ -1,10 +1,10 @@
 //! The turns of a worker that shares a yard.
 ghost use Rattle.std.specs.Prelude.{◌≡◌, IfSome, IfNone};
 ghost use Rattle.pb_estimate.specs.Tables.{IsOfTask};
-ghost use Rattle.pb_yard.specs.Passes.{view_of, parts_of, IsOf, IsSamePass};
+ghost use Rattle.pb_yard.specs.Passes.{view_of, worker_of, parts_of, IsOf, IsSamePass};
 ghost use Rattle.pb_yard.specs.Returning.{IsLeaseOf, IsBrought};
 ghost use Rattle.pb_yard.specs.Calls.{IsActive};
-ghost use Rattle.pb_workers.specs.Shared.{IsSameHolder, IsIdle, IsLeased};
+ghost use Rattle.pb_workers.specs.Shared.{IsSameHolder, IsIdle, IsLeased, MarksRivalTold};
 
 use crate::event_count::EventCount;
 use crate::worker::Worker;
@@ -24,6 +24,8 @@ fn mark_rival<W: Wait>(rt: &W, yard: &Yard, pass: &mut Pass, lease: &Lease)
     ensures holder { IsSameHolder (view_of pass.old) (view_of pass.new) }
     ensures brought { IsBrought (view_of pass.new) 0 lease.now }
     ensures stays { IsActive (view_of pass.old) → IsActive (view_of pass.new) }
+    ensures rival { MarksRivalTold (worker_of pass.old) lease.now
+        (view_of pass.old) (view_of pass.new) }
 {
     if let Some(rival) = yard.rival(rt, pass, lease) {
         yard.mark_hot(rt, pass, rival);

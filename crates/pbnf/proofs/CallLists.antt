@@ -1,11 +1,12 @@
 -- What lists of calls tell: those of loads, and those that save files.
-use Rattle.std.proofs.Common.{◌≡◌, ◌⊎◌, inl, inr, ℕ, ◌<◌, ◌≤◌, Bool, true, false, ◌||◌, Option, None, Some, IfSome, List, [], ◌∷◌, ◌++◌, length, map, take, drop, refl, sym, ap, subst, ◌∙◌, arith, append_assoc, append-nil}
+use Rattle.std.proofs.Common.{◌≡◌, inl, inr, ℕ, ◌<◌, ◌≤◌, true, false, Option, None, Some, IfSome, List, [], ◌∷◌, ◌++◌, length, map, drop, refl, sym, ap, ◌∙◌, arith, append_assoc, append-nil}
 use Rattle.std.specs.List.{concat}
 use Rattle.pb_outside.specs.declared.shelf.Load.{Load}
 use Rattle.pb_outside.specs.declared.shelf.Load.TheVariants.{Failed, TooLong, Memory}
-use Rattle.pb_outside.specs.Calls.{Call, Loaded, LoadFailed, Created, CreateFailed, Appended, AppendFailed, Put, PutFailed, append_calls, save_calls, SaveText, BreakOff, FailToSave, IsNoFault}
+use Rattle.pb_outside.specs.Calls.{Call, Loaded, LoadFailed, Created, AppendFailed, append_calls, IsNoFault}
 use Rattle.pbnf.specs.Asked.{Wanted}
-use Rattle.pbnf.specs.Calls.{Output, output, loaded_texts, appended_bytes, outputs_in, has_failed, have_failed, load_calls, EndLoads, SaveAll, FailToSaveAll, calls_since}
+use Rattle.pb_answer.specs.Outputs.{Output, output}
+use Rattle.pbnf.specs.Calls.{loaded_texts, appended_bytes, outputs_in, have_failed, load_calls, EndLoads, SaveAll, FailToSaveAll, calls_since}
 
 -- ---- calls that were made since
 
@@ -113,11 +114,12 @@ pub record TellOf (saves : List Call) (outputs : List Output) : Type 0 where
 
 pub saves_tell : (saves : List Call) (outputs : List Output) → SaveAll saves outputs → TellOf saves outputs
 saves_tell saves [] is = record { none_loaded = ap loaded_texts is; saved = ap outputs_in is; joined = ap appended_bytes is; none_failed = ap have_failed is }
-saves_tell saves (first ∷ outputs) (own, rest, is, (pieces, own_is, text), others) =
+saves_tell saves (first ∷ outputs) (own, rest, is, text, others) =
+    let pieces = text.pieces in
     let later = saves_tell rest outputs others in
-    let all : saves ≡ Created first.name ∷ (append_calls first.name pieces ++ rest) = is ∙ ap (λ (calls : List Call). calls ++ rest) own_is in
+    let all : saves ≡ Created first.name ∷ (append_calls first.name pieces ++ rest) = is ∙ ap (λ (calls : List Call). calls ++ rest) text.are in
     let bytes : appended_bytes (append_calls first.name pieces ++ rest) ≡ first.text =
-    pieces_joined first.name pieces rest ∙ ap (λ t. concat pieces ++ t) later.joined ∙ append-nil (concat pieces) ∙ text in
+    pieces_joined first.name pieces rest ∙ ap (λ t. concat pieces ++ t) later.joined ∙ append-nil (concat pieces) ∙ text.text_is in
     record {
       none_loaded = ap loaded_texts all ∙ pieces_load_none first.name pieces rest ∙ later.none_loaded;
       saved = ap outputs_in all ∙ (λ i. output first.name (bytes i) ∷ (pieces_save_none first.name pieces rest ∙ later.saved) i);
@@ -154,9 +156,10 @@ failures_tell saves (first ∷ outputs) (inl (inr broken)) =
       named = ap (λ (os : List Output). names_of os ++ names_of outputs) (sym one);
       failed = ap have_failed all ∙ pieces_fail_none first.name broken.pieces (AppendFailed first.name broken.last broken.kept ∷ []);
     }
-failures_tell saves (first ∷ outputs) (inr (own, rest, is, (pieces, own_is, text), others)) =
+failures_tell saves (first ∷ outputs) (inr (own, rest, is, text, others)) =
+    let pieces = text.pieces in
     let later = failures_tell rest outputs others in
-    let all : saves ≡ Created first.name ∷ (append_calls first.name pieces ++ rest) = is ∙ ap (λ (calls : List Call). calls ++ rest) own_is in
+    let all : saves ≡ Created first.name ∷ (append_calls first.name pieces ++ rest) = is ∙ ap (λ (calls : List Call). calls ++ rest) text.are in
     let more : outputs_in saves ≡ output first.name (appended_bytes (append_calls first.name pieces ++ rest)) ∷ outputs_in rest =
     ap outputs_in all ∙ (λ i. output first.name (appended_bytes (append_calls first.name pieces ++ rest)) ∷ pieces_save_none first.name pieces rest i) in
     record {

@@ -1,7 +1,7 @@
 -- From how a call of the program goes to its promises.
-use Rattle.std.proofs.Common.{◌≡◌, ◌≢◌, ◌⊎◌, ◌↔◌, inl, inr, ℕ, ◌<◌, ◌≤◌, IsTrue, true, false, true≢false, Option, None, Some, IfSome, List, [], ◌∷◌, ◌++◌, length, map, take, Result, Ok, Err, refl, sym, ap, subst, ◌∙◌, arith, append_assoc, append-nil}
-use Rattle.pb_outside.specs.Outside.{Files, IfTold, Appends, KeepsAll, KeepsOthers}
-use Rattle.pb_outside.specs.Calls.{Call, Put, PutFailed}
+use Rattle.std.proofs.Common.{◌≡◌, ◌≢◌, ◌⊎◌, ◌↔◌, inl, inr, ℕ, ◌<◌, IsTrue, false, true≢false, Option, None, Some, List, [], ◌∷◌, ◌++◌, map, Result, Ok, Err, refl, sym, ap, subst, ◌∙◌, arith, append-nil}
+use Rattle.pb_outside.specs.Outside.{Files, IfTold, Appends, KeepsAll}
+use Rattle.pb_outside.specs.Calls.{Call}
 use Rattle.pb_outside.specs.declared.shelf.Load.TheVariants.{Failed}
 use Rattle.pb_task.specs.Parts.{space_of}
 use Rattle.pb_estimate.specs.Estimates.{estimate_of}
@@ -9,15 +9,17 @@ use Rattle.pb_check.specs.declared.fault.CertificateFault.{CertificateFault}
 use Rattle.pb_check.specs.declared.fault.Verdict.{Verdict}
 use Rattle.pb_check.specs.Judging.{checked}
 use Rattle.pb_check.specs.Kinds.{kind_of}
-use Rattle.pb_command.specs.Meaning.{Reading, Refused, Read, Solve, Check}
-use Rattle.pbnf.specs.Asked.{Wanted, files_of, saved_names}
-use Rattle.pbnf.specs.Calls.{Output, calls_since, loaded_texts, outputs_in, put_bytes, have_failed, load_calls, SaveAll, FailToSaveAll}
-use Rattle.pbnf.specs.Loaded.{loads_of, AreLoaded, RefusesTexts}
-use Rattle.pbnf.specs.Answer.{Said, AnswersReading}
+use Rattle.pb_command.specs.Meaning.{Reading, Refused, Read, Solve, Check, Journal, Make}
+use Rattle.pbnf.specs.Asked.{files_of, saved_names}
+use Rattle.pb_answer.specs.Outputs.{Output}
+use Rattle.pbnf.specs.Calls.{calls_since, loaded_texts, outputs_in, put_bytes, have_failed, load_calls, SaveAll, FailToSaveAll}
+use Rattle.pbnf.specs.Loads.{loads_of, AreLoaded}
+use Rattle.pb_answer.specs.Answer.{Said, AnswersReading}
 use Rattle.pbnf.specs.Course.{RunsOut, FailsToLoad, HandsOut, FailsToSave, FailsToPut, HasAnswered, Does, DoesSince, Ran, ran_by, ran}
-use Rattle.pbnf.specs.Headline.{IsAnswer, IsBroken, AllOfOnePlan, PlanIsPlan, NoneIsCheaper, CertificateHolds, NoneMeansNone, CertificateOfNone, StopHasCause, AcceptedIsValid, RejectedIsFaulty, IsOfVerdict, CheckIsDecided, NamedPlanIsPlan, NamedNoneMeansNone, NamedVerdictHolds, WordsAreRefused, InputIsRefused, OutputsAreNamed, IsAnswered, IsComplete}
+use Rattle.pbnf.specs.Headline.{IsAnswer, IsBroken, AllOfOnePlan, PlanIsPlan, NoneIsCheaper, CertificateHolds, NoneMeansNone, CertificateOfNone, StopHasCause, AcceptedIsValid, RejectedIsFaulty, IsOfVerdict, CheckIsDecided, JournalIsLegal, JournalIsDecided, MadeIsLeast, NamedPlanIsPlan, NamedNoneMeansNone, NamedVerdictHolds, WordsAreRefused, InputIsRefused, AreSomeOf, OutputsAreNamed, IsAnswered, IsComplete}
 use Rattle.pbnf.specs.Contents.{IsNoneOf, SavesIn, SavesPartIn, LeavesPart, KeepsUnnamed, TellsHands, GoesBy, Goes, WritesPut}
 use Rattle.pbnf.proofs.CallLists.{since_is, loads_tell, loads_save_none, loads_fail_none, loads_fail, ended_few, ended_no_fault, saves_tell, failures_tell}
+use Rattle.pbnf.proofs.Some.{first_are_some, none_of_some}
 use Rattle.pbnf.proofs.Told as told
 
 module _ (reading : Reading) (n : ℕ) (shelf sink : List Call) where
@@ -141,6 +143,8 @@ all_of_one reading n shelf sink does = promise reading n shelf sink AllOfOnePlan
     idle (Refused fault) broken = tt
     idle (Read (Solve solve)) broken = λ e. absurd (broken_is_other n 0 (omega arith) broken e)
     idle (Read (Check check)) broken = tt
+    idle (Read (Journal journal)) broken = tt
+    idle (Read (Make make)) broken = tt
 
 pub plan_is_plan : (reading : Reading) (n : ℕ) (shelf sink : List Call) → Does reading n shelf sink → PlanIsPlan reading (ran_by n shelf sink)
 plan_is_plan reading n shelf sink does = promise reading n shelf sink PlanIsPlan does (told.plan_is_plan (loaded_texts shelf) (ran_by n shelf sink).said reading) (idle reading)
@@ -149,6 +153,8 @@ plan_is_plan reading n shelf sink does = promise reading n shelf sink PlanIsPlan
     idle (Refused fault) broken = tt
     idle (Read (Solve solve)) broken = λ e. absurd (broken_is_other n 0 (omega arith) broken e)
     idle (Read (Check check)) broken = tt
+    idle (Read (Journal journal)) broken = tt
+    idle (Read (Make make)) broken = tt
 
 pub none_is_cheaper : (reading : Reading) (n : ℕ) (shelf sink : List Call) → Does reading n shelf sink → NoneIsCheaper reading (ran_by n shelf sink)
 none_is_cheaper reading n shelf sink does = promise reading n shelf sink NoneIsCheaper does (told.none_is_cheaper (loaded_texts shelf) (ran_by n shelf sink).said reading) (idle reading)
@@ -157,6 +163,8 @@ none_is_cheaper reading n shelf sink does = promise reading n shelf sink NoneIsC
     idle (Refused fault) broken = tt
     idle (Read (Solve solve)) broken = λ e. absurd (broken_is_other n 0 (omega arith) broken e)
     idle (Read (Check check)) broken = tt
+    idle (Read (Journal journal)) broken = tt
+    idle (Read (Make make)) broken = tt
 
 pub certificate_holds : (reading : Reading) (n : ℕ) (shelf sink : List Call) → Does reading n shelf sink → CertificateHolds reading (ran_by n shelf sink)
 certificate_holds reading n shelf sink does = promise reading n shelf sink CertificateHolds does (told.certificate_holds (loaded_texts shelf) (ran_by n shelf sink).said reading) (idle reading)
@@ -165,6 +173,8 @@ certificate_holds reading n shelf sink does = promise reading n shelf sink Certi
     idle (Refused fault) broken = tt
     idle (Read (Solve solve)) broken = λ e. absurd (broken_is_other n 0 (omega arith) broken e)
     idle (Read (Check check)) broken = tt
+    idle (Read (Journal journal)) broken = tt
+    idle (Read (Make make)) broken = tt
 
 pub none_means_none : (reading : Reading) (n : ℕ) (shelf sink : List Call) → Does reading n shelf sink → NoneMeansNone reading (ran_by n shelf sink)
 none_means_none reading n shelf sink does = promise reading n shelf sink NoneMeansNone does (told.none_means_none (loaded_texts shelf) (ran_by n shelf sink).said reading) (idle reading)
@@ -173,6 +183,8 @@ none_means_none reading n shelf sink does = promise reading n shelf sink NoneMea
     idle (Refused fault) broken = broken_is_other n 1 (omega arith) broken
     idle (Read (Solve solve)) broken = λ e. absurd (broken_is_other n 1 (omega arith) broken e)
     idle (Read (Check check)) broken = broken_is_other n 1 (omega arith) broken
+    idle (Read (Journal journal)) broken = broken_is_other n 1 (omega arith) broken
+    idle (Read (Make make)) broken = λ e. absurd (broken_is_other n 1 (omega arith) broken e)
 
 pub certificate_of_none : (reading : Reading) (n : ℕ) (shelf sink : List Call) → Does reading n shelf sink → CertificateOfNone reading (ran_by n shelf sink)
 certificate_of_none reading n shelf sink does = promise reading n shelf sink CertificateOfNone does (told.certificate_of_none (loaded_texts shelf) (ran_by n shelf sink).said reading) (idle reading)
@@ -181,6 +193,8 @@ certificate_of_none reading n shelf sink does = promise reading n shelf sink Cer
     idle (Refused fault) broken = tt
     idle (Read (Solve solve)) broken = λ e. absurd (broken_is_other n 1 (omega arith) broken e)
     idle (Read (Check check)) broken = tt
+    idle (Read (Journal journal)) broken = tt
+    idle (Read (Make make)) broken = tt
 
 pub stop_has_cause : (reading : Reading) (n : ℕ) (shelf sink : List Call) → Does reading n shelf sink → StopHasCause reading (ran_by n shelf sink)
 stop_has_cause reading n shelf sink does = promise reading n shelf sink StopHasCause does (told.stop_has_cause (loaded_texts shelf) (ran_by n shelf sink).said reading) (idle reading)
@@ -189,6 +203,8 @@ stop_has_cause reading n shelf sink does = promise reading n shelf sink StopHasC
     idle (Refused fault) broken = broken_is_other n 2 (omega arith) broken
     idle (Read (Solve solve)) broken = λ e. absurd (broken_is_other n 2 (omega arith) broken e)
     idle (Read (Check check)) broken = broken_is_other n 2 (omega arith) broken
+    idle (Read (Journal journal)) broken = broken_is_other n 2 (omega arith) broken
+    idle (Read (Make make)) broken = λ e. absurd (broken_is_other n 2 (omega arith) broken e)
 
 pub accepted_is_valid : (reading : Reading) (n : ℕ) (shelf sink : List Call) → Does reading n shelf sink → AcceptedIsValid reading (ran_by n shelf sink)
 accepted_is_valid reading n shelf sink does = promise reading n shelf sink AcceptedIsValid does (told.accepted_is_valid (loaded_texts shelf) (ran_by n shelf sink).said reading) (idle reading)
@@ -197,6 +213,8 @@ accepted_is_valid reading n shelf sink does = promise reading n shelf sink Accep
     idle (Refused fault) broken = broken_is_other n 0 (omega arith) broken
     idle (Read (Solve solve)) broken = tt
     idle (Read (Check check)) broken = λ e. absurd (broken_is_other n 0 (omega arith) broken e)
+    idle (Read (Journal journal)) broken = tt
+    idle (Read (Make make)) broken = tt
 
 pub rejected_is_faulty : (reading : Reading) (n : ℕ) (shelf sink : List Call) → Does reading n shelf sink → RejectedIsFaulty reading (ran_by n shelf sink)
 rejected_is_faulty reading n shelf sink does = promise reading n shelf sink RejectedIsFaulty does (told.rejected_is_faulty (loaded_texts shelf) (ran_by n shelf sink).said reading) (idle reading)
@@ -205,6 +223,8 @@ rejected_is_faulty reading n shelf sink does = promise reading n shelf sink Reje
     idle (Refused fault) broken = broken_is_other n 3 (omega arith) broken
     idle (Read (Solve solve)) broken = broken_is_other n 3 (omega arith) broken
     idle (Read (Check check)) broken = λ e. absurd (broken_is_other n 3 (omega arith) broken e)
+    idle (Read (Journal journal)) broken = λ e. absurd (broken_is_other n 3 (omega arith) broken e)
+    idle (Read (Make make)) broken = broken_is_other n 3 (omega arith) broken
 
 pub named_plan_is_plan : (reading : Reading) (n : ℕ) (shelf sink : List Call) → Does reading n shelf sink → NamedPlanIsPlan reading (ran_by n shelf sink)
 named_plan_is_plan reading n shelf sink does = promise reading n shelf sink NamedPlanIsPlan does (told.named_plan_is_plan (loaded_texts shelf) (ran_by n shelf sink).said reading) (idle reading)
@@ -213,6 +233,8 @@ named_plan_is_plan reading n shelf sink does = promise reading n shelf sink Name
     idle (Refused fault) broken = tt
     idle (Read (Solve solve)) broken = λ e. absurd (broken_is_other n 0 (omega arith) broken e)
     idle (Read (Check check)) broken = tt
+    idle (Read (Journal journal)) broken = tt
+    idle (Read (Make make)) broken = tt
 
 pub named_none_means_none : (reading : Reading) (n : ℕ) (shelf sink : List Call) → Does reading n shelf sink → NamedNoneMeansNone reading (ran_by n shelf sink)
 named_none_means_none reading n shelf sink does = promise reading n shelf sink NamedNoneMeansNone does (told.named_none_means_none (loaded_texts shelf) (ran_by n shelf sink).said reading) (idle reading)
@@ -221,6 +243,8 @@ named_none_means_none reading n shelf sink does = promise reading n shelf sink N
     idle (Refused fault) broken = tt
     idle (Read (Solve solve)) broken = λ e. absurd (broken_is_other n 1 (omega arith) broken e)
     idle (Read (Check check)) broken = tt
+    idle (Read (Journal journal)) broken = tt
+    idle (Read (Make make)) broken = tt
 
 pub named_verdict_holds : (reading : Reading) (n : ℕ) (shelf sink : List Call) → Does reading n shelf sink → NamedVerdictHolds reading (ran_by n shelf sink)
 named_verdict_holds reading n shelf sink does = promise reading n shelf sink NamedVerdictHolds does (told.named_verdict_holds (loaded_texts shelf) (ran_by n shelf sink).said reading) (idle reading)
@@ -229,6 +253,8 @@ named_verdict_holds reading n shelf sink does = promise reading n shelf sink Nam
     idle (Refused fault) broken = tt
     idle (Read (Solve solve)) broken = tt
     idle (Read (Check check)) broken = λ e. absurd (broken_is_other n 0 (omega arith) broken e)
+    idle (Read (Journal journal)) broken = tt
+    idle (Read (Make make)) broken = tt
 
 pub check_is_decided : (reading : Reading) (n : ℕ) (shelf sink : List Call) → Does reading n shelf sink → CheckIsDecided reading (ran_by n shelf sink)
 check_is_decided reading n shelf sink does = promise reading n shelf sink CheckIsDecided does (told.check_is_decided (loaded_texts shelf) (ran_by n shelf sink).said reading) (idle reading)
@@ -241,6 +267,47 @@ check_is_decided reading n shelf sink does = promise reading n shelf sink CheckI
     idle (Refused fault) broken = tt
     idle (Read (Solve solve)) broken = tt
     idle (Read (Check check)) broken = λ parts certificate is. either (checked (space_of parts) (estimate_of parts) (kind_of parts) certificate) broken
+    idle (Read (Journal journal)) broken = tt
+    idle (Read (Make make)) broken = tt
+
+pub journal_is_legal : (reading : Reading) (n : ℕ) (shelf sink : List Call) → Does reading n shelf sink → JournalIsLegal reading (ran_by n shelf sink)
+journal_is_legal reading n shelf sink does = promise reading n shelf sink JournalIsLegal does (told.journal_is_legal (loaded_texts shelf) (ran_by n shelf sink).said reading) (idle reading)
+  where
+    idle : (r : Reading) → (n ≡ 71) ⊎ ((n ≡ 73) ⊎ (n ≡ 74)) → JournalIsLegal r (ran_by n shelf sink)
+    idle (Refused fault) broken = tt
+    idle (Read (Solve solve)) broken = tt
+    idle (Read (Check check)) broken = tt
+    idle (Read (Journal journal)) broken = λ e. absurd (broken_is_other n 0 (omega arith) broken e)
+    idle (Read (Make make)) broken = tt
+
+pub journal_is_decided : (reading : Reading) (n : ℕ) (shelf sink : List Call) → Does reading n shelf sink → JournalIsDecided reading (ran_by n shelf sink)
+journal_is_decided reading n shelf sink does = promise reading n shelf sink JournalIsDecided does (told.journal_is_decided (loaded_texts shelf) (ran_by n shelf sink).said reading) (idle reading)
+  where
+    idle : (r : Reading) → (n ≡ 71) ⊎ ((n ≡ 73) ⊎ (n ≡ 74)) → JournalIsDecided r (ran_by n shelf sink)
+    idle (Refused fault) broken = tt
+    idle (Read (Solve solve)) broken = tt
+    idle (Read (Check check)) broken = tt
+    idle (Read (Journal journal)) broken = λ parts text events is legal. inr broken
+    idle (Read (Make make)) broken = tt
+
+pub made_is_least : (reading : Reading) (n : ℕ) (shelf sink : List Call) → Does reading n shelf sink → MadeIsLeast reading (ran_by n shelf sink)
+made_is_least reading n shelf sink does = promise reading n shelf sink MadeIsLeast does (told.made_is_least (loaded_texts shelf) (ran_by n shelf sink).said reading) (idle reading)
+  where
+    idle : (r : Reading) → (n ≡ 71) ⊎ ((n ≡ 73) ⊎ (n ≡ 74)) → MadeIsLeast r (ran_by n shelf sink)
+    idle (Refused fault) broken = tt
+    idle (Read (Solve solve)) broken = tt
+    idle (Read (Check check)) broken = tt
+    idle (Read (Journal journal)) broken = tt
+    idle (Read (Make make)) broken = λ e. absurd (broken_is_other n 0 (omega arith) broken e)
+
+-- if no call failed, there is an answer to the texts that were loaded, or want of memory
+pub done_is_answered : (reading : Reading) (n : ℕ) (shelf sink : List Call) → Does reading n shelf sink → have_failed shelf ≡ false → have_failed sink ≡ false
+    → IsAnswered reading (loaded_texts shelf) n
+done_is_answered reading n shelf sink does shelf_done sink_done =
+    by_way reading n shelf sink (IsAnswered reading (loaded_texts shelf) n) does (told.answered (loaded_texts shelf) (ran_by n shelf sink).said reading)
+    (told.memory_answers reading (loaded_texts shelf) n)
+    (λ e. absurd (true≢false (sym ((shelf_fails reading n shelf sink does).0 e) ∙ shelf_done)))
+    (λ e. absurd (true≢false (sym ((sink_fails reading n shelf sink does).0 e) ∙ sink_done)))
 
 pub input_is_refused : (reading : Reading) (n : ℕ) (shelf sink : List Call) → Does reading n shelf sink → InputIsRefused reading (ran_by n shelf sink)
 input_is_refused reading n shelf sink does = promise reading n shelf sink InputIsRefused does (told.input_is_refused (loaded_texts shelf) (ran_by n shelf sink).said reading)
@@ -279,8 +346,8 @@ answer_not n (inr (inr (inr (inr (inr k))))) broken = broken_is_other n 65 (omeg
 abbrev pub names_of : List Output → List (List ℕ)
 names_of outputs = map (λ (o : Output). o.name) outputs
 
-none_begun : (reading : Reading) (outputs : List Output) → outputs ≡ [] → (rest : List (List ℕ)) × (saved_names reading ≡ names_of outputs ++ rest)
-none_begun reading outputs none = (saved_names reading, ap (λ (os : List Output). names_of os ++ saved_names reading) (sym none))
+none_begun : (reading : Reading) (outputs : List Output) → outputs ≡ [] → AreSomeOf (names_of outputs) (saved_names reading)
+none_begun reading outputs none = subst (λ (os : List Output). AreSomeOf (names_of os) (saved_names reading)) (sym none) tt
 
 module _ (reading : Reading) (n : ℕ) (shelf sink : List Call) where
   no_outputs_out : (out : RunsOut reading n shelf sink) → outputs_in shelf ≡ []
@@ -294,50 +361,49 @@ module _ (reading : Reading) (n : ℕ) (shelf sink : List Call) where
   outputs_are_named (inr (inl failed)) = none_begun reading (outputs_in shelf) (no_outputs_failed failed)
   outputs_are_named (inr (inr a)) = go a.hands
     where
-      due : (rest : List (List ℕ)) × (saved_names reading ≡ names_of a.said.outputs ++ rest)
+      due : AreSomeOf (names_of a.said.outputs) (saved_names reading)
       due = told.outputs_are_named a.texts a.said reading a.answers
 
+      named_as : (outputs : List Output) → outputs_in shelf ≡ outputs → AreSomeOf (names_of outputs) (saved_names reading) → OutputsAreNamed reading (ran_by n shelf sink)
+      named_as outputs is some = subst (λ (os : List Output). AreSomeOf (names_of os) (saved_names reading)) (sym is) some
+
       whole : SaveAll a.saves a.said.outputs → OutputsAreNamed reading (ran_by n shelf sink)
-      whole saves = (due.0, due.1 ∙ ap (λ (os : List Output). names_of os ++ due.0) (sym (answered_outputs reading n shelf sink a ∙ (saves_tell a.saves a.said.outputs saves).saved)))
+      whole saves = named_as a.said.outputs (answered_outputs reading n shelf sink a ∙ (saves_tell a.saves a.said.outputs saves).saved) due
 
       go : HandsOut a.said n a.saves sink ⊎ (FailsToSave a.said n a.saves sink ⊎ FailsToPut a.said n a.saves sink) → OutputsAreNamed reading (ran_by n shelf sink)
       go (inl h) = whole h.saves_are
       go (inr (inl f)) =
-          let tell = failures_tell a.saves a.said.outputs f.saves_are in (
-            tell.rest ++ due.0,
-            due.1 ∙ ap (λ (ns : List (List ℕ)). ns ++ due.0) tell.named ∙ append_assoc (names_of (outputs_in a.saves)) tell.rest due.0
-                ∙ ap (λ (os : List Output). names_of os ++ (tell.rest ++ due.0)) (sym (answered_outputs reading n shelf sink a)),
-          )
+          let tell = failures_tell a.saves a.said.outputs f.saves_are in
+          named_as (outputs_in a.saves) (answered_outputs reading n shelf sink a)
+          (first_are_some (names_of (outputs_in a.saves)) tell.rest (saved_names reading) (subst (λ (ns : List (List ℕ)). AreSomeOf ns (saved_names reading)) tell.named due))
       go (inr (inr f)) = whole f.saves_are
 
-  pub nothing_saved : Does reading n shelf sink → (n ≡ 2) ⊎ (n ≡ 3) ⊎ (n ≡ 64) ⊎ (n ≡ 65) ⊎ (n ≡ 71) → outputs_in shelf ≡ []
+  pub nothing_saved : Does reading n shelf sink → (n ≡ 3) ⊎ (n ≡ 64) ⊎ (n ≡ 65) ⊎ (n ≡ 71) → outputs_in shelf ≡ []
   nothing_saved (inl out) e = no_outputs_out out
   nothing_saved (inr (inl failed)) e = no_outputs_failed failed
   nothing_saved (inr (inr a)) e = go a.hands
     where
-      other : (k : ℕ) → k < 2 → n ≡ k → ⊥
+      other : (k : ℕ) → k < 3 → n ≡ k → ⊥
       other k less f = which e
         where
-          which : (n ≡ 2) ⊎ (n ≡ 3) ⊎ (n ≡ 64) ⊎ (n ≡ 65) ⊎ (n ≡ 71) → ⊥
+          which : (n ≡ 3) ⊎ (n ≡ 64) ⊎ (n ≡ 65) ⊎ (n ≡ 71) → ⊥
           which (inl h) = omega (arith, h, f, less)
           which (inr (inl h)) = omega (arith, h, f, less)
           which (inr (inr (inl h))) = omega (arith, h, f, less)
-          which (inr (inr (inr (inl h)))) = omega (arith, h, f, less)
-          which (inr (inr (inr (inr h)))) = omega (arith, h, f, less)
+          which (inr (inr (inr h))) = omega (arith, h, f, less)
 
       neither : (k : ℕ) → 72 < k → n ≡ k → ⊥
       neither k more f = which e
         where
-          which : (n ≡ 2) ⊎ (n ≡ 3) ⊎ (n ≡ 64) ⊎ (n ≡ 65) ⊎ (n ≡ 71) → ⊥
+          which : (n ≡ 3) ⊎ (n ≡ 64) ⊎ (n ≡ 65) ⊎ (n ≡ 71) → ⊥
           which (inl h) = omega (arith, h, f, more)
           which (inr (inl h)) = omega (arith, h, f, more)
           which (inr (inr (inl h))) = omega (arith, h, f, more)
-          which (inr (inr (inr (inl h)))) = omega (arith, h, f, more)
-          which (inr (inr (inr (inr h)))) = omega (arith, h, f, more)
+          which (inr (inr (inr h))) = omega (arith, h, f, more)
 
       go : HandsOut a.said n a.saves sink ⊎ (FailsToSave a.said n a.saves sink ⊎ FailsToPut a.said n a.saves sink) → outputs_in shelf ≡ []
       go (inl h) = answered_outputs reading n shelf sink a ∙ (saves_tell a.saves a.said.outputs h.saves_are).saved
-          ∙ told.nothing_to_save a.texts a.said reading a.answers (λ zero. other 0 (omega arith) (h.status_is ∙ zero)) (λ one. other 1 (omega arith) (h.status_is ∙ one))
+          ∙ told.nothing_to_save a.texts a.said reading a.answers (λ zero. other 0 (omega arith) (h.status_is ∙ zero)) (λ one. other 1 (omega arith) (h.status_is ∙ one)) (λ two. other 2 (omega arith) (h.status_is ∙ two))
       go (inr (inl f)) = absurd (neither 73 (omega arith) f.status_is)
       go (inr (inr f)) = absurd (neither 74 (omega arith) f.status_is)
 
@@ -434,10 +500,6 @@ module _ (reading : Reading) (n : ℕ) (shelf sink : List Call) where
 
     -- ---- files under other names
 
-    none_of : (names rest : List (List ℕ)) (other : List ℕ) → IsNoneOf (names ++ rest) other → IsNoneOf names other
-    none_of [] rest other h = tt
-    none_of (name ∷ names) rest other h = (h.0, none_of names rest other h.1)
-
     stay_in : (outputs : List Output) (x y : Files) (other : List ℕ) → IsNoneOf (names_of outputs) other → SavesIn outputs x y → y other ≡ x other
     stay_in [] x y other h saves = saves other
     stay_in (first ∷ outputs) x y other h (between, here, others, more) = stay_in outputs between y other h.1 more ∙ others other h.0
@@ -452,11 +514,8 @@ module _ (reading : Reading) (n : ℕ) (shelf sink : List Call) where
     others_stay (inr (inl (failed, kept))) = told_map files files' KeepsAll (KeepsUnnamed reading) (λ x y h other none. h other) kept
     others_stay (inr (inr (a, loaded, hands))) = go a.hands hands
       where
-        due : (rest : List (List ℕ)) × (saved_names reading ≡ names_of a.said.outputs ++ rest)
-        due = told.outputs_are_named a.texts a.said reading a.answers
-
         none_due : (other : List ℕ) → IsNoneOf (saved_names reading) other → IsNoneOf (names_of a.said.outputs) other
-        none_due other none = none_of (names_of a.said.outputs) due.0 other (subst (λ (ns : List (List ℕ)). IsNoneOf ns other) due.1 none)
+        none_due other none = none_of_some (names_of a.said.outputs) (saved_names reading) other (told.outputs_are_named a.texts a.said reading a.answers) none
 
         go : (h : HandsOut a.said n a.saves sink ⊎ (FailsToSave a.said n a.saves sink ⊎ FailsToPut a.said n a.saves sink)) → TellsHands a.said files files' h → IfTold files files' (KeepsUnnamed reading)
         go (inl h) told_it = told_map files files' (SavesIn a.said.outputs) (KeepsUnnamed reading) (λ x y saves other none. stay_in a.said.outputs x y other (none_due other none) saves) told_it

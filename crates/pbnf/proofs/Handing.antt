@@ -1,23 +1,22 @@
 -- The whole way of a call of the program, exit by exit.
-use Rattle.std.proofs.Common.{◌≡◌, ◌≢◌, ◌⊎◌, inl, inr, ℕ, ◌≤◌, Option, None, Some, IfSome, IsSome, List, [], ◌∷◌, ◌++◌, length, take, Result, Ok, Err, OnOk, refl, sym, ap, subst, ◌∙◌, arith, append_assoc, append-nil}
+use Rattle.std.proofs.Common.{◌≡◌, ◌⊎◌, inl, inr, ℕ, Option, None, Some, IsSome, List, [], ◌∷◌, ◌++◌, length, take, Result, Ok, Err, OnOk, OnErr, refl, sym, ap, subst, ◌∙◌, append_assoc, append-nil}
 use Rattle.pb_outside.specs.Outside.{Files, IfTold, Appends, KeepsAll, KeepsOthers, KeepsHolds}
-use Rattle.pb_outside.specs.Calls.{Call, Put, PutFailed, Notes, NotesPutFailed}
+use Rattle.pb_outside.specs.Calls.{Call, Put, PutFailed}
 use Rattle.pb_outside.proofs.Told.{told_then, told_both}
 use Rattle.pb_outside.specs.declared.shelf.Load.TheVariants.{Failed}
 use Rattle.pb_command.specs.Meaning.{Reading}
-use Rattle.pb_cert.specs.Saved.{IsPartSaved}
+use Rattle.pb_outside.specs.Saves.{IsPartSaved}
 use Rattle.pbnf.specs.Asked.{files_of, CanLoad}
-use Rattle.pbnf.specs.Statuses.{number_of}
-use Rattle.pbnf.specs.Calls.{Output, output, put_bytes, load_calls, CanHold}
-use Rattle.pbnf.specs.Loaded.{AreLoaded, loads_of}
-use Rattle.pbnf.specs.Answer.{Said, AnswersReading}
-use Rattle.pbnf.specs.Course.{HasAnswered}
+use Rattle.pb_answer.specs.Statuses.{number_of}
+use Rattle.pb_answer.specs.Outputs.{Output, output}
+use Rattle.pbnf.specs.Calls.{load_calls, CanHold}
+use Rattle.pbnf.specs.Loads.{AreLoaded}
+use Rattle.pb_answer.specs.Answer.{Said, AnswersReading}
 use Rattle.pbnf.specs.Headline.{IsAnswer, CanServe}
 use Rattle.pbnf.specs.Fit.{IfShelf, status_of}
-use Rattle.pbnf.specs.Contents.{SavesIn, SavesPartIn, LoadsAll, LoadsUpTo, Saved, SavedPart, Hands, HandsTold, GoesBy, Goes, WritesPut}
+use Rattle.pbnf.specs.Contents.{SavesIn, SavesPartIn, LoadsAll, LoadsUpTo, Hands, HandsTold, Goes, WritesPut}
 use Rattle.pbnf.specs.declared.load.Fault.{Fault}
 use Rattle.pbnf.specs.declared.load.Fault.TheVariants.{OutOfMemory, ShelfFailed}
-use Rattle.pbnf.specs.declared.output.Ending.{Ending}
 use Rattle.pbnf.specs.declared.output.Ending.TheVariants.{Done, NotSaved, NotPrinted}
 use Rattle.pbnf.proofs.CallLists.{ended_few, ended_no_fault}
 use Rattle.pbnf.proofs.Told as told
@@ -27,6 +26,10 @@ use Rattle.pbnf.proofs.Told as told
 pub on_ok_as : {T E P Q : Type 0} (result : Result T E) → OnOk result P → (P → Q) → OnOk result Q
 on_ok_as (Ok x) p f = f p
 on_ok_as (Err e) p f = tt
+
+pub on_err_as : {T E P Q : Type 0} (result : Result T E) → OnErr result P → (P → Q) → OnErr result Q
+on_err_as (Ok x) p f = tt
+on_err_as (Err e) p f = f p
 
 pub saved_one : (files files' : Option Files) (name text : List ℕ) → IfTold files files' (λ before after. after name ≡ Some text) → IfTold files files' (λ before after. KeepsOthers before after name)
     → IfTold files files' (SavesIn (output name text ∷ []))

@@ -1,11 +1,9 @@
-pub mod Reports
-pub mod Groups
-pub mod Certified
-pub mod Searched
+pub mod Some
+pub mod Saving
 pub mod Loads
-pub mod ByNames
 pub mod Told
 pub mod CallLists
 pub mod Loading
 pub mod Doing
 pub mod Handing
+pub mod Accepted

@@ -4,7 +4,7 @@ use Rattle.std.proofs.lemmas.List.{append-nil}
 use Rattle.std.proofs.lemmas.Bool.Decides.{nat_tests}
 use Rattle.pb_outside.specs.Outside.{Files, IfTold, KeepsAll}
 use Rattle.pbnf.specs.Asked.{Wanted}
-use Rattle.pbnf.specs.Loaded.{load_before, loads_of, AreLoaded}
+use Rattle.pbnf.specs.Loads.{load_before, loads_of, AreLoaded}
 use Rattle.pbnf.specs.Files.{LoadsText}
 
 -- what is loaded behind these texts

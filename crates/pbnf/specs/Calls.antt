@@ -1,8 +1,9 @@
 -- What a call of the program calls on the shelf and the sink: one sequence, of which it may do a beginning.
-use Rattle.std.specs.Prelude.{◌≡◌, ◌⊎◌, ℕ, ◌+◌, ◌<◌, ◌≤◌, Bool, true, false, ◌||◌, Option, None, Some, IfSome, List, [], ◌∷◌, ◌++◌, length, take, drop}
+use Rattle.std.specs.Prelude.{◌≡◌, ◌⊎◌, ℕ, ◌<◌, Bool, true, false, ◌||◌, Option, None, Some, List, [], ◌∷◌, ◌++◌, length, take, drop}
 use Rattle.pb_outside.specs.declared.shelf.Load.{Load}
 use Rattle.pb_outside.specs.declared.shelf.Load.TheVariants.{Failed, TooLong, Memory}
-use Rattle.pb_outside.specs.Calls.{Call, Loaded, LoadFailed, Created, CreateFailed, Appended, AppendFailed, Put, PutFailed, SaveText, FailToSave, IsNoFault}
+use Rattle.pb_outside.specs.Calls.{Call, Loaded, LoadFailed, Created, CreateFailed, Appended, AppendFailed, Put, PutFailed, SaveText, FailToSave}
+use Rattle.pb_answer.specs.Outputs.{Output, output}
 use Rattle.pbnf.specs.Asked.{Wanted}
 
 -- the calls that were made since
@@ -24,14 +25,6 @@ appended_bytes (Created name ∷ calls) = []
 appended_bytes (Appended name piece ∷ calls) = piece ++ appended_bytes calls
 appended_bytes (AppendFailed name piece kept ∷ calls) = take kept piece ++ appended_bytes calls
 appended_bytes (call ∷ calls) = appended_bytes calls
-
--- a file that is saved: its name and its text
-pub record Output : Type 0 where
-  pub name : List ℕ
-  pub text : List ℕ
-
-abbrev pub output : (name text : List ℕ) → Output
-output name text = record { name = name; text = text }
 
 -- the files that were begun, in order, with what was appended to each
 abbrev pub outputs_in : List Call → List Output

@@ -1,16 +1,17 @@
 -- What a call of the program does to the files that a shelf tells.
-use Rattle.std.specs.Prelude.{◌≡◌, ◌≢◌, ◌⊎◌, ℕ, ◌<◌, ◌≤◌, Option, None, Some, IfSome, List, [], ◌∷◌, ◌++◌, length, ⊤}
+use Rattle.std.specs.Prelude.{◌≡◌, ◌≢◌, ◌⊎◌, ℕ, ◌<◌, ◌≤◌, Option, Some, IfSome, List, [], ◌∷◌, ◌++◌, length, ⊤}
 use mathlib.Core.Logic.{inl, inr}
 use Rattle.pb_outside.specs.declared.shelf.Load.{Load}
 use Rattle.pb_outside.specs.declared.shelf.Load.TheVariants.{Failed}
 use Rattle.pb_outside.specs.Outside.{Files, IfTold, Appends, KeepsAll, KeepsOthers}
 use Rattle.pb_outside.specs.Calls.{Call, Put, Notes, NotesPutFailed, IsNoFault}
-use Rattle.pb_cert.specs.Saved.{IsPartSaved}
+use Rattle.pb_outside.specs.Saves.{IsPartSaved}
 use Rattle.pb_command.specs.Meaning.{Reading}
 use Rattle.pbnf.specs.Asked.{Wanted, files_of, saved_names}
-use Rattle.pbnf.specs.Calls.{Output, put_bytes, load_calls, EndLoads, SaveAll, FailToSaveAll}
-use Rattle.pbnf.specs.Loaded.{AreLoaded}
-use Rattle.pbnf.specs.Answer.{Said, AnswersReading}
+use Rattle.pb_answer.specs.Outputs.{Output}
+use Rattle.pbnf.specs.Calls.{put_bytes, load_calls, EndLoads, SaveAll, FailToSaveAll}
+use Rattle.pbnf.specs.Loads.{AreLoaded}
+use Rattle.pb_answer.specs.Answer.{Said, AnswersReading}
 use Rattle.pbnf.specs.Course.{RunsOut, FailsToLoad, HandsOut, FailsToSave, FailsToPut, HasAnswered}
 use Rattle.pbnf.specs.declared.output.Ending.{Ending}
 use Rattle.pbnf.specs.declared.output.Ending.TheVariants.{Done, NotSaved, NotPrinted}

@@ -1,12 +1,12 @@
 -- How a call of the program goes: what it calls on the shelf and the sink, how far it comes, and what it then answers.
-use Rattle.std.specs.Prelude.{◌≡◌, ◌⊎◌, ℕ, ◌<◌, ◌≤◌, Option, None, Some, IfSome, List, [], ◌∷◌, ◌++◌, length}
+use Rattle.std.specs.Prelude.{◌≡◌, ◌⊎◌, ℕ, ◌<◌, ◌≤◌, Option, Some, IfSome, List, [], ◌∷◌, ◌++◌, length}
 use Rattle.pb_outside.specs.declared.shelf.Load.{Load}
 use Rattle.pb_outside.specs.declared.shelf.Load.TheVariants.{Failed}
 use Rattle.pb_outside.specs.Calls.{Call, Put, PutFailed, IsNoFault}
 use Rattle.pb_command.specs.Meaning.{Reading}
 use Rattle.pbnf.specs.Asked.{files_of}
-use Rattle.pbnf.specs.Calls.{Output, loaded_texts, outputs_in, put_bytes, calls_since, load_calls, EndLoads, SaveAll, FailToSaveAll}
-use Rattle.pbnf.specs.Answer.{Said, AnswersReading}
+use Rattle.pbnf.specs.Calls.{loaded_texts, outputs_in, put_bytes, calls_since, load_calls, EndLoads, SaveAll, FailToSaveAll}
+use Rattle.pb_answer.specs.Answer.{Said, AnswersReading}
 
 -- Memory ran out before any file was begun: with some of the loads, and at most one that failed otherwise than by a fault.
 pub record RunsOut (reading : Reading) (status : ℕ) (shelf sink : List Call) : Type 0 where

@@ -5,8 +5,8 @@ use Rattle.pb_outside.specs.declared.shelf.Load.TheVariants as load
 use Rattle.pb_outside.specs.Outside.{Rose}
 use Rattle.pb_outside.specs.Calls.{Call, Loaded, LoadFailed, Notes}
 use Rattle.pbnf.specs.Asked.{Wanted}
-use Rattle.pbnf.specs.declared.status.Status.{Status}
-use Rattle.pbnf.specs.declared.status.Status.TheVariants as status
+use Rattle.pb_answer.specs.declared.status.Status.{Status}
+use Rattle.pb_answer.specs.declared.status.Status.TheVariants as status
 use Rattle.pbnf.specs.declared.load.Fault.{Fault}
 use Rattle.pbnf.specs.declared.load.Fault.TheVariants.{OutOfMemory, ShelfFailed}
 

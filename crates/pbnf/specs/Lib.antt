@@ -1,13 +1,9 @@
-pub mod Statuses
 pub mod Asked
-pub mod Loaded
+pub mod Loads
 pub mod Calls
-pub mod Leases
-pub mod Named
-pub mod Claims
-pub mod Answer
 pub mod Course
 pub mod Headline
 pub mod Contents
 pub mod Files
 pub mod Fit
+pub mod Laws

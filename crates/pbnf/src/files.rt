@@ -1,7 +1,7 @@
 ghost use Rattle.std.specs.Prelude.{◌≡◌, ◌++◌, ◌∷◌, [], IfOk, OnOk, OnErr, map, string_bytes};
 ghost use Rattle.pb_command.specs.Meaning.{reading_of_words};
 ghost use Rattle.pb_command.specs.Causes.{input_meant};
-ghost use Rattle.pbnf.specs.Asked.{wanted, input_files, files_of, longest_input, longest_certificate};
+ghost use Rattle.pbnf.specs.Asked.{wanted, input_files, files_of, longest_input, longest_record};
 ghost use Rattle.pbnf.specs.Files.{wanted_of};
 
 use pb_command::{CommandLine, CommandRefusal, Input, read_words};
@@ -10,8 +10,8 @@ use std::alloc::{AllocError, Global};
 // How many bytes an input file may have.
 const LONGEST_INPUT: u64 = 16_777_216;
 
-// How many bytes a certificate may have that is to be checked.
-const LONGEST_CERTIFICATE: u64 = 1_073_741_824;
+// How many bytes a certificate may have that is to be checked, or a journal that is to be judged.
+const LONGEST_RECORD: u64 = 1_073_741_824;
 
 /// A file that is to be loaded.
 #[derive(Clone, Copy, Debug)]
@@ -55,9 +55,14 @@ pub fn files_of<'a>(alloc: Global, words: &'a [String]) -> Result<Vec<Wanted<'a>
     match read_words(alloc, words) {
         Ok(CommandLine::Solve(solve)) => push_input(&mut files, solve.input)?,
         Ok(CommandLine::Check(check)) => {
-            push_file(&mut files, check.certificate, LONGEST_CERTIFICATE)?;
+            push_file(&mut files, check.certificate, LONGEST_RECORD)?;
             push_input(&mut files, check.input)?;
         }
+        Ok(CommandLine::Journal(journal)) => {
+            push_file(&mut files, journal.journal, LONGEST_RECORD)?;
+            push_input(&mut files, journal.input)?;
+        }
+        Ok(CommandLine::Make(_)) => {}
         Err(CommandRefusal::Words(_, _)) => {}
         Err(CommandRefusal::Memory) => return Err(AllocError),
     }

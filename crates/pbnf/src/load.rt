@@ -4,14 +4,13 @@ ghost use Rattle.pb_outside.specs.Outside.{IfTold, KeepsAll, KeepsHolds};
 ghost use Rattle.pb_outside.specs.Calls.{LoadFailed, Notes, KeepsLoads};
 ghost use Rattle.pb_command.specs.Meaning.{reading_of_words};
 ghost use Rattle.pbnf.specs.Asked.{files_of, CanLoad};
-ghost use Rattle.pbnf.specs.Loaded.{AreLoaded};
+ghost use Rattle.pbnf.specs.Loads.{AreLoaded};
 ghost use Rattle.pbnf.specs.Contents.{LoadsAll, LoadsUpTo};
 ghost use Rattle.pbnf.specs.Files.{wanted_of, LoadsText};
 ghost use Rattle.pbnf.specs.Fit.{FaultRose, IfShelf, NotesLoad, reason_of, status_of};
 
 use crate::files::{Wanted, files_of};
-use crate::status::Status;
-use crate::texts::Texts;
+use pb_answer::{Status, Texts};
 use pb_outside::{Load, Shelf};
 use std::alloc::{AllocError, Global};
 

@@ -1,25 +1,21 @@
-//! The planner: reads a task from files, finds its cheapest plan or that it has none, and saves a certificate of that; and checks certificates.
+//! The planner: reads a task from files, finds its cheapest plan or that it has none, and saves a certificate of that and a journal of the
+//! search; checks certificates and journals; and makes tasks.
 //!
-//! `run` is the whole program over any shelf, sink and gate, and carries the headline as its contract. `main` gives it the
-//! system's files and standard output.
+//! What is answered is decided in `pb_answer`. This crate loads the files before that, and then saves and prints. `run` is the
+//! whole program over any shelf, sink and gate, and carries the headline as its contract. `main` gives it the system's files and
+//! standard output.
 #![tactic(auto)]
 
-mod answer;
-mod check;
 mod files;
-mod input;
-mod lease_search;
+mod laws;
 mod load;
 mod output;
-mod solve;
 mod start;
-mod status;
-mod texts;
 mod top;
 
 use crate::start::{unread, words_of};
-use crate::status::Status;
 use crate::top::run;
+use pb_answer::Status;
 use pb_outside::{FileShelf, OpenGate, OutSink};
 use std::alloc::AllocError;
 use std::process::ExitCode;
@@ -41,8 +37,14 @@ fn main(rt: HostRuntime) -> ExitCode {
 }
 
 #[cfg(test)]
+mod journal_tests;
+#[cfg(test)]
+mod make_tests;
+#[cfg(test)]
 mod strips_tests;
 #[cfg(test)]
 mod tests;
 #[cfg(test)]
 mod tiles_tests;
+#[cfg(test)]
+mod workers_tests;

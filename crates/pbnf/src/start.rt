@@ -5,7 +5,7 @@ ghost use Rattle.pb_model.specs.Texts.{line};
 ghost use Rattle.pb_outside.specs.Outside.{Rose};
 ghost use Rattle.pb_outside.specs.Calls.{Put, Notes, NotesPutFailed};
 
-use crate::status::Status;
+use pb_answer::Status;
 use pb_outside::Sink;
 use std::alloc::{AllocError, Global};
 use std::env;

@@ -9,11 +9,11 @@ use std::sync::atomic::{AtomicU64, Ordering};
 use std::test::Fail;
 use std::thread::Threads;
 
-const OPEN_MAP: &str = "type octile\nheight 3\nwidth 3\nmap\n...\n...\n...\n";
+pub(crate) const OPEN_MAP: &str = "type octile\nheight 3\nwidth 3\nmap\n...\n...\n...\n";
 
 const WALLED_MAP: &str = "type octile\nheight 3\nwidth 3\nmap\n...\n@@@\n...\n";
 
-const SCENARIO: &str = "version 1\n0\tm\t3\t3\t0\t0\t2\t2\t0\n";
+pub(crate) const SCENARIO: &str = "version 1\n0\tm\t3\t3\t0\t0\t2\t2\t0\n";
 
 const PLAN: &str = "plan 4 4\nright\nright\ndown\ndown\nbound 4\n";
 
@@ -99,7 +99,7 @@ fn certificate<'a>(
 }
 
 // The words of a command line.
-fn words(alloc: Global, text: &str) -> Result<Vec<String>, Fail> {
+pub(crate) fn words(alloc: Global, text: &str) -> Result<Vec<String>, Fail> {
     let mut words = Vec::new(alloc);
     for word in text.split(' ') {
         words.push(String::from_str(alloc, word)?)?;
@@ -108,7 +108,7 @@ fn words(alloc: Global, text: &str) -> Result<Vec<String>, Fail> {
 }
 
 // A shelf with these two files, and room for a certificate.
-fn shelf(alloc: Global, map: &str, scenario: &str) -> Result<MemShelf, Fail> {
+pub(crate) fn shelf(alloc: Global, map: &str, scenario: &str) -> Result<MemShelf, Fail> {
     let mut shelf = MemShelf::new(alloc)?;
     shelf.add("map", map.as_bytes())?;
     shelf.add("scenario", scenario.as_bytes())?;
@@ -117,7 +117,7 @@ fn shelf(alloc: Global, map: &str, scenario: &str) -> Result<MemShelf, Fail> {
 }
 
 // The status of a run.
-pub(crate) fn outcome<R: Threads + Wait>(
+pub(crate) fn outcome<R: Threads + Wait + Sync>(
     rt: &R,
     alloc: Global,
     line: &str,

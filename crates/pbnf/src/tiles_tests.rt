@@ -8,7 +8,11 @@ use std::test::Fail;
 use std::thread::Threads;
 
 // Each row has a board, a status and what is printed.
-fn expect_boards<R: Abort + Threads + Wait>(rt: &R, alloc: Global, line: &str) -> Result<(), Fail> {
+fn expect_boards<R: Abort + Threads + Wait + Sync>(
+    rt: &R,
+    alloc: Global,
+    line: &str,
+) -> Result<(), Fail> {
     for (board, status, printed) in [
         ("2 2\n1 0\n2 3\n", 0, "plan 1 1\nleft\nbound 1\n"),
         ("2 2\n0 1\n2 3\n", 0, "plan 0 0\nbound 0\n"),

@@ -1,19 +1,18 @@
-ghost use Rattle.std.specs.Prelude.{◌≡◌, ◌≢◌, ◌⊎◌, ◌≤◌, ◌↔◌, ◌++◌, IsTrue, List, [], map, string_bytes};
+ghost use Rattle.std.specs.Prelude.{◌≡◌, ◌≢◌, ◌⊎◌, false, ◌≤◌, ◌↔◌, ◌++◌, IsTrue, List, [], map, string_bytes};
 ghost use Rattle.pb_command.specs.Meaning.{reading_of_words};
 ghost use Rattle.pb_outside.specs.Outside.{IfTold, Appends, Rose, KeepsAll};
-ghost use Rattle.pbnf.specs.Statuses.{number_of};
+ghost use Rattle.pb_answer.specs.Statuses.{number_of};
 ghost use Rattle.pbnf.specs.Asked.{files_of};
-ghost use Rattle.pbnf.specs.Loaded.{AreLoaded};
+ghost use Rattle.pbnf.specs.Loads.{AreLoaded};
 ghost use Rattle.pbnf.specs.Calls.{calls_since, have_failed};
-ghost use Rattle.pbnf.specs.Answer.{AnswersReading};
+ghost use Rattle.pb_answer.specs.Answer.{AnswersReading};
 ghost use Rattle.pbnf.specs.Course.{DoesSince, ran};
-ghost use Rattle.pbnf.specs.Headline.{IsAnswer, IsBroken, AllOfOnePlan, PlanIsPlan, NoneIsCheaper, CertificateHolds, NoneMeansNone, CertificateOfNone, StopHasCause, AcceptedIsValid, RejectedIsFaulty, CheckIsDecided, NamedPlanIsPlan, NamedNoneMeansNone, NamedVerdictHolds, WordsAreRefused, InputIsRefused, OutputsAreNamed, CanServe, IsComplete};
+ghost use Rattle.pbnf.specs.Headline.{IsAnswer, IsBroken, AllOfOnePlan, PlanIsPlan, NoneIsCheaper, CertificateHolds, NoneMeansNone, CertificateOfNone, StopHasCause, AcceptedIsValid, RejectedIsFaulty, CheckIsDecided, JournalIsLegal, JournalIsDecided, MadeIsLeast, NamedPlanIsPlan, NamedNoneMeansNone, NamedVerdictHolds, WordsAreRefused, InputIsRefused, OutputsAreNamed, IsAnswered, CanServe, IsComplete};
 ghost use Rattle.pbnf.specs.Contents.{SavesIn, LeavesPart, KeepsUnnamed, Goes, WritesPut};
 
-use crate::answer::answer_words;
 use crate::load::load_files;
 use crate::output::{Ending, hand_out};
-use crate::status::Status;
+use pb_answer::{Status, answer_words};
 use pb_lease::LeaseGraph;
 use pb_outside::{Gate, Shelf, Sink};
 use std::alloc::Global;
@@ -21,13 +20,13 @@ use std::sync::Wait;
 use std::thread::Threads;
 
 /// Does what the words ask with the files of a shelf, prints on a sink, and answers the exit status.
-/// A search has one worker, who takes no lock and waits for nobody; the gate is told of each lease, and each time
-/// before one is renewed or comes back.
+/// A search is asked for as many workers as the words say. One worker takes no lock and waits for nobody, and more have
+/// a thread each; the gate is told of each lease, and each time before one is renewed or comes back. No clause says so.
 ///
 /// The clauses speak of the calls that this call made on the shelf and the sink, and so of any shelf and sink. What
 /// they say of contents, where these are told, is last.
-pub fn run<R: Threads + Wait, H: Shelf, K: Sink, G: Gate>(
-    _rt: &R,
+pub fn run<R: Threads + Wait + Sync, H: Shelf, K: Sink, G: Gate>(
+    rt: &R,
     alloc: Global,
     words: &[String],
     shelf: &mut H,
@@ -40,14 +39,15 @@ pub fn run<R: Threads + Wait, H: Shelf, K: Sink, G: Gate>(
     ensures shelf_fault { result ≡ 73 ↔ IsTrue (have_failed (calls_since (H.calls shelf.old) (H.calls shelf.new))) }
     ensures sink_fault { result ≡ 74 ↔ IsTrue (have_failed (calls_since (K.calls out.old) (K.calls out.new))) }
 
-    // All of one plan: it is printed with its cost and bound, it is a plan of the task that was loaded, no plan costs
-    // less than its cost divided by the weight, and the saved certificate has it.
+    // All of one plan: it is printed with its cost and bound, it is a plan of the task that was loaded, and its cost
+    // is at most num / den times that of any plan, where that is the weight. A search as the words ask for it found
+    // it, and the certificate and the journal of that search are saved.
     ensures solved { AllOfOnePlan (reading_of_words (map string_bytes words.now)) (ran result (H.calls shelf.old) (H.calls shelf.new) (K.calls out.old) (K.calls out.new)) }
 
     // A printed plan is a plan of the task, with its cost and bound.
     ensures plan { PlanIsPlan (reading_of_words (map string_bytes words.now)) (ran result (H.calls shelf.old) (H.calls shelf.new) (K.calls out.old) (K.calls out.new)) }
 
-    // No plan costs less than the cost that is printed, divided by the weight.
+    // The cost that is printed is at most num / den times that of any plan.
     ensures cheapest { NoneIsCheaper (reading_of_words (map string_bytes words.now)) (ran result (H.calls shelf.old) (H.calls shelf.new) (K.calls out.old) (K.calls out.new)) }
 
     // The saved certificate is valid and accepted, and has the plan that is printed, or none.
@@ -57,13 +57,21 @@ pub fn run<R: Threads + Wait, H: Shelf, K: Sink, G: Gate>(
     // Where none is printed, there is none.
     ensures none { NoneMeansNone (reading_of_words (map string_bytes words.now)) (ran result (H.calls shelf.old) (H.calls shelf.new) (K.calls out.old) (K.calls out.new)) }
 
-    // A stop names its cause, and claims nothing.
+    // A stop names its cause, saves at most the journal, and claims nothing.
     ensures stopped { StopHasCause (reading_of_words (map string_bytes words.now)) (ran result (H.calls shelf.old) (H.calls shelf.new) (K.calls out.old) (K.calls out.new)) }
 
-    // An accepted certificate is a valid one of the task, and what it claims is true; of another one the first fault is printed.
+    // An accepted certificate is a valid one of the task, and what it claims is true; of another one, and of a text that is no
+    // journal of the task, the first fault is printed.
     ensures accepted { AcceptedIsValid (reading_of_words (map string_bytes words.now)) (ran result (H.calls shelf.old) (H.calls shelf.new) (K.calls out.old) (K.calls out.new)) }
     ensures rejected { RejectedIsFaulty (reading_of_words (map string_bytes words.now)) (ran result (H.calls shelf.old) (H.calls shelf.new) (K.calls out.old) (K.calls out.new)) }
     ensures check_exact { CheckIsDecided (reading_of_words (map string_bytes words.now)) (ran result (H.calls shelf.old) (H.calls shelf.new) (K.calls out.old) (K.calls out.new)) }
+
+    // An accepted journal is that of a finished legal history over the task's blocks, and each of those is accepted.
+    ensures journal { JournalIsLegal (reading_of_words (map string_bytes words.now)) (ran result (H.calls shelf.old) (H.calls shelf.new) (K.calls out.old) (K.calls out.new)) }
+    ensures journal_exact { JournalIsDecided (reading_of_words (map string_bytes words.now)) (ran result (H.calls shelf.old) (H.calls shelf.new) (K.calls out.old) (K.calls out.new)) }
+
+    // A plan of a made task has the printed cost, none is cheaper, and its certificate is accepted.
+    ensures made { MadeIsLeast (reading_of_words (map string_bytes words.now)) (ran result (H.calls shelf.old) (H.calls shelf.new) (K.calls out.old) (K.calls out.new)) }
 
     // Of a domain and a problem in PDDL the same is true by names, over sets of facts and actions with objects.
     ensures named_plan { NamedPlanIsPlan (reading_of_words (map string_bytes words.now)) (ran result (H.calls shelf.old) (H.calls shelf.new) (K.calls out.old) (K.calls out.new)) }
@@ -75,8 +83,12 @@ pub fn run<R: Threads + Wait, H: Shelf, K: Sink, G: Gate>(
     ensures words { WordsAreRefused (reading_of_words (map string_bytes words.now)) (ran result (H.calls shelf.old) (H.calls shelf.new) (K.calls out.old) (K.calls out.new)) }
     ensures input { InputIsRefused (reading_of_words (map string_bytes words.now)) (ran result (H.calls shelf.old) (H.calls shelf.new) (K.calls out.old) (K.calls out.new)) }
     ensures named { OutputsAreNamed (reading_of_words (map string_bytes words.now)) (ran result (H.calls shelf.old) (H.calls shelf.new) (K.calls out.old) (K.calls out.new)) }
-    ensures nothing_saved { (result ≡ 2) ⊎ (result ≡ 3) ⊎ (result ≡ 64) ⊎ (result ≡ 65) ⊎ (result ≡ 71) → (ran result (H.calls shelf.old) (H.calls shelf.new) (K.calls out.old) (K.calls out.new)).said.outputs ≡ [] }
+    ensures nothing_saved { (result ≡ 3) ⊎ (result ≡ 64) ⊎ (result ≡ 65) ⊎ (result ≡ 71) → (ran result (H.calls shelf.old) (H.calls shelf.new) (K.calls out.old) (K.calls out.new)).said.outputs ≡ [] }
     ensures silent { (result ≡ 71) ⊎ (result ≡ 73) → (ran result (H.calls shelf.old) (H.calls shelf.new) (K.calls out.old) (K.calls out.new)).said.report ≡ [] }
+
+    // If no call failed, there is an answer to the texts that were loaded, or want of memory.
+    ensures done_is_answered { have_failed (calls_since (H.calls shelf.old) (H.calls shelf.new)) ≡ false → have_failed (calls_since (K.calls out.old) (K.calls out.new)) ≡ false
+        → IsAnswered (reading_of_words (map string_bytes words.now)) (ran result (H.calls shelf.old) (H.calls shelf.new) (K.calls out.old) (K.calls out.new)).texts result }
 
     // Where the shelf can load and hold what it is asked for, and the sink can take the report, there is an answer, or want of memory.
     ensures complete { CanServe (reading_of_words (map string_bytes words.now)) (H.files shelf.old) (H.can_load shelf.old) (H.can_hold shelf.old) (K.can_take out.old)
@@ -99,13 +111,14 @@ pub fn run<R: Threads + Wait, H: Shelf, K: Sink, G: Gate>(
     ensures sink_later { K.faults out.old ≤ K.faults out.new }
 {
     let mut kept = None;
-    let status = carry_out(alloc, words, shelf, out, gate, &mut kept);
+    let status = carry_out(rt, alloc, words, shelf, out, gate, &mut kept);
     status.number()
 }
 
 // The whole way: the files that the words name are loaded, what is asked of their texts is answered, and the answer
 // is handed out. The graph that was searched is kept where `kept` lies.
-fn carry_out<'a, H: Shelf, K: Sink, G: Gate>(
+fn carry_out<'a, R: Threads + Wait + Sync, H: Shelf, K: Sink, G: Gate>(
+    rt: &R,
     alloc: Global,
     words: &'a [String],
     shelf: &mut H,
@@ -126,7 +139,7 @@ fn carry_out<'a, H: Shelf, K: Sink, G: Gate>(
         Ok(texts) => texts,
         Err(fault) => return fault.status(),
     };
-    let Ok(answer) = answer_words(alloc, words, &texts, gate, kept) else {
+    let Ok(answer) = answer_words(rt, alloc, words, &texts, gate, kept) else {
         return Status::OutOfMemory;
     };
     match hand_out(shelf, out, &answer) {

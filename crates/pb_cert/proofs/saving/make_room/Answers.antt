@@ -1,5 +1,5 @@
 use Rattle.std.proofs.Common.{ℕ, List, sym, subst}
-use Rattle.pb_cert.specs.Saved.{IsWritten, HaveBegun}
+use Rattle.pb_outside.specs.Saves.{IsWritten, HaveBegun}
 use Rattle.pb_outside.specs.Outside.{IfTold}
 use Rattle.pb_outside.specs.Calls.{Call}
 use Rattle.pb_cert.proofs.Files.{on_ok_both}

@@ -1,9 +1,9 @@
-use Rattle.std.proofs.Common.{refl}
-use Rattle.clap.proofs.OnLiterals.{clap_on_literals}
-use Rattle.pb_command.specs.Parser.{the_program, the_solve, the_check}
+use Rattle.std.proofs.Common.{[], ◌∷◌, refl, codes}
+use Rattle.pb_command.specs.Values.{Strips}
+use Rattle.pb_command.specs.Options.{Placed}
+use Rattle.pb_command.proofs.Examples.{strips_name}
+use Rattle.pb_command.proofs.CheckReading.{check_reads}
 use Rattle.pb_command.proofs.laws.check_with_domain_and_problem_is_read.Goals as goal
 
 pub returns : goal.returns
-unfolding the_program the_solve the_check clap_on_literals
-returns c = λ certificate domain problem hc hd hp.
-    rw (hc.no_dashes, hc.no_long, hc.no_short, hd.no_dashes, hd.no_long, hd.no_short, hp.no_dashes, hp.no_long, hp.no_short) refl
+returns c = λ certificate domain problem hcertificate hdomain hproblem. check_reads (Strips (record { domain = domain; problem = problem })) certificate (Placed (codes "strips") ∷ Placed certificate ∷ Placed domain ∷ Placed problem ∷ []) (strips_name, (hcertificate, (hdomain, (hproblem, tt)))) tt refl

@@ -1,8 +1,9 @@
-use Rattle.std.proofs.Common.{refl}
-use Rattle.clap.proofs.OnLiterals.{clap_on_literals}
-use Rattle.pb_command.specs.Parser.{the_program, the_solve, the_check}
+use Rattle.std.proofs.Common.{[], ◌∷◌, refl, codes}
+use Rattle.pb_command.specs.Values.{Tiles}
+use Rattle.pb_command.specs.Options.{Placed}
+use Rattle.pb_command.proofs.Examples.{tiles_name}
+use Rattle.pb_command.proofs.CheckReading.{check_reads}
 use Rattle.pb_command.proofs.laws.check_with_one_board_is_read.Goals as goal
 
 pub returns : goal.returns
-unfolding the_program the_solve the_check clap_on_literals
-returns c = λ certificate board hc hb. rw (hc.no_dashes, hc.no_long, hc.no_short, hb.no_dashes, hb.no_long, hb.no_short) refl
+returns c = λ certificate board hcertificate hboard. check_reads (Tiles board) certificate (Placed (codes "tiles") ∷ Placed certificate ∷ Placed board ∷ []) (tiles_name, (hcertificate, (hboard, tt))) tt refl

@@ -1,25 +1,25 @@
-use Rattle.std.proofs.Common.{◌≡◌, ℕ, List, Bool, true, false, Some, None, refl, codes}
+use Rattle.std.proofs.Common.{◌≡◌, ◌∙◌, ℕ, List, [], ◌∷◌, Bool, true, false, Some, None, refl, codes}
 use Rattle.std.specs.Prelude.{if◌then◌else◌}
 use Rattle.std.specs.Str.{bytes_eq}
-use Rattle.clap.proofs.OnLiterals.{clap_on_literals}
-use Rattle.pb_command.specs.Parser.{the_program, the_solve, the_check}
 use Rattle.pb_command.specs.Values.{kind_of_text}
 use Rattle.pb_command.specs.Meaning.{Reading, Refused, with_kind}
+use Rattle.pb_command.specs.Options.{Placed, Valued, Num, Den}
 use Rattle.pb_command.specs.declared.command.KindWord.{KindWord}
 use Rattle.pb_command.specs.declared.refusal.CommandFault.TheVariants as fault
+use Rattle.pb_command.proofs.Examples.{grid_name, tiles_name, strips_name, one_name, two_name, zero_name}
+use Rattle.pb_command.proofs.SolveReading.{solve_is}
+use Rattle.pb_command.proofs.MakeReading.{make_is}
 use Rattle.pb_command.proofs.laws.faults_are_found.Goals as goal
 
 pub returns-clause-files : goal.returns-clause-files
-unfolding the_program the_solve the_check clap_on_literals
-returns-clause-files c = λ map hm. rw (hm.no_dashes, hm.no_long, hm.no_short) refl
+returns-clause-files c = λ map hm. solve_is (Placed (codes "grid") ∷ Placed map ∷ []) (grid_name, (hm, tt)) tt (refl, (refl, tt)) (codes "grid") map refl refl
 
 pub returns-clause-boards : goal.returns-clause-boards
-unfolding the_program the_solve the_check clap_on_literals
-returns-clause-boards c = λ board other hb ho. rw (hb.no_dashes, hb.no_long, hb.no_short, ho.no_dashes, ho.no_long, ho.no_short) refl
+returns-clause-boards c = λ board other hb ho. solve_is (Placed (codes "tiles") ∷ Placed board ∷ Placed other ∷ []) (tiles_name, (hb, (ho, tt))) tt (refl, (refl, (refl, tt)))
+    (codes "tiles") board refl refl
 
 pub returns-clause-domain : goal.returns-clause-domain
-unfolding the_program the_solve the_check clap_on_literals
-returns-clause-domain c = λ domain hd. rw (hd.no_dashes, hd.no_long, hd.no_short) refl
+returns-clause-domain c = λ domain hd. solve_is (Placed (codes "strips") ∷ Placed domain ∷ []) (strips_name, (hd, tt)) tt (refl, (refl, tt)) (codes "strips") domain refl refl
 
 -- a word that isn't the name of a kind is refused, whatever the other values are
 other_kind : (word : List ℕ) (next : KindWord → Reading) → bytes_eq word (codes "grid") ≡ false → bytes_eq word (codes "tiles") ≡ false
@@ -34,10 +34,12 @@ other_kind word next no_grid no_tiles no_strips =
       by true b c k l m e f g = cc
 
 pub returns-clause-kind : goal.returns-clause-kind
-unfolding the_program the_solve the_check clap_on_literals
 returns-clause-kind c = λ kind map hk hm no_grid no_tiles no_strips.
-    rw (hk.no_dashes, hk.no_long, hk.no_short, hm.no_dashes, hm.no_long, hm.no_short) (other_kind kind _ no_grid no_tiles no_strips)
+    solve_is (Placed kind ∷ Placed map ∷ []) (hk, (hm, tt)) tt (refl, (refl, tt)) kind map refl refl ∙ other_kind kind _ no_grid no_tiles no_strips
 
-pub returns-clause-help : goal.returns-clause-help
-unfolding the_program the_solve the_check clap_on_literals
-returns-clause-help c = λ map scenario hm hs. rw (hm.no_dashes, hm.no_long, hm.no_short, hs.no_dashes, hs.no_long, hs.no_short) refl
+pub returns-clause-weight : goal.returns-clause-weight
+returns-clause-weight c = λ map scenario hm hs. solve_is (Placed (codes "grid") ∷ Placed map ∷ Placed scenario ∷ Valued Num (codes "1") ∷ Valued Den (codes "2") ∷ [])
+    (grid_name, (hm, (hs, ((refl, one_name, refl), ((refl, two_name, refl), tt))))) (refl, (refl, tt)) (refl, (refl, (refl, tt))) (codes "grid") map refl refl
+
+pub returns-clause-size : goal.returns-clause-size
+returns-clause-size c = make_is (Placed (codes "grid") ∷ Placed (codes "0") ∷ Placed (codes "0") ∷ []) (grid_name, (zero_name, (zero_name, tt))) tt _ _ _ refl refl refl

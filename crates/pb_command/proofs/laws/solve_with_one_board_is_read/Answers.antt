@@ -1,8 +1,8 @@
-use Rattle.std.proofs.Common.{refl}
-use Rattle.clap.proofs.OnLiterals.{clap_on_literals}
-use Rattle.pb_command.specs.Parser.{the_program, the_solve, the_check}
+use Rattle.std.proofs.Common.{arith, codes}
+use Rattle.pb_command.specs.Values.{Tiles}
+use Rattle.pb_command.proofs.Examples.{of_tiles, two}
+use Rattle.pb_command.proofs.SolveReading.{solve_reads}
 use Rattle.pb_command.proofs.laws.solve_with_one_board_is_read.Goals as goal
 
 pub returns : goal.returns
-unfolding the_program the_solve the_check clap_on_literals
-returns c = λ board hb. rw (hb.no_dashes, hb.no_long, hb.no_short) refl
+returns c = λ board hb. solve_reads (Tiles board) (two (codes "tiles") board) (of_tiles board hb) (omega arith) (λ name e f. cc)

@@ -1,8 +1,8 @@
-use Rattle.std.proofs.Common.{refl}
-use Rattle.clap.proofs.OnLiterals.{clap_on_literals}
-use Rattle.pb_command.specs.Parser.{the_program, the_solve, the_check}
+use Rattle.std.proofs.Common.{arith, codes}
+use Rattle.pb_command.specs.Values.{Grid}
+use Rattle.pb_command.proofs.Examples.{of_grid, three}
+use Rattle.pb_command.proofs.SolveReading.{solve_reads}
 use Rattle.pb_command.proofs.laws.solve_with_two_names_is_read.Goals as goal
 
 pub returns : goal.returns
-unfolding the_program the_solve the_check clap_on_literals
-returns c = λ map scenario hm hs. rw (hm.no_dashes, hm.no_long, hm.no_short, hs.no_dashes, hs.no_long, hs.no_short) refl
+returns c = λ map scenario hm hs. solve_reads (Grid (record { map = map; scenario = scenario })) (three (codes "grid") map scenario) (of_grid map scenario hm hs) (omega arith) (λ name e f. cc)

@@ -1,7 +1,9 @@
 use Rattle.std.proofs.Common.{ℕ, List, sym, subst}
 use Rattle.pb_outside.specs.Outside.{AppendsPartTo}
-use Rattle.pb_journal.specs.Saved.{IsWritten, HoldsPart}
-use Rattle.pb_journal.proofs.Files.{on_err, told_as, part_appended}
+use Rattle.pb_outside.specs.Calls.{HasBytes}
+use Rattle.pb_outside.specs.Saves.{IsWritten, HoldsPart, HaveBegun}
+use Rattle.pb_outside.proofs.Saves.{part_appended, begun_calls, failed_calls}
+use Rattle.pb_journal.proofs.Files.{on_err, told_as}
 use Rattle.pb_journal.proofs.writing.append_piece.Goals as goal
 
 pub returns-in_err-append-clause-err : goal.returns-in_err-append-clause-err
@@ -16,3 +18,23 @@ returns-in_err-append-clause-err g c =
     text appends
     (subst (λ piece. IsWritten old c.args.name.now piece text)
     (sym c.as_slice.ensures) written)))
+
+pub returns-in_err-append-clause-failed : goal.returns-in_err-append-clause-failed
+returns-in_err-append-clause-failed g c =
+    on_err c.from_residual.result (λ start text begun.
+    failed_calls start (g.H.Shelf.calls c.args.shelf.now) (g.H.Shelf.calls c.append.new.self)
+    (g.H.Shelf.files c.args.shelf.now) (g.H.Shelf.files c.append.new.self) c.args.name.now
+    c.as_slice.result.now text
+    (subst HasBytes (sym c.as_slice.ensures) c.requires.full)
+    c.in_err-append.ensures.noted_error
+    (subst (λ (piece : List ℕ). HaveBegun start (g.H.Shelf.calls c.args.shelf.now)
+    c.args.name.now piece text) (sym c.as_slice.ensures) begun))
+
+pub returns-clause-begun : goal.returns-clause-begun
+returns-clause-begun g c = λ start text begun.
+    begun_calls start (g.H.Shelf.calls c.args.shelf.now) (g.H.Shelf.calls c.append.new.self)
+    c.args.name.now c.as_slice.result.now text
+    (subst HasBytes (sym c.as_slice.ensures) c.requires.full)
+    c.in_ok-append.ensures.noted
+    (subst (λ (piece : List ℕ). HaveBegun start (g.H.Shelf.calls c.args.shelf.now)
+    c.args.name.now piece text) (sym c.as_slice.ensures) begun)

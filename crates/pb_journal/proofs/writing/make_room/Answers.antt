@@ -1,6 +1,7 @@
 use Rattle.std.proofs.Common.{ℕ, List, sym, subst}
-use Rattle.pb_journal.specs.Saved.{IsWritten}
 use Rattle.pb_outside.specs.Outside.{IfTold}
+use Rattle.pb_outside.specs.Calls.{Call}
+use Rattle.pb_outside.specs.Saves.{IsWritten, HaveBegun}
 use Rattle.pb_journal.proofs.Files.{on_ok_both}
 use Rattle.pb_journal.proofs.writing.make_room.Goals as goal
 
@@ -12,3 +13,11 @@ returns-clause-ok g c =
     (g.H.Shelf.files c.append_piece.new.shelf)
     (λ old new. (text : List ℕ) → IsWritten old c.args.name.now c.args.piece.now text
     → IsWritten new c.args.name.now piece text)) (sym empty) ok)
+
+pub returns-clause-begun : goal.returns-clause-begun
+returns-clause-begun g c =
+    on_ok_both c.append_piece.result c.append_piece.ensures.empty c.append_piece.ensures.begun
+    (λ empty begun. subst (λ (piece : List ℕ). (start : List Call) (text : List ℕ)
+    → HaveBegun start (g.H.Shelf.calls c.args.shelf.now) c.args.name.now c.args.piece.now text
+    → HaveBegun start (g.H.Shelf.calls c.append_piece.new.shelf) c.args.name.now piece text)
+    (sym empty) begun)

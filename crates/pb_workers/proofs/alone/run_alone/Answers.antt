@@ -2,17 +2,11 @@ use Rattle.pb_workers.proofs.Going.{on_then}
 use Rattle.pb_workers.proofs.Ended.{best_end, spent_end}
 use Rattle.pb_workers.proofs.alone.run_alone.Goals as goal
 
-pub returns-in_err-estimator-clause-quiet : goal.returns-in_err-estimator-clause-quiet
-returns-in_err-estimator-clause-quiet g c = best_end c.args.graph.now c.abstraction.ensures.lawful c.requires.home c.requires.moment.0 c.requires.moment.1 c.requires.moment.2
+pub returns-in_err-tools-clause-quiet : goal.returns-in_err-tools-clause-quiet
+returns-in_err-tools-clause-quiet g c = best_end c.args.graph.now c.abstraction.ensures.lawful c.requires.home c.requires.moment.0 c.requires.moment.1 c.requires.moment.2
 
-pub returns-in_err-estimator-clause-budget : goal.returns-in_err-estimator-clause-budget
-returns-in_err-estimator-clause-budget g c = spent_end c.args.graph.now c.abstraction.ensures.lawful c.requires.home c.requires.moment.0 c.requires.moment.1 c.requires.moment.2
-
-pub returns-in_err-succs-clause-quiet : goal.returns-in_err-succs-clause-quiet
-returns-in_err-succs-clause-quiet g c = best_end c.args.graph.now c.abstraction.ensures.lawful c.requires.home c.requires.moment.0 c.requires.moment.1 c.requires.moment.2
-
-pub returns-in_err-succs-clause-budget : goal.returns-in_err-succs-clause-budget
-returns-in_err-succs-clause-budget g c = spent_end c.args.graph.now c.abstraction.ensures.lawful c.requires.home c.requires.moment.0 c.requires.moment.1 c.requires.moment.2
+pub returns-in_err-tools-clause-budget : goal.returns-in_err-tools-clause-budget
+returns-in_err-tools-clause-budget g c = spent_end c.args.graph.now c.abstraction.ensures.lawful c.requires.home c.requires.moment.0 c.requires.moment.1 c.requires.moment.2
 
 pub returns-clause-run : goal.returns-clause-run
 returns-clause-run g c = on_then c.args.graph.now c.search-end.new.graph c.sign_off.new.graph c.search-end.ensures.same c.search-end.ensures.run c.sign_off.ensures.run

@@ -2,17 +2,17 @@ use Rattle.std.proofs.Common.{refl, sym, ap, ◌∙◌, subst, inr}
 use Rattle.pb_lease.specs.GraphValue.{GraphValue, counts_in}
 use Rattle.pb_workers.specs.Runs.{RunsOn}
 use Rattle.pb_workers.proofs.Going.{same_then}
+use Rattle.pb_workers.proofs.Serving.{serves_then}
 use Rattle.pb_workers.proofs.Searching.{alone_vacant, alone_home, leased_same, leased_signed, leased_held, leased_runs, comes_nearer, ended_same, ended_leases, ended_signed, ended_end, ended_runs, none_stands}
 use Rattle.pb_workers.proofs.alone.search.Goals as goal
 
 pub lease-requires-clause-vacant : goal.lease-requires-clause-vacant
 lease-requires-clause-vacant g c = alone_vacant c.leases.graph c.leases.invariant.alone c.leases.invariant.home
 
-pub hold-requires-clause-task : goal.hold-requires-clause-task
-hold-requires-clause-task g c _ _ = (c.in-Leased.ensures.leased c.in-Leased.lease refl).task ∙ c.leases.invariant.task
-
-pub hold-requires-clause-abstraction : goal.hold-requires-clause-abstraction
-hold-requires-clause-abstraction g c _ _ = (c.in-Leased.ensures.leased c.in-Leased.lease refl).events.graph ∙ c.leases.invariant.abstraction
+pub hold-requires-clause-serves : goal.hold-requires-clause-serves
+hold-requires-clause-serves g c _ _ =
+    let same = leased_same c.leases.graph 0 c.in-Leased.lease c.lease.new.self (c.in-Leased.ensures.leased c.in-Leased.lease refl) in
+    serves_then c.leases.graph c.lease.new.self c.leases.worker c.leases.worker same c.leases.invariant.serves refl refl c.leases.invariant.serves.tools
 
 pub hold-requires-clause-held : goal.hold-requires-clause-held
 hold-requires-clause-held g c _ _ =
@@ -31,10 +31,7 @@ leases-preserved g c =
     let runs = leased_runs c.args.graph.now c.leases.graph c.lease.new.self c.hold.new.graph 0 c.in-Leased.lease l (c.in-Leased.ensures.leased_moment c.in-Leased.lease refl) c.hold.ensures.home c.leases.invariant.same home c.leases.invariant.runs in
     let last = runs c.requires.moment.0 c.requires.moment.1 c.requires.moment.2 in
     record {
-      tables = c.hold.ensures.tables;
-      room = c.hold.ensures.room;
-      task = same.task ∙ c.leases.invariant.task;
-      abstraction = same.graph ∙ c.leases.invariant.abstraction;
+      serves = c.hold.ensures.serves;
       alone = alone;
       moment = (c.requires.moment.0, last.0, last.1.moment);
       home = home;

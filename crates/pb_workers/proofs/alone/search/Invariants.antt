@@ -1,18 +1,14 @@
-use Rattle.std.proofs.Common.{◌≡◌, ◌≤◌, IsFalse, vec_capacity}
-use Rattle.pb_task.specs.Parts.{max_degree_of}
-use Rattle.pb_estimate.specs.Tables.{IsOfTask}
+use Rattle.std.proofs.Common.{◌≡◌, IsFalse}
 use Rattle.pb_lease.specs.GraphValue.{counts_in}
 use Rattle.pb_lease.specs.Choices.{is_out_in}
 use Rattle.pb_workers.specs.Runs.{IsSameSearch, IsAnyMoment, RunsOn}
+use Rattle.pb_workers.specs.Serving.{Serves}
 use Rattle.pb_workers.proofs.Searching.{distance}
 use Rattle.pb_workers.proofs.alone.search.Given as goal
 
 abbrev pub invariant-leases : goal.invariant-leases
 invariant-leases g l = record {
-  tables : IsOfTask l.estimator l.task;
-  room : max_degree_of l.task ≤ vec_capacity l.succs;
-  task : l.graph.task ≡ l.task;
-  abstraction : l.graph.table.graph ≡ l.abstraction;
+  serves : Serves l.worker l.graph;
   alone : l.graph.table.settings.workers ≡ 1;
   moment : IsAnyMoment l.graph;
   home : IsFalse (is_out_in l.graph);

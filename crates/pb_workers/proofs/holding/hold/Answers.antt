@@ -5,10 +5,7 @@ use Rattle.pb_workers.proofs.holding.hold.Goals as goal
 
 pub turns-init : goal.turns-init
 turns-init g c = record {
-  tables = c.requires.tables;
-  room = c.requires.room;
-  task = c.requires.task;
-  abstraction = c.requires.abstraction;
+  serves = c.requires.serves;
   held = c.requires.held;
   worker = refl;
   signed_off = refl;
@@ -19,10 +16,7 @@ turns-init g c = record {
 
 pub turns-preserved : goal.turns-preserved
 turns-preserved g c = record {
-  tables = c.turn.ensures.tables;
-  room = c.turn.ensures.room;
-  task = c.turn.ensures.same.task ∙ c.turns.invariant.task;
-  abstraction = c.turn.ensures.same.graph ∙ c.turns.invariant.abstraction;
+  serves = c.turn.ensures.serves;
   held = c.in-Some.ensures.held;
   worker = c.in-Some.ensures.worker ∙ c.turns.invariant.worker;
   signed_off = c.turn.ensures.signed_off ∙ c.turns.invariant.signed_off;

@@ -1,7 +1,8 @@
 use Rattle.pb_machine.specs.declared.event.Event.TheVariants.{Hot}
 use Rattle.pb_yard.specs.Passes.{view_of, worker_of}
 use Rattle.pb_yard.specs.Replies.{RivalsAs, MarksAs, mark_events}
-use Rattle.std.proofs.Common.{[]}
+use Rattle.std.proofs.Common.{ℕ, [], Option, None, Some, refl, subst}
+use Rattle.pb_yard.specs.Calls.{AsksRival, Marks}
 use Rattle.pb_workers.proofs.Sharing.{holder, holder_then, rival_known, still_brought, look_stays, mark_stays}
 use Rattle.pb_workers.proofs.yard_turns.mark_rival.Goals as goal
 
@@ -38,3 +39,19 @@ returns-in_default-clause-holder g c =
 
 pub returns-in_default-clause-stays : goal.returns-in_default-clause-stays
 returns-in_default-clause-stays g c stays = look_stays c.args.lease.now c.rival.result (view_of c.args.pass.now) (view_of c.rival.new.pass) c.rival.ensures.rival stays
+
+pub returns-in-Some-clause-rival : goal.returns-in-Some-clause-rival
+returns-in-Some-clause-rival g c =
+    let told = view_of c.rival.new.pass in
+    let marked = view_of c.mark_hot.new.pass in (
+      told,
+      Some c.in-Some.rival,
+      c.in-Some.ensures.rival,
+      (c.mark_hot.result, subst (λ worker. Marks worker c.in-Some.rival told c.mark_hot.result marked) c.rival.ensures.same.0.1 c.mark_hot.ensures.marked),
+    )
+
+pub returns-in_default-clause-rival : goal.returns-in_default-clause-rival
+returns-in_default-clause-rival g c =
+    let v = view_of c.args.pass.now in
+    let told = view_of c.rival.new.pass in
+    (told, None, subst (λ (rival : Option ℕ). AsksRival c.args.lease.now v rival told) c.in_default.is c.rival.ensures.rival, refl)

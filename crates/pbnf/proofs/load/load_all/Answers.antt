@@ -1,4 +1,4 @@
-use Rattle.std.proofs.Common.{◌≡◌, ◌+◌, ◌<◌, ◌++◌, ◌∷◌, ◌∙◌, [], List, None, Some, ℕ, length, map, drop, sym, ap, subst, rules, arith, append-nil, length-append}
+use Rattle.std.proofs.Common.{◌≡◌, ◌+◌, ◌<◌, ◌++◌, ◌∷◌, ◌∙◌, [], List, None, ℕ, length, map, drop, sym, ap, subst, rules, arith, append-nil, length-append}
 use Rattle.pb_outside.specs.Calls.{Call}
 use Rattle.pbnf.specs.Calls.{load_calls}
 use Rattle.pbnf.specs.Files.{wanted_of}

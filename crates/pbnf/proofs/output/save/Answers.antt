@@ -1,8 +1,16 @@
-use Rattle.pb_cert.specs.Stated.{text_of}
-use Rattle.pbnf.proofs.Handing.{on_ok_as, saved_one}
+use Rattle.pb_answer.specs.Answer.{certificates_of, journals_of}
+use Rattle.pbnf.proofs.Handing.{on_ok_as, on_err_as}
+use Rattle.pbnf.proofs.Saving.{both_saved, then_failed}
 use Rattle.pbnf.proofs.output.save.Goals as goal
 
-pub returns-in-Some-clause-ok : goal.returns-in-Some-clause-ok
-returns-in-Some-clause-ok g c = rw c.in-Some.is
-    (on_ok_as c.write_to.result c.write_to.ensures.ok (λ ok. saved_one (g.H.Shelf.files c.args.shelf.now) (g.H.Shelf.files c.write_to.new.shelf)
-    c.in-Some.file.name.now (text_of c.in-Some.file.certificate) ok c.write_to.ensures.others))
+pub returns-clause-calls : goal.returns-clause-calls
+returns-clause-calls g c = on_ok_as c.save_journal.result c.save_journal.ensures.calls
+    (λ later. both_saved (certificates_of c.args.answer.now.certificate) (journals_of c.args.answer.now.journal)
+    (g.H.Shelf.calls c.args.shelf.now) (g.H.Shelf.calls c.save_certificate.new.shelf) (g.H.Shelf.calls c.save_journal.new.shelf)
+    c.in_ok-save_certificate.ensures.calls later)
+
+pub returns-clause-calls_error : goal.returns-clause-calls_error
+returns-clause-calls_error g c = on_err_as c.save_journal.result c.save_journal.ensures.calls_error
+    (λ later. then_failed (certificates_of c.args.answer.now.certificate) (journals_of c.args.answer.now.journal)
+    (g.H.Shelf.calls c.args.shelf.now) (g.H.Shelf.calls c.save_certificate.new.shelf) (g.H.Shelf.calls c.save_journal.new.shelf)
+    c.in_ok-save_certificate.ensures.calls later)

@@ -1,8 +1,8 @@
 -- The whole way of a call, exit by exit.
 use Rattle.std.proofs.Common.{map, string_bytes, Global, ap, refl}
 use Rattle.pb_command.specs.Meaning.{reading_of_words}
-use Rattle.pbnf.specs.Statuses.{number_of}
-use Rattle.pbnf.specs.Answer.{said_of}
+use Rattle.pb_answer.specs.Statuses.{number_of}
+use Rattle.pb_answer.specs.Answer.{said_of}
 use Rattle.pbnf.proofs.Handing.{goes_failed, goes_full, goes_done, goes_not_saved, goes_not_printed, known_answer, writes_not_saved}
 use Rattle.pbnf.proofs.top.carry_out.Goals as goal
 

@@ -1,13 +1,13 @@
 -- The clauses of `run`.
-use Rattle.std.proofs.Common.{◌≡◌, ◌⊎◌, ◌↔◌, ◌∙◌, ℕ, List, [], IsTrue, map, string_bytes, Global, refl, sym, subst}
+use Rattle.std.proofs.Common.{◌≡◌, false, ◌⊎◌, ◌↔◌, ◌∙◌, ℕ, [], IsTrue, map, string_bytes, Global, sym, subst}
 use Rattle.pb_outside.specs.Outside.{IfTold, KeepsAll}
 use Rattle.pb_command.specs.Meaning.{reading_of_words}
 use Rattle.pbnf.specs.Asked.{files_of}
-use Rattle.pbnf.specs.Statuses.{number_of}
+use Rattle.pb_answer.specs.Statuses.{number_of}
 use Rattle.pbnf.specs.Calls.{loaded_texts, outputs_in, put_bytes, have_failed}
-use Rattle.pbnf.specs.Loaded.{AreLoaded}
+use Rattle.pbnf.specs.Loads.{AreLoaded}
 use Rattle.pbnf.specs.Contents.{SavesIn, LeavesPart}
-use Rattle.pbnf.specs.Headline.{IsAnswer, IsBroken, AllOfOnePlan, PlanIsPlan, NoneIsCheaper, CertificateHolds, NoneMeansNone, CertificateOfNone, StopHasCause, AcceptedIsValid, RejectedIsFaulty, CheckIsDecided, NamedPlanIsPlan, NamedNoneMeansNone, NamedVerdictHolds, WordsAreRefused, InputIsRefused, OutputsAreNamed, IsComplete}
+use Rattle.pbnf.specs.Headline.{IsAnswer, IsBroken, AllOfOnePlan, PlanIsPlan, NoneIsCheaper, CertificateHolds, NoneMeansNone, CertificateOfNone, StopHasCause, AcceptedIsValid, RejectedIsFaulty, CheckIsDecided, JournalIsLegal, JournalIsDecided, MadeIsLeast, NamedPlanIsPlan, NamedNoneMeansNone, NamedVerdictHolds, WordsAreRefused, InputIsRefused, OutputsAreNamed, IsAnswered, IsComplete}
 use Rattle.pbnf.proofs.Doing as doing
 use Rattle.pbnf.proofs.top.run.Goals as goal
 
@@ -44,6 +44,15 @@ returns-clause-rejected g c = doing.promised (reading_of_words (map (string_byte
 pub returns-clause-check_exact : goal.returns-clause-check_exact
 returns-clause-check_exact g c = doing.promised (reading_of_words (map (string_bytes {Z = Global}) c.args.words.now)) (number_of c.carry_out-status.result) (g.H.Shelf.files c.args.shelf.now) (g.H.Shelf.files c.carry_out-status.new.shelf) (g.H.Shelf.calls c.args.shelf.now) (g.H.Shelf.calls c.carry_out-status.new.shelf) (g.K.Sink.calls c.args.out.now) (g.K.Sink.calls c.carry_out-status.new.out) c.carry_out-status.ensures.goes CheckIsDecided (doing.check_is_decided (reading_of_words (map (string_bytes {Z = Global}) c.args.words.now))) c.number.result c.number.ensures
 
+pub returns-clause-journal : goal.returns-clause-journal
+returns-clause-journal g c = doing.promised (reading_of_words (map (string_bytes {Z = Global}) c.args.words.now)) (number_of c.carry_out-status.result) (g.H.Shelf.files c.args.shelf.now) (g.H.Shelf.files c.carry_out-status.new.shelf) (g.H.Shelf.calls c.args.shelf.now) (g.H.Shelf.calls c.carry_out-status.new.shelf) (g.K.Sink.calls c.args.out.now) (g.K.Sink.calls c.carry_out-status.new.out) c.carry_out-status.ensures.goes JournalIsLegal (doing.journal_is_legal (reading_of_words (map (string_bytes {Z = Global}) c.args.words.now))) c.number.result c.number.ensures
+
+pub returns-clause-journal_exact : goal.returns-clause-journal_exact
+returns-clause-journal_exact g c = doing.promised (reading_of_words (map (string_bytes {Z = Global}) c.args.words.now)) (number_of c.carry_out-status.result) (g.H.Shelf.files c.args.shelf.now) (g.H.Shelf.files c.carry_out-status.new.shelf) (g.H.Shelf.calls c.args.shelf.now) (g.H.Shelf.calls c.carry_out-status.new.shelf) (g.K.Sink.calls c.args.out.now) (g.K.Sink.calls c.carry_out-status.new.out) c.carry_out-status.ensures.goes JournalIsDecided (doing.journal_is_decided (reading_of_words (map (string_bytes {Z = Global}) c.args.words.now))) c.number.result c.number.ensures
+
+pub returns-clause-made : goal.returns-clause-made
+returns-clause-made g c = doing.promised (reading_of_words (map (string_bytes {Z = Global}) c.args.words.now)) (number_of c.carry_out-status.result) (g.H.Shelf.files c.args.shelf.now) (g.H.Shelf.files c.carry_out-status.new.shelf) (g.H.Shelf.calls c.args.shelf.now) (g.H.Shelf.calls c.carry_out-status.new.shelf) (g.K.Sink.calls c.args.out.now) (g.K.Sink.calls c.carry_out-status.new.out) c.carry_out-status.ensures.goes MadeIsLeast (doing.made_is_least (reading_of_words (map (string_bytes {Z = Global}) c.args.words.now))) c.number.result c.number.ensures
+
 pub returns-clause-named_plan : goal.returns-clause-named_plan
 returns-clause-named_plan g c = doing.promised (reading_of_words (map (string_bytes {Z = Global}) c.args.words.now)) (number_of c.carry_out-status.result) (g.H.Shelf.files c.args.shelf.now) (g.H.Shelf.files c.carry_out-status.new.shelf) (g.H.Shelf.calls c.args.shelf.now) (g.H.Shelf.calls c.carry_out-status.new.shelf) (g.K.Sink.calls c.args.out.now) (g.K.Sink.calls c.carry_out-status.new.out) c.carry_out-status.ensures.goes NamedPlanIsPlan (doing.named_plan_is_plan (reading_of_words (map (string_bytes {Z = Global}) c.args.words.now))) c.number.result c.number.ensures
 
@@ -72,7 +81,10 @@ pub returns-clause-statuses : goal.returns-clause-statuses
 returns-clause-statuses g c = let o = c.carry_out-status.ensures.goes in doing.since (reading_of_words (map (string_bytes {Z = Global}) c.args.words.now)) (number_of c.carry_out-status.result) (g.H.Shelf.files c.args.shelf.now) (g.H.Shelf.files c.carry_out-status.new.shelf) (g.H.Shelf.calls c.args.shelf.now) (g.H.Shelf.calls c.carry_out-status.new.shelf) (g.K.Sink.calls c.args.out.now) (g.K.Sink.calls c.carry_out-status.new.out) c.carry_out-status.ensures.goes (λ m own out. IsAnswer m ⊎ IsBroken m) c.number.result c.number.ensures (λ by. doing.statuses (reading_of_words (map (string_bytes {Z = Global}) c.args.words.now)) (number_of c.carry_out-status.result) o.0 o.1 (doing.does (reading_of_words (map (string_bytes {Z = Global}) c.args.words.now)) (number_of c.carry_out-status.result) o.0 o.1 (g.H.Shelf.files c.args.shelf.now) (g.H.Shelf.files c.carry_out-status.new.shelf) by))
 
 pub returns-clause-nothing_saved : goal.returns-clause-nothing_saved
-returns-clause-nothing_saved g c = let o = c.carry_out-status.ensures.goes in doing.since (reading_of_words (map (string_bytes {Z = Global}) c.args.words.now)) (number_of c.carry_out-status.result) (g.H.Shelf.files c.args.shelf.now) (g.H.Shelf.files c.carry_out-status.new.shelf) (g.H.Shelf.calls c.args.shelf.now) (g.H.Shelf.calls c.carry_out-status.new.shelf) (g.K.Sink.calls c.args.out.now) (g.K.Sink.calls c.carry_out-status.new.out) c.carry_out-status.ensures.goes (λ m own out. (m ≡ 2) ⊎ (m ≡ 3) ⊎ (m ≡ 64) ⊎ (m ≡ 65) ⊎ (m ≡ 71) → outputs_in own ≡ []) c.number.result c.number.ensures (λ by. doing.nothing_saved (reading_of_words (map (string_bytes {Z = Global}) c.args.words.now)) (number_of c.carry_out-status.result) o.0 o.1 (doing.does (reading_of_words (map (string_bytes {Z = Global}) c.args.words.now)) (number_of c.carry_out-status.result) o.0 o.1 (g.H.Shelf.files c.args.shelf.now) (g.H.Shelf.files c.carry_out-status.new.shelf) by))
+returns-clause-nothing_saved g c = let o = c.carry_out-status.ensures.goes in doing.since (reading_of_words (map (string_bytes {Z = Global}) c.args.words.now)) (number_of c.carry_out-status.result) (g.H.Shelf.files c.args.shelf.now) (g.H.Shelf.files c.carry_out-status.new.shelf) (g.H.Shelf.calls c.args.shelf.now) (g.H.Shelf.calls c.carry_out-status.new.shelf) (g.K.Sink.calls c.args.out.now) (g.K.Sink.calls c.carry_out-status.new.out) c.carry_out-status.ensures.goes (λ m own out. (m ≡ 3) ⊎ (m ≡ 64) ⊎ (m ≡ 65) ⊎ (m ≡ 71) → outputs_in own ≡ []) c.number.result c.number.ensures (λ by. doing.nothing_saved (reading_of_words (map (string_bytes {Z = Global}) c.args.words.now)) (number_of c.carry_out-status.result) o.0 o.1 (doing.does (reading_of_words (map (string_bytes {Z = Global}) c.args.words.now)) (number_of c.carry_out-status.result) o.0 o.1 (g.H.Shelf.files c.args.shelf.now) (g.H.Shelf.files c.carry_out-status.new.shelf) by))
+
+pub returns-clause-done_is_answered : goal.returns-clause-done_is_answered
+returns-clause-done_is_answered g c = let o = c.carry_out-status.ensures.goes in doing.since (reading_of_words (map (string_bytes {Z = Global}) c.args.words.now)) (number_of c.carry_out-status.result) (g.H.Shelf.files c.args.shelf.now) (g.H.Shelf.files c.carry_out-status.new.shelf) (g.H.Shelf.calls c.args.shelf.now) (g.H.Shelf.calls c.carry_out-status.new.shelf) (g.K.Sink.calls c.args.out.now) (g.K.Sink.calls c.carry_out-status.new.out) c.carry_out-status.ensures.goes (λ m own out. have_failed own ≡ false → have_failed out ≡ false → IsAnswered (reading_of_words (map (string_bytes {Z = Global}) c.args.words.now)) (loaded_texts own) m) c.number.result c.number.ensures (λ by. doing.done_is_answered (reading_of_words (map (string_bytes {Z = Global}) c.args.words.now)) (number_of c.carry_out-status.result) o.0 o.1 (doing.does (reading_of_words (map (string_bytes {Z = Global}) c.args.words.now)) (number_of c.carry_out-status.result) o.0 o.1 (g.H.Shelf.files c.args.shelf.now) (g.H.Shelf.files c.carry_out-status.new.shelf) by))
 
 pub returns-clause-silent : goal.returns-clause-silent
 returns-clause-silent g c = let o = c.carry_out-status.ensures.goes in doing.since (reading_of_words (map (string_bytes {Z = Global}) c.args.words.now)) (number_of c.carry_out-status.result) (g.H.Shelf.files c.args.shelf.now) (g.H.Shelf.files c.carry_out-status.new.shelf) (g.H.Shelf.calls c.args.shelf.now) (g.H.Shelf.calls c.carry_out-status.new.shelf) (g.K.Sink.calls c.args.out.now) (g.K.Sink.calls c.carry_out-status.new.out) c.carry_out-status.ensures.goes (λ m own out. (m ≡ 71) ⊎ (m ≡ 73) → put_bytes out ≡ []) c.number.result c.number.ensures (λ by. doing.silent (reading_of_words (map (string_bytes {Z = Global}) c.args.words.now)) (number_of c.carry_out-status.result) o.0 o.1 (doing.does (reading_of_words (map (string_bytes {Z = Global}) c.args.words.now)) (number_of c.carry_out-status.result) o.0 o.1 (g.H.Shelf.files c.args.shelf.now) (g.H.Shelf.files c.carry_out-status.new.shelf) by))

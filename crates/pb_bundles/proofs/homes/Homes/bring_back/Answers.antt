@@ -19,9 +19,9 @@ pub invariant_of-self : goal.invariant_of-self
 invariant_of-self c =
     let bundles = c.self.inside.bundles.items in
     let parts = c.parts.inside.bundles.entries in
-    let keys = c.note_keys.new.keys.items in
-    subst (λ places. AreHomes (record { bundles = places; keys = keys })) (sym c.move_home.ensures)
-    (homes_back parts bundles c.self.inside.keys.items keys (there_inside c.args.parts parts c.args.self.now (record { bundles = bundles; keys = c.self.inside.keys.items }) c.parts.view_is c.self.view_is c.requires)
+    let keys = c.note_keys.new.keys in
+    subst (λ places. AreHomes (record { bundles = places; keys = keys })) (sym c.move_home.ensures.back)
+    (homes_back parts bundles c.self.inside.keys keys (there_inside c.args.parts parts c.args.self.now (record { bundles = bundles; keys = c.self.inside.keys }) c.parts.view_is c.self.view_is c.requires)
     c.note_keys.ensures c.self.invariant)
 
 pub returns-clause-home : goal.returns-clause-home
@@ -29,7 +29,7 @@ returns-clause-home c = λ block.
     let bundles = c.self.inside.bundles.items in
     let parts = c.parts.inside.bundles.entries in
     let there : (other : ℕ) → IsSome (content_in parts other) → other < length bundles =
-    there_inside c.args.parts parts c.args.self.now (record { bundles = bundles; keys = c.self.inside.keys.items }) c.parts.view_is c.self.view_is c.requires in
-    ap (λ (places : List (Option Content)). get_or places block None) c.move_home.ensures ∙ put_back_at parts bundles block (by_found (λ n. n < length bundles) parts there)
+    there_inside c.args.parts parts c.args.self.now (record { bundles = bundles; keys = c.self.inside.keys }) c.parts.view_is c.self.view_is c.requires in
+    ap (λ (places : List (Option Content)). get_or places block None) c.move_home.ensures.back ∙ put_back_at parts bundles block (by_found (λ n. n < length bundles) parts there)
     ∙ ap (λ (ps : List (ℕ × Content)). option_or (content_in ps block) (get_or bundles block None)) c.parts.view_is
     ∙ ap (λ (t : HomeTable). option_or (content_in c.args.parts block) (content_at t block)) c.self.view_is

@@ -13,4 +13,4 @@ invariant_of-self c =
     let vacant : (block : ℕ) → IsSome (content_in parts block) → IsVacant bundles block =
     subst (λ (t : HomeTable). (block : ℕ) → IsSome (content_in parts block) → IsVacant t.bundles block) (sym c.self.view_is)
     (subst (λ (ps : List (ℕ × Content)). (block : ℕ) → IsSome (content_in ps block) → IsVacant c.args.self.now.bundles block) (sym c.parts.view_is) c.requires) in
-    homes_noted parts bundles c.self.inside.keys.items c.note_keys.new.keys.items vacant c.note_keys.ensures c.self.invariant
+    homes_noted parts bundles c.self.inside.keys c.note_keys.new.keys vacant c.note_keys.ensures c.self.invariant

@@ -1,9 +1,10 @@
-use Rattle.std.proofs.Common.{◌≡◌, ◌<◌, Option, Some, None, IsSome, get_or, set, length, sym, subst, ap, ◌∙◌}
+use Rattle.pb_model.specs.declared.key.Key.{Key}
+use Rattle.std.proofs.Common.{◌≡◌, List, ◌<◌, Option, Some, None, IsSome, get_or, set, length, sym, subst, ap, ◌∙◌}
 use Rattle.std.proofs.lemmas.List.{get_or_read}
 use Rattle.pb_model.specs.Work.{offered_row}
 use Rattle.pb_lists.specs.Bundle.{Content, SetsRow, row_of}
 use Rattle.pb_bundles.specs.Parts.{rows_in}
-use Rattle.pb_bundles.specs.Homes.{HomeTable, content_at, with_start}
+use Rattle.pb_bundles.specs.Homes.{HomeTable, AreHomes, content_at, with_start}
 use Rattle.pb_bundles.proofs.Lists.{found_at, some_within}
 use Rattle.std.proofs.Common.{get_or-set_same}
 use Rattle.pb_bundles.proofs.Kept.{homes_set}
@@ -18,8 +19,9 @@ invariant_of-self-2 c =
     let within : block < length bundles = some_within bundles block home in
     let place : c.index_mut.result.now ≡ Some there.0 = get_or_read bundles block c.index_mut.result.now within c.index_mut.ensures.value None ∙ there.1 in
     let new : c.offer_in.new.place ≡ Some (with_start there.0 c.args.start c.args.estimate) = c.in_ok-key.ensures.put there.0 place in
-    homes_set bundles c.self.inside.keys.items block c.offer_in.new.place (with_start there.0 c.args.start c.args.estimate) c.in_ok-key.key within new
-    (c.in_ok-key.ensures.best (with_start there.0 c.args.start c.args.estimate) new) c.self.invariant
+    subst (λ (ks : List (Option Key)). AreHomes (record { bundles = set bundles block c.offer_in.new.place; keys = ks })) (sym c.set.ensures)
+    (homes_set bundles c.self.inside.keys block c.offer_in.new.place (with_start there.0 c.args.start c.args.estimate) c.in_ok-key.key within new
+    (c.in_ok-key.ensures.best (with_start there.0 c.args.start c.args.estimate) new) c.self.invariant)
 
 pub returns-clause-rows : goal.returns-clause-rows
 returns-clause-rows c =

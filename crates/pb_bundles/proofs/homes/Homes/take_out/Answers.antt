@@ -11,7 +11,7 @@ use Rattle.pb_bundles.proofs.homes.Homes.take_out.Goals as goal
 
 pub invariant_of-self : goal.invariant_of-self
 invariant_of-self c =
-    let keys = c.self.inside.keys.items in
+    let keys = c.self.inside.keys in
     subst (λ bundles. AreHomes (record { bundles = bundles; keys = keys })) (sym c.move_out.ensures.left) (homes_vacated c.args.scope.now c.self.inside.bundles.items keys c.self.invariant)
 
 pub returns-clause-out : goal.returns-clause-out

@@ -1,7 +1,8 @@
 use Rattle.std.proofs.Common.{ℕ, List}
-use Rattle.pb_cert.specs.Saved.{IsWritten, AddsLine}
+use Rattle.pb_outside.specs.Saves.{IsWritten}
+use Rattle.pb_cert.specs.Saved.{AddsLine}
 use Rattle.pb_cert.specs.Stated.{lines_of}
-use Rattle.pb_cert.proofs.Files.{told_as, line_written, line_of_lines}
+use Rattle.pb_cert.proofs.Files.{told_as, line_written, line_of_lines, line_full}
 use Rattle.pb_cert.proofs.SavedCalls.{call_for_line}
 use Rattle.pb_cert.proofs.certificate.Certificate.add_line.Goals as goal
 
@@ -20,3 +21,8 @@ pub returns-clause-begun : goal.returns-clause-begun
 returns-clause-begun g c = λ start text begun.
     call_for_line start (g.H.Shelf.calls c.make_room.new.shelf) c.args.name.now c.make_room.new.piece c.put_line.new.out text (lines_of c.args.self.now) c.args.at
     (c.in_ok-make_room.ensures.begun start text begun) (c.put_line.ensures.0, c.put_line.ensures.1, c.put_line.ensures.2)
+
+pub returns-clause-full : goal.returns-clause-full
+returns-clause-full g c =
+    line_full c.make_room.new.piece c.put_line.new.out
+    (lines_of c.args.self.now) c.args.at c.put_line.ensures

@@ -2,10 +2,12 @@ use Rattle.std.proofs.Common.{◌≡◌, ◌+◌, ◌≤◌, ℕ, List, [], Some
 use Rattle.pb_model.specs.Texts.{lines}
 use Rattle.pb_outside.specs.Outside.{KeepsOthers}
 use Rattle.pb_cert.specs.Stated.{lines_of, text_of}
-use Rattle.pb_cert.specs.Saved.{IsPartSaved, HoldsPart, IsWritten, AddsLine}
+use Rattle.pb_outside.specs.Saves.{IsPartSaved, HoldsPart, IsWritten}
+use Rattle.pb_outside.proofs.Saves.{all_written, all_called, told_now}
+use Rattle.pb_cert.specs.Saved.{AddsLine}
 use Rattle.pb_cert.proofs.LineTexts.{lines_are_text}
-use Rattle.pb_cert.proofs.Files.{on_err, on_ok_as, on_err_as, told_then, others_then, added_next, part_of_lines, all_written, all_lines}
-use Rattle.pb_cert.proofs.SavedCalls.{calls_next, failed_of_lines, lines_within, all_called, told_now}
+use Rattle.pb_cert.proofs.Files.{on_err, on_ok_as, on_err_as, told_then, others_then, added_next, part_of_lines, all_lines}
+use Rattle.pb_cert.proofs.SavedCalls.{calls_next, failed_of_lines, lines_within, some_lines}
 use Rattle.pb_cert.proofs.certificate.Certificate.write_to.Goals as goal
 
 pub returns-in_err-add_line-clause-err : goal.returns-in_err-add_line-clause-err
@@ -23,6 +25,7 @@ lines-preserved g c =
     record {
       within = omega (arith, c.lines-test.true);
       whole = c.in_ok-add_line.ensures.lines;
+      full = λ some. c.in_ok-add_line.ensures.full;
       written = told_then (g.H.Shelf.files c.args.shelf.now) (g.H.Shelf.files c.lines.shelf) (g.H.Shelf.files c.add_line.new.shelf)
           (λ old new. IsWritten new c.args.name.now c.lines.piece (lines (take c.lines.at (lines_of c.args.self.now))))
           (λ old new. (text : List ℕ) → IsWritten old c.args.name.now c.lines.piece text → AddsLine new c.args.name.now c.add_line.new.piece text (lines_of c.args.self.now) c.lines.at)
@@ -94,3 +97,8 @@ returns-clause-sure g c = λ some can.
     (told_now (g.H.Shelf.files c.args.shelf.now) (g.H.Shelf.files c.lines.shelf) c.args.name.now c.lines.piece (lines (take c.lines.at (lines_of c.args.self.now))) some c.lines.invariant.written)
     (lines_within (text_of c.args.self.now) (lines_of c.args.self.now) c.lines.at (lines_are_text c.args.self.now))
     (c.lines.invariant.holds c.args.name.now (length (text_of c.args.self.now)) can)
+
+pub append_piece-requires-clause-full : goal.append_piece-requires-clause-full
+append_piece-requires-clause-full g c =
+    c.lines.invariant.full
+    (omega (arith, c.lines-test.false, c.count-count.ensures.count, some_lines c.args.self.now))

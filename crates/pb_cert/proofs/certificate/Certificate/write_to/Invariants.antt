@@ -1,8 +1,9 @@
 use Rattle.std.proofs.Common.{◌≤◌, ◌-◌, take}
 use Rattle.pb_model.specs.Texts.{lines}
 use Rattle.pb_outside.specs.Outside.{IfTold, KeepsOthers, KeepsHolds}
-use Rattle.pb_outside.specs.Calls.{KeepsLoads}
-use Rattle.pb_cert.specs.Saved.{IsWritten, AreLines, HaveBegun}
+use Rattle.pb_outside.specs.Calls.{HasBytes, KeepsLoads}
+use Rattle.pb_outside.specs.Saves.{IsWritten, HaveBegun}
+use Rattle.pb_cert.specs.Saved.{AreLines}
 use Rattle.pb_cert.specs.Stated.{lines_of}
 use Rattle.pb_cert.proofs.certificate.Certificate.write_to.Given as goal
 
@@ -10,6 +11,7 @@ abbrev pub invariant-lines : goal.invariant-lines
 invariant-lines g l = record {
   within : l.at ≤ l.count;
   whole : AreLines l.piece;
+  full : 1 ≤ l.at → HasBytes l.piece;
   written : IfTold (g.H.Shelf.files l.fn.shelf) (g.H.Shelf.files l.shelf) (λ old new. IsWritten new l.name l.piece (lines (take l.at (lines_of l.self))));
   others : IfTold (g.H.Shelf.files l.fn.shelf) (g.H.Shelf.files l.shelf) (λ old new. KeepsOthers old new l.name);
   calls : HaveBegun (g.H.Shelf.calls l.fn.shelf) (g.H.Shelf.calls l.shelf) l.name l.piece (lines (take l.at (lines_of l.self)));

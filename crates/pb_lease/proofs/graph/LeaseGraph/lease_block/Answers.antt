@@ -19,8 +19,8 @@ use Rattle.pb_lease.proofs.GivenOut.{given}
 use Rattle.pb_lease.specs.contracts.graph.LeaseGraph.{the_view}
 use Rattle.pb_lease.proofs.graph.LeaseGraph.lease_block.Goals as goal
 
-pub scope-requires : goal.scope-requires
-scope-requires c =
+pub scope-bundles-requires : goal.scope-bundles-requires
+scope-bundles-requires c =
     let t : GraphValue = the_view c.self.inside in
     let first = subst (λ (v : GraphValue). IsChoice v (Some c.args.block)) (sym c.self.view_is) c.requires.first in
     subst (λ (g : AbstractGraph). c.args.block < (blocks_of g).count) (sym c.graph.ensures) (chosen_known t c.self.invariant c.args.block first)
@@ -36,17 +36,17 @@ take_out-parts-requires-clause-home c block there =
     let t : GraphValue = the_view c.self.inside in
     let first = subst (λ (v : GraphValue). IsChoice v (Some c.args.block)) (sym c.self.view_is) c.requires.first in
     let graph : blocks_of c.graph-2.result.now ≡ blocks t.table = ap blocks_of (c.graph-2.ensures ∙ c.in_ok-quota.ensures.events.graph) in
-    scope_home t c.self.invariant c.args.block block first.0.0 (sym (c.scope-2.ensures.each block ∙ ap (λ (of : Blocks). of.scope c.args.block block) graph) ∙ there)
+    scope_home t c.self.invariant c.args.block block first.0.0 (sym (c.scope.ensures.each block ∙ ap (λ (of : Blocks). of.scope c.args.block block) graph) ∙ there)
 
 pub take_out-parts-requires-clause-distinct : goal.take_out-parts-requires-clause-distinct
-take_out-parts-requires-clause-distinct c = distinct c.scope-2.result.now c.scope-2.ensures.ascending
+take_out-parts-requires-clause-distinct c = distinct c.scope.result.now c.scope.ensures.ascending
 
 pub take_out-parts-requires-clause-room : goal.take_out-parts-requires-clause-room
 take_out-parts-requires-clause-room c =
     let graph : blocks_of c.graph-2.result.now ≡ blocks_of c.graph.result.now = ap blocks_of (c.graph-2.ensures ∙ c.in_ok-quota.ensures.events.graph ∙ sym c.graph.ensures) in
-    let fewer = no_longer c.scope.result.now c.scope-2.result.now c.scope-2.ensures.ascending
-    (λ b. c.scope-2.ensures.each b ∙ ap (λ (of : Blocks). of.scope c.args.block b) graph ∙ sym (c.scope.ensures.each b)) in
-    omega (arith, fewer, c.in_ok-room.ensures)
+    let fewer = no_longer c.scope-bundles.result.now c.scope.result.now c.scope.ensures.ascending
+    (λ b. c.scope.ensures.each b ∙ ap (λ (of : Blocks). of.scope c.args.block b) graph ∙ sym (c.scope-bundles.ensures.each b)) in
+    omega (arith, fewer, c.in_ok-room.ensures.room)
 
 pub invariant_of-self-2 : goal.invariant_of-self-2
 invariant_of-self-2 c =
@@ -58,8 +58,8 @@ invariant_of-self-2 c =
     let graph : blocks_of c.graph-2.result.now ≡ blocks t.table = ap blocks_of (c.graph-2.ensures ∙ c.in_ok-quota.ensures.events.graph) in
     let may : refusal (blocks t.table) t.table.settings (counts_in t) (Lease c.args.worker c.args.block (min t.table.settings.lot t.table.left)) ≡ None =
     lease_may (blocks t.table) t.table.settings (counts_in t) c.args.worker c.args.block (chosen_known t c.self.invariant c.args.block first) inside stays vacant refl c.self.invariant.legal.range.lot.0 first.0.0 in
-    leased_kept t c.self.invariant c.args.worker c.args.block (min t.table.settings.lot t.table.left) c.lease.new.self c.take_out-parts.new.self c.in_ok-quota.ensures.events may inside vacant c.scope-2.result.now
-    (λ b. c.scope-2.ensures.each b ∙ ap (λ (of : Blocks). of.scope c.args.block b) graph) c.take_out-parts.ensures.left c.take_out-parts.ensures.out
+    leased_kept t c.self.invariant c.args.worker c.args.block (min t.table.settings.lot t.table.left) c.lease.new.self c.take_out-parts.new.self c.in_ok-quota.ensures.events may inside vacant c.scope.result.now
+    (λ b. c.scope.ensures.each b ∙ ap (λ (of : Blocks). of.scope c.args.block b) graph) c.take_out-parts.ensures.left c.take_out-parts.ensures.out
 
 pub returns-clause-leased : goal.returns-clause-leased
 returns-clause-leased c =
@@ -78,7 +78,7 @@ returns-clause-leased c =
     } in
     let adds : Adds t.table c.lease.new.self (Lease lease.worker lease.block lease.quota ∷ []) = subst (λ q. Adds t.table c.lease.new.self (Lease c.args.worker c.args.block q ∷ [])) (sym c.in_ok-quota.ensures.quota) c.in_ok-quota.ensures.events in
     subst (λ (v : GraphValue). IsLeased v c.args.worker lease (record { task = t.task; table = c.lease.new.self; homes = c.take_out-parts.new.self; incumbent = t.incumbent })) c.self.view_is
-    (given t c.self.invariant lease c.lease.new.self c.take_out-parts.new.self c.scope-2.result.now (λ b. c.scope-2.ensures.each b ∙ ap (λ (of : Blocks). of.scope c.args.block b) graph) first
+    (given t c.self.invariant lease c.lease.new.self c.take_out-parts.new.self c.scope.result.now (λ b. c.scope.ensures.each b ∙ ap (λ (of : Blocks). of.scope c.args.block b) graph) first
     (ap weight_of settings) adds c.take_out-parts.ensures.taken c.in_ok-quota.ensures.quota refl refl c.take_out-parts.ensures.left c.take_out-parts.ensures.out c.in_ok-quota.ensures.room)
 
 pub returns-clause-moment : goal.returns-clause-moment
@@ -102,6 +102,6 @@ returns-clause-moment c =
     let new : GraphValue = record { task = t.task; table = c.lease.new.self; homes = c.take_out-parts.new.self; incumbent = t.incumbent } in
     let adds : Adds t.table c.lease.new.self (Lease lease.worker lease.block lease.quota ∷ []) = subst (λ q. Adds t.table c.lease.new.self (Lease c.args.worker c.args.block q ∷ [])) (sym c.in_ok-quota.ensures.quota) c.in_ok-quota.ensures.events in
     let leased : IsLeased t lease.worker lease new =
-    given t c.self.invariant lease c.lease.new.self c.take_out-parts.new.self c.scope-2.result.now (λ b. c.scope-2.ensures.each b ∙ ap (λ (of : Blocks). of.scope c.args.block b) graph) first
+    given t c.self.invariant lease c.lease.new.self c.take_out-parts.new.self c.scope.result.now (λ b. c.scope.ensures.each b ∙ ap (λ (of : Blocks). of.scope c.args.block b) graph) first
     (ap weight_of settings) adds c.take_out-parts.ensures.taken c.in_ok-quota.ensures.quota refl refl c.take_out-parts.ensures.left c.take_out-parts.ensures.out c.in_ok-quota.ensures.room in
     subst (λ (v : GraphValue). LeasesNext v lease new) c.self.view_is (leases_next t c.self.invariant lease new leased inside vacant stays)

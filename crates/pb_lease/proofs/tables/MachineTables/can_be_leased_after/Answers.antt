@@ -63,35 +63,18 @@ returns-then-block-own c =
     sym (own_after t c.self.inside.busy.items c.self.inside.marks.near.items c.self.inside.promised _ c.self.invariant worker c.args.used own has_it known_own test_own)
     ∙ ap (λ n. can_be_leased (blocks t) t.settings (counts_with_lease_home (counts_of t) worker c.args.used) n) (sym c.if-block-own.true) ∙ ap (λ (v : Table). can_be_leased (blocks v) v.settings (counts_with_lease_home (counts_of v) worker c.args.used) block) c.self.view_is
 
-pub interference-requires : goal.interference-requires
-interference-requires c =
+pub is_clear_without-requires-clause-own : goal.is_clear_without-requires-clause-own
+is_clear_without-requires-clause-own c =
     let t : Table = the_view c.self.inside in
     let worker : ℕ = c.args.worker in
-    let block : ℕ = c.args.block in
     let own = c.grant_of-own.result in
     let has_it : (counts_of t).leases worker ≡ Some own = ap (λ (v : Table). (counts_of v).leases worker) c.self.view_is ∙ c.grant_of-own.ensures in
     let few : c.args.used ≤ own.quota = subst (λ (o : Option Grant). c.args.used ≤ quota_of o) c.grant_of-own.ensures c.requires.used in
-    subst (λ (of : Blocks). own.block < of.count) (sym (ap blocks_of c.deref.ensures)) (own_known t c.self.inside.busy.items c.self.inside.marks.near.items c.self.inside.promised _ c.self.invariant worker c.args.used false own (seat_of t.seats worker) refl has_it few)
+    subst (λ (v : Table). own.block < (blocks v).count) c.self.view_is
+    (own_known t c.self.inside.busy.items c.self.inside.marks.near.items c.self.inside.promised _ c.self.invariant worker c.args.used false own (seat_of t.seats worker) refl has_it few)
 
-pub overflow_sub-others : goal.overflow_sub-others
-overflow_sub-others c =
-    let t : Table = the_view c.self.inside in
-    let worker : ℕ = c.args.worker in
-    let block : ℕ = c.args.block in
-    let own = c.grant_of-own.result in
-    let has_it : (counts_of t).leases worker ≡ Some own = ap (λ (v : Table). (counts_of v).leases worker) c.self.view_is ∙ c.grant_of-own.ensures in
-    let few : c.args.used ≤ own.quota = subst (λ (o : Option Grant). c.args.used ≤ quota_of o) c.grant_of-own.ensures c.requires.used in
-    let busy = c.self.inside.busy.items in
-    let known' : block < (blocks t).count = subst (λ (v : Table). block < (blocks v).count) (sym c.self.view_is) c.requires.block in
-    let graph : blocks_of c.deref.result.now ≡ blocks t = ap blocks_of c.deref.ensures in
-    let near_is' : c.count_of-own_near.result ≡ one_if (interferes (blocks t) own.block block) =
-    c.count_of-own_near.ensures ∙ ap one_if (c.interference.ensures.each block ∙ ap (λ (of : Blocks). interferes of own.block block) graph) in
-    let count_is : c.index-2.result.now ≡ get_or busy block 0 = item_is busy block c.index-2.result.now 0 (omega (arith, known', c.self.invariant.busy_is.places)) c.index-2.ensures in
-    let less = fewer_near t c.self.inside.busy.items c.self.inside.marks.near.items c.self.inside.promised _ c.self.invariant worker c.args.used false own (seat_of t.seats worker) refl has_it few block in
-    omega (arith, near_is', count_is, less, c.self.invariant.busy_is.counted block known')
-
-pub returns : goal.returns
-returns c =
+pub returns-then-is_clear_without : goal.returns-then-is_clear_without
+returns-then-is_clear_without c =
     let t : Table = the_view c.self.inside in
     let worker : ℕ = c.args.worker in
     let block : ℕ = c.args.block in
@@ -106,15 +89,39 @@ returns c =
     ap (λ r. r && nat_lt 0 (t.left + (own.quota - c.args.used)) && (c.index.result.now == 0)) end_is ∙ ap (λ n. is_none t.end && nat_lt 0 (t.left + (own.quota - c.args.used)) && (n == 0)) near_is in
     let test = sym same ∙ c.if-not-is_open.false in
     let other : (block == own.block) ≡ false = by_cases (block == own.block) (λ e. absurd (c.if-block-own.false (equal block own.block e))) (λ e. e) in
-    let busy = c.self.inside.busy.items in
-    let known' : block < (blocks t).count = subst (λ (v : Table). block < (blocks v).count) (sym c.self.view_is) c.requires.block in
-    let graph : blocks_of c.deref.result.now ≡ blocks t = ap blocks_of c.deref.ensures in
-    let near_is' : c.count_of-own_near.result ≡ one_if (interferes (blocks t) own.block block) =
-    c.count_of-own_near.ensures ∙ ap one_if (c.interference.ensures.each block ∙ ap (λ (of : Blocks). interferes of own.block block) graph) in
-    let count_is : c.index-2.result.now ≡ get_or busy block 0 = item_is busy block c.index-2.result.now 0 (omega (arith, known', c.self.invariant.busy_is.places)) c.index-2.ensures in
     let less = fewer_near t c.self.inside.busy.items c.self.inside.marks.near.items c.self.inside.promised _ c.self.invariant worker c.args.used false own (seat_of t.seats worker) refl has_it few block in
-    let n : ℕ = c.index-2.result.now - c.count_of-own_near.result in
-    let count : busy_count (blocks t) t.settings.workers (counts_with_lease_home (counts_of t) worker c.args.used).leases block ≡ n = omega (arith, near_is', count_is, less, c.self.invariant.busy_is.counted block known') in
-    let out_is = c.is_leased.ensures ∙ walked_out t c.deref-2.result.now block c.deref-2.ensures.value c.self.invariant.seats in
+    let n : ℕ = busy_count (blocks t) t.settings.workers (counts_of t).leases block - one_if (interferes (blocks t) own.block block) in
+    let count : busy_count (blocks t) t.settings.workers (counts_with_lease_home (counts_of t) worker c.args.used).leases block ≡ n = omega (arith, less) in
     let after = other_after t c.self.inside.busy.items c.self.inside.marks.near.items c.self.inside.promised _ c.self.invariant worker c.args.used own has_it block n known other count in
-    ap (λ r. (n == 0) && not r) out_is ∙ sym (after ∙ ap (λ r. cond r ((n == 0) && not (is_out t.settings.workers (counts_of t).leases block)) false) test) ∙ ap (λ (v : Table). can_be_leased (blocks v) v.settings (counts_with_lease_home (counts_of v) worker c.args.used) block) c.self.view_is
+    let clear : c.is_clear_without.result ≡ (n == 0) = c.is_clear_without.ensures
+    ∙ ap (λ (v : Table). (busy_count (blocks v) v.settings.workers (counts_of v).leases block - one_if (interferes (blocks v) own.block block)) == 0) (sym c.self.view_is) in
+    let out_is = c.is_leased.ensures ∙ walked_out t c.deref.result.now block c.deref.ensures.value c.self.invariant.seats in
+    ap not out_is ∙ sym (after ∙ ap (λ r. cond r ((n == 0) && not (is_out t.settings.workers (counts_of t).leases block)) false) test
+    ∙ ap (λ r. r && not (is_out t.settings.workers (counts_of t).leases block)) (sym clear ∙ c.if-is_clear_without.true))
+    ∙ ap (λ (v : Table). can_be_leased (blocks v) v.settings (counts_with_lease_home (counts_of v) worker c.args.used) block) c.self.view_is
+
+pub returns-else-is_clear_without : goal.returns-else-is_clear_without
+returns-else-is_clear_without c =
+    let t : Table = the_view c.self.inside in
+    let worker : ℕ = c.args.worker in
+    let block : ℕ = c.args.block in
+    let own = c.grant_of-own.result in
+    let has_it : (counts_of t).leases worker ≡ Some own = ap (λ (v : Table). (counts_of v).leases worker) c.self.view_is ∙ c.grant_of-own.ensures in
+    let few : c.args.used ≤ own.quota = subst (λ (o : Option Grant). c.args.used ≤ quota_of o) c.grant_of-own.ensures c.requires.used in
+    let near = c.self.inside.marks.near.items in
+    let known : block < (blocks t).count = subst (λ (v : Table). block < (blocks v).count) (sym c.self.view_is) c.requires.block in
+    let near_is : c.index.result.now ≡ get_or near block 0 = item_is near block c.index.result.now 0 (omega (arith, known, c.self.invariant.marks.near_places)) c.index.ensures in
+    let end_is : c.is_none.result ≡ is_none t.end = none_is c.is_none.result t.end c.is_none.ensures in
+    let same : (c.is_none.result && nat_lt 0 (t.left + (own.quota - c.args.used)) && (c.index.result.now == 0)) ≡ (is_none t.end && nat_lt 0 (t.left + (own.quota - c.args.used)) && (get_or near block 0 == 0)) =
+    ap (λ r. r && nat_lt 0 (t.left + (own.quota - c.args.used)) && (c.index.result.now == 0)) end_is ∙ ap (λ n. is_none t.end && nat_lt 0 (t.left + (own.quota - c.args.used)) && (n == 0)) near_is in
+    let test = sym same ∙ c.if-not-is_open.false in
+    let other : (block == own.block) ≡ false = by_cases (block == own.block) (λ e. absurd (c.if-block-own.false (equal block own.block e))) (λ e. e) in
+    let less = fewer_near t c.self.inside.busy.items c.self.inside.marks.near.items c.self.inside.promised _ c.self.invariant worker c.args.used false own (seat_of t.seats worker) refl has_it few block in
+    let n : ℕ = busy_count (blocks t) t.settings.workers (counts_of t).leases block - one_if (interferes (blocks t) own.block block) in
+    let count : busy_count (blocks t) t.settings.workers (counts_with_lease_home (counts_of t) worker c.args.used).leases block ≡ n = omega (arith, less) in
+    let after = other_after t c.self.inside.busy.items c.self.inside.marks.near.items c.self.inside.promised _ c.self.invariant worker c.args.used own has_it block n known other count in
+    let clear : c.is_clear_without.result ≡ (n == 0) = c.is_clear_without.ensures
+    ∙ ap (λ (v : Table). (busy_count (blocks v) v.settings.workers (counts_of v).leases block - one_if (interferes (blocks v) own.block block)) == 0) (sym c.self.view_is) in
+    c.if-is_clear_without.false ∙ sym (after ∙ ap (λ r. cond r ((n == 0) && not (is_out t.settings.workers (counts_of t).leases block)) false) test
+    ∙ ap (λ r. r && not (is_out t.settings.workers (counts_of t).leases block)) (sym clear ∙ c.if-is_clear_without.false))
+    ∙ ap (λ (v : Table). can_be_leased (blocks v) v.settings (counts_with_lease_home (counts_of v) worker c.args.used) block) c.self.view_is

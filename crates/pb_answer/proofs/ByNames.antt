@@ -1,0 +1,170 @@
+-- What is claimed of a STRIPS task by names follows from what is claimed of its packed task.
+use Rattle.std.proofs.Common.{◌≡◌, ℕ, ◌+◌, ◌*◌, ◌≤◌, Option, None, Some, List, length, map, slice_get, Result, Ok, Err, refl, sym, ap, ◌∙◌, subst}
+use Rattle.pb_model.specs.Plan.{Plan, IsPlan as IsPackedPlan, HasNoPlan, IsBound}
+use Rattle.pb_model.specs.Texts.{plan_report}
+use Rattle.pb_task.specs.declared.parts.TaskParts.{TaskParts}
+use Rattle.pb_task.specs.declared.parts.TaskParts.TheVariants as parts
+use Rattle.pb_task.specs.Parts.{space_of}
+use Rattle.pb_pddl.specs.declared.error.SyntaxError.{SyntaxError}
+use Rattle.pb_pddl.specs.declared.tree.Domain.{Domain}
+use Rattle.pb_pddl.specs.declared.tree.Problem.{Problem}
+use Rattle.pb_pddl.specs.Readings.{domain_reading, problem_reading}
+use Rattle.pb_lifted.specs.Plans.{NamedAction, IsPlan}
+use Rattle.pb_strips.specs.declared.error.StripsError.{StripsError}
+use Rattle.pb_pddl.specs.Readings.{tokens_of}
+use Rattle.pb_pddl.specs.Words.{DomainHasWords, ProblemHasWords}
+use Rattle.pb_pddl_laws.proofs.FormsRead.{domain_is, problem_is}
+use Rattle.pb_pddl_laws.proofs.TokensOf.{texts_have_tokens}
+use Rattle.pb_pddl_laws.proofs.NamesAreWords.{domain_has_words, problem_has_words}
+use Rattle.pb_strips.specs.Names.{action_bytes}
+use Rattle.pb_strips.proofs.Printed.{names_are_printed}
+use Rattle.pb_strips.specs.Grounding.{strips_of}
+use Rattle.pb_strips.specs.Refusals.{first_fault}
+use Rattle.pb_strips.proofs.PlansAgree.{packed_plans_are_plans, plans_are_packed_plans}
+use Rattle.pb_check.specs.declared.fault.Verdict.{Verdict}
+use Rattle.pb_check.specs.declared.fault.Verdict.TheVariants.{Bounded, Unsolvable}
+use Rattle.pb_check.specs.Shown.{VerdictHolds}
+use Rattle.pb_report.specs.Texts.{syntax_text, strips_text}
+use Rattle.pb_command.specs.Values.{InputNames, Grid, Tiles, Strips}
+use Rattle.pb_command.specs.Meaning.{SolveMeaning, CheckMeaning}
+use Rattle.pb_answer.specs.Searches.{weight_asked}
+use Rattle.pb_answer.specs.Outputs.{Output}
+use Rattle.pb_answer.specs.Loaded.{refused_with, strips_told, problem_told, domain_told, strips_task, input_task, with_text, OfTexts, OfCheckedTexts}
+use Rattle.pb_answer.specs.Claims.{Solves, Accepts}
+use Rattle.pb_answer.specs.Named.{SpellTrees, OfTrees, named_cost, HasNoNamedPlan, PrintsNamedPlan, NamedVerdict, AcceptsNamed}
+
+-- ---- the trees of a task
+
+domain_words : (text : List ℕ) (domain : Domain) → domain_reading text ≡ Ok domain → DomainHasWords domain
+unfolding domain_reading
+domain_words text domain reads = domain_has_words text domain (tokens_of text, texts_have_tokens text, domain_is (tokens_of text) domain reads)
+
+problem_words : (text : List ℕ) (problem : Problem) → problem_reading text ≡ Ok problem → ProblemHasWords problem
+unfolding problem_reading
+problem_words text problem reads = problem_has_words text problem (tokens_of text, texts_have_tokens text, problem_is (tokens_of text) problem reads)
+
+-- they are a task, and their names are words
+pub record AreTask (domain : Domain) (problem : Problem) : Type 0 where
+  pub accepted : first_fault domain problem ≡ None
+  pub words : DomainHasWords domain
+  pub others : ProblemHasWords problem
+
+pub record Trees (domain_text problem_text : Option (List ℕ)) (task : TaskParts) : Type 0 where
+  pub domain : Domain
+  pub problem : Problem
+  pub spelled : SpellTrees domain_text problem_text domain problem
+  pub are : AreTask domain problem
+  pub is : task ≡ parts.Strips (strips_of domain problem)
+
+trees_of : (domain_text problem_text : Option (List ℕ)) (task : TaskParts) → strips_task domain_text problem_text ≡ Ok task → Trees domain_text problem_text task
+trees_of None problem_text task e = cc
+trees_of (Some domain_text) None task e = cc
+trees_of (Some domain_text) (Some problem_text) task e = at_domain (domain_reading domain_text) refl e
+  where
+    none : {A : Type 0} → (report : Option (List ℕ)) → refused_with report ≡ Ok task → A
+    none None f = cc
+    none (Some report) f = cc
+
+    at_fault : (domain : Domain) (problem : Problem) → domain_reading domain_text ≡ Ok domain → problem_reading problem_text ≡ Ok problem → (fault : Option StripsError)
+        → first_fault domain problem ≡ fault → strips_told domain problem fault ≡ Ok task → Trees (Some domain_text) (Some problem_text) task
+    at_fault domain problem reads also None accepted f =
+        let is : task ≡ parts.Strips (strips_of domain problem) = cc in
+        record {
+          domain = domain;
+          problem = problem;
+          spelled = (reads, also);
+          are = record { accepted = accepted; words = domain_words domain_text domain reads; others = problem_words problem_text problem also };
+          is = is;
+        }
+    at_fault domain problem reads also (Some error) accepted f = none (strips_text error) f
+
+    at_problem : (domain : Domain) → domain_reading domain_text ≡ Ok domain → (reading : Result Problem SyntaxError) → problem_reading problem_text ≡ reading
+        → problem_told domain reading ≡ Ok task → Trees (Some domain_text) (Some problem_text) task
+    at_problem domain reads (Ok problem) also f = at_fault domain problem reads also (first_fault domain problem) refl f
+    at_problem domain reads (Err error) also f = none (syntax_text 2 error) f
+
+    at_domain : (reading : Result Domain SyntaxError) → domain_reading domain_text ≡ reading → domain_told reading (problem_reading problem_text) ≡ Ok task
+        → Trees (Some domain_text) (Some problem_text) task
+    at_domain (Ok domain) reads f = at_problem domain reads (problem_reading problem_text) refl f
+    at_domain (Err error) reads f = none (syntax_text 1 error) f
+
+-- what follows for every domain and problem from what holds of their task holds of the trees that the texts spell
+by_trees : (P : TaskParts → Type 0) (Q : Domain → Problem → Type 0) → ((domain : Domain) (problem : Problem) → AreTask domain problem → P (parts.Strips (strips_of domain problem)) → Q domain problem)
+    → (input : InputNames) (row first : ℕ) (texts : List (List ℕ)) (task : TaskParts) → input_task input row first texts ≡ Ok task → P task → OfTrees input first texts Q
+by_trees P Q f (Grid names) row first texts task is holds = tt
+by_trees P Q f (Tiles board) row first texts task is holds = tt
+by_trees P Q f (Strips names) row first texts task is holds =
+    let trees : Trees (slice_get texts first) (slice_get texts (first + 1)) task = trees_of (slice_get texts first) (slice_get texts (first + 1)) task is in
+    (trees.domain, trees.problem, trees.spelled, f trees.domain trees.problem trees.are (subst P trees.is holds))
+
+checked_input : (certificate : Option (List ℕ)) (task : Result TaskParts (List ℕ)) (of : TaskParts) (text : List ℕ) → with_text certificate task ≡ Ok (of, text) → task ≡ Ok of
+checked_input None task of text e = cc
+checked_input (Some certificate) (Err report) of text e = cc
+checked_input (Some certificate) (Ok task) of text e =
+    let same = unwrap (task, certificate) (of, text) e in
+    ap (λ (pair : TaskParts × List ℕ). Ok pair.0) same
+  where
+    unwrap : (a b : TaskParts × List ℕ) → ◌≡◌ {A = Result (TaskParts × List ℕ) (List ℕ)} (Ok a) (Ok b) → a ≡ b
+    unwrap a b f = cc
+
+-- ---- plans
+
+module _ (domain : Domain) (problem : Problem) (are : AreTask domain problem) where
+  abbrev pub task : TaskParts
+  task = parts.Strips (strips_of domain problem)
+
+  -- a plan by names is a packed plan of the same cost
+  packed : (others : List NamedAction) → IsPlan domain problem others → (plan : Plan) × IsPackedPlan (space_of task) plan × (plan.cost ≡ named_cost domain others)
+  packed others is = let found = plans_are_packed_plans domain problem others are.accepted is in (record { actions = found.0; cost = length others }, found.1, refl)
+
+  pub no_named_plan : HasNoPlan (space_of task) → HasNoNamedPlan domain problem
+  no_named_plan none actions is =
+      let packed = plans_are_packed_plans domain problem actions are.accepted is in
+      none (record { actions = packed.0; cost = length actions }) packed.1
+
+  pub prints_named_plan : (says : List ℕ → Type 0) (saves : List Output → Type 0)
+      (solve : SolveMeaning) → Solves says saves solve task
+      → PrintsNamedPlan says (weight_asked solve) domain problem
+  prints_named_plan says saves solve (plan, bound, text, is, bounded, least, saved, fits) =
+      let weight = weight_asked solve in
+      let named = packed_plans_are_plans domain problem plan are.accepted is in
+      let cost : plan.cost ≡ named_cost domain named.0 = named.3 in
+      let names = sym named.2 ∙ names_are_printed domain problem named.0 are.words are.others named.1 in (
+        named.0,
+        bound,
+        subst says (ap (λ steps. plan_report steps plan.cost bound) names ∙ ap (λ n. plan_report (map (action_bytes domain) named.0) n bound) cost) text,
+        named.1,
+        subst (λ n. IsBound weight n bound) cost bounded,
+        λ others other_is.
+            let other = packed others other_is in
+            subst (λ n. weight.den * n ≤ weight.num * named_cost domain others) cost
+            (subst (λ n. weight.den * plan.cost ≤ weight.num * n) other.2 (least other.0 other.1)),
+      )
+
+  pub named_verdict : (verdict : Verdict) → VerdictHolds (space_of task) verdict → NamedVerdict domain problem verdict
+  named_verdict Unsolvable none = no_named_plan none
+  named_verdict (Bounded cost bound) ((plan, is, costs), least) =
+      let named = packed_plans_are_plans domain problem plan are.accepted is in (
+        (named.0, named.1, sym named.3 ∙ costs),
+        λ others other_is. let other = packed others other_is in subst (λ n. bound ≤ n) other.2 (least other.0 other.1),
+      )
+
+-- ---- of what is answered
+
+module _ (texts : List (List ℕ)) where
+  pub solved_by_names : (says : List ℕ → Type 0) (saves : List Output → Type 0)
+      (solve : SolveMeaning) → OfTexts solve texts (λ parts. Solves says saves solve parts)
+      → OfTrees solve.input 0 texts (PrintsNamedPlan says (weight_asked solve))
+  solved_by_names says saves solve (task, is, holds) =
+      by_trees (λ parts. Solves says saves solve parts)
+      (PrintsNamedPlan says (weight_asked solve))
+      (λ domain problem are solves. prints_named_plan domain problem are says saves solve solves)
+      solve.input solve.row 0 texts task is holds
+
+  pub none_by_names : (solve : SolveMeaning) → OfTexts solve texts (λ task. HasNoPlan (space_of task)) → OfTrees solve.input 0 texts HasNoNamedPlan
+  none_by_names solve (task, is, holds) = by_trees (λ t. HasNoPlan (space_of t)) HasNoNamedPlan no_named_plan solve.input solve.row 0 texts task is holds
+
+  pub accepted_by_names : (says : List ℕ → Type 0) (check : CheckMeaning) → OfCheckedTexts check texts (Accepts says) → OfTrees check.input 1 texts (AcceptsNamed says)
+  accepted_by_names says check (task, certificate, is, holds) =
+      by_trees (λ t. Accepts says t certificate) (AcceptsNamed says) (λ domain problem are claims. (claims.0, claims.1, named_verdict domain problem are claims.0 claims.5)) check.input check.row 1 texts
+      task (checked_input (slice_get texts 0) (input_task check.input check.row 1 texts) task certificate is) holds

@@ -1,0 +1,23 @@
+use Rattle.std.proofs.Common.{None, Some, [], ◌∷◌, ◌∙◌, refl}
+use Rattle.pb_cert.specs.Stated.{text_of}
+use Rattle.pb_command.specs.Causes.{solve_meant}
+use Rattle.pb_answer.specs.Outputs.{output}
+use Rattle.pb_answer.proofs.Certified.{is_certificate, certifies}
+use Rattle.pb_answer.proofs.solve.certify.Goals as goal
+
+pub returns-in_ok-certificate-in-Some : goal.returns-in_ok-certificate-in-Some
+returns-in_ok-certificate-in-Some c = λ is backs fits.
+    certifies c.args.task.now (solve_meant c.args.solve.now) c.args.graph.now c.requires.quiet
+    c.args.plan (Some c.in-Some.name.now) (rw c.in-Some.is refl)
+    (output c.in-Some.name.now (text_of c.in_ok-certificate-in-Some.certificate) ∷ []) backs
+    (is_certificate c.args.task.now (solve_meant c.args.solve.now) c.args.graph.now c.requires.quiet
+    c.max_degree-lawful.ensures.lawful c.requires.range c.in_ok-certificate-in-Some.certificate
+    c.args.plan c.in-Some.name.now (c.in_ok-certificate-in-Some.ensures.kind ∙ c.kind.ensures.kind)
+    c.in_ok-certificate-in-Some.ensures.weight c.in_ok-certificate-in-Some.ensures.plan
+    c.in_ok-certificate-in-Some.ensures.count c.in_ok-certificate-in-Some.ensures.lines
+    c.in_ok-certificate-in-Some.ensures.valid is backs fits)
+
+pub returns-in-None : goal.returns-in-None
+returns-in-None c = λ is backs fits.
+    certifies c.args.task.now (solve_meant c.args.solve.now) c.args.graph.now c.requires.quiet
+    c.args.plan None (rw c.in-None.is refl) [] backs refl

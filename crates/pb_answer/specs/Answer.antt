@@ -1,0 +1,120 @@
+-- What is answered of a command line and of the texts that were loaded of its files.
+use Rattle.std.specs.Prelude.{◌≡◌, ◌⊎◌, ℕ, Option, None, Some, List, [], ◌∷◌, ◌++◌, Result, Ok, Err}
+use Rattle.pb_model.specs.Plan.{HasNoPlan}
+use Rattle.pb_model.specs.Texts.{none_report, stopped_report}
+use Rattle.pb_task.specs.declared.parts.TaskParts.{TaskParts}
+use Rattle.pb_task.specs.Parts.{space_of}
+use Rattle.pb_cert.specs.Stated.{text_of}
+use Rattle.pb_journal.specs.Texts.{journal_text}
+use Rattle.pb_command.specs.Meaning.{Reading, Refused, Read, Solve, Check, Journal, Make, SolveMeaning, MakeMeaning, reading_of_words}
+use Rattle.pb_command.specs.Causes.{IsPrinted}
+use Rattle.pb_answer.specs.Statuses.{number_of}
+use Rattle.pb_answer.specs.Outputs.{Output, output}
+use Rattle.pb_answer.specs.Loaded.{solve_task, check_task, journal_task}
+use Rattle.pb_answer.specs.Searches.{weight_asked}
+use Rattle.pb_answer.specs.Claims.{Certifies, Stops, Solves, PrintsLeastCost, SavesPlan, Accepts, Rejects}
+use Rattle.pb_answer.specs.Journals.{AcceptsJournal, RejectsJournal}
+use Rattle.pb_answer.specs.Makes.{MakesPlan, MakesNone, MakesStop}
+use Rattle.pb_answer.specs.declared.answer.Answer.{Answer}
+use Rattle.pb_answer.specs.declared.answer.SavedCertificate.{SavedCertificate}
+use Rattle.pb_answer.specs.declared.answer.SavedJournal.{SavedJournal}
+
+-- the status, the report, and what is to be saved before it is printed
+pub record Said : Type 0 where
+  pub status : ℕ
+  pub report : List ℕ
+  pub outputs : List Output
+
+abbrev pub certificates_of : Option SavedCertificate → List Output
+certificates_of None = []
+certificates_of (Some file) = output file.name.now (text_of file.certificate) ∷ []
+
+abbrev pub journals_of : Option SavedJournal → List Output
+journals_of None = []
+journals_of (Some file) = output file.name.now (journal_text file.settings file.events.now) ∷ []
+
+-- the certificate, and then the journal
+abbrev pub said_of : Answer → Said
+said_of answer = record {
+  status = number_of answer.status;
+  report = answer.report;
+  outputs = certificates_of answer.certificate ++ journals_of answer.journal;
+}
+
+-- the report is this text
+abbrev pub Says : Said → List ℕ → Type 0
+Says said text = said.report ≡ text
+
+-- these are the files that are to be saved
+abbrev pub Saves : Said → List Output → Type 0
+Saves said outputs = said.outputs ≡ outputs
+
+-- ---- of a task that is to be solved
+
+-- A plan is reported that a search as the words ask for it found. Certificate and journal of that
+-- search are saved, each if it has a name. Whatever plan is read off the report, it is the one that
+-- all this is said of.
+abbrev pub IsSolved : SolveMeaning → TaskParts → Said → Type 0
+IsSolved solve parts said =
+    (said.status ≡ 0) × Solves (Says said) (Saves said) solve parts
+    × PrintsLeastCost (Says said) parts (weight_asked solve)
+    × SavesPlan (Says said) (Saves said) solve parts
+
+-- it is reported that there is no plan, with the certificate of that
+abbrev pub IsUnsolvable : SolveMeaning → TaskParts → Said → Type 0
+IsUnsolvable solve parts said =
+    (said.status ≡ 1) × Says said none_report × HasNoPlan (space_of parts)
+    × Certifies (Saves said) solve parts None
+
+-- a search as the words ask for it used up its budget of expansions, and there is no certificate
+abbrev pub IsStopped : SolveMeaning → TaskParts → Said → Type 0
+IsStopped solve parts said =
+    (said.status ≡ 2) × Says said (stopped_report solve.budget) × Stops (Saves said) solve parts
+
+abbrev pub IsFound : SolveMeaning → TaskParts → Said → Type 0
+IsFound solve parts said =
+    IsSolved solve parts said ⊎ (IsUnsolvable solve parts said ⊎ IsStopped solve parts said)
+
+-- ---- of a certificate that is to be checked
+
+abbrev pub IsChecked : TaskParts → (certificate : List ℕ) → Said → Type 0
+IsChecked parts certificate said =
+    ((said.status ≡ 0) × Saves said [] × Accepts (Says said) parts certificate) ⊎ ((said.status ≡ 3) × Saves said [] × Rejects (Says said) parts certificate)
+
+-- ---- of a journal that is to be judged
+
+abbrev pub IsJudged : TaskParts → (journal : List ℕ) → Said → Type 0
+IsJudged parts journal said =
+    ((said.status ≡ 0) × Saves said [] × AcceptsJournal (Says said) parts journal)
+    ⊎ ((said.status ≡ 3) × Saves said [] × RejectsJournal (Says said) parts journal)
+
+-- ---- of a task that is to be made
+
+abbrev pub IsMade : MakeMeaning → Said → Type 0
+IsMade make said =
+    ((said.status ≡ 0) × Saves said [] × MakesPlan (Says said) make)
+    ⊎ (((said.status ≡ 1) × Saves said [] × MakesNone (Says said) make)
+    ⊎ ((said.status ≡ 2) × Saves said [] × MakesStop (Says said) make))
+
+-- ---- of the words and the texts
+
+-- the input is refused with this report
+abbrev pub IsRefused : (report : List ℕ) → Said → Type 0
+IsRefused report said = (said.status ≡ 65) × Says said report × Saves said []
+
+-- what P says of a task, or the refusal of the texts
+abbrev pub OrRefused : {A : Type 0} → Result A (List ℕ) → (P : A → Said → Type 0) → Said → Type 0
+OrRefused (Ok task) P said = P task said
+OrRefused (Err report) P said = IsRefused report said
+
+abbrev pub AnswersReading : Reading → (texts : List (List ℕ)) → Said → Type 0
+AnswersReading (Refused fault) texts said = (said.status ≡ 64) × IsPrinted fault said.report × Saves said []
+AnswersReading (Read (Solve solve)) texts said = OrRefused (solve_task solve texts) (IsFound solve) said
+AnswersReading (Read (Check check)) texts said = OrRefused (check_task check texts) (λ task. IsChecked task.0 task.1) said
+AnswersReading (Read (Journal journal)) texts said =
+    OrRefused (journal_task journal texts) (λ task. IsJudged task.0 task.1) said
+AnswersReading (Read (Make make)) texts said = IsMade make said
+
+-- this is answered of the words and of the texts that were loaded
+abbrev pub Answers : (words texts : List (List ℕ)) → Said → Type 0
+Answers words texts said = AnswersReading (reading_of_words words) texts said

@@ -1,0 +1,120 @@
+-- What the program claims of a task, by the text that it prints and the certificate that it saves or checks.
+use Rattle.std.specs.Prelude.{◌≡◌, ℕ, ◌^◌, ◌<◌, Option, None, Some, List, [], ◌∷◌, ◌++◌, Ok, Err}
+use Rattle.pb_model.specs.Weight.{Weight}
+use Rattle.pb_model.specs.Guide.{Guide}
+use Rattle.pb_model.specs.Store.{Store}
+use Rattle.pb_model.specs.Plan.{Plan, IsPlan, NoneCheaper, IsBound}
+use Rattle.pb_model.specs.Certificate.{Line, Certificate, AreLinesOf, IsBackedBy, IsValid}
+use Rattle.pb_model.specs.Texts.{plan_report, head_1, certificate_text}
+use Rattle.pb_machine.specs.declared.event.End.TheVariants.{Quiet, Budget}
+use Rattle.pb_machine.specs.declared.event.Event.{Event}
+use Rattle.pb_machine.specs.declared.settings.Settings.{Settings}
+use Rattle.pb_task.specs.declared.parts.TaskParts.{TaskParts}
+use Rattle.pb_task.specs.Parts.{space_of}
+use Rattle.pb_estimate.specs.Estimates.{estimate_of}
+use Rattle.pb_lease.specs.Leased.{guide_of}
+use Rattle.pb_journal.specs.Texts.{journal_text}
+use Rattle.pb_check.specs.declared.fault.CertificateFault.{CertificateFault}
+use Rattle.pb_check.specs.declared.fault.Verdict.{Verdict}
+use Rattle.pb_check.specs.Judging.{checked, verdict_of}
+use Rattle.pb_check.specs.Kinds.{kind_of, kind_name}
+use Rattle.pb_check.specs.Shown.{IsAccepted, ShowsClaim, VerdictHolds}
+use Rattle.pb_report.specs.Texts.{plan_text, verdict_text, fault_text}
+use Rattle.pb_command.specs.Meaning.{SolveMeaning}
+use Rattle.pb_answer.specs.Outputs.{Output, output}
+use Rattle.pb_answer.specs.Searches.{settings_of, weight_asked, SearchEnds}
+
+-- ---- of a search
+
+-- the certificate at this weight with this plan, or with none
+abbrev pub certificate_of : Weight → Option Plan → List Line → Certificate
+certificate_of weight plan lines = record { weight = weight; plan = plan; lines = lines }
+
+-- its text, for a task of the kind of this one
+abbrev pub certificate_bytes : TaskParts → Certificate → List ℕ
+certificate_bytes parts certificate =
+    certificate_text (head_1 (kind_name (kind_of parts))) 64 certificate
+
+-- What is saved is the text of a certificate of the task, if it has a name, and else nothing. Its
+-- lines are those of all rows of this store. It is valid and has this plan, or none, and its text is
+-- accepted, with the plan's cost and bound.
+abbrev pub IsCertificate : (name : Option (List ℕ)) → TaskParts → Weight → Guide → Store
+    → Option Plan → List Output → Type 0
+IsCertificate None parts weight guide store plan outputs = outputs ≡ []
+IsCertificate (Some name) parts weight guide store plan outputs =
+    (lines : List Line) × AreLinesOf guide store.rows lines
+    × IsValid (space_of parts) (estimate_of parts) (certificate_of weight plan lines)
+    × (checked (space_of parts) (estimate_of parts) (kind_of parts)
+    (certificate_bytes parts (certificate_of weight plan lines)) ≡ Ok (verdict_of weight plan))
+    × (outputs ≡ output name (certificate_bytes parts (certificate_of weight plan lines)) ∷ [])
+
+-- the text of a journal of these settings and events, if it has a name
+abbrev pub journal_outputs : (name : Option (List ℕ)) → Settings → List Event → List Output
+journal_outputs None settings journal = []
+journal_outputs (Some name) settings journal = output name (journal_text settings journal) ∷ []
+
+-- A search of the task, as the words ask for it, came to a quiet end. It found this plan or a dearer
+-- one, or it found none. What is saved is its certificate and, after that, its journal, each if it
+-- has a name.
+abbrev pub Certifies : (saves : List Output → Type 0) → SolveMeaning → TaskParts → Option Plan
+    → Type 0
+Certifies saves solve parts plan =
+    (journal : List Event) × (run : SearchEnds parts (settings_of solve) Quiet journal)
+    × IsBackedBy run.ends.machine.store.incumbent plan
+    × (outputs : List Output)
+    × IsCertificate solve.certificate parts (weight_asked solve) (guide_of parts run.ends.graph)
+    run.ends.machine.store plan outputs
+    × saves (outputs ++ journal_outputs solve.journal (settings_of solve) journal)
+
+-- A search of the task, as the words ask for it, came to the end of its budget. What is saved is its
+-- journal, if it has a name.
+abbrev pub Stops : (saves : List Output → Type 0) → SolveMeaning → TaskParts → Type 0
+Stops saves solve parts =
+    (journal : List Event) × SearchEnds parts (settings_of solve) Budget journal
+    × saves (journal_outputs solve.journal (settings_of solve) journal)
+
+-- All of one plan: it is printed with its cost and bound and is a plan of the task, and its cost is
+-- at most num / den times that of any plan, where that is the weight. It is saved in the certificate
+-- of the search that found it. Its cost is a number of 64 bits.
+abbrev pub Solves : (says : List ℕ → Type 0) → (saves : List Output → Type 0) → SolveMeaning
+    → TaskParts → Type 0
+Solves says saves solve parts =
+    (plan : Plan) × (bound : ℕ) × says (plan_text parts plan bound) × IsPlan (space_of parts) plan
+    × IsBound (weight_asked solve) plan.cost bound
+    × NoneCheaper (space_of parts) (weight_asked solve) plan.cost
+    × Certifies saves solve parts (Some plan) × (plan.cost < 2 ^ 64)
+
+-- A plan of the task is printed, with its cost and bound.
+abbrev pub PrintsPlan : (says : List ℕ → Type 0) → TaskParts → Weight → Type 0
+PrintsPlan says parts weight =
+    (plan : Plan) × (bound : ℕ) × says (plan_text parts plan bound) × IsPlan (space_of parts) plan × IsBound weight plan.cost bound
+
+-- The cost that is printed is at most num / den times that of any plan of the task, where that is
+-- the weight: for every plan of cost f, den * cost <= num * f.
+abbrev pub PrintsLeastCost : (says : List ℕ → Type 0) → TaskParts → Weight → Type 0
+PrintsLeastCost says parts weight =
+    (steps : List (List ℕ)) (cost bound : ℕ) → cost < 2 ^ 64 → says (plan_report steps cost bound) → NoneCheaper (space_of parts) weight cost
+
+-- The saved certificate is that of the search and is accepted, and its plan is the one that is
+-- printed.
+abbrev pub SavesPlan : (says : List ℕ → Type 0) → (saves : List Output → Type 0) → SolveMeaning
+    → TaskParts → Type 0
+SavesPlan says saves solve parts =
+    (plan : Plan) (bound : ℕ) → IsPlan (space_of parts) plan → plan.cost < 2 ^ 64
+    → says (plan_text parts plan bound) → Certifies saves solve parts (Some plan)
+
+-- ---- of a certificate that is checked
+
+-- The text is that of a valid certificate of the task, its verdict is printed, and what the certificate claims is true of the task: every
+-- plan of a cost f has num * f >= den * C, where C is the certificate's cost and num / den its weight, or there is none.
+abbrev pub Accepts : (says : List ℕ → Type 0) → TaskParts → (certificate : List ℕ) → Type 0
+Accepts says parts certificate =
+    (verdict : Verdict) × says (verdict_text verdict) × (checked (space_of parts) (estimate_of parts) (kind_of parts) certificate ≡ Ok verdict)
+    × IsAccepted (space_of parts) (estimate_of parts) (kind_of parts) certificate verdict × ShowsClaim (space_of parts) (kind_of parts) certificate verdict
+    × VerdictHolds (space_of parts) verdict
+
+-- The text is that of no valid certificate of the task, and its first fault is printed.
+abbrev pub Rejects : (says : List ℕ → Type 0) → TaskParts → (certificate : List ℕ) → Type 0
+Rejects says parts certificate =
+    (fault : CertificateFault) × says (fault_text fault) × (checked (space_of parts) (estimate_of parts) (kind_of parts) certificate ≡ Err fault)
+    × ((verdict : Verdict) → IsAccepted (space_of parts) (estimate_of parts) (kind_of parts) certificate verdict → ⊥)

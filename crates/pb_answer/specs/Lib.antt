@@ -1,0 +1,10 @@
+pub mod Statuses
+pub mod Loaded
+pub mod Tasks
+pub mod Searches
+pub mod Named
+pub mod Outputs
+pub mod Claims
+pub mod Journals
+pub mod Makes
+pub mod Answer

@@ -1,0 +1,120 @@
+-- Which task the texts spell that were loaded of the files of a command line, or the report that refuses them: that of each kind of task stands in
+-- `input_task`.
+use Rattle.std.specs.Prelude.{◌≡◌, ℕ, ◌+◌, Option, None, Some, List, [], Result, Ok, Err, codes, slice_get}
+use Rattle.pb_model.specs.Texts.{line}
+use Rattle.pb_task.specs.declared.parts.TaskParts.{TaskParts}
+use Rattle.pb_task.specs.declared.parts.TaskParts.TheVariants as parts
+use Rattle.pb_task.specs.declared.parts.TilesParts.{TilesParts}
+use Rattle.pb_grid.specs.declared.error.GridError.{GridError}
+use Rattle.pb_grid.specs.Reading.{grid_reading, task_of}
+use Rattle.pb_tiles.specs.declared.error.TilesError.{TilesError}
+use Rattle.pb_tiles.specs.Reading.{tiles_reading}
+use Rattle.pb_pddl.specs.declared.error.SyntaxError.{SyntaxError}
+use Rattle.pb_pddl.specs.declared.tree.Domain.{Domain}
+use Rattle.pb_pddl.specs.declared.tree.Problem.{Problem}
+use Rattle.pb_pddl.specs.Readings.{domain_reading, problem_reading}
+use Rattle.pb_strips.specs.declared.error.StripsError.{StripsError}
+use Rattle.pb_strips.specs.Grounding.{strips_of}
+use Rattle.pb_strips.specs.Refusals.{first_fault}
+use Rattle.pb_report.specs.Texts.{input_text, tiles_text, syntax_text, strips_text}
+use Rattle.pb_command.specs.Values.{InputNames, Grid, Tiles, Strips}
+use Rattle.pb_command.specs.Meaning.{Reading, Refused, Read, Solve, Check, Journal, Make, SolveMeaning, CheckMeaning, JournalMeaning}
+
+-- ---- what the texts spell: a task, or the report with which they are refused
+
+-- a file was too long, so that its text and the later ones were not loaded
+abbrev pub too_long : List ℕ
+too_long = line (codes "input TooLong")
+
+-- want of memory has no text, and no reading of texts is that
+abbrev pub refused_with : Option (List ℕ) → Result TaskParts (List ℕ)
+refused_with None = Err []
+refused_with (Some report) = Err report
+
+abbrev pub grid_told : Result TaskParts GridError → Result TaskParts (List ℕ)
+grid_told (Ok task) = Ok task
+grid_told (Err error) = refused_with (input_text error)
+
+abbrev pub grid_task : (map_text scenario_text : Option (List ℕ)) → (row : ℕ) → Result TaskParts (List ℕ)
+grid_task None scenario_text row = Err too_long
+grid_task (Some map_text) None row = Err too_long
+grid_task (Some map_text) (Some scenario_text) row = grid_told (task_of (grid_reading map_text scenario_text row))
+
+abbrev pub tiles_told : Result TilesParts TilesError → Result TaskParts (List ℕ)
+tiles_told (Ok tiles) = Ok (parts.Tiles tiles)
+tiles_told (Err error) = refused_with (tiles_text error)
+
+abbrev pub tiles_task : (text : Option (List ℕ)) → Result TaskParts (List ℕ)
+tiles_task None = Err too_long
+tiles_task (Some text) = tiles_told (tiles_reading text)
+
+abbrev pub strips_told : Domain → Problem → Option StripsError → Result TaskParts (List ℕ)
+strips_told domain problem None = Ok (parts.Strips (strips_of domain problem))
+strips_told domain problem (Some error) = refused_with (strips_text error)
+
+abbrev pub problem_told : Domain → Result Problem SyntaxError → Result TaskParts (List ℕ)
+problem_told domain (Ok problem) = strips_told domain problem (first_fault domain problem)
+problem_told domain (Err error) = refused_with (syntax_text 2 error)
+
+-- the domain is read first, then the problem, and then both are grounded
+abbrev pub domain_told : Result Domain SyntaxError → (problem : Result Problem SyntaxError) → Result TaskParts (List ℕ)
+domain_told (Ok domain) problem = problem_told domain problem
+domain_told (Err error) problem = refused_with (syntax_text 1 error)
+
+abbrev pub strips_task : (domain_text problem_text : Option (List ℕ)) → Result TaskParts (List ℕ)
+strips_task None problem_text = Err too_long
+strips_task (Some domain_text) None = Err too_long
+strips_task (Some domain_text) (Some problem_text) = domain_told (domain_reading domain_text) (problem_reading problem_text)
+
+-- the task of the texts from this place on
+abbrev pub input_task : InputNames → (row first : ℕ) → (texts : List (List ℕ)) → Result TaskParts (List ℕ)
+input_task (Grid names) row first texts = grid_task (slice_get texts first) (slice_get texts (first + 1)) row
+input_task (Tiles board) row first texts = tiles_task (slice_get texts first)
+input_task (Strips names) row first texts = strips_task (slice_get texts first) (slice_get texts (first + 1))
+
+-- the task that is to be solved
+abbrev pub solve_task : SolveMeaning → (texts : List (List ℕ)) → Result TaskParts (List ℕ)
+solve_task solve texts = input_task solve.input solve.row 0 texts
+
+-- the text that is loaded first, beside the task of the texts behind it
+abbrev pub with_text : Option (List ℕ) → Result TaskParts (List ℕ)
+    → Result (TaskParts × List ℕ) (List ℕ)
+with_text None task = Err too_long
+with_text (Some text) (Ok parts) = Ok (parts, text)
+with_text (Some text) (Err report) = Err report
+
+-- the task that a certificate is to be checked for, and the certificate's text
+abbrev pub check_task : CheckMeaning → (texts : List (List ℕ)) → Result (TaskParts × List ℕ) (List ℕ)
+check_task check texts = with_text (slice_get texts 0) (input_task check.input check.row 1 texts)
+
+-- the task that a journal is to be judged for, and the journal's text
+abbrev pub journal_task : JournalMeaning → (texts : List (List ℕ))
+    → Result (TaskParts × List ℕ) (List ℕ)
+journal_task journal texts =
+    with_text (slice_get texts 0) (input_task journal.input journal.row 1 texts)
+
+-- the texts spell a task to solve, and P holds of it
+abbrev pub OfTexts : SolveMeaning → (texts : List (List ℕ)) → (P : TaskParts → Type 0) → Type 0
+OfTexts solve texts P = (parts : TaskParts) × (solve_task solve texts ≡ Ok parts) × P parts
+
+-- the texts spell a task with a certificate to check, and P holds of both
+abbrev pub OfCheckedTexts : CheckMeaning → (texts : List (List ℕ)) → (P : TaskParts → List ℕ → Type 0) → Type 0
+OfCheckedTexts check texts P = (parts : TaskParts) × (certificate : List ℕ) × (check_task check texts ≡ Ok (parts, certificate)) × P parts certificate
+
+-- the texts spell a task with a journal to judge, and P holds of both
+abbrev pub OfJournalTexts : JournalMeaning → (texts : List (List ℕ))
+    → (P : TaskParts → List ℕ → Type 0) → Type 0
+OfJournalTexts journal texts P =
+    (parts : TaskParts) × (text : List ℕ) × (journal_task journal texts ≡ Ok (parts, text))
+    × P parts text
+
+abbrev pub IsErr : {A : Type 0} → Result A (List ℕ) → (report : List ℕ) → Type 0
+IsErr result report = result ≡ Err report
+
+-- texts are refused with this report: one is too long, or they spell no task
+abbrev pub RefusesTexts : Reading → (texts : List (List ℕ)) → (report : List ℕ) → Type 0
+RefusesTexts (Refused fault) texts report = ⊥
+RefusesTexts (Read (Solve solve)) texts report = IsErr (solve_task solve texts) report
+RefusesTexts (Read (Check check)) texts report = IsErr (check_task check texts) report
+RefusesTexts (Read (Journal journal)) texts report = IsErr (journal_task journal texts) report
+RefusesTexts (Read (Make make)) texts report = ⊥

@@ -1,0 +1,171 @@
+ghost use Rattle.std.specs.Prelude.{◌≡◌, IfOk, [], map, string_bytes};
+ghost use Rattle.pb_command.specs.Meaning.{IsInRange, Solve};
+ghost use Rattle.pb_command.specs.Causes.{solve_meant, check_meant, journal_meant};
+ghost use Rattle.pb_answer.specs.Statuses.{number_of};
+ghost use Rattle.pb_answer.specs.Loaded.{solve_task, check_task, journal_task};
+ghost use Rattle.pb_answer.specs.Answer.{Answers, IsRefused, IsFound, IsChecked, IsJudged, OrRefused, said_of};
+
+use crate::check::judge;
+use crate::input::{NoTask, input_task};
+use crate::journal::judge_journal;
+use crate::make::make_task;
+use crate::solve::solve_task;
+use crate::status::Status;
+use crate::texts::Texts;
+use pb_cert::Certificate;
+use pb_command::{
+    CheckCommand, CommandLine, CommandRefusal, JournalCommand, Message, SolveCommand, read_words,
+};
+use pb_lease::LeaseGraph;
+use pb_machine::{Event, Settings};
+use pb_outside::Gate;
+use pb_report::Report;
+use std::alloc::{AllocError, Global};
+use std::sync::Wait;
+use std::thread::Threads;
+
+/// A certificate that is to be saved.
+#[derive(Drop)]
+pub struct SavedCertificate<'a> {
+    /// The name of its file.
+    pub name: &'a str,
+    /// What is to be saved.
+    pub certificate: Certificate<'a>,
+}
+
+/// A journal that is to be saved.
+#[derive(Drop)]
+pub struct SavedJournal<'a> {
+    /// The name of its file.
+    pub name: &'a str,
+    /// What the search was run with, which the header of the journal states.
+    pub settings: Settings,
+    /// The events of the search, each on a line.
+    pub events: &'a [Event],
+}
+
+/// What is answered: the exit status, the text to print, and the certificate and the journal that
+/// are to be saved, if any.
+#[derive(Drop)]
+pub struct Answer<'a> {
+    /// The exit status.
+    pub status: Status,
+    /// What is to be printed, after all is saved.
+    pub report: Report,
+    /// What is to be saved first.
+    pub certificate: Option<SavedCertificate<'a>>,
+    /// What is to be saved after that.
+    pub journal: Option<SavedJournal<'a>>,
+}
+
+impl<'a> Answer<'a> {
+    // The answer that saves nothing.
+    pub(crate) fn without_files(status: Status, report: Report) -> Answer<'a>
+        ensures { said_of result
+            ≡ record { status = number_of status; report = report; outputs = [] } }
+    {
+        Answer {
+            status,
+            report,
+            certificate: None,
+            journal: None,
+        }
+    }
+}
+
+// The answer to words that are no command line.
+fn faulty<'a>(alloc: Global, message: &Message) -> Result<Answer<'a>, AllocError>
+    ensures { IfOk result (λ a. said_of a ≡ record { status = 64; report = message.now; outputs = [] }) }
+{
+    let report = Report::of_text(alloc, message.as_bytes())?;
+    Ok(Answer::without_files(Status::WordsRefused, report))
+}
+
+// The answer to input that is refused.
+fn refused<'a>(report: Report) -> Answer<'a>
+    ensures { IsRefused report (said_of result) }
+{
+    Answer::without_files(Status::InputRefused, report)
+}
+
+// The answer to a search.
+fn answer_solve<'a, R: Threads + Wait + Sync, G: Gate>(
+    rt: &R,
+    alloc: Global,
+    solve: SolveCommand<'a>,
+    texts: &Texts,
+    gate: &G,
+    kept: &'a mut Option<LeaseGraph>,
+) -> Result<Answer<'a>, AllocError>
+    requires { IsInRange (Solve (solve_meant solve)) }
+    ensures { IfOk result (λ a. OrRefused (solve_task (solve_meant solve.entry) texts.now) (IsFound (solve_meant solve.entry)) (said_of a)) }
+{
+    match input_task(alloc, &solve.input, solve.row, texts, 0) {
+        Ok(task) => solve_task(rt, alloc, task, solve, gate, kept),
+        Err(NoTask::Refused(report)) => Ok(refused(report)),
+        Err(NoTask::Memory) => Err(AllocError),
+    }
+}
+
+// The answer to a check.
+fn answer_check<'a>(
+    alloc: Global,
+    check: CheckCommand<'_>,
+    texts: &Texts,
+) -> Result<Answer<'a>, AllocError>
+    ensures { IfOk result (λ a. OrRefused (check_task (check_meant check.entry) texts.now) (λ task. IsChecked task.0 task.1) (said_of a)) }
+{
+    let Some(certificate) = texts.get(0) else {
+        return Ok(refused(Report::line(alloc, b"input TooLong")?));
+    };
+    match input_task(alloc, &check.input, check.row, texts, 1) {
+        Ok(task) => judge(alloc, &task, certificate),
+        Err(NoTask::Refused(report)) => Ok(refused(report)),
+        Err(NoTask::Memory) => Err(AllocError),
+    }
+}
+
+// The answer to a journal.
+fn answer_journal<'a>(
+    alloc: Global,
+    journal: JournalCommand<'_>,
+    texts: &Texts,
+) -> Result<Answer<'a>, AllocError>
+    ensures { IfOk result (λ a. OrRefused (journal_task (journal_meant journal.entry) texts.now)
+        (λ task. IsJudged task.0 task.1) (said_of a)) }
+{
+    let Some(text) = texts.get(0) else {
+        return Ok(refused(Report::line(alloc, b"input TooLong")?));
+    };
+    match input_task(alloc, &journal.input, journal.row, texts, 1) {
+        Ok(task) => judge_journal(alloc, &task, text),
+        Err(NoTask::Refused(report)) => Ok(refused(report)),
+        Err(NoTask::Memory) => Err(AllocError),
+    }
+}
+
+/// What is answered of the words and of the texts that were loaded of the files that they name. Where a file was
+/// too long, its text and the later ones are left out. The graph that was searched is kept where `kept` lies: the
+/// certificate and the journal borrow it. An error is want of memory.
+///
+/// This is the whole program but its reading, saving and printing. A search has as many workers as the words ask
+/// for: one waits for nobody, and more have a thread each.
+pub fn answer_words<'a, R: Threads + Wait + Sync, G: Gate>(
+    rt: &R,
+    alloc: Global,
+    words: &'a [String],
+    texts: &Texts,
+    gate: &G,
+    kept: &'a mut Option<LeaseGraph>,
+) -> Result<Answer<'a>, AllocError>
+    ensures { IfOk result (λ a. Answers (map string_bytes words.entry.now) texts.now (said_of a)) }
+{
+    match read_words(alloc, words) {
+        Ok(CommandLine::Solve(solve)) => answer_solve(rt, alloc, solve, texts, gate, kept),
+        Ok(CommandLine::Check(check)) => answer_check(alloc, check, texts),
+        Ok(CommandLine::Journal(journal)) => answer_journal(alloc, journal, texts),
+        Ok(CommandLine::Make(make)) => make_task(rt, alloc, make, gate),
+        Err(CommandRefusal::Words(_, message)) => faulty(alloc, &message),
+        Err(CommandRefusal::Memory) => Err(AllocError),
+    }
+}

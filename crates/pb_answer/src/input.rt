@@ -1,0 +1,183 @@
+ghost use Rattle.std.specs.Prelude.{◌≡◌, ◌≤◌, Err, Some, IfOk, option_map};
+ghost use Rattle.pb_command.specs.Causes.{input_meant};
+ghost use Rattle.pb_pddl.specs.Words.{DomainHasWords};
+ghost use Rattle.pb_pddl.specs.Readings.{problem_reading};
+ghost use Rattle.pb_lifted.specs.declared.refusal.File.TheVariants.{Domain, Problem};
+ghost use Rattle.pb_answer.specs.Loaded.{grid_task, grid_told, tiles_task, tiles_told, refused_with, strips_told, problem_told, strips_task, input_task, too_long};
+ghost use Rattle.pb_report.specs.Texts.{file_number, syntax_text, strips_text};
+ghost use Rattle.pb_answer.specs.Named.{NamesTell};
+ghost use Rattle.pb_answer.specs.Tasks.{GivesTask, IsRefusal};
+
+use crate::texts::Texts;
+use pb_command::Input;
+use pb_grid::{GridError, read_grid};
+use pb_lifted::File;
+use pb_pddl::{Domain, SyntaxError};
+use pb_report::Report;
+use pb_strips::{StripsError, ground};
+use pb_syntax::{read_domain, read_problem};
+use pb_task::Task;
+use pb_tiles::{TilesError, read_tiles};
+use std::alloc::{AllocError, Global};
+
+/// Why there is no task.
+#[derive(Drop)]
+pub enum NoTask {
+    /// The texts are refused with this report.
+    Refused(Report),
+    /// Memory was wanting.
+    Memory,
+}
+
+impl From<AllocError> for NoTask {
+    ghost use Rattle.std.specs.Prelude.{◌≡◌};
+    ghost use Rattle.pb_answer.specs.declared.input.NoTask.TheVariants.{Memory};
+
+    ghost from_gives = { λ _ e. e ≡ Memory };
+
+    fn from(_error: AllocError) -> NoTask {
+        NoTask::Memory
+    }
+}
+
+// The refusal where a file was too long.
+fn too_long(alloc: Global) -> NoTask
+    ensures { IsRefusal result (Err too_long) }
+{
+    match Report::line(alloc, b"input TooLong") {
+        Ok(report) => NoTask::Refused(report),
+        Err(_) => NoTask::Memory,
+    }
+}
+
+// The refusal of a map and a scenario.
+fn refused(alloc: Global, error: GridError) -> NoTask
+    ensures { IsRefusal result (grid_told (Err error)) }
+{
+    match Report::input(alloc, &error) {
+        Ok(report) => NoTask::Refused(report),
+        Err(_) => NoTask::Memory,
+    }
+}
+
+// The task of a map and a scenario.
+fn grid(
+    alloc: Global,
+    map: Option<&[u8]>,
+    scenario: Option<&[u8]>,
+    row: u64,
+) -> Result<Task, NoTask>
+    ensures { GivesTask result (grid_task (option_map (λ t. t.now) map.entry) (option_map (λ t. t.now) scenario.entry) row) }
+{
+    match (map, scenario) {
+        (Some(map), Some(scenario)) => match read_grid(alloc, map, scenario, row) {
+            Ok(task) => Ok(task),
+            Err(GridError::Memory) => Err(NoTask::Memory),
+            Err(error) => Err(refused(alloc, error)),
+        },
+        _ => Err(too_long(alloc)),
+    }
+}
+
+// The refusal of a board.
+fn refused_tiles(alloc: Global, error: TilesError) -> NoTask
+    ensures { IsRefusal result (tiles_told (Err error)) }
+{
+    match Report::tiles_input(alloc, &error) {
+        Ok(report) => NoTask::Refused(report),
+        Err(_) => NoTask::Memory,
+    }
+}
+
+// The task of a board.
+fn tiles(alloc: Global, text: Option<&[u8]>) -> Result<Task, NoTask>
+    ensures { GivesTask result (tiles_task (option_map (λ t. t.now) text.entry)) }
+{
+    match text {
+        Some(text) => match read_tiles(alloc, text) {
+            Ok(task) => Ok(task),
+            Err(TilesError::Memory) => Err(NoTask::Memory),
+            Err(error) => Err(refused_tiles(alloc, error)),
+        },
+        None => Err(too_long(alloc)),
+    }
+}
+
+// The refusal of the text of a domain or a problem.
+fn refused_text(alloc: Global, file: File, error: SyntaxError) -> NoTask
+    ensures { IsRefusal result (refused_with (syntax_text (file_number file) error)) }
+{
+    match Report::syntax(alloc, file, &error) {
+        Ok(report) => NoTask::Refused(report),
+        Err(_) => NoTask::Memory,
+    }
+}
+
+// The refusal of a domain and a problem that are no task.
+fn refused_strips(alloc: Global, error: StripsError) -> NoTask
+    ensures { IsRefusal result (refused_with (strips_text error)) }
+{
+    match Report::strips_input(alloc, &error) {
+        Ok(report) => NoTask::Refused(report),
+        Err(_) => NoTask::Memory,
+    }
+}
+
+// The task of a domain and the text of a problem.
+fn strips_of(alloc: Global, domain: &Domain, text: &[u8]) -> Result<Task, NoTask>
+    requires { DomainHasWords domain.now }
+    ensures task { GivesTask result (problem_told domain.now (problem_reading text.now)) }
+    ensures names { IfOk result NamesTell }
+{
+    match read_problem(alloc, text) {
+        Ok(problem) => match ground(alloc, domain, &problem) {
+            Ok(task) => Ok(task),
+            Err(StripsError::Memory) => Err(NoTask::Memory),
+            Err(error) => Err(refused_strips(alloc, error)),
+        },
+        Err(SyntaxError::Memory) => Err(NoTask::Memory),
+        Err(error) => Err(refused_text(alloc, File::Problem, error)),
+    }
+}
+
+// Reads the texts of a domain and a problem, and grounds their task.
+fn read_strips(alloc: Global, domain: &[u8], problem: &[u8]) -> Result<Task, NoTask>
+    ensures task { GivesTask result (strips_task (Some domain.now) (Some problem.now)) }
+    ensures names { IfOk result NamesTell }
+{
+    match read_domain(alloc, domain) {
+        Ok(domain) => strips_of(alloc, &domain, problem),
+        Err(SyntaxError::Memory) => Err(NoTask::Memory),
+        Err(error) => Err(refused_text(alloc, File::Domain, error)),
+    }
+}
+
+// The task of a domain and a problem.
+fn strips(alloc: Global, domain: Option<&[u8]>, problem: Option<&[u8]>) -> Result<Task, NoTask>
+    ensures task { GivesTask result (strips_task (option_map (λ t. t.now) domain.entry) (option_map (λ t. t.now) problem.entry)) }
+    ensures names { IfOk result NamesTell }
+{
+    match (domain, problem) {
+        (Some(domain), Some(problem)) => read_strips(alloc, domain, problem),
+        _ => Err(too_long(alloc)),
+    }
+}
+
+/// The task that the texts from a place on spell.
+pub fn input_task(
+    alloc: Global,
+    input: &Input<'_>,
+    row: u64,
+    texts: &Texts,
+    first: usize,
+) -> Result<Task, NoTask>
+    requires { first ≤ 1 }
+    ensures task { GivesTask result (input_task (input_meant input.now) row first texts.now) }
+    ensures names { IfOk result NamesTell }
+{
+    match input {
+        Input::Grid(_) => grid(alloc, texts.get(first), texts.get(first + 1), row),
+        Input::Tiles(_) => tiles(alloc, texts.get(first)),
+        Input::Strips(_) => strips(alloc, texts.get(first), texts.get(first + 1)),
+    }
+}

@@ -1,0 +1,9 @@
+//! A block with its key.
+use pb_model::Key;
+
+/// A block, and the key of its first Opened row as it was noted last.
+#[derive(Clone, Copy)]
+pub struct Winner {
+    pub key: Option<Key>,
+    pub block: u32,
+}

@@ -1,0 +1,135 @@
+-- What is found for the options and the words of a command, also after the default of the flag.
+use Rattle.std.proofs.Common.{◌≡◌, ◌∙◌, ◌||◌, ℕ, Bool, true, false, List, [], ◌∷◌, Option, None, Some, refl, sym, ap, codes}
+use Rattle.std.specs.Prelude.{option_map, if◌then◌else◌}
+use Rattle.std.specs.List.{AllByRecursion}
+use Rattle.std.specs.Option.{option_map_or}
+use Rattle.std.specs.Str.{bytes_eq}
+use Rattle.clap.specs.Walk.{Row as MatchRow, Text, with_default, with_values, has_row, first_of}
+use Rattle.clap.specs.ValueTests.{is_unsigned_in}
+use Rattle.clap.specs.declared.builder.value_parser.Reading.TheVariants.{AsWritten}
+use Rattle.clap.specs.declared.parser.matches.ValueSource.TheVariants.{DefaultValue}
+use Rattle.pb_command.specs.Parser.{NumberOption, row_option, workers_option, num_option, den_option, budget_option, lot_option, blocks_option}
+use Rattle.pb_command.specs.Values.{option_of, flag_of}
+use Rattle.pb_command.specs.Meaning.{SolveNumbers, numbers_of}
+use Rattle.pb_command.specs.Options.{ValuedOption, Row, Workers, Num, Den, Budget, Lot, Blocks, is_same, Argument, Placed, Valued, Plain, placed_words, value_given, plain_given, number_given, number_of, IsArgumentOf, is_value_of}
+use Rattle.pb_command.proofs.Walking.{Place, place_id, option_id, match_row, plain_rule, same_option, plain_no_option, plain_no_place}
+use Rattle.pb_command.proofs.Arguments.{row_of, rows_for, word_at, found_option, found_place, found_plain, has_plain_row}
+
+-- ---- rows that come last
+
+row_past : (id other : Text) (values : List Text) (rows : List MatchRow) → bytes_eq other id ≡ false → has_row other rows ≡ false
+    → row_of id (with_values other AsWritten DefaultValue values rows) ≡ row_of id rows
+row_past id other values [] apart none = rw apart refl
+row_past id other values (r ∷ rs) apart none = by (bytes_eq r.id other) (has_row other rs) refl none (λ e. row_past id other values rs apart e) where
+  by : (b c : Bool) → bytes_eq r.id other ≡ b → (b || c) ≡ false
+      → (c ≡ false → row_of id (with_values other AsWritten DefaultValue values rs) ≡ row_of id rs)
+      → row_of id (with_values other AsWritten DefaultValue values (r ∷ rs)) ≡ row_of id (r ∷ rs)
+  by true c is e rest = cc
+  by false c is e rest = rw is (ap (λ x. if bytes_eq r.id id then Some r else x) (rest e))
+
+row_new : (id : Text) (values : List Text) (rows : List MatchRow) → bytes_eq id id ≡ true → has_row id rows ≡ false
+    → row_of id (with_values id AsWritten DefaultValue values rows) ≡ Some (record { id = id; values = values; count = None; source = Some DefaultValue; reading = AsWritten })
+row_new id values [] same none = rw same refl
+row_new id values (r ∷ rs) same none = by (bytes_eq r.id id) (has_row id rs) refl none (λ e. row_new id values rs same e) where
+  by : (b c : Bool) → bytes_eq r.id id ≡ b → (b || c) ≡ false
+      → (c ≡ false → row_of id (with_values id AsWritten DefaultValue values rs) ≡ Some (record { id = id; values = values; count = None; source = Some DefaultValue; reading = AsWritten }))
+      → row_of id (with_values id AsWritten DefaultValue values (r ∷ rs)) ≡ Some (record { id = id; values = values; count = None; source = Some DefaultValue; reading = AsWritten })
+  by true c is e rest = cc
+  by false c is e rest = rw (is, is) (rest e)
+
+-- the default of the flag changes no other row
+pub row_beside_plain : (id : Text) (rows : List MatchRow) → bytes_eq (codes "plain") id ≡ false → row_of id (with_default rows plain_rule) ≡ row_of id rows
+row_beside_plain id rows apart = by (has_row (codes "plain") rows) (λ e. row_past id (codes "plain") (codes "false" ∷ []) rows apart e) where
+  by : (b : Bool) → (b ≡ false → row_of id (with_values (codes "plain") AsWritten DefaultValue (codes "false" ∷ []) rows) ≡ row_of id rows)
+      → row_of id (if b then rows else with_values (codes "plain") AsWritten DefaultValue (codes "false" ∷ []) rows) ≡ row_of id rows
+  by true past = refl
+  by false past = past refl
+
+-- ---- what is found
+
+-- what is found for the options and the words
+pub record Finds (places : List Place) (arguments : List Argument) (rows : List MatchRow) : Type 0 where
+  pub option : (o : ValuedOption) → row_of (option_id o) rows ≡ option_map (match_row (option_id o)) (value_given o arguments)
+  pub place : (p : Place) → row_of (place_id p) rows ≡ option_map (match_row (place_id p)) (word_at p places (placed_words arguments))
+
+pub finds : (places : List Place) (arguments : List Argument) → Finds places arguments (rows_for places arguments)
+finds places arguments = record { option = λ o. found_option places o arguments; place = λ p. found_place p places arguments }
+
+pub finds_with_plain : (places : List Place) (arguments : List Argument) → Finds places arguments (with_default (rows_for places arguments) plain_rule)
+finds_with_plain places arguments = record {
+  option = λ o. row_beside_plain (option_id o) (rows_for places arguments) (plain_no_option o) ∙ found_option places o arguments;
+  place = λ p. row_beside_plain (place_id p) (rows_for places arguments) (plain_no_place p) ∙ found_place p places arguments;
+}
+
+-- the flag is read as it is given
+pub plain_read : (places : List Place) (arguments : List Argument) → flag_of (codes "plain") (with_default (rows_for places arguments) plain_rule) ≡ plain_given arguments
+plain_read places arguments =
+    by (has_row (codes "plain") (rows_for places arguments)) (plain_given arguments) refl (has_plain_row places arguments) (found_plain places arguments)
+    (λ e. row_new (codes "plain") (codes "false" ∷ []) (rows_for places arguments) refl e) where
+      by : (b given : Bool) → has_row (codes "plain") (rows_for places arguments) ≡ b → b ≡ given
+          → row_of (codes "plain") (rows_for places arguments) ≡ (if given then Some (match_row (codes "plain") (codes "true")) else None)
+          → (has_row (codes "plain") (rows_for places arguments) ≡ false → row_of (codes "plain") (with_values (codes "plain") AsWritten DefaultValue (codes "false" ∷ []) (rows_for places arguments))
+          ≡ Some (record { id = codes "plain"; values = codes "false" ∷ []; count = None; source = Some DefaultValue; reading = AsWritten }))
+          → flag_of (codes "plain") (if b then rows_for places arguments else with_values (codes "plain") AsWritten DefaultValue (codes "false" ∷ []) (rows_for places arguments)) ≡ given
+      by true true is same found new = rw found refl
+      by true false is same found new = cc
+      by false true is same found new = cc
+      by false false is same found new = rw (new is) refl
+
+-- the value that is found for an option is one that it takes
+pub value_fits : (has_option : ValuedOption → Bool) (has_plain : Bool) (option : ValuedOption) (value : Text) (arguments : List Argument)
+    → AllByRecursion (IsArgumentOf has_option has_plain) arguments → value_given option arguments ≡ Some value → is_value_of option value ≡ true
+value_fits has_option has_plain option value [] all given = cc
+value_fits has_option has_plain option value (Placed word ∷ rest) all given = value_fits has_option has_plain option value rest all.1 given
+value_fits has_option has_plain option value (Plain ∷ rest) all given = value_fits has_option has_plain option value rest all.1 given
+value_fits has_option has_plain option value (Valued other given_value ∷ rest) all given =
+    by (is_same option other) refl given (λ e. value_fits has_option has_plain option value rest all.1 e) where
+      by : (b : Bool) → is_same option other ≡ b → (if b then Some given_value else value_given option rest) ≡ Some value
+          → (value_given option rest ≡ Some value → is_value_of option value ≡ true) → is_value_of option value ≡ true
+      by true is e later =
+          let same : option ≡ other = same_option option other is in
+          let value_is : given_value ≡ value = cc in
+          ap (λ o. is_value_of o value) same ∙ (ap (is_value_of other) (sym value_is) ∙ all.0.2)
+      by false is e later = later e
+
+-- a number that is found lies in its range, and is the one that was given
+pub number_read : (o : NumberOption) (rows : List MatchRow) (given : Option Text)
+    → row_of o.name rows ≡ option_map (match_row o.name) given
+    → ((value : Text) → given ≡ Some value → is_unsigned_in o.least o.most value ≡ true)
+    → option_of o rows ≡ Some (option_map_or number_of given o.default)
+number_read o rows None found fits = rw found refl
+number_read o rows (Some value) found fits = rw (found, fits value refl) refl
+
+-- the text that is given with an option, or in a place, is what is found for it
+pub text_read : (rows : List MatchRow) (id : Text) (given : Option Text) → row_of id rows ≡ option_map (match_row id) given → first_of id rows ≡ given
+text_read rows id None found = rw found refl
+text_read rows id (Some value) found = rw found refl
+
+-- the numbers of the options of `solve`
+abbrev pub numbers_given : List Argument → SolveNumbers
+numbers_given arguments = record {
+  row = number_given Row 0 arguments;
+  workers = number_given Workers 1 arguments;
+  num = number_given Num 1 arguments;
+  den = number_given Den 1 arguments;
+  budget = number_given Budget 16777216 arguments;
+  lot = number_given Lot 256 arguments;
+  blocks = number_given Blocks 256 arguments;
+}
+
+numbers_are : (rows : List MatchRow) (row workers num den budget lot blocks : ℕ)
+    → option_of row_option rows ≡ Some row → option_of workers_option rows ≡ Some workers → option_of num_option rows ≡ Some num → option_of den_option rows ≡ Some den
+    → option_of budget_option rows ≡ Some budget → option_of lot_option rows ≡ Some lot → option_of blocks_option rows ≡ Some blocks
+    → numbers_of rows ≡ Some (record { row = row; workers = workers; num = num; den = den; budget = budget; lot = lot; blocks = blocks })
+numbers_are rows row workers num den budget lot blocks a b c d e f g = rw (a, b, c, d, e, f, g) refl
+
+pub numbers_read : (has_option : ValuedOption → Bool) (has_plain : Bool) (places : List Place) (arguments : List Argument) (rows : List MatchRow)
+    → AllByRecursion (IsArgumentOf has_option has_plain) arguments → Finds places arguments rows → numbers_of rows ≡ Some (numbers_given arguments)
+numbers_read has_option has_plain places arguments rows all found = numbers_are rows _ _ _ _ _ _ _
+    (number_read row_option rows (value_given Row arguments) (found.option Row) (λ value given. value_fits has_option has_plain Row value arguments all given))
+    (number_read workers_option rows (value_given Workers arguments) (found.option Workers) (λ value given. value_fits has_option has_plain Workers value arguments all given))
+    (number_read num_option rows (value_given Num arguments) (found.option Num) (λ value given. value_fits has_option has_plain Num value arguments all given))
+    (number_read den_option rows (value_given Den arguments) (found.option Den) (λ value given. value_fits has_option has_plain Den value arguments all given))
+    (number_read budget_option rows (value_given Budget arguments) (found.option Budget) (λ value given. value_fits has_option has_plain Budget value arguments all given))
+    (number_read lot_option rows (value_given Lot arguments) (found.option Lot) (λ value given. value_fits has_option has_plain Lot value arguments all given))
+    (number_read blocks_option rows (value_given Blocks arguments) (found.option Blocks) (λ value given. value_fits has_option has_plain Blocks value arguments all given))

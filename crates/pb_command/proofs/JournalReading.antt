@@ -1,0 +1,97 @@
+-- What `journal` reads of its arguments.
+use Rattle.std.proofs.Common.{◌≡◌, ◌∙◌, ℕ, false, List, [], ◌∷◌, Option, Some, refl, sym, ap, ap₂, subst, codes}
+use Rattle.std.specs.Prelude.{fold}
+use Rattle.std.specs.List.{AllByRecursion}
+use Rattle.clap.specs.Walk.{Row as MatchRow, Text, rows_after, with_default, first_of}
+use Rattle.clap.specs.Faults.{check_fault}
+use Rattle.pb_command.specs.Parser.{row_option}
+use Rattle.pb_command.specs.Values.{InputNames, Grid, Tiles, Strips, kind_of_text, option_of}
+use Rattle.pb_command.specs.Meaning.{Read, Journal, reading_of_words, unless_faulty, journal_of, with_kind, journal_with}
+use Rattle.pb_command.specs.Options.{Row, Argument, words_of, placed_words, value_given, number_given, AreDistinct, IsArgumentOf, is_of_check, kind_word, file_words}
+use Rattle.pb_command.proofs.Walking.{Place, Kind, FirstFile, SecondFile, JournalFile, match_row, no_defaults, no_default_fault}
+use Rattle.pb_command.proofs.Arguments.{row_of, rows_for, word_at, FitPlaces, walks_all, rows_are, no_fault_at_all}
+use Rattle.pb_command.proofs.Found.{finds, text_read, number_read, value_fits}
+use Rattle.pb_command.proofs.Shapes.{journal_shape, journal_takes, by_journal, no_default_in_journal}
+
+abbrev pub journal_places : List Place
+journal_places = Kind ∷ JournalFile ∷ FirstFile ∷ SecondFile ∷ []
+
+-- nothing is missing where the kind, the journal and the first file were found
+nothing_missing : (rows : List MatchRow) (kind journal first : Text) → row_of (codes "KIND") rows ≡ Some (match_row (codes "KIND") kind)
+    → row_of (codes "JOURNAL") rows ≡ Some (match_row (codes "JOURNAL") journal)
+    → row_of (codes "FIRST_FILE") rows ≡ Some (match_row (codes "FIRST_FILE") first) → check_fault journal_shape rows false ≡ []
+unfolding journal_shape
+nothing_missing rows kind journal first has_kind has_journal has_first = rw (has_kind, has_journal, has_first) refl
+
+journal_values : (rows : List MatchRow) (kind journal first second : Option Text) (row : Option ℕ)
+    → first_of (codes "KIND") rows ≡ kind → first_of (codes "JOURNAL") rows ≡ journal → first_of (codes "FIRST_FILE") rows ≡ first → first_of (codes "SECOND_FILE") rows ≡ second
+    → option_of row_option rows ≡ row → journal_of rows ≡ with_kind (kind_of_text kind) (journal_with journal first second row)
+journal_values rows kind journal first second row a b d e f = ap₂ with_kind (ap kind_of_text a) (rw (b, d, e, f) refl)
+
+-- what the arguments of `journal` ask for, whatever its kind and the number of its files
+pub journal_is : (arguments : List Argument) → AllByRecursion (IsArgumentOf is_of_check false) arguments → AreDistinct arguments → FitPlaces journal_places (placed_words arguments)
+    → (kind journal first : Text) → word_at Kind journal_places (placed_words arguments) ≡ Some kind → word_at JournalFile journal_places (placed_words arguments) ≡ Some journal
+    → word_at FirstFile journal_places (placed_words arguments) ≡ Some first
+    → reading_of_words (codes "journal" ∷ words_of arguments) ≡ with_kind (kind_of_text (Some kind))
+    (journal_with (Some journal) (Some first) (word_at SecondFile journal_places (placed_words arguments)) (Some (number_given Row 0 arguments)))
+journal_is arguments all distinct fit kind journal first kind_is journal_here first_is =
+    let w = walks_all journal_shape is_of_check false journal_places journal_takes arguments all distinct fit in
+    let rows = rows_for journal_places arguments in
+    let found = finds journal_places arguments in
+    let kind_row : row_of (codes "KIND") rows ≡ Some (match_row (codes "KIND") kind) = found.place Kind ∙ rw kind_is refl in
+    let journal_row : row_of (codes "JOURNAL") rows ≡ Some (match_row (codes "JOURNAL") journal) = found.place JournalFile ∙ rw journal_here refl in
+    let first_row : row_of (codes "FIRST_FILE") rows ≡ Some (match_row (codes "FIRST_FILE") first) = found.place FirstFile ∙ rw first_is refl in
+    let same : fold with_default rows journal_shape.rules ≡ rows = no_defaults rows journal_shape.rules no_default_in_journal in
+    let none = no_fault_at_all journal_shape journal_places arguments journal_takes.strict w (no_default_fault rows journal_shape.rules no_default_in_journal)
+    (ap (λ x. check_fault journal_shape x false) same ∙ nothing_missing rows kind journal first kind_row journal_row first_row) in
+    let are : rows_after journal_shape.rules [] (words_of arguments) ≡ rows = rows_are journal_shape journal_places arguments w ∙ same in
+    by_journal (words_of arguments) ∙ (ap₂ unless_faulty none (ap journal_of are)
+    ∙ journal_values rows (Some kind) (Some journal) (Some first) (word_at SecondFile journal_places (placed_words arguments)) (Some (number_given Row 0 arguments))
+    (text_read rows (codes "KIND") (Some kind) kind_row) (text_read rows (codes "JOURNAL") (Some journal) journal_row) (text_read rows (codes "FIRST_FILE") (Some first) first_row)
+    (text_read rows (codes "SECOND_FILE") (word_at SecondFile journal_places (placed_words arguments)) (found.place SecondFile))
+    (number_read row_option rows (value_given Row arguments) (found.option Row) (λ value given. value_fits is_of_check false Row value arguments all given)))
+
+abbrev first_file : InputNames → Text
+first_file (Grid names) = names.map
+first_file (Tiles board) = board
+first_file (Strips names) = names.domain
+
+files_fit : (input : InputNames) (journal : Text) → FitPlaces journal_places (kind_word input ∷ journal ∷ file_words input)
+files_fit (Grid names) journal = (refl, (refl, (refl, (refl, tt))))
+files_fit (Tiles board) journal = (refl, (refl, (refl, tt)))
+files_fit (Strips names) journal = (refl, (refl, (refl, (refl, tt))))
+
+kind_at : (input : InputNames) (journal : Text) → word_at Kind journal_places (kind_word input ∷ journal ∷ file_words input) ≡ Some (kind_word input)
+kind_at (Grid names) journal = refl
+kind_at (Tiles board) journal = refl
+kind_at (Strips names) journal = refl
+
+journal_at : (input : InputNames) (journal : Text) → word_at JournalFile journal_places (kind_word input ∷ journal ∷ file_words input) ≡ Some journal
+journal_at (Grid names) journal = refl
+journal_at (Tiles board) journal = refl
+journal_at (Strips names) journal = refl
+
+first_at : (input : InputNames) (journal : Text) → word_at FirstFile journal_places (kind_word input ∷ journal ∷ file_words input) ≡ Some (first_file input)
+first_at (Grid names) journal = refl
+first_at (Tiles board) journal = refl
+first_at (Strips names) journal = refl
+
+asked : (input : InputNames) (journal : Text) (row : ℕ)
+    → with_kind (kind_of_text (Some (kind_word input)))
+    (journal_with (Some journal) (Some (first_file input)) (word_at SecondFile journal_places (kind_word input ∷ journal ∷ file_words input)) (Some row))
+    ≡ Read (Journal (record { input = input; journal = journal; row = row }))
+asked (Grid names) journal row = refl
+asked (Tiles board) journal row = refl
+asked (Strips names) journal row = refl
+
+-- the law
+pub journal_reads : (input : InputNames) (journal : Text) (arguments : List Argument) → AllByRecursion (IsArgumentOf is_of_check false) arguments → AreDistinct arguments
+    → placed_words arguments ≡ kind_word input ∷ journal ∷ file_words input
+    → reading_of_words (codes "journal" ∷ words_of arguments) ≡ Read (Journal (record { input = input; journal = journal; row = number_given Row 0 arguments }))
+journal_reads input journal arguments all distinct placed =
+    journal_is arguments all distinct (subst (FitPlaces journal_places) (sym placed) (files_fit input journal)) (kind_word input) journal (first_file input)
+    (ap (word_at Kind journal_places) placed ∙ kind_at input journal) (ap (word_at JournalFile journal_places) placed ∙ journal_at input journal)
+    (ap (word_at FirstFile journal_places) placed ∙ first_at input journal)
+    ∙ (ap (λ ws. with_kind (kind_of_text (Some (kind_word input)))
+    (journal_with (Some journal) (Some (first_file input)) (word_at SecondFile journal_places ws) (Some (number_given Row 0 arguments)))) placed
+    ∙ asked input journal (number_given Row 0 arguments))

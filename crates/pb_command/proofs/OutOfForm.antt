@@ -1,0 +1,149 @@
+-- Words after the arguments of `solve` that are refused for their form.
+use Rattle.std.proofs.Common.{◌≡◌, ◌∙◌, ◌++◌, ◌&&◌, ℕ, Bool, true, false, List, [], ◌∷◌, None, Some, refl, sym, ap, ap₂, subst, codes}
+use Rattle.std.specs.Prelude.{fold, not, if◌then◌else◌}
+use Rattle.std.specs.Str.{bytes_eq}
+use Rattle.clap.specs.Walk.{Held, Row as MatchRow, Text, Walk, walked, walk_from, nothing_held, settled, has_row, arg_by_long}
+use Rattle.clap.specs.Simple.{Shape}
+use Rattle.clap.specs.Faults.{settle_fault, turn_fault, walk_fault, level_fault}
+use Rattle.clap.specs.Kinds.{Kinds, or_else}
+use Rattle.pb_command.specs.Names.{IsName}
+use Rattle.pb_command.specs.Values.{InputNames}
+use Rattle.pb_command.specs.Meaning.{Reading, Refused, reading_of_words, unless_faulty}
+use Rattle.pb_command.specs.Options.{ValuedOption, Argument, option_word, words_of, value_given, plain_given, is_value_of, AreOfSolve}
+use Rattle.pb_command.specs.declared.refusal.CommandFault.TheVariants as fault
+use Rattle.pb_command.proofs.Walking.{HasOption, HasPlain, at, option_id, match_row, held_with, valued_step, option_accepts}
+use Rattle.pb_command.proofs.Arguments.{row_of, rows_for, found_option, has_plain_row, IsWalkedWhole}
+use Rattle.clap.proofs.OnLiterals.{clap_on_literals}
+use Rattle.pb_command.proofs.Shapes.{solve_shape, make_shape, plainless_rules, solve_takes, by_solve, by_make}
+use Rattle.pb_command.proofs.SolveReading.{solve_places, solve_walk, solve_fits}
+
+-- some step fails
+abbrev IsFaulty : Kinds → Type 0
+IsFaulty [] = ⊥
+IsFaulty (k ∷ ks) = Unit {0}
+
+first_fails : (a b : Kinds) → IsFaulty a → IsFaulty (or_else a b)
+first_fails [] b is = absurd is
+first_fails (k ∷ ks) b is = tt
+
+second_fails : (a b : Kinds) → IsFaulty b → IsFaulty (or_else a b)
+second_fails [] b is = is
+second_fails (k ∷ ks) b is = tt
+
+is_refused : (kinds : Kinds) (reading : Reading) → IsFaulty kinds → unless_faulty kinds reading ≡ Refused fault.Form
+is_refused [] reading is = absurd is
+is_refused (k ∷ ks) reading is = refl
+
+-- the walk over more words
+walk_on : (s : Shape) (w : Walk) (words more : List Text) → fold (walked s.rules []) w (words ++ more) ≡ fold (walked s.rules []) (fold (walked s.rules []) w words) more
+walk_on s w [] more = refl
+walk_on s w (word ∷ rest) more = walk_on s (walked s.rules [] w word) rest more
+
+fault_on : (s : Shape) (w : Walk) (words more : List Text)
+    → walk_fault s [] w (words ++ more) ≡ or_else (walk_fault s [] w words) (walk_fault s [] (fold (walked s.rules []) w words) more)
+unfolding walk_fault
+fault_on s w [] more = refl
+fault_on s w (word ∷ rest) more =
+    ap (or_else (turn_fault s [] w word)) (fault_on s (walked s.rules [] w word) rest more) ∙ regroup (turn_fault s [] w word) _ _ where
+      regroup : (a b d : Kinds) → or_else a (or_else b d) ≡ or_else (or_else a b) d
+      regroup [] b d = refl
+      regroup (k ∷ ks) b d = refl
+
+module _ (arguments : List Argument) (w : IsWalkedWhole solve_shape solve_places arguments) where
+  -- the walk fails at the words that come after the arguments
+  fails_after : (more : List Text) → IsFaulty (walk_fault solve_shape [] (at w.last w.end) more)
+      → reading_of_words (codes "solve" ∷ words_of arguments ++ more) ≡ Refused fault.Form
+  fails_after more is =
+      let parts : walk_fault solve_shape [] (walk_from nothing_held) (words_of arguments ++ more) ≡ walk_fault solve_shape [] (at w.last w.end) more =
+      fault_on solve_shape (walk_from nothing_held) (words_of arguments) more
+      ∙ ap₂ or_else w.no_fault (ap (λ x. walk_fault solve_shape [] x more) w.walk) in
+      let fails : IsFaulty (walk_fault solve_shape [] (walk_from nothing_held) (words_of arguments ++ more)) = subst IsFaulty (sym parts) is in
+      by_solve (words_of arguments ++ more) ∙ is_refused (level_fault solve_shape [] nothing_held (words_of arguments ++ more) false []) _
+      (first_fails (walk_fault solve_shape [] (walk_from nothing_held) (words_of arguments ++ more)) _ fails)
+
+  -- or what is held at their end
+  fails_at_end : (more : List Text) (last : Walk) → fold (walked solve_shape.rules []) (at w.last w.end) more ≡ last
+      → IsFaulty (settle_fault solve_shape.rules solve_shape.args_override_self last.held)
+      → reading_of_words (codes "solve" ∷ words_of arguments ++ more) ≡ Refused fault.Form
+  fails_at_end more last ends is =
+      let whole : fold (walked solve_shape.rules []) (walk_from nothing_held) (words_of arguments ++ more) ≡ last =
+      walk_on solve_shape (walk_from nothing_held) (words_of arguments) more ∙ (ap (λ x. fold (walked solve_shape.rules []) x more) w.walk ∙ ends) in
+      let end = fold (walked solve_shape.rules []) (walk_from nothing_held) (words_of arguments ++ more) in
+      let fails : IsFaulty (settle_fault solve_shape.rules solve_shape.args_override_self end.held) =
+      subst (λ (x : Walk). IsFaulty (settle_fault solve_shape.rules solve_shape.args_override_self x.held)) (sym whole) is in
+      by_solve (words_of arguments ++ more) ∙ is_refused (level_fault solve_shape [] nothing_held (words_of arguments ++ more) false []) _
+      (second_fails (walk_fault solve_shape [] (walk_from nothing_held) (words_of arguments ++ more)) _
+      (first_fails (settle_fault solve_shape.rules solve_shape.args_override_self end.held) _ fails))
+
+-- a value is refused that isn't one of its option, or that is the second
+wrong_value : (s : Shape) (o : ValuedOption) (value : Text) (h : Held) → HasOption s o → is_value_of o value ≡ false
+    → IsFaulty (settle_fault s.rules false (held_with s (option_id o) value h))
+wrong_value s o value h has wrong = rw (has.by_id, option_accepts o value, wrong) (second_fails (if has_row (option_id o) (settled s.rules h).rows && not false then _ else []) _ tt)
+
+second_value : (s : Shape) (o : ValuedOption) (value : Text) (h : Held) → HasOption s o → has_row (option_id o) (settled s.rules h).rows ≡ true
+    → IsFaulty (settle_fault s.rules false (held_with s (option_id o) value h))
+second_value s o value h has given = rw (has.by_id, given) tt
+
+has_found : (id : Text) (rows : List MatchRow) (r : MatchRow) → row_of id rows ≡ Some r → has_row id rows ≡ true
+has_found id [] r found = cc
+has_found id (q ∷ qs) r found = by (bytes_eq q.id id) refl found (λ e. has_found id qs r e) where
+  by : (b : Bool) → bytes_eq q.id id ≡ b → (if b then Some q else row_of id qs) ≡ Some r → (row_of id qs ≡ Some r → has_row id qs ≡ true) → has_row id (q ∷ qs) ≡ true
+  by true is e rest = rw is refl
+  by false is e rest = rw is (rest e)
+
+strict_settle : (h : Held) → IsFaulty (settle_fault solve_shape.rules false h) → IsFaulty (settle_fault solve_shape.rules solve_shape.args_override_self h)
+strict_settle h is = rw solve_takes.strict is
+
+pub out_of_range : (input : InputNames) (arguments : List Argument) → AreOfSolve input arguments → (o : ValuedOption) (value : Text) → IsName value → is_value_of o value ≡ false
+    → reading_of_words (codes "solve" ∷ words_of arguments ++ option_word o ∷ value ∷ []) ≡ Refused fault.Form
+out_of_range input arguments are o value is wrong =
+    let w = solve_walk arguments are.each are.distinct (solve_fits input arguments are) in
+    let has = solve_takes.option o refl in
+    fails_at_end arguments w (option_word o ∷ value ∷ []) (at (held_with solve_shape (option_id o) value w.last) w.end) (valued_step solve_shape o value w.last w.end has is)
+    (strict_settle (held_with solve_shape (option_id o) value w.last) (wrong_value solve_shape o value w.last has wrong))
+
+pub given_twice : (input : InputNames) (arguments : List Argument) → AreOfSolve input arguments → (o : ValuedOption) (first second : Text)
+    → value_given o arguments ≡ Some first → IsName second
+    → reading_of_words (codes "solve" ∷ words_of arguments ++ option_word o ∷ second ∷ []) ≡ Refused fault.Form
+given_twice input arguments are o first second given is =
+    let w = solve_walk arguments are.each are.distinct (solve_fits input arguments are) in
+    let has = solve_takes.option o refl in
+    let found : row_of (option_id o) (rows_for solve_places arguments) ≡ Some (match_row (option_id o) first) = found_option solve_places o arguments ∙ rw given refl in
+    fails_at_end arguments w (option_word o ∷ second ∷ []) (at (held_with solve_shape (option_id o) second w.last) w.end) (valued_step solve_shape o second w.last w.end has is)
+    (strict_settle (held_with solve_shape (option_id o) second w.last) (second_value solve_shape o second w.last has (ap (has_row (option_id o)) w.found ∙ has_found (option_id o) (rows_for solve_places arguments) (match_row (option_id o) first) found)))
+
+plain_again : (s : Shape) (h : Held) (i : ℕ) → s.args_override_self ≡ false → HasPlain s → settle_fault s.rules false h ≡ [] → has_row (codes "plain") (settled s.rules h).rows ≡ true
+    → IsFaulty (turn_fault s [] (at h i) (codes "--plain"))
+plain_again s h i strict has none given = rw (has, strict, none, given) tt
+
+one_word : (s : Shape) (w : Walk) (word : Text) → IsFaulty (turn_fault s [] w word) → IsFaulty (walk_fault s [] w (word ∷ []))
+unfolding walk_fault
+one_word s w word is = first_fails _ _ is
+
+pub plain_twice : (input : InputNames) (arguments : List Argument) → AreOfSolve input arguments → plain_given arguments ≡ true
+    → reading_of_words (codes "solve" ∷ words_of arguments ++ codes "--plain" ∷ []) ≡ Refused fault.Form
+plain_twice input arguments are given =
+    let w = solve_walk arguments are.each are.distinct (solve_fits input arguments are) in
+    fails_after arguments w (codes "--plain" ∷ []) (one_word solve_shape (at w.last w.end) (codes "--plain")
+    (plain_again solve_shape w.last w.end solve_takes.strict (solve_takes.plain refl) w.faultless
+    (ap (has_row (codes "plain")) w.found ∙ (has_plain_row solve_places arguments ∙ given))))
+
+no_help : arg_by_long solve_shape.rules (codes "help") ≡ None
+unfolding solve_shape plainless_rules
+no_help = refl
+
+unknown : (s : Shape) (h : Held) (i : ℕ) → arg_by_long s.rules (codes "help") ≡ None → IsFaulty (turn_fault s [] (at h i) (codes "--help"))
+unknown s h i none = rw none tt
+
+pub help_refused : (input : InputNames) (arguments : List Argument) → AreOfSolve input arguments
+    → reading_of_words (codes "solve" ∷ words_of arguments ++ codes "--help" ∷ []) ≡ Refused fault.Form
+help_refused input arguments are =
+    let w = solve_walk arguments are.each are.distinct (solve_fits input arguments are) in
+    fails_after arguments w (codes "--help" ∷ []) (one_word solve_shape (at w.last w.end) (codes "--help") (unknown solve_shape w.last w.end no_help))
+
+seed_fails : IsFaulty (level_fault make_shape [] nothing_held (codes "grid" ∷ codes "4294967296" ∷ codes "1" ∷ []) false [])
+unfolding make_shape clap_on_literals
+seed_fails = tt
+
+pub seed_refused : reading_of_words (codes "make" ∷ codes "grid" ∷ codes "4294967296" ∷ codes "1" ∷ []) ≡ Refused fault.Form
+seed_refused = by_make (codes "grid" ∷ codes "4294967296" ∷ codes "1" ∷ []) ∙ is_refused _ _ seed_fails

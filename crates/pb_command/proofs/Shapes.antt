@@ -1,0 +1,295 @@
+-- The commands as clap has built them, and what their walks ask of them.
+use Rattle.std.proofs.Common.{◌≡◌, ◌∙◌, ◌++◌, true, false, List, [], ◌∷◌, refl, ap, ap₂, codes}
+use Rattle.std.specs.List.{AllByRecursion}
+use Rattle.std.specs.Prelude.{fold}
+use Rattle.clap.specs.Walk.{Rule, Text, Walk, walked, walk_from, nothing_held, rows_after, stop_after}
+use Rattle.clap.specs.Simple.{App, Shape, built, new_shape, names_of, argument_words, entered}
+use Rattle.clap.specs.Faults.{built_fault, level_fault, walk_fault, defaults_fault}
+use Rattle.clap.specs.Kinds.{Kinds, or_else}
+use Rattle.pb_command.specs.Parser.{the_program}
+use Rattle.pb_command.specs.Meaning.{reading_of_words, unless_faulty, command_met, solve_of, check_of, journal_of, make_of}
+use Rattle.pb_command.specs.Options.{ValuedOption, Row, Workers, Num, Den, Budget, Lot, Blocks, Certificate, Journal, is_of_solve, is_of_check, is_of_make}
+use Rattle.pb_command.proofs.Declared.{program_on_literals}
+use Rattle.pb_command.proofs.Walking.{Kind, FirstFile, SecondFile, CertificateFile, JournalFile, Seed, Size, HasOption, HasPlain, HasNoDefault, placed_rule, valued_rule, plain_rule}
+use Rattle.pb_command.proofs.Arguments.{Takes, HasPlaces}
+use Rattle.pb_command.proofs.Stopped.{stays_stopped, no_fault_when_stopped, stopped_at}
+
+-- a subcommand with these rules
+abbrev shape_with : Text → List Rule → Shape
+shape_with name rules = record (new_shape name) {
+  rules = rules;
+  no_binary_name = true;
+  disable_help_flag = true;
+  disable_help_subcommand = true;
+  is_built = true;
+}
+
+-- the rules of `solve` that have no default
+unfoldable pub plainless_rules : List Rule
+plainless_rules = placed_rule 1 Kind ∷ placed_rule 2 FirstFile ∷ placed_rule 3 SecondFile ∷ valued_rule Row ∷ valued_rule Workers ∷ valued_rule Num ∷ valued_rule Den
+    ∷ valued_rule Budget ∷ valued_rule Lot ∷ valued_rule Blocks ∷ valued_rule Certificate ∷ valued_rule Journal ∷ []
+
+unfoldable pub solve_shape : Shape
+unfolding plainless_rules
+solve_shape = shape_with (codes "solve") (plainless_rules ++ plain_rule ∷ [])
+
+unfoldable pub check_shape : Shape
+check_shape = shape_with (codes "check") (placed_rule 1 Kind ∷ placed_rule 2 CertificateFile ∷ placed_rule 3 FirstFile ∷ placed_rule 4 SecondFile ∷ valued_rule Row ∷ [])
+
+unfoldable pub journal_shape : Shape
+journal_shape = shape_with (codes "journal") (placed_rule 1 Kind ∷ placed_rule 2 JournalFile ∷ placed_rule 3 FirstFile ∷ placed_rule 4 SecondFile ∷ valued_rule Row ∷ [])
+
+unfoldable pub make_shape : Shape
+make_shape = shape_with (codes "make") (placed_rule 1 Kind ∷ placed_rule 2 Seed ∷ placed_rule 3 Size ∷ valued_rule Workers ∷ [])
+
+unfoldable pub top_shape : Shape
+top_shape = record (new_shape (codes "pbnf")) {
+  is_leaf = false;
+  no_binary_name = true;
+  disable_help_flag = true;
+  disable_help_subcommand = true;
+  subcommand_required = true;
+  is_built = true;
+}
+
+unfoldable pub program_built : App
+program_built = record { top = top_shape; subs = solve_shape ∷ check_shape ∷ journal_shape ∷ make_shape ∷ [] }
+
+pub built_is : built the_program ≡ program_built
+unfolding program_on_literals program_built top_shape solve_shape plainless_rules check_shape journal_shape make_shape
+built_is = refl
+
+words_are : (words : List Text) → argument_words the_program words ≡ words
+unfolding program_on_literals
+words_are words = refl
+
+-- what the words mean, by the program that clap has built
+pub by_built : (words : List Text)
+    → reading_of_words words ≡ unless_faulty (built_fault program_built nothing_held words) (command_met (entered program_built (stop_after program_built.top.rules (names_of program_built) words)))
+by_built words = ap (λ ws. unless_faulty (built_fault (built the_program) nothing_held ws) (command_met (entered (built the_program) (stop_after (built the_program).top.rules (names_of (built the_program)) ws)))) (words_are words)
+    ∙ ap (λ (a : App). unless_faulty (built_fault a nothing_held words) (command_met (entered a (stop_after a.top.rules (names_of a) words)))) built_is
+
+or_none : (kinds : Kinds) → or_else kinds [] ≡ kinds
+or_none [] = refl
+or_none (k ∷ ks) = refl
+
+-- ---- `solve` is read by its own words
+
+walk_to_solve : (words : List Text) → fold (walked top_shape.rules (names_of program_built)) (walk_from nothing_held) (codes "solve" ∷ words) ≡ stopped_at (walk_from nothing_held) (codes "solve") words
+unfolding walked program_built top_shape solve_shape check_shape journal_shape make_shape
+walk_to_solve words = stays_stopped top_shape.rules (names_of program_built) (walk_from nothing_held) (codes "solve") [] words
+
+no_fault_to_solve : (words : List Text) → walk_fault top_shape (names_of program_built) (walk_from nothing_held) (codes "solve" ∷ words) ≡ []
+unfolding walked walk_fault program_built top_shape solve_shape check_shape journal_shape make_shape
+no_fault_to_solve words = no_fault_when_stopped top_shape (names_of program_built) (walk_from nothing_held) (codes "solve") [] words
+
+fault_of_solve : (words : List Text) → built_fault program_built nothing_held (codes "solve" ∷ words) ≡ or_else (level_fault solve_shape [] nothing_held words false []) []
+unfolding program_built top_shape solve_shape check_shape journal_shape make_shape defaults_fault
+fault_of_solve words = rw (no_fault_to_solve words) (rw (walk_to_solve words) refl)
+
+values_of_solve : (words : List Text)
+    → command_met (entered program_built (stop_after program_built.top.rules (names_of program_built) (codes "solve" ∷ words))) ≡ solve_of (rows_after solve_shape.rules [] words)
+unfolding program_built top_shape solve_shape check_shape journal_shape make_shape
+values_of_solve words = ap (λ (w : Walk). command_met (entered program_built w.stopped)) (walk_to_solve words)
+
+pub by_solve : (words : List Text)
+    → reading_of_words (codes "solve" ∷ words) ≡ unless_faulty (level_fault solve_shape [] nothing_held words false []) (solve_of (rows_after solve_shape.rules [] words))
+by_solve words = by_built (codes "solve" ∷ words) ∙ ap₂ unless_faulty (fault_of_solve words ∙ or_none _) (values_of_solve words)
+
+-- ---- `check` is read by its own words
+
+walk_to_check : (words : List Text) → fold (walked top_shape.rules (names_of program_built)) (walk_from nothing_held) (codes "check" ∷ words) ≡ stopped_at (walk_from nothing_held) (codes "check") words
+unfolding walked program_built top_shape solve_shape check_shape journal_shape make_shape
+walk_to_check words = stays_stopped top_shape.rules (names_of program_built) (walk_from nothing_held) (codes "check") [] words
+
+no_fault_to_check : (words : List Text) → walk_fault top_shape (names_of program_built) (walk_from nothing_held) (codes "check" ∷ words) ≡ []
+unfolding walked walk_fault program_built top_shape solve_shape check_shape journal_shape make_shape
+no_fault_to_check words = no_fault_when_stopped top_shape (names_of program_built) (walk_from nothing_held) (codes "check") [] words
+
+fault_of_check : (words : List Text) → built_fault program_built nothing_held (codes "check" ∷ words) ≡ or_else (level_fault check_shape [] nothing_held words false []) []
+unfolding program_built top_shape solve_shape check_shape journal_shape make_shape defaults_fault
+fault_of_check words = rw (no_fault_to_check words) (rw (walk_to_check words) refl)
+
+values_of_check : (words : List Text)
+    → command_met (entered program_built (stop_after program_built.top.rules (names_of program_built) (codes "check" ∷ words))) ≡ check_of (rows_after check_shape.rules [] words)
+unfolding program_built top_shape solve_shape check_shape journal_shape make_shape
+values_of_check words = ap (λ (w : Walk). command_met (entered program_built w.stopped)) (walk_to_check words)
+
+pub by_check : (words : List Text)
+    → reading_of_words (codes "check" ∷ words) ≡ unless_faulty (level_fault check_shape [] nothing_held words false []) (check_of (rows_after check_shape.rules [] words))
+by_check words = by_built (codes "check" ∷ words) ∙ ap₂ unless_faulty (fault_of_check words ∙ or_none _) (values_of_check words)
+
+-- ---- `journal` is read by its own words
+
+walk_to_journal : (words : List Text) → fold (walked top_shape.rules (names_of program_built)) (walk_from nothing_held) (codes "journal" ∷ words) ≡ stopped_at (walk_from nothing_held) (codes "journal") words
+unfolding walked program_built top_shape solve_shape check_shape journal_shape make_shape
+walk_to_journal words = stays_stopped top_shape.rules (names_of program_built) (walk_from nothing_held) (codes "journal") [] words
+
+no_fault_to_journal : (words : List Text) → walk_fault top_shape (names_of program_built) (walk_from nothing_held) (codes "journal" ∷ words) ≡ []
+unfolding walked walk_fault program_built top_shape solve_shape check_shape journal_shape make_shape
+no_fault_to_journal words = no_fault_when_stopped top_shape (names_of program_built) (walk_from nothing_held) (codes "journal") [] words
+
+fault_of_journal : (words : List Text) → built_fault program_built nothing_held (codes "journal" ∷ words) ≡ or_else (level_fault journal_shape [] nothing_held words false []) []
+unfolding program_built top_shape solve_shape check_shape journal_shape make_shape defaults_fault
+fault_of_journal words = rw (no_fault_to_journal words) (rw (walk_to_journal words) refl)
+
+values_of_journal : (words : List Text)
+    → command_met (entered program_built (stop_after program_built.top.rules (names_of program_built) (codes "journal" ∷ words))) ≡ journal_of (rows_after journal_shape.rules [] words)
+unfolding program_built top_shape solve_shape check_shape journal_shape make_shape
+values_of_journal words = ap (λ (w : Walk). command_met (entered program_built w.stopped)) (walk_to_journal words)
+
+pub by_journal : (words : List Text)
+    → reading_of_words (codes "journal" ∷ words) ≡ unless_faulty (level_fault journal_shape [] nothing_held words false []) (journal_of (rows_after journal_shape.rules [] words))
+by_journal words = by_built (codes "journal" ∷ words) ∙ ap₂ unless_faulty (fault_of_journal words ∙ or_none _) (values_of_journal words)
+
+-- ---- `make` is read by its own words
+
+walk_to_make : (words : List Text) → fold (walked top_shape.rules (names_of program_built)) (walk_from nothing_held) (codes "make" ∷ words) ≡ stopped_at (walk_from nothing_held) (codes "make") words
+unfolding walked program_built top_shape solve_shape check_shape journal_shape make_shape
+walk_to_make words = stays_stopped top_shape.rules (names_of program_built) (walk_from nothing_held) (codes "make") [] words
+
+no_fault_to_make : (words : List Text) → walk_fault top_shape (names_of program_built) (walk_from nothing_held) (codes "make" ∷ words) ≡ []
+unfolding walked walk_fault program_built top_shape solve_shape check_shape journal_shape make_shape
+no_fault_to_make words = no_fault_when_stopped top_shape (names_of program_built) (walk_from nothing_held) (codes "make") [] words
+
+fault_of_make : (words : List Text) → built_fault program_built nothing_held (codes "make" ∷ words) ≡ or_else (level_fault make_shape [] nothing_held words false []) []
+unfolding program_built top_shape solve_shape check_shape journal_shape make_shape defaults_fault
+fault_of_make words = rw (no_fault_to_make words) (rw (walk_to_make words) refl)
+
+values_of_make : (words : List Text)
+    → command_met (entered program_built (stop_after program_built.top.rules (names_of program_built) (codes "make" ∷ words))) ≡ make_of (rows_after make_shape.rules [] words)
+unfolding program_built top_shape solve_shape check_shape journal_shape make_shape
+values_of_make words = ap (λ (w : Walk). command_met (entered program_built w.stopped)) (walk_to_make words)
+
+pub by_make : (words : List Text)
+    → reading_of_words (codes "make" ∷ words) ≡ unless_faulty (level_fault make_shape [] nothing_held words false []) (make_of (rows_after make_shape.rules [] words))
+by_make words = by_built (codes "make" ∷ words) ∙ ap₂ unless_faulty (fault_of_make words ∙ or_none _) (values_of_make words)
+
+-- ---- what the walks ask of them
+
+places_of_solve : HasPlaces solve_shape 1 (Kind ∷ FirstFile ∷ SecondFile ∷ [])
+unfolding solve_shape plainless_rules
+places_of_solve = (record { by_index = refl; by_id = refl; next = refl }, (record { by_index = refl; by_id = refl; next = refl }, (record { by_index = refl; by_id = refl; next = refl }, tt)))
+
+options_of_solve : (o : ValuedOption) → is_of_solve o ≡ true → HasOption solve_shape o
+unfolding solve_shape plainless_rules
+options_of_solve Row is = record { by_long = refl; by_id = refl }
+options_of_solve Workers is = record { by_long = refl; by_id = refl }
+options_of_solve Num is = record { by_long = refl; by_id = refl }
+options_of_solve Den is = record { by_long = refl; by_id = refl }
+options_of_solve Budget is = record { by_long = refl; by_id = refl }
+options_of_solve Lot is = record { by_long = refl; by_id = refl }
+options_of_solve Blocks is = record { by_long = refl; by_id = refl }
+options_of_solve Certificate is = record { by_long = refl; by_id = refl }
+options_of_solve Journal is = record { by_long = refl; by_id = refl }
+
+plain_of_solve : HasPlain solve_shape
+unfolding solve_shape plainless_rules
+plain_of_solve = refl
+
+solve_is_strict : solve_shape.args_override_self ≡ false
+unfolding solve_shape plainless_rules
+solve_is_strict = refl
+
+pub solve_takes : Takes solve_shape is_of_solve true (Kind ∷ FirstFile ∷ SecondFile ∷ [])
+solve_takes = record {
+  strict = solve_is_strict;
+  option = options_of_solve;
+  plain = λ is. plain_of_solve;
+  each_place = places_of_solve;
+  apart = ((refl, (refl, tt)), ((refl, tt), (tt, tt)));
+}
+
+places_of_check : HasPlaces check_shape 1 (Kind ∷ CertificateFile ∷ FirstFile ∷ SecondFile ∷ [])
+unfolding check_shape
+places_of_check = (
+  record { by_index = refl; by_id = refl; next = refl },
+  (record { by_index = refl; by_id = refl; next = refl }, (record { by_index = refl; by_id = refl; next = refl }, (record { by_index = refl; by_id = refl; next = refl }, tt))),
+)
+
+options_of_check : (o : ValuedOption) → is_of_check o ≡ true → HasOption check_shape o
+unfolding check_shape
+options_of_check Row is = record { by_long = refl; by_id = refl }
+options_of_check _ is = cc
+
+check_is_strict : check_shape.args_override_self ≡ false
+unfolding check_shape
+check_is_strict = refl
+
+pub check_takes : Takes check_shape is_of_check false (Kind ∷ CertificateFile ∷ FirstFile ∷ SecondFile ∷ [])
+check_takes = record {
+  strict = check_is_strict;
+  option = options_of_check;
+  plain = λ is. cc;
+  each_place = places_of_check;
+  apart = ((refl, (refl, (refl, tt))), ((refl, (refl, tt)), ((refl, tt), (tt, tt))));
+}
+
+places_of_journal : HasPlaces journal_shape 1 (Kind ∷ JournalFile ∷ FirstFile ∷ SecondFile ∷ [])
+unfolding journal_shape
+places_of_journal = (
+  record { by_index = refl; by_id = refl; next = refl },
+  (record { by_index = refl; by_id = refl; next = refl }, (record { by_index = refl; by_id = refl; next = refl }, (record { by_index = refl; by_id = refl; next = refl }, tt))),
+)
+
+options_of_journal : (o : ValuedOption) → is_of_check o ≡ true → HasOption journal_shape o
+unfolding journal_shape
+options_of_journal Row is = record { by_long = refl; by_id = refl }
+options_of_journal _ is = cc
+
+journal_is_strict : journal_shape.args_override_self ≡ false
+unfolding journal_shape
+journal_is_strict = refl
+
+pub journal_takes : Takes journal_shape is_of_check false (Kind ∷ JournalFile ∷ FirstFile ∷ SecondFile ∷ [])
+journal_takes = record {
+  strict = journal_is_strict;
+  option = options_of_journal;
+  plain = λ is. cc;
+  each_place = places_of_journal;
+  apart = ((refl, (refl, (refl, tt))), ((refl, (refl, tt)), ((refl, tt), (tt, tt))));
+}
+
+places_of_make : HasPlaces make_shape 1 (Kind ∷ Seed ∷ Size ∷ [])
+unfolding make_shape
+places_of_make = (record { by_index = refl; by_id = refl; next = refl }, (record { by_index = refl; by_id = refl; next = refl }, (record { by_index = refl; by_id = refl; next = refl }, tt)))
+
+options_of_make : (o : ValuedOption) → is_of_make o ≡ true → HasOption make_shape o
+unfolding make_shape
+options_of_make Workers is = record { by_long = refl; by_id = refl }
+options_of_make _ is = cc
+
+make_is_strict : make_shape.args_override_self ≡ false
+unfolding make_shape
+make_is_strict = refl
+
+pub make_takes : Takes make_shape is_of_make false (Kind ∷ Seed ∷ Size ∷ [])
+make_takes = record {
+  strict = make_is_strict;
+  option = options_of_make;
+  plain = λ is. cc;
+  each_place = places_of_make;
+  apart = ((refl, (refl, tt)), ((refl, tt), (tt, tt)));
+}
+
+-- ---- defaults
+
+pub no_default_in_solve : AllByRecursion HasNoDefault plainless_rules
+unfolding plainless_rules
+no_default_in_solve = (refl, (refl, (refl, (refl, (refl, (refl, (refl, (refl, (refl, (refl, (refl, (refl, tt))))))))))))
+
+pub rules_of_solve : solve_shape.rules ≡ plainless_rules ++ plain_rule ∷ []
+unfolding solve_shape
+rules_of_solve = refl
+
+pub no_default_in_check : AllByRecursion HasNoDefault check_shape.rules
+unfolding check_shape
+no_default_in_check = (refl, (refl, (refl, (refl, (refl, tt)))))
+
+pub no_default_in_journal : AllByRecursion HasNoDefault journal_shape.rules
+unfolding journal_shape
+no_default_in_journal = (refl, (refl, (refl, (refl, (refl, tt)))))
+
+pub no_default_in_make : AllByRecursion HasNoDefault make_shape.rules
+unfolding make_shape
+no_default_in_make = (refl, (refl, (refl, (refl, tt))))

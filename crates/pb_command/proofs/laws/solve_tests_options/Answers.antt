@@ -1,0 +1,11 @@
+use Rattle.std.proofs.Common.{◌∙◌}
+use Rattle.pb_command.specs.Options.{value_given, Certificate, Journal}
+use Rattle.pb_command.proofs.SolveReading.{solve_is_tested, meant_by, low_weight, one_name, same_names}
+use Rattle.pb_command.proofs.laws.solve_tests_options.Goals as goal
+
+pub returns-clause-weight : goal.returns-clause-weight
+returns-clause-weight c = λ input arguments are weight. solve_is_tested input arguments are ∙ low_weight (meant_by input arguments) weight
+
+pub returns-clause-names : goal.returns-clause-names
+returns-clause-names c = λ input name arguments are weight e f. solve_is_tested input arguments are
+    ∙ one_name (meant_by input arguments) weight (same_names (value_given Certificate arguments) (value_given Journal arguments) name e f)

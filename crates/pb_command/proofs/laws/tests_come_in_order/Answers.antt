@@ -1,0 +1,13 @@
+use Rattle.std.proofs.Common.{[], ◌∷◌, refl, codes}
+use Rattle.pb_command.specs.Options.{Placed, Valued, Den, Certificate, Journal}
+use Rattle.pb_command.proofs.Examples.{grid_name, tiles_name, two_name, letter_name}
+use Rattle.pb_command.proofs.SolveReading.{solve_is}
+use Rattle.pb_command.proofs.laws.tests_come_in_order.Goals as goal
+
+pub returns-clause-files : goal.returns-clause-files
+returns-clause-files c = λ map hm. solve_is (Placed (codes "grid") ∷ Placed map ∷ Valued Den (codes "2") ∷ []) (grid_name, (hm, ((refl, two_name, refl), tt))) (refl, tt) (refl, (refl, tt))
+    (codes "grid") map refl refl
+
+pub returns-clause-weight : goal.returns-clause-weight
+returns-clause-weight c = λ board hb. solve_is (Placed (codes "tiles") ∷ Placed board ∷ Valued Den (codes "2") ∷ Valued Certificate (codes "c") ∷ Valued Journal (codes "c") ∷ [])
+    (tiles_name, (hb, ((refl, two_name, refl), ((refl, letter_name, refl), ((refl, letter_name, refl), tt))))) (refl, (refl, (refl, tt))) (refl, (refl, tt)) (codes "tiles") board refl refl

@@ -1,0 +1,5 @@
+use Rattle.pb_journal.proofs.Searched as law
+use Rattle.pb_journal.proofs.laws.plain_journals_have_no_hot.Goals as goal
+
+pub returns : goal.returns
+returns c = law.plain_journals_have_no_hot

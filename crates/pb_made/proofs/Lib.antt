@@ -1,0 +1,4 @@
+pub mod Shown
+pub mod Clauses
+pub mod Lines
+pub mod Spelled

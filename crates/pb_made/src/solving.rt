@@ -1,0 +1,182 @@
+//! A made task is solved, and what came out is checked.
+ghost use Rattle.std.specs.Prelude.{◌≡◌, ◌≤◌, ◌<◌, ◌^◌, ℕ, IfOk, Some, length};
+ghost use Rattle.std.specs.Arc.{arc_value};
+ghost use Rattle.pb_machine.specs.Settings.{AreInRange};
+ghost use Rattle.pb_model.specs.Plan.{IsBound, HasNoPlan, NoneCheaper};
+ghost use Rattle.pb_task.specs.Parts.{space_of};
+ghost use Rattle.pb_check.specs.Kinds.{kind_of, kind_name};
+ghost use Rattle.pb_check.specs.declared.fault.Verdict.TheVariants.{Bounded, Unsolvable};
+ghost use Rattle.pb_made.specs.Made.{IsSize, OfMade};
+ghost use Rattle.pb_made.specs.Answers.{IfAccepted, IfNoneAccepted, IfStopped, IsAnswered};
+ghost use Rattle.pb_made.specs.Answers.{HasPlan, IsCertified, IsStopped, unweighted};
+ghost use Rattle.pb_made.specs.Answers.{IsBest, IsBestPlan, IsCertificate, made_settings};
+
+use crate::MadeAnswer;
+use crate::answer::answer_of;
+use crate::certified::{judged, written};
+use crate::made_task::made_task;
+use pb_cert::{Certificate, Plan, trace};
+use pb_check::{TaskKind, kind_of};
+use pb_lease::LeaseGraph;
+use pb_machine::{End, Settings};
+use pb_outside::Gate;
+use pb_search::search;
+use pb_task::Task;
+use std::alloc::{AllocError, Global};
+use std::sync::{Arc, Wait};
+use std::thread::Threads;
+
+// What a made task is searched with: these workers, the weight 1, and all else as it is by default.
+fn made_settings(workers: u32) -> Settings
+    requires some { 1 ≤ workers }
+    requires most { workers ≤ 64 }
+    ensures settings { result ≡ made_settings workers }
+    ensures range { AreInRange result }
+{
+    Settings {
+        workers,
+        num: 1,
+        den: 1,
+        budget: 16_777_216,
+        lot: 256,
+        wish: 256,
+        plain: false,
+    }
+}
+
+/// Makes the texts of this kind, seed and size, reads them, solves their task with so many workers,
+/// and checks the certificate that it writes of that. The gate is told of each lease. An error is out
+/// of memory, and there is no other answer: made texts always spell a task, and what is written of a
+/// quiet search is always accepted.
+pub fn solve_made<R: Threads + Wait + Sync, G: Gate>(
+    rt: &R,
+    alloc: Global,
+    kind: TaskKind,
+    seed: u64,
+    size: u64,
+    workers: u32,
+    gate: &G,
+) -> Result<MadeAnswer, AllocError>
+    requires seed { seed < 2 ^ 32 }
+    requires size { IsSize kind size }
+    requires some { 1 ≤ workers }
+    requires most { workers ≤ 64 }
+
+    // A plan of the made task has the cost, and none is cheaper.
+    ensures plan { IfOk result (λ a. IfAccepted a (λ cost bound.
+        OfMade kind seed size (λ task. HasPlan task cost))) }
+    ensures least { IfOk result (λ a. IfAccepted a (λ cost bound.
+        OfMade kind seed size (λ task. NoneCheaper (space_of task) unweighted cost))) }
+    ensures bound { IfOk result (λ a. IfAccepted a (λ cost bound.
+        IsBound unweighted cost bound)) }
+
+    // The text of a valid certificate is accepted with this cost and bound.
+    ensures certified { IfOk result (λ a. IfAccepted a (λ cost bound.
+        OfMade kind seed size (λ task. IsCertified task (Bounded cost bound)))) }
+
+    // The made task has no plan, and the text of a certificate of that is accepted.
+    ensures none { IfOk result (λ a. IfNoneAccepted a
+        (OfMade kind seed size (λ task. HasNoPlan (space_of task)))) }
+    ensures none_certified { IfOk result (λ a. IfNoneAccepted a
+        (OfMade kind seed size (λ task. IsCertified task Unsolvable))) }
+
+    // The search of the made task, with these workers, used up its budget.
+    ensures stopped { IfOk result (λ a. IfStopped a (λ budget.
+        OfMade kind seed size (λ task. IsStopped task workers budget))) }
+{
+    let made = made_task(alloc, kind, seed as u32, size as u32)?;
+    let task = Arc::new(alloc, made)?;
+    answer_task(rt, alloc, &task, workers, gate)
+}
+
+// Solves a task, and checks the certificate.
+fn answer_task<R: Threads + Wait + Sync, G: Gate>(
+    rt: &R,
+    alloc: Global,
+    task: &Arc<Task>,
+    workers: u32,
+    gate: &G,
+) -> Result<MadeAnswer, AllocError>
+    requires some { 1 ≤ workers }
+    requires most { workers ≤ 64 }
+    ensures { IfOk result (IsAnswered (arc_value task.now) workers) }
+{
+    let settings = made_settings(workers);
+    let budget = settings.budget;
+    let graph = search(rt, alloc, task, settings, gate)?;
+    match graph.end() {
+        Some(End::Quiet) => answer_end(alloc, task, &graph, workers),
+        Some(End::Budget) => Ok(MadeAnswer::Stopped { budget }),
+        Some(End::Memory) | None => unreachable!(),
+    }
+}
+
+// A quiet search: its certificate is written and checked.
+fn answer_end(
+    alloc: Global,
+    task: &Task,
+    graph: &LeaseGraph,
+    workers: u32,
+) -> Result<MadeAnswer, AllocError>
+    requires { IsBest task.now graph.now }
+    ensures { IfOk result (IsAnswered task.now workers) }
+{
+    let plan = best_plan(alloc, task, graph)?;
+    let text = certificate_text(alloc, task, plan, graph)?;
+    let judgement = judged(alloc, task, text.as_slice())?;
+    match judgement {
+        Some(verdict) => Ok(answer_of(&verdict)),
+        None => unreachable!(),
+    }
+}
+
+// A cheapest plan, if there is one.
+fn best_plan(alloc: Global, task: &Task, graph: &LeaseGraph) -> Result<Option<Plan>, AllocError>
+    requires { IsBest task.now graph.now }
+    ensures { IfOk result (IsBestPlan task.now graph.now) }
+{
+    match graph.incumbent() {
+        Some(_) => traced_plan(alloc, task, graph),
+        None => Ok(None),
+    }
+}
+
+// A cheapest plan, which there is.
+fn traced_plan(alloc: Global, task: &Task, graph: &LeaseGraph) -> Result<Option<Plan>, AllocError>
+    requires best { IsBest task.now graph.now }
+    requires known { (cost : ℕ) × (graph.now.incumbent ≡ Some cost) }
+    ensures { IfOk result (IsBestPlan task.now graph.now) }
+{
+    let _lawful = task.max_degree();
+    let plan = trace(alloc, task, graph)?;
+    Ok(Some(plan))
+}
+
+// The text of the certificate with this plan, or with none.
+fn certificate_text(
+    alloc: Global,
+    task: &Task,
+    plan: Option<Plan>,
+    graph: &LeaseGraph,
+) -> Result<Vec<u8>, AllocError>
+    requires best { IsBest task.now graph.now }
+    requires plan { IsBestPlan task.now graph.now plan }
+    ensures { IfOk result (λ text. IsCertificate task.now plan text.items) }
+{
+    let _lawful = task.max_degree();
+    let certificate = Certificate::of(alloc, kind_word(task), 1, 1, plan, graph)?;
+    let text = written(alloc, &certificate)?;
+    Ok(text)
+}
+
+// The kind that the certificate of a task states.
+fn kind_word(task: &Task) -> &'static str
+    ensures kind { result.now ≡ kind_name (kind_of task.now) }
+    ensures short { length result.now ≤ 64 }
+{
+    match kind_of(task) {
+        TaskKind::Grid => "grid",
+        TaskKind::Tiles => "tiles",
+        TaskKind::Strips => "strips",
+    }
+}

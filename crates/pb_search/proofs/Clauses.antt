@@ -1,0 +1,160 @@
+-- What a search came to, as its callers learn it.
+use Rattle.std.proofs.Common.{◌≡◌, ◌≤◌, ◌⊎◌, inl, inr, true, Option, None, Some, Result, IfOk, refl, sym, ap, ◌∙◌, subst, arith}
+use Rattle.std.proofs.lemmas.Result.{IfOk-weaker}
+use Rattle.pb_model.specs.Weight.{Weight}
+use Rattle.pb_model.specs.Work.{Comes, expansions, opening_store}
+use Rattle.pb_model.proofs.Tests.{by_cases}
+use Rattle.pb_model.proofs.Locality.{weights_stay}
+use Rattle.pb_machine.specs.declared.event.End.{End}
+use Rattle.pb_machine.specs.declared.event.End.TheVariants.{Quiet, Budget, Memory}
+use Rattle.pb_machine.specs.declared.settings.Settings.{Settings}
+use Rattle.pb_machine.specs.Settings.{AreInRange, weight_of}
+use Rattle.pb_machine.specs.Counts.{Counts}
+use Rattle.pb_machine.specs.History.{IsHistory}
+use Rattle.pb_machine.specs.Machine.{Setup, Machine, journal_of, opening_machine}
+use Rattle.pb_machine.specs.Lawful.{broken_leases, IsLawful}
+use Rattle.pb_machine.proofs.TableLaws.{none_counted}
+use Rattle.pb_machine.proofs.Histories.{spent_is_used, used_fits_budget}
+use Rattle.pb_machine.proofs.MomentLaws.{journals_are_histories, costs_fit}
+use Rattle.pb_task.specs.declared.parts.TaskParts.{TaskParts}
+use Rattle.pb_abstract.specs.Projection.{IsFinest}
+use Rattle.pb_abstract.specs.Graph.{AbstractGraph, blocks_of, IsGraph, IsGraphOf}
+use Rattle.pb_lease.specs.GraphValue.{GraphValue, setup_in}
+use Rattle.pb_lease.proofs.GraphBasics.{setup_is, all_rows}
+use Rattle.pb_workers.proofs.Ended.{store_is, best_end}
+use Rattle.pb_search.specs.Ends.{search_of, HasSmallCosts, IsBestOf, HasEndedSo, EndsBy, StopsWith, EndsQuietly, MarksNothing}
+use Rattle.pb_search.specs.Searched.{HasSearched}
+use Rattle.pb_search.proofs.Marks.{marks_nothing}
+use Rattle.pb_search.proofs.Ending.{searched_so}
+
+-- no lease was released for want of memory, where the search ended otherwise
+none_broken_at : (p : Setup) (m : Machine) → IsLawful p m → (m.counts.end ≡ Some Quiet) ⊎ (m.counts.end ≡ Some Budget) → broken_leases p m ≡ 0
+none_broken_at p m l ends = none_counted p.settings.workers m.broken (λ k lt. by_cases (m.broken k) (λ e. go ends (l.reported.released k e).2) (λ e. e))
+  where
+    go : {A : Type 0} → (m.counts.end ≡ Some Quiet) ⊎ (m.counts.end ≡ Some Budget) → (m.counts.trouble ≡ true) ⊎ (m.counts.end ≡ Some Memory) → A
+    go (inl q) (inl t) = let bad : ◌≡◌ {A = Option End} (Some Quiet) None = sym q ∙ l.counts.trouble t in cc
+    go (inl q) (inr e) = let bad : ◌≡◌ {A = Option End} (Some Quiet) (Some Memory) = sym q ∙ e in cc
+    go (inr q) (inl t) = let bad : ◌≡◌ {A = Option End} (Some Budget) None = sym q ∙ l.counts.trouble t in cc
+    go (inr q) (inr e) = let bad : ◌≡◌ {A = Option End} (Some Budget) (Some Memory) = sym q ∙ e in cc
+
+module _ (parts : TaskParts) (abstraction : AbstractGraph) (settings : Settings) (range : AreInRange settings) (graph_of : IsGraphOf parts abstraction)
+    (finest : IsFinest parts settings.wish abstraction.projection) (few : (blocks_of abstraction).count ≤ 4096) (g : GraphValue) (h : HasSearched parts abstraction settings g) where
+  abbrev setup : Setup
+  setup = search_of parts abstraction settings
+
+  setup_same : setup_in g ≡ setup
+  setup_same = λ i. search_of (h.task i) (h.graph_is i) (h.settings_are i)
+
+  lawful : IsLawful setup h.machine
+  lawful = subst (λ (s : Setup). IsLawful s h.machine) setup_same h.moment.at.lawful
+
+  legal : IsHistory (blocks_of abstraction) settings 0 (journal_of h.moves) h.machine.counts
+  legal = journals_are_histories setup h.moves (opening_machine setup) h.machine 0 range (omega arith) refl h.run
+
+  small_costs : HasSmallCosts g
+  small_costs block state row found =
+      costs_fit (setup_in g) h.machine (setup_is g h.lawful) h.lawful.legal.range h.moment.at.lawful block state row (all_rows g h.lawful h.recorded h.machine h.moment.at h.home block state ∙ found)
+
+  pub is_best : g.table.end ≡ Some Quiet → IsBestOf parts settings g
+  is_best quiet = record {
+    task = h.task;
+    weight = ap weight_of h.settings_are;
+    home = h.home;
+    best = best_end g h.lawful h.home h.recorded h.machine h.moment quiet;
+    small = small_costs;
+  }
+
+  -- ---- the search that led there
+
+  ended_here : (end : End) → g.table.end ≡ Some end → h.machine.counts.end ≡ Some end
+  ended_here end is = ap (λ (c : Counts). c.end) h.moment.at.counts ∙ is
+
+  ended : (h.machine.counts.end ≡ Some Quiet) ⊎ (h.machine.counts.end ≡ Some Budget)
+  ended = go h.ended
+    where
+      go : (g.table.end ≡ Some Quiet) ⊎ (g.table.end ≡ Some Budget) → (h.machine.counts.end ≡ Some Quiet) ⊎ (h.machine.counts.end ≡ Some Budget)
+      go (inl quiet) = inl (ended_here Quiet quiet)
+      go (inr budget) = inr (ended_here Budget budget)
+
+  first_weight : lawful.reached.first_weight ≡ weight_of settings
+  first_weight =
+      sym (weights_stay setup.space setup.guide lawful.reached.works (opening_store setup.space setup.guide lawful.reached.first_weight) h.machine.store lawful.reached.comes lawful.reached.reopened)
+      ∙ lawful.weight
+
+  ends_by : (end : End) → h.machine.counts.end ≡ Some end → HasEndedSo end settings h.machine.store (expansions lawful.reached.works) → EndsBy parts settings end h.moves
+  ends_by end is so = record {
+    graph = abstraction;
+    graph_of = graph_of;
+    finest = finest;
+    machine = h.machine;
+    run = h.run;
+    alone = h.alone;
+    lawful = lawful;
+    end_is = is;
+    finished = h.finished;
+    legal = legal;
+    few = few;
+    works = lawful.reached.works;
+    comes = subst (λ (w : Weight). Comes setup.space setup.guide lawful.reached.works (opening_store setup.space setup.guide w) h.machine.store) first_weight lawful.reached.comes;
+    none_broken = let none = none_broken_at setup h.machine lawful ended in omega (arith, lawful.reached.broken, none);
+    one_run = lawful.reached.reopened;
+    ended_so = so;
+  }
+
+  pub quiet_run : g.table.end ≡ Some Quiet → EndsQuietly parts settings g.table.journal g
+  unfolding ends_by
+  quiet_run quiet =
+      let is = ended_here Quiet quiet in
+      record {
+        moves = h.moves;
+        journal_is = h.journal;
+        ends = ends_by Quiet is (omega (arith, lawful.reached.spent, lawful.counts.sum), lawful.quiet is);
+        blocks = h.graph_is;
+        rows = sym (store_is g h.lawful h.home h.recorded h.machine h.moment);
+      }
+
+  pub budget_stop : g.table.end ≡ Some Budget → StopsWith parts settings g.table.journal
+  budget_stop budget =
+      let is = ended_here Budget budget in
+      let spent = spent_is_used (blocks_of abstraction) settings 0 (journal_of h.moves) h.machine.counts legal in
+      let all = (used_fits_budget (blocks_of abstraction) settings 0 (journal_of h.moves) h.machine.counts legal).1 is in
+      (h.moves, h.journal, ends_by Budget is (lawful.reached.spent ∙ spent ∙ all, lawful.budget is))
+
+  pub plain_marks_nothing : settings.plain ≡ true → MarksNothing g.table.journal
+  plain_marks_nothing plain = subst MarksNothing (sym h.journal) (marks_nothing setup plain h.moves (opening_machine setup) h.machine h.run)
+
+-- ---- what a call hands back
+
+-- The two ways to search get the task and the blocks by references of their own. The blocks were made for the task and counted.
+module _ {E : Type 0} (parts made_for task : TaskParts) (abstraction made counted blocks : AbstractGraph) (settings own : Settings) (range : AreInRange settings)
+    (for_is : made_for ≡ parts) (made_is : abstraction ≡ made) (graph_of : IsGraphOf made_for made) (finest : IsFinest made_for settings.wish made.projection)
+    (counted_is : counted ≡ abstraction) (lawful : IsGraph counted) (task_is : task ≡ parts) (blocks_are : blocks ≡ abstraction) (own_are : own ≡ settings)
+    (r : Result GraphValue E) (found : IfOk r (HasSearched task blocks own)) where
+  its_graph : IsGraphOf parts abstraction
+  its_graph = subst (λ (p : TaskParts). IsGraphOf p abstraction) for_is (subst (λ (a : AbstractGraph). IsGraphOf made_for a) (sym made_is) graph_of)
+
+  its_finest : IsFinest parts settings.wish abstraction.projection
+  its_finest = subst (λ (p : TaskParts). IsFinest p settings.wish abstraction.projection) for_is
+      (subst (λ (a : AbstractGraph). IsFinest made_for settings.wish a.projection) (sym made_is) finest)
+
+  few_blocks : (blocks_of abstraction).count ≤ 4096
+  few_blocks = (subst IsGraph counted_is lawful).few
+
+  in_those_words : (g : GraphValue) → HasSearched task blocks own g → HasSearched parts abstraction settings g
+  in_those_words g = searched_so parts task abstraction blocks settings own g task_is blocks_are own_are
+
+  pub best_then : IfOk r (λ g. g.table.end ≡ Some Quiet → IsBestOf parts settings g)
+  best_then = IfOk-weaker r (HasSearched task blocks own) (λ g. g.table.end ≡ Some Quiet → IsBestOf parts settings g)
+      (λ g h. is_best parts abstraction settings range its_graph its_finest few_blocks g (in_those_words g h)) found
+
+  pub quiet_run_then : IfOk r (λ g. g.table.end ≡ Some Quiet → EndsQuietly parts settings g.table.journal g)
+  quiet_run_then = IfOk-weaker r (HasSearched task blocks own) (λ g. g.table.end ≡ Some Quiet → EndsQuietly parts settings g.table.journal g)
+      (λ g h. quiet_run parts abstraction settings range its_graph its_finest few_blocks g (in_those_words g h)) found
+
+  pub stop_then : IfOk r (λ g. g.table.end ≡ Some Budget → StopsWith parts settings g.table.journal)
+  stop_then = IfOk-weaker r (HasSearched task blocks own) (λ g. g.table.end ≡ Some Budget → StopsWith parts settings g.table.journal)
+      (λ g h. budget_stop parts abstraction settings range its_graph its_finest few_blocks g (in_those_words g h)) found
+
+  pub plain_then : IfOk r (λ g. settings.plain ≡ true → MarksNothing g.table.journal)
+  plain_then = IfOk-weaker r (HasSearched task blocks own) (λ g. settings.plain ≡ true → MarksNothing g.table.journal)
+      (λ g h. plain_marks_nothing parts abstraction settings range its_graph its_finest few_blocks g (in_those_words g h)) found

@@ -1,0 +1,127 @@
+-- A search from its opening to its end: by one worker, and by several.
+use Rattle.std.proofs.Common.{◌≡◌, ◌<◌, true, false, None, Some, is_some, IsSome, Option, List, ◌++◌, ◌⊎◌, inl, inr, refl, sym, ap, ◌∙◌, subst, arith}
+use Rattle.pb_machine.specs.declared.event.Event.{Event}
+use Rattle.pb_machine.specs.declared.event.End.{End}
+use Rattle.pb_machine.specs.declared.event.End.TheVariants.{Quiet, Budget}
+use Rattle.pb_machine.specs.declared.settings.Settings.{Settings}
+use Rattle.pb_machine.specs.Counts.{Counts, opening_counts, is_any_out}
+use Rattle.pb_machine.specs.History.{AreFinished}
+use Rattle.pb_machine.specs.Machine.{Setup, journal_of, opening_machine}
+use Rattle.pb_machine.proofs.TableLaws.{any_false}
+use Rattle.pb_machine.proofs.LeaseTurns.{ordered_runs_are_runs}
+use Rattle.pb_task.specs.declared.parts.TaskParts.{TaskParts}
+use Rattle.pb_abstract.specs.Graph.{AbstractGraph}
+use Rattle.pb_lease.specs.GraphValue.{GraphValue, setup_in, counts_in, IsLeaseGraph}
+use Rattle.pb_lease.specs.Choices.{is_out_in}
+use Rattle.pb_workers.specs.Runs.{IsSameSearch, IsAnyMoment, RunsOn}
+use Rattle.pb_workers.specs.Teams.{KeepsSearch}
+use Rattle.pb_workers.proofs.Going.{alone_is_in_order}
+use Rattle.pb_yard.specs.declared.view.View.{View}
+use Rattle.pb_yard.specs.Views.{opening_view}
+use Rattle.pb_yard.specs.Calls.{IsClosed}
+use Rattle.pb_search.specs.Ends.{search_of, Leads, LeadsAlone}
+use Rattle.pb_search.specs.Searched.{Opens, HasSearched}
+
+-- the search ended, quietly or by its budget
+abbrev pub HasEnded : GraphValue → Type 0
+HasEnded g = (g.table.end ≡ Some Quiet) ⊎ (g.table.end ≡ Some Budget)
+
+some_end : (g : GraphValue) → HasEnded g → IsSome g.table.end
+some_end g (inl quiet) = ap (λ (o : Option End). is_some o) quiet
+some_end g (inr budget) = ap (λ (o : Option End). is_some o) budget
+
+module _ (parts : TaskParts) (abstraction : AbstractGraph) (settings : Settings) (old : GraphValue) (opens : Opens parts abstraction settings old) where
+  abbrev setup : Setup
+  setup = search_of parts abstraction settings
+
+  pub opening_is_moment : IsAnyMoment old
+  opening_is_moment = (λ worker home state. None, opening_machine (setup_in old), opens.opening.moment (λ worker home state. None))
+
+  pub none_out : is_out_in old ≡ false
+  none_out =
+      (λ i. is_any_out old.table.settings.workers (opens.counts i).leases)
+      ∙ any_false old.table.settings.workers (λ worker. is_some ((opening_counts settings 0).leases worker)) (λ worker. refl)
+
+  pub none_signed_off : (counts_in old).signed_off 0 ≡ false
+  none_signed_off = ap (λ (c : Counts). c.signed_off 0) opens.counts
+
+  old_setup : setup_in old ≡ setup
+  old_setup = λ i. search_of (opens.task i) (opens.graph_is i) (opens.settings_are i)
+
+  -- a worker that searched alone
+  module _ (new : GraphValue) (same : IsSameSearch old new) (alone : settings.workers ≡ 1) where
+    all_off : (counts : Counts) → counts ≡ counts_in new → (counts_in new).signed_off 0 ≡ true → HasEnded new → AreFinished settings counts
+    all_off counts is off ended = record {
+      end = subst (λ (c : Counts). IsSome c.end) (sym is) (some_end new ended);
+      signed_off = λ worker less.
+          let first : worker ≡ 0 = omega (arith, less, alone) in
+          subst (λ k. counts.signed_off k ≡ true) (sym first) (ap (λ (c : Counts). c.signed_off 0) is ∙ off);
+    }
+
+    pub alone_searched : IsLeaseGraph new → RunsOn old new → is_out_in new ≡ false → (counts_in new).signed_off 0 ≡ true → HasEnded new → HasSearched parts abstraction settings new
+    alone_searched lawful runs home off ended =
+        let last = runs (λ worker home state. None) (opening_machine (setup_in old)) (opens.opening.moment (λ worker home state. None)) in
+        let to = last.1 in
+        let run : LeadsAlone setup to.moves last.0 = subst (λ (s : Setup). LeadsAlone s to.moves last.0) old_setup to.run in
+        record {
+          task = same.task ∙ opens.task;
+          graph_is = same.graph ∙ opens.graph_is;
+          settings_are = same.settings ∙ opens.settings_are;
+          lawful = lawful;
+          home = home;
+          ended = ended;
+          moves = to.moves;
+          journal = to.events ∙ ap (λ (j : List Event). j ++ journal_of to.moves) opens.opening.empty;
+          machine = last.0;
+          run = ordered_runs_are_runs setup to.moves (opening_machine setup) last.0 (alone_is_in_order setup to.moves (opening_machine setup) last.0 run);
+          alone = λ one. run;
+          recorded = λ worker home state. None;
+          moment = to.moment;
+          finished = all_off last.0.counts to.moment.at.counts off ended;
+        }
+
+  -- several workers whose yard was closed
+  module _ (view : View) (keeps : KeepsSearch (opening_view old) view) (new : GraphValue) (closed : IsClosed view new) (several : 1 < settings.workers) where
+    task : new.task ≡ parts
+    task = sym closed.search.task ∙ keeps.task ∙ opens.task
+
+    graph : new.table.graph ≡ abstraction
+    graph = sym closed.search.graph ∙ keeps.graph ∙ opens.graph_is
+
+    are : new.table.settings ≡ settings
+    are = sym closed.search.settings ∙ keeps.settings ∙ opens.settings_are
+
+    new_setup : setup_in new ≡ setup
+    new_setup = λ i. search_of (task i) (graph i) (are i)
+
+    pub yard_searched : IsLeaseGraph new → HasEnded new → HasSearched parts abstraction settings new
+    yard_searched lawful ended =
+        let moment = closed.moment (λ worker home state. None) in
+        record {
+          task = task;
+          graph_is = graph;
+          settings_are = are;
+          lawful = lawful;
+          home = closed.home;
+          ended = ended;
+          moves = closed.moves;
+          journal = sym closed.journal;
+          machine = closed.machine;
+          run = subst (λ (s : Setup). Leads s closed.moves closed.machine) new_setup closed.run;
+          alone = λ one. absurd (omega (arith, one, several));
+          recorded = λ worker home state. None;
+          moment = moment;
+          finished = subst (λ (c : Counts). AreFinished settings c) (sym moment.at.counts)
+              (subst (λ (s : Settings). AreFinished s (counts_in new)) are closed.finished);
+        }
+
+-- ---- the same search, told by other words
+
+module _ (parts task : TaskParts) (abstraction blocks : AbstractGraph) (settings own : Settings) (g : GraphValue) (task_is : task ≡ parts) (blocks_are : blocks ≡ abstraction) (own_are : own ≡ settings) where
+  pub opens_so : Opens parts abstraction settings g → Opens task blocks own g
+  opens_so o = subst (λ (p : TaskParts). Opens p blocks own g) (sym task_is)
+      (subst (λ (a : AbstractGraph). Opens parts a own g) (sym blocks_are) (subst (λ (s : Settings). Opens parts abstraction s g) (sym own_are) o))
+
+  pub searched_so : HasSearched task blocks own g → HasSearched parts abstraction settings g
+  searched_so h = subst (λ (s : Settings). HasSearched parts abstraction s g) own_are
+      (subst (λ (a : AbstractGraph). HasSearched parts a own g) blocks_are (subst (λ (p : TaskParts). HasSearched p blocks own g) task_is h))

@@ -1,0 +1,26 @@
+use Rattle.std.proofs.Common.{◌≡◌, Some, inl, inr, subst}
+use Rattle.pb_machine.specs.declared.event.End.TheVariants.{Quiet, Budget}
+use Rattle.pb_workers.specs.Teams.{KeepsSearch}
+use Rattle.pb_yard.specs.declared.view.View.{View}
+use Rattle.pb_yard.specs.Views.{opening_view}
+use Rattle.pb_yard.specs.Passes.{view_of}
+use Rattle.pb_search.proofs.Ending.{yard_searched}
+use Rattle.pb_search.proofs.together.search_together.Goals as goal
+
+pub returns-in-Some-Quiet : goal.returns-in-Some-Quiet
+returns-in-Some-Quiet g c =
+    let same : view_of c.in-Ok.pass ≡ opening_view c.args.opening = c.in-Ok.ensures.view in
+    let last = view_of c.in-Ok-run_workers.pass in
+    let keeps : KeepsSearch (opening_view c.args.opening) last = subst (λ (v : View). KeepsSearch v last) same c.in-Ok-run_workers.ensures.search in
+    let end : c.close-graph.result.table.end ≡ Some Quiet = cc in
+    yard_searched c.args.task.now c.args.abstraction.now c.args.opening.table.settings c.args.opening c.requires.opens last keeps c.close-graph.result c.close-graph.ensures.closed
+    c.requires.several c.abstraction-lawful.ensures.lawful (inl end)
+
+pub returns-in-Some-Budget : goal.returns-in-Some-Budget
+returns-in-Some-Budget g c =
+    let same : view_of c.in-Ok.pass ≡ opening_view c.args.opening = c.in-Ok.ensures.view in
+    let last = view_of c.in-Ok-run_workers.pass in
+    let keeps : KeepsSearch (opening_view c.args.opening) last = subst (λ (v : View). KeepsSearch v last) same c.in-Ok-run_workers.ensures.search in
+    let end : c.close-graph.result.table.end ≡ Some Budget = cc in
+    yard_searched c.args.task.now c.args.abstraction.now c.args.opening.table.settings c.args.opening c.requires.opens last keeps c.close-graph.result c.close-graph.ensures.closed
+    c.requires.several c.abstraction-lawful.ensures.lawful (inr end)

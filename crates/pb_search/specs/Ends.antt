@@ -1,0 +1,124 @@
+-- How a search by leases ends, and what it has then.
+use Rattle.std.specs.Prelude.{◌≡◌, ℕ, ◌-◌, ◌^◌, ◌≤◌, Bool, true, false, IsFalse, List, Some}
+use Rattle.std.specs.List.{list_any}
+use Rattle.pb_model.specs.Store.{Store, IsQuiet, HasOpened, CostsAtMost}
+use Rattle.pb_model.specs.Work.{Work, Comes, expansions, broken_expansions, reopenings, opening_store}
+use Rattle.pb_machine.specs.declared.event.End.{End}
+use Rattle.pb_machine.specs.declared.event.End.TheVariants.{Quiet, Budget, Memory}
+use Rattle.pb_machine.specs.declared.event.Event.{Event}
+use Rattle.pb_machine.specs.declared.event.Event.TheVariants.{Hot}
+use Rattle.pb_machine.specs.declared.settings.Settings.{Settings}
+use Rattle.pb_machine.specs.Settings.{weight_of}
+use Rattle.pb_machine.specs.History.{IsHistory, AreFinished}
+use Rattle.pb_machine.specs.Machine.{Setup, Machine, Move, Runs, journal_of, opening_machine}
+use Rattle.pb_machine.specs.Lawful.{IsLawful}
+use Rattle.pb_task.specs.declared.parts.TaskParts.{TaskParts}
+use Rattle.pb_task.specs.Parts.{space_of}
+use Rattle.pb_abstract.specs.Projection.{IsFinest}
+use Rattle.pb_abstract.specs.Graph.{AbstractGraph, blocks_of, IsGraphOf}
+use Rattle.pb_lease.specs.Leased.{guide_of, setup_of}
+use Rattle.pb_lease.specs.GraphValue.{GraphValue}
+use Rattle.pb_lease.specs.Choices.{is_out_in}
+use Rattle.pb_workers.specs.Runs.{RunsAlone}
+use Rattle.pb_workers.specs.Ends.{home_store, IsBestEnd}
+
+-- ---- the rows at a quiet end
+
+-- no g of a row at home leaves 61 bits
+abbrev pub HasSmallCosts : GraphValue → Type 0
+HasSmallCosts graph = CostsAtMost (home_store graph) (2 ^ 61 - 1)
+
+-- A search of this task at the weight of these settings came to a quiet end with this graph, all of
+-- whose rows are at home: they are a sound store without an Opened row. The incumbent is shown by a
+-- goal's row, some plan costs no more, and no plan costs less than it divided by the weight; without
+-- an incumbent there is no plan.
+pub record IsBestOf (parts : TaskParts) (settings : Settings) (graph : GraphValue) : Type 0 where
+  pub task : graph.task ≡ parts
+  pub weight : weight_of graph.table.settings ≡ weight_of settings
+  pub home : IsFalse (is_out_in graph)
+  pub best : IsBestEnd graph
+  pub small : HasSmallCosts graph
+
+-- ---- the search that led there
+
+-- what is searched, and with what: the task, by these blocks, with these settings, from its start
+abbrev pub search_of : TaskParts → AbstractGraph → Settings → Setup
+search_of parts graph settings = setup_of parts graph settings 0
+
+-- these moves lead from the machine that has the start's row alone to this one
+abbrev pub Leads : Setup → List Move → Machine → Type 0
+Leads setup moves machine = Runs setup (opening_machine setup) moves machine
+
+-- the same as the run of a worker that searches alone
+abbrev pub LeadsAlone : Setup → List Move → Machine → Type 0
+LeadsAlone setup moves machine = RunsAlone setup (opening_machine setup) moves machine
+
+-- this work leads from the start's row alone, at the weight of the settings, to this store
+abbrev pub ComesFromStart : TaskParts → AbstractGraph → Settings → List Work → Store → Type 0
+ComesFromStart parts graph settings works store =
+    let space = space_of parts in
+    let guide = guide_of parts graph in
+    Comes space guide works (opening_store space guide (weight_of settings)) store
+
+-- What an end says of the rows and of the number of expansions that led to them. A quiet end: no row
+-- is Opened, and there were no more expansions than the budget allows. The budget's: a row is
+-- Opened, and there were exactly as many.
+abbrev pub HasEndedSo : End → Settings → Store → (expanded : ℕ) → Type 0
+HasEndedSo Quiet settings store expanded = (expanded ≤ settings.budget) × IsQuiet store
+HasEndedSo Budget settings store expanded =
+    (expanded ≡ settings.budget) × ((block : ℕ) × HasOpened (store.rows block))
+HasEndedSo Memory settings store expanded = ⊥
+
+-- A search by leases of this task, with these settings, came to this end by these moves: over the
+-- finest abstract graph of the task that has no more blocks than are wished for, they lead from the
+-- machine that has the start's row alone to a lawful one, whose end is that, and where every worker
+-- has signed off. So their events are a finished legal history. With one worker the moves are those
+-- of a worker that searches alone: in order and in time, each lease with the incumbent of the whole
+-- store. Expansions, none of them broken off, lead from the start's row alone to the rows of that
+-- machine, as the end says.
+pub record EndsBy (parts : TaskParts) (settings : Settings) (end : End) (moves : List Move)
+    : Type 0 where
+  pub graph : AbstractGraph
+  pub graph_of : IsGraphOf parts graph
+  pub finest : IsFinest parts settings.wish graph.projection
+  pub machine : Machine
+  pub run : Leads (search_of parts graph settings) moves machine
+  pub alone : settings.workers ≡ 1 → LeadsAlone (search_of parts graph settings) moves machine
+  pub lawful : IsLawful (search_of parts graph settings) machine
+  pub end_is : machine.counts.end ≡ Some end
+  pub finished : AreFinished settings machine.counts
+  pub legal : IsHistory (blocks_of graph) settings 0 (journal_of moves) machine.counts
+  pub few : (blocks_of graph).count ≤ 4096
+  pub works : List Work
+  pub comes : ComesFromStart parts graph settings works machine.store
+  pub none_broken : broken_expansions works ≡ 0
+  pub one_run : reopenings works ≡ 0
+  pub ended_so : HasEndedSo end settings machine.store (expansions works)
+
+-- A search of this task with these settings came to the end of its budget by some moves, which are
+-- those of the events that the journal has.
+abbrev pub StopsWith : TaskParts → Settings → (journal : List Event) → Type 0
+StopsWith parts settings journal =
+    (moves : List Move) × (journal ≡ journal_of moves) × EndsBy parts settings Budget moves
+
+-- A search of this task with these settings came to a quiet end by some moves, which are those of
+-- the events that the journal has. This graph is what it left: its blocks are those of the search,
+-- and the rows at home, with the incumbent, are all that the machine has.
+pub record EndsQuietly (parts : TaskParts) (settings : Settings) (journal : List Event)
+    (graph : GraphValue) : Type 0 where
+  pub moves : List Move
+  pub journal_is : journal ≡ journal_of moves
+  pub ends : EndsBy parts settings Quiet moves
+  pub blocks : graph.table.graph ≡ ends.graph
+  pub rows : home_store graph ≡ ends.machine.store
+
+-- ---- marks
+
+-- whether the event marks a block hot
+abbrev pub is_mark : Event → Bool
+is_mark (Hot worker block) = true
+is_mark event = false
+
+-- no block was marked hot
+abbrev pub MarksNothing : (journal : List Event) → Type 0
+MarksNothing journal = IsFalse (list_any is_mark journal)

@@ -1,0 +1,46 @@
+-- A graph at the beginning of a search, and at its end.
+use Rattle.std.specs.Prelude.{◌≡◌, ◌⊎◌, ℕ, IsFalse, List, Some}
+use Rattle.pb_model.specs.Store.{Rows}
+use Rattle.pb_machine.specs.declared.event.End.TheVariants.{Quiet, Budget}
+use Rattle.pb_machine.specs.declared.settings.Settings.{Settings}
+use Rattle.pb_machine.specs.Counts.{opening_counts}
+use Rattle.pb_machine.specs.History.{AreFinished}
+use Rattle.pb_machine.specs.Machine.{Machine, Move, journal_of}
+use Rattle.pb_task.specs.declared.parts.TaskParts.{TaskParts}
+use Rattle.pb_abstract.specs.Graph.{AbstractGraph}
+use Rattle.pb_lease.specs.GraphValue.{GraphValue, counts_in, IsLeaseGraph}
+use Rattle.pb_lease.specs.Choices.{is_out_in}
+use Rattle.pb_lease.specs.Moments.{IsMoment}
+use Rattle.pb_yard.specs.Calls.{IsOpening}
+use Rattle.pb_search.specs.Ends.{search_of, Leads, LeadsAlone}
+
+-- the graph is that of a search of this task by this abstract graph, with these settings, that
+-- begins: the start alone has a row
+pub record Opens (parts : TaskParts) (abstraction : AbstractGraph) (settings : Settings)
+    (graph : GraphValue) : Type 0 where
+  pub task : graph.task ≡ parts
+  pub graph_is : graph.table.graph ≡ abstraction
+  pub settings_are : graph.table.settings ≡ settings
+  pub counts : counts_in graph ≡ opening_counts settings 0
+  pub opening : IsOpening graph
+
+-- The graph is what a search of this task by this abstract graph, with these settings, came to,
+-- quietly or by its budget. Moves from the machine that has the start's row alone lead to one that
+-- the graph is a moment of, where every worker has signed off; their events are the graph's journal.
+-- With one worker they are the run of a worker that searches alone. No lease is out.
+pub record HasSearched (parts : TaskParts) (abstraction : AbstractGraph) (settings : Settings)
+    (graph : GraphValue) : Type 0 where
+  pub task : graph.task ≡ parts
+  pub graph_is : graph.table.graph ≡ abstraction
+  pub settings_are : graph.table.settings ≡ settings
+  pub lawful : IsLeaseGraph graph
+  pub home : IsFalse (is_out_in graph)
+  pub ended : (graph.table.end ≡ Some Quiet) ⊎ (graph.table.end ≡ Some Budget)
+  pub moves : List Move
+  pub journal : graph.table.journal ≡ journal_of moves
+  pub machine : Machine
+  pub run : Leads (search_of parts abstraction settings) moves machine
+  pub alone : settings.workers ≡ 1 → LeadsAlone (search_of parts abstraction settings) moves machine
+  pub recorded : (worker : ℕ) → Rows
+  pub moment : IsMoment graph recorded machine
+  pub finished : AreFinished settings machine.counts

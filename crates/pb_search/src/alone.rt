@@ -1,0 +1,29 @@
+//! The search of one worker.
+ghost use Rattle.std.specs.Prelude.{◌≡◌, IfOk};
+ghost use Rattle.pb_abstract.specs.Graph.{IsGraphOf};
+ghost use Rattle.pb_search.specs.Searched.{Opens, HasSearched};
+
+use pb_abstract::AbsGraph;
+use pb_lease::LeaseGraph;
+use pb_outside::Gate;
+use pb_task::Task;
+use pb_workers::run_alone;
+use std::alloc::{AllocError, Global};
+
+/// Searches with one worker, who waits for nobody. An error is out of memory.
+pub fn search_alone<G: Gate>(
+    alloc: Global,
+    task: &Task,
+    abstraction: &AbsGraph,
+    opening: LeaseGraph,
+    gate: &G,
+) -> Result<LeaseGraph, AllocError>
+    requires opens { Opens task.now abstraction.now opening.table.settings opening }
+    requires alone { opening.table.settings.workers ≡ 1 }
+    ensures { IfOk result (HasSearched task.now abstraction.now opening.table.settings) }
+{
+    let mut graph = opening;
+    run_alone(alloc, task, abstraction, &mut graph, gate)?;
+    let _lawful = graph.abstraction();
+    Ok(graph)
+}

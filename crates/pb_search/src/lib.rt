@@ -1,0 +1,13 @@
+//! A search by leases with these settings, from a task to the graph at its end: one worker searches
+//! alone and waits for nobody, and several share a yard, each in a thread of its own.
+#![tactic(auto)]
+
+mod alone;
+mod opening;
+mod searching;
+mod together;
+
+pub use searching::search;
+
+#[cfg(test)]
+mod tests;

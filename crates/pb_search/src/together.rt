@@ -1,0 +1,46 @@
+//! The search of several workers.
+ghost use Rattle.std.specs.Prelude.{◌≡◌, ◌<◌, IfOk};
+ghost use Rattle.pb_abstract.specs.Graph.{IsGraphOf};
+ghost use Rattle.pb_search.specs.Searched.{Opens, HasSearched};
+
+use pb_abstract::AbsGraph;
+use pb_lease::LeaseGraph;
+use pb_machine::End;
+use pb_outside::Gate;
+use pb_task::Task;
+use pb_workers::run_workers;
+use pb_yard::Yard;
+use std::alloc::{AllocError, Global};
+use std::sync::Wait;
+use std::thread::Threads;
+
+/// Searches with several workers, each in a thread of its own, until all have signed off. An error
+/// is out of memory, at the start or of a worker.
+pub fn search_together<R: Threads + Wait + Sync, G: Gate>(
+    rt: &R,
+    alloc: Global,
+    task: &Task,
+    abstraction: &AbsGraph,
+    opening: LeaseGraph,
+    gate: &G,
+) -> Result<LeaseGraph, AllocError>
+    requires opens { Opens task.now abstraction.now opening.table.settings opening }
+    requires graph { IsGraphOf task.now abstraction.now }
+    requires several { 1 < opening.table.settings.workers }
+    ensures { IfOk result (HasSearched task.now abstraction.now opening.table.settings) }
+{
+    let workers = opening.settings().workers;
+    let Ok((yard, pass)) = Yard::new(alloc, opening) else {
+        return Err(AllocError);
+    };
+    let Ok(pass) = run_workers(rt, alloc, task, abstraction, &yard, gate, pass, workers) else {
+        return Err(AllocError);
+    };
+    let graph = yard.close(pass);
+    let _lawful = graph.abstraction();
+    match graph.end() {
+        Some(End::Quiet) => Ok(graph),
+        Some(End::Budget) => Ok(graph),
+        Some(End::Memory) | None => Err(AllocError),
+    }
+}
