@@ -4,7 +4,7 @@ use Rattle.std.specs.Int.{div_ceil}
 use Rattle.std.proofs.Math.Nat.{mul_comm}
 use Rattle.pb_packed.specs.Bits.{bits_of}
 use Rattle.pb_model.specs.Space.{Steps}
-use Rattle.pb_task.specs.Grid.{class_at, class_of_state, cell_state, are_connected, is_passable, cell_beside, step_to, grid_space, IsGrid}
+use Rattle.pb_task.specs.Grid.{class_at, entry_cost, class_of_state, cell_state, are_connected, is_passable, cell_beside, step_to, grid_space, IsGrid}
 use Rattle.pb_task.specs.declared.parts.Class.{Class}
 use Rattle.pb_task.specs.declared.parts.Class.TheVariants.{Land, Water, Blocked}
 use Rattle.pb_task.specs.declared.parts.GridParts.{GridParts}
@@ -50,16 +50,16 @@ edge_step grid is side block other edge =
     let y : edge.y < 2048 = omega (arith, here.1, high) in
     let state = cell_state edge.x edge.y in
     let class : class_of_state grid state ≡ class_at grid edge.x edge.y = class_of_cell grid edge.x edge.y x y in
-    let step : Steps (grid_space grid) state edge.action (cell_state edge.cell.0 edge.cell.1) 1 =
+    let step : Steps (grid_space grid) state edge.action (cell_state edge.cell.0 edge.cell.1) (entry_cost grid edge.cell.0 edge.cell.1) =
     ap (λ c. step_to grid c (cell_beside (bits_of state 0 11) (bits_of state 11 11) edge.action)) class
     ∙ ap (λ n. step_to grid (class_at grid edge.x edge.y) (cell_beside n (bits_of state 11 11) edge.action)) (x_of edge.x edge.y x)
     ∙ ap (λ n. step_to grid (class_at grid edge.x edge.y) (cell_beside edge.x n edge.action)) (y_of edge.x edge.y x y)
     ∙ ap (step_to grid (class_at grid edge.x edge.y)) edge.beside
-    ∙ ap (λ test. if test then Some (cell_state edge.cell.0 edge.cell.1, 1) else None) edge.connected in (
+    ∙ ap (λ test. if test then Some (cell_state edge.cell.0 edge.cell.1, entry_cost grid edge.cell.0 edge.cell.1) else None) edge.connected in (
       state,
       edge.action,
       cell_state edge.cell.0 edge.cell.1,
-      1,
+      entry_cost grid edge.cell.0 edge.cell.1,
       step,
       square_of_cell grid side edge.x edge.y x y ∙ edge.from,
       square_of_cell grid side edge.cell.0 edge.cell.1 (omega (arith, there.0, wide)) (omega (arith, there.1, high)) ∙ edge.to,
@@ -78,10 +78,10 @@ pub step_edge : (grid : GridParts) → IsGrid grid → (side from action to cost
     → IsSquareEdge grid side (square_at grid side from) (square_at grid side to)
 step_edge grid is side from action to cost e = go (cell_beside (bits_of from 0 11) (bits_of from 11 11) action) refl e where
   at : (cell : ℕ × ℕ) → cell_beside (bits_of from 0 11) (bits_of from 11 11) action ≡ Some cell → (test : Bool) → are_connected (class_of_state grid from) (class_at grid cell.0 cell.1) ≡ test
-      → ◌≡◌ {A = Option (ℕ × ℕ)} (if test then Some (cell_state cell.0 cell.1, 1) else None) (Some (to, cost)) → IsSquareEdge grid side (square_at grid side from) (square_at grid side to)
+      → ◌≡◌ {A = Option (ℕ × ℕ)} (if test then Some (cell_state cell.0 cell.1, entry_cost grid cell.0 cell.1) else None) (Some (to, cost)) → IsSquareEdge grid side (square_at grid side from) (square_at grid side to)
   at cell beside false joined e = cc
   at cell beside true joined e =
-      let same : ◌≡◌ {A = ℕ × ℕ} (cell_state cell.0 cell.1, 1) (to, cost) = cc in
+      let same : ◌≡◌ {A = ℕ × ℕ} (cell_state cell.0 cell.1, entry_cost grid cell.0 cell.1) (to, cost) = cc in
       let there : (cell.0 < grid.width) × (cell.1 < grid.height) = on_map grid cell.0 cell.1 (passable_to (class_of_state grid from) (class_at grid cell.0 cell.1) joined) in
       let wide : grid.width ≤ 2048 = is.width.1 in
       let high : grid.height ≤ 2048 = is.height.1 in

@@ -17,4 +17,5 @@ pub mod Changing
 pub mod Walking
 pub mod Sizes
 pub mod Unique
+pub mod Marks
 pub mod Example

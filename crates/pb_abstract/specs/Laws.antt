@@ -1,9 +1,11 @@
 -- The laws of this crate. Each is proved, as the contract of the public function that has its name.
-use Rattle.std.specs.Prelude.{◌≡◌, ℕ, ◌↔◌}
+use Rattle.std.specs.Prelude.{◌≡◌, ℕ, ◌↔◌, Bool, List}
 use Rattle.pb_model.specs.Space.{Steps}
 use Rattle.pb_model.specs.Guide.{Guide}
 use Rattle.pb_machine.specs.Blocks.{AreBlocks}
+use Rattle.pb_task.specs.declared.parts.GridParts.{GridParts}
 use Rattle.pb_task.specs.declared.parts.TaskParts.{TaskParts}
+use Rattle.pb_task.specs.declared.parts.TaskParts.TheVariants.{Grid}
 use Rattle.pb_task.specs.Parts.{space_of, IsTask}
 use Rattle.pb_abstract.specs.declared.projection.Projection.{Projection}
 use Rattle.pb_abstract.specs.Projection.{Fits, block_of, IsEdge, IsFinest}
@@ -29,3 +31,9 @@ abbrev pub GraphsAreUnique : Type 0
 GraphsAreUnique =
     (parts : TaskParts) (wish : ℕ) (one other : AbstractGraph) → IsGraphOf parts one → IsGraphOf parts other → IsFinest parts wish one.projection → IsFinest parts wish other.projection
     → (one.projection ≡ other.projection) × ((blocks_of one).count ≡ (blocks_of other).count) × ((block c : ℕ) → (blocks_of one).scope block c ≡ (blocks_of other).scope block c)
+
+-- No cost decides which blocks there are: the graph of a grid is also that of the same grid with other marks of swamp, and it is as fine.
+abbrev pub BlocksAskForNoCosts : Type 0
+BlocksAskForNoCosts =
+    (grid : GridParts) (marks : List Bool) (wish : ℕ) (graph : AbstractGraph) → IsGraphOf (Grid grid) graph → IsFinest (Grid grid) wish graph.projection
+    → IsGraphOf (Grid (record grid { swamp = marks })) graph × IsFinest (Grid (record grid { swamp = marks })) wish graph.projection

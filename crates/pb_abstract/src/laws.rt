@@ -1,4 +1,4 @@
-ghost use Rattle.pb_abstract.specs.Laws.{AbstractGraphsAreBlocks, EdgesAreSteps, GraphsAreUnique};
+ghost use Rattle.pb_abstract.specs.Laws.{AbstractGraphsAreBlocks, EdgesAreSteps, GraphsAreUnique, BlocksAskForNoCosts};
 
 /// Each state's home is a block of the task's graph, and each step stays in its block or goes along an edge.
 pub fn abstract_graphs_are_blocks()
@@ -13,4 +13,9 @@ pub fn edges_are_steps()
 /// A task has one graph at most for a number of blocks that is wished for.
 pub fn graphs_are_unique()
     ensures { GraphsAreUnique }
+{}
+
+/// No cost decides which blocks there are: a grid has the same graph whatever its marks of swamp.
+pub fn blocks_ask_for_no_costs()
+    ensures { BlocksAskForNoCosts }
 {}

@@ -24,11 +24,8 @@ mod tracked;
 mod tracking;
 
 pub use graph::AbsGraph;
-pub use laws::{abstract_graphs_are_blocks, edges_are_steps, graphs_are_unique};
+pub use laws::{
+    abstract_graphs_are_blocks, blocks_ask_for_no_costs, edges_are_steps, graphs_are_unique,
+};
 pub use projection::Projection;
 pub use tracked::TrackedAtoms;
-
-#[cfg(test)]
-mod strips_tests;
-#[cfg(test)]
-mod tests;

@@ -1,5 +1,5 @@
 -- Whatever plan is read off a report of a plan is the one that was reported.
-use Rattle.std.proofs.Common.{◌≡◌, ◌≢◌, ℕ, zero, suc, ◌^◌, ◌<◌, ◌≤◌, ◌==◌, true, false, List, [], ◌∷◌, All, Option, None, Some, Result, Ok, Err, IfOk, length, get_or, map, refl, sym, ap, ◌∙◌, subst, arith}
+use Rattle.std.proofs.Common.{◌≡◌, ◌≢◌, ℕ, zero, suc, ◌^◌, ◌<◌, ◌≤◌, ◌==◌, Bool, true, false, List, [], ◌∷◌, All, Option, None, Some, Result, Ok, Err, IfOk, length, get_or, map, refl, sym, ap, ◌∙◌, subst, arith}
 use Rattle.std.proofs.lemmas.Bool.Decides.{nat_tests}
 use Rattle.std.proofs.lemmas.List.Elements.{All-nil, All-cons}
 use Rattle.std.proofs.lemmas.List.{length-map}
@@ -28,6 +28,7 @@ use Rattle.pb_command.specs.Meaning.{SolveMeaning}
 use Rattle.pb_answer.specs.Searches.{weight_asked}
 use Rattle.pb_answer.specs.Outputs.{Output}
 use Rattle.pb_answer.specs.Claims.{Certifies, Solves, PrintsLeastCost, SavesPlan}
+use Rattle.pb_made.proofs.QuietEnds.{walk_actions, walk_length}
 use Rattle.pb_answer.proofs.Reports.{IsFree, AreFree, report_tells_cost, report_tells_steps}
 
 -- ---- the names of actions
@@ -71,10 +72,10 @@ directions_tell = record { different = names_differ; lines = no_feed }
     no_feed action = all (direction action) (name_free action)
 
 -- where the texts of a map and a scenario, or of a board, spell a task, its actions are named by their directions
-pub grid_names : (map_text scenario_text : Option (List ℕ)) (row : ℕ) (task : TaskParts) → grid_task map_text scenario_text row ≡ Ok task → NamesTell task
-grid_names None scenario_text row task e = cc
-grid_names (Some map_text) None row task e = cc
-grid_names (Some map_text) (Some scenario_text) row task e = at (grid_reading map_text scenario_text row) e
+pub grid_names : (map_text scenario_text : Option (List ℕ)) (row : ℕ) (swamp : Bool) (task : TaskParts) → grid_task map_text scenario_text row swamp ≡ Ok task → NamesTell task
+grid_names None scenario_text row swamp task e = cc
+grid_names (Some map_text) None row swamp task e = cc
+grid_names (Some map_text) (Some scenario_text) row swamp task e = at (grid_reading map_text scenario_text row swamp) e
   where
     none : (report : Option (List ℕ)) → refused_with report ≡ Ok task → NamesTell task
     none None f = cc
@@ -136,21 +137,6 @@ same_actions parts names (x ∷ xs) (y ∷ ys) h k e =
     go : ((action_name parts x ≡ action_name parts y) × (map (action_name parts) xs ≡ map (action_name parts) ys)) → (map (action_name parts) xs ≡ map (action_name parts) ys → xs ≡ ys) → x ∷ xs ≡ y ∷ ys
     go both more =
         let first = names.different x y h.0 k.0 both.0 in let rest = more both.1 in λ i. first i ∷ rest i
-
--- ---- walks
-
-module _ (space : Space) (most : ℕ) (proper : IsProper space most) where
-  pub walk_actions : (actions : List ℕ) (from cost to : ℕ) → Walk space from actions cost to → AreActions space actions
-  walk_actions [] from cost to walk = tt
-  walk_actions (action ∷ actions) from cost to walk = (proper.action from action walk.0 walk.1 walk.3, walk_actions actions walk.0 walk.2 to walk.4)
-
-  -- each step costs at least 1
-  pub walk_length : (actions : List ℕ) (from cost to : ℕ) → Walk space from actions cost to → length actions ≤ cost
-  walk_length [] from cost to walk = omega arith
-  walk_length (action ∷ actions) from cost to walk =
-      let rest = walk_length actions walk.0 walk.2 to walk.4 in
-      let first = proper.positive from action walk.0 walk.1 walk.3 in
-      omega (arith, rest, first, walk.5)
 
 -- ---- the plan that a report tells
 

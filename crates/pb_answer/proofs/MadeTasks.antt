@@ -32,11 +32,11 @@ pub record HasFound (make : MakeMeaning) (kind : TaskKind) (answer : MadeAnswer)
       OfMade kind make.seed make.size (λ parts. NoneCheaper (space_of parts) unweighted cost))
   pub bound : IfAccepted answer (λ cost bound. IsBound unweighted cost bound)
   pub certified : IfAccepted answer (λ cost bound.
-      OfMade kind make.seed make.size (λ parts. IsCertified parts (Bounded cost bound)))
+      OfMade kind make.seed make.size (λ parts. IsCertified parts make.workers (Bounded cost bound)))
   pub none : IfNoneAccepted answer
       (OfMade kind make.seed make.size (λ parts. HasNoPlan (space_of parts)))
   pub none_certified : IfNoneAccepted answer
-      (OfMade kind make.seed make.size (λ parts. IsCertified parts Unsolvable))
+      (OfMade kind make.seed make.size (λ parts. IsCertified parts make.workers Unsolvable))
   pub stopped : IfStopped answer (λ budget.
       OfMade kind make.seed make.size (λ parts. IsStopped parts make.workers budget))
 

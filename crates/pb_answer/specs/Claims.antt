@@ -4,9 +4,8 @@ use Rattle.pb_model.specs.Weight.{Weight}
 use Rattle.pb_model.specs.Guide.{Guide}
 use Rattle.pb_model.specs.Store.{Store}
 use Rattle.pb_model.specs.Plan.{Plan, IsPlan, NoneCheaper, IsBound}
-use Rattle.pb_model.specs.Certificate.{Line, Certificate, AreLinesOf, IsBackedBy, IsValid}
-use Rattle.pb_model.specs.Texts.{plan_report, head_1, certificate_text}
-use Rattle.pb_machine.specs.declared.event.End.TheVariants.{Quiet, Budget}
+use Rattle.pb_model.specs.Texts.{plan_report}
+use Rattle.pb_machine.specs.declared.event.End.TheVariants.{Budget}
 use Rattle.pb_machine.specs.declared.event.Event.{Event}
 use Rattle.pb_machine.specs.declared.settings.Settings.{Settings}
 use Rattle.pb_task.specs.declared.parts.TaskParts.{TaskParts}
@@ -16,54 +15,43 @@ use Rattle.pb_lease.specs.Leased.{guide_of}
 use Rattle.pb_journal.specs.Texts.{journal_text}
 use Rattle.pb_check.specs.declared.fault.CertificateFault.{CertificateFault}
 use Rattle.pb_check.specs.declared.fault.Verdict.{Verdict}
-use Rattle.pb_check.specs.Judging.{checked, verdict_of}
-use Rattle.pb_check.specs.Kinds.{kind_of, kind_name}
+use Rattle.pb_check.specs.Judging.{checked}
+use Rattle.pb_check.specs.Kinds.{kind_of}
 use Rattle.pb_check.specs.Shown.{IsAccepted, ShowsClaim, VerdictHolds}
+use Rattle.pb_made.specs.Searches.{SearchEnds}
+use Rattle.pb_made.specs.Found.{Finds, IsCertificateOf}
 use Rattle.pb_report.specs.Texts.{plan_text, verdict_text, fault_text}
 use Rattle.pb_command.specs.Meaning.{SolveMeaning}
 use Rattle.pb_answer.specs.Outputs.{Output, output}
-use Rattle.pb_answer.specs.Searches.{settings_of, weight_asked, SearchEnds}
+use Rattle.pb_answer.specs.Searches.{settings_of, weight_asked}
 
 -- ---- of a search
 
--- the certificate at this weight with this plan, or with none
-abbrev pub certificate_of : Weight → Option Plan → List Line → Certificate
-certificate_of weight plan lines = record { weight = weight; plan = plan; lines = lines }
-
--- its text, for a task of the kind of this one
-abbrev pub certificate_bytes : TaskParts → Certificate → List ℕ
-certificate_bytes parts certificate =
-    certificate_text (head_1 (kind_name (kind_of parts))) 64 certificate
-
--- What is saved is the text of a certificate of the task, if it has a name, and else nothing. Its
--- lines are those of all rows of this store. It is valid and has this plan, or none, and its text is
--- accepted, with the plan's cost and bound.
+-- What is saved is the text of a certificate of the task, if it has a name, and else nothing. The
+-- certificate has the lines of all rows of this store, and this plan, or none. It is valid and its
+-- text is accepted.
 abbrev pub IsCertificate : (name : Option (List ℕ)) → TaskParts → Weight → Guide → Store
     → Option Plan → List Output → Type 0
 IsCertificate None parts weight guide store plan outputs = outputs ≡ []
 IsCertificate (Some name) parts weight guide store plan outputs =
-    (lines : List Line) × AreLinesOf guide store.rows lines
-    × IsValid (space_of parts) (estimate_of parts) (certificate_of weight plan lines)
-    × (checked (space_of parts) (estimate_of parts) (kind_of parts)
-    (certificate_bytes parts (certificate_of weight plan lines)) ≡ Ok (verdict_of weight plan))
-    × (outputs ≡ output name (certificate_bytes parts (certificate_of weight plan lines)) ∷ [])
+    (text : List ℕ) × IsCertificateOf parts weight guide store plan text
+    × (outputs ≡ output name text ∷ [])
 
 -- the text of a journal of these settings and events, if it has a name
 abbrev pub journal_outputs : (name : Option (List ℕ)) → Settings → List Event → List Output
 journal_outputs None settings journal = []
 journal_outputs (Some name) settings journal = output name (journal_text settings journal) ∷ []
 
--- A search of the task, as the words ask for it, came to a quiet end. It found this plan or a dearer
--- one, or it found none. What is saved is its certificate and, after that, its journal, each if it
--- has a name.
+-- A search of the task, as the words ask for it, came to a quiet end. It found this plan, which is
+-- the one that its rows lead to, or it found none. What is saved is its certificate and, after that,
+-- its journal, each if it has a name.
 abbrev pub Certifies : (saves : List Output → Type 0) → SolveMeaning → TaskParts → Option Plan
     → Type 0
 Certifies saves solve parts plan =
-    (journal : List Event) × (run : SearchEnds parts (settings_of solve) Quiet journal)
-    × IsBackedBy run.ends.machine.store.incumbent plan
+    (journal : List Event) × (found : Finds parts (settings_of solve) journal plan)
     × (outputs : List Output)
-    × IsCertificate solve.certificate parts (weight_asked solve) (guide_of parts run.ends.graph)
-    run.ends.machine.store plan outputs
+    × IsCertificate solve.certificate parts (weight_asked solve)
+    (guide_of parts found.run.ends.graph) found.run.ends.machine.store plan outputs
     × saves (outputs ++ journal_outputs solve.journal (settings_of solve) journal)
 
 -- A search of the task, as the words ask for it, came to the end of its budget. What is saved is its
@@ -74,8 +62,9 @@ Stops saves solve parts =
     × saves (journal_outputs solve.journal (settings_of solve) journal)
 
 -- All of one plan: it is printed with its cost and bound and is a plan of the task, and its cost is
--- at most num / den times that of any plan, where that is the weight. It is saved in the certificate
--- of the search that found it. Its cost is a number of 64 bits.
+-- at most num / den times that of any plan, where that is the weight. The rows of a search as the
+-- words ask for it lead to it, and it is saved in the certificate of that search. Its cost is a
+-- number of 64 bits.
 abbrev pub Solves : (says : List ℕ → Type 0) → (saves : List Output → Type 0) → SolveMeaning
     → TaskParts → Type 0
 Solves says saves solve parts =

@@ -1,6 +1,6 @@
 -- Which task the texts spell that were loaded of the files of a command line, or the report that refuses them: that of each kind of task stands in
--- `input_task`.
-use Rattle.std.specs.Prelude.{◌≡◌, ℕ, ◌+◌, Option, None, Some, List, [], Result, Ok, Err, codes, slice_get}
+-- `input_task`. The words for the row and for swamp are part of what spells a grid.
+use Rattle.std.specs.Prelude.{◌≡◌, ℕ, ◌+◌, Bool, false, Option, None, Some, List, [], Result, Ok, Err, codes, slice_get}
 use Rattle.pb_model.specs.Texts.{line}
 use Rattle.pb_task.specs.declared.parts.TaskParts.{TaskParts}
 use Rattle.pb_task.specs.declared.parts.TaskParts.TheVariants as parts
@@ -35,10 +35,10 @@ abbrev pub grid_told : Result TaskParts GridError → Result TaskParts (List ℕ
 grid_told (Ok task) = Ok task
 grid_told (Err error) = refused_with (input_text error)
 
-abbrev pub grid_task : (map_text scenario_text : Option (List ℕ)) → (row : ℕ) → Result TaskParts (List ℕ)
-grid_task None scenario_text row = Err too_long
-grid_task (Some map_text) None row = Err too_long
-grid_task (Some map_text) (Some scenario_text) row = grid_told (task_of (grid_reading map_text scenario_text row))
+abbrev pub grid_task : (map_text scenario_text : Option (List ℕ)) → (row : ℕ) → (swamp : Bool) → Result TaskParts (List ℕ)
+grid_task None scenario_text row swamp = Err too_long
+grid_task (Some map_text) None row swamp = Err too_long
+grid_task (Some map_text) (Some scenario_text) row swamp = grid_told (task_of (grid_reading map_text scenario_text row swamp))
 
 abbrev pub tiles_told : Result TilesParts TilesError → Result TaskParts (List ℕ)
 tiles_told (Ok tiles) = Ok (parts.Tiles tiles)
@@ -66,15 +66,15 @@ strips_task None problem_text = Err too_long
 strips_task (Some domain_text) None = Err too_long
 strips_task (Some domain_text) (Some problem_text) = domain_told (domain_reading domain_text) (problem_reading problem_text)
 
--- the task of the texts from this place on
-abbrev pub input_task : InputNames → (row first : ℕ) → (texts : List (List ℕ)) → Result TaskParts (List ℕ)
-input_task (Grid names) row first texts = grid_task (slice_get texts first) (slice_get texts (first + 1)) row
-input_task (Tiles board) row first texts = tiles_task (slice_get texts first)
-input_task (Strips names) row first texts = strips_task (slice_get texts first) (slice_get texts (first + 1))
+-- the task of the texts from this place on, and of the words for the row of the scenario and for swamp; neither is looked at for tiles and strips
+abbrev pub input_task : InputNames → (row : ℕ) → (swamp : Bool) → (first : ℕ) → (texts : List (List ℕ)) → Result TaskParts (List ℕ)
+input_task (Grid names) row swamp first texts = grid_task (slice_get texts first) (slice_get texts (first + 1)) row swamp
+input_task (Tiles board) row swamp first texts = tiles_task (slice_get texts first)
+input_task (Strips names) row swamp first texts = strips_task (slice_get texts first) (slice_get texts (first + 1))
 
 -- the task that is to be solved
 abbrev pub solve_task : SolveMeaning → (texts : List (List ℕ)) → Result TaskParts (List ℕ)
-solve_task solve texts = input_task solve.input solve.row 0 texts
+solve_task solve texts = input_task solve.input solve.row solve.swamp 0 texts
 
 -- the text that is loaded first, beside the task of the texts behind it
 abbrev pub with_text : Option (List ℕ) → Result TaskParts (List ℕ)
@@ -85,13 +85,13 @@ with_text (Some text) (Err report) = Err report
 
 -- the task that a certificate is to be checked for, and the certificate's text
 abbrev pub check_task : CheckMeaning → (texts : List (List ℕ)) → Result (TaskParts × List ℕ) (List ℕ)
-check_task check texts = with_text (slice_get texts 0) (input_task check.input check.row 1 texts)
+check_task check texts = with_text (slice_get texts 0) (input_task check.input check.row check.swamp 1 texts)
 
--- the task that a journal is to be judged for, and the journal's text
+-- the task that a journal is to be judged for, and the journal's text; its blocks are the same with swamp or without
 abbrev pub journal_task : JournalMeaning → (texts : List (List ℕ))
     → Result (TaskParts × List ℕ) (List ℕ)
 journal_task journal texts =
-    with_text (slice_get texts 0) (input_task journal.input journal.row 1 texts)
+    with_text (slice_get texts 0) (input_task journal.input journal.row false 1 texts)
 
 -- the texts spell a task to solve, and P holds of it
 abbrev pub OfTexts : SolveMeaning → (texts : List (List ℕ)) → (P : TaskParts → Type 0) → Type 0

@@ -1,7 +1,6 @@
 -- What is answered of a task that is made from a seed and a size.
 use Rattle.std.specs.Prelude.{ℕ, List}
 use Rattle.pb_model.specs.Plan.{NoneCheaper, IsBound, HasNoPlan}
-use Rattle.pb_task.specs.declared.parts.TaskParts.{TaskParts}
 use Rattle.pb_task.specs.Parts.{space_of}
 use Rattle.pb_check.specs.declared.kind.TaskKind.{TaskKind}
 use Rattle.pb_check.specs.declared.kind.TaskKind.TheVariants as kinds
@@ -22,31 +21,34 @@ kind_named Grid = kinds.Grid
 kind_named Tiles = kinds.Tiles
 kind_named Strips = kinds.Strips
 
--- P holds of the task that the texts spell that are made as the words ask
-abbrev pub OfMadeTask : MakeMeaning → (P : TaskParts → Type 0) → Type 0
-OfMadeTask make P = OfMade (kind_named make.kind) make.seed make.size P
-
 -- The cost of a cheapest plan of the made task is printed, with its bound: some plan has it, and
--- none is cheaper. The text of a certificate of the task is accepted with this cost and bound.
+-- none is cheaper. A search with the words' workers found it, and the certificate of that search,
+-- which has exactly its rows, is accepted with this cost and bound.
 abbrev pub MakesPlan : (says : List ℕ → Type 0) → MakeMeaning → Type 0
 MakesPlan says make =
     (cost : ℕ) × (bound : ℕ) × says (summary (Accepted cost bound))
-    × OfMadeTask make (λ parts. HasPlan parts cost)
-    × OfMadeTask make (λ parts. NoneCheaper (space_of parts) unweighted cost)
+    × OfMade (kind_named make.kind) make.seed make.size (λ parts. HasPlan parts cost)
+    × OfMade (kind_named make.kind) make.seed make.size
+    (λ parts. NoneCheaper (space_of parts) unweighted cost)
     × IsBound unweighted cost bound
-    × OfMadeTask make (λ parts. IsCertified parts (Bounded cost bound))
+    × OfMade (kind_named make.kind) make.seed make.size
+    (λ parts. IsCertified parts make.workers (Bounded cost bound))
 
--- The made task has no plan, and the text of a certificate of that is accepted.
+-- The made task has no plan. A search with the words' workers found none, and the certificate of
+-- that search is accepted.
 abbrev pub MakesNone : (says : List ℕ → Type 0) → MakeMeaning → Type 0
 MakesNone says make =
-    says (summary NoneAccepted) × OfMadeTask make (λ parts. HasNoPlan (space_of parts))
-    × OfMadeTask make (λ parts. IsCertified parts Unsolvable)
+    says (summary NoneAccepted)
+    × OfMade (kind_named make.kind) make.seed make.size (λ parts. HasNoPlan (space_of parts))
+    × OfMade (kind_named make.kind) make.seed make.size
+    (λ parts. IsCertified parts make.workers Unsolvable)
 
 -- The search of the made task by the words' number of workers used up its budget of expansions.
 abbrev pub MakesStop : (says : List ℕ → Type 0) → MakeMeaning → Type 0
 MakesStop says make =
     (budget : ℕ) × says (summary (Stopped budget))
-    × OfMadeTask make (λ parts. IsStopped parts make.workers budget)
+    × OfMade (kind_named make.kind) make.seed make.size
+    (λ parts. IsStopped parts make.workers budget)
 
 -- the status of what came out of a made task
 abbrev pub status_of : MadeAnswer → Status

@@ -1,14 +1,8 @@
--- The search that the words ask for: what it is run with, and what it means that it came to an end.
-use Rattle.std.specs.Prelude.{◌≡◌, IsTrue, List}
+-- What the words ask a search to be run with. What it means that a search came to an end stands in
+-- `Searches` of `pb_made`, and what it found then in `Found` there.
 use Rattle.pb_model.specs.Weight.{Weight}
-use Rattle.pb_machine.specs.declared.event.End.{End}
-use Rattle.pb_machine.specs.declared.event.Event.{Event}
 use Rattle.pb_machine.specs.declared.settings.Settings.{Settings}
 use Rattle.pb_machine.specs.Settings.{weight_of}
-use Rattle.pb_machine.specs.Machine.{Move, journal_of}
-use Rattle.pb_task.specs.declared.parts.TaskParts.{TaskParts}
-use Rattle.pb_lease.specs.GraphValue.{GraphValue}
-use Rattle.pb_search.specs.Ends.{EndsBy, IsBestOf, EndsQuietly, StopsWith, MarksNothing}
 use Rattle.pb_command.specs.Meaning.{SolveMeaning}
 
 -- the workers, the weight, the budget, the lot, the number of blocks and whether no block is marked,
@@ -27,26 +21,3 @@ settings_of solve = record {
 -- the weight at which the words ask to search
 abbrev pub weight_asked : SolveMeaning → Weight
 weight_asked solve = weight_of (settings_of solve)
-
--- A search by leases of this task, with these settings, came to this end by some moves, and the
--- journal has their events. If the search is plain, none of them marks a block hot.
-pub record SearchEnds (parts : TaskParts) (settings : Settings) (end : End) (journal : List Event)
-    : Type 0 where
-  pub moves : List Move
-  pub events : journal ≡ journal_of moves
-  pub ends : EndsBy parts settings end moves
-  pub plain : IsTrue settings.plain → MarksNothing journal
-
--- A search of this task with these settings came to a quiet end with this graph.
-pub record LeavesQuiet (parts : TaskParts) (settings : Settings) (graph : GraphValue) : Type 0 where
-  pub settings_are : graph.table.settings ≡ settings
-  pub best : IsBestOf parts settings graph
-  pub run : EndsQuietly parts settings graph.table.journal graph
-  pub plain : IsTrue settings.plain → MarksNothing graph.table.journal
-
--- A search of this task with these settings came to the end of its budget with this graph.
-pub record LeavesStopped (parts : TaskParts) (settings : Settings) (graph : GraphValue)
-    : Type 0 where
-  pub settings_are : graph.table.settings ≡ settings
-  pub run : StopsWith parts settings graph.table.journal
-  pub plain : IsTrue settings.plain → MarksNothing graph.table.journal

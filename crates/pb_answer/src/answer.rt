@@ -100,7 +100,7 @@ fn answer_solve<'a, R: Threads + Wait + Sync, G: Gate>(
     requires { IsInRange (Solve (solve_meant solve)) }
     ensures { IfOk result (λ a. OrRefused (solve_task (solve_meant solve.entry) texts.now) (IsFound (solve_meant solve.entry)) (said_of a)) }
 {
-    match input_task(alloc, &solve.input, solve.row, texts, 0) {
+    match input_task(alloc, &solve.input, solve.row, solve.swamp, texts, 0) {
         Ok(task) => solve_task(rt, alloc, task, solve, gate, kept),
         Err(NoTask::Refused(report)) => Ok(refused(report)),
         Err(NoTask::Memory) => Err(AllocError),
@@ -118,7 +118,7 @@ fn answer_check<'a>(
     let Some(certificate) = texts.get(0) else {
         return Ok(refused(Report::line(alloc, b"input TooLong")?));
     };
-    match input_task(alloc, &check.input, check.row, texts, 1) {
+    match input_task(alloc, &check.input, check.row, check.swamp, texts, 1) {
         Ok(task) => judge(alloc, &task, certificate),
         Err(NoTask::Refused(report)) => Ok(refused(report)),
         Err(NoTask::Memory) => Err(AllocError),
@@ -137,7 +137,7 @@ fn answer_journal<'a>(
     let Some(text) = texts.get(0) else {
         return Ok(refused(Report::line(alloc, b"input TooLong")?));
     };
-    match input_task(alloc, &journal.input, journal.row, texts, 1) {
+    match input_task(alloc, &journal.input, journal.row, false, texts, 1) {
         Ok(task) => judge_journal(alloc, &task, text),
         Err(NoTask::Refused(report)) => Ok(refused(report)),
         Err(NoTask::Memory) => Err(AllocError),

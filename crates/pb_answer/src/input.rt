@@ -66,11 +66,12 @@ fn grid(
     map: Option<&[u8]>,
     scenario: Option<&[u8]>,
     row: u64,
+    swamp: bool,
 ) -> Result<Task, NoTask>
-    ensures { GivesTask result (grid_task (option_map (λ t. t.now) map.entry) (option_map (λ t. t.now) scenario.entry) row) }
+    ensures { GivesTask result (grid_task (option_map (λ t. t.now) map.entry) (option_map (λ t. t.now) scenario.entry) row swamp) }
 {
     match (map, scenario) {
-        (Some(map), Some(scenario)) => match read_grid(alloc, map, scenario, row) {
+        (Some(map), Some(scenario)) => match read_grid(alloc, map, scenario, row, swamp) {
             Ok(task) => Ok(task),
             Err(GridError::Memory) => Err(NoTask::Memory),
             Err(error) => Err(refused(alloc, error)),
@@ -163,20 +164,22 @@ fn strips(alloc: Global, domain: Option<&[u8]>, problem: Option<&[u8]>) -> Resul
     }
 }
 
-/// The task that the texts from a place on spell.
+/// The task that the texts from a place on spell. The row of the scenario and `swamp` are looked at
+/// for a grid alone.
 pub fn input_task(
     alloc: Global,
     input: &Input<'_>,
     row: u64,
+    swamp: bool,
     texts: &Texts,
     first: usize,
 ) -> Result<Task, NoTask>
     requires { first ≤ 1 }
-    ensures task { GivesTask result (input_task (input_meant input.now) row first texts.now) }
+    ensures task { GivesTask result (input_task (input_meant input.now) row swamp first texts.now) }
     ensures names { IfOk result NamesTell }
 {
     match input {
-        Input::Grid(_) => grid(alloc, texts.get(first), texts.get(first + 1), row),
+        Input::Grid(_) => grid(alloc, texts.get(first), texts.get(first + 1), row, swamp),
         Input::Tiles(_) => tiles(alloc, texts.get(first)),
         Input::Strips(_) => strips(alloc, texts.get(first), texts.get(first + 1)),
     }

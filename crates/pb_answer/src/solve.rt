@@ -1,13 +1,12 @@
 ghost use Rattle.std.specs.Prelude.{◌≡◌, ◌≤◌, ◌++◌, ◌⊎◌, ℕ, IfOk, Some, None, length};
 ghost use Rattle.pb_model.specs.Plan.{IsBound};
-ghost use Rattle.pb_model.specs.Certificate.{IsPlanIfAny, IsBackedBy};
 ghost use Rattle.pb_machine.specs.Settings.{AreInRange};
-ghost use Rattle.pb_task.specs.Parts.{space_of};
 ghost use Rattle.pb_check.specs.Kinds.{kind_of, kind_name};
-ghost use Rattle.pb_check.specs.Spelling.{PlanFitsIfAny};
+ghost use Rattle.pb_made.specs.Searches.{LeavesQuiet, LeavesStopped};
+ghost use Rattle.pb_made.specs.Found.{IsPlanOf};
 ghost use Rattle.pb_command.specs.Meaning.{IsInRange, Solve};
 ghost use Rattle.pb_command.specs.Causes.{solve_meant};
-ghost use Rattle.pb_answer.specs.Searches.{settings_of, LeavesQuiet, LeavesStopped};
+ghost use Rattle.pb_answer.specs.Searches.{settings_of};
 ghost use Rattle.pb_answer.specs.Named.{NamesTell};
 ghost use Rattle.pb_answer.specs.Claims.{Certifies, journal_outputs};
 ghost use Rattle.pb_answer.specs.Answer.{IsFound, IsSolved, IsUnsolvable, IsStopped, certificates_of, journals_of, said_of};
@@ -168,8 +167,7 @@ fn certify<'a>(
 ) -> Result<Option<SavedCertificate<'a>>, AllocError>
     requires range { IsInRange (Solve (solve_meant solve.now)) }
     requires quiet { LeavesQuiet task.now (settings_of (solve_meant solve.now)) graph.now }
-    ensures { IfOk result (λ saved. IsPlanIfAny (space_of task.now) plan
-        → IsBackedBy graph.now.incumbent plan → PlanFitsIfAny plan
+    ensures { IfOk result (λ saved. IsPlanOf task.now graph.now plan
         → Certifies (λ outputs. certificates_of saved ++ journal_outputs (solve_meant solve.now).journal
         (settings_of (solve_meant solve.now)) graph.now.table.journal ≡ outputs)
         (solve_meant solve.now) task.now plan) }

@@ -23,6 +23,4 @@ pub use parts::{BundleRoom, LentBundles};
 pub use rooms::KeptRooms;
 
 #[cfg(test)]
-mod tests;
-#[cfg(test)]
 mod tree_tests;

@@ -7,5 +7,4 @@ mod LineTexts
 mod SavedCalls
 mod Sorted
 mod Places
-mod TwoRows
 pub mod Unique

@@ -19,8 +19,3 @@ pub use laws::{
 pub use plan::Plan;
 pub use store::Store;
 pub use tracing::trace;
-
-#[cfg(test)]
-mod halves;
-#[cfg(test)]
-mod tests;

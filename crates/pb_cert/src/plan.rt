@@ -18,6 +18,13 @@ impl Model for Plan {
 }
 
 impl Plan {
+    /// The plan of these actions, whose costs have this sum.
+    pub fn of(actions: Vec<u32>, cost: u64) -> Plan
+        ensures { result ≡ record { actions = actions.items; cost = cost } }
+    {
+        Plan { actions, cost }
+    }
+
     /// The numbers of the actions, the first one first.
     pub fn actions(&self) -> &[u32]
         ensures { result.now ≡ self.now.actions }

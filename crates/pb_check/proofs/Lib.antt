@@ -1,5 +1,5 @@
+mod Cuts
 pub mod Lines
-pub mod Places
 pub mod Loops
 pub mod Walks
 pub mod Finding
@@ -9,7 +9,6 @@ pub mod Spelled
 pub mod Readable
 pub mod States
 pub mod Sixteens
-pub mod Numbers
 pub mod Written
 pub mod Validity
 pub mod Completeness

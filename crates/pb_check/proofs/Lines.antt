@@ -1,30 +1,19 @@
 -- How bytes spell a certificate, line by line and word by word.
-use Rattle.std.specs.Prelude.{◌≡◌, ℕ, ◌+◌, ◌-◌, ◌*◌, ◌^◌, ◌<◌, ◌≤◌, Bool, true, false, Option, None, Some, List, [], ◌∷◌, ◌++◌, length, codes, nat_lt}
+use Rattle.std.specs.Prelude.{◌≡◌, ℕ, ◌+◌, ◌*◌, Bool, true, false, Option, None, Some, List, [], ◌∷◌, ◌++◌, length, codes, nat_lt}
 use Rattle.std.specs.List.{list_all}
 use Rattle.pb_model.specs.Weight.{Weight}
 use Rattle.pb_model.specs.Plan.{Plan}
 use Rattle.pb_model.specs.Certificate.{Line}
 use Rattle.pb_check.specs.declared.kind.TaskKind.{TaskKind}
 use Rattle.pb_check.specs.declared.kind.TaskKind.TheVariants.{Grid, Tiles, Strips}
-use Rattle.pb_check.specs.Words.{is_digit, is_padded, hex_value}
+use Rattle.pb_lines.proofs.NumberWords.{IsNumberWord}
+use Rattle.pb_check.specs.Words.{hex_value}
 use Rattle.pb_check.specs.Reading.{Text, plan_lines}
 
--- the value of decimal digits behind a number, and of hexadecimal ones
-abbrev pub value_after : ℕ → List ℕ → ℕ
-value_after n [] = n
-value_after n (b ∷ bs) = value_after (n * 10 + (b - 48)) bs
-
+-- the value of hexadecimal digits behind a number
 abbrev pub hex_value_after : ℕ → List ℕ → ℕ
 hex_value_after n [] = n
 hex_value_after n (b ∷ bs) = hex_value_after (n * 16 + hex_value b) bs
-
--- one digit or more, without a leading zero but 0 itself, below 2^63
-pub record IsNumberWord (word : List ℕ) (n : ℕ) : Type 0 where
-  pub some : 1 ≤ length word
-  pub digits : list_all is_digit word ≡ true
-  pub unpadded : is_padded word ≡ false
-  pub value : n ≡ value_after 0 word
-  pub small : n < 2 ^ 63
 
 -- exactly 64 hexadecimal digits
 pub record IsStateWord (word : List ℕ) (state : ℕ) : Type 0 where

@@ -1,9 +1,7 @@
 -- What is spelled so is read.
-use Rattle.std.proofs.Common.{◌≡◌, ℕ, suc, ◌+◌, ◌-◌, ◌*◌, ◌^◌, ◌<◌, ◌≤◌, Bool, true, false, ◌&&◌, not, cond, eqb, ltb, leb, Option, None, Some, List, [], ◌∷◌, ◌++◌, length, take, drop, Result, Ok, Err, refl, sym, ap, ◌∙◌, arith, append-nil, append_assoc, length-append}
+use Rattle.std.proofs.Common.{◌≡◌, ℕ, ◌+◌, ◌*◌, ◌<◌, Bool, true, false, not, cond, eqb, ltb, Option, None, Some, List, [], ◌∷◌, ◌++◌, length, Result, Ok, Err, refl, sym, ap, ◌∙◌, arith}
 use Rattle.std.specs.Prelude.{codes}
 use Rattle.std.specs.List.{list_all}
-use Rattle.std.proofs.lemmas.List.{take_at, drop_at}
-use Rattle.std.proofs.lemmas.Bool.{lt-ltb}
 use Rattle.std.proofs.lemmas.Bool.Decides.{nat_tests}
 use Rattle.pb_model.specs.Weight.{Weight}
 use Rattle.pb_model.specs.Plan.{Plan}
@@ -12,79 +10,16 @@ use Rattle.pb_check.specs.declared.kind.TaskKind.{TaskKind}
 use Rattle.pb_check.specs.declared.kind.TaskKind.TheVariants.{Grid, Tiles, Strips}
 use Rattle.pb_check.specs.declared.fault.CertificateFault.{CertificateFault}
 use Rattle.pb_check.specs.declared.fault.CertificateFault.TheVariants.{Syntax}
-use Rattle.pb_check.specs.Words.{place_of, behind, is_digit, is_padded, number_after, number_of, hex_value, hex_after, state_of}
+use Rattle.pb_lines.specs.Words.{part, behind, is_text, number_of, has_none}
+use Rattle.pb_lines.proofs.NumberWords.{IsNumberWord}
+use Rattle.pb_lines.proofs.Numbers.{number_word_read, number_has_none}
+use Rattle.pb_lines.proofs.Parts.{conjuncts, both, none_both, part_again, behind_again, text_again}
+use Rattle.pb_check.specs.Words.{hex_value, hex_after, state_of}
 use Rattle.pb_check.specs.Faults.{◌>>=◌, wanted}
-use Rattle.pb_check.specs.Reading.{part, line_at, is_all, is_text, number_behind, kind_in, weight_in, closed_in, row_in, fixed_at, number_at, kind_at, weight_at, row_at, actions_at, rows_at, steps_at, plan_at, plan_lines, Text, end_at, body_at, text_of}
-use Rattle.pb_check.proofs.Lines.{value_after, hex_value_after, IsNumberWord, IsStateWord, BeginsWith, BeginsWithNumber, kind_text, closed_text, IsWeightLine, IsRowLine, AreActionLines, AreRowLines, ArePlanLines, Spells}
+use Rattle.pb_check.specs.Reading.{line_at, number_behind, kind_in, weight_in, closed_in, row_in, fixed_at, number_at, kind_at, weight_at, row_at, actions_at, rows_at, steps_at, plan_at, plan_lines, Text, end_at, body_at, text_of}
+use Rattle.pb_check.proofs.Lines.{hex_value_after, IsStateWord, BeginsWith, BeginsWithNumber, kind_text, closed_text, IsWeightLine, IsRowLine, AreActionLines, AreRowLines, ArePlanLines, Spells}
 
-conjuncts : (a b : Bool) → (a && b) ≡ true → (a ≡ true) × (b ≡ true)
-conjuncts true b e = (refl, e)
-conjuncts false b e = absurd cc
-
-both : (a b : Bool) → a ≡ true → b ≡ true → (a && b) ≡ true
-both true true x y = refl
-both false b x y = absurd cc
-both true false x y = absurd cc
-
--- ---- texts without a byte
-
-abbrev has_none : (byte : ℕ) → List ℕ → Bool
-has_none byte [] = true
-has_none byte (b ∷ bs) = not (eqb b byte) && has_none byte bs
-
-none_both : (byte : ℕ) (xs ys : List ℕ) → has_none byte xs ≡ true → has_none byte ys ≡ true → has_none byte (xs ++ ys) ≡ true
-none_both byte [] ys a b = b
-none_both byte (x ∷ xs) ys a b = let c = conjuncts (not (eqb x byte)) (has_none byte xs) a in both (not (eqb x byte)) (has_none byte (xs ++ ys)) c.0 (none_both byte xs ys c.1 b)
-
-place_is : (byte : ℕ) (front rest : List ℕ) → has_none byte front ≡ true → place_of byte (front ++ byte ∷ rest) ≡ length front
-unfolding place_of
-place_is byte [] rest none = let e : eqb byte byte ≡ true = grind (arith, nat_tests) in ap (λ t. cond t 0 (suc (place_of byte rest))) e
-place_is byte (b ∷ front) rest none =
-    let c = conjuncts (not (eqb b byte)) (has_none byte front) none in
-    ap (λ t. cond t 0 (suc (place_of byte (front ++ byte ∷ rest)))) (is_not (eqb b byte) c.0) ∙ ap suc (place_is byte front rest c.1)
-  where
-    is_not : (t : Bool) → not t ≡ true → t ≡ false
-    is_not false e = refl
-    is_not true e = absurd cc
-
-part_again : (byte : ℕ) (front rest : List ℕ) → has_none byte front ≡ true → part byte (front ++ byte ∷ rest) ≡ Some (front, rest)
-part_again byte front rest none =
-    let p : place_of byte (front ++ byte ∷ rest) ≡ length front = place_is byte front rest none in
-    let lt : ltb (length front) (length (front ++ byte ∷ rest)) ≡ true = lt-ltb _ _ (omega (arith, length-append front (byte ∷ rest))) in
-    let t : take (length front) (front ++ byte ∷ rest) ≡ front = take_at front (byte ∷ rest) (length front) refl in
-    let g : front ++ byte ∷ rest ≡ (front ++ byte ∷ []) ++ rest = sym (append_assoc front (byte ∷ []) rest) in
-    let d : drop (length front + 1) ((front ++ byte ∷ []) ++ rest) ≡ rest = drop_at (front ++ byte ∷ []) rest (length front + 1) (length-append front (byte ∷ [])) in
-    rw (p, lt, t) (ap (λ (r : List ℕ). Some (front, r)) (ap (drop (length front + 1)) g ∙ d))
-
-behind_again : (piece rest : List ℕ) → behind piece (piece ++ rest) ≡ Some rest
-unfolding behind
-behind_again [] rest = refl
-behind_again (p ∷ ps) rest = let e : eqb p p ≡ true = grind (arith, nat_tests) in ap (λ t. cond t (behind ps (ps ++ rest)) None) e ∙ behind_again ps rest
-
-text_again : (piece : List ℕ) → is_text piece piece ≡ true
-text_again piece = ap is_all (ap (behind piece) (sym (append-nil piece)) ∙ behind_again piece [])
-
--- ---- numbers and states
-
-grows : (n : ℕ) (word : List ℕ) → n ≤ value_after n word
-grows n [] = omega arith
-grows n (b ∷ bs) = let h = grows (n * 10 + (b - 48)) bs in omega (arith, h)
-
-number_after_again : (n : ℕ) (word : List ℕ) → list_all is_digit word ≡ true → value_after n word < 2 ^ 63 → number_after n word ≡ Some (value_after n word)
-unfolding number_after
-number_after_again n [] digits small = refl
-number_after_again n (b ∷ bs) digits small =
-    let c = conjuncts (is_digit b) (list_all is_digit bs) digits in
-    let h = grows (n * 10 + (b - 48)) bs in
-    let s : value_after (n * 10 + (b - 48)) bs < 2 ^ 63 = small in
-    let lt : ltb (n * 10 + (b - 48)) (2 ^ 63) ≡ true = lt-ltb _ _ (omega (arith, h, s)) in
-    ap (λ t. cond t (number_after (n * 10 + (b - 48)) bs) None) (both (is_digit b) (ltb (n * 10 + (b - 48)) (2 ^ 63)) c.0 lt) ∙ number_after_again (n * 10 + (b - 48)) bs c.1 small
-
-pub number_again : (word : List ℕ) (n : ℕ) → IsNumberWord word n → number_of word ≡ Some n
-number_again word n is =
-    let e : eqb (length word) 0 ≡ false = (let s = is.some in grind (arith, nat_tests, s)) in
-    let v : value_after 0 word < 2 ^ 63 = (let a = is.value in let b = is.small in omega (arith, a, b)) in
-    ap (λ t. cond t None (cond (is_padded word) None (number_after 0 word))) e ∙ ap (λ t. cond t None (number_after 0 word)) is.unpadded ∙ number_after_again 0 word is.digits v ∙ ap (λ (k : ℕ). Some k) (sym is.value)
+-- ---- states
 
 hex_after_again : (n : ℕ) (word : List ℕ) → list_all (λ b. ltb (hex_value b) 16) word ≡ true → hex_after n word ≡ Some (hex_value_after n word)
 unfolding hex_after
@@ -99,13 +34,6 @@ state_again word state is =
     ap (λ t. cond t (hex_after 0 word) None) e ∙ hex_after_again 0 word is.digits ∙ ap (λ (k : ℕ). Some k) (sym is.value)
 
 -- ---- words have neither a space nor an end of a line
-
-digit_is_none : (byte b : ℕ) → byte < 48 → is_digit b ≡ true → not (eqb b byte) ≡ true
-digit_is_none byte b small e = let c = conjuncts (leb 48 b) (leb b 57) e in grind (arith, nat_tests, small, c)
-
-number_has_none : (byte : ℕ) (word : List ℕ) → byte < 48 → list_all is_digit word ≡ true → has_none byte word ≡ true
-number_has_none byte [] small e = refl
-number_has_none byte (b ∷ bs) small e = let c = conjuncts (is_digit b) (list_all is_digit bs) e in both (not (eqb b byte)) (has_none byte bs) (digit_is_none byte b small c.0) (number_has_none byte bs small c.1)
 
 hex_is_none : (byte b : ℕ) → byte < 48 → ltb (hex_value b) 16 ≡ true → not (eqb b byte) ≡ true
 hex_is_none byte b small e = grind (arith, nat_tests, small, e)
@@ -127,15 +55,15 @@ unfolding fixed_at
 fixed_again line piece text rest is none =
     ap (λ r. r >>= λ first. cond (is_text piece first.0) (Ok first.1) (Err (Syntax line))) (line_again line text piece rest is none) ∙ ap (λ t. cond t (Ok rest) (Err (Syntax line))) (text_again piece)
 
-behind_number_again : (line : ℕ) (piece word : List ℕ) (n : ℕ) → IsNumberWord word n → number_behind line piece (piece ++ word) ≡ Ok n
-behind_number_again line piece word n is =
-    ap (λ o. wanted line o >>= λ word. wanted line (number_of word)) (behind_again piece word) ∙ ap (wanted line) (number_again word n is)
+behind_number_word_read : (line : ℕ) (piece word : List ℕ) (n : ℕ) → IsNumberWord word n → number_behind line piece (piece ++ word) ≡ Ok n
+behind_number_word_read line piece word n is =
+    ap (λ o. wanted line o >>= λ word. wanted line (number_of word)) (behind_again piece word) ∙ ap (wanted line) (number_word_read word n is)
 
 number_line_again : (line : ℕ) (piece text : List ℕ) (n : ℕ) (rest : List ℕ) → has_none 10 piece ≡ true → BeginsWithNumber text piece n rest → number_at line piece text ≡ Ok (n, rest)
 unfolding number_at
 number_line_again line piece text n rest none is =
     ap (λ r. r >>= λ first. number_behind line piece first.0 >>= λ n. Ok (n, first.1)) (line_again line text (piece ++ is.0) rest is.2 (none_both 10 piece is.0 none (number_has_none 10 is.0 (omega arith) is.1.digits)))
-    ∙ ap (λ r. r >>= λ n. fine (n, rest)) (behind_number_again line piece is.0 n is.1)
+    ∙ ap (λ r. r >>= λ n. fine (n, rest)) (behind_number_word_read line piece is.0 n is.1)
 
 -- ---- what a line says
 
@@ -174,8 +102,8 @@ weight_again line text w is =
     ap (weight_in line) is.line_is
     ∙ ap (λ o. wanted line o >>= λ words. parts_of (part 32 words)) (behind_again (codes "weight ") (is.num ++ 32 ∷ is.den))
     ∙ ap parts_of (part_again 32 is.num is.den (number_has_none 32 is.num (omega arith) is.num_is.digits))
-    ∙ ap num_of (number_again is.num w.num is.num_is)
-    ∙ ap (den_of w.num) (number_again is.den w.den is.den_is)
+    ∙ ap num_of (number_word_read is.num w.num is.num_is)
+    ∙ ap (den_of w.num) (number_word_read is.den w.den is.den_is)
 
 weight_none : (text : List ℕ) (w : Weight) → IsWeightLine text w → has_none 10 text ≡ true
 weight_none text w is = ap (has_none 10) is.line_is
@@ -193,7 +121,7 @@ row_again line text row is =
     ∙ ap front_of (part_again 32 is.state (is.g ++ 32 ∷ closed_text row.is_closed) (state_has_none 32 is.state (omega arith) is.state_is.digits))
     ∙ ap back_of (part_again 32 is.g (closed_text row.is_closed) (number_has_none 32 is.g (omega arith) is.g_is.digits))
     ∙ ap state_of_word (state_again is.state row.state is.state_is)
-    ∙ ap (g_of row.state) (number_again is.g row.g is.g_is)
+    ∙ ap (g_of row.state) (number_word_read is.g row.g is.g_is)
     ∙ ap (end_of row.state row.g) (closed_again line row.is_closed)
 
 row_none : (text : List ℕ) (row : Line) → IsRowLine text row → has_none 10 text ≡ true
@@ -240,7 +168,7 @@ plan_again line text (Some plan) rest is =
     ap (λ r. r >>= λ first. cond (is_text (codes "none") first.0) (fine (None, first.1)) (number_behind line (codes "plan ") first.0 >>= λ count. steps_at count (line + 1) first.1 >>= λ plan. Ok (Some plan.0, plan.1)))
     (line_again line text first is.0 is.2.2 (none_both 10 (codes "plan ") word refl (number_has_none 10 word (omega arith) is.2.1.digits)))
     ∙ ap (λ t. cond t (fine (None, is.0)) (after (number_behind line (codes "plan ") first))) (plan_is_not_none word)
-    ∙ ap after (behind_number_again line (codes "plan ") word (length plan.actions) is.2.1)
+    ∙ ap after (behind_number_word_read line (codes "plan ") word (length plan.actions) is.2.1)
     ∙ ap (λ r. r >>= λ plan. fine (Some plan.0, plan.1)) steps
 
 body_again : (line : ℕ) (text row_part end_line : List ℕ) (rows : List Line) → BeginsWithNumber text (codes "rows ") (length rows) row_part → AreRowLines row_part rows end_line → BeginsWith end_line (codes "end") [] → body_at line text ≡ Ok rows

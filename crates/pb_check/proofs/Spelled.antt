@@ -1,9 +1,9 @@
 -- What is read is spelled so.
-use Rattle.std.proofs.Common.{◌≡◌, ℕ, zero, suc, ◌+◌, ◌-◌, ◌*◌, ◌^◌, ◌<◌, Bool, true, false, ◌&&◌, cond, eqb, ltb, Option, None, Some, List, [], ◌∷◌, ◌++◌, length, get_or, take, drop, Result, Ok, Err, refl, sym, ap, ◌∙◌, subst, arith, drop-cons, append-nil}
+use Rattle.std.proofs.Common.{◌≡◌, ℕ, zero, suc, ◌+◌, ◌*◌, Bool, true, false, ◌&&◌, cond, eqb, ltb, Option, None, Some, List, [], ◌∷◌, ◌++◌, length, Result, Ok, Err, refl, sym, ap, ◌∙◌, subst}
 use Rattle.std.specs.Prelude.{codes}
 use Rattle.std.specs.List.{list_all}
-use Rattle.std.proofs.lemmas.List.{take-append-drop, nil_from_length}
-use Rattle.std.proofs.lemmas.Bool.{eqb-true, ltb-true}
+use Rattle.std.proofs.lemmas.List.{nil_from_length}
+use Rattle.std.proofs.lemmas.Bool.{eqb-true}
 use Rattle.pb_model.specs.Weight.{Weight}
 use Rattle.pb_model.specs.Plan.{Plan}
 use Rattle.pb_model.specs.Certificate.{Line}
@@ -11,12 +11,16 @@ use Rattle.pb_check.specs.declared.kind.TaskKind.{TaskKind}
 use Rattle.pb_check.specs.declared.kind.TaskKind.TheVariants.{Grid, Tiles, Strips}
 use Rattle.pb_check.specs.declared.fault.CertificateFault.{CertificateFault}
 use Rattle.pb_check.specs.declared.fault.CertificateFault.TheVariants.{Syntax}
-use Rattle.pb_check.specs.Words.{place_of, behind, is_digit, is_padded, number_after, number_of, hex_value, hex_after, state_of}
+use Rattle.pb_lines.specs.Words.{part, behind, is_text, number_of}
+use Rattle.pb_lines.proofs.NumberWords.{IsNumberWord}
+use Rattle.pb_lines.proofs.Numbers.{number_word_of}
+use Rattle.pb_lines.proofs.Parts.{part_is, behind_is, text_is}
+use Rattle.pb_check.specs.Words.{hex_value, hex_after, state_of}
 use Rattle.pb_check.specs.Faults.{◌>>=◌, wanted}
-use Rattle.pb_check.specs.Reading.{part, line_at, is_all, is_text, number_behind, kind_in, weight_in, closed_in, row_in, fixed_at, number_at, kind_at, weight_at, row_at, actions_at, rows_at, steps_at, plan_at, plan_lines, Text, end_at, body_at, text_of}
-use Rattle.pb_check.proofs.Lines.{value_after, hex_value_after, IsNumberWord, IsStateWord, BeginsWith, BeginsWithNumber, kind_text, closed_text, IsWeightLine, IsRowLine, AreActionLines, AreRowLines, ArePlanLines, Spells}
+use Rattle.pb_check.specs.Reading.{line_at, number_behind, kind_in, weight_in, closed_in, row_in, fixed_at, number_at, kind_at, weight_at, row_at, actions_at, rows_at, steps_at, plan_at, plan_lines, Text, end_at, body_at, text_of}
+use Rattle.pb_check.proofs.Lines.{hex_value_after, IsStateWord, BeginsWith, BeginsWithNumber, kind_text, closed_text, IsWeightLine, IsRowLine, AreActionLines, AreRowLines, ArePlanLines, Spells}
 
-bind_ok : {A B : Type 0} (r : Result A CertificateFault) (f : A → Result B CertificateFault) (y : B) → (r >>= f) ≡ Ok y → (x : A) × (r ≡ Ok x) × (f x ≡ Ok y)
+pub bind_ok : {A B : Type 0} (r : Result A CertificateFault) (f : A → Result B CertificateFault) (y : B) → (r >>= f) ≡ Ok y → (x : A) × (r ≡ Ok x) × (f x ≡ Ok y)
 bind_ok (Ok x) f y e = (x, refl, e)
 bind_ok (Err d) f y e = absurd cc
 
@@ -27,13 +31,13 @@ wanted_ok {A} line (Some y) x e = ap (λ (z : A). Some z) (go y x e)
     go : (y x : A) → ◌≡◌ {A = Result A CertificateFault} (Ok y) (Ok x) → y ≡ x
     go y x e = cc
 
-ok_is : {A : Type 0} (x y : A) → ◌≡◌ {A = Result A CertificateFault} (Ok x) (Ok y) → x ≡ y
+pub ok_is : {A : Type 0} (x y : A) → ◌≡◌ {A = Result A CertificateFault} (Ok x) (Ok y) → x ≡ y
 ok_is x y e = cc
 
 some_is : {A : Type 0} (x y : A) → ◌≡◌ {A = Option A} (Some x) (Some y) → x ≡ y
 some_is x y e = cc
 
-guard_ok : {A : Type 0} (b : Bool) (d : CertificateFault) (x y : A) → cond b (Ok x) (Err d) ≡ Ok y → (b ≡ true) × (x ≡ y)
+pub guard_ok : {A : Type 0} (b : Bool) (d : CertificateFault) (x y : A) → cond b (Ok x) (Err d) ≡ Ok y → (b ≡ true) × (x ≡ y)
 guard_ok true d x y e = (refl, ok_is x y e)
 guard_ok false d x y e = absurd cc
 
@@ -54,61 +58,7 @@ both true true x y = refl
 both false b x y = absurd cc
 both true false x y = absurd cc
 
--- ---- parts of a text
-
-at_place : (byte : ℕ) (text : List ℕ) → place_of byte text < length text → get_or text (place_of byte text) 0 ≡ byte
-unfolding place_of
-at_place byte [] lt = absurd (omega (arith, lt))
-at_place byte (b ∷ bs) lt = go (at_place byte bs) (eqb b byte) refl lt
-  where
-    go : (place_of byte bs < length bs → get_or bs (place_of byte bs) 0 ≡ byte) → (t : Bool) → eqb b byte ≡ t → cond t 0 (suc (place_of byte bs)) < suc (length bs) → get_or (b ∷ bs) (cond t 0 (suc (place_of byte bs))) 0 ≡ byte
-    go rest true e lt = eqb-true b byte e
-    go rest false e lt = rest (omega (arith, lt))
-
-part_is : (byte : ℕ) (text front rest : List ℕ) → part byte text ≡ Some (front, rest) → text ≡ front ++ byte ∷ rest
-part_is byte text front rest e =
-    let p = place_of byte text in
-    let h = if_some (ltb p (length text)) (Some (take p text, drop (p + 1) text)) (front, rest) e in
-    let lt : p < length text = ltb-true _ _ h.0 in
-    let pair = some_is (take p text, drop (p + 1) text) (front, rest) h.1 in
-    let s : p + 1 ≡ suc p = omega arith in
-    let cut : drop p text ≡ byte ∷ drop (p + 1) text = drop-cons text p 0 lt ∙ ap (λ b. b ∷ drop (suc p) text) (at_place byte text lt) ∙ ap (λ k. byte ∷ drop k text) (sym s) in
-    let whole : text ≡ take p text ++ byte ∷ drop (p + 1) text = sym (take-append-drop p text) ∙ ap (λ (t : List ℕ). take p text ++ t) cut in
-    whole ∙ ap (λ (x : List ℕ × List ℕ). x.0 ++ byte ∷ x.1) pair
-
-behind_is : (piece text rest : List ℕ) → behind piece text ≡ Some rest → text ≡ piece ++ rest
-unfolding behind
-behind_is [] text rest e = some_is text rest e
-behind_is (p ∷ ps) [] rest e = absurd cc
-behind_is (p ∷ ps) (b ∷ bs) rest e =
-    let h = if_some (eqb p b) (behind ps bs) rest e in
-    let same : b ≡ p = sym (eqb-true p b h.0) in
-    ap (λ x. x ∷ bs) same ∙ ap (λ (t : List ℕ). p ∷ t) (behind_is ps bs rest h.1)
-
-text_is : (piece text : List ℕ) → is_text piece text ≡ true → text ≡ piece
-text_is piece text e = go (behind piece text) refl e
-  where
-    go : (o : Option (List ℕ)) → behind piece text ≡ o → is_all o ≡ true → text ≡ piece
-    go None is e = absurd cc
-    go (Some rest) is e = behind_is piece text rest is ∙ ap (λ (r : List ℕ). piece ++ r) (nil_from_length rest (eqb-true _ _ e)) ∙ append-nil piece
-
 -- ---- words
-
-number_after_is : (n : ℕ) (word : List ℕ) (m : ℕ) → n < 2 ^ 63 → number_after n word ≡ Some m → (list_all is_digit word ≡ true) × (m ≡ value_after n word) × (m < 2 ^ 63)
-unfolding number_after
-number_after_is n [] m lt e = let s : n ≡ m = some_is n m e in (refl, sym s, omega (arith, lt, s))
-number_after_is n (b ∷ bs) m lt e =
-    let h = if_some (is_digit b && ltb (n * 10 + (b - 48)) (2 ^ 63)) (number_after (n * 10 + (b - 48)) bs) m e in
-    let c = conjuncts (is_digit b) (ltb (n * 10 + (b - 48)) (2 ^ 63)) h.0 in
-    let r = number_after_is (n * 10 + (b - 48)) bs m (ltb-true _ _ c.1) h.1 in
-    (both (is_digit b) (list_all is_digit bs) c.0 r.0, r.1, r.2)
-
-pub number_is : (word : List ℕ) (n : ℕ) → number_of word ≡ Some n → IsNumberWord word n
-number_is word n e =
-    let a = if_not_some (eqb (length word) 0) (cond (is_padded word) None (number_after 0 word)) n e in
-    let b = if_not_some (is_padded word) (number_after 0 word) n a.1 in
-    let c = number_after_is 0 word n (omega arith) b.1 in
-    record { some = grind (arith, a.0); digits = c.0; unpadded = b.0; value = c.1; small = c.2 }
 
 hex_after_is : (n : ℕ) (word : List ℕ) (m : ℕ) → hex_after n word ≡ Some m → (list_all (λ b. ltb (hex_value b) 16) word ≡ true) × (m ≡ hex_value_after n word)
 unfolding hex_after
@@ -132,7 +82,7 @@ line_is line text x e = part_is 10 text x.0 x.1 (wanted_ok line (part 10 text) x
 behind_number : (line : ℕ) (piece text : List ℕ) (n : ℕ) → number_behind line piece text ≡ Ok n → (word : List ℕ) × IsNumberWord word n × (text ≡ piece ++ word)
 behind_number line piece text n e =
     let b = bind_ok (wanted line (behind piece text)) (λ word. wanted line (number_of word)) n e in
-    (b.0, number_is b.0 n (wanted_ok line (number_of b.0) n b.2), behind_is piece text b.0 (wanted_ok line (behind piece text) b.0 b.1))
+    (b.0, number_word_of b.0 n (wanted_ok line (number_of b.0) n b.2), behind_is piece text b.0 (wanted_ok line (behind piece text) b.0 b.1))
 
 fixed_is : (line : ℕ) (piece text rest : List ℕ) → fixed_at line piece text ≡ Ok rest → BeginsWith text piece rest
 unfolding fixed_at
@@ -181,8 +131,8 @@ weight_is line text w e =
       num = b.0.0;
       den = b.0.1;
       line_is = behind_is (codes "weight ") text a.0 (wanted_ok line (behind (codes "weight ") text) a.0 a.1) ∙ ap (λ (t : List ℕ). codes "weight " ++ t) (part_is 32 a.0 b.0.0 b.0.1 (wanted_ok line (part 32 a.0) b.0 b.1));
-      num_is = number_is b.0.0 c.0 (wanted_ok line (number_of b.0.0) c.0 c.1);
-      den_is = number_is b.0.1 d.0 (wanted_ok line (number_of b.0.1) d.0 d.1);
+      num_is = number_word_of b.0.0 c.0 (wanted_ok line (number_of b.0.0) c.0 c.1);
+      den_is = number_word_of b.0.1 d.0 (wanted_ok line (number_of b.0.1) d.0 d.1);
     })
 
 row_is : (line : ℕ) (text : List ℕ) (row : Line) → row_in line text ≡ Ok row → IsRowLine text row
@@ -200,7 +150,7 @@ row_is line text row e =
       line_is = part_is 32 text a.0.0 a.0.1 (wanted_ok line (part 32 text) a.0 a.1)
           ∙ ap (λ (t : List ℕ). a.0.0 ++ 32 ∷ t) (part_is 32 a.0.1 b.0.0 b.0.1 (wanted_ok line (part 32 a.0.1) b.0 b.1) ∙ ap (λ (t : List ℕ). b.0.0 ++ 32 ∷ t) (closed_is line b.0.1 f.0 f.1));
       state_is = state_is a.0.0 c.0 (wanted_ok line (state_of a.0.0) c.0 c.1);
-      g_is = number_is b.0.0 d.0 (wanted_ok line (number_of b.0.0) d.0 d.1);
+      g_is = number_word_of b.0.0 d.0 (wanted_ok line (number_of b.0.0) d.0 d.1);
     })
 
 kind_line_is : (line : ℕ) (text : List ℕ) (x : TaskKind × List ℕ) → kind_at line text ≡ Ok x → BeginsWith text (kind_text x.0) x.1

@@ -1,5 +1,5 @@
 -- Reading a certificate from its first byte to its last, with the first line that is not spelled as it must be.
-use Rattle.std.specs.Prelude.{ℕ, zero, suc, ◌+◌, Bool, true, false, Option, None, Some, List, [], ◌∷◌, length, take, drop, Result, Ok, Err, if◌then◌else◌, nat_lt, ◌==◌, codes}
+use Rattle.std.specs.Prelude.{ℕ, zero, suc, ◌+◌, Bool, true, false, Option, None, Some, List, [], ◌∷◌, length, Result, Ok, Err, if◌then◌else◌, ◌==◌, codes}
 use Rattle.pb_model.specs.Weight.{Weight}
 use Rattle.pb_model.specs.Plan.{Plan}
 use Rattle.pb_model.specs.Certificate.{Line, Certificate}
@@ -8,25 +8,14 @@ use Rattle.pb_check.specs.declared.kind.TaskKind.TheVariants.{Grid, Tiles, Strip
 use Rattle.pb_check.specs.declared.fault.CertificateFault.{CertificateFault}
 use Rattle.pb_check.specs.declared.fault.CertificateFault.TheVariants.{Syntax}
 use Rattle.pb_check.specs.Faults.{◌>>=◌, wanted}
-use Rattle.pb_check.specs.Words.{place_of, behind, number_of, state_of}
-
--- the text before the first such byte, and the text after it
-abbrev pub part : (byte : ℕ) → List ℕ → Option (List ℕ × List ℕ)
-part byte text = if nat_lt (place_of byte text) (length text) then Some (take (place_of byte text) text, drop (place_of byte text + 1) text) else None
+use Rattle.pb_lines.specs.Words.{part, behind, is_text, number_of}
+use Rattle.pb_check.specs.Words.{state_of}
 
 -- a line and the text after it; a last line without an end is none
 abbrev pub line_at : (line : ℕ) → List ℕ → Result (List ℕ × List ℕ) CertificateFault
 line_at line text = wanted line (part 10 text)
 
 -- ---- what a line says
-
-abbrev pub is_all : Option (List ℕ) → Bool
-is_all None = false
-is_all (Some rest) = length rest == 0
-
--- the text is this one
-abbrev pub is_text : (piece text : List ℕ) → Bool
-is_text piece text = is_all (behind piece text)
 
 -- the number behind this piece
 abbrev pub number_behind : (line : ℕ) → (piece text : List ℕ) → Result ℕ CertificateFault

@@ -1,15 +1,17 @@
 -- What the checker's answer means: that the certificate is valid, and what it shows of the task.
-use Rattle.std.specs.Prelude.{◌≡◌, ℕ, ◌≤◌, List}
+use Rattle.std.specs.Prelude.{◌≡◌, ◌≢◌, ℕ, ◌+◌, ◌≤◌, List, [], ◌++◌, Err}
 use Rattle.pb_model.specs.declared.row.Estimate.{Estimate}
 use Rattle.pb_model.specs.Space.{Space}
 use Rattle.pb_model.specs.Weight.{Weight, IsWeight}
 use Rattle.pb_model.specs.Plan.{Plan, IsPlan, HasNoPlan, IsBound}
 use Rattle.pb_model.specs.Certificate.{Certificate, IsValid, ClaimHolds}
+use Rattle.pb_lines.specs.Words.{line_feeds}
 use Rattle.pb_check.specs.declared.kind.TaskKind.{TaskKind}
 use Rattle.pb_check.specs.declared.fault.Verdict.{Verdict}
 use Rattle.pb_check.specs.declared.fault.Verdict.TheVariants.{Bounded, Unsolvable}
+use Rattle.pb_check.specs.declared.fault.CertificateFault.TheVariants.{Syntax}
 use Rattle.pb_check.specs.Spelling.{IsSpelled}
-use Rattle.pb_check.specs.Judging.{verdict_of, bound_of}
+use Rattle.pb_check.specs.Judging.{verdict_of, bound_of, checked}
 
 -- the bytes spell a certificate of this kind that is valid, and this is its verdict
 pub record IsAccepted (space : Space) (estimate : ℕ → Estimate) (kind : TaskKind) (bytes : List ℕ) (verdict : Verdict) : Type 0 where
@@ -35,3 +37,14 @@ VerdictHolds space (Bounded cost bound) = ((plan : Plan) × IsPlan space plan ×
 -- The bound of a verdict is the least whole number that is no less than the cost divided by the weight.
 abbrev pub BoundsAreLeast : Type 0
 BoundsAreLeast = (weight : Weight) (cost : ℕ) → IsWeight weight → IsBound weight cost (bound_of weight cost)
+
+-- the bytes are a beginning of a certificate's text, and not the whole
+abbrev pub IsCutOff : List ℕ → Type 0
+IsCutOff bytes = (stated : TaskKind) × (certificate : Certificate) × (rest : List ℕ) × IsSpelled (bytes ++ rest) stated certificate × (rest ≢ [])
+
+-- A certificate that is cut off is refused as misspelled, in the line that it ends in, whatever the task is. The line is 1
+-- plus the number of line feeds in what is left.
+abbrev pub CutCertificatesAreRefused : Type 0
+CutCertificatesAreRefused =
+    (space : Space) (estimate : ℕ → Estimate) (kind : TaskKind) (bytes : List ℕ) → IsCutOff bytes
+    → checked space estimate kind bytes ≡ Err (Syntax (1 + line_feeds bytes))

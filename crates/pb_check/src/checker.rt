@@ -1,4 +1,4 @@
-ghost use Rattle.std.specs.Prelude.{◌≡◌, ◌<◌, ◌^◌, length, IfOk, Ok};
+ghost use Rattle.std.specs.Prelude.{◌≡◌, ◌+◌, ◌<◌, ◌^◌, length, IfOk, Ok, Err};
 ghost use Rattle.pb_task.specs.Parts.{space_of, IsTask};
 ghost use Rattle.pb_estimate.specs.Estimates.{estimate_of};
 ghost use Rattle.pb_estimate.specs.Tables.{IsOfTask};
@@ -6,7 +6,9 @@ ghost use Rattle.pb_check.specs.declared.fault.Verdict.{Verdict};
 ghost use Rattle.pb_check.specs.Faults.{Gives};
 ghost use Rattle.pb_check.specs.Judging.{checked};
 ghost use Rattle.pb_check.specs.Kinds.{kind_of};
-ghost use Rattle.pb_check.specs.Shown.{IsAccepted, ShowsClaim, VerdictHolds};
+ghost use Rattle.pb_check.specs.Shown.{IsAccepted, IsCutOff, ShowsClaim, VerdictHolds};
+ghost use Rattle.pb_check.specs.declared.fault.CertificateFault.TheVariants.{Syntax};
+ghost use Rattle.pb_lines.specs.Words.{line_feeds};
 
 use crate::fault::{CheckError, Verdict};
 use crate::judging::judge;
@@ -62,6 +64,8 @@ pub fn check(
     ensures claim { IfOk result (λ verdict. ShowsClaim (space_of task.now) (kind_of task.now) bytes.now verdict) }
     // So what the verdict says is true of the task.
     ensures holds { IfOk result (λ verdict. VerdictHolds (space_of task.now) verdict) }
+    // A certificate that is cut off is refused in the line that it ends in, unless memory ran out.
+    ensures cut { IsCutOff bytes.now → Gives (λ x. x) result (Err (Syntax (1 + line_feeds bytes.now))) }
     ensures task { IsOfTask estimator.new task.now }
 {
     first_fault(alloc, task, estimator, bytes)

@@ -16,7 +16,4 @@ mod words;
 pub use checker::check;
 pub use fault::{CertificateFault, CheckError, Verdict};
 pub use kind::{TaskKind, kind_of};
-pub use laws::{bounds_are_least, read_as_spelled};
-
-#[cfg(test)]
-mod tests;
+pub use laws::{bounds_are_least, cut_certificates_are_refused, read_as_spelled};

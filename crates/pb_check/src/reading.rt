@@ -2,33 +2,19 @@ ghost use Rattle.std.specs.Prelude.{◌≡◌, ◌≤◌, ◌+◌, ◌<◌, ◌^
 ghost use Rattle.pb_model.specs.Weight.{Weight};
 ghost use Rattle.pb_model.specs.Plan.{Plan};
 ghost use Rattle.pb_model.specs.Certificate.{Certificate};
-ghost use Rattle.pb_check.specs.Words.{number_of, behind, state_of};
+ghost use Rattle.pb_lines.specs.Words.{number_of, behind, part};
+ghost use Rattle.pb_check.specs.Words.{state_of};
 ghost use Rattle.pb_check.specs.Faults.{Gives, wanted};
-ghost use Rattle.pb_check.specs.Reading.{Text, plan_lines, part, line_at, is_text, number_behind, kind_in, weight_in, closed_in, row_in, fixed_at, number_at, kind_at, weight_at, row_at, actions_at, rows_at, steps_at, plan_at, end_at, body_at, text_of};
+ghost use Rattle.pb_check.specs.Reading.{Text, plan_lines, line_at, number_behind, kind_in, weight_in, closed_in, row_in, fixed_at, number_at, kind_at, weight_at, row_at, actions_at, rows_at, steps_at, plan_at, end_at, body_at, text_of};
 
 use crate::fault::{CertificateFault, CheckError};
 use crate::kind::TaskKind;
 use crate::rows::{StatedRow, StatedRows};
 use crate::stated::{StatedPlan, StatedText, StatedWeight};
-use crate::words::{behind, number_of, place_of, state_of};
+use crate::words::state_of;
+use pb_lines::{behind, is_text, number_of, part};
 use pb_packed::Packed;
 use std::alloc::Global;
-
-// The text before the first such byte, and the text after it.
-fn part(text: &[u8], byte: u8) -> Option<(&[u8], &[u8])>
-    ensures some { IfSome result (λ x. part byte text.now ≡ Some (x.0.now, x.1.now)) }
-    ensures shorter { IfSome result (λ x. length x.1.now + 1 ≤ length text.now) }
-    ensures none { IfNone result (part byte text.now ≡ None) }
-{
-    let place = place_of(text, byte);
-    if place < text.len() {
-        let (front, _) = text.split_at(place);
-        let (_, rest) = text.split_at(place + 1);
-        Some((front, rest))
-    } else {
-        None
-    }
-}
 
 // A line, and the text after it.
 fn line_at(line: u64, text: &[u8]) -> Result<(&[u8], &[u8]), CheckError>
@@ -38,15 +24,6 @@ fn line_at(line: u64, text: &[u8]) -> Result<(&[u8], &[u8]), CheckError>
     match part(text, b'\n') {
         Some((front, rest)) => Ok((front, rest)),
         None => Err(CheckError::Fault(CertificateFault::Syntax { line })),
-    }
-}
-
-fn is_text(text: &[u8], piece: &[u8]) -> bool
-    ensures { result ≡ is_text piece.now text.now }
-{
-    match behind(text, piece) {
-        Some(rest) => rest.len() == 0,
-        None => false,
     }
 }
 

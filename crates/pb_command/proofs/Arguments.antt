@@ -1,6 +1,6 @@
 -- What is found for the arguments of a subcommand, whatever their order.
-use Rattle.std.proofs.Common.{◌≡◌, ◌∙◌, ◌+◌, ◌++◌, ℕ, Bool, true, false, List, [], ◌∷◌, Option, None, Some, refl, sym, ap, subst, append_assoc, append-nil, codes}
-use Rattle.std.specs.Prelude.{fold, find, drop, option_map, if◌then◌else◌}
+use Rattle.std.proofs.Common.{◌≡◌, ◌∙◌, ◌+◌, ◌++◌, ◌||◌, ℕ, Bool, true, false, List, [], ◌∷◌, Option, None, Some, refl, sym, ap, subst, append_assoc, append-nil, codes}
+use Rattle.std.specs.Prelude.{fold, find, drop, is_some, option_map, if◌then◌else◌}
 use Rattle.std.specs.List.{AllByRecursion}
 use Rattle.std.specs.Str.{bytes_eq}
 use Rattle.std.proofs.lemmas.Slice.Eq.{bytes_eq-Decides}
@@ -11,10 +11,10 @@ use Rattle.clap.specs.ValueTests.{accepts}
 use Rattle.clap.specs.Faults.{settle_fault, walk_fault, level_fault, check_fault, defaults_fault}
 use Rattle.clap.specs.declared.builder.value_parser.Reading.TheVariants.{AsWritten}
 use Rattle.clap.specs.declared.parser.matches.ValueSource.TheVariants.{CommandLine}
-use Rattle.pb_command.specs.Options.{ValuedOption, Row, Workers, Num, Den, Budget, Lot, Blocks, Certificate, Journal, is_same, Argument, Placed, Valued, Plain, words_of, placed_words, value_given, plain_given, AreDistinct, IsArgumentOf}
-use Rattle.pb_command.proofs.Walking.{Place, Kind, FirstFile, SecondFile, CertificateFile, JournalFile, Seed, Size, place_id, place_parser, HasOption, HasPlain, HasPlace, at, option_id, match_row, held_with, held_plain}
-use Rattle.pb_command.proofs.Walking.{same_option, same_itself, ids_apart, ids_same, place_no_option, option_no_place, place_no_plain, plain_no_place, option_no_plain, plain_no_option, put_last, still_none}
-use Rattle.pb_command.proofs.Walking.{valued_step, placed_step, plain_step, valued_fault, placed_fault, plain_fault, valued_rows, placed_rows, plain_rows, valued_faultless, placed_faultless}
+use Rattle.pb_command.specs.Options.{ValuedOption, Row, Workers, Num, Den, Budget, Lot, Blocks, Certificate, Journal, is_same, Argument, Placed, Valued, Flag, FlagOption, Plain, Swamp, flag_word, is_same_flag, words_of, placed_words, value_given, flag_given, AreDistinct, IsArgumentOf}
+use Rattle.pb_command.proofs.Walking.{Place, Kind, FirstFile, SecondFile, CertificateFile, JournalFile, Seed, Size, place_id, place_parser, HasOption, HasFlag, HasPlace, at, option_id, flag_id, match_row, held_with, held_flag}
+use Rattle.pb_command.proofs.Walking.{same_option, same_itself, ids_apart, ids_same, place_no_option, option_no_place, place_no_flag, flag_no_place, option_no_flag, flag_no_option, same_flag, same_flag_itself, flag_ids_apart, flag_ids_same, put_last, still_none}
+use Rattle.pb_command.proofs.Walking.{valued_step, placed_step, flag_step, valued_fault, placed_fault, flag_fault, valued_rows, placed_rows, flag_rows, valued_faultless, placed_faultless}
 
 -- the row of an identifier
 abbrev pub row_of : Text → List MatchRow → Option MatchRow
@@ -30,7 +30,7 @@ abbrev pub rows_for : List Place → List Argument → List MatchRow
 rows_for places [] = []
 rows_for places (Placed word ∷ rest) = match_row (first_id places) word ∷ rows_for (drop 1 places) rest
 rows_for places (Valued option value ∷ rest) = match_row (option_id option) value ∷ rows_for places rest
-rows_for places (Plain ∷ rest) = match_row (codes "plain") (codes "true") ∷ rows_for places rest
+rows_for places (Flag flag ∷ rest) = match_row (flag_id flag) (codes "true") ∷ rows_for places rest
 
 -- the word in a place
 abbrev pub word_at : Place → List Place → List Text → Option Text
@@ -52,16 +52,17 @@ first_no_option [] Certificate = refl
 first_no_option [] Journal = refl
 first_no_option (p ∷ ps) o = place_no_option p o
 
-first_no_plain : (places : List Place) → bytes_eq (first_id places) (codes "plain") ≡ false
-first_no_plain [] = refl
-first_no_plain (p ∷ ps) = place_no_plain p
+first_no_flag : (places : List Place) (f : FlagOption) → bytes_eq (first_id places) (flag_id f) ≡ false
+first_no_flag [] Plain = refl
+first_no_flag [] Swamp = refl
+first_no_flag (p ∷ ps) f = place_no_flag p f
 
 -- the value that is found for an option is the one that it was given
 pub found_option : (places : List Place) (option : ValuedOption) (arguments : List Argument)
     → row_of (option_id option) (rows_for places arguments) ≡ option_map (match_row (option_id option)) (value_given option arguments)
 found_option places option [] = refl
 found_option places option (Placed word ∷ rest) = rw (first_no_option places option) (found_option (drop 1 places) option rest)
-found_option places option (Plain ∷ rest) = rw (plain_no_option option) (found_option places option rest)
+found_option places option (Flag flag ∷ rest) = rw (flag_no_option flag option) (found_option places option rest)
 found_option places option (Valued other value ∷ rest) = by (is_same option other) refl (found_option places option rest) where
   by : (b : Bool) → is_same option other ≡ b
       → row_of (option_id option) (rows_for places rest) ≡ option_map (match_row (option_id option)) (value_given option rest)
@@ -78,7 +79,7 @@ pub found_place : (p : Place) (places : List Place) (arguments : List Argument)
     → row_of (place_id p) (rows_for places arguments) ≡ option_map (match_row (place_id p)) (word_at p places (placed_words arguments))
 found_place p places [] = refl
 found_place p places (Valued option value ∷ rest) = rw (option_no_place option p) (found_place p places rest)
-found_place p places (Plain ∷ rest) = rw (plain_no_place p) (found_place p places rest)
+found_place p places (Flag flag ∷ rest) = rw (flag_no_place flag p) (found_place p places rest)
 found_place p [] (Placed word ∷ rest) = none p (found_place p [] rest) where
   none : (p : Place) → row_of (place_id p) (rows_for [] rest) ≡ option_map (match_row (place_id p)) (word_at p [] (placed_words rest))
       → row_of (place_id p) (rows_for [] (Placed word ∷ rest)) ≡ option_map (match_row (place_id p)) (word_at p [] (word ∷ placed_words rest))
@@ -97,19 +98,37 @@ found_place p (q ∷ qs) (Placed word ∷ rest) = by (bytes_eq (place_id q) (pla
   by true is found = rw is (ap (λ id. Some (match_row id word)) (same_place q p is))
   by false is found = rw is found
 
--- the flag is found where it is given
-pub found_plain : (places : List Place) (arguments : List Argument)
-    → row_of (codes "plain") (rows_for places arguments) ≡ (if plain_given arguments then Some (match_row (codes "plain") (codes "true")) else None)
-found_plain places [] = refl
-found_plain places (Placed word ∷ rest) = rw (first_no_plain places) (found_plain (drop 1 places) rest)
-found_plain places (Valued option value ∷ rest) = rw (option_no_plain option) (found_plain places rest)
-found_plain places (Plain ∷ rest) = refl
+-- a flag is found where it is given
+pub found_flag : (places : List Place) (flag : FlagOption) (arguments : List Argument)
+    → row_of (flag_id flag) (rows_for places arguments) ≡ (if flag_given flag arguments then Some (match_row (flag_id flag) (codes "true")) else None)
+found_flag places flag [] = refl
+found_flag places flag (Placed word ∷ rest) = rw (first_no_flag places flag) (found_flag (drop 1 places) flag rest)
+found_flag places flag (Valued option value ∷ rest) = rw (option_no_flag option flag) (found_flag places flag rest)
+found_flag places flag (Flag other ∷ rest) = by (is_same_flag flag other) refl (found_flag places flag rest) where
+  by : (b : Bool) → is_same_flag flag other ≡ b
+      → row_of (flag_id flag) (rows_for places rest) ≡ (if flag_given flag rest then Some (match_row (flag_id flag) (codes "true")) else None)
+      → (if bytes_eq (flag_id other) (flag_id flag) then Some (match_row (flag_id other) (codes "true")) else row_of (flag_id flag) (rows_for places rest))
+      ≡ (if is_same_flag flag other || flag_given flag rest then Some (match_row (flag_id flag) (codes "true")) else None)
+  by true is found =
+      let same : flag ≡ other = same_flag flag other is in
+      rw is (subst (λ f. (if bytes_eq (flag_id f) (flag_id flag) then Some (match_row (flag_id f) (codes "true"))
+      else row_of (flag_id flag) (rows_for places rest)) ≡ Some (match_row (flag_id flag) (codes "true"))) same (rw (flag_ids_same flag) refl))
+  by false is found = rw (is, flag_ids_apart flag other is) found
 
-pub has_plain_row : (places : List Place) (arguments : List Argument) → has_row (codes "plain") (rows_for places arguments) ≡ plain_given arguments
-has_plain_row places [] = refl
-has_plain_row places (Placed word ∷ rest) = rw (first_no_plain places) (has_plain_row (drop 1 places) rest)
-has_plain_row places (Valued option value ∷ rest) = rw (option_no_plain option) (has_plain_row places rest)
-has_plain_row places (Plain ∷ rest) = refl
+-- there is a row where one is found
+pub has_row_is : (id : Text) (rows : List MatchRow) → has_row id rows ≡ is_some (row_of id rows)
+has_row_is id [] = refl
+has_row_is id (r ∷ rs) = by (bytes_eq r.id id) (has_row_is id rs) where
+  by : (b : Bool) → has_row id rs ≡ is_some (row_of id rs) → (b || has_row id rs) ≡ is_some (if b then Some r else row_of id rs)
+  by true rest = refl
+  by false rest = rest
+
+pub has_flag_row : (places : List Place) (flag : FlagOption) (arguments : List Argument) → has_row (flag_id flag) (rows_for places arguments) ≡ flag_given flag arguments
+has_flag_row places flag arguments =
+    has_row_is (flag_id flag) (rows_for places arguments) ∙ (ap is_some (found_flag places flag arguments) ∙ by (flag_given flag arguments)) where
+      by : (b : Bool) → is_some (if b then Some (match_row (flag_id flag) (codes "true")) else None) ≡ b
+      by true = refl
+      by false = refl
 
 -- ---- the walk
 
@@ -129,19 +148,19 @@ AreApart [] = Unit {0}
 AreApart (p ∷ ps) = AllByRecursion (λ q. bytes_eq (place_id p) (place_id q) ≡ false) ps × AreApart ps
 
 -- what the walk needs of a command
-pub record Takes (s : Shape) (has_option : ValuedOption → Bool) (has_plain : Bool) (places : List Place) : Type 0 where
+pub record Takes (s : Shape) (has_option : ValuedOption → Bool) (has_flag : FlagOption → Bool) (places : List Place) : Type 0 where
   pub strict : s.args_override_self ≡ false
   pub option : (o : ValuedOption) → has_option o ≡ true → HasOption s o
-  pub plain : has_plain ≡ true → HasPlain s
+  pub flag : (f : FlagOption) → has_flag f ≡ true → HasFlag s f
   pub each_place : HasPlaces s 1 places
   pub apart : AreApart places
 
-module _ (s : Shape) (has_option : ValuedOption → Bool) (has_plain : Bool) (strict : s.args_override_self ≡ false)
-    (knows : (o : ValuedOption) → has_option o ≡ true → HasOption s o) (knows_plain : has_plain ≡ true → HasPlain s) where
+module _ (s : Shape) (has_option : ValuedOption → Bool) (has_flag : FlagOption → Bool) (strict : s.args_override_self ≡ false)
+    (knows : (o : ValuedOption) → has_option o ≡ true → HasOption s o) (knows_flag : (f : FlagOption) → has_flag f ≡ true → HasFlag s f) where
   -- nothing is found yet for what these arguments are
   pub record AreNew (places : List Place) (arguments : List Argument) (rows : List MatchRow) : Type 0 where
     pub options : (option : ValuedOption) (value : Text) → value_given option arguments ≡ Some value → has_row (option_id option) rows ≡ false
-    pub plain : plain_given arguments ≡ true → has_row (codes "plain") rows ≡ false
+    pub flags : (flag : FlagOption) → flag_given flag arguments ≡ true → has_row (flag_id flag) rows ≡ false
     pub each_place : AllByRecursion (λ p. has_row (place_id p) rows ≡ false) places
 
   -- the walk over all of them
@@ -162,34 +181,39 @@ module _ (s : Shape) (has_option : ValuedOption → Bool) (has_plain : Bool) (st
   options_apart o [] = tt
   options_apart o (p ∷ ps) = (option_no_place o p, options_apart o ps)
 
-  plain_apart : (places : List Place) → AllByRecursion (λ q. bytes_eq (codes "plain") (place_id q) ≡ false) places
-  plain_apart [] = tt
-  plain_apart (p ∷ ps) = (plain_no_place p, plain_apart ps)
+  flags_apart : (f : FlagOption) (places : List Place) → AllByRecursion (λ q. bytes_eq (flag_id f) (place_id q) ≡ false) places
+  flags_apart f [] = tt
+  flags_apart f (p ∷ ps) = (flag_no_place f p, flags_apart f ps)
 
   new_after_placed : (p : Place) (ps : List Place) (word : Text) (rest : List Argument) (rows : List MatchRow)
       → AllByRecursion (λ q. bytes_eq (place_id p) (place_id q) ≡ false) ps → AreNew (p ∷ ps) (Placed word ∷ rest) rows
       → AreNew ps rest (rows ++ match_row (place_id p) word ∷ [])
   new_after_placed p ps word rest rows apart new = record {
     options = λ option value given. still_none (option_id option) rows (place_id p) word (new.options option value given) (place_no_option p option);
-    plain = λ given. still_none (codes "plain") rows (place_id p) word (new.plain given) (place_no_plain p);
+    flags = λ flag given. still_none (flag_id flag) rows (place_id p) word (new.flags flag given) (place_no_flag p flag);
     each_place = places_still ps rows (place_id p) word new.each_place.1 apart;
   }
 
-  new_after_plain : (places : List Place) (rest : List Argument) (rows : List MatchRow) → plain_given rest ≡ false
-      → AreNew places (Plain ∷ rest) rows → AreNew places rest (rows ++ match_row (codes "plain") (codes "true") ∷ [])
-  new_after_plain places rest rows none new = record {
-    options = λ option value given. still_none (option_id option) rows (codes "plain") (codes "true") (new.options option value given) (plain_no_option option);
-    plain = λ given. absurd (never (sym none ∙ given));
-    each_place = places_still places rows (codes "plain") (codes "true") new.each_place (plain_apart places);
+  new_after_flag : (places : List Place) (flag : FlagOption) (rest : List Argument) (rows : List MatchRow) → flag_given flag rest ≡ false
+      → AreNew places (Flag flag ∷ rest) rows → AreNew places rest (rows ++ match_row (flag_id flag) (codes "true") ∷ [])
+  new_after_flag places flag rest rows none new = record {
+    options = λ option value given. still_none (option_id option) rows (flag_id flag) (codes "true") (new.options option value given) (flag_no_option flag option);
+    flags = λ other given. by other given (is_same_flag other flag) refl;
+    each_place = places_still places rows (flag_id flag) (codes "true") new.each_place (flags_apart flag places);
   } where
     never : false ≡ true → ⊥
     never e = cc
+
+    by : (other : FlagOption) → flag_given other rest ≡ true → (b : Bool) → is_same_flag other flag ≡ b → has_row (flag_id other) (rows ++ match_row (flag_id flag) (codes "true") ∷ []) ≡ false
+    by other given true is =
+        let same : flag_given flag rest ≡ true = subst (λ f. flag_given f rest ≡ true) (same_flag other flag is) given in absurd (never (sym none ∙ same))
+    by other given false is = still_none (flag_id other) rows (flag_id flag) (codes "true") (new.flags other (rw is given)) (flag_ids_apart other flag is)
 
   new_after_valued : (places : List Place) (option : ValuedOption) (value : Text) (rest : List Argument) (rows : List MatchRow) → value_given option rest ≡ None
       → AreNew places (Valued option value ∷ rest) rows → AreNew places rest (rows ++ match_row (option_id option) value ∷ [])
   new_after_valued places option value rest rows none new = record {
     options = λ other given_value given. by other given_value given (is_same other option) refl;
-    plain = λ given. still_none (codes "plain") rows (option_id option) value (new.plain given) (option_no_plain option);
+    flags = λ flag given. still_none (flag_id flag) rows (option_id option) value (new.flags flag given) (option_no_flag option flag);
     each_place = places_still places rows (option_id option) value new.each_place (options_apart option places);
   } where
     by : (other : ValuedOption) (given_value : Text) → value_given other rest ≡ Some given_value → (b : Bool) → is_same other option ≡ b
@@ -201,7 +225,7 @@ module _ (s : Shape) (has_option : ValuedOption → Bool) (has_plain : Bool) (st
 
   pub walks : (arguments : List Argument) (places : List Place) (i : ℕ) (h : Held) (rows : List MatchRow) → HasPlaces s i places → AreApart places
       → (settled s.rules h).rows ≡ rows → settle_fault s.rules false h ≡ []
-      → AreNew places arguments rows → AllByRecursion (IsArgumentOf has_option has_plain) arguments → AreDistinct arguments → FitPlaces places (placed_words arguments)
+      → AreNew places arguments rows → AllByRecursion (IsArgumentOf has_option has_flag) arguments → AreDistinct arguments → FitPlaces places (placed_words arguments)
       → IsWalked places arguments i h rows
   unfolding walk_fault
   walks [] places i h rows has apart are faultless new all distinct fit = record {
@@ -246,21 +270,21 @@ module _ (s : Shape) (has_option : ValuedOption → Bool) (has_plain : Bool) (st
         faultless = after.faultless;
         no_fault = valued_fault s option value h i (words_of rest) strict knows_it all.0.1 faultless ∙ after.no_fault;
       }
-  walks (Plain ∷ rest) places i h rows has apart are faultless new all distinct fit =
-      let knows_it = knows_plain all.0 in
-      let next = held_plain s h in
-      let none : has_row (codes "plain") rows ≡ false = new.plain refl in
-      let next_rows : (settled s.rules next).rows ≡ rows ++ match_row (codes "plain") (codes "true") ∷ [] =
-      plain_rows s h ∙ ap (λ x. with_values (codes "plain") AsWritten CommandLine (codes "true" ∷ []) (without (codes "plain") x)) are ∙ put_last (codes "plain") (codes "true") rows none in
-      let after = walks rest places i next (rows ++ match_row (codes "plain") (codes "true") ∷ []) has apart next_rows refl
-      (new_after_plain places rest rows distinct.0 new) all.1 distinct.1 fit in
+  walks (Flag flag ∷ rest) places i h rows has apart are faultless new all distinct fit =
+      let knows_it = knows_flag flag all.0 in
+      let next = held_flag s flag h in
+      let none : has_row (flag_id flag) rows ≡ false = new.flags flag (rw (same_flag_itself flag) refl) in
+      let next_rows : (settled s.rules next).rows ≡ rows ++ match_row (flag_id flag) (codes "true") ∷ [] =
+      flag_rows s flag h ∙ ap (λ x. with_values (flag_id flag) AsWritten CommandLine (codes "true" ∷ []) (without (flag_id flag) x)) are ∙ put_last (flag_id flag) (codes "true") rows none in
+      let after = walks rest places i next (rows ++ match_row (flag_id flag) (codes "true") ∷ []) has apart next_rows refl
+      (new_after_flag places flag rest rows distinct.0 new) all.1 distinct.1 fit in
       record {
         last = after.last;
         end = after.end;
-        walk = ap (λ w. fold (walked s.rules []) w (words_of rest)) (plain_step s h i knows_it) ∙ after.walk;
-        found = after.found ∙ append_assoc rows (match_row (codes "plain") (codes "true") ∷ []) (rows_for places rest);
+        walk = ap (λ w. fold (walked s.rules []) w (words_of rest)) (flag_step s flag h i knows_it) ∙ after.walk;
+        found = after.found ∙ append_assoc rows (match_row (flag_id flag) (codes "true") ∷ []) (rows_for places rest);
         faultless = after.faultless;
-        no_fault = plain_fault s h i (words_of rest) strict knows_it faultless (ap (has_row (codes "plain")) are ∙ none) ∙ after.no_fault;
+        no_fault = flag_fault s flag h i (words_of rest) strict knows_it faultless (ap (has_row (flag_id flag)) are ∙ none) ∙ after.no_fault;
       }
 
 none_yet : (places : List Place) → AllByRecursion (λ p. has_row (place_id p) [] ≡ false) places
@@ -276,12 +300,12 @@ pub record IsWalkedWhole (s : Shape) (places : List Place) (arguments : List Arg
   pub faultless : settle_fault s.rules false last ≡ []
   pub no_fault : walk_fault s [] (walk_from nothing_held) (words_of arguments) ≡ []
 
-pub walks_all : (s : Shape) (has_option : ValuedOption → Bool) (has_plain : Bool) (places : List Place) → Takes s has_option has_plain places
-    → (arguments : List Argument) → AllByRecursion (IsArgumentOf has_option has_plain) arguments → AreDistinct arguments → FitPlaces places (placed_words arguments)
+pub walks_all : (s : Shape) (has_option : ValuedOption → Bool) (has_flag : FlagOption → Bool) (places : List Place) → Takes s has_option has_flag places
+    → (arguments : List Argument) → AllByRecursion (IsArgumentOf has_option has_flag) arguments → AreDistinct arguments → FitPlaces places (placed_words arguments)
     → IsWalkedWhole s places arguments
-walks_all s has_option has_plain places takes arguments all distinct fit =
-    let new : AreNew s has_option has_plain takes.strict takes.option takes.plain places arguments [] = record { options = λ option value given. refl; plain = λ given. refl; each_place = none_yet places } in
-    let w = walks s has_option has_plain takes.strict takes.option takes.plain arguments places 1 nothing_held [] takes.each_place takes.apart refl refl new all distinct fit in
+walks_all s has_option has_flag places takes arguments all distinct fit =
+    let new : AreNew s has_option has_flag takes.strict takes.option takes.flag places arguments [] = record { options = λ option value given. refl; flags = λ flag given. refl; each_place = none_yet places } in
+    let w = walks s has_option has_flag takes.strict takes.option takes.flag arguments places 1 nothing_held [] takes.each_place takes.apart refl refl new all distinct fit in
     record { last = w.last; end = w.end; walk = w.walk; found = w.found; faultless = w.faultless; no_fault = w.no_fault }
 
 -- the rows of all arguments, with the defaults

@@ -1,17 +1,17 @@
 -- What `check` reads of its arguments.
-use Rattle.std.proofs.Common.{◌≡◌, ◌∙◌, ℕ, false, List, [], ◌∷◌, Option, Some, refl, sym, ap, ap₂, subst, codes}
-use Rattle.std.specs.Prelude.{fold}
+use Rattle.std.proofs.Common.{◌≡◌, ◌∙◌, ℕ, Bool, false, List, [], ◌∷◌, Option, Some, refl, sym, ap, ap₂, subst, codes}
+use Rattle.std.specs.Prelude.{fold, map}
 use Rattle.std.specs.List.{AllByRecursion}
 use Rattle.clap.specs.Walk.{Row as MatchRow, Text, rows_after, with_default, first_of}
-use Rattle.clap.specs.Faults.{check_fault}
+use Rattle.clap.specs.Faults.{check_fault, defaults_fault}
 use Rattle.pb_command.specs.Parser.{row_option}
-use Rattle.pb_command.specs.Values.{InputNames, Grid, Tiles, Strips, kind_of_text, option_of}
+use Rattle.pb_command.specs.Values.{InputNames, Grid, Tiles, Strips, kind_of_text, option_of, flag_of}
 use Rattle.pb_command.specs.Meaning.{Read, Check, reading_of_words, unless_faulty, check_of, with_kind, check_with}
-use Rattle.pb_command.specs.Options.{Row, Argument, words_of, placed_words, value_given, number_given, AreDistinct, IsArgumentOf, is_of_check, kind_word, file_words}
-use Rattle.pb_command.proofs.Walking.{Place, Kind, FirstFile, SecondFile, CertificateFile, match_row, no_defaults, no_default_fault}
-use Rattle.pb_command.proofs.Arguments.{row_of, rows_for, word_at, FitPlaces, walks_all, rows_are, no_fault_at_all}
-use Rattle.pb_command.proofs.Found.{finds, text_read, number_read, value_fits}
-use Rattle.pb_command.proofs.Shapes.{check_shape, check_takes, by_check, no_default_in_check}
+use Rattle.pb_command.specs.Options.{Row, Argument, words_of, placed_words, value_given, number_given, AreDistinct, IsArgumentOf, is_of_check, is_flag_of_check, Swamp, flag_given, kind_word, file_words}
+use Rattle.pb_command.proofs.Walking.{Place, Kind, FirstFile, SecondFile, CertificateFile, match_row, flag_rule, defaults_last, last_default_fault, flags_default_fault}
+use Rattle.pb_command.proofs.Arguments.{row_of, rows_for, word_at, FitPlaces, found_flag, walks_all, rows_are, no_fault_at_all}
+use Rattle.pb_command.proofs.Found.{finds, finds_with, flag_read, text_read, number_read, value_fits}
+use Rattle.pb_command.proofs.Shapes.{check_shape, flagless_rules, check_takes, by_check, rules_of_check, no_default_in_check}
 
 abbrev pub check_places : List Place
 check_places = Kind ∷ CertificateFile ∷ FirstFile ∷ SecondFile ∷ []
@@ -20,36 +20,39 @@ check_places = Kind ∷ CertificateFile ∷ FirstFile ∷ SecondFile ∷ []
 nothing_missing : (rows : List MatchRow) (kind certificate first : Text) → row_of (codes "KIND") rows ≡ Some (match_row (codes "KIND") kind)
     → row_of (codes "CERTIFICATE") rows ≡ Some (match_row (codes "CERTIFICATE") certificate)
     → row_of (codes "FIRST_FILE") rows ≡ Some (match_row (codes "FIRST_FILE") first) → check_fault check_shape rows false ≡ []
-unfolding check_shape
+unfolding check_shape flagless_rules
 nothing_missing rows kind certificate first has_kind has_certificate has_first = rw (has_kind, has_certificate, has_first) refl
 
-check_values : (rows : List MatchRow) (kind certificate first second : Option Text) (row : Option ℕ)
+check_values : (rows : List MatchRow) (kind certificate first second : Option Text) (row : Option ℕ) (swamp : Bool)
     → first_of (codes "KIND") rows ≡ kind → first_of (codes "CERTIFICATE") rows ≡ certificate → first_of (codes "FIRST_FILE") rows ≡ first → first_of (codes "SECOND_FILE") rows ≡ second
-    → option_of row_option rows ≡ row → check_of rows ≡ with_kind (kind_of_text kind) (check_with certificate first second row)
-check_values rows kind certificate first second row a b d e f = ap₂ with_kind (ap kind_of_text a) (rw (b, d, e, f) refl)
+    → option_of row_option rows ≡ row → flag_of (codes "swamp") rows ≡ swamp → check_of rows ≡ with_kind (kind_of_text kind) (check_with certificate first second row swamp)
+check_values rows kind certificate first second row swamp a b d e f g = ap₂ with_kind (ap kind_of_text a) (rw (b, d, e, f, g) refl)
 
 -- what the arguments of `check` ask for, whatever its kind and the number of its files
-pub check_is : (arguments : List Argument) → AllByRecursion (IsArgumentOf is_of_check false) arguments → AreDistinct arguments → FitPlaces check_places (placed_words arguments)
+pub check_is : (arguments : List Argument) → AllByRecursion (IsArgumentOf is_of_check is_flag_of_check) arguments → AreDistinct arguments → FitPlaces check_places (placed_words arguments)
     → (kind certificate first : Text) → word_at Kind check_places (placed_words arguments) ≡ Some kind → word_at CertificateFile check_places (placed_words arguments) ≡ Some certificate
     → word_at FirstFile check_places (placed_words arguments) ≡ Some first
     → reading_of_words (codes "check" ∷ words_of arguments) ≡ with_kind (kind_of_text (Some kind))
-    (check_with (Some certificate) (Some first) (word_at SecondFile check_places (placed_words arguments)) (Some (number_given Row 0 arguments)))
+    (check_with (Some certificate) (Some first) (word_at SecondFile check_places (placed_words arguments)) (Some (number_given Row 0 arguments)) (flag_given Swamp arguments))
 check_is arguments all distinct fit kind certificate first kind_is certificate_here first_is =
-    let w = walks_all check_shape is_of_check false check_places check_takes arguments all distinct fit in
-    let rows = rows_for check_places arguments in
-    let found = finds check_places arguments in
+    let w = walks_all check_shape is_of_check is_flag_of_check check_places check_takes arguments all distinct fit in
+    let bare = rows_for check_places arguments in
+    let rows = with_default bare (flag_rule Swamp) in
+    let found = finds_with Swamp check_places arguments bare (finds check_places arguments) in
     let kind_row : row_of (codes "KIND") rows ≡ Some (match_row (codes "KIND") kind) = found.place Kind ∙ rw kind_is refl in
     let certificate_row : row_of (codes "CERTIFICATE") rows ≡ Some (match_row (codes "CERTIFICATE") certificate) = found.place CertificateFile ∙ rw certificate_here refl in
     let first_row : row_of (codes "FIRST_FILE") rows ≡ Some (match_row (codes "FIRST_FILE") first) = found.place FirstFile ∙ rw first_is refl in
-    let same : fold with_default rows check_shape.rules ≡ rows = no_defaults rows check_shape.rules no_default_in_check in
-    let none = no_fault_at_all check_shape check_places arguments check_takes.strict w (no_default_fault rows check_shape.rules no_default_in_check)
+    let same : fold with_default bare check_shape.rules ≡ rows = ap (fold with_default bare) rules_of_check ∙ defaults_last bare flagless_rules (map flag_rule (Swamp ∷ [])) no_default_in_check in
+    let no_default_fails = ap (defaults_fault bare) rules_of_check ∙ (last_default_fault bare flagless_rules (map flag_rule (Swamp ∷ [])) no_default_in_check ∙ flags_default_fault bare (Swamp ∷ [])) in
+    let none = no_fault_at_all check_shape check_places arguments check_takes.strict w no_default_fails
     (ap (λ x. check_fault check_shape x false) same ∙ nothing_missing rows kind certificate first kind_row certificate_row first_row) in
     let are : rows_after check_shape.rules [] (words_of arguments) ≡ rows = rows_are check_shape check_places arguments w ∙ same in
     by_check (words_of arguments) ∙ (ap₂ unless_faulty none (ap check_of are)
-    ∙ check_values rows (Some kind) (Some certificate) (Some first) (word_at SecondFile check_places (placed_words arguments)) (Some (number_given Row 0 arguments))
+    ∙ check_values rows (Some kind) (Some certificate) (Some first) (word_at SecondFile check_places (placed_words arguments)) (Some (number_given Row 0 arguments)) (flag_given Swamp arguments)
     (text_read rows (codes "KIND") (Some kind) kind_row) (text_read rows (codes "CERTIFICATE") (Some certificate) certificate_row) (text_read rows (codes "FIRST_FILE") (Some first) first_row)
     (text_read rows (codes "SECOND_FILE") (word_at SecondFile check_places (placed_words arguments)) (found.place SecondFile))
-    (number_read row_option rows (value_given Row arguments) (found.option Row) (λ value given. value_fits is_of_check false Row value arguments all given)))
+    (number_read row_option rows (value_given Row arguments) (found.option Row) (λ value given. value_fits is_of_check is_flag_of_check Row value arguments all given))
+    (flag_read Swamp arguments bare (found_flag check_places Swamp arguments)))
 
 abbrev first_file : InputNames → Text
 first_file (Grid names) = names.map
@@ -76,22 +79,22 @@ first_at (Grid names) certificate = refl
 first_at (Tiles board) certificate = refl
 first_at (Strips names) certificate = refl
 
-asked : (input : InputNames) (certificate : Text) (row : ℕ)
+asked : (input : InputNames) (certificate : Text) (row : ℕ) (swamp : Bool)
     → with_kind (kind_of_text (Some (kind_word input)))
-    (check_with (Some certificate) (Some (first_file input)) (word_at SecondFile check_places (kind_word input ∷ certificate ∷ file_words input)) (Some row))
-    ≡ Read (Check (record { input = input; certificate = certificate; row = row }))
-asked (Grid names) certificate row = refl
-asked (Tiles board) certificate row = refl
-asked (Strips names) certificate row = refl
+    (check_with (Some certificate) (Some (first_file input)) (word_at SecondFile check_places (kind_word input ∷ certificate ∷ file_words input)) (Some row) swamp)
+    ≡ Read (Check (record { input = input; certificate = certificate; row = row; swamp = swamp }))
+asked (Grid names) certificate row swamp = refl
+asked (Tiles board) certificate row swamp = refl
+asked (Strips names) certificate row swamp = refl
 
 -- the law
-pub check_reads : (input : InputNames) (certificate : Text) (arguments : List Argument) → AllByRecursion (IsArgumentOf is_of_check false) arguments → AreDistinct arguments
+pub check_reads : (input : InputNames) (certificate : Text) (arguments : List Argument) → AllByRecursion (IsArgumentOf is_of_check is_flag_of_check) arguments → AreDistinct arguments
     → placed_words arguments ≡ kind_word input ∷ certificate ∷ file_words input
-    → reading_of_words (codes "check" ∷ words_of arguments) ≡ Read (Check (record { input = input; certificate = certificate; row = number_given Row 0 arguments }))
+    → reading_of_words (codes "check" ∷ words_of arguments) ≡ Read (Check (record { input = input; certificate = certificate; row = number_given Row 0 arguments; swamp = flag_given Swamp arguments }))
 check_reads input certificate arguments all distinct placed =
     check_is arguments all distinct (subst (FitPlaces check_places) (sym placed) (files_fit input certificate)) (kind_word input) certificate (first_file input)
     (ap (word_at Kind check_places) placed ∙ kind_at input certificate) (ap (word_at CertificateFile check_places) placed ∙ certificate_at input certificate)
     (ap (word_at FirstFile check_places) placed ∙ first_at input certificate)
     ∙ (ap (λ ws. with_kind (kind_of_text (Some (kind_word input)))
-    (check_with (Some certificate) (Some (first_file input)) (word_at SecondFile check_places ws) (Some (number_given Row 0 arguments)))) placed
-    ∙ asked input certificate (number_given Row 0 arguments))
+    (check_with (Some certificate) (Some (first_file input)) (word_at SecondFile check_places ws) (Some (number_given Row 0 arguments)) (flag_given Swamp arguments))) placed
+    ∙ asked input certificate (number_given Row 0 arguments) (flag_given Swamp arguments))

@@ -1,6 +1,6 @@
--- What is found for the options and the words of a command, also after the default of the flag.
+-- What is found for the options and the words of a command, also after the defaults of flags.
 use Rattle.std.proofs.Common.{◌≡◌, ◌∙◌, ◌||◌, ℕ, Bool, true, false, List, [], ◌∷◌, Option, None, Some, refl, sym, ap, codes}
-use Rattle.std.specs.Prelude.{option_map, if◌then◌else◌}
+use Rattle.std.specs.Prelude.{is_some, option_map, if◌then◌else◌}
 use Rattle.std.specs.List.{AllByRecursion}
 use Rattle.std.specs.Option.{option_map_or}
 use Rattle.std.specs.Str.{bytes_eq}
@@ -11,9 +11,9 @@ use Rattle.clap.specs.declared.parser.matches.ValueSource.TheVariants.{DefaultVa
 use Rattle.pb_command.specs.Parser.{NumberOption, row_option, workers_option, num_option, den_option, budget_option, lot_option, blocks_option}
 use Rattle.pb_command.specs.Values.{option_of, flag_of}
 use Rattle.pb_command.specs.Meaning.{SolveNumbers, numbers_of}
-use Rattle.pb_command.specs.Options.{ValuedOption, Row, Workers, Num, Den, Budget, Lot, Blocks, is_same, Argument, Placed, Valued, Plain, placed_words, value_given, plain_given, number_given, number_of, IsArgumentOf, is_value_of}
-use Rattle.pb_command.proofs.Walking.{Place, place_id, option_id, match_row, plain_rule, same_option, plain_no_option, plain_no_place}
-use Rattle.pb_command.proofs.Arguments.{row_of, rows_for, word_at, found_option, found_place, found_plain, has_plain_row}
+use Rattle.pb_command.specs.Options.{ValuedOption, Row, Workers, Num, Den, Budget, Lot, Blocks, is_same, Argument, Placed, Valued, Flag, FlagOption, Plain, Swamp, placed_words, value_given, flag_given, number_given, number_of, IsArgumentOf, is_value_of}
+use Rattle.pb_command.proofs.Walking.{Place, place_id, option_id, flag_id, match_row, flag_rule, same_option, flag_no_option, flag_no_place, flag_ids_same}
+use Rattle.pb_command.proofs.Arguments.{row_of, rows_for, word_at, found_option, found_place, found_flag, has_row_is}
 
 -- ---- rows that come last
 
@@ -37,11 +37,11 @@ row_new id values (r ∷ rs) same none = by (bytes_eq r.id id) (has_row id rs) r
   by true c is e rest = cc
   by false c is e rest = rw (is, is) (rest e)
 
--- the default of the flag changes no other row
-pub row_beside_plain : (id : Text) (rows : List MatchRow) → bytes_eq (codes "plain") id ≡ false → row_of id (with_default rows plain_rule) ≡ row_of id rows
-row_beside_plain id rows apart = by (has_row (codes "plain") rows) (λ e. row_past id (codes "plain") (codes "false" ∷ []) rows apart e) where
-  by : (b : Bool) → (b ≡ false → row_of id (with_values (codes "plain") AsWritten DefaultValue (codes "false" ∷ []) rows) ≡ row_of id rows)
-      → row_of id (if b then rows else with_values (codes "plain") AsWritten DefaultValue (codes "false" ∷ []) rows) ≡ row_of id rows
+-- the default of a flag changes no other row
+pub row_beside_flag : (f : FlagOption) (id : Text) (rows : List MatchRow) → bytes_eq (flag_id f) id ≡ false → row_of id (with_default rows (flag_rule f)) ≡ row_of id rows
+row_beside_flag f id rows apart = by (has_row (flag_id f) rows) (λ e. row_past id (flag_id f) (codes "false" ∷ []) rows apart e) where
+  by : (b : Bool) → (b ≡ false → row_of id (with_values (flag_id f) AsWritten DefaultValue (codes "false" ∷ []) rows) ≡ row_of id rows)
+      → row_of id (if b then rows else with_values (flag_id f) AsWritten DefaultValue (codes "false" ∷ []) rows) ≡ row_of id rows
   by true past = refl
   by false past = past refl
 
@@ -55,35 +55,48 @@ pub record Finds (places : List Place) (arguments : List Argument) (rows : List 
 pub finds : (places : List Place) (arguments : List Argument) → Finds places arguments (rows_for places arguments)
 finds places arguments = record { option = λ o. found_option places o arguments; place = λ p. found_place p places arguments }
 
-pub finds_with_plain : (places : List Place) (arguments : List Argument) → Finds places arguments (with_default (rows_for places arguments) plain_rule)
-finds_with_plain places arguments = record {
-  option = λ o. row_beside_plain (option_id o) (rows_for places arguments) (plain_no_option o) ∙ found_option places o arguments;
-  place = λ p. row_beside_plain (place_id p) (rows_for places arguments) (plain_no_place p) ∙ found_place p places arguments;
+-- the default of a flag changes nothing of it
+pub finds_with : (f : FlagOption) (places : List Place) (arguments : List Argument) (rows : List MatchRow) → Finds places arguments rows → Finds places arguments (with_default rows (flag_rule f))
+finds_with f places arguments rows found = record {
+  option = λ o. row_beside_flag f (option_id o) rows (flag_no_option f o) ∙ found.option o;
+  place = λ p. row_beside_flag f (place_id p) rows (flag_no_place f p) ∙ found.place p;
 }
 
--- the flag is read as it is given
-pub plain_read : (places : List Place) (arguments : List Argument) → flag_of (codes "plain") (with_default (rows_for places arguments) plain_rule) ≡ plain_given arguments
-plain_read places arguments =
-    by (has_row (codes "plain") (rows_for places arguments)) (plain_given arguments) refl (has_plain_row places arguments) (found_plain places arguments)
-    (λ e. row_new (codes "plain") (codes "false" ∷ []) (rows_for places arguments) refl e) where
-      by : (b given : Bool) → has_row (codes "plain") (rows_for places arguments) ≡ b → b ≡ given
-          → row_of (codes "plain") (rows_for places arguments) ≡ (if given then Some (match_row (codes "plain") (codes "true")) else None)
-          → (has_row (codes "plain") (rows_for places arguments) ≡ false → row_of (codes "plain") (with_values (codes "plain") AsWritten DefaultValue (codes "false" ∷ []) (rows_for places arguments))
-          ≡ Some (record { id = codes "plain"; values = codes "false" ∷ []; count = None; source = Some DefaultValue; reading = AsWritten }))
-          → flag_of (codes "plain") (if b then rows_for places arguments else with_values (codes "plain") AsWritten DefaultValue (codes "false" ∷ []) (rows_for places arguments)) ≡ given
+-- what is found for a flag
+abbrev pub FindsFlag : FlagOption → List Argument → List MatchRow → Type 0
+FindsFlag f arguments rows = row_of (flag_id f) rows ≡ (if flag_given f arguments then Some (match_row (flag_id f) (codes "true")) else None)
+
+-- a flag is read as it is given, after its own default
+pub flag_read : (f : FlagOption) (arguments : List Argument) (rows : List MatchRow) → FindsFlag f arguments rows → flag_of (flag_id f) (with_default rows (flag_rule f)) ≡ flag_given f arguments
+flag_read f arguments rows found =
+    by (has_row (flag_id f) rows) (flag_given f arguments) refl (has_row_is (flag_id f) rows ∙ (ap is_some found ∙ some (flag_given f arguments))) found
+    (λ e. row_new (flag_id f) (codes "false" ∷ []) rows (flag_ids_same f) e) where
+      some : (b : Bool) → is_some (if b then Some (match_row (flag_id f) (codes "true")) else None) ≡ b
+      some true = refl
+      some false = refl
+
+      by : (b given : Bool) → has_row (flag_id f) rows ≡ b → b ≡ given
+          → row_of (flag_id f) rows ≡ (if given then Some (match_row (flag_id f) (codes "true")) else None)
+          → (has_row (flag_id f) rows ≡ false → row_of (flag_id f) (with_values (flag_id f) AsWritten DefaultValue (codes "false" ∷ []) rows)
+          ≡ Some (record { id = flag_id f; values = codes "false" ∷ []; count = None; source = Some DefaultValue; reading = AsWritten }))
+          → flag_of (flag_id f) (if b then rows else with_values (flag_id f) AsWritten DefaultValue (codes "false" ∷ []) rows) ≡ given
       by true true is same found new = rw found refl
       by true false is same found new = cc
       by false true is same found new = cc
       by false false is same found new = rw (new is) refl
 
+-- and after that of another
+pub flag_read_beside : (f other : FlagOption) (rows : List MatchRow) → bytes_eq (flag_id other) (flag_id f) ≡ false → flag_of (flag_id f) (with_default rows (flag_rule other)) ≡ flag_of (flag_id f) rows
+flag_read_beside f other rows apart = rw (row_beside_flag other (flag_id f) rows apart) refl
+
 -- the value that is found for an option is one that it takes
-pub value_fits : (has_option : ValuedOption → Bool) (has_plain : Bool) (option : ValuedOption) (value : Text) (arguments : List Argument)
-    → AllByRecursion (IsArgumentOf has_option has_plain) arguments → value_given option arguments ≡ Some value → is_value_of option value ≡ true
-value_fits has_option has_plain option value [] all given = cc
-value_fits has_option has_plain option value (Placed word ∷ rest) all given = value_fits has_option has_plain option value rest all.1 given
-value_fits has_option has_plain option value (Plain ∷ rest) all given = value_fits has_option has_plain option value rest all.1 given
-value_fits has_option has_plain option value (Valued other given_value ∷ rest) all given =
-    by (is_same option other) refl given (λ e. value_fits has_option has_plain option value rest all.1 e) where
+pub value_fits : (has_option : ValuedOption → Bool) (has_flag : FlagOption → Bool) (option : ValuedOption) (value : Text) (arguments : List Argument)
+    → AllByRecursion (IsArgumentOf has_option has_flag) arguments → value_given option arguments ≡ Some value → is_value_of option value ≡ true
+value_fits has_option has_flag option value [] all given = cc
+value_fits has_option has_flag option value (Placed word ∷ rest) all given = value_fits has_option has_flag option value rest all.1 given
+value_fits has_option has_flag option value (Flag flag ∷ rest) all given = value_fits has_option has_flag option value rest all.1 given
+value_fits has_option has_flag option value (Valued other given_value ∷ rest) all given =
+    by (is_same option other) refl given (λ e. value_fits has_option has_flag option value rest all.1 e) where
       by : (b : Bool) → is_same option other ≡ b → (if b then Some given_value else value_given option rest) ≡ Some value
           → (value_given option rest ≡ Some value → is_value_of option value ≡ true) → is_value_of option value ≡ true
       by true is e later =
@@ -123,13 +136,13 @@ numbers_are : (rows : List MatchRow) (row workers num den budget lot blocks : �
     → numbers_of rows ≡ Some (record { row = row; workers = workers; num = num; den = den; budget = budget; lot = lot; blocks = blocks })
 numbers_are rows row workers num den budget lot blocks a b c d e f g = rw (a, b, c, d, e, f, g) refl
 
-pub numbers_read : (has_option : ValuedOption → Bool) (has_plain : Bool) (places : List Place) (arguments : List Argument) (rows : List MatchRow)
-    → AllByRecursion (IsArgumentOf has_option has_plain) arguments → Finds places arguments rows → numbers_of rows ≡ Some (numbers_given arguments)
-numbers_read has_option has_plain places arguments rows all found = numbers_are rows _ _ _ _ _ _ _
-    (number_read row_option rows (value_given Row arguments) (found.option Row) (λ value given. value_fits has_option has_plain Row value arguments all given))
-    (number_read workers_option rows (value_given Workers arguments) (found.option Workers) (λ value given. value_fits has_option has_plain Workers value arguments all given))
-    (number_read num_option rows (value_given Num arguments) (found.option Num) (λ value given. value_fits has_option has_plain Num value arguments all given))
-    (number_read den_option rows (value_given Den arguments) (found.option Den) (λ value given. value_fits has_option has_plain Den value arguments all given))
-    (number_read budget_option rows (value_given Budget arguments) (found.option Budget) (λ value given. value_fits has_option has_plain Budget value arguments all given))
-    (number_read lot_option rows (value_given Lot arguments) (found.option Lot) (λ value given. value_fits has_option has_plain Lot value arguments all given))
-    (number_read blocks_option rows (value_given Blocks arguments) (found.option Blocks) (λ value given. value_fits has_option has_plain Blocks value arguments all given))
+pub numbers_read : (has_option : ValuedOption → Bool) (has_flag : FlagOption → Bool) (places : List Place) (arguments : List Argument) (rows : List MatchRow)
+    → AllByRecursion (IsArgumentOf has_option has_flag) arguments → Finds places arguments rows → numbers_of rows ≡ Some (numbers_given arguments)
+numbers_read has_option has_flag places arguments rows all found = numbers_are rows _ _ _ _ _ _ _
+    (number_read row_option rows (value_given Row arguments) (found.option Row) (λ value given. value_fits has_option has_flag Row value arguments all given))
+    (number_read workers_option rows (value_given Workers arguments) (found.option Workers) (λ value given. value_fits has_option has_flag Workers value arguments all given))
+    (number_read num_option rows (value_given Num arguments) (found.option Num) (λ value given. value_fits has_option has_flag Num value arguments all given))
+    (number_read den_option rows (value_given Den arguments) (found.option Den) (λ value given. value_fits has_option has_flag Den value arguments all given))
+    (number_read budget_option rows (value_given Budget arguments) (found.option Budget) (λ value given. value_fits has_option has_flag Budget value arguments all given))
+    (number_read lot_option rows (value_given Lot arguments) (found.option Lot) (λ value given. value_fits has_option has_flag Lot value arguments all given))
+    (number_read blocks_option rows (value_given Blocks arguments) (found.option Blocks) (λ value given. value_fits has_option has_flag Blocks value arguments all given))

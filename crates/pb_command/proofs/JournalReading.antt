@@ -7,7 +7,7 @@ use Rattle.clap.specs.Faults.{check_fault}
 use Rattle.pb_command.specs.Parser.{row_option}
 use Rattle.pb_command.specs.Values.{InputNames, Grid, Tiles, Strips, kind_of_text, option_of}
 use Rattle.pb_command.specs.Meaning.{Read, Journal, reading_of_words, unless_faulty, journal_of, with_kind, journal_with}
-use Rattle.pb_command.specs.Options.{Row, Argument, words_of, placed_words, value_given, number_given, AreDistinct, IsArgumentOf, is_of_check, kind_word, file_words}
+use Rattle.pb_command.specs.Options.{Row, Argument, words_of, placed_words, value_given, number_given, AreDistinct, IsArgumentOf, is_of_check, no_flag, kind_word, file_words}
 use Rattle.pb_command.proofs.Walking.{Place, Kind, FirstFile, SecondFile, JournalFile, match_row, no_defaults, no_default_fault}
 use Rattle.pb_command.proofs.Arguments.{row_of, rows_for, word_at, FitPlaces, walks_all, rows_are, no_fault_at_all}
 use Rattle.pb_command.proofs.Found.{finds, text_read, number_read, value_fits}
@@ -29,13 +29,13 @@ journal_values : (rows : List MatchRow) (kind journal first second : Option Text
 journal_values rows kind journal first second row a b d e f = ap₂ with_kind (ap kind_of_text a) (rw (b, d, e, f) refl)
 
 -- what the arguments of `journal` ask for, whatever its kind and the number of its files
-pub journal_is : (arguments : List Argument) → AllByRecursion (IsArgumentOf is_of_check false) arguments → AreDistinct arguments → FitPlaces journal_places (placed_words arguments)
+pub journal_is : (arguments : List Argument) → AllByRecursion (IsArgumentOf is_of_check no_flag) arguments → AreDistinct arguments → FitPlaces journal_places (placed_words arguments)
     → (kind journal first : Text) → word_at Kind journal_places (placed_words arguments) ≡ Some kind → word_at JournalFile journal_places (placed_words arguments) ≡ Some journal
     → word_at FirstFile journal_places (placed_words arguments) ≡ Some first
     → reading_of_words (codes "journal" ∷ words_of arguments) ≡ with_kind (kind_of_text (Some kind))
     (journal_with (Some journal) (Some first) (word_at SecondFile journal_places (placed_words arguments)) (Some (number_given Row 0 arguments)))
 journal_is arguments all distinct fit kind journal first kind_is journal_here first_is =
-    let w = walks_all journal_shape is_of_check false journal_places journal_takes arguments all distinct fit in
+    let w = walks_all journal_shape is_of_check no_flag journal_places journal_takes arguments all distinct fit in
     let rows = rows_for journal_places arguments in
     let found = finds journal_places arguments in
     let kind_row : row_of (codes "KIND") rows ≡ Some (match_row (codes "KIND") kind) = found.place Kind ∙ rw kind_is refl in
@@ -49,7 +49,7 @@ journal_is arguments all distinct fit kind journal first kind_is journal_here fi
     ∙ journal_values rows (Some kind) (Some journal) (Some first) (word_at SecondFile journal_places (placed_words arguments)) (Some (number_given Row 0 arguments))
     (text_read rows (codes "KIND") (Some kind) kind_row) (text_read rows (codes "JOURNAL") (Some journal) journal_row) (text_read rows (codes "FIRST_FILE") (Some first) first_row)
     (text_read rows (codes "SECOND_FILE") (word_at SecondFile journal_places (placed_words arguments)) (found.place SecondFile))
-    (number_read row_option rows (value_given Row arguments) (found.option Row) (λ value given. value_fits is_of_check false Row value arguments all given)))
+    (number_read row_option rows (value_given Row arguments) (found.option Row) (λ value given. value_fits is_of_check no_flag Row value arguments all given)))
 
 abbrev first_file : InputNames → Text
 first_file (Grid names) = names.map
@@ -85,7 +85,7 @@ asked (Tiles board) journal row = refl
 asked (Strips names) journal row = refl
 
 -- the law
-pub journal_reads : (input : InputNames) (journal : Text) (arguments : List Argument) → AllByRecursion (IsArgumentOf is_of_check false) arguments → AreDistinct arguments
+pub journal_reads : (input : InputNames) (journal : Text) (arguments : List Argument) → AllByRecursion (IsArgumentOf is_of_check no_flag) arguments → AreDistinct arguments
     → placed_words arguments ≡ kind_word input ∷ journal ∷ file_words input
     → reading_of_words (codes "journal" ∷ words_of arguments) ≡ Read (Journal (record { input = input; journal = journal; row = number_given Row 0 arguments }))
 journal_reads input journal arguments all distinct placed =

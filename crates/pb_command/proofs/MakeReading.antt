@@ -8,7 +8,7 @@ use Rattle.clap.specs.Faults.{check_fault}
 use Rattle.pb_command.specs.Parser.{workers_option, seed_most, size_word_most}
 use Rattle.pb_command.specs.Values.{kind_of_text, option_of, seed_of, size_of, is_size}
 use Rattle.pb_command.specs.Meaning.{Read, Refused, Make, MakeMeaning, reading_of_words, unless_faulty, make_of, with_kind, make_with, make_tested}
-use Rattle.pb_command.specs.Options.{Workers, Argument, words_of, placed_words, value_given, number_given, number_of, AreDistinct, IsArgumentOf, is_of_make, word_of_kind, AreOfMake, IsSizeOf}
+use Rattle.pb_command.specs.Options.{Workers, Argument, words_of, placed_words, value_given, number_given, number_of, AreDistinct, IsArgumentOf, is_of_make, no_flag, word_of_kind, AreOfMake, IsSizeOf}
 use Rattle.pb_command.specs.declared.command.KindWord.{KindWord}
 use Rattle.pb_command.specs.declared.command.KindWord.TheVariants as kind
 use Rattle.pb_command.specs.declared.refusal.CommandFault.TheVariants as fault
@@ -41,13 +41,13 @@ make_values : (rows : List MatchRow) (kind : Option Text) (seed size workers : O
 make_values rows kind seed size workers a b d e = ap₂ with_kind (ap kind_of_text a) (rw (b, d, e) refl)
 
 -- what the arguments of `make` ask for, whatever its kind
-pub make_is : (arguments : List Argument) → AllByRecursion (IsArgumentOf is_of_make false) arguments → AreDistinct arguments
+pub make_is : (arguments : List Argument) → AllByRecursion (IsArgumentOf is_of_make no_flag) arguments → AreDistinct arguments
     → (kind seed size : Text) → placed_words arguments ≡ kind ∷ seed ∷ size ∷ [] → is_unsigned_in 0 seed_most seed ≡ true → is_unsigned_in 0 size_word_most size ≡ true
     → reading_of_words (codes "make" ∷ words_of arguments) ≡ with_kind (kind_of_text (Some kind))
     (make_with (Some (number_of seed)) (Some (number_of size)) (Some (number_given Workers 1 arguments)))
 make_is arguments all distinct kind seed size placed seed_fits size_fits =
     let fit : FitPlaces make_places (placed_words arguments) = subst (FitPlaces make_places) (sym placed) (refl, (seed_fits, (size_fits, tt))) in
-    let w = walks_all make_shape is_of_make false make_places make_takes arguments all distinct fit in
+    let w = walks_all make_shape is_of_make no_flag make_places make_takes arguments all distinct fit in
     let rows = rows_for make_places arguments in
     let found = finds make_places arguments in
     let kind_row : row_of (codes "KIND") rows ≡ Some (match_row (codes "KIND") kind) = found.place Kind ∙ rw placed refl in
@@ -60,7 +60,7 @@ make_is arguments all distinct kind seed size placed seed_fits size_fits =
     by_make (words_of arguments) ∙ (ap₂ unless_faulty none (ap make_of are)
     ∙ make_values rows (Some kind) (Some (number_of seed)) (Some (number_of size)) (Some (number_given Workers 1 arguments))
     (text_read rows (codes "KIND") (Some kind) kind_row) (seed_read rows seed seed_row seed_fits) (size_read rows size size_row size_fits)
-    (number_read workers_option rows (value_given Workers arguments) (found.option Workers) (λ value given. value_fits is_of_make false Workers value arguments all given)))
+    (number_read workers_option rows (value_given Workers arguments) (found.option Workers) (λ value given. value_fits is_of_make no_flag Workers value arguments all given)))
 
 asked : (k : KindWord) (seed size workers : ℕ)
     → with_kind (kind_of_text (Some (word_of_kind k))) (make_with (Some seed) (Some size) (Some workers)) ≡ make_tested (record { kind = k; seed = seed; size = size; workers = workers })

@@ -9,18 +9,13 @@ use Rattle.clap.specs.Kinds.{Kinds, or_else}
 use Rattle.pb_command.specs.Names.{IsName}
 use Rattle.pb_command.specs.Values.{InputNames}
 use Rattle.pb_command.specs.Meaning.{Reading, Refused, reading_of_words, unless_faulty}
-use Rattle.pb_command.specs.Options.{ValuedOption, Argument, option_word, words_of, value_given, plain_given, is_value_of, AreOfSolve}
+use Rattle.pb_command.specs.Options.{ValuedOption, Argument, option_word, words_of, value_given, FlagOption, flag_word, flag_given, is_value_of, AreOfSolve}
 use Rattle.pb_command.specs.declared.refusal.CommandFault.TheVariants as fault
-use Rattle.pb_command.proofs.Walking.{HasOption, HasPlain, at, option_id, match_row, held_with, valued_step, option_accepts}
-use Rattle.pb_command.proofs.Arguments.{row_of, rows_for, found_option, has_plain_row, IsWalkedWhole}
+use Rattle.pb_command.proofs.Walking.{FailsHere as IsFaulty, HasOption, at, option_id, flag_id, match_row, held_with, valued_step, flag_again, option_accepts}
+use Rattle.pb_command.proofs.Arguments.{row_of, rows_for, found_option, has_flag_row, IsWalkedWhole}
 use Rattle.clap.proofs.OnLiterals.{clap_on_literals}
 use Rattle.pb_command.proofs.Shapes.{solve_shape, make_shape, plainless_rules, solve_takes, by_solve, by_make}
 use Rattle.pb_command.proofs.SolveReading.{solve_places, solve_walk, solve_fits}
-
--- some step fails
-abbrev IsFaulty : Kinds → Type 0
-IsFaulty [] = ⊥
-IsFaulty (k ∷ ks) = Unit {0}
 
 first_fails : (a b : Kinds) → IsFaulty a → IsFaulty (or_else a b)
 first_fails [] b is = absurd is
@@ -112,21 +107,17 @@ given_twice input arguments are o first second given is =
     fails_at_end arguments w (option_word o ∷ second ∷ []) (at (held_with solve_shape (option_id o) second w.last) w.end) (valued_step solve_shape o second w.last w.end has is)
     (strict_settle (held_with solve_shape (option_id o) second w.last) (second_value solve_shape o second w.last has (ap (has_row (option_id o)) w.found ∙ has_found (option_id o) (rows_for solve_places arguments) (match_row (option_id o) first) found)))
 
-plain_again : (s : Shape) (h : Held) (i : ℕ) → s.args_override_self ≡ false → HasPlain s → settle_fault s.rules false h ≡ [] → has_row (codes "plain") (settled s.rules h).rows ≡ true
-    → IsFaulty (turn_fault s [] (at h i) (codes "--plain"))
-plain_again s h i strict has none given = rw (has, strict, none, given) tt
-
 one_word : (s : Shape) (w : Walk) (word : Text) → IsFaulty (turn_fault s [] w word) → IsFaulty (walk_fault s [] w (word ∷ []))
 unfolding walk_fault
 one_word s w word is = first_fails _ _ is
 
-pub plain_twice : (input : InputNames) (arguments : List Argument) → AreOfSolve input arguments → plain_given arguments ≡ true
-    → reading_of_words (codes "solve" ∷ words_of arguments ++ codes "--plain" ∷ []) ≡ Refused fault.Form
-plain_twice input arguments are given =
+pub flag_twice : (input : InputNames) (arguments : List Argument) → AreOfSolve input arguments → (flag : FlagOption) → flag_given flag arguments ≡ true
+    → reading_of_words (codes "solve" ∷ words_of arguments ++ flag_word flag ∷ []) ≡ Refused fault.Form
+flag_twice input arguments are flag given =
     let w = solve_walk arguments are.each are.distinct (solve_fits input arguments are) in
-    fails_after arguments w (codes "--plain" ∷ []) (one_word solve_shape (at w.last w.end) (codes "--plain")
-    (plain_again solve_shape w.last w.end solve_takes.strict (solve_takes.plain refl) w.faultless
-    (ap (has_row (codes "plain")) w.found ∙ (has_plain_row solve_places arguments ∙ given))))
+    fails_after arguments w (flag_word flag ∷ []) (one_word solve_shape (at w.last w.end) (flag_word flag)
+    (flag_again solve_shape flag w.last w.end solve_takes.strict (solve_takes.flag flag refl) w.faultless
+    (ap (has_row (flag_id flag)) w.found ∙ (has_flag_row solve_places flag arguments ∙ given))))
 
 no_help : arg_by_long solve_shape.rules (codes "help") ≡ None
 unfolding solve_shape plainless_rules

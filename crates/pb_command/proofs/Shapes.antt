@@ -1,16 +1,16 @@
 -- The commands as clap has built them, and what their walks ask of them.
 use Rattle.std.proofs.Common.{◌≡◌, ◌∙◌, ◌++◌, true, false, List, [], ◌∷◌, refl, ap, ap₂, codes}
 use Rattle.std.specs.List.{AllByRecursion}
-use Rattle.std.specs.Prelude.{fold}
+use Rattle.std.specs.Prelude.{fold, map}
 use Rattle.clap.specs.Walk.{Rule, Text, Walk, walked, walk_from, nothing_held, rows_after, stop_after}
 use Rattle.clap.specs.Simple.{App, Shape, built, new_shape, names_of, argument_words, entered}
 use Rattle.clap.specs.Faults.{built_fault, level_fault, walk_fault, defaults_fault}
 use Rattle.clap.specs.Kinds.{Kinds, or_else}
 use Rattle.pb_command.specs.Parser.{the_program}
 use Rattle.pb_command.specs.Meaning.{reading_of_words, unless_faulty, command_met, solve_of, check_of, journal_of, make_of}
-use Rattle.pb_command.specs.Options.{ValuedOption, Row, Workers, Num, Den, Budget, Lot, Blocks, Certificate, Journal, is_of_solve, is_of_check, is_of_make}
+use Rattle.pb_command.specs.Options.{ValuedOption, Row, Workers, Num, Den, Budget, Lot, Blocks, Certificate, Journal, is_of_solve, is_of_check, is_of_make, FlagOption, Plain, Swamp, every_flag, no_flag, is_flag_of_check}
 use Rattle.pb_command.proofs.Declared.{program_on_literals}
-use Rattle.pb_command.proofs.Walking.{Kind, FirstFile, SecondFile, CertificateFile, JournalFile, Seed, Size, HasOption, HasPlain, HasNoDefault, placed_rule, valued_rule, plain_rule}
+use Rattle.pb_command.proofs.Walking.{Kind, FirstFile, SecondFile, CertificateFile, JournalFile, Seed, Size, HasOption, HasFlag, HasNoDefault, placed_rule, valued_rule, flag_rule}
 use Rattle.pb_command.proofs.Arguments.{Takes, HasPlaces}
 use Rattle.pb_command.proofs.Stopped.{stays_stopped, no_fault_when_stopped, stopped_at}
 
@@ -31,10 +31,15 @@ plainless_rules = placed_rule 1 Kind ∷ placed_rule 2 FirstFile ∷ placed_rule
 
 unfoldable pub solve_shape : Shape
 unfolding plainless_rules
-solve_shape = shape_with (codes "solve") (plainless_rules ++ plain_rule ∷ [])
+solve_shape = shape_with (codes "solve") (plainless_rules ++ map flag_rule (Plain ∷ Swamp ∷ []))
+
+-- the rules of `check` that have no default
+unfoldable pub flagless_rules : List Rule
+flagless_rules = placed_rule 1 Kind ∷ placed_rule 2 CertificateFile ∷ placed_rule 3 FirstFile ∷ placed_rule 4 SecondFile ∷ valued_rule Row ∷ []
 
 unfoldable pub check_shape : Shape
-check_shape = shape_with (codes "check") (placed_rule 1 Kind ∷ placed_rule 2 CertificateFile ∷ placed_rule 3 FirstFile ∷ placed_rule 4 SecondFile ∷ valued_rule Row ∷ [])
+unfolding flagless_rules
+check_shape = shape_with (codes "check") (flagless_rules ++ map flag_rule (Swamp ∷ []))
 
 unfoldable pub journal_shape : Shape
 journal_shape = shape_with (codes "journal") (placed_rule 1 Kind ∷ placed_rule 2 JournalFile ∷ placed_rule 3 FirstFile ∷ placed_rule 4 SecondFile ∷ valued_rule Row ∷ [])
@@ -56,7 +61,7 @@ unfoldable pub program_built : App
 program_built = record { top = top_shape; subs = solve_shape ∷ check_shape ∷ journal_shape ∷ make_shape ∷ [] }
 
 pub built_is : built the_program ≡ program_built
-unfolding program_on_literals program_built top_shape solve_shape plainless_rules check_shape journal_shape make_shape
+unfolding program_on_literals program_built top_shape solve_shape plainless_rules check_shape flagless_rules journal_shape make_shape
 built_is = refl
 
 words_are : (words : List Text) → argument_words the_program words ≡ words
@@ -183,44 +188,50 @@ options_of_solve Blocks is = record { by_long = refl; by_id = refl }
 options_of_solve Certificate is = record { by_long = refl; by_id = refl }
 options_of_solve Journal is = record { by_long = refl; by_id = refl }
 
-plain_of_solve : HasPlain solve_shape
+flags_of_solve : (f : FlagOption) → every_flag f ≡ true → HasFlag solve_shape f
 unfolding solve_shape plainless_rules
-plain_of_solve = refl
+flags_of_solve Plain is = refl
+flags_of_solve Swamp is = refl
 
 solve_is_strict : solve_shape.args_override_self ≡ false
 unfolding solve_shape plainless_rules
 solve_is_strict = refl
 
-pub solve_takes : Takes solve_shape is_of_solve true (Kind ∷ FirstFile ∷ SecondFile ∷ [])
+pub solve_takes : Takes solve_shape is_of_solve every_flag (Kind ∷ FirstFile ∷ SecondFile ∷ [])
 solve_takes = record {
   strict = solve_is_strict;
   option = options_of_solve;
-  plain = λ is. plain_of_solve;
+  flag = flags_of_solve;
   each_place = places_of_solve;
   apart = ((refl, (refl, tt)), ((refl, tt), (tt, tt)));
 }
 
 places_of_check : HasPlaces check_shape 1 (Kind ∷ CertificateFile ∷ FirstFile ∷ SecondFile ∷ [])
-unfolding check_shape
+unfolding check_shape flagless_rules
 places_of_check = (
   record { by_index = refl; by_id = refl; next = refl },
   (record { by_index = refl; by_id = refl; next = refl }, (record { by_index = refl; by_id = refl; next = refl }, (record { by_index = refl; by_id = refl; next = refl }, tt))),
 )
 
 options_of_check : (o : ValuedOption) → is_of_check o ≡ true → HasOption check_shape o
-unfolding check_shape
+unfolding check_shape flagless_rules
 options_of_check Row is = record { by_long = refl; by_id = refl }
 options_of_check _ is = cc
 
 check_is_strict : check_shape.args_override_self ≡ false
-unfolding check_shape
+unfolding check_shape flagless_rules
 check_is_strict = refl
 
-pub check_takes : Takes check_shape is_of_check false (Kind ∷ CertificateFile ∷ FirstFile ∷ SecondFile ∷ [])
+flags_of_check : (f : FlagOption) → is_flag_of_check f ≡ true → HasFlag check_shape f
+unfolding check_shape flagless_rules
+flags_of_check Plain is = cc
+flags_of_check Swamp is = refl
+
+pub check_takes : Takes check_shape is_of_check is_flag_of_check (Kind ∷ CertificateFile ∷ FirstFile ∷ SecondFile ∷ [])
 check_takes = record {
   strict = check_is_strict;
   option = options_of_check;
-  plain = λ is. cc;
+  flag = flags_of_check;
   each_place = places_of_check;
   apart = ((refl, (refl, (refl, tt))), ((refl, (refl, tt)), ((refl, tt), (tt, tt))));
 }
@@ -241,11 +252,11 @@ journal_is_strict : journal_shape.args_override_self ≡ false
 unfolding journal_shape
 journal_is_strict = refl
 
-pub journal_takes : Takes journal_shape is_of_check false (Kind ∷ JournalFile ∷ FirstFile ∷ SecondFile ∷ [])
+pub journal_takes : Takes journal_shape is_of_check no_flag (Kind ∷ JournalFile ∷ FirstFile ∷ SecondFile ∷ [])
 journal_takes = record {
   strict = journal_is_strict;
   option = options_of_journal;
-  plain = λ is. cc;
+  flag = λ f is. cc;
   each_place = places_of_journal;
   apart = ((refl, (refl, (refl, tt))), ((refl, (refl, tt)), ((refl, tt), (tt, tt))));
 }
@@ -263,11 +274,11 @@ make_is_strict : make_shape.args_override_self ≡ false
 unfolding make_shape
 make_is_strict = refl
 
-pub make_takes : Takes make_shape is_of_make false (Kind ∷ Seed ∷ Size ∷ [])
+pub make_takes : Takes make_shape is_of_make no_flag (Kind ∷ Seed ∷ Size ∷ [])
 make_takes = record {
   strict = make_is_strict;
   option = options_of_make;
-  plain = λ is. cc;
+  flag = λ f is. cc;
   each_place = places_of_make;
   apart = ((refl, (refl, tt)), ((refl, tt), (tt, tt)));
 }
@@ -278,12 +289,16 @@ pub no_default_in_solve : AllByRecursion HasNoDefault plainless_rules
 unfolding plainless_rules
 no_default_in_solve = (refl, (refl, (refl, (refl, (refl, (refl, (refl, (refl, (refl, (refl, (refl, (refl, tt))))))))))))
 
-pub rules_of_solve : solve_shape.rules ≡ plainless_rules ++ plain_rule ∷ []
+pub rules_of_solve : solve_shape.rules ≡ plainless_rules ++ map flag_rule (Plain ∷ Swamp ∷ [])
 unfolding solve_shape
 rules_of_solve = refl
 
-pub no_default_in_check : AllByRecursion HasNoDefault check_shape.rules
+pub rules_of_check : check_shape.rules ≡ flagless_rules ++ map flag_rule (Swamp ∷ [])
 unfolding check_shape
+rules_of_check = refl
+
+pub no_default_in_check : AllByRecursion HasNoDefault flagless_rules
+unfolding flagless_rules
 no_default_in_check = (refl, (refl, (refl, (refl, (refl, tt)))))
 
 pub no_default_in_journal : AllByRecursion HasNoDefault journal_shape.rules

@@ -1,6 +1,6 @@
 -- What `solve` reads of its arguments.
 use Rattle.std.proofs.Common.{◌≡◌, ◌∙◌, ◌≤◌, ◌<◌, ℕ, Bool, true, false, List, [], ◌∷◌, Option, None, Some, refl, sym, ap, ap₂, subst, codes, arith}
-use Rattle.std.specs.Prelude.{fold, nat_lt}
+use Rattle.std.specs.Prelude.{fold, map, nat_lt}
 use Rattle.std.specs.List.{AllByRecursion}
 use Rattle.std.specs.Str.{bytes_eq}
 use Rattle.std.proofs.lemmas.Slice.Eq.{bytes_eq-Decides}
@@ -8,11 +8,11 @@ use Rattle.clap.specs.Walk.{Row as MatchRow, Text, rows_after, with_default, fir
 use Rattle.clap.specs.Faults.{check_fault, defaults_fault}
 use Rattle.pb_command.specs.Values.{InputNames, Grid, Tiles, Strips, kind_of_text, are_one_name, flag_of}
 use Rattle.pb_command.specs.Meaning.{Read, Refused, Solve, SolveMeaning, reading_of_words, unless_faulty, solve_of, with_kind, solve_with, solve_meaning, solve_tested, numbers_of}
-use Rattle.pb_command.specs.Options.{Num, Den, Certificate, Journal, number_given, Argument, words_of, placed_words, value_given, plain_given, AreDistinct, IsArgumentOf, is_of_solve, kind_word, file_words, AreOfSolve, HaveTwoNames}
+use Rattle.pb_command.specs.Options.{Num, Den, Certificate, Journal, number_given, Argument, words_of, placed_words, value_given, Plain, Swamp, flag_given, AreDistinct, IsArgumentOf, is_of_solve, every_flag, kind_word, file_words, AreOfSolve, HaveTwoNames}
 use Rattle.pb_command.specs.declared.refusal.CommandFault.TheVariants as fault
-use Rattle.pb_command.proofs.Walking.{Place, Kind, FirstFile, SecondFile, match_row, plain_rule, plain_default, plain_default_fault}
-use Rattle.pb_command.proofs.Arguments.{row_of, rows_for, word_at, FitPlaces, IsWalkedWhole, walks_all, rows_are, no_fault_at_all}
-use Rattle.pb_command.proofs.Found.{finds_with_plain, plain_read, text_read, numbers_given, numbers_read}
+use Rattle.pb_command.proofs.Walking.{Place, Kind, FirstFile, SecondFile, flag_id, match_row, flag_rule, defaults_last, last_default_fault, flags_default_fault}
+use Rattle.pb_command.proofs.Arguments.{row_of, rows_for, word_at, FitPlaces, IsWalkedWhole, found_flag, walks_all, rows_are, no_fault_at_all}
+use Rattle.pb_command.proofs.Found.{Finds, finds, finds_with, row_beside_flag, flag_read, flag_read_beside, text_read, numbers_given, numbers_read}
 use Rattle.pb_command.proofs.Shapes.{solve_shape, plainless_rules, solve_takes, by_solve, no_default_in_solve, rules_of_solve}
 
 abbrev pub solve_places : List Place
@@ -24,44 +24,65 @@ nothing_missing : (rows : List MatchRow) (kind first : Text) → row_of (codes "
 unfolding solve_shape plainless_rules
 nothing_missing rows kind first has_kind has_first = rw (has_kind, has_first) refl
 
--- the rows with the default of the flag
-with_plain : (arguments : List Argument) → fold with_default (rows_for solve_places arguments) solve_shape.rules ≡ with_default (rows_for solve_places arguments) plain_rule
-with_plain arguments = ap (fold with_default (rows_for solve_places arguments)) rules_of_solve ∙ plain_default (rows_for solve_places arguments) plainless_rules no_default_in_solve
+-- the rows with the default of `--plain`, and then with that of `--swamp`
+abbrev rows_with_plain : List Argument → List MatchRow
+rows_with_plain arguments = with_default (rows_for solve_places arguments) (flag_rule Plain)
+
+abbrev rows_with_flags : List Argument → List MatchRow
+rows_with_flags arguments = with_default (rows_with_plain arguments) (flag_rule Swamp)
+
+with_flags : (arguments : List Argument) → fold with_default (rows_for solve_places arguments) solve_shape.rules ≡ rows_with_flags arguments
+with_flags arguments =
+    ap (fold with_default (rows_for solve_places arguments)) rules_of_solve ∙ defaults_last (rows_for solve_places arguments) plainless_rules (map flag_rule (Plain ∷ Swamp ∷ [])) no_default_in_solve
 
 no_default_fails : (arguments : List Argument) → defaults_fault (rows_for solve_places arguments) solve_shape.rules ≡ []
-no_default_fails arguments = ap (defaults_fault (rows_for solve_places arguments)) rules_of_solve ∙ plain_default_fault (rows_for solve_places arguments) plainless_rules no_default_in_solve
+no_default_fails arguments =
+    ap (defaults_fault (rows_for solve_places arguments)) rules_of_solve
+    ∙ (last_default_fault (rows_for solve_places arguments) plainless_rules (map flag_rule (Plain ∷ Swamp ∷ [])) no_default_in_solve ∙ flags_default_fault (rows_for solve_places arguments) (Plain ∷ Swamp ∷ []))
 
-pub solve_walk : (arguments : List Argument) → AllByRecursion (IsArgumentOf is_of_solve true) arguments → AreDistinct arguments → FitPlaces solve_places (placed_words arguments)
+finds_with_flags : (arguments : List Argument) → Finds solve_places arguments (rows_with_flags arguments)
+finds_with_flags arguments =
+    finds_with Swamp solve_places arguments (rows_with_plain arguments) (finds_with Plain solve_places arguments (rows_for solve_places arguments) (finds solve_places arguments))
+
+plain_read : (arguments : List Argument) → flag_of (codes "plain") (rows_with_flags arguments) ≡ flag_given Plain arguments
+plain_read arguments =
+    flag_read_beside Plain Swamp (rows_with_plain arguments) refl ∙ flag_read Plain arguments (rows_for solve_places arguments) (found_flag solve_places Plain arguments)
+
+swamp_read : (arguments : List Argument) → flag_of (codes "swamp") (rows_with_flags arguments) ≡ flag_given Swamp arguments
+swamp_read arguments =
+    flag_read Swamp arguments (rows_with_plain arguments) (row_beside_flag Plain (flag_id Swamp) (rows_for solve_places arguments) refl ∙ found_flag solve_places Swamp arguments)
+
+pub solve_walk : (arguments : List Argument) → AllByRecursion (IsArgumentOf is_of_solve every_flag) arguments → AreDistinct arguments → FitPlaces solve_places (placed_words arguments)
     → IsWalkedWhole solve_shape solve_places arguments
-solve_walk arguments all distinct fit = walks_all solve_shape is_of_solve true solve_places solve_takes arguments all distinct fit
+solve_walk arguments all distinct fit = walks_all solve_shape is_of_solve every_flag solve_places solve_takes arguments all distinct fit
 
-solve_values : (rows : List MatchRow) (kind first second certificate journal : Option Text) (plain : Bool) (arguments : List Argument)
+solve_values : (rows : List MatchRow) (kind first second certificate journal : Option Text) (plain swamp : Bool) (arguments : List Argument)
     → first_of (codes "KIND") rows ≡ kind → first_of (codes "FIRST_FILE") rows ≡ first → first_of (codes "SECOND_FILE") rows ≡ second
-    → numbers_of rows ≡ Some (numbers_given arguments) → flag_of (codes "plain") rows ≡ plain → first_of (codes "cert") rows ≡ certificate → first_of (codes "trace") rows ≡ journal
-    → solve_of rows ≡ with_kind (kind_of_text kind) (solve_with first second (Some (numbers_given arguments)) plain certificate journal)
-solve_values rows kind first second certificate journal plain arguments a b c d e f g =
-    ap₂ with_kind (ap kind_of_text a) (rw (b, c, d, e, f, g) refl)
+    → numbers_of rows ≡ Some (numbers_given arguments) → flag_of (codes "plain") rows ≡ plain → flag_of (codes "swamp") rows ≡ swamp → first_of (codes "cert") rows ≡ certificate → first_of (codes "trace") rows ≡ journal
+    → solve_of rows ≡ with_kind (kind_of_text kind) (solve_with first second (Some (numbers_given arguments)) plain swamp certificate journal)
+solve_values rows kind first second certificate journal plain swamp arguments a b c d e f g h =
+    ap₂ with_kind (ap kind_of_text a) (rw (b, c, d, e, f, g, h) refl)
 
 -- what the arguments of `solve` ask for, whatever its kind and the number of its files
-pub solve_is : (arguments : List Argument) → AllByRecursion (IsArgumentOf is_of_solve true) arguments → AreDistinct arguments → FitPlaces solve_places (placed_words arguments)
+pub solve_is : (arguments : List Argument) → AllByRecursion (IsArgumentOf is_of_solve every_flag) arguments → AreDistinct arguments → FitPlaces solve_places (placed_words arguments)
     → (kind first : Text) → word_at Kind solve_places (placed_words arguments) ≡ Some kind → word_at FirstFile solve_places (placed_words arguments) ≡ Some first
     → reading_of_words (codes "solve" ∷ words_of arguments) ≡ with_kind (kind_of_text (Some kind))
-    (solve_with (Some first) (word_at SecondFile solve_places (placed_words arguments)) (Some (numbers_given arguments)) (plain_given arguments)
+    (solve_with (Some first) (word_at SecondFile solve_places (placed_words arguments)) (Some (numbers_given arguments)) (flag_given Plain arguments) (flag_given Swamp arguments)
     (value_given Certificate arguments) (value_given Journal arguments))
 solve_is arguments all distinct fit kind first kind_is first_is =
     let w = solve_walk arguments all distinct fit in
-    let rows = with_default (rows_for solve_places arguments) plain_rule in
-    let found = finds_with_plain solve_places arguments in
+    let rows = rows_with_flags arguments in
+    let found = finds_with_flags arguments in
     let kind_row : row_of (codes "KIND") rows ≡ Some (match_row (codes "KIND") kind) = found.place Kind ∙ rw kind_is refl in
     let first_row : row_of (codes "FIRST_FILE") rows ≡ Some (match_row (codes "FIRST_FILE") first) = found.place FirstFile ∙ rw first_is refl in
     let none = no_fault_at_all solve_shape solve_places arguments solve_takes.strict w (no_default_fails arguments)
-    (ap (λ x. check_fault solve_shape x false) (with_plain arguments) ∙ nothing_missing rows kind first kind_row first_row) in
-    let are : rows_after solve_shape.rules [] (words_of arguments) ≡ rows = rows_are solve_shape solve_places arguments w ∙ with_plain arguments in
+    (ap (λ x. check_fault solve_shape x false) (with_flags arguments) ∙ nothing_missing rows kind first kind_row first_row) in
+    let are : rows_after solve_shape.rules [] (words_of arguments) ≡ rows = rows_are solve_shape solve_places arguments w ∙ with_flags arguments in
     by_solve (words_of arguments) ∙ (ap₂ unless_faulty none (ap solve_of are)
-    ∙ solve_values rows (Some kind) (Some first) (word_at SecondFile solve_places (placed_words arguments)) (value_given Certificate arguments) (value_given Journal arguments) (plain_given arguments) arguments
+    ∙ solve_values rows (Some kind) (Some first) (word_at SecondFile solve_places (placed_words arguments)) (value_given Certificate arguments) (value_given Journal arguments) (flag_given Plain arguments) (flag_given Swamp arguments) arguments
     (text_read rows (codes "KIND") (Some kind) kind_row) (text_read rows (codes "FIRST_FILE") (Some first) first_row)
     (text_read rows (codes "SECOND_FILE") (word_at SecondFile solve_places (placed_words arguments)) (found.place SecondFile))
-    (numbers_read is_of_solve true solve_places arguments rows all found) (plain_read solve_places arguments)
+    (numbers_read is_of_solve every_flag solve_places arguments rows all found) (plain_read arguments) (swamp_read arguments)
     (text_read rows (codes "cert") (value_given Certificate arguments) (found.option Certificate))
     (text_read rows (codes "trace") (value_given Journal arguments) (found.option Journal)))
 
@@ -88,11 +109,11 @@ first_at (Strips names) = refl
 
 -- what `solve` asks for before its tests
 abbrev pub meant_by : InputNames → List Argument → SolveMeaning
-meant_by input arguments = solve_meaning (numbers_given arguments) (plain_given arguments) (value_given Certificate arguments) (value_given Journal arguments) input
+meant_by input arguments = solve_meaning (numbers_given arguments) (flag_given Plain arguments) (flag_given Swamp arguments) (value_given Certificate arguments) (value_given Journal arguments) input
 
 tested : (input : InputNames) (arguments : List Argument)
     → with_kind (kind_of_text (Some (kind_word input)))
-    (solve_with (Some (first_file input)) (word_at SecondFile solve_places (kind_word input ∷ file_words input)) (Some (numbers_given arguments)) (plain_given arguments)
+    (solve_with (Some (first_file input)) (word_at SecondFile solve_places (kind_word input ∷ file_words input)) (Some (numbers_given arguments)) (flag_given Plain arguments) (flag_given Swamp arguments)
     (value_given Certificate arguments) (value_given Journal arguments)) ≡ solve_tested (meant_by input arguments)
 tested (Grid names) arguments = refl
 tested (Tiles board) arguments = refl
@@ -108,7 +129,7 @@ solve_is_tested input arguments are =
     solve_is arguments are.each are.distinct (solve_fits input arguments are) (kind_word input) (first_file input)
     (ap (word_at Kind solve_places) are.placed ∙ kind_at input) (ap (word_at FirstFile solve_places) are.placed ∙ first_at input)
     ∙ (ap (λ ws. with_kind (kind_of_text (Some (kind_word input)))
-    (solve_with (Some (first_file input)) (word_at SecondFile solve_places ws) (Some (numbers_given arguments)) (plain_given arguments)
+    (solve_with (Some (first_file input)) (word_at SecondFile solve_places ws) (Some (numbers_given arguments)) (flag_given Plain arguments) (flag_given Swamp arguments)
     (value_given Certificate arguments) (value_given Journal arguments))) are.placed ∙ tested input arguments)
 
 -- ---- the tests

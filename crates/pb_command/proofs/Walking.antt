@@ -1,6 +1,6 @@
--- The walk of clap over the arguments of a subcommand: words in their places, options with one value each, and a flag.
+-- The walk of clap over the arguments of a subcommand: words in their places, options with one value each, and flags.
 use Rattle.std.proofs.Common.{◌≡◌, ◌∙◌, ◌+◌, ◌++◌, ◌||◌, ℕ, Bool, true, false, List, [], ◌∷◌, None, Some, refl, ap, ap₂, codes}
-use Rattle.std.specs.Prelude.{if◌then◌else◌, fold, min}
+use Rattle.std.specs.Prelude.{if◌then◌else◌, fold, map, min}
 use Rattle.std.specs.List.{AllByRecursion}
 use Rattle.std.specs.Str.{bytes_eq}
 use Rattle.std.proofs.lemmas.List.Folds.{list_any-append}
@@ -12,7 +12,7 @@ use Rattle.clap.specs.Simple.{Shape, new_rule}
 use Rattle.clap.specs.Values.{reading_of}
 use Rattle.clap.specs.ValueTests.{accepts}
 use Rattle.clap.specs.Faults.{defaults_fault, given_default_fault, settle_fault, turn_fault, walk_fault}
-use Rattle.clap.specs.Kinds.{or_else}
+use Rattle.clap.specs.Kinds.{Kinds, or_else}
 use Rattle.clap.specs.declared.builder.action.ArgAction.TheVariants.{Set, SetTrue}
 use Rattle.clap.specs.declared.builder.value_parser.ValueParser.{ValueParser}
 use Rattle.clap.specs.declared.builder.value_parser.ValueParser.TheVariants as vp
@@ -20,7 +20,7 @@ use Rattle.clap.specs.declared.builder.value_parser.Reading.TheVariants.{AsWritt
 use Rattle.clap.specs.declared.parser.matches.ValueSource.TheVariants.{CommandLine}
 use Rattle.pb_command.specs.Parser.{seed_most, size_word_most}
 use Rattle.pb_command.specs.Names.{IsName}
-use Rattle.pb_command.specs.Options.{ValuedOption, Row, Workers, Num, Den, Budget, Lot, Blocks, Certificate, Journal, option_word, is_same, is_value_of}
+use Rattle.pb_command.specs.Options.{ValuedOption, Row, Workers, Num, Den, Budget, Lot, Blocks, Certificate, Journal, option_word, is_same, is_value_of, FlagOption, Plain, Swamp, flag_word, is_same_flag}
 
 -- ---- the words that their place tells
 
@@ -146,45 +146,114 @@ option_no_place Certificate Kind = refl
 option_no_place Journal Kind = refl
 option_no_place _ _ = refl
 
-pub place_no_plain : (p : Place) → bytes_eq (place_id p) (codes "plain") ≡ false
-place_no_plain Kind = refl
-place_no_plain FirstFile = refl
-place_no_plain SecondFile = refl
-place_no_plain CertificateFile = refl
-place_no_plain JournalFile = refl
-place_no_plain Seed = refl
-place_no_plain Size = refl
+-- ---- the flags
 
-pub plain_no_place : (p : Place) → bytes_eq (codes "plain") (place_id p) ≡ false
-plain_no_place Kind = refl
-plain_no_place FirstFile = refl
-plain_no_place SecondFile = refl
-plain_no_place CertificateFile = refl
-plain_no_place JournalFile = refl
-plain_no_place Seed = refl
-plain_no_place Size = refl
+-- the identifier of a flag
+abbrev pub flag_id : FlagOption → Text
+flag_id Plain = codes "plain"
+flag_id Swamp = codes "swamp"
 
-pub option_no_plain : (o : ValuedOption) → bytes_eq (option_id o) (codes "plain") ≡ false
-option_no_plain Row = refl
-option_no_plain Workers = refl
-option_no_plain Num = refl
-option_no_plain Den = refl
-option_no_plain Budget = refl
-option_no_plain Lot = refl
-option_no_plain Blocks = refl
-option_no_plain Certificate = refl
-option_no_plain Journal = refl
+pub same_flag : (a b : FlagOption) → is_same_flag a b ≡ true → a ≡ b
+same_flag Plain Plain e = refl
+same_flag Swamp Swamp e = refl
+same_flag Plain Swamp e = cc
+same_flag Swamp Plain e = cc
 
-pub plain_no_option : (o : ValuedOption) → bytes_eq (codes "plain") (option_id o) ≡ false
-plain_no_option Row = refl
-plain_no_option Workers = refl
-plain_no_option Num = refl
-plain_no_option Den = refl
-plain_no_option Budget = refl
-plain_no_option Lot = refl
-plain_no_option Blocks = refl
-plain_no_option Certificate = refl
-plain_no_option Journal = refl
+pub same_flag_itself : (a : FlagOption) → is_same_flag a a ≡ true
+same_flag_itself Plain = refl
+same_flag_itself Swamp = refl
+
+pub flag_ids_apart : (a b : FlagOption) → is_same_flag a b ≡ false → bytes_eq (flag_id b) (flag_id a) ≡ false
+flag_ids_apart Plain Plain e = cc
+flag_ids_apart Swamp Swamp e = cc
+flag_ids_apart Plain Swamp e = refl
+flag_ids_apart Swamp Plain e = refl
+
+pub flag_ids_same : (a : FlagOption) → bytes_eq (flag_id a) (flag_id a) ≡ true
+flag_ids_same Plain = refl
+flag_ids_same Swamp = refl
+
+pub place_no_flag : (p : Place) (f : FlagOption) → bytes_eq (place_id p) (flag_id f) ≡ false
+place_no_flag Kind Plain = refl
+place_no_flag Kind Swamp = refl
+place_no_flag FirstFile Plain = refl
+place_no_flag FirstFile Swamp = refl
+place_no_flag SecondFile Plain = refl
+place_no_flag SecondFile Swamp = refl
+place_no_flag CertificateFile Plain = refl
+place_no_flag CertificateFile Swamp = refl
+place_no_flag JournalFile Plain = refl
+place_no_flag JournalFile Swamp = refl
+place_no_flag Seed Plain = refl
+place_no_flag Seed Swamp = refl
+place_no_flag Size Plain = refl
+place_no_flag Size Swamp = refl
+
+pub flag_no_place : (f : FlagOption) (p : Place) → bytes_eq (flag_id f) (place_id p) ≡ false
+flag_no_place Plain Kind = refl
+flag_no_place Plain FirstFile = refl
+flag_no_place Plain SecondFile = refl
+flag_no_place Plain CertificateFile = refl
+flag_no_place Plain JournalFile = refl
+flag_no_place Plain Seed = refl
+flag_no_place Plain Size = refl
+flag_no_place Swamp Kind = refl
+flag_no_place Swamp FirstFile = refl
+flag_no_place Swamp SecondFile = refl
+flag_no_place Swamp CertificateFile = refl
+flag_no_place Swamp JournalFile = refl
+flag_no_place Swamp Seed = refl
+flag_no_place Swamp Size = refl
+
+pub option_no_flag : (o : ValuedOption) (f : FlagOption) → bytes_eq (option_id o) (flag_id f) ≡ false
+option_no_flag Row Plain = refl
+option_no_flag Row Swamp = refl
+option_no_flag Workers Plain = refl
+option_no_flag Workers Swamp = refl
+option_no_flag Num Plain = refl
+option_no_flag Num Swamp = refl
+option_no_flag Den Plain = refl
+option_no_flag Den Swamp = refl
+option_no_flag Budget Plain = refl
+option_no_flag Budget Swamp = refl
+option_no_flag Lot Plain = refl
+option_no_flag Lot Swamp = refl
+option_no_flag Blocks Plain = refl
+option_no_flag Blocks Swamp = refl
+option_no_flag Certificate Plain = refl
+option_no_flag Certificate Swamp = refl
+option_no_flag Journal Plain = refl
+option_no_flag Journal Swamp = refl
+
+pub flag_no_option : (f : FlagOption) (o : ValuedOption) → bytes_eq (flag_id f) (option_id o) ≡ false
+flag_no_option Plain Row = refl
+flag_no_option Plain Workers = refl
+flag_no_option Plain Num = refl
+flag_no_option Plain Den = refl
+flag_no_option Plain Budget = refl
+flag_no_option Plain Lot = refl
+flag_no_option Plain Blocks = refl
+flag_no_option Plain Certificate = refl
+flag_no_option Plain Journal = refl
+flag_no_option Swamp Row = refl
+flag_no_option Swamp Workers = refl
+flag_no_option Swamp Num = refl
+flag_no_option Swamp Den = refl
+flag_no_option Swamp Budget = refl
+flag_no_option Swamp Lot = refl
+flag_no_option Swamp Blocks = refl
+flag_no_option Swamp Certificate = refl
+flag_no_option Swamp Journal = refl
+
+flag_no_dashes : (f : FlagOption) → bytes_eq (flag_word f) (45 ∷ 45 ∷ []) ≡ false
+flag_no_dashes Plain = refl
+flag_no_dashes Swamp = refl
+
+flag_long_word : (f : FlagOption) → long_of (flag_word f) ≡ Some (flag_id f, None)
+flag_long_word Plain = refl
+flag_long_word Swamp = refl
+
+-- ---- words, values and what they are read as
 
 no_dashes : (o : ValuedOption) → bytes_eq (option_word o) (45 ∷ 45 ∷ []) ≡ false
 no_dashes Row = refl
@@ -258,9 +327,9 @@ valued_rule o = record (new_rule (option_id o)) {
   parser = Some (option_parser o);
 }
 
-abbrev pub plain_rule : Rule
-plain_rule = record (new_rule (codes "plain")) {
-  long = Some (codes "plain");
+abbrev pub flag_rule : FlagOption → Rule
+flag_rule f = record (new_rule (flag_id f)) {
+  long = Some (flag_id f);
   action = Some SetTrue;
   range = Some (record { start_inclusive = 0; end_inclusive = 0 });
   parser = Some vp.Bool;
@@ -274,8 +343,8 @@ pub record HasOption (s : Shape) (o : ValuedOption) : Type 0 where
   pub by_id : arg_by_id s.rules (option_id o) ≡ Some (valued_rule o)
 
 -- the command has the flag
-abbrev pub HasPlain : Shape → Type 0
-HasPlain s = arg_by_long s.rules (codes "plain") ≡ Some plain_rule
+abbrev pub HasFlag : Shape → FlagOption → Type 0
+HasFlag s f = arg_by_long s.rules (flag_id f) ≡ Some (flag_rule f)
 
 -- the word in place i of the command is this one
 pub record HasPlace (s : Shape) (i : ℕ) (p : Place) : Type 0 where
@@ -284,6 +353,11 @@ pub record HasPlace (s : Shape) (i : ℕ) (p : Place) : Type 0 where
   pub next : min (i + 1) usize_max ≡ i + 1
 
 -- ---- one step of the walk
+
+-- some step fails
+abbrev pub FailsHere : Kinds → Type 0
+FailsHere [] = ⊥
+FailsHere (k ∷ ks) = Unit {0}
 
 -- where the walk stands with this held, before the word at this place
 abbrev pub at : Held → ℕ → Walk
@@ -297,9 +371,9 @@ match_row id value = record { id = id; values = value ∷ []; count = None; sour
 abbrev pub held_with : Shape → Text → Text → Held → Held
 held_with s id value h = record { rows = (settled s.rules h).rows; pending = Some (id, value ∷ []); skip = h.skip }
 
--- what is held after the flag
-abbrev pub held_plain : Shape → Held → Held
-held_plain s h = reacted s.rules plain_rule [] h
+-- what is held after a flag
+abbrev pub held_flag : Shape → FlagOption → Held → Held
+held_flag s f h = reacted s.rules (flag_rule f) [] h
 
 module _ (s : Shape) where
   pub valued_step : (o : ValuedOption) (value : Text) (h : Held) (i : ℕ) → HasOption s o → IsName value
@@ -312,9 +386,9 @@ module _ (s : Shape) where
   unfolding walked
   placed_step p word h i has is = rw (is.no_dashes, is.no_long, is.no_short, has.by_index, has.next) (simp and-false refl)
 
-  pub plain_step : (h : Held) (i : ℕ) → HasPlain s → walked s.rules [] (at h i) (codes "--plain") ≡ at (held_plain s h) i
+  pub flag_step : (f : FlagOption) (h : Held) (i : ℕ) → HasFlag s f → walked s.rules [] (at h i) (flag_word f) ≡ at (held_flag s f h) i
   unfolding walked
-  plain_step h i has = rw has refl
+  flag_step f h i has = rw (flag_no_dashes f, flag_long_word f, has) refl
 
   option_turn : (o : ValuedOption) (h : Held) (i : ℕ) → s.args_override_self ≡ false → HasOption s o → settle_fault s.rules false h ≡ []
       → turn_fault s [] (at h i) (option_word o) ≡ []
@@ -341,14 +415,19 @@ module _ (s : Shape) where
   unfolding walk_fault
   placed_fault p word h i rest strict has is none = ap₂ or_else (placed_turn p word h i strict has is none) (ap (λ w. walk_fault s [] w rest) (placed_step p word h i has is))
 
-  plain_turn : (h : Held) (i : ℕ) → s.args_override_self ≡ false → HasPlain s → settle_fault s.rules false h ≡ [] → has_row (codes "plain") (settled s.rules h).rows ≡ false
-      → turn_fault s [] (at h i) (codes "--plain") ≡ []
-  plain_turn h i strict has none new = rw (has, strict, none, new) refl
+  flag_turn : (f : FlagOption) (h : Held) (i : ℕ) → s.args_override_self ≡ false → HasFlag s f → settle_fault s.rules false h ≡ [] → has_row (flag_id f) (settled s.rules h).rows ≡ false
+      → turn_fault s [] (at h i) (flag_word f) ≡ []
+  flag_turn f h i strict has none new = rw (flag_no_dashes f, flag_long_word f, has, strict, none, new) refl
 
-  pub plain_fault : (h : Held) (i : ℕ) (rest : List Text) → s.args_override_self ≡ false → HasPlain s → settle_fault s.rules false h ≡ [] → has_row (codes "plain") (settled s.rules h).rows ≡ false
-      → walk_fault s [] (at h i) (codes "--plain" ∷ rest) ≡ walk_fault s [] (at (held_plain s h) i) rest
+  pub flag_fault : (f : FlagOption) (h : Held) (i : ℕ) (rest : List Text) → s.args_override_self ≡ false → HasFlag s f → settle_fault s.rules false h ≡ []
+      → has_row (flag_id f) (settled s.rules h).rows ≡ false → walk_fault s [] (at h i) (flag_word f ∷ rest) ≡ walk_fault s [] (at (held_flag s f h) i) rest
   unfolding walk_fault
-  plain_fault h i rest strict has none new = ap₂ or_else (plain_turn h i strict has none new) (ap (λ w. walk_fault s [] w rest) (plain_step h i has))
+  flag_fault f h i rest strict has none new = ap₂ or_else (flag_turn f h i strict has none new) (ap (λ w. walk_fault s [] w rest) (flag_step f h i has))
+
+  -- a flag that is given twice
+  pub flag_again : (f : FlagOption) (h : Held) (i : ℕ) → s.args_override_self ≡ false → HasFlag s f → settle_fault s.rules false h ≡ [] → has_row (flag_id f) (settled s.rules h).rows ≡ true
+      → FailsHere (turn_fault s [] (at h i) (flag_word f))
+  flag_again f h i strict has none given = rw (flag_no_dashes f, flag_long_word f, has, strict, none, given) tt
 
   pub valued_rows : (o : ValuedOption) (value : Text) (h : Held) → HasOption s o
       → (settled s.rules (held_with s (option_id o) value h)).rows ≡ with_values (option_id o) AsWritten CommandLine (value ∷ []) (without (option_id o) (settled s.rules h).rows)
@@ -358,9 +437,9 @@ module _ (s : Shape) where
       → (settled s.rules (held_with s (place_id p) word h)).rows ≡ with_values (place_id p) AsWritten CommandLine (word ∷ []) (without (place_id p) (settled s.rules h).rows)
   placed_rows p word h i has = rw (has.by_id, place_reading p) refl
 
-  pub plain_rows : (h : Held)
-      → (settled s.rules (held_plain s h)).rows ≡ with_values (codes "plain") AsWritten CommandLine (codes "true" ∷ []) (without (codes "plain") (settled s.rules h).rows)
-  plain_rows h = refl
+  pub flag_rows : (f : FlagOption) (h : Held)
+      → (settled s.rules (held_flag s f h)).rows ≡ with_values (flag_id f) AsWritten CommandLine (codes "true" ∷ []) (without (flag_id f) (settled s.rules h).rows)
+  flag_rows f h = refl
 
   pub valued_faultless : (o : ValuedOption) (value : Text) (h : Held) → HasOption s o → is_value_of o value ≡ true → has_row (option_id o) (settled s.rules h).rows ≡ false
       → settle_fault s.rules false (held_with s (option_id o) value h) ≡ []
@@ -410,21 +489,18 @@ no_default_fault rows (r ∷ rs) are = rw (faultless (has_row r.id rows)) (rw (s
   faultless true = refl
   faultless false = rw are.0 refl
 
--- the flag comes after rules without a default
-pub plain_default : (rows : List MatchRow) (rules : List Rule) → AllByRecursion HasNoDefault rules → fold with_default rows (rules ++ plain_rule ∷ []) ≡ with_default rows plain_rule
-plain_default rows [] are = refl
-plain_default rows (r ∷ rs) are = ap (λ x. fold with_default x (rs ++ plain_rule ∷ [])) (by (has_row r.id rows)) ∙ plain_default rows rs are.1 where
+-- rules that have one come after those without
+pub defaults_last : (rows : List MatchRow) (rules last : List Rule) → AllByRecursion HasNoDefault rules → fold with_default rows (rules ++ last) ≡ fold with_default rows last
+defaults_last rows [] last are = refl
+defaults_last rows (r ∷ rs) last are = ap (λ x. fold with_default x (rs ++ last)) (by (has_row r.id rows)) ∙ defaults_last rows rs last are.1 where
   by : (b : Bool) → (if b then rows else default_rows r.id (reading_by r) r.defaults rows) ≡ rows
   by true = refl
   by false = rw are.0 refl
 
-pub plain_default_fault : (rows : List MatchRow) (rules : List Rule) → AllByRecursion HasNoDefault rules → defaults_fault rows (rules ++ plain_rule ∷ []) ≡ []
+pub last_default_fault : (rows : List MatchRow) (rules last : List Rule) → AllByRecursion HasNoDefault rules → defaults_fault rows (rules ++ last) ≡ defaults_fault rows last
 unfolding defaults_fault
-plain_default_fault rows [] are = by (has_row (codes "plain") rows) where
-  by : (b : Bool) → or_else (if b || is_empty (codes "false" ∷ []) then [] else given_default_fault plain_rule (codes "false" ∷ [])) [] ≡ []
-  by true = refl
-  by false = refl
-plain_default_fault rows (r ∷ rs) are = rw (faultless (has_row r.id rows)) (rw (same (has_row r.id rows)) (plain_default_fault rows rs are.1)) where
+last_default_fault rows [] last are = refl
+last_default_fault rows (r ∷ rs) last are = rw (faultless (has_row r.id rows)) (rw (same (has_row r.id rows)) (last_default_fault rows rs last are.1)) where
   same : (b : Bool) → (if b then rows else default_rows r.id (reading_by r) r.defaults rows) ≡ rows
   same true = refl
   same false = rw are.0 refl
@@ -432,3 +508,14 @@ plain_default_fault rows (r ∷ rs) are = rw (faultless (has_row r.id rows)) (rw
   faultless : (b : Bool) → (if b || is_empty r.defaults then [] else given_default_fault r r.defaults) ≡ []
   faultless true = refl
   faultless false = rw are.0 refl
+
+-- the default of a flag never fails
+pub flags_default_fault : (rows : List MatchRow) (flags : List FlagOption) → defaults_fault rows (map flag_rule flags) ≡ []
+unfolding defaults_fault
+flags_default_fault rows [] = refl
+flags_default_fault rows (f ∷ fs) = rw (faultless f (has_row (flag_id f) rows)) (flags_default_fault (with_default rows (flag_rule f)) fs) where
+  faultless : (f : FlagOption) (b : Bool) → (if b || is_empty (codes "false" ∷ []) then [] else given_default_fault (flag_rule f) (codes "false" ∷ [])) ≡ []
+  faultless Plain true = refl
+  faultless Plain false = refl
+  faultless Swamp true = refl
+  faultless Swamp false = refl

@@ -49,12 +49,13 @@ solve_meant s = record {
   lot = s.lot;
   blocks = s.blocks;
   plain = s.plain;
+  swamp = s.swamp;
   certificate = option_map (λ t. t.now) s.certificate;
   journal = option_map (λ t. t.now) s.journal;
 }
 
 abbrev pub check_meant : CheckCommand → CheckMeaning
-check_meant s = record { input = input_meant s.input; certificate = s.certificate.now; row = s.row }
+check_meant s = record { input = input_meant s.input; certificate = s.certificate.now; row = s.row; swamp = s.swamp }
 
 abbrev pub journal_meant : JournalCommand → JournalMeaning
 journal_meant s = record { input = input_meant s.input; journal = s.journal.now; row = s.row }
@@ -84,13 +85,21 @@ IsLine line text = text ≡ line ++ 10 ∷ []
 abbrev pub text_most : ℕ
 text_most = 65536
 
--- what is printed: a line of the program, or clap's own text, of which only its end and its greatest length are told here
+-- a text for words that are out of form: it begins with `error: `, its last line is ended, and it isn't too long. The rest is clap's.
+pub record IsErrorText (text : List ℕ) : Type 0 where
+  pub rest : List ℕ
+  pub begins : text ≡ codes "error: " ++ rest
+  pub ends : EndsLine text
+  pub few : length text ≤ text_most
+
+-- what is printed: a line of the program, or clap's text
 abbrev pub IsPrinted : CommandFault → List ℕ → Type 0
 IsPrinted fault.Files text = IsLine (codes "words files") text
 IsPrinted fault.Weight text = IsLine (codes "words weight") text
 IsPrinted fault.Names text = IsLine (codes "words names") text
 IsPrinted fault.Size text = IsLine (codes "words size") text
-IsPrinted _ text = EndsLine text × (length text ≤ text_most)
+IsPrinted fault.Form text = IsErrorText text
+IsPrinted fault.Kind text = IsErrorText text
 
 -- the refusal of words that fail this test, unless memory is wanting
 abbrev pub IsRefusal : CommandFault → CommandRefusal → Type 0

@@ -19,6 +19,7 @@ SolveWithTwoNamesIsRead = (map scenario : List ℕ) → IsName map → IsName sc
       lot = 256;
       blocks = 256;
       plain = false;
+      swamp = false;
       certificate = None;
       journal = None;
     }))
@@ -29,6 +30,7 @@ CheckWithThreeNamesIsRead = (certificate map scenario : List ℕ) → IsName cer
       input = Grid (record { map = map; scenario = scenario });
       certificate = certificate;
       row = 0;
+      swamp = false;
     }))
 
 abbrev pub SolveWithOneBoardIsRead : Type 0
@@ -43,6 +45,7 @@ SolveWithOneBoardIsRead = (board : List ℕ) → IsName board
       lot = 256;
       blocks = 256;
       plain = false;
+      swamp = false;
       certificate = None;
       journal = None;
     }))
@@ -53,6 +56,7 @@ CheckWithOneBoardIsRead = (certificate board : List ℕ) → IsName certificate 
       input = Tiles board;
       certificate = certificate;
       row = 0;
+      swamp = false;
     }))
 
 abbrev pub SolveWithDomainAndProblemIsRead : Type 0
@@ -67,6 +71,7 @@ SolveWithDomainAndProblemIsRead = (domain problem : List ℕ) → IsName domain 
       lot = 256;
       blocks = 256;
       plain = false;
+      swamp = false;
       certificate = None;
       journal = None;
     }))
@@ -77,6 +82,7 @@ CheckWithDomainAndProblemIsRead = (certificate domain problem : List ℕ) → Is
       input = Strips (record { domain = domain; problem = problem });
       certificate = certificate;
       row = 0;
+      swamp = false;
     }))
 
 abbrev pub JournalWithThreeNamesIsRead : Type 0

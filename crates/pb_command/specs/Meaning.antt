@@ -9,7 +9,7 @@ use Rattle.pb_command.specs.declared.refusal.CommandFault.{CommandFault}
 use Rattle.pb_command.specs.declared.refusal.CommandFault.TheVariants as fault
 
 -- `solve`: the task, the row of its scenario, the number of workers, the weight as a fraction, the budget of expansions, how many expansions a lease gets at most, how
--- many blocks the abstract graph has at most, if no block is marked hot, and the names of the certificate and of the journal, if they are given
+-- many blocks the abstract graph has at most, if no block is marked hot, if swamp costs 2, and the names of the certificate and of the journal, if they are given
 pub record SolveMeaning : Type 0 where
   pub input : InputNames
   pub row : ℕ
@@ -20,14 +20,16 @@ pub record SolveMeaning : Type 0 where
   pub lot : ℕ
   pub blocks : ℕ
   pub plain : Bool
+  pub swamp : Bool
   pub certificate : Option Text
   pub journal : Option Text
 
--- `check`: the task, the certificate's name and the row of the scenario
+-- `check`: the task, the certificate's name, the row of the scenario, and if swamp costs 2
 pub record CheckMeaning : Type 0 where
   pub input : InputNames
   pub certificate : Text
   pub row : ℕ
+  pub swamp : Bool
 
 -- `journal`: the task, the journal's name and the row of the scenario
 pub record JournalMeaning : Type 0 where
@@ -86,8 +88,8 @@ abbrev pub solve_tested : SolveMeaning → Reading
 solve_tested solve = if nat_lt solve.num solve.den then Refused fault.Weight
     else (if are_one_name solve.certificate solve.journal then Refused fault.Names else Read (Solve solve))
 
-abbrev pub solve_meaning : SolveNumbers → Bool → Option Text → Option Text → InputNames → SolveMeaning
-solve_meaning n plain certificate journal input = record {
+abbrev pub solve_meaning : SolveNumbers → (plain swamp : Bool) → Option Text → Option Text → InputNames → SolveMeaning
+solve_meaning n plain swamp certificate journal input = record {
   input = input;
   row = n.row;
   workers = n.workers;
@@ -97,31 +99,33 @@ solve_meaning n plain certificate journal input = record {
   lot = n.lot;
   blocks = n.blocks;
   plain = plain;
+  swamp = swamp;
   certificate = certificate;
   journal = journal;
 }
 
 -- clap sees to it that a word that must stand is there, and that a number lies in its range
-abbrev pub solve_with : Option Text → Option Text → Option SolveNumbers → Bool → Option Text → Option Text → KindWord → Reading
-solve_with (Some first) second (Some numbers) plain certificate journal kind =
-    with_input (input_of kind first second) (λ input. solve_tested (solve_meaning numbers plain certificate journal input))
-solve_with _ _ _ _ _ _ kind = Refused fault.Form
+abbrev pub solve_with : Option Text → Option Text → Option SolveNumbers → (plain swamp : Bool) → Option Text → Option Text → KindWord → Reading
+solve_with (Some first) second (Some numbers) plain swamp certificate journal kind =
+    with_input (input_of kind first second) (λ input. solve_tested (solve_meaning numbers plain swamp certificate journal input))
+solve_with _ _ _ _ _ _ _ kind = Refused fault.Form
 
 abbrev pub solve_of : List Row → Reading
 solve_of rows = with_kind (kind_of_text (first_of (codes "KIND") rows))
-    (solve_with (first_of (codes "FIRST_FILE") rows) (first_of (codes "SECOND_FILE") rows) (numbers_of rows) (flag_of (codes "plain") rows)
+    (solve_with (first_of (codes "FIRST_FILE") rows) (first_of (codes "SECOND_FILE") rows) (numbers_of rows) (flag_of (codes "plain") rows) (flag_of (codes "swamp") rows)
     (first_of (codes "cert") rows) (first_of (codes "trace") rows))
 
 -- ---- `check` and `journal`
 
-abbrev pub check_with : Option Text → Option Text → Option Text → Option ℕ → KindWord → Reading
-check_with (Some certificate) (Some first) second (Some row) kind =
-    with_input (input_of kind first second) (λ input. Read (Check (record { input = input; certificate = certificate; row = row })))
-check_with _ _ _ _ kind = Refused fault.Form
+abbrev pub check_with : Option Text → Option Text → Option Text → Option ℕ → (swamp : Bool) → KindWord → Reading
+check_with (Some certificate) (Some first) second (Some row) swamp kind =
+    with_input (input_of kind first second) (λ input. Read (Check (record { input = input; certificate = certificate; row = row; swamp = swamp })))
+check_with _ _ _ _ _ kind = Refused fault.Form
 
 abbrev pub check_of : List Row → Reading
 check_of rows = with_kind (kind_of_text (first_of (codes "KIND") rows))
-    (check_with (first_of (codes "CERTIFICATE") rows) (first_of (codes "FIRST_FILE") rows) (first_of (codes "SECOND_FILE") rows) (option_of row_option rows))
+    (check_with (first_of (codes "CERTIFICATE") rows) (first_of (codes "FIRST_FILE") rows) (first_of (codes "SECOND_FILE") rows) (option_of row_option rows)
+    (flag_of (codes "swamp") rows))
 
 abbrev pub journal_with : Option Text → Option Text → Option Text → Option ℕ → KindWord → Reading
 journal_with (Some journal) (Some first) second (Some row) kind =

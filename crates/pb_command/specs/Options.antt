@@ -1,6 +1,6 @@
 -- What a command reads of its options, in whatever order its words come. Names, ranges and defaults are written out here once more: they
 -- are what a user is promised.
-use Rattle.std.specs.Prelude.{◌≡◌, ◌≤◌, ◌<◌, ℕ, List, [], ◌∷◌, ◌++◌, Bool, true, false, Option, None, Some, if◌then◌else◌, codes}
+use Rattle.std.specs.Prelude.{◌≡◌, ◌≤◌, ◌<◌, ℕ, List, [], ◌∷◌, ◌++◌, ◌||◌, Bool, true, false, Option, None, Some, if◌then◌else◌, codes}
 use Rattle.std.specs.List.{AllByRecursion}
 use Rattle.std.specs.Option.{option_map_or}
 use Rattle.std.specs.Str.Parse.{digits_value, without_leading_plus}
@@ -49,39 +49,55 @@ is_same Certificate Certificate = true
 is_same Journal Journal = true
 is_same _ _ = false
 
--- an argument of a command: a word that its place tells, an option with its value, or the flag `--plain`
+-- an option without a value
+pub data FlagOption : Type 0 where
+  Plain : FlagOption
+  Swamp : FlagOption
+
+-- the word that it is given by
+abbrev pub flag_word : FlagOption → Text
+flag_word Plain = codes "--plain"
+flag_word Swamp = codes "--swamp"
+
+abbrev pub is_same_flag : FlagOption → FlagOption → Bool
+is_same_flag Plain Plain = true
+is_same_flag Plain Swamp = false
+is_same_flag Swamp Plain = false
+is_same_flag Swamp Swamp = true
+
+-- an argument of a command: a word that its place tells, an option with its value, or a flag
 pub data Argument : Type 0 where
   Placed : Text → Argument
   Valued : ValuedOption → Text → Argument
-  Plain : Argument
+  Flag : FlagOption → Argument
 
 -- the words of arguments
 abbrev pub words_of : List Argument → List Text
 words_of [] = []
 words_of (Placed word ∷ rest) = word ∷ words_of rest
 words_of (Valued option value ∷ rest) = option_word option ∷ value ∷ words_of rest
-words_of (Plain ∷ rest) = codes "--plain" ∷ words_of rest
+words_of (Flag flag ∷ rest) = flag_word flag ∷ words_of rest
 
 -- the words that their place tells, in order
 abbrev pub placed_words : List Argument → List Text
 placed_words [] = []
 placed_words (Placed word ∷ rest) = word ∷ placed_words rest
 placed_words (Valued option value ∷ rest) = placed_words rest
-placed_words (Plain ∷ rest) = placed_words rest
+placed_words (Flag flag ∷ rest) = placed_words rest
 
 -- the value that the option is given, if it is
 abbrev pub value_given : ValuedOption → List Argument → Option Text
 value_given option [] = None
 value_given option (Placed word ∷ rest) = value_given option rest
 value_given option (Valued other value ∷ rest) = if is_same option other then Some value else value_given option rest
-value_given option (Plain ∷ rest) = value_given option rest
+value_given option (Flag flag ∷ rest) = value_given option rest
 
--- whether `--plain` is given
-abbrev pub plain_given : List Argument → Bool
-plain_given [] = false
-plain_given (Placed word ∷ rest) = plain_given rest
-plain_given (Valued option value ∷ rest) = plain_given rest
-plain_given (Plain ∷ rest) = true
+-- whether the flag is given
+abbrev pub flag_given : FlagOption → List Argument → Bool
+flag_given flag [] = false
+flag_given flag (Placed word ∷ rest) = flag_given flag rest
+flag_given flag (Valued option value ∷ rest) = flag_given flag rest
+flag_given flag (Flag other ∷ rest) = is_same_flag flag other || flag_given flag rest
 
 -- the number that a value of decimal digits writes
 abbrev pub number_of : Text → ℕ
@@ -91,12 +107,12 @@ number_of value = digits_value 10 (without_leading_plus value)
 abbrev pub number_given : ValuedOption → (default : ℕ) → List Argument → ℕ
 number_given option default arguments = option_map_or number_of (value_given option arguments) default
 
--- no option is given twice
+-- no option and no flag is given twice
 abbrev pub AreDistinct : List Argument → Type 0
 AreDistinct [] = Unit {0}
 AreDistinct (Placed word ∷ rest) = AreDistinct rest
 AreDistinct (Valued option value ∷ rest) = (value_given option rest ≡ None) × AreDistinct rest
-AreDistinct (Plain ∷ rest) = (plain_given rest ≡ false) × AreDistinct rest
+AreDistinct (Flag flag ∷ rest) = (flag_given flag rest ≡ false) × AreDistinct rest
 
 -- whether a value of the option lies in its range: a row from 0 to 1,000,000, 1 to 64 workers, a numerator and a denominator from 1 to 1,000, a budget from 1 to 2^40,
 -- a lot from 1 to 2^20, and from 16 to 4,096 blocks
@@ -111,13 +127,25 @@ is_value_of Blocks value = is_unsigned_in 16 4096 value
 is_value_of Certificate value = true
 is_value_of Journal value = true
 
--- an argument of a command that has these options, and the flag if `has_plain`
-abbrev pub IsArgumentOf : (has_option : ValuedOption → Bool) → (has_plain : Bool) → Argument → Type 0
-IsArgumentOf has_option has_plain (Placed word) = IsName word
-IsArgumentOf has_option has_plain (Valued option value) = (has_option option ≡ true) × IsName value × (is_value_of option value ≡ true)
-IsArgumentOf has_option has_plain Plain = has_plain ≡ true
+-- an argument of a command that has these options and these flags
+abbrev pub IsArgumentOf : (has_option : ValuedOption → Bool) → (has_flag : FlagOption → Bool) → Argument → Type 0
+IsArgumentOf has_option has_flag (Placed word) = IsName word
+IsArgumentOf has_option has_flag (Valued option value) = (has_option option ≡ true) × IsName value × (is_value_of option value ≡ true)
+IsArgumentOf has_option has_flag (Flag flag) = has_flag flag ≡ true
 
--- `solve` has every option and the flag
+-- `check` has the flag for swamp
+abbrev pub is_flag_of_check : FlagOption → Bool
+is_flag_of_check Plain = false
+is_flag_of_check Swamp = true
+
+-- a command with every flag, as `solve`, and with none, as `journal` and `make`
+abbrev pub every_flag : FlagOption → Bool
+every_flag _ = true
+
+abbrev pub no_flag : FlagOption → Bool
+no_flag _ = false
+
+-- `solve` has every option
 abbrev pub is_of_solve : ValuedOption → Bool
 is_of_solve _ = true
 
@@ -142,7 +170,7 @@ file_words (Strips names) = names.domain ∷ names.problem ∷ []
 
 -- arguments of `solve`: its kind and its files in their places, and options anywhere among them, none twice
 pub record AreOfSolve (input : InputNames) (arguments : List Argument) : Type 0 where
-  pub each : AllByRecursion (IsArgumentOf is_of_solve true) arguments
+  pub each : AllByRecursion (IsArgumentOf is_of_solve every_flag) arguments
   pub distinct : AreDistinct arguments
   pub placed : placed_words arguments ≡ kind_word input ∷ file_words input
 
@@ -163,7 +191,8 @@ SolveReadsOptions = (input : InputNames) (arguments : List Argument) → AreOfSo
       budget = number_given Budget 16777216 arguments;
       lot = number_given Lot 256 arguments;
       blocks = number_given Blocks 256 arguments;
-      plain = plain_given arguments;
+      plain = flag_given Plain arguments;
+      swamp = flag_given Swamp arguments;
       certificate = value_given Certificate arguments;
       journal = value_given Journal arguments;
     }))
@@ -181,19 +210,21 @@ OneNameIsRefused = (input : InputNames) (name : Text) (arguments : List Argument
     → value_given Certificate arguments ≡ Some name → value_given Journal arguments ≡ Some name
     → reading_of_words (codes "solve" ∷ words_of arguments) ≡ Refused fault.Names
 
--- `check` with the kind, the certificate and the files, and with a row anywhere among them, checks that certificate for this task.
+-- `check` with the kind, the certificate and the files, and with a row and the flag for swamp anywhere among them, checks that certificate for
+-- this task.
 abbrev pub CheckReadsOptions : Type 0
-CheckReadsOptions = (input : InputNames) (certificate : Text) (arguments : List Argument) → AllByRecursion (IsArgumentOf is_of_check false) arguments → AreDistinct arguments
+CheckReadsOptions = (input : InputNames) (certificate : Text) (arguments : List Argument) → AllByRecursion (IsArgumentOf is_of_check is_flag_of_check) arguments → AreDistinct arguments
     → placed_words arguments ≡ kind_word input ∷ certificate ∷ file_words input
     → reading_of_words (codes "check" ∷ words_of arguments) ≡ Read (Check (record {
       input = input;
       certificate = certificate;
       row = number_given Row 0 arguments;
+      swamp = flag_given Swamp arguments;
     }))
 
 -- `journal` with the kind, the journal and the files, and with a row anywhere among them, checks that journal for this task.
 abbrev pub JournalReadsOptions : Type 0
-JournalReadsOptions = (input : InputNames) (journal : Text) (arguments : List Argument) → AllByRecursion (IsArgumentOf is_of_check false) arguments → AreDistinct arguments
+JournalReadsOptions = (input : InputNames) (journal : Text) (arguments : List Argument) → AllByRecursion (IsArgumentOf is_of_check no_flag) arguments → AreDistinct arguments
     → placed_words arguments ≡ kind_word input ∷ journal ∷ file_words input
     → reading_of_words (codes "journal" ∷ words_of arguments) ≡ Read (JournalCommand (record {
       input = input;
@@ -215,7 +246,7 @@ IsSizeOf kind.Strips n = (1 ≤ n) × (n ≤ 14)
 
 -- arguments of `make`: the kind, a seed from 0 to 2^32 - 1 and a number below 2^64 in their places, and the number of workers anywhere among them, once at most
 pub record AreOfMake (k : KindWord) (seed size : Text) (arguments : List Argument) : Type 0 where
-  pub each : AllByRecursion (IsArgumentOf is_of_make false) arguments
+  pub each : AllByRecursion (IsArgumentOf is_of_make no_flag) arguments
   pub distinct : AreDistinct arguments
   pub placed : placed_words arguments ≡ word_of_kind k ∷ seed ∷ size ∷ []
   pub seed_fits : is_unsigned_in 0 4294967295 seed ≡ true
@@ -248,10 +279,10 @@ GivenTwiceIsRefused = (input : InputNames) (arguments : List Argument) → AreOf
     → (option : ValuedOption) (first second : Text) → value_given option arguments ≡ Some first → IsName second
     → reading_of_words (codes "solve" ∷ words_of arguments ++ option_word option ∷ second ∷ []) ≡ Refused fault.Form
 
--- So is the flag that is given twice.
-abbrev pub PlainTwiceIsRefused : Type 0
-PlainTwiceIsRefused = (input : InputNames) (arguments : List Argument) → AreOfSolve input arguments → plain_given arguments ≡ true
-    → reading_of_words (codes "solve" ∷ words_of arguments ++ codes "--plain" ∷ []) ≡ Refused fault.Form
+-- So is a flag that is given twice.
+abbrev pub FlagTwiceIsRefused : Type 0
+FlagTwiceIsRefused = (input : InputNames) (arguments : List Argument) → AreOfSolve input arguments → (flag : FlagOption) → flag_given flag arguments ≡ true
+    → reading_of_words (codes "solve" ∷ words_of arguments ++ flag_word flag ∷ []) ≡ Refused fault.Form
 
 -- So is a word for help.
 abbrev pub HelpIsRefused : Type 0

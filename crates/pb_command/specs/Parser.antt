@@ -74,16 +74,16 @@ abbrev pub with_rules : App → List Rule → App
 with_rules a [] = a
 with_rules a (r ∷ rs) = with_rules (with_rule a r) rs
 
--- `solve KIND FILE [FILE] [--row K] [--workers W] [--num N] [--den D] [--budget B] [--lot L] [--blocks C] [--cert NAME] [--trace NAME] [--plain]`
+-- `solve KIND FILE [FILE] [--row K] [--workers W] [--num N] [--den D] [--budget B] [--lot L] [--blocks C] [--cert NAME] [--trace NAME] [--plain] [--swamp]`
 unfoldable pub the_solve : App
 the_solve = with_rules (new_app (codes "solve")) (required_rule (codes "KIND") ∷ required_rule (codes "FIRST_FILE") ∷ new_rule (codes "SECOND_FILE")
     ∷ option_rule row_option ∷ option_rule workers_option ∷ option_rule num_option ∷ option_rule den_option ∷ option_rule budget_option ∷ option_rule lot_option
-    ∷ option_rule blocks_option ∷ text_rule (codes "cert") ∷ text_rule (codes "trace") ∷ flag_rule (codes "plain") ∷ [])
+    ∷ option_rule blocks_option ∷ text_rule (codes "cert") ∷ text_rule (codes "trace") ∷ flag_rule (codes "plain") ∷ flag_rule (codes "swamp") ∷ [])
 
--- `check KIND CERT FILE [FILE] [--row K]`
+-- `check KIND CERT FILE [FILE] [--row K] [--swamp]`
 unfoldable pub the_check : App
 the_check = with_rules (new_app (codes "check")) (required_rule (codes "KIND") ∷ required_rule (codes "CERTIFICATE") ∷ required_rule (codes "FIRST_FILE") ∷ new_rule (codes "SECOND_FILE")
-    ∷ option_rule row_option ∷ [])
+    ∷ option_rule row_option ∷ flag_rule (codes "swamp") ∷ [])
 
 -- `journal KIND JOURNAL FILE [FILE] [--row K]`
 unfoldable pub the_journal : App

@@ -63,6 +63,8 @@ pub struct SolveCommand<'a> {
     pub blocks: u64,
     /// `--plain`: no block is marked hot.
     pub plain: bool,
+    /// `--swamp`: entering an `S` cell of a map costs 2. Only a grid has a map.
+    pub swamp: bool,
     /// `--cert NAME`: the name under which the certificate is to be saved, where one is given.
     pub certificate: Option<&'a str>,
     /// `--trace NAME`: the name under which the journal is to be saved, where one is given. It
@@ -70,7 +72,7 @@ pub struct SolveCommand<'a> {
     pub journal: Option<&'a str>,
 }
 
-/// `check KIND CERT FILE [FILE] [--row K]`.
+/// `check KIND CERT FILE [FILE] [--row K] [--swamp]`.
 #[derive(Clone, Copy, Debug)]
 pub struct CheckCommand<'a> {
     /// The task.
@@ -80,6 +82,8 @@ pub struct CheckCommand<'a> {
     /// The row of the scenario, counted from 0: 0 to 1,000,000, and 0 where none is given. Only a
     /// grid has a scenario.
     pub row: u64,
+    /// `--swamp`: entering an `S` cell of a map costs 2. Only a grid has a map.
+    pub swamp: bool,
 }
 
 /// `journal KIND JOURNAL FILE [FILE] [--row K]`.

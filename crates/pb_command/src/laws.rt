@@ -9,7 +9,7 @@ ghost use Rattle.pb_command.specs.Options.{SolveReadsOptions, LowWeightIsRefused
 ghost use Rattle.pb_command.specs.Options.{CheckReadsOptions, JournalReadsOptions};
 ghost use Rattle.pb_command.specs.Options.{MakeReadsOptions, OtherSizeIsRefused};
 ghost use Rattle.pb_command.specs.Options.{OutOfRangeIsRefused, GivenTwiceIsRefused};
-ghost use Rattle.pb_command.specs.Options.{PlainTwiceIsRefused, HelpIsRefused};
+ghost use Rattle.pb_command.specs.Options.{FlagTwiceIsRefused, HelpIsRefused};
 ghost use Rattle.pb_command.specs.Laws.{OneFileIsRefused, TwoBoardsAreRefused};
 ghost use Rattle.pb_command.specs.Laws.{DomainAloneIsRefused, OtherKindIsRefused};
 ghost use Rattle.pb_command.specs.Laws.{FilesComeBeforeWeight, WeightComesBeforeNames};
@@ -68,7 +68,7 @@ pub fn make_is_read()
     ensures strips { MakeStripsIsRead }
 {}
 
-/// The options and `--plain` give `solve` their values, anywhere among the kind and its files;
+/// The options and the flags give `solve` their values, anywhere among the kind and its files;
 /// without one stands its default.
 pub fn solve_reads_options()
     ensures { SolveReadsOptions }
@@ -81,8 +81,8 @@ pub fn solve_tests_options()
     ensures names { OneNameIsRefused }
 {}
 
-/// `--row` gives `check` its value, anywhere among the kind, the certificate and the files; without
-/// it stands its default.
+/// `--row` and `--swamp` give `check` their values, anywhere among the kind, the certificate and the
+/// files; without one stands its default.
 pub fn check_reads_options()
     ensures { CheckReadsOptions }
 {}
@@ -100,12 +100,12 @@ pub fn make_reads_options()
     ensures size { OtherSizeIsRefused }
 {}
 
-/// A number out of its option's range is refused for its form, and so are an option or `--plain`
+/// A number out of its option's range is refused for its form, and so are an option or a flag
 /// that is given twice, a word for help and a seed that is too great.
 pub fn options_out_of_form_are_refused()
     ensures range { OutOfRangeIsRefused }
     ensures twice { GivenTwiceIsRefused }
-    ensures plain { PlainTwiceIsRefused }
+    ensures flag { FlagTwiceIsRefused }
     ensures help { HelpIsRefused }
     ensures seed { SeedOutOfRangeIsRefused }
 {}

@@ -24,6 +24,3 @@ pub use laws::{
 };
 pub use reader::read_words;
 pub use refusal::{CommandFault, CommandRefusal, Message};
-
-#[cfg(test)]
-mod tests;

@@ -97,10 +97,11 @@ pub(crate) fn solve<'a>(alloc: Global) -> Result<Command<'a>, AllocError>
     )?;
     let with_certificate = add(with_blocks, text_option(alloc, "cert"))?;
     let with_journal = add(with_certificate, text_option(alloc, "trace"))?;
-    add(with_journal, flag(alloc, "plain"))
+    let with_plain = add(with_journal, flag(alloc, "plain"))?;
+    add(with_plain, flag(alloc, "swamp"))
 }
 
-// `check KIND CERT FILE [FILE]` and its option.
+// `check KIND CERT FILE [FILE]` and its options.
 pub(crate) fn check<'a>(alloc: Global) -> Result<Command<'a>, AllocError>
     ensures app { IfOk result (λ c. app_of c ≡ the_check) }
     ensures local { IfOk result (λ c. (fields_of c).has_globals ≡ false) }
@@ -109,7 +110,8 @@ pub(crate) fn check<'a>(alloc: Global) -> Result<Command<'a>, AllocError>
     let with_certificate = add(with_kind, required_word(alloc, "CERTIFICATE"))?;
     let with_first = add(with_certificate, required_word(alloc, "FIRST_FILE"))?;
     let with_second = add(with_first, optional_word(alloc, "SECOND_FILE"))?;
-    add(with_second, number_option(alloc, "row", 0, ROW_MOST))
+    let with_row = add(with_second, number_option(alloc, "row", 0, ROW_MOST))?;
+    add(with_row, flag(alloc, "swamp"))
 }
 
 // `journal KIND JOURNAL FILE [FILE]` and its option.

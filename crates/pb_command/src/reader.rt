@@ -94,6 +94,7 @@ fn read_solve<'a>(matches: &ArgMatches<'a>) -> Result<SolveCommand<'a>, CommandF
     let second = text(matches, "SECOND_FILE");
     let numbers = solve_numbers(matches);
     let plain = is_given(matches, "plain");
+    let swamp = is_given(matches, "swamp");
     let certificate = text(matches, "cert");
     let journal = text(matches, "trace");
     let Some(kind) = kind else {
@@ -111,6 +112,7 @@ fn read_solve<'a>(matches: &ArgMatches<'a>) -> Result<SolveCommand<'a>, CommandF
                 lot: numbers.lot,
                 blocks: numbers.blocks,
                 plain,
+                swamp,
                 certificate,
                 journal,
             }),
@@ -131,6 +133,7 @@ fn read_check<'a>(matches: &ArgMatches<'a>) -> Result<CheckCommand<'a>, CommandF
     let first = text(matches, "FIRST_FILE");
     let second = text(matches, "SECOND_FILE");
     let row = number(matches, "row", 0, ROW_MOST, Some(0));
+    let swamp = is_given(matches, "swamp");
     let Some(kind) = kind else {
         return Err(CommandFault::Kind);
     };
@@ -140,6 +143,7 @@ fn read_check<'a>(matches: &ArgMatches<'a>) -> Result<CheckCommand<'a>, CommandF
                 input,
                 certificate,
                 row,
+                swamp,
             }),
             None => Err(CommandFault::Files),
         },

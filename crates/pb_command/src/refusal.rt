@@ -1,7 +1,8 @@
-ghost use Rattle.std.specs.Prelude.{◌≡◌, ◌≤◌, true, length, IfOk, codes};
+ghost use Rattle.std.specs.Prelude.{◌≡◌, ◌≤◌, ◌+◌, true, length, IfOk, codes};
 ghost use Rattle.std.specs.String.{string_bytes};
 ghost use Rattle.std.specs.String.Boundary.{IsSplitPoint};
-ghost use Rattle.pb_command.specs.Causes.{IsRefusal, EndsLine, IsLine, IsPrinted, text_most};
+ghost use Rattle.pb_command.specs.Causes.{IsRefusal, EndsLine, IsErrorText, IsLine, IsPrinted};
+ghost use Rattle.pb_command.specs.Causes.{text_most};
 ghost use Rattle.pb_command.specs.declared.refusal.CommandRefusal.TheVariants.{Memory};
 
 use crate::parser::{check, journal, make, solve};
@@ -28,8 +29,12 @@ pub enum CommandFault {
     Size,
 }
 
-// How many bytes a text of clap has at most. A longer one, which repeats a long word, is cut.
-const TEXT_MOST: usize = 65_536;
+// What a text for words out of form begins with.
+const ERROR: &str = "error: ";
+
+// How many bytes such a text has at most behind that. A longer one, which repeats a long word, is
+// cut.
+const REST_MOST: usize = 65_536 - 7;
 
 /// Lines that are to be printed, each of which ends with LF.
 #[derive(Debug, Drop)]
@@ -47,18 +52,14 @@ impl Model for Message {
 }
 
 impl Message {
-    // The message with a text of clap: a long one is cut, and the last line is ended where it
-    // isn't.
-    fn of_clap(text: String) -> Result<Message, AllocError>
-        ensures { IfOk result (λ m. EndsLine m × (length m ≤ text_most)) }
+    // The message with a text of clap. Its clauses don't say that the text begins with `error: `,
+    // so this is written here, and is left out of clap's.
+    fn of_clap(alloc: Global, text: &str) -> Result<Message, AllocError>
+        ensures { IfOk result IsErrorText }
     {
-        let mut text = text;
-        if text.len() <= TEXT_MOST && is_ended(text.as_str()) {
-            return Ok(Message { text });
-        }
-        let end = cut_at(&text, TEXT_MOST - 1);
-        text.truncate(end);
-        text.push_str("\n")?;
+        let rest = ended(String::from_str(alloc, without_error(text))?)?;
+        let mut text = String::from_str(alloc, ERROR)?;
+        text.push_str(rest.as_str())?;
         Ok(Message { text })
     }
 
@@ -77,6 +78,26 @@ impl Message {
     {
         self.text.as_bytes()
     }
+}
+
+// A text without `error: ` at its front, if that stands there.
+fn without_error(text: &str) -> &str {
+    text.strip_prefix(ERROR).unwrap_or(text)
+}
+
+// The text with its last line ended, and cut if it is long.
+fn ended(text: String) -> Result<String, AllocError>
+    ensures ends { IfOk result (λ t. EndsLine (string_bytes t)) }
+    ensures few { IfOk result (λ t. 7 + length (string_bytes t) ≤ text_most) }
+{
+    let mut text = text;
+    if text.len() <= REST_MOST && is_ended(text.as_str()) {
+        return Ok(text);
+    }
+    let end = cut_at(&text, REST_MOST - 1);
+    text.truncate(end);
+    text.push_str("\n")?;
+    Ok(text)
 }
 
 // Where a text is cut so that it has at most `most` bytes: its end, or the last place below that
@@ -124,9 +145,10 @@ impl From<AllocError> for CommandRefusal {
 
 // The text of an error of clap.
 fn error_message(alloc: Global, error: &Error) -> Result<Message, AllocError>
-    ensures { IfOk result (λ m. EndsLine m × (length m ≤ text_most)) }
+    ensures { IfOk result IsErrorText }
 {
-    Message::of_clap(format!(in alloc; "{error}")?)
+    let text = format!(in alloc; "{error}")?;
+    Message::of_clap(alloc, text.as_str())
 }
 
 // The refusal of clap, with its text.
@@ -141,7 +163,7 @@ pub(crate) fn form_refusal(alloc: Global, error: &Error) -> CommandRefusal
 
 // The message of clap for a mistake in the words of a subcommand.
 fn clap_message(alloc: Global, name: &str, mistake: &str) -> Result<Message, AllocError>
-    ensures { IfOk result (λ m. EndsLine m × (length m ≤ text_most)) }
+    ensures { IfOk result IsErrorText }
 {
     let command = match name {
         "solve" => solve(alloc)?,

@@ -4,7 +4,7 @@ use Rattle.std.proofs.lemmas.Bool.Decides.{nat_tests}
 use Rattle.pb_packed.specs.Bits.{bits_of}
 use Rattle.pb_model.specs.Space.{Steps}
 use Rattle.pb_model.specs.Plan.{Walk}
-use Rattle.pb_task.specs.Grid.{is_passable, are_connected, class_at, cell_state, class_of_state, cell_beside, step_to, grid_space, IsGrid}
+use Rattle.pb_task.specs.Grid.{is_passable, are_connected, class_at, is_swamp, entry_cost, cell_state, class_of_state, cell_beside, step_to, grid_space, IsGrid}
 use Rattle.pb_task.specs.declared.parts.GridParts.{GridParts}
 use Rattle.pb_task.specs.declared.parts.Class.{Class}
 use Rattle.pb_task.specs.declared.parts.Class.TheVariants.{Land, Water, Blocked}
@@ -88,19 +88,25 @@ cell_is grid is x y e =
     let small_y : y < 2048 = (let b = within.1 in omega (arith, b, height)) in
     ap (λ n. (n, bits_of (cell_state x y) 11 11)) (x_of x y small_x) ∙ ap (λ n. (x, n)) (y_of x y small_x small_y)
 
--- a step costs as much as it can bring nearer
+-- what a cell can bring nearer costs no more than to enter a cell, swamp or not
+at_least_one : (swamp : Bool) (one all : ℕ) → one ≤ 1 + all → one ≤ (if swamp then 2 else 1) + all
+at_least_one true one all le = omega (arith, le)
+at_least_one false one all le = le
+
+-- a step costs at least as much as it can bring nearer
 nearer_to : (grid : GridParts) → IsGrid grid → (from : Class) (here cell : ℕ × ℕ) (to cost : ℕ) → manhattan here grid.goal ≤ 1 + manhattan cell grid.goal
     → step_to grid from (Some cell) ≡ Some (to, cost) → manhattan here grid.goal ≤ cost + manhattan (cell_of to) grid.goal
 nearer_to grid is from here cell to cost le e = go (are_connected from (class_at grid cell.0 cell.1)) refl e
   where
     go : (test : Bool) → are_connected from (class_at grid cell.0 cell.1) ≡ test
-        → ◌≡◌ {A = Option (ℕ × ℕ)} (if test then Some (cell_state cell.0 cell.1, 1) else None) (Some (to, cost)) → manhattan here grid.goal ≤ cost + manhattan (cell_of to) grid.goal
+        → ◌≡◌ {A = Option (ℕ × ℕ)} (if test then Some (cell_state cell.0 cell.1, entry_cost grid cell.0 cell.1) else None) (Some (to, cost)) → manhattan here grid.goal ≤ cost + manhattan (cell_of to) grid.goal
     go false joined e = cc
     go true joined e =
-        let same : ◌≡◌ {A = ℕ × ℕ} (cell_state cell.0 cell.1, 1) (to, cost) = cc in
+        let same : ◌≡◌ {A = ℕ × ℕ} (cell_state cell.0 cell.1, entry_cost grid cell.0 cell.1) (to, cost) = cc in
         let there : cell_of (cell_state cell.0 cell.1) ≡ cell = cell_is grid is cell.0 cell.1 (passable_to from (class_at grid cell.0 cell.1) joined) in
         subst (λ (p : ℕ × ℕ). manhattan here grid.goal ≤ p.1 + manhattan (cell_of p.0) grid.goal) same
-        (subst (λ c. manhattan here grid.goal ≤ 1 + manhattan c grid.goal) (sym there) le)
+        (subst (λ c. manhattan here grid.goal ≤ entry_cost grid cell.0 cell.1 + manhattan c grid.goal) (sym there)
+        (at_least_one (is_swamp grid cell.0 cell.1) (manhattan here grid.goal) (manhattan cell grid.goal) le))
 
 nearer : (grid : GridParts) → IsGrid grid → (from action to cost : ℕ) → Steps (grid_space grid) from action to cost
     → manhattan (cell_of from) grid.goal ≤ cost + manhattan (cell_of to) grid.goal

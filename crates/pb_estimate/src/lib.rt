@@ -19,8 +19,3 @@ pub use exploration::{AtomCost, Exploration};
 pub use laws::{estimates_are_admissible, estimates_count_tiles, hmax_is_fixed};
 pub use relaxed::{ActionList, AtomList, RelaxedAction, RelaxedActions, RelaxedTask, Users};
 pub use strips::Counters;
-
-#[cfg(test)]
-mod strips_tests;
-#[cfg(test)]
-mod tests;

@@ -12,7 +12,7 @@ use Rattle.pb_grid.specs.declared.error.GridError.TheVariants as errors
 use Rattle.pb_grid.specs.declared.map.MapParts.{MapParts}
 use Rattle.pb_grid.specs.declared.scenario.ScenarioParts.{ScenarioParts}
 use Rattle.pb_grid.specs.Lines.{lines_of, line_at, words_of, is_blank_line}
-use Rattle.pb_grid.specs.Reading.{◌>>=◌, wanted, must, are_words, number_named, size_of_map, is_side, class_of_byte, cells_of, row_of_map, rows_of_map, below_map, map_reading, rows_of_scenario, scenario_of_words, scenario_reading, is_on_map, is_free, grid_of_parts, grid_reading}
+use Rattle.pb_grid.specs.Reading.{◌>>=◌, wanted, must, are_words, number_named, size_of_map, is_side, class_of_byte, cells_of, row_of_map, rows_of_map, below_map, map_reading, rows_of_scenario, scenario_of_words, scenario_reading, swamp_of, is_on_map, is_free, grid_of_parts, grid_reading}
 use Rattle.pb_grid.specs.Form.{SpellsMap, SpellsRow, SpellsScenario}
 use Rattle.pb_grid.specs.Cases.{NamesNumber, SaysType, SaysHeight, SaysWidth, HasHeader, IsSide, IsRow, IsRowFault, IsCellFault, BeginsWithVersion, count_of_rows, IsCaseOf}
 use Rattle.pb_grid.proofs.Chosen.{rows_from}
@@ -371,12 +371,12 @@ not_both : (a b : Bool) → (a && b) ≡ false → a ≡ true → b ≡ true →
 not_both a b differs x y = true_false (a && b) differs (and_true a b x y)
 
 module _ (map_text scenario_text : List ℕ) (row : ℕ) (error : GridError) (map : MapParts) (spelled : SpellsMap map_text map.width map.height map.cells) (scenario : ScenarioParts)
-    (scene : SpellsScenario scenario_text row scenario.width scenario.height scenario.start scenario.goal) where
-  grid_case : grid_of_parts map scenario ≡ Err error → IsCaseOf map_text scenario_text row error
+    (scene : SpellsScenario scenario_text row scenario.width scenario.height scenario.start scenario.goal) (swamp : List Bool) where
+  grid_case : grid_of_parts map swamp scenario ≡ Err error → IsCaseOf map_text scenario_text row error
   unfolding grid_of_parts
   grid_case =
       let Case : GridError → Type 0 = IsCaseOf map_text scenario_text row in
-      let grid : GridParts = joined map scenario in
+      let grid : GridParts = joined map swamp scenario in
       bind_case (must errors.ScenarioSize (eqb scenario.width map.width && eqb scenario.height map.height)) _ error (Case error)
       (λ h. let k = must_case errors.ScenarioSize error (eqb scenario.width map.width && eqb scenario.height map.height) h in
       subst Case k.1 (
@@ -407,10 +407,10 @@ module _ (map_text scenario_text : List ℕ) (row : ℕ) (error : GridError) (ma
       (λ h. let k = must_case errors.GoalBlocked error (is_free grid scenario.goal) h in subst Case k.1 (grid, spelled, fits, (start_on, goal_on, must_ok errors.StartBlocked (is_free grid scenario.start) c r, k.0))) (λ d s.
       not_ok grid error (Case error)))))
 
-pub case_of : (map_text scenario_text : List ℕ) (row : ℕ) (error : GridError) → grid_reading map_text scenario_text row ≡ Err error → IsCaseOf map_text scenario_text row error
+pub case_of : (map_text scenario_text : List ℕ) (row : ℕ) (swamp : Bool) (error : GridError) → grid_reading map_text scenario_text row swamp ≡ Err error → IsCaseOf map_text scenario_text row error
 unfolding grid_reading
-case_of map_text scenario_text row error =
+case_of map_text scenario_text row swamp error =
     bind_case (map_reading (lines_of map_text)) _ error (IsCaseOf map_text scenario_text row error) (map_case map_text scenario_text row error) (λ map p.
     let spelled : SpellsMap map_text map.width map.height map.cells = map_spelled map_text map p in
     bind_case (scenario_reading (lines_of scenario_text) row) _ error (IsCaseOf map_text scenario_text row error) (scenario_case map_text scenario_text row error map spelled) (λ scenario q.
-    grid_case map_text scenario_text row error map spelled scenario (scenario_spelled scenario_text row scenario q)))
+    grid_case map_text scenario_text row error map spelled scenario (scenario_spelled scenario_text row scenario q) (swamp_of swamp map.height (lines_of map_text))))

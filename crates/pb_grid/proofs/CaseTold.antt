@@ -13,7 +13,7 @@ use Rattle.pb_grid.specs.declared.error.GridError.TheVariants as errors
 use Rattle.pb_grid.specs.declared.map.MapParts.{MapParts}
 use Rattle.pb_grid.specs.declared.scenario.ScenarioParts.{ScenarioParts}
 use Rattle.pb_grid.specs.Lines.{lines_of, line_at, words_of, is_blank_line}
-use Rattle.pb_grid.specs.Reading.{◌>>=◌, wanted, are_words, number_named, size_of_map, is_side, class_of_byte, cells_of, row_of_map, rows_of_map, below_map, map_reading, rows_of_scenario, scenario_of_words, scenario_reading, is_on_map, is_free, grid_of_parts, grid_reading}
+use Rattle.pb_grid.specs.Reading.{◌>>=◌, wanted, are_words, number_named, size_of_map, is_side, class_of_byte, cells_of, row_of_map, rows_of_map, below_map, map_reading, rows_of_scenario, scenario_of_words, scenario_reading, swamp_of, is_on_map, is_free, grid_of_parts, grid_reading}
 use Rattle.pb_grid.specs.Form.{SpellsMap, SpellsScenario}
 use Rattle.pb_grid.specs.Cases.{NamesNumber, IsHeaderFault, HasHeader, IsSide, IsSizeFault, IsRow, IsRowFault, IsCellFault, IsBelowFault, BeginsWithVersion, IsNoRow, IsChosenFault, IsOnMap, IsCaseOf}
 use Rattle.pb_grid.specs.Laws.{RefusalsHaveTheirCase}
@@ -220,26 +220,26 @@ chosen_told lines row line is =
 
 -- ---- both
 
-behind_map : (map_text scenario_text : List ℕ) (row width height : ℕ) (cells : List Class) (error : GridError) → SpellsMap map_text width height cells → scenario_reading (lines_of scenario_text) row ≡ Err error
-    → grid_reading map_text scenario_text row ≡ Err error
+behind_map : (map_text scenario_text : List ℕ) (row width height : ℕ) (swamp : Bool) (cells : List Class) (error : GridError) → SpellsMap map_text width height cells → scenario_reading (lines_of scenario_text) row ≡ Err error
+    → grid_reading map_text scenario_text row swamp ≡ Err error
 unfolding grid_reading
-behind_map map_text scenario_text row width height cells error spelled e = let p = map_read map_text width height cells spelled in rw (p, e) refl
+behind_map map_text scenario_text row width height swamp cells error spelled e = let p = map_read map_text width height cells spelled in rw (p, e) refl
 
-in_map : (map_text scenario_text : List ℕ) (row : ℕ) (error : GridError) → map_reading (lines_of map_text) ≡ Err error → grid_reading map_text scenario_text row ≡ Err error
+in_map : (map_text scenario_text : List ℕ) (row : ℕ) (swamp : Bool) (error : GridError) → map_reading (lines_of map_text) ≡ Err error → grid_reading map_text scenario_text row swamp ≡ Err error
 unfolding grid_reading
-in_map map_text scenario_text row error e = rw e refl
+in_map map_text scenario_text row swamp error e = rw e refl
 
-behind_both : (map_text scenario_text : List ℕ) (row : ℕ) (map : MapParts) (scenario : ScenarioParts) (error : GridError) → SpellsMap map_text map.width map.height map.cells
-    → SpellsScenario scenario_text row scenario.width scenario.height scenario.start scenario.goal → grid_of_parts map scenario ≡ Err error → grid_reading map_text scenario_text row ≡ Err error
+behind_both : (map_text scenario_text : List ℕ) (row : ℕ) (swamp : Bool) (map : MapParts) (scenario : ScenarioParts) (error : GridError) → SpellsMap map_text map.width map.height map.cells
+    → SpellsScenario scenario_text row scenario.width scenario.height scenario.start scenario.goal → grid_of_parts map (swamp_of swamp map.height (lines_of map_text)) scenario ≡ Err error → grid_reading map_text scenario_text row swamp ≡ Err error
 unfolding grid_reading
-behind_both map_text scenario_text row map scenario error spelled scene e =
+behind_both map_text scenario_text row swamp map scenario error spelled scene e =
     let p = map_read map_text map.width map.height map.cells spelled in
     let q = scenario_read scenario_text row scenario.width scenario.height scenario.start scenario.goal scene in
     rw (p, q) e
 
-size_told : (map : MapParts) (scenario : ScenarioParts) → ((scenario.width ≡ map.width) × (scenario.height ≡ map.height) → ⊥) → grid_of_parts map scenario ≡ Err errors.ScenarioSize
+size_told : (map : MapParts) (swamp : List Bool) (scenario : ScenarioParts) → ((scenario.width ≡ map.width) × (scenario.height ≡ map.height) → ⊥) → grid_of_parts map swamp scenario ≡ Err errors.ScenarioSize
 unfolding grid_of_parts
-size_told map scenario differs =
+size_told map swamp scenario differs =
     let p : (eqb scenario.width map.width && eqb scenario.height map.height) ≡ false =
     not_true (eqb scenario.width map.width && eqb scenario.height map.height) (λ e. let parts = both_true (eqb scenario.width map.width) (eqb scenario.height map.height) e in differs (eqb-true scenario.width map.width parts.0, eqb-true scenario.height map.height parts.1)) in
     rw p refl
@@ -257,51 +257,51 @@ module _ (grid : GridParts) where
   both_on : IsOnMap grid grid.start → IsOnMap grid grid.goal → (is_on_map grid.width grid.height grid.start && is_on_map grid.width grid.height grid.goal) ≡ true
   both_on start goal = and_true (is_on_map grid.width grid.height grid.start) (is_on_map grid.width grid.height grid.goal) (is_on grid.width grid.height grid.start start) (is_on grid.width grid.height grid.goal goal)
 
-  outside_told : (IsOnMap grid grid.start × IsOnMap grid grid.goal → ⊥) → grid_of_parts map_of scenario_of ≡ Err errors.Outside
+  outside_told : (swamp : List Bool) → (IsOnMap grid grid.start × IsOnMap grid grid.goal → ⊥) → grid_of_parts map_of swamp scenario_of ≡ Err errors.Outside
   unfolding grid_of_parts
-  outside_told fault =
+  outside_told swamp fault =
       let p = same_size in
       let q : (is_on_map grid.width grid.height grid.start && is_on_map grid.width grid.height grid.goal) ≡ false =
       not_true (is_on_map grid.width grid.height grid.start && is_on_map grid.width grid.height grid.goal)
       (λ e. let parts = both_true (is_on_map grid.width grid.height grid.start) (is_on_map grid.width grid.height grid.goal) e in fault (on_map grid.width grid.height grid.start parts.0, on_map grid.width grid.height grid.goal parts.1)) in
       rw (p, q) refl
 
-  start_told : IsOnMap grid grid.start → IsOnMap grid grid.goal → is_free grid grid.start ≡ false → grid_of_parts map_of scenario_of ≡ Err errors.StartBlocked
+  start_told : (swamp : List Bool) → IsOnMap grid grid.start → IsOnMap grid grid.goal → is_free grid grid.start ≡ false → grid_of_parts map_of swamp scenario_of ≡ Err errors.StartBlocked
   unfolding grid_of_parts
-  start_told start goal fault = let p = same_size in let q = both_on start goal in rw (p, q, fault) refl
+  start_told swamp start goal fault = let p = same_size in let q = both_on start goal in rw (p, q, fault) refl
 
-  goal_told : IsOnMap grid grid.start → IsOnMap grid grid.goal → is_free grid grid.start ≡ true → is_free grid grid.goal ≡ false → grid_of_parts map_of scenario_of ≡ Err errors.GoalBlocked
+  goal_told : (swamp : List Bool) → IsOnMap grid grid.start → IsOnMap grid grid.goal → is_free grid grid.start ≡ true → is_free grid grid.goal ≡ false → grid_of_parts map_of swamp scenario_of ≡ Err errors.GoalBlocked
   unfolding grid_of_parts
-  goal_told start goal free fault = let p = same_size in let q = both_on start goal in rw (p, q, free, fault) refl
+  goal_told swamp start goal free fault = let p = same_size in let q = both_on start goal in rw (p, q, free, fault) refl
 
-pub told : (map_text scenario_text : List ℕ) (row : ℕ) (error : GridError) → IsCaseOf map_text scenario_text row error → grid_reading map_text scenario_text row ≡ Err error
-told map_text scenario_text row (errors.Header line) fault = in_map map_text scenario_text row (errors.Header line) (map_header (lines_of map_text) line fault)
-told map_text scenario_text row errors.Size fault = in_map map_text scenario_text row errors.Size (map_size (lines_of map_text) fault)
-told map_text scenario_text row (errors.Rows line) (height, width, head, high, wide, inl fault) =
-    in_map map_text scenario_text row (errors.Rows line) (map_rows (lines_of map_text) height width (errors.Rows line) head high wide (row_fault 5 height width line (drop 4 (lines_of map_text)) fault))
-told map_text scenario_text row (errors.Rows line) (height, width, head, high, wide, inr fault) = in_map map_text scenario_text row (errors.Rows line) (map_below (lines_of map_text) height width line head high wide fault)
-told map_text scenario_text row (errors.Cell line col) (height, width, head, high, wide, fault) =
-    in_map map_text scenario_text row (errors.Cell line col) (map_rows (lines_of map_text) height width (errors.Cell line col) head high wide (unknown 5 height width line col (drop 4 (lines_of map_text)) fault))
-told map_text scenario_text row (errors.Scenario line) (width, height, cells, spelled, inl fault) = behind_map map_text scenario_text row width height cells (errors.Scenario line) spelled (no_version_told (lines_of scenario_text) row line fault.0 fault.1)
-told map_text scenario_text row (errors.Scenario line) (width, height, cells, spelled, inr fault) = behind_map map_text scenario_text row width height cells (errors.Scenario line) spelled (chosen_told (lines_of scenario_text) row line fault)
-told map_text scenario_text row (errors.NoRow asked rows) (width, height, cells, spelled, fault) =
-    behind_map map_text scenario_text row width height cells (errors.NoRow asked rows) spelled (no_row_told (lines_of scenario_text) row rows fault.1 ∙ ap (λ k. Err (errors.NoRow k rows)) (sym fault.0))
-told map_text scenario_text row errors.ScenarioSize (width, height, cells, other_width, other_height, start, goal, spelled, scene, differs) =
+pub told : (map_text scenario_text : List ℕ) (row : ℕ) (swamp : Bool) (error : GridError) → IsCaseOf map_text scenario_text row error → grid_reading map_text scenario_text row swamp ≡ Err error
+told map_text scenario_text row swamp (errors.Header line) fault = in_map map_text scenario_text row swamp (errors.Header line) (map_header (lines_of map_text) line fault)
+told map_text scenario_text row swamp errors.Size fault = in_map map_text scenario_text row swamp errors.Size (map_size (lines_of map_text) fault)
+told map_text scenario_text row swamp (errors.Rows line) (height, width, head, high, wide, inl fault) =
+    in_map map_text scenario_text row swamp (errors.Rows line) (map_rows (lines_of map_text) height width (errors.Rows line) head high wide (row_fault 5 height width line (drop 4 (lines_of map_text)) fault))
+told map_text scenario_text row swamp (errors.Rows line) (height, width, head, high, wide, inr fault) = in_map map_text scenario_text row swamp (errors.Rows line) (map_below (lines_of map_text) height width line head high wide fault)
+told map_text scenario_text row swamp (errors.Cell line col) (height, width, head, high, wide, fault) =
+    in_map map_text scenario_text row swamp (errors.Cell line col) (map_rows (lines_of map_text) height width (errors.Cell line col) head high wide (unknown 5 height width line col (drop 4 (lines_of map_text)) fault))
+told map_text scenario_text row swamp (errors.Scenario line) (width, height, cells, spelled, inl fault) = behind_map map_text scenario_text row width height swamp cells (errors.Scenario line) spelled (no_version_told (lines_of scenario_text) row line fault.0 fault.1)
+told map_text scenario_text row swamp (errors.Scenario line) (width, height, cells, spelled, inr fault) = behind_map map_text scenario_text row width height swamp cells (errors.Scenario line) spelled (chosen_told (lines_of scenario_text) row line fault)
+told map_text scenario_text row swamp (errors.NoRow asked rows) (width, height, cells, spelled, fault) =
+    behind_map map_text scenario_text row width height swamp cells (errors.NoRow asked rows) spelled (no_row_told (lines_of scenario_text) row rows fault.1 ∙ ap (λ k. Err (errors.NoRow k rows)) (sym fault.0))
+told map_text scenario_text row swamp errors.ScenarioSize (width, height, cells, other_width, other_height, start, goal, spelled, scene, differs) =
     let map : MapParts = record { width = width; height = height; cells = cells } in
     let scenario : ScenarioParts = record { width = other_width; height = other_height; start = start; goal = goal } in
-    behind_both map_text scenario_text row map scenario errors.ScenarioSize spelled scene (size_told map scenario differs)
-told map_text scenario_text row errors.Outside (grid, spelled, scene, fault) = behind_both map_text scenario_text row (map_of grid) (scenario_of grid) errors.Outside spelled scene (outside_told grid fault)
-told map_text scenario_text row errors.StartBlocked (grid, spelled, scene, fault) = behind_both map_text scenario_text row (map_of grid) (scenario_of grid) errors.StartBlocked spelled scene (start_told grid fault.0 fault.1 fault.2)
-told map_text scenario_text row errors.GoalBlocked (grid, spelled, scene, fault) =
-    behind_both map_text scenario_text row (map_of grid) (scenario_of grid) errors.GoalBlocked spelled scene (goal_told grid fault.0 fault.1 fault.2 fault.3)
-told map_text scenario_text row errors.Memory fault = absurd fault
+    behind_both map_text scenario_text row swamp map scenario errors.ScenarioSize spelled scene (size_told map (swamp_of swamp map.height (lines_of map_text)) scenario differs)
+told map_text scenario_text row swamp errors.Outside (grid, spelled, scene, fault) = behind_both map_text scenario_text row swamp (map_of grid) (scenario_of grid) errors.Outside spelled scene (outside_told grid (swamp_of swamp grid.height (lines_of map_text)) fault)
+told map_text scenario_text row swamp errors.StartBlocked (grid, spelled, scene, fault) = behind_both map_text scenario_text row swamp (map_of grid) (scenario_of grid) errors.StartBlocked spelled scene (start_told grid (swamp_of swamp grid.height (lines_of map_text)) fault.0 fault.1 fault.2)
+told map_text scenario_text row swamp errors.GoalBlocked (grid, spelled, scene, fault) =
+    behind_both map_text scenario_text row swamp (map_of grid) (scenario_of grid) errors.GoalBlocked spelled scene (goal_told grid (swamp_of swamp grid.height (lines_of map_text)) fault.0 fault.1 fault.2 fault.3)
+told map_text scenario_text row swamp errors.Memory fault = absurd fault
 
 pub refusals_have_their_case : RefusalsHaveTheirCase
-refusals_have_their_case map_text scenario_text row error = (case_of map_text scenario_text row error, told map_text scenario_text row error)
+refusals_have_their_case map_text scenario_text row swamp error = (case_of map_text scenario_text row swamp error, told map_text scenario_text row swamp error)
 
 -- in the case of a refusal no other is told, and no grid is read
-pub same_refusal : (map_text scenario_text : List ℕ) (row : ℕ) (error other : GridError) → IsCaseOf map_text scenario_text row error → grid_reading map_text scenario_text row ≡ Err other → error ≡ other
-same_refusal map_text scenario_text row error other is e = let mine : grid_reading map_text scenario_text row ≡ Err error = told map_text scenario_text row error is in cc
+pub same_refusal : (map_text scenario_text : List ℕ) (row : ℕ) (swamp : Bool) (error other : GridError) → IsCaseOf map_text scenario_text row error → grid_reading map_text scenario_text row swamp ≡ Err other → error ≡ other
+same_refusal map_text scenario_text row swamp error other is e = let mine : grid_reading map_text scenario_text row swamp ≡ Err error = told map_text scenario_text row swamp error is in cc
 
-pub no_grid : (map_text scenario_text : List ℕ) (row : ℕ) (error : GridError) (grid : GridParts) → IsCaseOf map_text scenario_text row error → grid_reading map_text scenario_text row ≡ Ok grid → ⊥
-no_grid map_text scenario_text row error grid is e = let mine : grid_reading map_text scenario_text row ≡ Err error = told map_text scenario_text row error is in cc
+pub no_grid : (map_text scenario_text : List ℕ) (row : ℕ) (swamp : Bool) (error : GridError) (grid : GridParts) → IsCaseOf map_text scenario_text row error → grid_reading map_text scenario_text row swamp ≡ Ok grid → ⊥
+no_grid map_text scenario_text row swamp error grid is e = let mine : grid_reading map_text scenario_text row swamp ≡ Err error = told map_text scenario_text row swamp error is in cc

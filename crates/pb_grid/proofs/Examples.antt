@@ -1,5 +1,5 @@
 -- What the definitions give for a few texts.
-use Rattle.std.proofs.Common.{◌≡◌, ℕ, List, [], ◌∷◌, ◌++◌, codes, Some, None, Ok, Err, refl}
+use Rattle.std.proofs.Common.{◌≡◌, ℕ, true, false, List, [], ◌∷◌, ◌++◌, codes, Some, None, Ok, Err, refl}
 use Rattle.pb_task.specs.declared.parts.Class.TheVariants.{Land, Water}
 use Rattle.pb_grid.specs.declared.error.GridError.TheVariants as errors
 use Rattle.pb_grid.specs.Lines.{without_empty_last, lines_of, words_of, number_of}
@@ -41,22 +41,32 @@ map_text row = codes "type octile" ++ 10 ∷ codes "height 1" ++ 10 ∷ codes "w
 scenario_text : (row : List ℕ) → List ℕ
 scenario_text row = codes "version 1" ++ 10 ∷ 10 ∷ row ++ 10 ∷ []
 
-water_is_passable : grid_reading (map_text (codes ".W")) (scenario_text (codes "0 my map 2 1 0 0 1 0 0")) 0 ≡ Ok (record { width = 2; height = 1; cells = Land ∷ Water ∷ []; start = (0, 0); goal = (1, 0) })
+water_is_passable : grid_reading (map_text (codes ".W")) (scenario_text (codes "0 my map 2 1 0 0 1 0 0")) 0 true ≡ Ok (record { width = 2; height = 1; cells = Land ∷ Water ∷ []; swamp = false ∷ false ∷ []; start = (0, 0); goal = (1, 0) })
 unfolding grid_reading map_reading scenario_reading grid_of_parts size_of_map rows_of_map row_of_map cells_of class_of_byte below_map scenario_of_words lines_of without_empty_last words_of number_of map_text scenario_text
 water_is_passable = refl
 
-blocked_start : grid_reading (map_text (codes "T.")) (scenario_text (codes "0 m 2 1 0 0 1 0 0")) 0 ≡ Err errors.StartBlocked
+swamp_is_marked : grid_reading (map_text (codes "S.")) (scenario_text (codes "0 m 2 1 0 0 1 0 0")) 0 true
+    ≡ Ok (record { width = 2; height = 1; cells = Land ∷ Land ∷ []; swamp = true ∷ false ∷ []; start = (0, 0); goal = (1, 0) })
+unfolding grid_reading map_reading scenario_reading grid_of_parts size_of_map rows_of_map row_of_map cells_of class_of_byte below_map scenario_of_words lines_of without_empty_last words_of number_of map_text scenario_text
+swamp_is_marked = refl
+
+land_without_the_word : grid_reading (map_text (codes "S.")) (scenario_text (codes "0 m 2 1 0 0 1 0 0")) 0 false
+    ≡ Ok (record { width = 2; height = 1; cells = Land ∷ Land ∷ []; swamp = false ∷ false ∷ []; start = (0, 0); goal = (1, 0) })
+unfolding grid_reading map_reading scenario_reading grid_of_parts size_of_map rows_of_map row_of_map cells_of class_of_byte below_map scenario_of_words lines_of without_empty_last words_of number_of map_text scenario_text
+land_without_the_word = refl
+
+blocked_start : grid_reading (map_text (codes "T.")) (scenario_text (codes "0 m 2 1 0 0 1 0 0")) 0 true ≡ Err errors.StartBlocked
 unfolding grid_reading map_reading scenario_reading grid_of_parts size_of_map rows_of_map row_of_map cells_of class_of_byte below_map scenario_of_words lines_of without_empty_last words_of number_of map_text scenario_text
 blocked_start = refl
 
-short_row : grid_reading (map_text (codes ".")) (scenario_text (codes "0 m 2 1 0 0 1 0 0")) 0 ≡ Err (errors.Rows 5)
+short_row : grid_reading (map_text (codes ".")) (scenario_text (codes "0 m 2 1 0 0 1 0 0")) 0 true ≡ Err (errors.Rows 5)
 unfolding grid_reading map_reading scenario_reading grid_of_parts size_of_map rows_of_map row_of_map cells_of class_of_byte below_map scenario_of_words lines_of without_empty_last words_of number_of map_text scenario_text
 short_row = refl
 
-eight_words : grid_reading (map_text (codes "..")) (scenario_text (codes "m 2 1 0 0 1 0 0")) 0 ≡ Err (errors.Scenario 3)
+eight_words : grid_reading (map_text (codes "..")) (scenario_text (codes "m 2 1 0 0 1 0 0")) 0 true ≡ Err (errors.Scenario 3)
 unfolding grid_reading map_reading scenario_reading grid_of_parts size_of_map rows_of_map row_of_map cells_of class_of_byte below_map scenario_of_words lines_of without_empty_last words_of number_of map_text scenario_text
 eight_words = refl
 
-row_that_is_not_there : grid_reading (map_text (codes "..")) (scenario_text (codes "0 m 2 1 0 0 1 0 0")) 1 ≡ Err (errors.NoRow 1 1)
+row_that_is_not_there : grid_reading (map_text (codes "..")) (scenario_text (codes "0 m 2 1 0 0 1 0 0")) 1 true ≡ Err (errors.NoRow 1 1)
 unfolding grid_reading map_reading scenario_reading grid_of_parts size_of_map rows_of_map row_of_map cells_of class_of_byte below_map scenario_of_words lines_of without_empty_last words_of number_of map_text scenario_text
 row_that_is_not_there = refl

@@ -8,6 +8,7 @@ pub mod SpelledMaps
 pub mod SpelledScenarios
 pub mod ReadableMaps
 pub mod ReadableScenarios
+pub mod Swamps
 pub mod Grids
 pub mod Refusals
 pub mod Examples

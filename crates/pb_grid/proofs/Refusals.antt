@@ -7,7 +7,7 @@ use Rattle.pb_grid.specs.declared.error.GridError.TheVariants as errors
 use Rattle.pb_grid.specs.declared.map.MapParts.{MapParts}
 use Rattle.pb_grid.specs.declared.scenario.ScenarioParts.{ScenarioParts}
 use Rattle.pb_grid.specs.Lines.{lines_of, line_at, words_of, is_blank_line}
-use Rattle.pb_grid.specs.Reading.{◌>>=◌, wanted, must, are_words, number_named, size_of_map, is_side, class_of_byte, cells_of, row_of_map, rows_of_map, below_map, map_reading, rows_of_scenario, scenario_of_words, scenario_reading, is_on_map, is_free, grid_of_parts, grid_reading}
+use Rattle.pb_grid.specs.Reading.{◌>>=◌, wanted, must, are_words, number_named, size_of_map, is_side, class_of_byte, cells_of, row_of_map, rows_of_map, below_map, map_reading, rows_of_scenario, scenario_of_words, scenario_reading, swamp_of, is_on_map, is_free, grid_of_parts, grid_reading}
 use Rattle.pb_grid.specs.Laws.{RefusalsAreOfTexts}
 
 bound : {A B : Type 0} → (r : Result A GridError) (f : A → Result B GridError) → (r ≡ Err errors.Memory → ⊥) → ((x : A) → f x ≡ Err errors.Memory → ⊥) → (r >>= f) ≡ Err errors.Memory → ⊥
@@ -71,10 +71,10 @@ scenario_not lines row =
     bound (wanted (errors.NoRow row (length (rows_of_scenario lines))) (slice_get (rows_of_scenario lines) row)) _ (wanted_not (errors.NoRow row (length (rows_of_scenario lines))) _ (λ e. cc)) (λ chosen.
     wanted_not (errors.Scenario chosen.0) (scenario_of_words (reverse (words_of chosen.1))) (λ e. cc)))
 
-grid_not : (map : MapParts) (scenario : ScenarioParts) → grid_of_parts map scenario ≡ Err errors.Memory → ⊥
+grid_not : (map : MapParts) (swamp : List Bool) (scenario : ScenarioParts) → grid_of_parts map swamp scenario ≡ Err errors.Memory → ⊥
 unfolding grid_of_parts
-grid_not map scenario =
-    let grid : GridParts = record { width = map.width; height = map.height; cells = map.cells; start = scenario.start; goal = scenario.goal } in
+grid_not map swamp scenario =
+    let grid : GridParts = record { width = map.width; height = map.height; cells = map.cells; swamp = swamp; start = scenario.start; goal = scenario.goal } in
     bound (must errors.ScenarioSize (eqb scenario.width map.width && eqb scenario.height map.height)) _ (must_not errors.ScenarioSize _ (λ e. cc)) (λ sizes.
     bound (must errors.Outside (is_on_map map.width map.height scenario.start && is_on_map map.width map.height scenario.goal)) _ (must_not errors.Outside _ (λ e. cc)) (λ inside.
     bound (must errors.StartBlocked (is_free grid scenario.start)) _ (must_not errors.StartBlocked _ (λ e. cc)) (λ start.
@@ -82,5 +82,5 @@ grid_not map scenario =
 
 pub refusals_are_of_texts : RefusalsAreOfTexts
 unfolding grid_reading
-refusals_are_of_texts map_text scenario_text row =
-    bound (map_reading (lines_of map_text)) _ (map_not (lines_of map_text)) (λ map. bound (scenario_reading (lines_of scenario_text) row) _ (scenario_not (lines_of scenario_text) row) (λ scenario. grid_not map scenario))
+refusals_are_of_texts map_text scenario_text row swamp =
+    bound (map_reading (lines_of map_text)) _ (map_not (lines_of map_text)) (λ map. bound (scenario_reading (lines_of scenario_text) row) _ (scenario_not (lines_of scenario_text) row) (λ scenario. grid_not map (swamp_of swamp map.height (lines_of map_text)) scenario))

@@ -1,11 +1,11 @@
 -- How the texts of a MovingAI map and scenario (Sturtevant, "Benchmarks for grid-based pathfinding", 2012) spell a grid.
-use Rattle.std.specs.Prelude.{◌≡◌, ℕ, ◌≤◌, ◌<◌, true, IsTrue, List, [], ◌∷◌, ◌++◌, length, map, filter, codes, Some, not}
+use Rattle.std.specs.Prelude.{◌≡◌, ℕ, ◌≤◌, ◌<◌, Bool, true, IsTrue, List, [], ◌∷◌, ◌++◌, length, map, filter, codes, Some, not}
 use Rattle.std.specs.Char.{is_ascii_digit}
 use Rattle.std.specs.List.{list_all, concat, AllByRecursion}
 use Rattle.pb_task.specs.declared.parts.GridParts.{GridParts}
 use Rattle.pb_task.specs.declared.parts.Class.{Class}
 use Rattle.pb_grid.specs.Lines.{lines_of, words_of, is_blank_line, value_behind}
-use Rattle.pb_grid.specs.Reading.{class_of_byte, is_free}
+use Rattle.pb_grid.specs.Reading.{class_of_byte, is_swamp_byte, is_free}
 
 -- one to nine decimal digits, and the number that they spell
 pub record IsNumber (word : List ℕ) (number : ℕ) : Type 0 where
@@ -77,9 +77,11 @@ pub record SpellsScenario (text : List ℕ) (row width height : ℕ) (start goal
 
 -- ---- both
 
--- The two texts spell the grid: the scenario's sizes are the map's, and its start and goal lie on the map and are not blocked.
-pub record SpellsGrid (map_text scenario_text : List ℕ) (row : ℕ) (grid : GridParts) : Type 0 where
+-- The two texts spell the grid, with swamp or without: the scenario's sizes are the map's, its start and goal lie on the map and are not
+-- blocked, and a cell is swamp exactly if swamp is asked for and its byte is `S`.
+pub record SpellsGrid (map_text scenario_text : List ℕ) (row : ℕ) (swamp : Bool) (grid : GridParts) : Type 0 where
   pub map_is : SpellsMap map_text grid.width grid.height grid.cells
+  pub swamp_is : grid.swamp ≡ map (is_swamp_byte swamp) (concat map_is.rows)
   pub scenario_is : SpellsScenario scenario_text row grid.width grid.height grid.start grid.goal
   pub start_on_map : (grid.start.0 < grid.width) × (grid.start.1 < grid.height)
   pub goal_on_map : (grid.goal.0 < grid.width) × (grid.goal.1 < grid.height)

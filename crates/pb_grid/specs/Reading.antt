@@ -1,6 +1,6 @@
 -- Reading a grid from the lines of a map and of a scenario. Of several refusals the first in the order of these definitions is told.
-use Rattle.std.specs.Prelude.{◌≡◌, ◌≢◌, ℕ, zero, suc, ◌+◌, Bool, true, false, List, [], ◌∷◌, ◌++◌, length, drop, filter, reverse, codes, Option, None, Some, Result, Ok, Err, slice_get, if◌then◌else◌, nat_lt, nat_le, nat_eq, not, ◌==◌, ◌&&◌}
-use Rattle.std.specs.List.{enumerate_from, starts_with}
+use Rattle.std.specs.Prelude.{◌≡◌, ◌≢◌, ℕ, zero, suc, ◌+◌, Bool, true, false, List, [], ◌∷◌, ◌++◌, length, take, drop, map, filter, reverse, codes, Option, None, Some, Result, Ok, Err, slice_get, if◌then◌else◌, nat_lt, nat_le, nat_eq, not, ◌==◌, ◌&&◌}
+use Rattle.std.specs.List.{concat, enumerate_from, starts_with}
 use Rattle.std.specs.Str.{bytes_eq}
 use Rattle.pb_task.specs.declared.parts.Class.{Class}
 use Rattle.pb_task.specs.declared.parts.Class.TheVariants.{Land, Water, Blocked}
@@ -119,6 +119,16 @@ map_reading lines = do
   below ← below_map (5 + size.0) (drop (4 + size.0) lines)
   Ok (record { width = size.1; height = size.0; cells = cells })
 
+-- ---- the swamp of a map
+
+-- the cell that a byte stands for is swamp: swamp is asked for, and the byte is `S`
+abbrev pub is_swamp_byte : (swamp : Bool) → (byte : ℕ) → Bool
+is_swamp_byte swamp byte = swamp && byte == 83
+
+-- which cells of a map that is so high are swamp, row by row; the rows are the lines behind the first four
+abbrev pub swamp_of : (swamp : Bool) → (height : ℕ) → (lines : List (List ℕ)) → List Bool
+swamp_of swamp height lines = map (is_swamp_byte swamp) (concat (take height (drop 4 lines)))
+
 -- ---- a scenario
 
 -- the rows of a scenario, each with its line's number: the lines behind the first that are not blank
@@ -163,23 +173,30 @@ is_on_map width height cell = nat_lt cell.0 width && nat_lt cell.1 height
 abbrev pub is_free : GridParts → (cell : ℕ × ℕ) → Bool
 is_free grid cell = is_passable (class_at grid cell.0 cell.1)
 
-unfoldable pub grid_of_parts : MapParts → ScenarioParts → Result GridParts GridError
-grid_of_parts map scenario = do
+unfoldable pub grid_of_parts : MapParts → (swamp : List Bool) → ScenarioParts → Result GridParts GridError
+grid_of_parts map swamp scenario = do
   sizes ← must errors.ScenarioSize (scenario.width == map.width && scenario.height == map.height)
   inside ← must errors.Outside (is_on_map map.width map.height scenario.start && is_on_map map.width map.height scenario.goal)
-  start ← must errors.StartBlocked (is_free (grid_of map scenario) scenario.start)
-  goal ← must errors.GoalBlocked (is_free (grid_of map scenario) scenario.goal)
-  Ok (grid_of map scenario)
+  start ← must errors.StartBlocked (is_free (grid_of map swamp scenario) scenario.start)
+  goal ← must errors.GoalBlocked (is_free (grid_of map swamp scenario) scenario.goal)
+  Ok (grid_of map swamp scenario)
   where
-    grid_of : MapParts → ScenarioParts → GridParts
-    grid_of map scenario = record { width = map.width; height = map.height; cells = map.cells; start = scenario.start; goal = scenario.goal }
+    grid_of : MapParts → (swamp : List Bool) → ScenarioParts → GridParts
+    grid_of map swamp scenario = record {
+      width = map.width;
+      height = map.height;
+      cells = map.cells;
+      swamp = swamp;
+      start = scenario.start;
+      goal = scenario.goal;
+    }
 
--- the grid that the texts of a map and of a scenario spell, or why they spell none
-unfoldable pub grid_reading : (map_text scenario_text : List ℕ) → (row : ℕ) → Result GridParts GridError
-grid_reading map_text scenario_text row = do
+-- the grid that the texts of a map and of a scenario spell, with swamp or without, or why they spell none
+unfoldable pub grid_reading : (map_text scenario_text : List ℕ) → (row : ℕ) → (swamp : Bool) → Result GridParts GridError
+grid_reading map_text scenario_text row swamp = do
   map ← map_reading (lines_of map_text)
   scenario ← scenario_reading (lines_of scenario_text) row
-  grid_of_parts map scenario
+  grid_of_parts map (swamp_of swamp map.height (lines_of map_text)) scenario
 
 -- the task of a grid that was read
 abbrev pub task_of : Result GridParts GridError → Result TaskParts GridError

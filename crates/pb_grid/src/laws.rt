@@ -1,4 +1,4 @@
-ghost use Rattle.pb_grid.specs.Laws.{ReadAsSpelled, SpelledGridsAreUnique, SpelledGridsAreGrids, RefusalsAreOfTexts, RefusalsHaveTheirCase};
+ghost use Rattle.pb_grid.specs.Laws.{ReadAsSpelled, SpelledGridsAreUnique, SwampChangesMarksAlone, SpelledGridsAreGrids, RefusalsAreOfTexts, RefusalsHaveTheirCase};
 
 /// What is read of two texts without a refusal is a grid that they spell, and a grid that they spell is read.
 pub fn read_as_spelled()
@@ -8,6 +8,11 @@ pub fn read_as_spelled()
 /// Two texts and a row spell one grid at most.
 pub fn spelled_grids_are_unique()
     ensures { SpelledGridsAreUnique }
+{}
+
+/// Two texts that spell a grid with swamp spell one without it, and the other way round: the same but for the marks.
+pub fn swamp_changes_marks_alone()
+    ensures { SwampChangesMarksAlone }
 {}
 
 /// What two texts spell makes up a task.

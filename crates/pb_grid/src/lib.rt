@@ -10,14 +10,12 @@ mod lines;
 mod map;
 mod reader;
 mod scenario;
+mod swamp;
 mod words;
 
 pub use error::GridError;
 pub use laws::{
     read_as_spelled, refusals_are_of_texts, refusals_have_their_case, spelled_grids_are_grids,
-    spelled_grids_are_unique,
+    spelled_grids_are_unique, swamp_changes_marks_alone,
 };
 pub use reader::read_grid;
-
-#[cfg(test)]
-mod tests;

@@ -5,12 +5,13 @@ ghost use Rattle.pb_grid.specs.declared.error.GridError.{GridError};
 ghost use Rattle.pb_grid.specs.declared.error.GridError.TheVariants.{Memory};
 ghost use Rattle.pb_grid.specs.Cases.{IsCaseOf};
 ghost use Rattle.pb_grid.specs.Form.{SpellsGrid};
-ghost use Rattle.pb_grid.specs.Reading.{Gives, grid_reading, grid_of_parts, is_on_map, is_free, task_of};
+ghost use Rattle.pb_grid.specs.Reading.{Gives, grid_reading, grid_of_parts, swamp_of, is_on_map, is_free, task_of};
 
 use crate::error::GridError;
 use crate::map::{MapParts, read_map};
 use crate::scenario::{ScenarioParts, read_scenario};
-use pb_task::{Class, GridParts, Task};
+use crate::swamp::read_swamp;
+use pb_task::{Class, GridParts, Swamp, Task};
 use std::alloc::Global;
 
 // Whether a cell lies on a map of this size.
@@ -30,10 +31,14 @@ fn is_free(grid: &GridParts, cell: (u32, u32)) -> bool
     }
 }
 
-// The grid of a map and a scenario.
+// The grid of a map, its swamp and a scenario.
 #[tactic(auto, unfolding(crate::specs::Reading::grid_of_parts))]
-fn grid_of_parts(map: MapParts, scenario: ScenarioParts) -> Result<GridParts, GridError>
-    ensures { Gives (λ x. x) result (grid_of_parts map scenario) }
+fn grid_of_parts(
+    map: MapParts,
+    swamp: Swamp,
+    scenario: ScenarioParts,
+) -> Result<GridParts, GridError>
+    ensures { Gives (λ x. x) result (grid_of_parts map swamp scenario) }
 {
     if scenario.width != map.width || scenario.height != map.height {
         return Err(GridError::ScenarioSize);
@@ -47,6 +52,7 @@ fn grid_of_parts(map: MapParts, scenario: ScenarioParts) -> Result<GridParts, Gr
         width: map.width,
         height: map.height,
         cells: map.cells,
+        swamp,
         start: scenario.start,
         goal: scenario.goal,
     };
@@ -65,28 +71,37 @@ fn parts_of_texts(
     map: &[u8],
     scenario: &[u8],
     row: u64,
+    swamp: bool,
 ) -> Result<GridParts, GridError>
-    ensures { Gives (λ x. x) result (grid_reading map.now scenario.now row) }
+    ensures { Gives (λ x. x) result (grid_reading map.now scenario.now row swamp) }
 {
     let parts = read_map(alloc, map)?;
     let chosen = read_scenario(scenario, row)?;
-    grid_of_parts(parts, chosen)
+    let marks = read_swamp(alloc, map, parts.height, swamp)?;
+    grid_of_parts(parts, Swamp::of(marks), chosen)
 }
 
 /// Reads the grid that the texts of a map and of a scenario spell, and tells the first refusal where they spell none. `row` is the
-/// chosen row of the scenario, counted from 0. What it reserves grows with the bytes of the map that it has read.
-pub fn read_grid(alloc: Global, map: &[u8], scenario: &[u8], row: u64) -> Result<Task, GridError>
+/// chosen row of the scenario, counted from 0. With `swamp` a cell whose byte is `S` costs 2 to enter, and without it 1, as each other
+/// cell does. What it reserves grows with the bytes of the map that it has read.
+pub fn read_grid(
+    alloc: Global,
+    map: &[u8],
+    scenario: &[u8],
+    row: u64,
+    swamp: bool,
+) -> Result<Task, GridError>
     // Which grid or refusal it is, unless memory ran out.
-    ensures exact { Gives (λ task. task) result (task_of (grid_reading map.now scenario.now row)) }
+    ensures exact { Gives (λ task. task) result (task_of (grid_reading map.now scenario.now row swamp)) }
     // What is read is a grid that the texts spell.
-    ensures spelled { IfOk result (λ task. (grid : GridParts) × (task ≡ Grid grid) × SpellsGrid map.now scenario.now row grid) }
+    ensures spelled { IfOk result (λ task. (grid : GridParts) × (task ≡ Grid grid) × SpellsGrid map.now scenario.now row swamp grid) }
     // A grid that the texts spell is read, unless memory ran out.
-    ensures only { (grid : GridParts) → SpellsGrid map.now scenario.now row grid → Gives (λ task. task) result (Ok (Grid grid)) }
+    ensures only { (grid : GridParts) → SpellsGrid map.now scenario.now row swamp grid → Gives (λ task. task) result (Ok (Grid grid)) }
     // A refusal is told only in its case: what is judged before the fault is as it must be, and then comes the fault.
     ensures refused { IfErr result (λ error. error ≢ Memory → IsCaseOf map.now scenario.now row error) }
     // In its case a refusal is told, unless memory ran out.
     ensures told { (error : GridError) → IsCaseOf map.now scenario.now row error → Gives (λ task. task) result (Err error) }
 {
-    let grid = parts_of_texts(alloc, map, scenario, row)?;
+    let grid = parts_of_texts(alloc, map, scenario, row, swamp)?;
     Ok(Task::of_grid(grid))
 }

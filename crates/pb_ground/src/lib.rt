@@ -21,6 +21,3 @@ pub use atoms::{Atoms, GroundAtom, ground_atoms};
 pub use error::GroundError;
 pub use laws::{atoms_are_all, instances_are_all, statics_are_kept, steps_correspond};
 pub use numbers::{goal, is_never, start};
-
-#[cfg(test)]
-mod tests;

@@ -3,9 +3,9 @@ use Rattle.std.proofs.Common.{◌≡◌, ℕ, Bool, true, false, cond, Option, N
 use Rattle.pb_machine.specs.declared.event.Event.{Event}
 use Rattle.pb_journal.specs.declared.error.Fault.{Fault}
 use Rattle.pb_journal.specs.Faults.{◌>>=◌, wanted}
-use Rattle.pb_journal.specs.Words.{behind}
+use Rattle.pb_lines.specs.Words.{behind}
 use Rattle.pb_journal.specs.Reading.{by_word}
-use Rattle.pb_journal.proofs.Parts.{behind_is}
+use Rattle.pb_lines.proofs.Parts.{behind_is}
 
 pub bind_ok : {A B : Type 0} (r : Result A Fault) (f : A → Result B Fault) (y : B) → (r >>= f)
     ≡ Ok y → (x : A) × (r ≡ Ok x) × (f x ≡ Ok y)

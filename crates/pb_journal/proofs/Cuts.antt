@@ -1,8 +1,9 @@
 -- A journal that is cut off is refused in the line that it ends in.
-use Rattle.std.proofs.Common.{◌≡◌, ◌≢◌, ◌⊎◌, inl, inr, ℕ, suc, ◌+◌, ◌<◌, ◌^◌, Bool, true, false, cond, not, ◌&&◌, ◌||◌, ◌==◌, leb, nat_lt, is_some, length, List, [], ◌∷◌, ◌++◌, take, drop, Option, None, Some, Result, Ok, Err, refl, sym, ap, ◌∙◌, subst, arith, true≢false, append_assoc}
+use Rattle.std.proofs.Common.{◌≡◌, ◌≢◌, ◌⊎◌, inl, inr, ℕ, suc, ◌+◌, ◌≤◌, ◌^◌, Bool, true, false, cond, ◌&&◌, ◌||◌, ◌==◌, leb, is_some, length, List, [], ◌∷◌, ◌++◌, Option, None, Some, Result, Ok, Err, refl, sym, ap, ◌∙◌, subst, arith, true≢false, append_assoc}
 use Rattle.std.specs.Prelude.{codes}
-use Rattle.std.proofs.lemmas.Bool.{ltb-true, eqb-true}
+use Rattle.std.proofs.lemmas.Bool.{eqb-true}
 use Rattle.std.proofs.lemmas.List.{nil_from_length}
+use Rattle.std.proofs.lemmas.List.Sums.{sum_by-cons}
 use Rattle.std.proofs.lemmas.Bool.Decides.{nat_tests}
 use Rattle.pb_model.specs.Texts.{lines}
 use Rattle.pb_model.proofs.Tests.{or_false, not_both}
@@ -17,53 +18,40 @@ use Rattle.pb_machine.specs.Legality.{refusal}
 use Rattle.pb_machine.specs.History.{AreFinished}
 use Rattle.pb_machine.proofs.CountsLaws.{passes, within}
 use Rattle.pb_journal.specs.declared.error.Fault.{Fault}
+use Rattle.pb_journal.specs.declared.error.JournalError.{JournalError}
 use Rattle.pb_journal.specs.declared.error.Why.{Why}
 use Rattle.pb_journal.specs.declared.error.Why.TheVariants.{Spelling, Short, Settings as OutOfRange}
-use Rattle.pb_journal.specs.Faults.{◌>>=◌, fault_at, wanted}
-use Rattle.pb_journal.specs.Words.{place_of, part, behind, is_text, number_of}
+use Rattle.pb_journal.specs.Faults.{◌>>=◌, fault_at, wanted, Gives}
+use Rattle.pb_lines.specs.Words.{part, behind, is_text, number_of, line_feeds}
 use Rattle.pb_journal.specs.Reading.{why_missing, first_line, line_at, with_first, lines_in, tail_in, fixed_at, number_at, plain_in, plain_at, event_in, header_of}
 use Rattle.pb_journal.specs.Judging.{unless_refused, after_line, after_lines, are_finished, end_fault, events_of, judged}
-use Rattle.pb_journal.specs.Shown.{IsCutOff, CutJournalsAreRefused}
-use Rattle.pb_journal.proofs.Numbers.{has_none}
-use Rattle.pb_journal.proofs.Parts.{part_is, part_again, both}
+use Rattle.pb_journal.specs.Shown.{IsCutOff, cut_fault, CutJournalsAreRefused}
+use Rattle.pb_lines.proofs.Parts.{part_is, part_none, part_again}
 use Rattle.pb_journal.proofs.Splits.{has_end, has_line, has_no_line}
 use Rattle.pb_journal.proofs.Chains.{bind_ok, ok_is, guard_ok}
 use Rattle.pb_journal.proofs.WholeTexts.{is_some_line, ends, text_is}
-use Rattle.pb_journal.proofs.Finished.{finished_is}
+use Rattle.pb_journal.proofs.Finished.{finished_is, accepted_again}
 
 -- ---- the first line of a text that goes on
 
-none_before : (byte : ℕ) (text : List ℕ) → place_of byte text < length text
-    → has_none byte (take (place_of byte text) text) ≡ true
-unfolding place_of
-none_before byte [] lt = refl
-none_before byte (b ∷ bs) lt = go (none_before byte bs) (b == byte) refl lt
+-- a text has as many lines as line feeds
+feeds_are : (text : List ℕ) → length (lines_in text) ≡ line_feeds text
+unfolding lines_in
+feeds_are [] = refl
+feeds_are (b ∷ bs) =
+    go (b == 10) (lines_in bs) (feeds_are bs)
+    ∙ sym (sum_by-cons (λ (c : ℕ). cond (c == 10) 1 0) b bs)
   where
-    go : (place_of byte bs < length bs → has_none byte (take (place_of byte bs) bs) ≡ true)
-        → (t : Bool) → (b == byte) ≡ t → cond t 0 (suc (place_of byte bs)) < suc (length bs)
-        → has_none byte (take (cond t 0 (suc (place_of byte bs))) (b ∷ bs)) ≡ true
-    go rest true e lt = refl
-    go rest false e lt =
-        both (not (b == byte)) (has_none byte (take (place_of byte bs) bs)) (ap not e)
-        (rest (omega (arith, lt)))
+    go : (t : Bool) (texts : List (List ℕ)) → length texts ≡ line_feeds bs
+        → length (cond t ([] ∷ texts) (with_first b texts)) ≡ cond t 1 0 + line_feeds bs
+    go true texts e = omega (arith, e)
+    go false [] e = omega (arith, e)
+    go false (text ∷ texts) e = omega (arith, e)
 
-part_none : (text front rest : List ℕ) → part 10 text ≡ Some (front, rest) → has_none 10 front
-    ≡ true
-part_none text front rest e = go (nat_lt (place_of 10 text) (length text)) refl e
-  where
-    pair : (x y : List ℕ × List ℕ) → ◌≡◌ {A = Option (List ℕ × List ℕ)} (Some x) (Some y) → x ≡ y
-    pair x y e = cc
-
-    go : (t : Bool) → nat_lt (place_of 10 text) (length text) ≡ t
-        → cond {A = Option (List ℕ × List ℕ)} t
-        (Some (take (place_of 10 text) text, drop (place_of 10 text + 1) text)) None
-        ≡ Some (front, rest)
-        → has_none 10 front ≡ true
-    go true is e =
-        subst (λ (x : List ℕ × List ℕ). has_none 10 x.0 ≡ true)
-        (pair (take (place_of 10 text) text, drop (place_of 10 text + 1) text) (front, rest) e)
-        (none_before 10 text (ltb-true _ _ is))
-    go false is e = absurd cc
+-- the fault of the line that a text ends in, from this line on
+record IsCut (fault : Fault) (line : ℕ) (text : List ℕ) : Type 0 where
+  line_is : fault.line ≡ line + length (lines_in text)
+  why_is : fault.why ≡ why_missing (tail_in text)
 
 record HasFirst (line : ℕ) (start rest : List ℕ) : Type 0 where
   first : List ℕ
@@ -71,19 +59,16 @@ record HasFirst (line : ℕ) (start rest : List ℕ) : Type 0 where
   here : line_at line start ≡ Ok (first, left)
   there : line_at line (start ++ rest) ≡ Ok (first, left ++ rest)
   one : length (lines_in start) ≡ suc (length (lines_in left))
+  tail : tail_in start ≡ tail_in left
 
 record HasNone (line : ℕ) (start : List ℕ) : Type 0 where
   fault : Fault
   fails : line_at line start ≡ Err fault
-  cut : IsCutOff fault line start
+  cut : IsCut fault line start
 
 first_cases : (line : ℕ) (start rest : List ℕ) → HasFirst line start rest ⊎ HasNone line start
 first_cases line start rest = go (part 10 start) refl
   where
-    missing : (b : Bool) → ((cond b Short Spelling) ≡ Spelling) ⊎ ((cond b Short Spelling) ≡ Short)
-    missing true = inr refl
-    missing false = inl refl
-
     go : (o : Option (List ℕ × List ℕ)) → part 10 start ≡ o → HasFirst line start rest
         ⊎ HasNone line start
     go (Some x) is =
@@ -96,15 +81,19 @@ first_cases line start rest = go (part 10 start) refl
           here = ap (first_line line start) is;
           there = ap (line_at line) whole
               ∙ ap (first_line line (x.0 ++ 10 ∷ (x.1 ++ rest)))
-              (part_again 10 x.0 (x.1 ++ rest) (part_none start x.0 x.1 is));
+              (part_again 10 x.0 (x.1 ++ rest) (part_none 10 start x.0 x.1 is));
           one = ap length (has_line start x.0 x.1 is).0;
+          tail = (has_line start x.0 x.1 is).1;
         })
     go None is =
         let none : length (lines_in start) ≡ 0 = ap length (has_no_line start is).0 in
         inr (record {
           fault = record { line = line; why = why_missing start };
           fails = ap (first_line line start) is;
-          cut = record { line_is = omega (arith, none); why_is = missing (length start == 0) };
+          cut = record {
+            line_is = omega (arith, none);
+            why_is = ap why_missing (sym (has_no_line start is).1);
+          };
         })
 
 -- ---- reading some lines of a text that goes on: the same is read of its beginning, or that is cut
@@ -114,8 +103,8 @@ abbrev Goes : {A : Type 0} → (n line : ℕ) → Result (A × List ℕ) Fault �
     → (after : List ℕ) → Type 0
 Goes n line read start rest x after =
     ((left : List ℕ) × (read ≡ Ok (x, left)) × (after ≡ left ++ rest)
-    × (length (lines_in start) ≡ n + length (lines_in left)))
-    ⊎ ((fault : Fault) × (read ≡ Err fault) × IsCutOff fault line start)
+    × (length (lines_in start) ≡ n + length (lines_in left)) × (tail_in start ≡ tail_in left))
+    ⊎ ((fault : Fault) × (read ≡ Err fault) × IsCut fault line start)
 
 abbrev IsStep : {A : Type 0} → (n line : ℕ) → (List ℕ → Result (A × List ℕ) Fault) → Type 0
 IsStep {A} n line read =
@@ -137,7 +126,7 @@ line_step {A} line read own start rest x after e = go (first_cases line start re
     go (inl h) =
         let same =
         own h.first (h.left ++ rest) h.left x after (sym (ap (λ r. r >>= read) h.there) ∙ e) in
-        inl (h.left, ap (λ r. r >>= read) h.here ∙ same.1, same.0, omega (arith, h.one))
+        inl (h.left, ap (λ r. r >>= read) h.here ∙ same.1, same.0, omega (arith, h.one), h.tail)
     go (inr h) = inr (h.fault, ap (λ r. r >>= read) h.fails, h.cut)
 
 -- one step and then another
@@ -158,12 +147,21 @@ then_step {A} {B} n m line read next one two start rest y after e =
         more : Goes m (line + n) (next x.0 h.0) h.0 rest y after
             → Goes (n + m) line (read start >>= λ x. next x.0 x.1) start rest y after
         more (inl k) =
-            inl (k.0, ap (λ r. r >>= λ x. next x.0 x.1) h.1 ∙ k.1, k.2, omega (arith, h.3, k.3))
+            inl (
+              k.0,
+              ap (λ r. r >>= λ x. next x.0 x.1) h.1 ∙ k.1,
+              k.2,
+              omega (arith, h.3, k.3),
+              h.4 ∙ k.4,
+            )
         more (inr k) =
             inr (
               k.0,
               ap (λ r. r >>= λ x. next x.0 x.1) h.1 ∙ k.1,
-              record { line_is = omega (arith, k.2.line_is, h.3); why_is = k.2.why_is },
+              record {
+                line_is = omega (arith, k.2.line_is, h.3);
+                why_is = k.2.why_is ∙ ap why_missing (sym h.4);
+              },
             )
 
 -- ---- the header
@@ -211,12 +209,15 @@ fixed_step {B} m line piece next two start rest y after e = go (first_cases line
             ((line_at line start
             >>= λ first. cond (is_text piece first.0) (Ok first.1) (fault_at line Spelling))
             >>= next) start rest y after
-        more here (inl k) = inl (k.0, here ∙ k.1, k.2, omega (arith, h.one, k.3))
+        more here (inl k) = inl (k.0, here ∙ k.1, k.2, omega (arith, h.one, k.3), h.tail ∙ k.4)
         more here (inr k) =
             inr (
               k.0,
               here ∙ k.1,
-              record { line_is = omega (arith, k.2.line_is, h.one); why_is = k.2.why_is },
+              record {
+                line_is = omega (arith, k.2.line_is, h.one);
+                why_is = k.2.why_is ∙ ap why_missing (sym h.tail);
+              },
             )
 
 number_step : (line : ℕ) (piece : List ℕ) (least most : ℕ)
@@ -290,6 +291,7 @@ plain_step {B} line made start rest y after e = go (first_cases line start rest)
               >>= named made) h.here ∙ same.1,
           same.0,
           omega (arith, h.one),
+          h.tail,
         )
 
 abbrev settings_with : (workers budget lot wish : ℕ) → Bool → Settings
@@ -468,8 +470,7 @@ module _ (blocks : Blocks) (settings : Settings) where
   cut_end : (between last : Counts) (line : ℕ) (tail rest : List ℕ)
       → after_lines blocks settings between line (lines_in (tail ++ rest)) ≡ Ok last
       → tail_in (tail ++ rest) ≡ [] → rest ≢ []
-      → (why : Why) × (end_fault settings between line tail ≡ fault_at line why)
-      × ((why ≡ Spelling) ⊎ (why ≡ Short))
+      → end_fault settings between line tail ≡ fault_at line (why_missing tail)
   cut_end between last line tail rest e none some =
       go (length tail == 0) refl (are_finished settings between) refl
     where
@@ -484,26 +485,21 @@ module _ (blocks : Blocks) (settings : Settings) where
 
       go : (empty : Bool) → (length tail == 0) ≡ empty → (done : Bool)
           → are_finished settings between ≡ done
-          → (why : Why) × (end_fault settings between line tail ≡ fault_at line why)
-          × ((why ≡ Spelling) ⊎ (why ≡ Short))
-      go false at done is = (
-        Spelling,
-        ap (λ t. cond t (cond (are_finished settings between) (Ok true) (fault_at line Short))
-            (fault_at line Spelling)) at,
-        inl refl,
-      )
-      go true at false is = (
-        Short,
-        ap (λ t. cond t (cond (are_finished settings between) (Ok true) (fault_at line Short))
-            (fault_at line Spelling)) at ∙ ap (λ r. cond r (Ok true) (fault_at line Short)) is,
-        inr refl,
-      )
+          → end_fault settings between line tail ≡ fault_at line (why_missing tail)
+      go false at done is =
+          ap (λ t. cond t (cond (are_finished settings between) (Ok true) (fault_at line Short))
+          (fault_at line Spelling)) at
+          ∙ ap (λ (t : Bool). fault_at {A = Bool} line (cond t Short Spelling)) (sym at)
+      go true at false is =
+          ap (λ t. cond t (cond (are_finished settings between) (Ok true) (fault_at line Short))
+          (fault_at line Spelling)) at ∙ ap (λ r. cond r (Ok true) (fault_at line Short)) is
+          ∙ ap (λ (t : Bool). fault_at {A = Bool} line (cond t Short Spelling)) (sym at)
       go true at true is = absurd (some (nothing at is))
 
   events_cut : (counts : Counts) (start rest : List ℕ) (n : ℕ)
       → events_of blocks settings counts (start ++ rest) ≡ Ok n → rest ≢ []
       → (fault : Fault) × (events_of blocks settings counts start ≡ Err fault)
-      × IsCutOff fault 7 start
+      × IsCut fault 7 start
   unfolding events_of
   events_cut counts start rest n e some =
       let a = bind_ok (after_lines blocks settings counts 7 (lines_in (start ++ rest))) _ n e in
@@ -520,13 +516,20 @@ module _ (blocks : Blocks) (settings : Settings) where
       let cut =
       cut_end split.0 a.0 (7 + length (lines_in start))
       (tail_in start) rest split.2 no_tail some in (
-        record { line = 7 + length (lines_in start); why = cut.0 },
+        record { line = 7 + length (lines_in start); why = why_missing (tail_in start) },
         ap (λ r. r
             >>= λ after. end_fault settings after (7 + length (lines_in start)) (tail_in start)
             >>= λ ended. Ok (length (lines_in start))) split.1
-            ∙ ap (λ r. r >>= λ ended. Ok (length (lines_in start))) cut.1,
-        record { line_is = refl; why_is = cut.2 },
+            ∙ ap (λ r. r >>= λ ended. Ok (length (lines_in start))) cut,
+        record { line_is = refl; why_is = refl },
       )
+
+same_fault : (start : List ℕ) (fault : Fault) → fault.line ≡ 1 + line_feeds start
+    → fault.why ≡ why_missing (tail_in start)
+    → ◌≡◌ {A = Result ℕ Fault} (Err fault) (Err (cut_fault start))
+same_fault start fault line_is why_is =
+    ap (λ (line : ℕ). Err (record { line = line; why = fault.why })) line_is
+    ∙ ap (λ (why : Why). Err (record { line = 1 + line_feeds start; why = why })) why_is
 
 pub cut_journals_are_refused : CutJournalsAreRefused
 unfolding judged
@@ -537,22 +540,31 @@ cut_journals_are_refused blocks start rest events e some =
     go : (header : Settings × List ℕ)
         → events_of blocks header.0 (opening_counts header.0 0) header.1 ≡ Ok events
         → Goes 6 1 (header_of start) start rest header.0 header.1
-        → (fault : Fault)
-        × ((header_of start
+        → (header_of start
         >>= λ header. events_of blocks header.0 (opening_counts header.0 0) header.1)
-        ≡ Err fault) × IsCutOff fault 1 start
-    go header is (inr h) = (
-      h.0,
-      ap
-          (λ r. r >>= λ header. events_of blocks header.0 (opening_counts header.0 0) header.1) h.1,
-      h.2,
-    )
+        ≡ Err (cut_fault start)
+    go header is (inr h) =
+        let feeds = feeds_are start in
+        let line = h.2.line_is in
+        ap (λ r. r >>= λ header. events_of blocks header.0 (opening_counts header.0 0) header.1) h.1
+        ∙ same_fault start h.0 (omega (arith, line, feeds)) h.2.why_is
     go header is (inl h) =
         let cut =
         events_cut blocks header.0 (opening_counts header.0 0) h.0 rest events
-        (ap (events_of blocks header.0 (opening_counts header.0 0)) (sym h.2) ∙ is) some in (
-          cut.0,
-          ap (λ r. r >>= λ header. events_of blocks header.0 (opening_counts header.0 0) header.1)
-              h.1 ∙ cut.1,
-          record { line_is = omega (arith, cut.2.line_is, h.3); why_is = cut.2.why_is },
-        )
+        (ap (events_of blocks header.0 (opening_counts header.0 0)) (sym h.2) ∙ is) some in
+        let feeds = feeds_are start in
+        let line = cut.2.line_is in
+        let count = h.3 in
+        ap (λ r. r >>= λ header. events_of blocks header.0 (opening_counts header.0 0) header.1) h.1
+        ∙ cut.1
+        ∙ same_fault start cut.0 (omega (arith, line, count, feeds))
+        (cut.2.why_is ∙ ap why_missing (sym h.4))
+
+-- so the call refuses it
+pub gives_cut : (blocks : Blocks) (bytes : List ℕ) → blocks.count ≤ 4096
+    → (r : Result ℕ JournalError) → Gives (λ n. n) r (judged blocks bytes) → IsCutOff blocks bytes
+    → Gives {Y = ℕ} (λ n. n) r (Err (cut_fault bytes))
+gives_cut blocks bytes few r given is =
+    subst (λ (given : Result ℕ Fault). Gives (λ n. n) r given)
+    (cut_journals_are_refused blocks bytes is.0 is.1
+    (accepted_again blocks (bytes ++ is.0) is.1 few is.2) is.3) given

@@ -16,7 +16,7 @@ use Rattle.pb_machine.proofs.Histories.{replay_first}
 use Rattle.pb_journal.specs.declared.error.Fault.{Fault}
 use Rattle.pb_journal.specs.declared.error.Why.TheVariants.{Spelling, Short}
 use Rattle.pb_journal.specs.Faults.{◌>>=◌, fault_at, wanted, why_of}
-use Rattle.pb_journal.specs.Words.{part, behind, is_text, number_of}
+use Rattle.pb_lines.specs.Words.{part, behind, is_text, number_of}
 use Rattle.pb_journal.specs.Texts.{event_line}
 use Rattle.pb_journal.specs.Reading.{by_word, number_before, report_in, lease_in, renewal_in, hot_in, cold_in, release_in, off_in, end_in, event_in, lines_in, tail_in, header_of}
 use Rattle.pb_journal.specs.Judging.{settings_of, unless_refused, after_line, after_lines, are_finished, end_fault, events_of, judged}

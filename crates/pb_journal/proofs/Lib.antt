@@ -1,4 +1,3 @@
-pub mod Places
 pub mod Tables
 pub mod Looking
 pub mod Budgets
@@ -7,9 +6,6 @@ pub mod Releases
 pub mod Splits
 pub mod Loops
 pub mod Files
-pub mod NumberWords
-pub mod Numbers
-pub mod Parts
 pub mod Chains
 pub mod EventLines
 pub mod HeaderLines

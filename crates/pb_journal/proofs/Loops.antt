@@ -8,7 +8,7 @@ use Rattle.pb_machine.proofs.CountsLaws.{opening_lawful}
 use Rattle.pb_journal.specs.declared.error.Fault.{Fault}
 use Rattle.pb_journal.specs.declared.replay.Replay.{Replay}
 use Rattle.pb_journal.specs.Faults.{◌>>=◌}
-use Rattle.pb_journal.specs.Words.{part}
+use Rattle.pb_lines.specs.Words.{part}
 use Rattle.pb_journal.specs.Reading.{lines_in, tail_in}
 use Rattle.pb_journal.specs.Judging.{after_line, after_lines, end_fault, events_of}
 use Rattle.pb_journal.specs.Replaying.{counts_of, HasPlaces, IsLawfulReplay}

@@ -5,8 +5,8 @@ use Rattle.pb_model.proofs.Tests.{equal}
 use Rattle.pb_machine.specs.declared.event.Event.{Event}
 use Rattle.pb_journal.specs.Texts.{event_line, events_text, Fits}
 use Rattle.pb_journal.specs.Reading.{with_first, lines_in, tail_in}
-use Rattle.pb_journal.proofs.Numbers.{has_none}
-use Rattle.pb_journal.proofs.Parts.{part_again}
+use Rattle.pb_lines.specs.Words.{has_none}
+use Rattle.pb_lines.proofs.Parts.{part_again}
 use Rattle.pb_journal.proofs.Splits.{has_end, has_line}
 use Rattle.pb_journal.proofs.EventLines.{event_none}
 

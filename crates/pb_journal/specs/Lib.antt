@@ -1,5 +1,4 @@
 pub mod Faults
-pub mod Words
 pub mod Texts
 pub mod Reading
 pub mod Stated

@@ -9,7 +9,7 @@ use Rattle.pb_journal.specs.declared.error.Why.{Why}
 use Rattle.pb_journal.specs.declared.error.Why.TheVariants.{Spelling, Settings as OutOfRange, Short}
 use Rattle.pb_journal.specs.declared.error.Fault.{Fault}
 use Rattle.pb_journal.specs.Faults.{◌>>=◌, fault_at, wanted}
-use Rattle.pb_journal.specs.Words.{part, behind, is_text, number_of}
+use Rattle.pb_lines.specs.Words.{part, behind, is_text, number_of}
 
 -- ---- lines
 

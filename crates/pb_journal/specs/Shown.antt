@@ -1,5 +1,5 @@
 -- What the answers on a journal mean: that it is the text of a finished legal history.
-use Rattle.std.specs.Prelude.{◌≡◌, ◌≢◌, ◌⊎◌, ℕ, ◌+◌, ◌≤◌, List, [], ◌∷◌, ◌++◌, map, length, Some, Ok, Err}
+use Rattle.std.specs.Prelude.{◌≡◌, ◌≢◌, ◌⊎◌, ℕ, ◌+◌, ◌≤◌, List, [], ◌∷◌, ◌++◌, map, length, Some, Ok, Err, if◌then◌else◌, ◌==◌}
 use Rattle.pb_model.specs.Weight.{Weight}
 use Rattle.pb_machine.specs.declared.event.Event.{Event}
 use Rattle.pb_machine.specs.declared.event.EventRefusal.{EventRefusal}
@@ -9,6 +9,7 @@ use Rattle.pb_machine.specs.Blocks.{Blocks}
 use Rattle.pb_machine.specs.Counts.{Counts, opening_counts}
 use Rattle.pb_machine.specs.Legality.{refusal}
 use Rattle.pb_machine.specs.History.{replay, IsHistory, AreFinished}
+use Rattle.pb_lines.specs.Words.{line_feeds}
 use Rattle.pb_journal.specs.declared.error.Why.{Why}
 use Rattle.pb_journal.specs.declared.error.Why.TheVariants.{Spelling, Short}
 use Rattle.pb_journal.specs.declared.error.Fault.{Fault}
@@ -92,16 +93,23 @@ RefusedLinesAreFirst =
     (blocks : Blocks) (bytes : List ℕ) (fault : Fault) → judged blocks bytes ≡ Err fault
     → (settings_of bytes ≡ Err fault) ⊎ IsFirstFault blocks bytes fault.line fault.why
 
--- the line is the one that the text ends in, and is refused as misspelled, or since the text is
--- short
-pub record IsCutOff (fault : Fault) (line : ℕ) (text : List ℕ) : Type 0 where
-  pub line_is : fault.line ≡ line + length (lines_in text)
-  pub why_is : (fault.why ≡ Spelling) ⊎ (fault.why ≡ Short)
+-- The fault of a text that is cut off. Its line is the one that the text ends in. The text is short
+-- if it ends after a whole line, or is empty; else that line is misspelled.
+abbrev pub cut_fault : List ℕ → Fault
+cut_fault text =
+    record {
+      line = 1 + line_feeds text;
+      why = if length (tail_in text) == 0 then Short else Spelling;
+    }
+
+-- the bytes are a beginning of the text of a finished legal history, and not the whole
+abbrev pub IsCutOff : Blocks → List ℕ → Type 0
+IsCutOff blocks bytes =
+    (rest : List ℕ) × (events : ℕ) × IsFinishedJournal blocks (bytes ++ rest) events × (rest ≢ [])
 
 -- A journal that is cut off is refused in the line that it ends in: each beginning of an accepted
 -- journal but the whole.
 abbrev pub CutJournalsAreRefused : Type 0
 CutJournalsAreRefused =
     (blocks : Blocks) (start rest : List ℕ) (events : ℕ) → judged blocks (start ++ rest) ≡ Ok events
-    → rest ≢ []
-    → (fault : Fault) × (judged blocks start ≡ Err fault) × IsCutOff fault 1 start
+    → rest ≢ [] → judged blocks start ≡ Err (cut_fault start)

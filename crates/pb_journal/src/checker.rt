@@ -1,16 +1,16 @@
-ghost use Rattle.std.specs.Prelude.{◌≡◌, ◌+◌, ◌<◌, ◌^◌, ℕ, Ok, length, OnOk, IfOk};
+ghost use Rattle.std.specs.Prelude.{◌≡◌, ◌+◌, ◌<◌, ◌^◌, ℕ, Ok, Err, length, OnOk, IfOk};
 ghost use Rattle.pb_abstract.specs.Graph.{blocks_of, IsGraph};
 ghost use Rattle.pb_journal.specs.Faults.{Reads, Gives};
 ghost use Rattle.pb_journal.specs.Judging.{after_line, end_fault, events_of, judged};
 ghost use Rattle.pb_journal.specs.Replaying.{counts_of, IsLawfulReplay};
-ghost use Rattle.pb_journal.specs.Shown.{IsFinishedJournal};
+ghost use Rattle.pb_journal.specs.Shown.{IsCutOff, IsFinishedJournal, cut_fault};
 
 use crate::error::{Fault, JournalError, Why, why_of};
 use crate::events::event_in;
 use crate::header::header;
 use crate::replay::Replay;
-use crate::words::part;
 use pb_abstract::AbsGraph;
+use pb_lines::part;
 use pb_machine::Settings;
 use std::alloc::Global;
 
@@ -106,6 +106,9 @@ pub fn check_journal(alloc: Global, graph: &AbsGraph, bytes: &[u8]) -> Result<u6
     // ran out.
     ensures only { (n : ℕ) → IsFinishedJournal (blocks_of graph.now) bytes.now n
         → Gives (λ m. m) result (Ok n) }
+    // A journal that is cut off is refused in the line that it ends in, unless memory ran out.
+    ensures cut { IsCutOff (blocks_of graph.now) bytes.now
+        → Gives (λ m. m) result (Err (cut_fault bytes.now)) }
 {
     let blocks = graph.count();
     judge(alloc, graph, blocks, bytes)

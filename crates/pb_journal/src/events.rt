@@ -7,7 +7,7 @@ ghost use Rattle.pb_journal.specs.Reading.{by_word, number_before, report_in, le
 use crate::error::{Fault, Why};
 use crate::reading::{number_in, part_in};
 use crate::stated::StatedEvent;
-use crate::words::{behind, is_text};
+use pb_lines::{behind, is_text};
 use pb_machine::End;
 
 // A number, and the words after it.

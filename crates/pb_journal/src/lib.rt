@@ -13,7 +13,6 @@ mod reading;
 mod refusals;
 mod replay;
 mod stated;
-mod words;
 mod writing;
 
 pub use checker::check_journal;
@@ -25,6 +24,3 @@ pub use laws::{
     written_journals_are_accepted,
 };
 pub use writing::write_journal;
-
-#[cfg(test)]
-mod tests;

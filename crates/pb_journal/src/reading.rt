@@ -1,11 +1,11 @@
 //! The lines of a journal's header.
 ghost use Rattle.std.specs.Prelude.{◌≡◌, ◌≤◌, ◌+◌, ◌<◌, ◌^◌, ℕ, length, codes, IfOk};
 ghost use Rattle.pb_journal.specs.Faults.{Reads, wanted};
-ghost use Rattle.pb_journal.specs.Words.{part, behind, number_of};
+ghost use Rattle.pb_lines.specs.Words.{part, behind, number_of};
 ghost use Rattle.pb_journal.specs.Reading.{line_at, fixed_at, number_at, plain_in, plain_at, number_before, report_in};
 
 use crate::error::{Fault, Why};
-use crate::words::{behind, is_text, number_of, part};
+use pb_lines::{behind, is_text, number_of, part};
 
 // A line and the text after it.
 fn line_at(line: u64, text: &[u8]) -> Result<(&[u8], &[u8]), Fault>

@@ -30,8 +30,3 @@ pub use lease::Lease;
 pub use leasing::ROOM;
 pub use seat::Seat;
 pub use tables::MachineTables;
-
-#[cfg(test)]
-mod graph_tests;
-#[cfg(test)]
-mod tests;

@@ -23,6 +23,3 @@ pub use laws::{
 };
 pub use lifted::{Argument, Lifted, LiftedAtom, Schema};
 pub use refusal::{Cause, File, LiftedError, Place, TypingRefusal};
-
-#[cfg(test)]
-mod tests;

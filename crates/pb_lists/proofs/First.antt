@@ -1,30 +1,51 @@
--- The first place in the set of a bundle is that of the first Opened row.
-use Rattle.std.proofs.Common.{◌≡◌, ◌<◌, ◌↔◌, ℕ, Bool, true, false, Option, Some, None, List, [], ◌∷◌, ◌&&◌, length, refl, sym, ap, ◌∙◌, subst, arith, true≢false}
-use Rattle.std.specs.BTreeSet.{BTreeSet, contains, btree_set_len, IsLowerBound}
-use Rattle.std.specs.Ordering.{is_gt, is_eq}
+-- The top of the first bucket is the first Opened row.
+use Rattle.std.proofs.Common.{◌≡◌, ◌≤◌, ℕ, Bool, true, false, Option, Some, None, List, [], ◌∷◌, ◌&&◌, ◌||◌, ◌⊎◌, inl, inr, refl, sym, ap, ◌∙◌, subst, arith, nat_eq, nat_lt, true≢false, is_some, IfSome, slice_get}
+use Rattle.std.proofs.lemmas.Bool.Decides.{nat_tests}
+use Rattle.std.specs.List.{AllByRecursion}
+use Rattle.std.specs.Ordering.{nat_cmp, is_lt, is_gt}
+use Rattle.std.specs.declared.cmp.Reverse.{Reverse}
+use Rattle.std.specs.BTreeMap.{get, IsLowerBound}
+use Rattle.std.specs.BinaryHeap.{heap_items, lt_by_cmp, IsHeap}
 use Rattle.pb_model.specs.declared.key.Key.{Key}
 use Rattle.pb_model.specs.declared.row.Row.{Row}
 use Rattle.pb_model.specs.declared.row.Status.{Status}
 use Rattle.pb_model.specs.declared.row.Status.TheVariants.{Opened, Closed, Cut}
-use Rattle.pb_model.specs.Key.{IsBest, IsFirstRow}
-use Rattle.pb_model.specs.KeyOrder.{same_key}
-use Rattle.pb_model.specs.Store.{HasOpened}
+use Rattle.pb_model.specs.Key.{IsBest, IsBefore, IsFirstRow, IsKeyBelow}
+use Rattle.pb_model.specs.KeyOrder.{key_cmp, same_key}
 use Rattle.pb_model.specs.Weight.{Weight}
-use Rattle.pb_model.proofs.Keys.{first_rows_are_best}
+use Rattle.pb_model.proofs.Keys.{key_cases}
+use Rattle.pb_model.proofs.Tests.{by_cases, below, not_below}
 use Rattle.pb_lists.specs.Bundle.{row_in}
-use Rattle.pb_lists.specs.Places.{place_cmp}
-use Rattle.pb_lists.specs.Fields.{key_at, place_at, is_opened, is_open_at, Agrees}
-use Rattle.pb_lists.specs.declared.place.Place.{Place}
-use Rattle.pb_lists.proofs.Order.{key_self, key_found, place_before}
+use Rattle.pb_lists.specs.Fields.{key_at, is_opened, is_open_at}
+use Rattle.pb_lists.specs.Buckets.{Bucket, Buckets, later, is_among, states_in, has_state, top_of, HasHeaps, HasFiled, is_led, is_tidy, IsTidy}
+use Rattle.pb_lists.proofs.Order.{less, key_found, key_above}
 
--- an Opened row with this key
-abbrev HasKey : Weight → Option Row → Key → Type 0
-HasKey weight found key = (row : Row) × (found ≡ Some row) × (row.status ≡ Opened) × (key_at weight row ≡ key)
+-- ---- the top of a heap
+
+not_less : (a b : ℕ) → is_lt (nat_cmp a b) ≡ false → b ≤ a
+not_less a b e = by_cases (nat_lt a b) (λ t. absurd (true≢false (sym (ap is_lt (less a b (below a b t))) ∙ e))) (λ f. not_below a b f)
+
+pub least_among : (item : Reverse ℕ) (states : List (Reverse ℕ)) → AllByRecursion (λ other. lt_by_cmp later item other ≡ false) states → (state : ℕ) → is_among state states ≡ true → item.0 ≤ state
+least_among item [] above state among = absurd (true≢false (sym among))
+least_among item (other ∷ states) above state among = which (nat_eq state other.0) refl among (λ m. least_among item states above.1 state m)
+  where
+    which : (b : Bool) → nat_eq state other.0 ≡ b → (b || is_among state states) ≡ true → (is_among state states ≡ true → item.0 ≤ state) → item.0 ≤ state
+    which true e m rest = let same : state ≡ other.0 = grind (arith, nat_tests) in let le = not_less other.0 item.0 above.0 in omega arith
+    which false e m rest = rest m
+
+pub heap_at : (buckets : Buckets) (key : Key) (bucket : Bucket) → get key_cmp buckets key ≡ Some bucket → HasHeaps buckets → IsHeap later (heap_items bucket)
+heap_at buckets key bucket value heaps = subst (λ found. IfSome found (λ (b : Bucket). IsHeap later (heap_items b))) value (heaps key)
+
+-- ---- the first bucket
 
 opened_status : (status : Status) (b : Bool) → (is_opened status && b) ≡ true → (status ≡ Opened) × (b ≡ true)
 opened_status Opened b e = (refl, e)
 opened_status Closed b e = absurd (true≢false (sym e))
 opened_status Cut b e = absurd (true≢false (sym e))
+
+-- an Opened row with this key
+abbrev HasKey : Weight → Option Row → Key → Type 0
+HasKey weight found key = (row : Row) × (found ≡ Some row) × (row.status ≡ Opened) × (key_at weight row ≡ key)
 
 open_row_at : (weight : Weight) (found : Option Row) (key : Key) → is_open_at weight found key ≡ true → HasKey weight found key
 open_row_at weight None key e = absurd (true≢false (sym e))
@@ -32,37 +53,64 @@ open_row_at weight (Some row) key e =
     let two : (row.status ≡ Opened) × (same_key (key_at weight row) key ≡ true) = opened_status row.status (same_key (key_at weight row) key) e in
     (row, refl, two.0, key_found (key_at weight row) key two.1)
 
-module _ (weight : Weight) (entries : List (ℕ × Row)) (places : BTreeSet Place) (agrees : Agrees weight entries places) where
-  open_has : (row : Row) → row.status ≡ Opened → is_open_at weight (Some row) (key_at weight row) ≡ true
-  open_has row opened = rw opened (ap is_eq (key_self (key_at weight row)))
+has_bucket : (state : ℕ) (found : Option Bucket) → is_among state (states_in found) ≡ true → is_some found ≡ true
+has_bucket state None e = absurd (true≢false (sym e))
+has_bucket state (Some bucket) e = refl
 
-  has : (state : ℕ) (row : Row) → row_in entries state ≡ Some row → row.status ≡ Opened → contains place_cmp places (place_at weight state row) ≡ true
-  has state row found opened = agrees (place_at weight state row) ∙ ap (λ old. is_open_at weight old (key_at weight row)) found ∙ open_has row opened
+led_first : (weight : Weight) (entries : List (ℕ × Row)) (list : List (Key × Bucket)) (key : Key) (bucket : Bucket) → slice_get list 0 ≡ Some (key, bucket) → is_tidy weight entries list ≡ true
+    → is_led weight entries key (heap_items bucket) ≡ true
+led_first weight entries [] key bucket first tidy = cc
+led_first weight entries (entry ∷ list) key bucket first tidy =
+    let same : entry ≡ (key, bucket) = cc in
+    subst (λ (e : Key × Bucket). is_led weight entries e.0 (heap_items e.1) ≡ true) same tidy
 
-  pub first_of : (place : Place) → contains place_cmp places place ≡ true → IsLowerBound place_cmp places place
-      → (row : Row) × IsFirstRow weight (row_in entries) place.state row × (key_at weight row ≡ place.key)
-  first_of place member least =
-      let here = open_row_at weight (row_in entries place.state) place.key (sym (agrees place) ∙ member) in
-      let same : place ≡ place_at weight place.state here.0 = ap (λ key. record { key = key; state = place.state }) (sym here.3) in (
-        here.0,
-        record {
-          found = here.1;
-          opened = here.2;
-          first = λ other other_row found opened.
-              place_before (key_at weight here.0) place.state (key_at weight other_row) other
-              (subst (λ (p : Place). is_gt (place_cmp p (place_at weight other other_row)) ≡ false) same (least (place_at weight other other_row) (has other other_row found opened)));
-        },
-        here.3,
-      )
+module _ (weight : Weight) (entries : List (ℕ × Row)) (buckets : Buckets) (filed : HasFiled weight entries buckets) (tidy : IsTidy weight entries buckets)
+    (key : Key) (bucket : Bucket) (first : slice_get buckets.entries 0 ≡ Some (key, bucket)) (value : get key_cmp buckets key ≡ Some bucket) (least : IsLowerBound key_cmp buckets key) where
+  led : is_led weight entries key (heap_items bucket) ≡ true
+  led = led_first weight entries buckets.entries key bucket first tidy
 
-  pub best_of : (place : Place) → contains place_cmp places place ≡ true → IsLowerBound place_cmp places place → IsBest weight (row_in entries) (Some place.key)
-  best_of place member least =
-      let first = first_of place member least in
-      subst (λ key. IsBest weight (row_in entries) (Some key)) first.2 (first_rows_are_best weight (row_in entries) place.state first.0 first.1)
+  -- no Opened row has a lesser key
+  not_above : (state : ℕ) (row : Row) → row_in entries state ≡ Some row → row.status ≡ Opened → IsKeyBelow (key_at weight row) key → ⊥
+  not_above state row found opened low =
+      true≢false (sym (ap is_gt (key_above key (key_at weight row) low))
+      ∙ least (key_at weight row) (has_bucket state (get key_cmp buckets (key_at weight row)) (filed state row found opened)))
 
-  pub none_of : (false ≡ true) ↔ (0 < btree_set_len places) → HasOpened (row_in entries) → ⊥
-  none_of is (state, row, found, opened) = no_keys places.keys places refl is (place_at weight state row) (has state row found opened)
+  pub best_of : IsBest weight (row_in entries) (Some key)
+  best_of = top (heap_items bucket) led
     where
-      no_keys : (keys : List Place) (set : BTreeSet Place) → set.keys ≡ keys → (false ≡ true) ↔ (0 < length keys) → (q : Place) → contains place_cmp set q ≡ true → ⊥
-      no_keys [] set is h q member = true≢false (sym (rw is at member))
-      no_keys (key ∷ keys) set is h q member = true≢false (sym (h.1 (omega arith)))
+      top : (states : List (Reverse ℕ)) → is_led weight entries key states ≡ true → IsBest weight (row_in entries) (Some key)
+      top [] e = absurd (true≢false (sym e))
+      top (state ∷ states) e =
+          let here = open_row_at weight (row_in entries state.0) key e in (
+            (state.0, here.0, here.1, here.2, here.3),
+            λ other has low. not_above has.0 has.1 has.2 has.3 (subst (λ k. IsKeyBelow k key) (sym has.4) low),
+          )
+
+  first_row : (state : ℕ) → HasKey weight (row_in entries state) key → ((other : ℕ) → is_among other (heap_items bucket) ≡ true → state ≤ other) → (row : Row) × IsFirstRow weight (row_in entries) state row
+  first_row state here low = (here.0, record { found = here.1; opened = here.2; first = before })
+    where
+      at_key : (other : ℕ) (other_row : Row) → row_in entries other ≡ Some other_row → other_row.status ≡ Opened → key ≡ key_at weight other_row
+          → (other ≡ state) ⊎ IsBefore (key_at weight here.0) state (key_at weight other_row) other
+      at_key other other_row found opened same =
+          let member : is_among other (heap_items bucket) ≡ true =
+          sym (ap (λ f. is_among other (states_in f)) value) ∙ subst (λ k. has_state buckets k other ≡ true) (sym same) (filed other other_row found opened) in
+          let le : state ≤ other = low other member in
+          by_cases (nat_lt state other) (λ t. inr (inr (here.3 ∙ same, below state other t))) (λ f. let ge = not_below state other f in inl (omega arith))
+
+      before : (other : ℕ) (other_row : Row) → row_in entries other ≡ Some other_row → other_row.status ≡ Opened → (other ≡ state) ⊎ IsBefore (key_at weight here.0) state (key_at weight other_row) other
+      before other other_row found opened = which (key_cases key (key_at weight other_row))
+        where
+          which : (IsKeyBelow key (key_at weight other_row) ⊎ ((key ≡ key_at weight other_row) ⊎ IsKeyBelow (key_at weight other_row) key))
+              → (other ≡ state) ⊎ IsBefore (key_at weight here.0) state (key_at weight other_row) other
+          which (inl l) = inr (inl (subst (λ k. IsKeyBelow k (key_at weight other_row)) (sym here.3) l))
+          which (inr (inl same)) = at_key other other_row found opened same
+          which (inr (inr g)) = absurd (not_above other other_row found opened g)
+
+  pub first_of : (result : Option ℕ) → result ≡ top_of (heap_items bucket) → IfSome result (λ state. (other : ℕ) → is_among other (heap_items bucket) ≡ true → state ≤ other)
+      → IfSome result (λ state. (row : Row) × IsFirstRow weight (row_in entries) state row)
+  first_of None is low = tt
+  first_of (Some state) is low = top (heap_items bucket) is led
+    where
+      top : (states : List (Reverse ℕ)) → Some state ≡ top_of states → is_led weight entries key states ≡ true → (row : Row) × IsFirstRow weight (row_in entries) state row
+      top [] e l = absurd (true≢false (sym l))
+      top (other ∷ states) e l = let same : other.0 ≡ state = cc in first_row state (open_row_at weight (row_in entries state) key (subst (λ s. is_open_at weight (row_in entries s) key ≡ true) same l)) low

@@ -1,4 +1,4 @@
 pub mod Order
-pub mod Moves
+pub mod Filing
 pub mod First
 pub mod Entries

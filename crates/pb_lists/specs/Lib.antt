@@ -1,5 +1,5 @@
 pub mod Bundle
 pub mod Offers
 pub mod Laws
-pub mod Places
+pub mod Buckets
 pub mod Fields

@@ -1,4 +1,4 @@
-ghost use Rattle.std.specs.Prelude.{◌≡◌, false, ◌<◌, ◌≤◌, Option, Some, None, [], IfOk, IfSome, IfNone, OnOk, OnErr, option_copied, nat_eq, slice_get, length};
+ghost use Rattle.std.specs.Prelude.{◌≡◌, false, ◌<◌, ◌≤◌, Option, Some, None, [], IfOk, IsSome, IfSome, IfNone, OnOk, OnErr, option_copied, nat_eq, slice_get, length};
 ghost use Rattle.std.specs.Map.{keys_of};
 ghost use Rattle.std.specs.List.{IsDistinct};
 ghost use Rattle.pb_model.specs.Key.{IsBest, IsFirstRow};
@@ -9,12 +9,12 @@ ghost use Rattle.pb_lists.specs.Bundle.{Content, row_of, put, SetsRow, SetsStatu
 ghost use Rattle.pb_lists.specs.Offers.{offer_of};
 ghost use Rattle.pb_lists.specs.Fields.{is_opened};
 
-use crate::place::Place;
+use crate::buckets::{Buckets, file, key_of, tidy, top};
 use indexmap::IndexMap;
 use pb_model::{Estimate, Key, Row, Status};
 use pb_packed::Packed;
 use std::alloc::{AllocError, Global};
-use std::collections::BTreeSet;
+use std::collections::BTreeMap;
 use std::marker::Model;
 
 /// The rows of one part of a search's store: the open and closed list of a block. Contracts see the states with their rows, in
@@ -22,15 +22,17 @@ use std::marker::Model;
 #[derive(Drop)]
 pub struct Bundle {
     rows: IndexMap<Packed, Row>,
-    // the place of each Opened row
-    opened: BTreeSet<Place>,
+    // each Opened row in the bucket of its key
+    opened: Buckets,
     num: u64,
     den: u64,
+    alloc: Global,
 }
 
 impl Model for Bundle {
     ghost use Rattle.pb_lists.specs.Bundle.{Content};
-    ghost use Rattle.pb_lists.specs.Fields.{AreFields, weight_of};
+    ghost use Rattle.pb_lists.specs.Fields.{weight_of};
+    ghost use Rattle.pb_lists.specs.Buckets.{AreFields};
 
     ghost Value = { Content };
 
@@ -60,9 +62,10 @@ impl Bundle {
     {
         Ok(Bundle {
             rows: IndexMap::new(alloc),
-            opened: BTreeSet::new(alloc),
+            opened: BTreeMap::new(alloc),
             num,
             den,
+            alloc,
         })
     }
 
@@ -97,8 +100,8 @@ impl Bundle {
         ensures some { IfSome result (λ state. (row : _) × IsFirstRow self.now.weight (row_of self.now) state row) }
         ensures none { IfNone result (HasOpened (row_of self.now) → ⊥) }
     {
-        match self.opened.first() {
-            Some(place) => Some(place.state),
+        match self.opened.first_key_value() {
+            Some((_, bucket)) => top(bucket),
             None => None,
         }
     }
@@ -107,8 +110,8 @@ impl Bundle {
     pub fn best(&self) -> Option<Key>
         ensures { IsBest self.now.weight (row_of self.now) result }
     {
-        match self.opened.first() {
-            Some(place) => Some(place.key),
+        match self.opened.first_key_value() {
+            Some((key, _)) => Some(*key),
             None => None,
         }
     }
@@ -139,7 +142,7 @@ impl Bundle {
                 if was.g <= g {
                     return Ok(Offer::Worse);
                 }
-                self.open_again(state, was, opened_row(g, was.estimate, parent, action))?;
+                self.open_again(state, opened_row(g, was.estimate, parent, action))?;
                 Ok(Offer::Better)
             }
         }
@@ -165,7 +168,8 @@ impl Bundle {
         self.settle(state, Status::Cut);
     }
 
-    // Adds an Opened row for a state that has none. Room is taken in both collections before the rows change.
+    // Adds an Opened row for a state that has none. Room is taken in the map, then the state enters
+    // its bucket, then the map has its row: what may fail comes first.
     fn add(&mut self, state: Packed, row: Row) -> Result<(), AllocError>
         requires absent { row_of self.old state ≡ None }
         requires opened { row.status ≡ Opened }
@@ -173,31 +177,29 @@ impl Bundle {
         ensures sets { OnOk result (SetsRow (row_of self.old) (row_of self.new) state row) }
         ensures err { OnErr result (self.new ≡ self.old) }
     {
-        let place = Place::of(self.num, self.den, state, &row);
+        let key = key_of(self.num, self.den, &row);
         self.rows.reserve(1)?;
-        self.opened.insert(place)?;
+        file(self.alloc, &mut self.opened, key, state)?;
         match self.rows.insert(state, row) {
             Ok(_) => Ok(()),
             Err(_) => unreachable!(),
         }
     }
 
-    // Replaces the row of a state by an Opened one. Its place may be the old one's, as that of a dead row is.
-    fn open_again(&mut self, state: Packed, was: Row, row: Row) -> Result<(), AllocError>
-        requires found { row_of self.old state ≡ Some was }
+    // Replaces the row of a state by an Opened one, which enters its new bucket first. The state is
+    // still in its old bucket, and leaves it when it comes first there.
+    fn open_again(&mut self, state: Packed, row: Row) -> Result<(), AllocError>
+        requires found { IsSome (row_of self.old state) }
         requires opened { row.status ≡ Opened }
         ensures put { OnOk result (self.new ≡ put self.old state row) }
         ensures sets { OnOk result (SetsRow (row_of self.old) (row_of self.new) state row) }
         ensures err { OnErr result (self.new ≡ self.old) }
     {
-        let place = Place::of(self.num, self.den, state, &row);
-        let left = Place::of(self.num, self.den, state, &was);
-        self.opened.insert(place)?;
+        let key = key_of(self.num, self.den, &row);
+        file(self.alloc, &mut self.opened, key, state)?;
         match self.rows.insert(state, row) {
             Ok(_) => {
-                if left != place {
-                    self.opened.remove(&left);
-                }
+                tidy(&mut self.opened, &self.rows, self.num, self.den);
                 Ok(())
             }
             Err(_) => unreachable!(),
@@ -214,15 +216,10 @@ impl Bundle {
     {
         let at = *state;
         match self.row(&at).copied() {
-            Some(was) => {
-                let left = Place::of(self.num, self.den, at, &was);
-                match self.rows.insert(at, Row { status, ..was }) {
-                    Ok(_) => {
-                        self.opened.remove(&left);
-                    }
-                    Err(_) => unreachable!(),
-                }
-            }
+            Some(was) => match self.rows.insert(at, Row { status, ..was }) {
+                Ok(_) => tidy(&mut self.opened, &self.rows, self.num, self.den),
+                Err(_) => unreachable!(),
+            },
             None => unreachable!(),
         }
     }

@@ -1,12 +1,9 @@
 //! The open and closed list of a part of a search: the rows of its states, and the first of those that are Opened.
 #![tactic(auto)]
 
+mod buckets;
 mod bundle;
 mod laws;
-mod place;
 
 pub use bundle::{Bundle, Offer};
 pub use laws::{entries_are_rows, keys_are_ordered};
-
-#[cfg(test)]
-mod tests;

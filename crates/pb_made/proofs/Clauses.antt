@@ -29,7 +29,7 @@ module _ {E : Type 0} (kind : TaskKind) (seed size workers : ℕ) (task : TaskPa
   says_bound (Ok NoneAccepted) is = tt
   says_bound (Ok (Stopped budget)) is = tt
 
-  pub says_certified : (r : Result MadeAnswer E) → IfOk r (IsAnswered task workers) → IfOk r (λ a. IfAccepted a (λ cost bound. OfMade kind seed size (λ task. IsCertified task (Bounded cost bound))))
+  pub says_certified : (r : Result MadeAnswer E) → IfOk r (IsAnswered task workers) → IfOk r (λ a. IfAccepted a (λ cost bound. OfMade kind seed size (λ task. IsCertified task workers (Bounded cost bound))))
   says_certified (Err e) is = tt
   says_certified (Ok (Accepted cost bound)) is = (task, made, is.3)
   says_certified (Ok NoneAccepted) is = tt
@@ -41,7 +41,7 @@ module _ {E : Type 0} (kind : TaskKind) (seed size workers : ℕ) (task : TaskPa
   says_none (Ok NoneAccepted) is = (task, made, is.0)
   says_none (Ok (Stopped budget)) is = tt
 
-  pub says_none_certified : (r : Result MadeAnswer E) → IfOk r (IsAnswered task workers) → IfOk r (λ a. IfNoneAccepted a (OfMade kind seed size (λ task. IsCertified task Unsolvable)))
+  pub says_none_certified : (r : Result MadeAnswer E) → IfOk r (IsAnswered task workers) → IfOk r (λ a. IfNoneAccepted a (OfMade kind seed size (λ task. IsCertified task workers Unsolvable)))
   says_none_certified (Err e) is = tt
   says_none_certified (Ok (Accepted cost bound)) is = tt
   says_none_certified (Ok NoneAccepted) is = (task, made, is.1)

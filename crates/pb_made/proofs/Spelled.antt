@@ -1,5 +1,5 @@
 -- Made texts are read as the made task, and never refused.
-use Rattle.std.proofs.Common.{◌≡◌, ◌≢◌, ℕ, ◌≤◌, List, Option, None, Some, Result, Ok, Err, refl, sym, ap, subst, ◌∙◌, arith}
+use Rattle.std.proofs.Common.{◌≡◌, ◌≢◌, ℕ, ◌≤◌, false, List, Option, None, Some, Result, Ok, Err, refl, sym, ap, subst, ◌∙◌, arith}
 use Rattle.pb_task.specs.declared.parts.TaskParts.{TaskParts}
 use Rattle.pb_task.specs.declared.parts.TaskParts.TheVariants as parts
 use Rattle.pb_task.specs.declared.parts.GridParts.{GridParts}
@@ -41,18 +41,18 @@ syntax_memory syntax_errors.Memory only = refl
 syntax_memory error only = absurd (only (λ e. cc))
 
 module _ (seed side : ℕ) (size : IsSize Grid side) (map scenario : List ℕ) (map_is : map ≡ map_text seed side) (scenario_is : scenario ≡ scenario_text side) where
-  spelled : SpellsGrid map scenario 0 (made_grid seed side)
+  spelled : SpellsGrid map scenario 0 false (made_grid seed side)
   spelled =
-      subst (λ (m : List ℕ). SpellsGrid m scenario 0 (made_grid seed side)) (sym map_is)
-      (subst (λ (s : List ℕ). SpellsGrid (map_text seed side) s 0 (made_grid seed side)) (sym scenario_is) (made_maps_are_spelled seed side size.0 size.1))
+      subst (λ (m : List ℕ). SpellsGrid m scenario 0 false (made_grid seed side)) (sym map_is)
+      (subst (λ (s : List ℕ). SpellsGrid (map_text seed side) s 0 false (made_grid seed side)) (sym scenario_is) (made_maps_are_spelled seed side size.0 size.1))
 
   same_grid : (a b : TaskParts) → ◌≡◌ {A = Result TaskParts GridError} (Ok a) (Ok b) → b ≡ a
   same_grid a b e = cc
 
-  pub grid_is_made : (task : TaskParts) → task_of (grid_reading map scenario 0) ≡ Ok task
-      → ((grid : GridParts) → SpellsGrid map scenario 0 grid → ◌≡◌ {A = Result TaskParts GridError} (Ok (parts.Grid grid)) (Ok task)) → IsMadeTask Grid seed side task
+  pub grid_is_made : (task : TaskParts) → task_of (grid_reading map scenario 0 false) ≡ Ok task
+      → ((grid : GridParts) → SpellsGrid map scenario 0 false grid → ◌≡◌ {A = Result TaskParts GridError} (Ok (parts.Grid grid)) (Ok task)) → IsMadeTask Grid seed side task
   grid_is_made task read only = (
-    ap (λ (m : List ℕ). task_of (grid_reading m (scenario_text side) 0)) (sym map_is) ∙ (ap (λ (s : List ℕ). task_of (grid_reading map s 0)) (sym scenario_is) ∙ read),
+    ap (λ (m : List ℕ). task_of (grid_reading m (scenario_text side) 0 false)) (sym map_is) ∙ (ap (λ (s : List ℕ). task_of (grid_reading map s 0 false)) (sym scenario_is) ∙ read),
     made_maps_are_spelled seed side size.0 size.1,
     same_grid (parts.Grid (made_grid seed side)) task (only (made_grid seed side) spelled),
   )
@@ -61,7 +61,7 @@ module _ (seed side : ℕ) (size : IsSize Grid side) (map scenario : List ℕ) (
   grid_differs task error e = cc
 
   pub grid_is_memory : (error : GridError)
-      → ((grid : GridParts) → SpellsGrid map scenario 0 grid → error ≢ grid_errors.Memory → ◌≡◌ {A = Result TaskParts GridError} (Ok (parts.Grid grid)) (Err error)) → error ≡ grid_errors.Memory
+      → ((grid : GridParts) → SpellsGrid map scenario 0 false grid → error ≢ grid_errors.Memory → ◌≡◌ {A = Result TaskParts GridError} (Ok (parts.Grid grid)) (Err error)) → error ≡ grid_errors.Memory
   grid_is_memory error only = grid_memory error (λ other. grid_differs (parts.Grid (made_grid seed side)) error (only (made_grid seed side) spelled other))
 
 module _ (seed moves : ℕ) (text : List ℕ) (text_is : text ≡ tiles_text seed moves) where

@@ -1,2 +1,4 @@
 pub mod Made
+pub mod Searches
+pub mod Found
 pub mod Answers

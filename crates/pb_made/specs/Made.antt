@@ -1,5 +1,5 @@
 -- The task that made texts spell.
-use Rattle.std.specs.Prelude.{◌≡◌, ℕ, ◌≤◌, Ok, None}
+use Rattle.std.specs.Prelude.{◌≡◌, ℕ, ◌≤◌, false, Ok, None}
 use Rattle.pb_task.specs.declared.parts.TaskParts.{TaskParts}
 use Rattle.pb_task.specs.declared.parts.TaskParts.TheVariants as parts
 use Rattle.pb_grid.specs.Form.{SpellsGrid}
@@ -25,13 +25,13 @@ IsSize Grid side = (1 ≤ side) × (side ≤ 2048)
 IsSize Tiles moves = moves ≤ 1000000
 IsSize Strips blocks = (1 ≤ blocks) × (blocks ≤ 14)
 
--- The texts of this kind, seed and size are read as this task. Those of a map and its scenario, and
+-- The texts of this kind, seed and size are read as this task, without swamp. Those of a map and its scenario, and
 -- of a board, spell the made one; those of the domain of the blocks world and of a problem are trees
 -- that are a task.
 abbrev pub IsMadeTask : TaskKind → (seed size : ℕ) → TaskParts → Type 0
 IsMadeTask Grid seed side task =
-    (task_of (grid_reading (map_text seed side) (scenario_text side) 0) ≡ Ok task)
-    × SpellsGrid (map_text seed side) (scenario_text side) 0 (made_grid seed side)
+    (task_of (grid_reading (map_text seed side) (scenario_text side) 0 false) ≡ Ok task)
+    × SpellsGrid (map_text seed side) (scenario_text side) 0 false (made_grid seed side)
     × (task ≡ parts.Grid (made_grid seed side))
 IsMadeTask Tiles seed moves task =
     (tiles_reading (tiles_text seed moves) ≡ Ok (made_tiles seed moves))

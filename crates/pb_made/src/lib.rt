@@ -9,6 +9,3 @@ mod solving;
 
 pub use answer::MadeAnswer;
 pub use solving::solve_made;
-
-#[cfg(test)]
-mod tests;

@@ -65,7 +65,7 @@ fn made_grid(alloc: Global, seed: u32, side: u32) -> Result<Task, AllocError>
 {
     let map = make_map(alloc, seed, side)?;
     let scenario = make_scen(alloc, side)?;
-    match read_grid(alloc, map.as_slice(), scenario.as_slice(), 0) {
+    match read_grid(alloc, map.as_slice(), scenario.as_slice(), 0, false) {
         Ok(task) => Ok(task),
         Err(error) => Err(grid_memory(&error)),
     }

@@ -1,15 +1,19 @@
 //! A made task is solved, and what came out is checked.
 ghost use Rattle.std.specs.Prelude.{◌≡◌, ◌≤◌, ◌<◌, ◌^◌, ℕ, IfOk, Some, length};
 ghost use Rattle.std.specs.Arc.{arc_value};
-ghost use Rattle.pb_machine.specs.Settings.{AreInRange};
+ghost use Rattle.pb_machine.specs.Settings.{AreInRange, weight_of};
 ghost use Rattle.pb_model.specs.Plan.{IsBound, HasNoPlan, NoneCheaper};
 ghost use Rattle.pb_task.specs.Parts.{space_of};
+ghost use Rattle.pb_lease.specs.Leased.{guide_of};
+ghost use Rattle.pb_workers.specs.Ends.{home_store};
 ghost use Rattle.pb_check.specs.Kinds.{kind_of, kind_name};
 ghost use Rattle.pb_check.specs.declared.fault.Verdict.TheVariants.{Bounded, Unsolvable};
 ghost use Rattle.pb_made.specs.Made.{IsSize, OfMade};
 ghost use Rattle.pb_made.specs.Answers.{IfAccepted, IfNoneAccepted, IfStopped, IsAnswered};
 ghost use Rattle.pb_made.specs.Answers.{HasPlan, IsCertified, IsStopped, unweighted};
-ghost use Rattle.pb_made.specs.Answers.{IsBest, IsBestPlan, IsCertificate, made_settings};
+ghost use Rattle.pb_made.specs.Answers.{made_settings};
+ghost use Rattle.pb_made.specs.Searches.{LeavesQuiet};
+ghost use Rattle.pb_made.specs.Found.{IsPlanOf, IsCertificateOf};
 
 use crate::MadeAnswer;
 use crate::answer::answer_of;
@@ -70,15 +74,17 @@ pub fn solve_made<R: Threads + Wait + Sync, G: Gate>(
     ensures bound { IfOk result (λ a. IfAccepted a (λ cost bound.
         IsBound unweighted cost bound)) }
 
-    // The text of a valid certificate is accepted with this cost and bound.
+    // A search with these workers found it, and the certificate of that search is accepted with this
+    // cost and bound.
     ensures certified { IfOk result (λ a. IfAccepted a (λ cost bound.
-        OfMade kind seed size (λ task. IsCertified task (Bounded cost bound)))) }
+        OfMade kind seed size (λ task. IsCertified task workers (Bounded cost bound)))) }
 
-    // The made task has no plan, and the text of a certificate of that is accepted.
+    // The made task has no plan. A search with these workers found none, and its certificate is
+    // accepted.
     ensures none { IfOk result (λ a. IfNoneAccepted a
         (OfMade kind seed size (λ task. HasNoPlan (space_of task)))) }
     ensures none_certified { IfOk result (λ a. IfNoneAccepted a
-        (OfMade kind seed size (λ task. IsCertified task Unsolvable))) }
+        (OfMade kind seed size (λ task. IsCertified task workers Unsolvable))) }
 
     // The search of the made task, with these workers, used up its budget.
     ensures stopped { IfOk result (λ a. IfStopped a (λ budget.
@@ -118,7 +124,7 @@ fn answer_end(
     graph: &LeaseGraph,
     workers: u32,
 ) -> Result<MadeAnswer, AllocError>
-    requires { IsBest task.now graph.now }
+    requires { LeavesQuiet task.now (made_settings workers) graph.now }
     ensures { IfOk result (IsAnswered task.now workers) }
 {
     let plan = best_plan(alloc, task, graph)?;
@@ -130,10 +136,10 @@ fn answer_end(
     }
 }
 
-// A cheapest plan, if there is one.
+// The plan that the rows lead to, if there is one.
 fn best_plan(alloc: Global, task: &Task, graph: &LeaseGraph) -> Result<Option<Plan>, AllocError>
-    requires { IsBest task.now graph.now }
-    ensures { IfOk result (IsBestPlan task.now graph.now) }
+    requires { LeavesQuiet task.now graph.now.table.settings graph.now }
+    ensures { IfOk result (IsPlanOf task.now graph.now) }
 {
     match graph.incumbent() {
         Some(_) => traced_plan(alloc, task, graph),
@@ -141,11 +147,11 @@ fn best_plan(alloc: Global, task: &Task, graph: &LeaseGraph) -> Result<Option<Pl
     }
 }
 
-// A cheapest plan, which there is.
+// The plan that the rows lead to, which there is.
 fn traced_plan(alloc: Global, task: &Task, graph: &LeaseGraph) -> Result<Option<Plan>, AllocError>
-    requires best { IsBest task.now graph.now }
+    requires quiet { LeavesQuiet task.now graph.now.table.settings graph.now }
     requires known { (cost : ℕ) × (graph.now.incumbent ≡ Some cost) }
-    ensures { IfOk result (IsBestPlan task.now graph.now) }
+    ensures { IfOk result (IsPlanOf task.now graph.now) }
 {
     let _lawful = task.max_degree();
     let plan = trace(alloc, task, graph)?;
@@ -159,9 +165,11 @@ fn certificate_text(
     plan: Option<Plan>,
     graph: &LeaseGraph,
 ) -> Result<Vec<u8>, AllocError>
-    requires best { IsBest task.now graph.now }
-    requires plan { IsBestPlan task.now graph.now plan }
-    ensures { IfOk result (λ text. IsCertificate task.now plan text.items) }
+    requires quiet { LeavesQuiet task.now graph.now.table.settings graph.now }
+    requires weight { weight_of graph.now.table.settings ≡ unweighted }
+    requires plan { IsPlanOf task.now graph.now plan }
+    ensures { IfOk result (λ text. IsCertificateOf task.now unweighted
+        (guide_of task.now graph.now.table.graph) (home_store graph.now) plan text.items) }
 {
     let _lawful = task.max_degree();
     let certificate = Certificate::of(alloc, kind_word(task), 1, 1, plan, graph)?;

@@ -1,5 +1,5 @@
 -- The texts of a made map and of its scenario spell the made grid.
-use Rattle.std.proofs.Common.{◌≡◌, ℕ, zero, suc, ◌+◌, ◌-◌, ◌*◌, ◌^◌, ◌<◌, ◌≤◌, true, IsTrue, ◌&&◌, nat_lt, if◌then◌else◌, unwrap_or, Option, Some, slice_get, List, [], ◌∷◌, ◌++◌, length, take, drop, map, codes, refl, ap, sym, arith, ◌∙◌, length-drop, append_assoc}
+use Rattle.std.proofs.Common.{◌≡◌, ℕ, zero, suc, ◌+◌, ◌-◌, ◌*◌, ◌^◌, ◌<◌, ◌≤◌, true, false, IsTrue, ◌&&◌, nat_lt, if◌then◌else◌, unwrap_or, Option, Some, slice_get, List, [], ◌∷◌, ◌++◌, length, take, drop, map, codes, refl, ap, sym, arith, ◌∙◌, length-drop, append_assoc}
 use Rattle.std.proofs.lemmas.Bool.{lt-ltb}
 use Rattle.std.proofs.lemmas.List.{length-take-le, take-append-drop}
 use Rattle.std.proofs.lemmas.Nat.{mul-le}
@@ -9,7 +9,7 @@ use Rattle.pb_task.specs.declared.parts.Class.{Class}
 use Rattle.pb_task.specs.declared.parts.Class.TheVariants.{Blocked, Land}
 use Rattle.pb_task.specs.Grid.{is_passable}
 use Rattle.pb_grid.specs.Lines.{lines_of, words_of}
-use Rattle.pb_grid.specs.Reading.{class_of_byte}
+use Rattle.pb_grid.specs.Reading.{class_of_byte, is_swamp_byte}
 use Rattle.pb_grid.specs.Form.{IsNumber, SpellsMap, SpellsScenario}
 use Rattle.pb_make.specs.Draws.{draws}
 use Rattle.pb_make.specs.Lines.{line, lines, rows_of}
@@ -166,6 +166,7 @@ corner zero some = absurd (omega arith)
 corner (suc m) some = let e : suc m - 1 ≡ m = omega arith in rw e (omega arith)
 
 pub made_maps_are_spelled : MadeMapsAreSpelled
+unfolding map_spelled
 made_maps_are_spelled seed side some most =
     let drawn = map cell (draws (side * side) seed) in
     let count = length-drawn seed side in
@@ -173,6 +174,7 @@ made_maps_are_spelled seed side some most =
     let inside : side - 1 < side = omega arith in
     record {
       map_is = map_spelled seed side some most;
+      swamp_is = ap (map (is_swamp_byte false)) (sym (cut side side (map_cells seed side) (length-map_cells seed side) (map_cells_are seed side)).whole);
       scenario_is = scenario_spelled side some most;
       start_on_map = (some, some);
       goal_on_map = (inside, inside);

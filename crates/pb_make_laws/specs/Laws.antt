@@ -1,5 +1,5 @@
 -- The laws of this crate. Each is proved, as the contract of the public function that has its name.
-use Rattle.std.specs.Prelude.{◌≡◌, ℕ, ◌≤◌, true, is_ok, Ok, None}
+use Rattle.std.specs.Prelude.{◌≡◌, ℕ, ◌≤◌, true, false, is_ok, Ok, None}
 use Rattle.pb_grid.specs.Form.{SpellsGrid}
 use Rattle.pb_tiles.specs.Spelling.{SpellsTiles}
 use Rattle.pb_make.specs.Boards.{tiles_text}
@@ -12,9 +12,9 @@ use Rattle.pb_make.specs.Maps.{map_text, scenario_text}
 use Rattle.pb_make.specs.Problems.{problem_text}
 use Rattle.pb_make_laws.specs.Made.{made_grid, made_tiles}
 
--- The texts of a made map and of its scenario spell the made grid, in the scenario's first row.
+-- The texts of a made map and of its scenario spell the made grid, in the scenario's first row and without swamp.
 abbrev pub MadeMapsAreSpelled : Type 0
-MadeMapsAreSpelled = (seed side : ℕ) → 1 ≤ side → side ≤ 2048 → SpellsGrid (map_text seed side) (scenario_text side) 0 (made_grid seed side)
+MadeMapsAreSpelled = (seed side : ℕ) → 1 ≤ side → side ≤ 2048 → SpellsGrid (map_text seed side) (scenario_text side) 0 false (made_grid seed side)
 
 -- The text of a made board spells the made tiles.
 abbrev pub MadeBoardsAreSpelled : Type 0

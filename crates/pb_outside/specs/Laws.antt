@@ -3,8 +3,8 @@ use Rattle.std.specs.Prelude.{◌≡◌, ℕ, ◌+◌, ◌-◌, ◌≤◌, Some,
 use Rattle.pb_outside.specs.Calls.{Call, SaveText, FailToSave}
 use Rattle.pb_outside.specs.Memory.{ShelfView, SinkView, file_of, room_of, HasFile, HasRoom, CanTake}
 
--- To save a text takes at most one call more than the text has bytes, also where the last call
--- failed. So no body can go on until a call fails.
+-- To save a text takes at most one call more than the text has bytes, also if the last call failed.
+-- So the text bounds the calls; how long a text may be is not said here.
 pub record SavesAreBounded : Type 0 where
   pub saved : (calls : List Call) (name text : List ℕ) → SaveText calls name text
       → length calls ≤ length text + 1

@@ -13,6 +13,3 @@ mod packed;
 
 pub use laws::{digits_are_hex, digits_tell_numbers, fields_are_replaced};
 pub use packed::Packed;
-
-#[cfg(test)]
-mod tests;

@@ -1,5 +1,5 @@
 -- Atoms: where their reading stops.
-use Rattle.std.proofs.Common.{◌≡◌, ℕ, Bool, true, false, ◌&&◌, ◌||◌, List, [], ◌∷◌, ◌++◌, Ok, Err, refl, sym, ap, ◌∙◌}
+use Rattle.std.proofs.Common.{◌≡◌, ℕ, Bool, true, false, ◌&&◌, ◌||◌, List, [], ◌∷◌, ◌++◌, Ok, Err, refl, sym, ap, ◌∙◌, cond}
 use Rattle.pb_pddl.specs.declared.token.TokenKind.TheVariants as kinds
 use Rattle.pb_pddl.specs.declared.token.Token.{Token}
 use Rattle.pb_pddl.specs.declared.tree.Name.{Name}
@@ -13,8 +13,11 @@ use Rattle.pb_pddl.specs.Places.{fits, is_head, sample, takes_section, takes_par
 use Rattle.pb_pddl_laws.proofs.AtomsRead.{term_sound, term_complete}
 use Rattle.pb_pddl_laws.proofs.Readers.{Reads, Can, reads_done, can_done, reads_same, can_same}
 use Rattle.pb_pddl_laws.proofs.Loops.{Takes}
-use Rattle.pb_pddl_laws.proofs.Refusals.{plain, can_head, reads_head, a_head_fit}
-use Rattle.pb_pddl_laws.proofs.Closing.{takes_piece, can_closed, reads_closed}
+use Rattle.pb_pddl_laws.proofs.Refusals.{plain, can_head, reads_head, does_head, a_head_fit}
+use Rattle.pb_pddl_laws.proofs.Closing.{takes_piece, can_closed, reads_closed, does_closed}
+use Rattle.pb_pddl_laws.specs.Table
+use Rattle.pb_pddl_laws.specs.Table.{Symbol, after}
+use Rattle.pb_pddl_laws.proofs.Following.{Does, nothing, does_same, does_done, does_as}
 
 true_false : true ≡ false → ⊥
 true_false e = cc
@@ -97,6 +100,22 @@ module _ (variables : Bool) where
   pub reads_atom : (n : ℕ) → Reads Atom n (atom_at variables)
   reads_atom n = reads_same (atom_at variables) (λ ts. head_at ts >>= λ p. terms_behind p.0 p.1) atom_is n (reads_head terms_behind can_terms n (λ m less name. reads_terms m name))
 
+  terms_go : (t : Token) (v : Bool) → is_term t ≡ v → after (Table.Terms variables) t ≡ cond v (Table.Terms variables ∷ []) []
+  terms_go t v e = ap (λ b. cond b (Table.Terms variables ∷ []) []) e
+
+  does_terms : (n : ℕ) (name : Name) → Does n (terms_behind name) nothing (Table.Terms variables ∷ [])
+  does_terms n name =
+      does_closed (begins_term variables) add_term (λ s. wants.Name) (atom_with name) is_term (λ s. Places.MoreTerms variables) term_is no_term takes_term term_no_end term_refused term_last term_end term_close can_term
+      (λ s. Table.Terms variables) (λ s t. (refl, refl)) nothing n
+      (λ m less s t e fit. does_as m (λ us. add_term s (t ∷ us)) (λ x. Table.Terms variables ∷ []) (Table.Terms variables ∷ []) (after (Table.Terms variables) t) (terms_go t true e)
+      (does_same m (λ us. add_term s (t ∷ us)) (λ us. Ok (s ++ term_of t ∷ [], us)) (λ x. Table.Terms variables ∷ []) (Table.Terms variables ∷ []) (term_step s t) (does_done m (λ x. Table.Terms variables ∷ []) (s ++ term_of t ∷ []))))
+      (λ s t e. sym (terms_go t false e)) []
+
+  pub does_atom : (n : ℕ) → Does n (atom_at variables) nothing (Table.HeadName ∷ Table.Terms variables ∷ [])
+  does_atom n =
+      does_same n (atom_at variables) (λ ts. head_at ts >>= λ p. terms_behind p.0 p.1) nothing (Table.HeadName ∷ Table.Terms variables ∷ []) atom_is
+      (does_head terms_behind can_terms nothing (Table.Terms variables ∷ []) n (λ m less name. does_terms m name))
+
   -- behind its name
   atom_behind : (t : Token) (us : List Token) → is_head t ≡ true → atom_at variables (t ∷ us) ≡ terms_behind (name_of t) us
   atom_behind t us e = atom_is (t ∷ us) ∙ a_head_fit terms_behind can_terms t us e
@@ -106,3 +125,6 @@ module _ (variables : Bool) where
 
   pub reads_atom_behind : (n : ℕ) (t : Token) → is_head t ≡ true → Reads Atom n (λ us. atom_at variables (t ∷ us))
   reads_atom_behind n t e = reads_same (λ us. atom_at variables (t ∷ us)) (terms_behind (name_of t)) (λ us. atom_behind t us e) n (reads_terms n (name_of t))
+
+  pub does_atom_behind : (n : ℕ) (t : Token) → is_head t ≡ true → Does n (λ us. atom_at variables (t ∷ us)) nothing (Table.Terms variables ∷ [])
+  does_atom_behind n t e = does_same n (λ us. atom_at variables (t ∷ us)) (terms_behind (name_of t)) nothing (Table.Terms variables ∷ []) (λ us. atom_behind t us e) (does_terms n (name_of t))

@@ -1,5 +1,5 @@
 -- Loops over pieces that end with a ).
-use Rattle.std.proofs.Common.{◌≡◌, ℕ, ◌<◌, Bool, true, false, ◌||◌, List, [], ◌∷◌, Result, Ok, Err, refl, sym, ap, ◌∙◌, arith}
+use Rattle.std.proofs.Common.{◌≡◌, ℕ, ◌<◌, Bool, true, false, ◌||◌, List, [], ◌∷◌, Result, Ok, Err, refl, sym, ap, ◌∙◌, arith, cond, ◌++◌}
 use Rattle.pb_pddl.specs.declared.token.TokenKind.TheVariants as kinds
 use Rattle.pb_pddl.specs.declared.token.Token.{Token}
 use Rattle.pb_pddl.specs.declared.error.SyntaxError.{SyntaxError}
@@ -12,6 +12,8 @@ use Rattle.pb_pddl_laws.proofs.ManyRead.{IsSound, IsComplete}
 use Rattle.pb_pddl_laws.proofs.Readers.{Reads, Can, reads_done, can_done, reads_same, can_same}
 use Rattle.pb_pddl_laws.proofs.Loops.{Takes, all_stop, loop, reads_loop}
 use Rattle.pb_pddl_laws.proofs.Refusals.{plain, need_misfit, need_fit}
+use Rattle.pb_pddl_laws.specs.Table.{Symbol, after}
+use Rattle.pb_pddl_laws.proofs.Following.{Does, SamePlace, nothing, does_same, does_done, does_as, does_more, does_loop}
 
 true_false : true ≡ false → ⊥
 true_false e = cc
@@ -67,6 +69,14 @@ module _ {S Y : Type 0} (more : List Token → Bool) (step : S → List Token �
       reads_loop more step closing test place more_is none takes no_end refuse_step refuse_close can_step can_close can_closed n n (omega arith) steps
       (λ m less s t last fit. reads_same (λ us. closing s (t ∷ us)) (λ us. Ok (value s, us)) (λ us. closing_is s t us (sym (close_last s t last) ∙ fit)) m (reads_done m (value s)))
 
+  pub does_closed : (symbol : S → Symbol) → ((s : S) → SamePlace (symbol s) (place s)) → (rest : Y → List Symbol) → (n : ℕ)
+      → ((m : ℕ) → m < n → (s : S) (t : Token) → test t ≡ true → fits (place s) t ≡ true → Does m (λ us. step s (t ∷ us)) (λ x. symbol x ∷ []) (after (symbol s) t))
+      → ((s : S) (t : Token) → test t ≡ false → rest (value s) ≡ after (symbol s) t) → (s : S) → Does n (loop more step closing s) rest (symbol s ∷ [])
+  does_closed symbol is rest n steps lasts =
+      does_loop more step closing test place more_is none takes no_end refuse_step refuse_close symbol is rest n n (omega arith) steps
+      (λ m less s t last fit. does_as m (λ us. closing s (t ∷ us)) rest (rest (value s)) (after (symbol s) t) (sym (lasts s t last))
+      (does_same m (λ us. closing s (t ∷ us)) (λ us. Ok (value s, us)) rest (rest (value s)) (λ us. closing_is s t us (sym (close_last s t last) ∙ fit)) (does_done m rest (value s))))
+
 -- ---- forms, each with its own parentheses
 
 module _ {S Y : Type 0} (step : S → List Token → Read S) (body : S → List Token → Read S) (value : S → Y) (takes : Takes begins_open step)
@@ -118,3 +128,18 @@ module _ {S Y : Type 0} (step : S → List Token → Read S) (body : S → List 
   reads_forms n r =
       reads_closed begins_open step (λ s. wants.Paren) value opens (λ s. Places.MoreForms) opens_is opens_none takes form_no_end form_refused form_last form_end form_close can_form n
       (λ m less s t goes fit. reads_same (λ us. step s (t ∷ us)) (body s) (λ us. step_is s t us goes) m (r m less s))
+
+  pub does_forms : (symbol : S → Symbol) → ((s : S) → SamePlace (symbol s) Places.MoreForms) → (rest : Y → List Symbol) → (n : ℕ)
+      → ((m : ℕ) → m < n → (s : S) (t : Token) → same_kind t.kind kinds.Open ≡ true → Does m (body s) (λ x. symbol x ∷ []) (after (symbol s) t))
+      → ((s : S) (t : Token) → same_kind t.kind kinds.Open ≡ false → rest (value s) ≡ after (symbol s) t) → (s : S) → Does n (forms s) rest (symbol s ∷ [])
+  does_forms symbol is rest n steps lasts =
+      does_closed begins_open step (λ s. wants.Paren) value opens (λ s. Places.MoreForms) opens_is opens_none takes form_no_end form_refused form_last form_end form_close can_form symbol is rest n
+      (λ m less s t goes fit. does_same m (λ us. step s (t ∷ us)) (body s) (λ x. symbol x ∷ []) (after (symbol s) t) (λ us. step_is s t us goes) (steps m less s t goes)) lasts
+
+  -- of one kind
+  pub does_each : (c : Symbol) (inner : List Symbol) → SamePlace c Places.MoreForms → ((t : Token) → after c t ≡ cond (same_kind t.kind kinds.Open) (inner ++ c ∷ []) []) → (n : ℕ)
+      → ((m : ℕ) → m < n → (s : S) → Does m (body s) nothing inner) → (s : S) → Does n (forms s) nothing (c ∷ [])
+  does_each c inner is after_is n d =
+      does_forms (λ s. c) (λ s. is) nothing n
+      (λ m less s t goes. does_as m (body s) (λ x. c ∷ []) (inner ++ c ∷ []) (after c t) (after_is t ∙ ap (λ b. cond b (inner ++ c ∷ []) []) goes) (does_more m (body s) inner (c ∷ []) (d m less s)))
+      (λ s t stops. sym (after_is t ∙ ap (λ b. cond b (inner ++ c ∷ []) []) stops))

@@ -1,5 +1,5 @@
 -- Conditions and effects: where their reading stops.
-use Rattle.std.proofs.Common.{◌≡◌, ℕ, zero, suc, ◌≤◌, Bool, true, false, cond, ◌||◌, List, [], ◌∷◌, ◌++◌, length, drop, Ok, Err, refl, sym, ap, ◌∙◌, arith}
+use Rattle.std.proofs.Common.{◌≡◌, ℕ, zero, suc, ◌≤◌, Bool, true, false, cond, ◌||◌, List, [], ◌∷◌, ◌++◌, length, drop, Ok, Err, refl, sym, ap, ◌∙◌, arith, ◌<◌}
 use Rattle.std.specs.Prelude.{codes}
 use Rattle.pb_pddl.specs.declared.token.TokenKind.TheVariants as kinds
 use Rattle.pb_pddl.specs.declared.token.Token.{Token}
@@ -14,9 +14,12 @@ use Rattle.pb_pddl_laws.proofs.ActionsRead.{cond_is, cond_less}
 use Rattle.pb_pddl_laws.proofs.Readers.{Reads, Can, reads_done, can_done, reads_same, can_same, reads_then, can_then, reads_one, can_one}
 use Rattle.pb_pddl_laws.proofs.Loops.{Takes}
 use Rattle.pb_pddl_laws.proofs.Refusals.{plain, open_refused, head_misfit}
-use Rattle.pb_pddl_laws.proofs.Closing.{or_none, can_forms, reads_forms}
-use Rattle.pb_pddl_laws.proofs.AtomPlaces.{can_atom, reads_atom, can_atom_behind, reads_atom_behind}
+use Rattle.pb_pddl_laws.proofs.Closing.{or_none, can_forms, reads_forms, does_each}
+use Rattle.pb_pddl_laws.proofs.AtomPlaces.{can_atom, reads_atom, can_atom_behind, reads_atom_behind, does_atom, does_atom_behind}
 use Rattle.pb_pddl_laws.proofs.Rooms.{cond_inside, any_cond, any_cond_shut, any_cond_open}
+use Rattle.pb_pddl_laws.specs.Table
+use Rattle.pb_pddl_laws.specs.Table.{Symbol, after}
+use Rattle.pb_pddl_laws.proofs.Following.{Does, nothing, does_same, does_done, does_as, does_either, does_then, does_one}
 
 -- a choice of two readers
 pub can_either : {X : Type 0} (b : Bool) (f g : List Token → Read X) → (b ≡ true → Can f) → (b ≡ false → Can g) → Can (λ us. cond b (f us) (g us))
@@ -85,6 +88,17 @@ module _ (variables : Bool) where
   reads_add_behind n said t e =
       reads_same (λ us. add_atom variables said (t ∷ us)) _ (λ us. add_is said (t ∷ us)) n
       (reads_then (λ us. atom_at variables (t ∷ us)) (λ atom ts. Ok (added said atom, ts)) n (reads_atom_behind variables n t e) (λ atom. reads_done n (added said atom)) (λ atom. can_done (added said atom)))
+
+  pub does_add : (n : ℕ) (said : List Atom) → Does n (add_atom variables said) nothing (Table.HeadName ∷ Table.Terms variables ∷ [])
+  does_add n said =
+      does_same n (add_atom variables said) _ nothing (Table.HeadName ∷ Table.Terms variables ∷ []) (add_is said)
+      (does_then (atom_at variables) (λ atom ts. Ok (added said atom, ts)) nothing nothing (Table.HeadName ∷ Table.Terms variables ∷ []) n (reads_atom variables n) (does_atom variables n) (λ atom. does_done n nothing (added said atom)))
+
+  does_add_behind : (n : ℕ) (said : List Atom) (t : Token) → is_head t ≡ true → Does n (λ us. add_atom variables said (t ∷ us)) nothing (Table.Terms variables ∷ [])
+  does_add_behind n said t e =
+      does_same n (λ us. add_atom variables said (t ∷ us)) _ nothing (Table.Terms variables ∷ []) (λ us. add_is said (t ∷ us))
+      (does_then (λ us. atom_at variables (t ∷ us)) (λ atom ts. Ok (added said atom, ts)) nothing nothing (Table.Terms variables ∷ []) n (reads_atom_behind variables n t e) (does_atom_behind variables n t e)
+      (λ atom. does_done n nothing (added said atom)))
 
   abbrev inside : List Atom → List Token → Read (List Atom)
   inside = cond_inside variables (any_cond variables)
@@ -155,6 +169,37 @@ module _ (variables : Bool) where
       (λ word. reads_same (conds_at variables (any_cond variables) said) _ (conds_is said) m (reads_forms (any_cond variables) inside same takes_cond cond_step can_inside m (λ l below s. reads_inside k l (omega arith) s) said))
       (λ word. reads_add_behind m said t (fits_behind t fit close word))))
 
+  abbrev conds_due : List Symbol
+  conds_due = Table.Conditions variables ∷ []
+
+  abbrev terms_due : List Symbol
+  terms_due = Table.Terms variables ∷ []
+
+  abbrev word_or_head : List Atom → Token → List Token → Read (List Atom)
+  word_or_head said t us = cond (is_word (codes "and") t) (conds_at variables (any_cond variables) said us) (add_atom variables said (t ∷ us))
+
+  inside_due : (t : Token) (a b : Bool) → is_kind kinds.Close t ≡ a → is_word (codes "and") t ≡ b → after (Table.Condition variables) t ++ [] ≡ cond a [] (cond b conds_due terms_due) ++ []
+  inside_due t a b e h = ap (λ x. cond x [] (cond (is_word (codes "and") t) conds_due terms_due) ++ []) e ∙ ap (λ x. cond a [] (cond x conds_due terms_due) ++ []) h
+
+  does_behind : (m : ℕ) (said : List Atom) (t : Token) → fits Places.InCondition t ≡ true → Does m (conds_at variables (any_cond variables) said) nothing conds_due → Does m (inside_behind said t) nothing (after (Table.Condition variables) t ++ [])
+  does_behind m said t fit conds =
+      does_either (is_kind kinds.Close t) m (λ us. Ok (said, us)) (word_or_head said t) nothing (after (Table.Condition variables) t ++ [])
+      (λ close. does_as m (λ us. Ok (said, us)) nothing [] (after (Table.Condition variables) t ++ []) (inside_due t true (is_word (codes "and") t) close refl) (does_done m nothing said))
+      (λ close. does_either (is_word (codes "and") t) m (conds_at variables (any_cond variables) said) (λ us. add_atom variables said (t ∷ us)) nothing (after (Table.Condition variables) t ++ [])
+      (λ word. does_as m (conds_at variables (any_cond variables) said) nothing conds_due (after (Table.Condition variables) t ++ []) (inside_due t false true close word) conds)
+      (λ word. does_as m (λ us. add_atom variables said (t ∷ us)) nothing terms_due (after (Table.Condition variables) t ++ []) (inside_due t false false close word) (does_add_behind m said t (fits_behind t fit close word))))
+
+  does_conds : (m : ℕ) (said : List Atom) → ((l : ℕ) → l < m → (s : List Atom) → Does l (inside s) nothing (Table.Condition variables ∷ [])) → Does m (conds_at variables (any_cond variables) said) nothing conds_due
+  does_conds m said d =
+      does_same m (conds_at variables (any_cond variables) said) _ nothing conds_due (conds_is said)
+      (does_each (any_cond variables) inside same takes_cond cond_step can_inside (Table.Conditions variables) (Table.Condition variables ∷ []) (λ t. (refl, refl)) (λ t. refl) m d said)
+
+  does_inside : (k n : ℕ) → n ≤ k → (said : List Atom) → Does n (inside said) nothing (Table.Condition variables ∷ [])
+  does_inside zero n le said = does_one (inside said) (inside_behind said) Places.InCondition inside_no_end (inside_misfit said) (inside_take said) (Table.Condition variables) (λ t. (refl, refl)) nothing [] n (λ m less t fit. absurd (omega arith))
+  does_inside (suc k) n le said =
+      does_one (inside said) (inside_behind said) Places.InCondition inside_no_end (inside_misfit said) (inside_take said) (Table.Condition variables) (λ t. (refl, refl)) nothing [] n
+      (λ m less t fit. does_behind m said t fit (does_conds m said (λ l below s. does_inside k l (omega arith) s)))
+
   cond_misfit : (said : List Atom) (ts : List Token) → fits Places.AnOpen (front ts) ≡ false → any_cond variables said ts ≡ Err (refused Places.AnOpen (front ts))
   cond_misfit said ts e = any_cond_shut variables said ts (shut_it ts e) ∙ ap (λ (x : SyntaxError). Err x) (fault_open ts)
 
@@ -165,3 +210,8 @@ module _ (variables : Bool) where
   reads_cond n said =
       reads_one (any_cond variables said) (λ t. inside said) Places.AnOpen open_no_end (cond_misfit said) (λ t us fit. any_cond_open variables said t us (opens_it t us fit)) (λ t fit. can_inside said) (can_cond said) n
       (λ m less t fit. reads_inside m m (omega arith) said)
+
+  pub does_cond : (n : ℕ) (said : List Atom) → Does n (any_cond variables said) nothing (Table.Opening ∷ Table.Condition variables ∷ [])
+  does_cond n said =
+      does_one (any_cond variables said) (λ t. inside said) Places.AnOpen open_no_end (cond_misfit said) (λ t us fit. any_cond_open variables said t us (opens_it t us fit)) Table.Opening (λ t. (refl, refl)) nothing (Table.Condition variables ∷ []) n
+      (λ m less t fit. does_inside m m (omega arith) said)

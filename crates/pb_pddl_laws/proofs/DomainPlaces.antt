@@ -30,10 +30,10 @@ use Rattle.pb_pddl_laws.proofs.ActionPlaces.{can_action, reads_action}
 true_false : true ≡ false → ⊥
 true_false e = cc
 
-abbrev domain_body_0 : DomainParts → List Token → Read DomainParts
+abbrev pub domain_body_0 : DomainParts → List Token → Read DomainParts
 domain_body_0 s = keys_then (record { requirements = true; types = s.types; constants = s.constants; predicates = s.predicates; actions = s.actions })
 
-domain_is_0 : (s : DomainParts) (t : Token) (us : List Token) → is_key (codes ":requirements") t ≡ true → s.requirements ≡ false → domain_key unlimited s (t ∷ us) ≡ domain_body_0 s us
+pub domain_is_0 : (s : DomainParts) (t : Token) (us : List Token) → is_key (codes ":requirements") t ≡ true → s.requirements ≡ false → domain_key unlimited s (t ∷ us) ≡ domain_body_0 s us
 unfolding domain_key requirements_section types_section constants_section predicates_section action_section unlimited spells begins front same_kind kind_number
 domain_is_0 s t us e free = ap (λ (x : Token). domain_key unlimited s (x ∷ us)) (as_key (codes ":requirements") t e) ∙ if_false (s.requirements) _ _ free
 
@@ -43,13 +43,13 @@ can_domain_0 s = can_keys (record { requirements = true; types = s.types; consta
 reads_domain_0 : (n : ℕ) (s : DomainParts) → Reads DomainParts n (domain_body_0 s)
 reads_domain_0 n s = reads_keys (record { requirements = true; types = s.types; constants = s.constants; predicates = s.predicates; actions = s.actions }) n
 
-abbrev domain_with_1 : DomainParts → List Typed → DomainParts
+abbrev pub domain_with_1 : DomainParts → List Typed → DomainParts
 domain_with_1 s x = record { requirements = s.requirements; types = Some x; constants = s.constants; predicates = s.predicates; actions = s.actions }
 
-abbrev domain_body_1 : DomainParts → List Token → Read DomainParts
+abbrev pub domain_body_1 : DomainParts → List Token → Read DomainParts
 domain_body_1 s = λ us. list_at kinds.Word wants.Name us >>= λ p. Ok (domain_with_1 s p.0, p.1)
 
-domain_is_1 : (s : DomainParts) (t : Token) (us : List Token) → is_key (codes ":types") t ≡ true → is_some s.types ≡ false → domain_key unlimited s (t ∷ us) ≡ domain_body_1 s us
+pub domain_is_1 : (s : DomainParts) (t : Token) (us : List Token) → is_key (codes ":types") t ≡ true → is_some s.types ≡ false → domain_key unlimited s (t ∷ us) ≡ domain_body_1 s us
 unfolding domain_key requirements_section types_section constants_section predicates_section action_section unlimited spells begins front same_kind kind_number
 domain_is_1 s t us e free = ap (λ (x : Token). domain_key unlimited s (x ∷ us)) (as_key (codes ":types") t e) ∙ if_false (is_some s.types) _ _ free
 
@@ -59,13 +59,13 @@ can_domain_1 s = can_then (list_at kinds.Word wants.Name) (λ x ts. Ok (domain_w
 reads_domain_1 : (n : ℕ) (s : DomainParts) → Reads DomainParts n (domain_body_1 s)
 reads_domain_1 n s = reads_then (list_at kinds.Word wants.Name) (λ x ts. Ok (domain_with_1 s x, ts)) n (reads_words n) (λ x. reads_done n (domain_with_1 s x)) (λ x. can_done (domain_with_1 s x))
 
-abbrev domain_with_2 : DomainParts → List Typed → DomainParts
+abbrev pub domain_with_2 : DomainParts → List Typed → DomainParts
 domain_with_2 s x = record { requirements = s.requirements; types = s.types; constants = Some x; predicates = s.predicates; actions = s.actions }
 
-abbrev domain_body_2 : DomainParts → List Token → Read DomainParts
+abbrev pub domain_body_2 : DomainParts → List Token → Read DomainParts
 domain_body_2 s = λ us. list_at kinds.Word wants.Name us >>= λ p. Ok (domain_with_2 s p.0, p.1)
 
-domain_is_2 : (s : DomainParts) (t : Token) (us : List Token) → is_key (codes ":constants") t ≡ true → is_some s.constants ≡ false → domain_key unlimited s (t ∷ us) ≡ domain_body_2 s us
+pub domain_is_2 : (s : DomainParts) (t : Token) (us : List Token) → is_key (codes ":constants") t ≡ true → is_some s.constants ≡ false → domain_key unlimited s (t ∷ us) ≡ domain_body_2 s us
 unfolding domain_key requirements_section types_section constants_section predicates_section action_section unlimited spells begins front same_kind kind_number
 domain_is_2 s t us e free = ap (λ (x : Token). domain_key unlimited s (x ∷ us)) (as_key (codes ":constants") t e) ∙ if_false (is_some s.constants) _ _ free
 
@@ -75,13 +75,13 @@ can_domain_2 s = can_then (list_at kinds.Word wants.Name) (λ x ts. Ok (domain_w
 reads_domain_2 : (n : ℕ) (s : DomainParts) → Reads DomainParts n (domain_body_2 s)
 reads_domain_2 n s = reads_then (list_at kinds.Word wants.Name) (λ x ts. Ok (domain_with_2 s x, ts)) n (reads_words n) (λ x. reads_done n (domain_with_2 s x)) (λ x. can_done (domain_with_2 s x))
 
-abbrev domain_with_3 : DomainParts → List Predicate → DomainParts
+abbrev pub domain_with_3 : DomainParts → List Predicate → DomainParts
 domain_with_3 s x = record { requirements = s.requirements; types = s.types; constants = s.constants; predicates = Some x; actions = s.actions }
 
-abbrev domain_body_3 : DomainParts → List Token → Read DomainParts
+abbrev pub domain_body_3 : DomainParts → List Token → Read DomainParts
 domain_body_3 s = λ us. predicates_at us >>= λ p. Ok (domain_with_3 s p.0, p.1)
 
-domain_is_3 : (s : DomainParts) (t : Token) (us : List Token) → is_key (codes ":predicates") t ≡ true → is_some s.predicates ≡ false → domain_key unlimited s (t ∷ us) ≡ domain_body_3 s us
+pub domain_is_3 : (s : DomainParts) (t : Token) (us : List Token) → is_key (codes ":predicates") t ≡ true → is_some s.predicates ≡ false → domain_key unlimited s (t ∷ us) ≡ domain_body_3 s us
 unfolding domain_key requirements_section types_section constants_section predicates_section action_section unlimited spells begins front same_kind kind_number
 domain_is_3 s t us e free = ap (λ (x : Token). domain_key unlimited s (x ∷ us)) (as_key (codes ":predicates") t e) ∙ if_false (is_some s.predicates) _ _ free
 
@@ -91,13 +91,13 @@ can_domain_3 s = can_then (predicates_at) (λ x ts. Ok (domain_with_3 s x, ts)) 
 reads_domain_3 : (n : ℕ) (s : DomainParts) → Reads DomainParts n (domain_body_3 s)
 reads_domain_3 n s = reads_then (predicates_at) (λ x ts. Ok (domain_with_3 s x, ts)) n (reads_predicates n) (λ x. reads_done n (domain_with_3 s x)) (λ x. can_done (domain_with_3 s x))
 
-abbrev domain_with_4 : DomainParts → List Action → DomainParts
+abbrev pub domain_with_4 : DomainParts → List Action → DomainParts
 domain_with_4 s x = record { requirements = s.requirements; types = s.types; constants = s.constants; predicates = s.predicates; actions = x }
 
-abbrev domain_body_4 : DomainParts → List Token → Read DomainParts
+abbrev pub domain_body_4 : DomainParts → List Token → Read DomainParts
 domain_body_4 s = λ us. add_action unlimited s.actions us >>= λ p. Ok (domain_with_4 s p.0, p.1)
 
-domain_is_4 : (s : DomainParts) (t : Token) (us : List Token) → is_key (codes ":action") t ≡ true → domain_key unlimited s (t ∷ us) ≡ domain_body_4 s us
+pub domain_is_4 : (s : DomainParts) (t : Token) (us : List Token) → is_key (codes ":action") t ≡ true → domain_key unlimited s (t ∷ us) ≡ domain_body_4 s us
 unfolding domain_key requirements_section types_section constants_section predicates_section action_section unlimited spells begins front same_kind kind_number
 domain_is_4 s t us e = ap (λ (x : Token). domain_key unlimited s (x ∷ us)) (as_key (codes ":action") t e)
 
@@ -107,7 +107,7 @@ can_domain_4 s = can_then (add_action unlimited s.actions) (λ x ts. Ok (domain_
 reads_domain_4 : (n : ℕ) (s : DomainParts) → Reads DomainParts n (domain_body_4 s)
 reads_domain_4 n s = reads_then (add_action unlimited s.actions) (λ x ts. Ok (domain_with_4 s x, ts)) n (reads_action n s.actions) (λ x. reads_done n (domain_with_4 s x)) (λ x. can_done (domain_with_4 s x))
 
-domain_fit : (s : DomainParts) (t : Token) → is_kind kinds.Key t ≡ true → fits (Places.ADomainSection s) t ≡ true → (is_key (codes ":requirements") t && not s.requirements || is_key (codes ":types") t && not (is_some s.types) || is_key (codes ":constants") t && not (is_some s.constants) || is_key (codes ":predicates") t && not (is_some s.predicates) || is_key (codes ":action") t) ≡ true
+pub domain_fit : (s : DomainParts) (t : Token) → is_kind kinds.Key t ≡ true → fits (Places.ADomainSection s) t ≡ true → (is_key (codes ":requirements") t && not s.requirements || is_key (codes ":types") t && not (is_some s.types) || is_key (codes ":constants") t && not (is_some s.constants) || is_key (codes ":predicates") t && not (is_some s.predicates) || is_key (codes ":action") t) ≡ true
 unfolding fits
 domain_fit s t key fit = fit
 
@@ -133,11 +133,11 @@ reads_domain_key n s t key fit =
 
 -- ---- the keyword of a section
 
-domain_no_end : (s : DomainParts) → fits (Places.ADomainSection s) no_token ≡ false
+pub domain_no_end : (s : DomainParts) → fits (Places.ADomainSection s) no_token ≡ false
 unfolding fits same_kind kind_number
 domain_no_end s = refl
 
-domain_first : (s : DomainParts) → first_fit (Places.ADomainSection s) ≡ wants.Section
+pub domain_first : (s : DomainParts) → first_fit (Places.ADomainSection s) ≡ wants.Section
 unfolding first_fit takes_section fits same_kind kind_number
 domain_first s = refl
 
@@ -160,15 +160,15 @@ unfolding front
 domain_keyed s [] key misfit = absurd (true_false (sym key ∙ no_key))
 domain_keyed s (t ∷ us) key misfit = domain_key_refused s t us key misfit
 
-domain_misfit : (s : DomainParts) (ts : List Token) → fits (Places.ADomainSection s) (front ts) ≡ false → domain_key unlimited s ts ≡ Err (refused (Places.ADomainSection s) (front ts))
+pub domain_misfit : (s : DomainParts) (ts : List Token) → fits (Places.ADomainSection s) (front ts) ≡ false → domain_key unlimited s ts ≡ Err (refused (Places.ADomainSection s) (front ts))
 domain_misfit s ts misfit = decide (is_kind kinds.Key (front ts)) (λ key. domain_keyed s ts key misfit) (λ other. domain_other s ts other ∙ ap (λ (e : SyntaxError). Err e) (sym (domain_plain s (front ts) other)))
 
-domain_is_key : (s : DomainParts) (t : Token) → fits (Places.ADomainSection s) t ≡ true → is_kind kinds.Key t ≡ true
+pub domain_is_key : (s : DomainParts) (t : Token) → fits (Places.ADomainSection s) t ≡ true → is_kind kinds.Key t ≡ true
 unfolding fits
 domain_is_key s t fit =
     decide (is_kind kinds.Key t) (λ key. key) (λ other. absurd (true_false (sym fit ∙ ap (λ b. b && bytes_eq t.text (codes ":requirements") && not s.requirements || b && bytes_eq t.text (codes ":types") && not (is_some s.types) || b && bytes_eq t.text (codes ":constants") && not (is_some s.constants) || b && bytes_eq t.text (codes ":predicates") && not (is_some s.predicates) || b && bytes_eq t.text (codes ":action")) other)))
 
-domain_take : (s : DomainParts) (t : Token) (us : List Token) → fits (Places.ADomainSection s) t ≡ true → domain_key unlimited s (t ∷ us) ≡ domain_key unlimited s (t ∷ us)
+pub domain_take : (s : DomainParts) (t : Token) (us : List Token) → fits (Places.ADomainSection s) t ≡ true → domain_key unlimited s (t ∷ us) ≡ domain_key unlimited s (t ∷ us)
 domain_take s t us fit = refl
 
 an_action : Token
@@ -193,7 +193,7 @@ pub section_step : (s : DomainParts) (t : Token) (us : List Token) → same_kind
 unfolding domain_section
 section_step s t us e = ap (λ (r : Result (List Token) SyntaxError). r >>= λ inside. domain_key unlimited s inside) (need_fit kinds.Open wants.Paren t us e)
 
-takes_section_of : Takes begins_open (domain_section unlimited)
+pub takes_section_of : Takes begins_open (domain_section unlimited)
 takes_section_of = takes_piece begins_open (domain_section unlimited) IsDomainSection domain_sound domain_complete
 
 -- the sections of a domain and the ), and what they make

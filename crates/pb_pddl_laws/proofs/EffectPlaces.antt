@@ -1,5 +1,5 @@
 -- Effects: where their reading stops.
-use Rattle.std.proofs.Common.{◌≡◌, ℕ, zero, suc, ◌≤◌, Bool, true, false, cond, ◌||◌, List, [], ◌∷◌, ◌++◌, length, drop, Ok, Err, refl, sym, ap, ◌∙◌, arith}
+use Rattle.std.proofs.Common.{◌≡◌, ℕ, zero, suc, ◌≤◌, Bool, true, false, cond, ◌||◌, List, [], ◌∷◌, ◌++◌, length, drop, Ok, Err, refl, sym, ap, ◌∙◌, arith, ◌<◌}
 use Rattle.std.specs.Prelude.{codes}
 use Rattle.pb_pddl.specs.declared.token.TokenKind.TheVariants as kinds
 use Rattle.pb_pddl.specs.declared.token.Token.{Token}
@@ -13,11 +13,14 @@ use Rattle.pb_pddl.specs.Places
 use Rattle.pb_pddl.specs.Places.{fits, is_kind, is_word, is_head, sample, takes_section, takes_part, first_fit, left_out, wanted, refused_token, refused}
 use Rattle.pb_pddl_laws.proofs.Readers.{Reads, Can, reads_done, can_done, reads_same, can_same, reads_then, can_then, reads_one, can_one}
 use Rattle.pb_pddl_laws.proofs.Loops.{Takes}
-use Rattle.pb_pddl_laws.proofs.Refusals.{plain, head_misfit, can_open, reads_open, can_close, reads_close}
-use Rattle.pb_pddl_laws.proofs.Closing.{or_none, can_forms, reads_forms}
-use Rattle.pb_pddl_laws.proofs.AtomPlaces.{can_atom, reads_atom, can_atom_behind, reads_atom_behind}
+use Rattle.pb_pddl_laws.proofs.Refusals.{plain, head_misfit, can_open, reads_open, does_open, can_close, reads_close, does_close}
+use Rattle.pb_pddl_laws.proofs.Closing.{or_none, can_forms, reads_forms, does_each}
+use Rattle.pb_pddl_laws.proofs.AtomPlaces.{can_atom, reads_atom, can_atom_behind, reads_atom_behind, does_atom, does_atom_behind}
 use Rattle.pb_pddl_laws.proofs.Rooms.{effect_less, effect_inside, any_effect, any_effect_shut, any_effect_open}
 use Rattle.pb_pddl_laws.proofs.ConditionPlaces.{can_either, reads_either, or_last, opens_it, shut_it, open_no_end, open_sample, fault_open}
+use Rattle.pb_pddl_laws.specs.Table
+use Rattle.pb_pddl_laws.specs.Table.{Symbol, after}
+use Rattle.pb_pddl_laws.proofs.Following.{Does, nothing, does_same, does_done, does_as, does_either, does_then, does_more, does_one}
 
 -- ---- literals
 
@@ -45,6 +48,16 @@ module _ (negated : Bool) where
   reads_add_behind n said t e =
       reads_same (λ us. add_literal negated said (t ∷ us)) _ (λ us. add_is said (t ∷ us)) n
       (reads_then (λ us. atom_at true (t ∷ us)) (λ atom ts. Ok (added said atom, ts)) n (reads_atom_behind true n t e) (λ atom. reads_done n (added said atom)) (λ atom. can_done (added said atom)))
+
+  does_add : (n : ℕ) (said : List Literal) → Does n (add_literal negated said) nothing (Table.HeadName ∷ Table.Terms true ∷ [])
+  does_add n said =
+      does_same n (add_literal negated said) _ nothing (Table.HeadName ∷ Table.Terms true ∷ []) (add_is said)
+      (does_then (atom_at true) (λ atom ts. Ok (added said atom, ts)) nothing nothing (Table.HeadName ∷ Table.Terms true ∷ []) n (reads_atom true n) (does_atom true n) (λ atom. does_done n nothing (added said atom)))
+
+  does_add_behind : (n : ℕ) (said : List Literal) (t : Token) → is_head t ≡ true → Does n (λ us. add_literal negated said (t ∷ us)) nothing (Table.Terms true ∷ [])
+  does_add_behind n said t e =
+      does_same n (λ us. add_literal negated said (t ∷ us)) _ nothing (Table.Terms true ∷ []) (λ us. add_is said (t ∷ us))
+      (does_then (λ us. atom_at true (t ∷ us)) (λ atom ts. Ok (added said atom, ts)) nothing nothing (Table.Terms true ∷ []) n (reads_atom_behind true n t e) (does_atom_behind true n t e) (λ atom. does_done n nothing (added said atom)))
 
   add_misfit : (said : List Literal) (ts : List Token) → is_head (front ts) ≡ false → add_literal negated said ts ≡ Err (refusal wants.Name (front ts))
   unfolding add_literal atom_at
@@ -74,6 +87,18 @@ can_not said = can_same (negative_at said) _ (not_is said) (can_open (negative s
 
 reads_not : (n : ℕ) (said : List Literal) → Reads (List Literal) n (negative_at said)
 reads_not n said = reads_same (negative_at said) _ (not_is said) n (reads_open (negative said) (can_negative said) n (λ m less. reads_negative m said))
+
+abbrev negative_due : List Symbol
+negative_due = Table.HeadName ∷ Table.Terms true ∷ Table.Closing ∷ []
+
+does_negative : (n : ℕ) (said : List Literal) → Does n (negative said) nothing negative_due
+does_negative n said =
+    does_then (add_literal true said) closed (λ all. Table.Closing ∷ []) nothing negative_due n (reads_add true n said) (does_more n (add_literal true said) (Table.HeadName ∷ Table.Terms true ∷ []) (Table.Closing ∷ []) (does_add true n said))
+    (λ all. does_close (λ rest. Ok (all, rest)) (can_done all) nothing [] n (λ m less. does_done m nothing all))
+
+does_not : (n : ℕ) (said : List Literal) → Does n (negative_at said) nothing (Table.Opening ∷ negative_due)
+does_not n said =
+    does_same n (negative_at said) _ nothing (Table.Opening ∷ negative_due) (not_is said) (does_open (negative said) (can_negative said) nothing negative_due n (λ m less. does_negative m said))
 
 -- ---- behind the (
 
@@ -156,6 +181,43 @@ reads_inside (suc k) n le said =
     (λ word. reads_same (effects_at any_effect said) _ (effects_is said) m (reads_forms any_effect inside same takes_effect effect_step can_inside m (λ l below s. reads_inside k l (omega arith) s) said)) (λ word.
     reads_either (is_word (codes "not") t) m (negative_at said) (λ us. add_literal false said (t ∷ us)) (λ minus. reads_not m said) (λ minus. reads_add_behind false m said t (fits_behind t fit close word minus)))))
 
+abbrev effects_due : List Symbol
+effects_due = Table.Effects ∷ []
+
+abbrev terms_due : List Symbol
+terms_due = Table.Terms true ∷ []
+
+inside_due : (t : Token) (a b c : Bool) → is_kind kinds.Close t ≡ a → is_word (codes "and") t ≡ b → is_word (codes "not") t ≡ c
+    → after Table.Effect t ++ [] ≡ cond a [] (cond b effects_due (cond c (Table.Opening ∷ negative_due) terms_due)) ++ []
+inside_due t a b c e h o =
+    ap (λ x. cond x [] (cond (is_word (codes "and") t) effects_due (cond (is_word (codes "not") t) (Table.Opening ∷ negative_due) terms_due)) ++ []) e
+    ∙ ap (λ x. cond a [] (cond x effects_due (cond (is_word (codes "not") t) (Table.Opening ∷ negative_due) terms_due)) ++ []) h
+    ∙ ap (λ x. cond a [] (cond b effects_due (cond x (Table.Opening ∷ negative_due) terms_due)) ++ []) o
+
+abbrev all_due : Token → List Symbol
+all_due t = after Table.Effect t ++ []
+
+does_behind : (m : ℕ) (said : List Literal) (t : Token) → fits Places.InEffect t ≡ true → Does m (effects_at any_effect said) nothing effects_due → Does m (inside_behind said t) nothing (all_due t)
+does_behind m said t fit effects =
+    does_either (is_kind kinds.Close t) m (λ us. Ok (said, us)) (and_behind said t) nothing (all_due t)
+    (λ close. does_as m (λ us. Ok (said, us)) nothing [] (all_due t) (inside_due t true (is_word (codes "and") t) (is_word (codes "not") t) close refl refl) (does_done m nothing said)) (λ close.
+    does_either (is_word (codes "and") t) m (effects_at any_effect said) (not_behind said t) nothing (all_due t)
+    (λ word. does_as m (effects_at any_effect said) nothing effects_due (all_due t) (inside_due t false true (is_word (codes "not") t) close word refl) effects) (λ word.
+    does_either (is_word (codes "not") t) m (negative_at said) (λ us. add_literal false said (t ∷ us)) nothing (all_due t)
+    (λ minus. does_as m (negative_at said) nothing (Table.Opening ∷ negative_due) (all_due t) (inside_due t false false true close word minus) (does_not m said))
+    (λ minus. does_as m (λ us. add_literal false said (t ∷ us)) nothing terms_due (all_due t) (inside_due t false false false close word minus) (does_add_behind false m said t (fits_behind t fit close word minus)))))
+
+does_effects : (m : ℕ) (said : List Literal) → ((l : ℕ) → l < m → (s : List Literal) → Does l (inside s) nothing (Table.Effect ∷ [])) → Does m (effects_at any_effect said) nothing effects_due
+does_effects m said d =
+    does_same m (effects_at any_effect said) _ nothing effects_due (effects_is said)
+    (does_each any_effect inside same takes_effect effect_step can_inside Table.Effects (Table.Effect ∷ []) (λ t. (refl, refl)) (λ t. refl) m d said)
+
+does_inside : (k n : ℕ) → n ≤ k → (said : List Literal) → Does n (inside said) nothing (Table.Effect ∷ [])
+does_inside zero n le said = does_one (inside said) (inside_behind said) Places.InEffect inside_no_end (inside_misfit said) (inside_take said) Table.Effect (λ t. (refl, refl)) nothing [] n (λ m less t fit. absurd (omega arith))
+does_inside (suc k) n le said =
+    does_one (inside said) (inside_behind said) Places.InEffect inside_no_end (inside_misfit said) (inside_take said) Table.Effect (λ t. (refl, refl)) nothing [] n
+    (λ m less t fit. does_behind m said t fit (does_effects m said (λ l below s. does_inside k l (omega arith) s)))
+
 effect_misfit : (said : List Literal) (ts : List Token) → fits Places.AnOpen (front ts) ≡ false → any_effect said ts ≡ Err (refused Places.AnOpen (front ts))
 effect_misfit said ts e = any_effect_shut said ts (shut_it ts e) ∙ ap (λ (x : SyntaxError). Err x) (fault_open ts)
 
@@ -166,3 +228,8 @@ pub reads_effect : (n : ℕ) (said : List Literal) → Reads (List Literal) n (a
 reads_effect n said =
     reads_one (any_effect said) (λ t. inside said) Places.AnOpen open_no_end (effect_misfit said) (λ t us fit. any_effect_open said t us (opens_it t us fit)) (λ t fit. can_inside said) (can_effect said) n
     (λ m less t fit. reads_inside m m (omega arith) said)
+
+pub does_effect : (n : ℕ) (said : List Literal) → Does n (any_effect said) nothing (Table.Opening ∷ Table.Effect ∷ [])
+does_effect n said =
+    does_one (any_effect said) (λ t. inside said) Places.AnOpen open_no_end (effect_misfit said) (λ t us fit. any_effect_open said t us (opens_it t us fit)) Table.Opening (λ t. (refl, refl)) nothing (Table.Effect ∷ []) n
+    (λ m less t fit. does_inside m m (omega arith) said)

@@ -1,5 +1,5 @@
 -- Whole forms: the first token that can't go on.
-use Rattle.std.proofs.Common.{◌≡◌, ℕ, true, false, cond, List, [], ◌∷◌, ◌++◌, length, Result, Ok, Err, refl, sym, ap, subst, ◌∙◌, arith, inl, inr}
+use Rattle.std.proofs.Common.{◌≡◌, ℕ, Bool, true, false, cond, List, [], ◌∷◌, ◌++◌, length, Result, Ok, Err, refl, sym, ap, subst, ◌∙◌, arith, inl, inr, Some, None}
 use Rattle.std.proofs.lemmas.List.{append_assoc}
 use Rattle.std.specs.Prelude.{codes}
 use Rattle.std.specs.Str.{bytes_eq}
@@ -20,11 +20,17 @@ use Rattle.pb_pddl.specs.Places.{Place, fits, is_kind, sample, refused_token, re
 use Rattle.pb_pddl.specs.Grammar.{IsDomain, IsProblem}
 use Rattle.pb_pddl_laws.proofs.CondsRead.{if_true}
 use Rattle.pb_pddl_laws.proofs.Readers.{bind_err, Stops, Reads, Can, reads_done, can_done, reads_same, can_same, reads_then, can_then}
-use Rattle.pb_pddl_laws.proofs.Refusals.{can_open, reads_open, can_close, reads_close, can_name, reads_name, can_word, reads_word}
+use Rattle.pb_pddl_laws.proofs.Refusals.{can_open, reads_open, does_open, can_close, reads_close, does_close, can_name, reads_name, does_name, can_word, reads_word, does_word}
 use Rattle.pb_pddl_laws.proofs.Keys.{decide}
 use Rattle.pb_pddl_laws.proofs.DomainPlaces.{domain_sections, can_domain_sections, reads_domain_sections}
 use Rattle.pb_pddl_laws.proofs.ProblemPlaces.{sections_end, problem_sections, can_problem_sections, reads_problem_sections}
 use Rattle.pb_pddl_laws.proofs.FormsRead.{domain_is, domain_again, problem_is, problem_again}
+use Rattle.pb_pddl_laws.specs.Table
+use Rattle.pb_pddl_laws.specs.Table.{Symbol, place_of, after, Leads, IsWhole, place_due, IsTold, domain_form, problem_form}
+use Rattle.pb_pddl_laws.proofs.Following.{Does, nothing, seen, misfit, leads_misfit, append_none, does_same, does_done, does_then, does_more}
+use Rattle.pb_pddl_laws.proofs.Ends.{outcome, outcome_err, outcome_ok, whole_of, whole_misfit, due_stuck, due_fits, leading, only_end, ends_not}
+use Rattle.pb_pddl_laws.proofs.DomainFollows.{does_domain_sections}
+use Rattle.pb_pddl_laws.proofs.ProblemFollows.{does_problem_sections}
 
 true_false : true ≡ false → ⊥
 true_false e = cc
@@ -83,6 +89,18 @@ module _ (word : List ℕ) (same : bytes_eq word word ≡ true) where
       reads_same (title_at word) _ title_is n (reads_open at_define can_at_define n (λ a la.
       reads_word at_title can_at_title (codes "define") define_same a (λ b lb.
       reads_open at_word can_at_word b (λ c lc. reads_word at_name can_at_name word same c (λ d ld. reads_name name_end can_name_end d (λ e le name. reads_close (λ rest. Ok (name, rest)) (can_done name) e (λ f lf. reads_done f name)))))))
+
+  abbrev pub title_due : List Symbol
+  title_due = Table.Opening ∷ Table.ThisWord (codes "define") ∷ Table.Opening ∷ Table.ThisWord word ∷ Table.AnyName ∷ Table.Closing ∷ []
+
+  pub does_title : (n : ℕ) → Does n (title_at word) nothing title_due
+  does_title n =
+      does_same n (title_at word) _ nothing title_due title_is
+      (does_open at_define can_at_define nothing (Table.ThisWord (codes "define") ∷ Table.Opening ∷ Table.ThisWord word ∷ Table.AnyName ∷ Table.Closing ∷ []) n (λ a la.
+      does_word at_title can_at_title (codes "define") define_same nothing (Table.Opening ∷ Table.ThisWord word ∷ Table.AnyName ∷ Table.Closing ∷ []) a (λ b lb.
+      does_open at_word can_at_word nothing (Table.ThisWord word ∷ Table.AnyName ∷ Table.Closing ∷ []) b (λ c lc.
+      does_word at_name can_at_name word same nothing (Table.AnyName ∷ Table.Closing ∷ []) c (λ d ld.
+      does_name name_end can_name_end nothing (Table.Closing ∷ []) d (λ e le name. does_close (λ rest. Ok (name, rest)) (can_done name) nothing [] e (λ f lf. does_done f nothing name)))))))
 
 -- ---- what is read, with nothing behind it
 
@@ -187,6 +205,81 @@ module _ {X : Type 0} (body : List Token → Read X) (reads : (n : ℕ) → Read
         same_error : (a b : SyntaxError) → failed {X = X} a ≡ failed b → a ≡ b
         same_error a b is = cc
 
+  -- ---- beside the table
+
+  module _ (form : List Symbol) (does : (n : ℕ) → Does n body nothing form) where
+    is_end : (ts : List Token) → fits Places.TheEnd (front ts) ≡ true → is_kind kinds.End (front ts) ≡ true
+    unfolding fits
+    is_end ts e = e
+
+    abbrev ending : X × List Token → Result X SyntaxError
+    ending p = end_at p.1 >>= λ q. Ok p.0
+
+    sees_end : (p : X × List Token) (v : Bool) → fits Places.TheEnd (front p.1) ≡ v → misfit [] p.1 ≡ outcome (ending p)
+    sees_end p true e =
+        ap (λ b. cond b None (Some (refused Places.TheEnd (front p.1)))) e ∙ sym (ap (λ (r : Result (List Token) SyntaxError). outcome {X = X} (r >>= λ q. Ok p.0)) (end_fits p.1 (is_end p.1 e)))
+    sees_end p false e =
+        ap (λ b. cond b None (Some (refused Places.TheEnd (front p.1)))) e ∙ sym (ap (λ (r : Result (List Token) SyntaxError). outcome {X = X} (r >>= λ q. Ok p.0)) (end_refused p.1 e))
+
+    sees_read : (r : Read X) → seen nothing [] r ≡ outcome (r >>= ending)
+    sees_read (Ok p) = sees_end p (fits Places.TheEnd (front p.1)) refl
+    sees_read (Err e) = refl
+
+    sees : (ts : List Token) → misfit form ts ≡ outcome (whole ts)
+    sees ts = ap (λ (s : List Symbol). misfit s ts) (sym (append_none form)) ∙ sym (does (length ts) [] ts (omega arith)) ∙ sees_read (body ts)
+
+    -- what the table tells is read
+    pub stuck_is_read : (before after : List Token) (due : List Symbol) → Leads form before due → fits (place_due due) (front after) ≡ false → whole (before ++ after) ≡ Err (refused (place_due due) (front after))
+    stuck_is_read before after due leads stuck =
+        outcome_err (whole (before ++ after)) (refused (place_due due) (front after)) (sym (sees (before ++ after)) ∙ leads_misfit form before due after leads ∙ due_stuck due after stuck)
+
+    pub told_is_read : (Is : List Token → X → Type 0) (ts : List Token) (e : SyntaxError) → IsTold X Is form ts e → whole ts ≡ Err e
+    told_is_read Is ts e t = ap whole t.split ∙ stuck_is_read t.before t.after t.due t.leads t.stuck ∙ ap (λ (d : SyntaxError). Err d) (sym t.error)
+
+    -- the whole forms of the table are those that are read
+    pub whole_is : (Is : List Token → X → Type 0) → ((ts : List Token) (x : X) → whole ts ≡ Ok x → Is ts x) → (ts : List Token) → IsWhole form ts → (x : X) × Is ts x
+    whole_is Is sound ts w = let o = outcome_ok (whole ts) (sym (sees ts) ∙ whole_misfit form ts w) in (o.0, sound ts o.0 o.1)
+
+    pub is_whole : (Is : List Token → X → Type 0) → ((ts : List Token) (x : X) → Is ts x → whole ts ≡ Ok x) → (ts : List Token) (x : X) → Is ts x → IsWhole form ts
+    is_whole Is complete ts x is = whole_of form ts (sees ts ∙ ap outcome (complete ts x is))
+
+    -- a token that the place refuses does not fit what is due
+    not_due : (before : List Token) (place : Place) → Halts before place → (due : List Symbol) → Leads form before due → (t : Token) → fits place t ≡ false → fits (place_due due) t ≡ true → ⊥
+    not_due before place h due leads t misfits fit = only_end due t (refused place t) fit (λ us. sym (leads_misfit form before due (t ∷ us) leads) ∙ sees (before ++ t ∷ us) ∙ ap outcome (refuses_one before place h t us misfits)) (λ n is. refused_end n is)
+      where
+        refused_end : (n : ℕ) → refused place t ≡ errors.Unclosed n → is_kind kinds.End t ≡ true
+        refused_end n is = ends_not place t n is
+
+    same_fit : (before : List Token) (place : Place) → Halts before place → (due : List Symbol) → Leads form before due → (t : Token) (v : Bool) → fits place t ≡ v → fits (place_due due) t ≡ v
+    same_fit before place h due leads t true fit =
+        let c = h.goes_on t fit in due_fits due t c.0 (sym (leads_misfit form before due (t ∷ c.0) leads) ∙ sees (before ++ t ∷ c.0) ∙ ap outcome c.2)
+    same_fit before place h due leads t false misfits = decide (fits (place_due due) t) (λ fit. absurd (not_due before place h due leads t misfits fit)) (λ other. other)
+
+    pub told_fault : (Is : List Token → X → Type 0) → ((ts : List Token) (x : X) → whole ts ≡ Ok x → Is ts x) → ((ts : List Token) (x : X) → Is ts x → whole ts ≡ Ok x) → (ts : List Token) (e : SyntaxError) → whole ts ≡ Err e → IsTold X Is form ts e
+    told_fault Is sound complete ts e err =
+        let u = whole_faults ts e err in
+        let h = u.5 in
+        let l = leading form u.0 h.lives.0 u.1 e (sees (u.0 ++ h.lives.0) ∙ ap outcome h.lives.2) (sees (u.0 ++ u.1) ∙ ap outcome (ap whole (sym u.3) ∙ err)) in
+        let same : (t : Token) → fits (place_due l.0) t ≡ fits u.2 t = λ t. same_fit u.0 u.2 h l.0 l.1 t (fits u.2 t) refl in
+        let stuck : fits (place_due l.0) (front u.1) ≡ false = same (front u.1) ∙ u.4 in
+        record {
+          before = u.0;
+          after = u.1;
+          due = l.0;
+          split = u.3;
+          leads = l.1;
+          begins = (h.lives.0, h.lives.1, sound (u.0 ++ h.lives.0) h.lives.1 h.lives.2);
+          follows = λ t fit.
+              let c = h.goes_on t (sym (same t) ∙ fit) in (c.0, c.1, subst (λ (us : List Token). Is us c.1) (sym (append_assoc u.0 (t ∷ []) c.0)) (sound (u.0 ++ t ∷ c.0) c.1 c.2));
+          ends = λ t misfits begun.
+              err_ok (refused u.2 t) begun.1
+              (sym (complete ((u.0 ++ t ∷ []) ++ begun.0) begun.1 begun.2) ∙ ap whole (append_assoc u.0 (t ∷ []) begun.0) ∙ refuses_one u.0 u.2 h t begun.0 (sym (same t) ∙ misfits));
+          stuck = stuck;
+          error = equal e (refused (place_due l.0) (front u.1)) (sym err ∙ ap whole u.3 ∙ stuck_is_read u.0 u.1 l.0 l.1 stuck);
+        } where
+          equal : (a b : SyntaxError) → failed {X = X} a ≡ failed b → a ≡ b
+          equal a b is = cc
+
 -- ---- domains and problems
 
 pub domain_same : bytes_eq (codes "domain") (codes "domain") ≡ true
@@ -228,6 +321,24 @@ pub domain_fault : (ts : List Token) (e : SyntaxError) → domain_at unlimited t
 domain_fault ts e err =
     fault_is domain_body reads_domain can_domain IsDomain (λ us x is. domain_is us x (domain_whole us ∙ is)) (λ us x is. sym (domain_whole us) ∙ domain_again us x is) ts e (sym (domain_whole ts) ∙ err)
 
+does_domain : (n : ℕ) → Does n domain_body nothing domain_form
+does_domain n =
+    does_then (title_at (codes "domain")) (λ name. domain_sections (domain_of name) no_domain) (λ name. Table.DomainSections no_domain ∷ []) nothing domain_form n (reads_title (codes "domain") domain_same n)
+    (does_more n (title_at (codes "domain")) (title_due (codes "domain") domain_same) (Table.DomainSections no_domain ∷ []) (does_title (codes "domain") domain_same n)) (λ name. does_domain_sections (domain_of name) n no_domain)
+
+pub domain_told : (ts : List Token) (e : SyntaxError) → domain_at unlimited ts ≡ Err e → IsTold Domain IsDomain domain_form ts e
+domain_told ts e err =
+    told_fault domain_body reads_domain can_domain domain_form does_domain IsDomain (λ us x is. domain_is us x (domain_whole us ∙ is)) (λ us x is. sym (domain_whole us) ∙ domain_again us x is) ts e (sym (domain_whole ts) ∙ err)
+
+pub domain_table : (ts : List Token) → IsWhole domain_form ts → (x : Domain) × IsDomain ts x
+domain_table = whole_is domain_body reads_domain can_domain domain_form does_domain IsDomain (λ us x is. domain_is us x (domain_whole us ∙ is))
+
+pub domain_in_table : (ts : List Token) (x : Domain) → IsDomain ts x → IsWhole domain_form ts
+domain_in_table = is_whole domain_body reads_domain can_domain domain_form does_domain IsDomain (λ us x is. sym (domain_whole us) ∙ domain_again us x is)
+
+pub told_domain : (ts : List Token) (e : SyntaxError) → IsTold Domain IsDomain domain_form ts e → domain_at unlimited ts ≡ Err e
+told_domain ts e told = domain_whole ts ∙ told_is_read domain_body reads_domain can_domain domain_form does_domain IsDomain ts e told
+
 abbrev problem_of : Name → ProblemParts → Name → List Atom → Problem
 problem_of name all domain goal = record { name = name; domain = domain; objects = or_empty all.objects; init = or_empty all.init; goal = goal }
 
@@ -263,3 +374,21 @@ problem_whole ts =
 pub problem_fault : (ts : List Token) (e : SyntaxError) → problem_at unlimited ts ≡ Err e → IsFault Problem IsProblem ts e
 problem_fault ts e err =
     fault_is problem_body reads_problem can_problem IsProblem (λ us x is. problem_is us x (problem_whole us ∙ is)) (λ us x is. sym (problem_whole us) ∙ problem_again us x is) ts e (sym (problem_whole ts) ∙ err)
+
+does_problem : (n : ℕ) → Does n problem_body nothing problem_form
+does_problem n =
+    does_then (title_at (codes "problem")) (λ name. problem_sections (problem_of name) no_problem) (λ name. Table.ProblemSections no_problem ∷ []) nothing problem_form n (reads_title (codes "problem") problem_same n)
+    (does_more n (title_at (codes "problem")) (title_due (codes "problem") problem_same) (Table.ProblemSections no_problem ∷ []) (does_title (codes "problem") problem_same n)) (λ name. does_problem_sections (problem_of name) n no_problem)
+
+pub problem_told : (ts : List Token) (e : SyntaxError) → problem_at unlimited ts ≡ Err e → IsTold Problem IsProblem problem_form ts e
+problem_told ts e err =
+    told_fault problem_body reads_problem can_problem problem_form does_problem IsProblem (λ us x is. problem_is us x (problem_whole us ∙ is)) (λ us x is. sym (problem_whole us) ∙ problem_again us x is) ts e (sym (problem_whole ts) ∙ err)
+
+pub problem_table : (ts : List Token) → IsWhole problem_form ts → (x : Problem) × IsProblem ts x
+problem_table = whole_is problem_body reads_problem can_problem problem_form does_problem IsProblem (λ us x is. problem_is us x (problem_whole us ∙ is))
+
+pub problem_in_table : (ts : List Token) (x : Problem) → IsProblem ts x → IsWhole problem_form ts
+problem_in_table = is_whole problem_body reads_problem can_problem problem_form does_problem IsProblem (λ us x is. sym (problem_whole us) ∙ problem_again us x is)
+
+pub told_problem : (ts : List Token) (e : SyntaxError) → IsTold Problem IsProblem problem_form ts e → problem_at unlimited ts ≡ Err e
+told_problem ts e told = problem_whole ts ∙ told_is_read problem_body reads_problem can_problem problem_form does_problem IsProblem ts e told

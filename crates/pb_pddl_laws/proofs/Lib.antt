@@ -11,6 +11,7 @@ pub mod FormsRead
 pub mod Whole
 pub mod Readers
 pub mod Loops
+pub mod Following
 pub mod Nesting
 pub mod Rooms
 pub mod Refusals
@@ -27,6 +28,11 @@ pub mod ProblemKeys
 pub mod ActionPlaces
 pub mod DomainPlaces
 pub mod ProblemPlaces
+pub mod Noted
+pub mod ActionFollows
+pub mod DomainFollows
+pub mod ProblemFollows
+pub mod Ends
 pub mod Faults
 pub mod Limits
 pub mod TokensOf

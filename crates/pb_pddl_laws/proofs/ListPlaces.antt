@@ -1,6 +1,7 @@
 -- Lists of names with types: where their reading stops.
-use Rattle.std.proofs.Common.{◌≡◌, ℕ, Bool, true, false, cond, not, ◌&&◌, ◌||◌, ◌==◌, List, [], ◌∷◌, ◌++◌, length, Ok, Err, refl, sym, ap, ◌∙◌}
+use Rattle.std.proofs.Common.{◌≡◌, ℕ, Bool, true, false, cond, not, ◌&&◌, ◌||◌, ◌==◌, List, [], ◌∷◌, ◌++◌, length, Ok, Err, refl, sym, ap, ◌∙◌, suc, arith}
 use Rattle.std.specs.Prelude.{Some, None, if◌then◌else◌}
+use Rattle.std.proofs.lemmas.Bool.Decides.{nat_tests}
 use Rattle.pb_pddl.specs.declared.token.TokenKind.{TokenKind}
 use Rattle.pb_pddl.specs.declared.token.TokenKind.TheVariants as kinds
 use Rattle.pb_pddl.specs.declared.token.Token.{Token}
@@ -21,8 +22,11 @@ use Rattle.pb_pddl_laws.proofs.ListsRead.{Step, step_sound, step_complete}
 use Rattle.pb_pddl_laws.proofs.Readers.{Reads, Can, reads_done, can_done, reads_same, can_same, reads_then, can_then, reads_one, can_one}
 use Rattle.pb_pddl_laws.proofs.Loops.{Takes}
 use Rattle.pb_pddl_laws.proofs.Refusals.{plain, told}
-use Rattle.pb_pddl_laws.proofs.Closing.{or_none, takes_piece, can_closed, reads_closed}
+use Rattle.pb_pddl_laws.proofs.Closing.{or_none, takes_piece, can_closed, reads_closed, does_closed}
 use Rattle.pb_pddl_laws.proofs.ConditionPlaces.{can_either, reads_either, or_last}
+use Rattle.pb_pddl_laws.specs.Table
+use Rattle.pb_pddl_laws.specs.Table.{Symbol, after}
+use Rattle.pb_pddl_laws.proofs.Following.{Does, SamePlace, nothing, does_same, does_done, does_as, does_either, does_then, does_more, does_one}
 
 true_false : true ≡ false → ⊥
 true_false e = cc
@@ -73,6 +77,17 @@ can_type = can_one type_at (λ t us. Ok (name_of t, us)) Places.AType type_no_en
 
 reads_type : (n : ℕ) → Reads Name n type_at
 reads_type n = reads_one type_at (λ t us. Ok (name_of t, us)) Places.AType type_no_end type_misfit type_fit (λ t fit. can_done (name_of t)) can_type n (λ m less t fit. reads_done m (name_of t))
+
+does_type : (n : ℕ) → Does n type_at nothing (Table.TypeName ∷ [])
+does_type n = does_one type_at (λ t us. Ok (name_of t, us)) Places.AType type_no_end type_misfit type_fit Table.TypeName (λ t. (refl, refl)) nothing [] n (λ m less t fit. does_done m nothing (name_of t))
+
+-- a name that waits
+some_waits : (names : List Name) (name : Name) → not (length (names ++ name ∷ []) == 0) ≡ true
+some_waits [] name = refl
+some_waits (other ∷ names) name = not_none (length (names ++ name ∷ []))
+  where
+    not_none : (n : ℕ) → not (suc n == 0) ≡ true
+    not_none n = grind (arith, nat_tests)
 
 dash_close : same_kind kinds.Dash kinds.Close ≡ false
 unfolding same_kind kind_number
@@ -206,6 +221,38 @@ module _ (kind : TokenKind) (want : Want) (some : same_kind kinds.End kind ≡ f
       (reads_closed (begins_group kind) (group_step kind) (λ g. want) all_typed is_part (λ g. Places.MoreNames kind (waits g)) part_is no_part takes_part_of part_no_end part_refused part_last part_end part_close can_part n
       (λ m less g t goes fit. reads_same (λ us. group_step kind g (t ∷ us)) (part_behind g t) (λ us. part_take g t us goes fit) m (reads_behind m g t)) empty)
 
+  module _ (names : Bool → Symbol) (place_is : (w : Bool) → SamePlace (names w) (Places.MoreNames kind w))
+      (after_is : (w : Bool) (t : Token) → after (names w) t ≡ cond (is_kind kind t) (names true ∷ []) (cond (is_kind kinds.Dash t) (Table.TypeName ∷ names false ∷ []) [])) where
+    abbrev due : Group → List Symbol
+    due g = names (waits g) ∷ []
+
+    abbrev typed_due : List Symbol
+    typed_due = Table.TypeName ∷ names false ∷ []
+
+    abbrev emptied : Group → Name → Group
+    emptied g name = record { done = g.done ++ typed (Some name) g.waiting; waiting = [] }
+
+    does_behind : (m : ℕ) (g : Group) (t : Token) → is_part t ≡ true → Does m (part_behind g t) due (after (names (waits g)) t)
+    does_behind m g t goes =
+        does_either (is_kind kind t) m (λ us. Ok (waiting g t, us)) (λ us. type_at us >>= λ p. closed g p.0 p.1) due (after (names (waits g)) t)
+        (λ e. does_as m (λ us. Ok (waiting g t, us)) due (due (waiting g t)) (after (names (waits g)) t)
+        (after_is (waits g) t ∙ ap (λ b. cond b (names true ∷ []) (cond (is_kind kinds.Dash t) typed_due [])) e ∙ ap (λ b. names b ∷ []) (sym (some_waits g.waiting (name_of t)))) (does_done m due (waiting g t)))
+        (λ e. does_as m (λ us. type_at us >>= λ p. closed g p.0 p.1) due typed_due (after (names (waits g)) t)
+        (after_is (waits g) t ∙ ap (λ b. cond b (names true ∷ []) (cond (is_kind kinds.Dash t) typed_due [])) e ∙ ap (λ b. cond b typed_due []) (or_last (is_kind kind t) (is_kind kinds.Dash t) e goes))
+        (does_then type_at (closed g) (λ name. names false ∷ []) due typed_due m (reads_type m) (does_more m type_at (Table.TypeName ∷ []) (names false ∷ []) (does_type m)) (λ name. does_done m due (emptied g name))))
+
+    none_due : (g : Group) (t : Token) → is_part t ≡ false → after (names (waits g)) t ≡ []
+    none_due g t stops =
+        let a = or_none (is_kind kind t) (is_kind kinds.Dash t) stops in
+        after_is (waits g) t ∙ ap (λ b. cond b (names true ∷ []) (cond (is_kind kinds.Dash t) typed_due [])) a.0 ∙ ap (λ b. cond b typed_due []) a.1
+
+    pub does_list : (n : ℕ) → Does n (list_at kind want) nothing (names false ∷ [])
+    does_list n =
+        does_same n (list_at kind want) _ nothing (names false ∷ []) list_is
+        (does_closed (begins_group kind) (group_step kind) (λ g. want) all_typed is_part (λ g. Places.MoreNames kind (waits g)) part_is no_part takes_part_of part_no_end part_refused part_last part_end part_close can_part
+        (λ g. names (waits g)) (λ g. place_is (waits g)) nothing n
+        (λ m less g t goes fit. does_same m (λ us. group_step kind g (t ∷ us)) (part_behind g t) due (after (names (waits g)) t) (λ us. part_take g t us goes fit) (does_behind m g t goes)) (λ g t stops. sym (none_due g t stops)) empty)
+
 word_first : (waits : Bool) → first_fit (Places.MoreNames kinds.Word waits) ≡ wants.Name
 unfolding first_fit takes_section takes_part fits same_kind kind_number
 word_first true = refl
@@ -251,3 +298,9 @@ can_variables = can_list kinds.Variable wants.Variable variable_some variable_no
 
 pub reads_variables : (n : ℕ) → Reads (List Typed) n (list_at kinds.Variable wants.Variable)
 reads_variables = reads_list kinds.Variable wants.Variable variable_some variable_no_dash variable_no_close variable_first
+
+pub does_words : (n : ℕ) → Does n (list_at kinds.Word wants.Name) nothing (Table.Names false false ∷ [])
+does_words = does_list kinds.Word wants.Name word_some word_no_dash word_no_close word_first (Table.Names false) (λ w t. (refl, refl)) (λ w t. refl)
+
+pub does_variables : (n : ℕ) → Does n (list_at kinds.Variable wants.Variable) nothing (Table.Names true false ∷ [])
+does_variables = does_list kinds.Variable wants.Variable variable_some variable_no_dash variable_no_close variable_first (Table.Names true) (λ w t. (refl, refl)) (λ w t. refl)

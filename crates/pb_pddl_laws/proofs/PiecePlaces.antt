@@ -1,5 +1,5 @@
 -- Predicates, the words of requirements and the atoms of a state: where their reading stops.
-use Rattle.std.proofs.Common.{◌≡◌, ℕ, Bool, true, false, ◌||◌, List, [], ◌∷◌, ◌++◌, Result, Ok, Err, refl, sym, ap, ◌∙◌}
+use Rattle.std.proofs.Common.{◌≡◌, ℕ, Bool, true, false, ◌||◌, List, [], ◌∷◌, ◌++◌, Result, Ok, Err, refl, sym, ap, ◌∙◌, cond}
 use Rattle.pb_pddl.specs.declared.token.TokenKind.TheVariants as kinds
 use Rattle.pb_pddl.specs.declared.token.Token.{Token}
 use Rattle.pb_pddl.specs.declared.tree.Name.{Name}
@@ -15,10 +15,13 @@ use Rattle.pb_pddl.specs.Places.{fits, is_kind, sample, takes_section, takes_par
 use Rattle.pb_pddl_laws.proofs.PiecesRead.{predicate_sound, predicate_complete, fact_sound, fact_complete, key_sound, key_complete}
 use Rattle.pb_pddl_laws.proofs.Readers.{Reads, Can, reads_done, can_done, reads_same, can_same, reads_then, can_then}
 use Rattle.pb_pddl_laws.proofs.Loops.{Takes}
-use Rattle.pb_pddl_laws.proofs.Refusals.{plain, need_fit, can_name, reads_name}
-use Rattle.pb_pddl_laws.proofs.Closing.{takes_piece, can_closed, reads_closed, can_forms, reads_forms}
-use Rattle.pb_pddl_laws.proofs.ConditionPlaces.{can_add, reads_add}
-use Rattle.pb_pddl_laws.proofs.ListPlaces.{can_variables, reads_variables}
+use Rattle.pb_pddl_laws.proofs.Refusals.{plain, need_fit, can_name, reads_name, does_name}
+use Rattle.pb_pddl_laws.proofs.Closing.{takes_piece, can_closed, reads_closed, does_closed, can_forms, reads_forms, does_each}
+use Rattle.pb_pddl_laws.proofs.ConditionPlaces.{can_add, reads_add, does_add}
+use Rattle.pb_pddl_laws.proofs.ListPlaces.{can_variables, reads_variables, does_variables}
+use Rattle.pb_pddl_laws.specs.Table
+use Rattle.pb_pddl_laws.specs.Table.{Symbol, after}
+use Rattle.pb_pddl_laws.proofs.Following.{Does, nothing, does_same, does_done, does_as, does_then, does_more}
 
 true_false : true ≡ false → ⊥
 true_false e = cc
@@ -66,6 +69,19 @@ reads_predicates n =
     reads_same predicates_at _ predicates_is n
     (reads_forms add_predicate predicate_behind same takes_predicate predicate_step can_predicate n (λ m less said. reads_name (params_behind said) (can_params said) m (λ l below name. reads_params l said name)) [])
 
+abbrev params_due : List Symbol
+params_due = Table.Names true false ∷ []
+
+does_params : (n : ℕ) (said : List Predicate) (name : Name) → Does n (params_behind said name) nothing params_due
+does_params n said name =
+    does_then (list_at kinds.Variable wants.Variable) (λ params ts. Ok (with_params said name params, ts)) nothing nothing params_due n (reads_variables n) (does_variables n) (λ params. does_done n nothing (with_params said name params))
+
+pub does_predicates : (n : ℕ) → Does n predicates_at nothing (Table.Predicates ∷ [])
+does_predicates n =
+    does_same n predicates_at _ nothing (Table.Predicates ∷ []) predicates_is
+    (does_each add_predicate predicate_behind same takes_predicate predicate_step can_predicate Table.Predicates (Table.AnyName ∷ params_due) (λ t. (refl, refl)) (λ t. refl) n
+    (λ m less said. does_name (params_behind said) (can_params said) nothing params_due m (λ l below name. does_params l said name)) [])
+
 -- ---- the atoms of a state
 
 fact_step : (said : List Atom) (t : Token) (us : List Token) → same_kind t.kind kinds.Open ≡ true → add_fact said (t ∷ us) ≡ add_atom false said us
@@ -84,6 +100,11 @@ can_facts = can_same facts_at _ facts_is (can_forms add_fact (add_atom false) sa
 
 pub reads_facts : (n : ℕ) → Reads (List Atom) n facts_at
 reads_facts n = reads_same facts_at _ facts_is n (reads_forms add_fact (add_atom false) same takes_fact fact_step (can_add false) n (λ m less said. reads_add false m said) [])
+
+pub does_facts : (n : ℕ) → Does n facts_at nothing (Table.Facts ∷ [])
+does_facts n =
+    does_same n facts_at _ nothing (Table.Facts ∷ []) facts_is
+    (does_each add_fact (add_atom false) same takes_fact fact_step (can_add false) Table.Facts (Table.HeadName ∷ Table.Terms false ∷ []) (λ t. (refl, refl)) (λ t. refl) n (λ m less said. does_add false m said) [])
 
 -- ---- the words of requirements, and what they make known
 
@@ -153,3 +174,30 @@ module _ {Y : Type 0} (value : Y) where
       reads_same keys_then _ keys_is n
       (reads_closed begins_key add_key (λ s. wants.Close) (λ s. value) is_key (λ s. Places.MoreKeys) key_is no_key takes_key key_no_end key_refused key_last key_end key_close can_key n
       (λ m less s t e fit. reads_same (λ us. add_key s (t ∷ us)) (λ us. Ok (added s t, us)) (key_step s t) m (reads_done m (added s t))) [])
+
+  keys_go : (t : Token) (v : Bool) → is_key t ≡ v → after Table.Keys t ≡ cond v (Table.Keys ∷ []) []
+  keys_go t v e = ap (λ b. cond b (Table.Keys ∷ []) []) e
+
+  pub does_keys_alone : (n : ℕ) → Does n keys_then nothing (Table.Keys ∷ [])
+  does_keys_alone n =
+      does_same n keys_then _ nothing (Table.Keys ∷ []) keys_is
+      (does_closed begins_key add_key (λ s. wants.Close) (λ s. value) is_key (λ s. Places.MoreKeys) key_is no_key takes_key key_no_end key_refused key_last key_end key_close can_key (λ s. Table.Keys) (λ s t. (refl, refl)) nothing n
+      (λ m less s t e fit. does_as m (λ us. add_key s (t ∷ us)) (λ x. Table.Keys ∷ []) (Table.Keys ∷ []) (after Table.Keys t) (keys_go t true e)
+      (does_same m (λ us. add_key s (t ∷ us)) (λ us. Ok (added s t, us)) (λ x. Table.Keys ∷ []) (Table.Keys ∷ []) (key_step s t) (does_done m (λ x. Table.Keys ∷ []) (added s t)))) (λ s t e. sym (keys_go t false e)) [])
+
+-- what is due behind the value that they make known
+module _ {Y : Type 0} (value : Y) (rest : Y → List Symbol) where
+  abbrev valued : {A : Type 0} → A → List Token → Read A
+  valued x us = Ok (x, us)
+
+  abbrev again : Bool × List Token → Read Y
+  again p = Ok (value, p.1)
+
+  bound : (r : Result (List Token) SyntaxError) → (r >>= valued value) ≡ ((r >>= valued false) >>= again)
+  bound (Ok us) = refl
+  bound (Err e) = refl
+
+  pub does_keys : (n : ℕ) → Does n (keys_then value) rest (Table.Keys ∷ rest value)
+  does_keys n =
+      does_same n (keys_then value) (λ ts. keys_then false ts >>= λ p. Ok (value, p.1)) rest (Table.Keys ∷ rest value) (λ ts. bound (keys_at ts))
+      (does_then (keys_then false) (λ x ts. Ok (value, ts)) (λ x. rest value) rest (Table.Keys ∷ rest value) n (reads_keys false n) (does_more n (keys_then false) (Table.Keys ∷ []) (rest value) (does_keys_alone false n)) (λ x. does_done n rest value))

@@ -37,22 +37,22 @@ true_false : true ≡ false → ⊥
 true_false e = cc
 
 -- a value, behind a )
-abbrev closed : ProblemParts → List Token → Read ProblemParts
+abbrev pub closed : ProblemParts → List Token → Read ProblemParts
 closed value ts = need kinds.Close wants.Close ts >>= λ rest. Ok (value, rest)
 
-can_closed_value : (value : ProblemParts) → Can (closed value)
+pub can_closed_value : (value : ProblemParts) → Can (closed value)
 can_closed_value value = can_close (λ rest. Ok (value, rest)) (can_done value)
 
 reads_closed_value : (n : ℕ) (value : ProblemParts) → Reads ProblemParts n (closed value)
 reads_closed_value n value = reads_close (λ rest. Ok (value, rest)) (can_done value) n (λ m less. reads_done m value)
 
-abbrev problem_with_0 : ProblemParts → Name → ProblemParts
+abbrev pub problem_with_0 : ProblemParts → Name → ProblemParts
 problem_with_0 s x = record { requirements = s.requirements; domain = Some x; objects = s.objects; init = s.init; goal = s.goal }
 
-abbrev problem_body_0 : ProblemParts → List Token → Read ProblemParts
+abbrev pub problem_body_0 : ProblemParts → List Token → Read ProblemParts
 problem_body_0 s = λ us. name_at kinds.Word wants.Name us >>= λ p. closed (problem_with_0 s p.0) p.1
 
-problem_is_0 : (s : ProblemParts) (t : Token) (us : List Token) → is_key (codes ":domain") t ≡ true → is_some s.domain ≡ false → problem_key unlimited s (t ∷ us) ≡ problem_body_0 s us
+pub problem_is_0 : (s : ProblemParts) (t : Token) (us : List Token) → is_key (codes ":domain") t ≡ true → is_some s.domain ≡ false → problem_key unlimited s (t ∷ us) ≡ problem_body_0 s us
 unfolding problem_key domain_name_section problem_requirements objects_section init_section goal_section unlimited spells begins front same_kind kind_number
 problem_is_0 s t us e free = ap (λ (x : Token). problem_key unlimited s (x ∷ us)) (as_key (codes ":domain") t e) ∙ if_false (is_some s.domain) _ _ free
 
@@ -62,10 +62,10 @@ can_problem_0 s = can_name (λ name. closed (problem_with_0 s name)) (λ name. c
 reads_problem_0 : (n : ℕ) (s : ProblemParts) → Reads ProblemParts n (problem_body_0 s)
 reads_problem_0 n s = reads_name (λ name. closed (problem_with_0 s name)) (λ name. can_closed_value (problem_with_0 s name)) n (λ m less name. reads_closed_value m (problem_with_0 s name))
 
-abbrev problem_body_1 : ProblemParts → List Token → Read ProblemParts
+abbrev pub problem_body_1 : ProblemParts → List Token → Read ProblemParts
 problem_body_1 s = keys_then (record { requirements = true; domain = s.domain; objects = s.objects; init = s.init; goal = s.goal })
 
-problem_is_1 : (s : ProblemParts) (t : Token) (us : List Token) → is_key (codes ":requirements") t ≡ true → s.requirements ≡ false → problem_key unlimited s (t ∷ us) ≡ problem_body_1 s us
+pub problem_is_1 : (s : ProblemParts) (t : Token) (us : List Token) → is_key (codes ":requirements") t ≡ true → s.requirements ≡ false → problem_key unlimited s (t ∷ us) ≡ problem_body_1 s us
 unfolding problem_key domain_name_section problem_requirements objects_section init_section goal_section unlimited spells begins front same_kind kind_number
 problem_is_1 s t us e free = ap (λ (x : Token). problem_key unlimited s (x ∷ us)) (as_key (codes ":requirements") t e) ∙ if_false (s.requirements) _ _ free
 
@@ -75,13 +75,13 @@ can_problem_1 s = can_keys (record { requirements = true; domain = s.domain; obj
 reads_problem_1 : (n : ℕ) (s : ProblemParts) → Reads ProblemParts n (problem_body_1 s)
 reads_problem_1 n s = reads_keys (record { requirements = true; domain = s.domain; objects = s.objects; init = s.init; goal = s.goal }) n
 
-abbrev problem_with_2 : ProblemParts → List Typed → ProblemParts
+abbrev pub problem_with_2 : ProblemParts → List Typed → ProblemParts
 problem_with_2 s x = record { requirements = s.requirements; domain = s.domain; objects = Some x; init = s.init; goal = s.goal }
 
-abbrev problem_body_2 : ProblemParts → List Token → Read ProblemParts
+abbrev pub problem_body_2 : ProblemParts → List Token → Read ProblemParts
 problem_body_2 s = λ us. list_at kinds.Word wants.Name us >>= λ p. Ok (problem_with_2 s p.0, p.1)
 
-problem_is_2 : (s : ProblemParts) (t : Token) (us : List Token) → is_key (codes ":objects") t ≡ true → is_some s.objects ≡ false → problem_key unlimited s (t ∷ us) ≡ problem_body_2 s us
+pub problem_is_2 : (s : ProblemParts) (t : Token) (us : List Token) → is_key (codes ":objects") t ≡ true → is_some s.objects ≡ false → problem_key unlimited s (t ∷ us) ≡ problem_body_2 s us
 unfolding problem_key domain_name_section problem_requirements objects_section init_section goal_section unlimited spells begins front same_kind kind_number
 problem_is_2 s t us e free = ap (λ (x : Token). problem_key unlimited s (x ∷ us)) (as_key (codes ":objects") t e) ∙ if_false (is_some s.objects) _ _ free
 
@@ -91,13 +91,13 @@ can_problem_2 s = can_then (list_at kinds.Word wants.Name) (λ x ts. Ok (problem
 reads_problem_2 : (n : ℕ) (s : ProblemParts) → Reads ProblemParts n (problem_body_2 s)
 reads_problem_2 n s = reads_then (list_at kinds.Word wants.Name) (λ x ts. Ok (problem_with_2 s x, ts)) n (reads_words n) (λ x. reads_done n (problem_with_2 s x)) (λ x. can_done (problem_with_2 s x))
 
-abbrev problem_with_3 : ProblemParts → List Atom → ProblemParts
+abbrev pub problem_with_3 : ProblemParts → List Atom → ProblemParts
 problem_with_3 s x = record { requirements = s.requirements; domain = s.domain; objects = s.objects; init = Some x; goal = s.goal }
 
-abbrev problem_body_3 : ProblemParts → List Token → Read ProblemParts
+abbrev pub problem_body_3 : ProblemParts → List Token → Read ProblemParts
 problem_body_3 s = λ us. facts_at us >>= λ p. Ok (problem_with_3 s p.0, p.1)
 
-problem_is_3 : (s : ProblemParts) (t : Token) (us : List Token) → is_key (codes ":init") t ≡ true → is_some s.init ≡ false → problem_key unlimited s (t ∷ us) ≡ problem_body_3 s us
+pub problem_is_3 : (s : ProblemParts) (t : Token) (us : List Token) → is_key (codes ":init") t ≡ true → is_some s.init ≡ false → problem_key unlimited s (t ∷ us) ≡ problem_body_3 s us
 unfolding problem_key domain_name_section problem_requirements objects_section init_section goal_section unlimited spells begins front same_kind kind_number
 problem_is_3 s t us e free = ap (λ (x : Token). problem_key unlimited s (x ∷ us)) (as_key (codes ":init") t e) ∙ if_false (is_some s.init) _ _ free
 
@@ -107,13 +107,13 @@ can_problem_3 s = can_then (facts_at) (λ x ts. Ok (problem_with_3 s x, ts)) (ca
 reads_problem_3 : (n : ℕ) (s : ProblemParts) → Reads ProblemParts n (problem_body_3 s)
 reads_problem_3 n s = reads_then (facts_at) (λ x ts. Ok (problem_with_3 s x, ts)) n (reads_facts n) (λ x. reads_done n (problem_with_3 s x)) (λ x. can_done (problem_with_3 s x))
 
-abbrev problem_with_4 : ProblemParts → List Atom → ProblemParts
+abbrev pub problem_with_4 : ProblemParts → List Atom → ProblemParts
 problem_with_4 s x = record { requirements = s.requirements; domain = s.domain; objects = s.objects; init = s.init; goal = Some x }
 
-abbrev problem_body_4 : ProblemParts → List Token → Read ProblemParts
+abbrev pub problem_body_4 : ProblemParts → List Token → Read ProblemParts
 problem_body_4 s = λ us. any_cond false [] us >>= λ p. closed (problem_with_4 s p.0) p.1
 
-problem_is_4 : (s : ProblemParts) (t : Token) (us : List Token) → is_key (codes ":goal") t ≡ true → is_some s.goal ≡ false → problem_key unlimited s (t ∷ us) ≡ problem_body_4 s us
+pub problem_is_4 : (s : ProblemParts) (t : Token) (us : List Token) → is_key (codes ":goal") t ≡ true → is_some s.goal ≡ false → problem_key unlimited s (t ∷ us) ≡ problem_body_4 s us
 unfolding problem_key domain_name_section problem_requirements objects_section init_section goal_section unlimited spells begins front same_kind kind_number
 problem_is_4 s t us e free = ap (λ (x : Token). problem_key unlimited s (x ∷ us)) (as_key (codes ":goal") t e) ∙ if_false (is_some s.goal) _ _ free
 
@@ -123,7 +123,7 @@ can_problem_4 s = can_then (any_cond false []) (λ x. closed (problem_with_4 s x
 reads_problem_4 : (n : ℕ) (s : ProblemParts) → Reads ProblemParts n (problem_body_4 s)
 reads_problem_4 n s = reads_then (any_cond false []) (λ x. closed (problem_with_4 s x)) n (reads_cond false n []) (λ x. reads_closed_value n (problem_with_4 s x)) (λ x. can_closed_value (problem_with_4 s x))
 
-problem_fit : (s : ProblemParts) (t : Token) → is_kind kinds.Key t ≡ true → fits (Places.AProblemSection s) t ≡ true → (is_key (codes ":domain") t && not (is_some s.domain) || is_key (codes ":requirements") t && not s.requirements || is_key (codes ":objects") t && not (is_some s.objects) || is_key (codes ":init") t && not (is_some s.init) || is_key (codes ":goal") t && not (is_some s.goal)) ≡ true
+pub problem_fit : (s : ProblemParts) (t : Token) → is_kind kinds.Key t ≡ true → fits (Places.AProblemSection s) t ≡ true → (is_key (codes ":domain") t && not (is_some s.domain) || is_key (codes ":requirements") t && not s.requirements || is_key (codes ":objects") t && not (is_some s.objects) || is_key (codes ":init") t && not (is_some s.init) || is_key (codes ":goal") t && not (is_some s.goal)) ≡ true
 unfolding fits
 problem_fit s t key fit = fit
 
@@ -149,11 +149,11 @@ reads_problem_key n s t key fit =
 
 -- ---- the keyword of a section
 
-problem_no_end : (s : ProblemParts) → fits (Places.AProblemSection s) no_token ≡ false
+pub problem_no_end : (s : ProblemParts) → fits (Places.AProblemSection s) no_token ≡ false
 unfolding fits same_kind kind_number
 problem_no_end s = refl
 
-problem_first : (s : ProblemParts) → first_fit (Places.AProblemSection s) ≡ wants.Section
+pub problem_first : (s : ProblemParts) → first_fit (Places.AProblemSection s) ≡ wants.Section
 unfolding first_fit takes_section fits same_kind kind_number
 problem_first s = refl
 
@@ -176,10 +176,10 @@ unfolding front
 problem_keyed s [] key misfit = absurd (true_false (sym key ∙ no_key))
 problem_keyed s (t ∷ us) key misfit = problem_key_refused s t us key misfit
 
-problem_misfit : (s : ProblemParts) (ts : List Token) → fits (Places.AProblemSection s) (front ts) ≡ false → problem_key unlimited s ts ≡ Err (refused (Places.AProblemSection s) (front ts))
+pub problem_misfit : (s : ProblemParts) (ts : List Token) → fits (Places.AProblemSection s) (front ts) ≡ false → problem_key unlimited s ts ≡ Err (refused (Places.AProblemSection s) (front ts))
 problem_misfit s ts misfit = decide (is_kind kinds.Key (front ts)) (λ key. problem_keyed s ts key misfit) (λ other. problem_other s ts other ∙ ap (λ (e : SyntaxError). Err e) (sym (problem_plain s (front ts) other)))
 
-problem_is_key : (s : ProblemParts) (t : Token) → fits (Places.AProblemSection s) t ≡ true → is_kind kinds.Key t ≡ true
+pub problem_is_key : (s : ProblemParts) (t : Token) → fits (Places.AProblemSection s) t ≡ true → is_kind kinds.Key t ≡ true
 unfolding fits
 problem_is_key s t fit =
     decide (is_kind kinds.Key t) (λ key. key) (λ other. absurd (true_false (sym fit ∙ ap (λ b. b && bytes_eq t.text (codes ":domain") && not (is_some s.domain) || b && bytes_eq t.text (codes ":requirements") && not s.requirements || b && bytes_eq t.text (codes ":objects") && not (is_some s.objects) || b && bytes_eq t.text (codes ":init") && not (is_some s.init) || b && bytes_eq t.text (codes ":goal") && not (is_some s.goal)) other)))
@@ -219,7 +219,7 @@ some_free s open_still =
       all_of_them a b c d e pa pb pc pd pe =
           ap (λ x. x && b && c && d && e) pa ∙ ap (λ x. x && c && d && e) pb ∙ ap (λ x. x && d && e) pc ∙ ap (λ x. x && e) pd ∙ pe
 
-problem_take : (s : ProblemParts) (t : Token) (us : List Token) → fits (Places.AProblemSection s) t ≡ true → problem_key unlimited s (t ∷ us) ≡ problem_key unlimited s (t ∷ us)
+pub problem_take : (s : ProblemParts) (t : Token) (us : List Token) → fits (Places.AProblemSection s) t ≡ true → problem_key unlimited s (t ∷ us) ≡ problem_key unlimited s (t ∷ us)
 problem_take s t us fit = refl
 
 can_at_key : (s : ProblemParts) (t : Token) → fits (Places.AProblemSection s) t ≡ true → Can (λ us. problem_key unlimited s (t ∷ us))
@@ -237,22 +237,22 @@ reads_problem_section n s open_still =
 
 -- ---- the sections of a problem and the )
 
-abbrev section_test : Token → Bool
+abbrev pub section_test : Token → Bool
 section_test t = is_kind kinds.Open t
 
-section_more : (ts : List Token) → begins_open ts ≡ section_test (front ts)
+pub section_more : (ts : List Token) → begins_open ts ≡ section_test (front ts)
 unfolding begins
 section_more ts = refl
 
-no_section_more : begins_open [] ≡ false
+pub no_section_more : begins_open [] ≡ false
 unfolding begins front same_kind kind_number
 no_section_more = refl
 
-section_no_end : (s : ProblemParts) → fits (Places.MoreSections s) no_token ≡ false
+pub section_no_end : (s : ProblemParts) → fits (Places.MoreSections s) no_token ≡ false
 unfolding fits same_kind kind_number
 section_no_end s = refl
 
-sections_first : (s : ProblemParts) → first_fit (Places.MoreSections s) ≡ sections_want s
+pub sections_first : (s : ProblemParts) → first_fit (Places.MoreSections s) ≡ sections_want s
 unfolding first_fit takes_section takes_part fits same_kind kind_number sections_want
 sections_first s = either (stood_all s) where
   either : (b : Bool) → (if not b || false then wants.Paren else wants.Close) ≡ (if b then wants.Close else wants.Paren)
@@ -310,14 +310,14 @@ section_step s t us goes fit =
 can_section : (s : ProblemParts) (t : Token) → section_test t ≡ true → fits (Places.MoreSections s) t ≡ true → Can (λ us. problem_section unlimited s (t ∷ us))
 can_section s t goes fit = can_same (λ us. problem_section unlimited s (t ∷ us)) (problem_key unlimited s) (λ us. section_step s t us goes fit) (can_problem_section s (not_all s t goes fit))
 
-takes_section_of : Takes begins_open (problem_section unlimited)
+pub takes_section_of : Takes begins_open (problem_section unlimited)
 takes_section_of = takes_piece begins_open (problem_section unlimited) IsProblemSection problem_sound problem_complete
 
 end_no_close : same_kind kinds.End kinds.Close ≡ false
 unfolding same_kind kind_number
 end_no_close = refl
 
-some_is : {A : Type 0} (o : Option A) → is_some o ≡ true → (x : A) × (o ≡ Some x)
+pub some_is : {A : Type 0} (o : Option A) → is_some o ≡ true → (x : A) × (o ≡ Some x)
 some_is None e = absurd cc
 some_is (Some x) e = (x, refl)
 
@@ -400,20 +400,20 @@ module _ {Y : Type 0} (value : ProblemParts → Name → List Atom → Y) where
       ap (λ (r : Result (List Token) SyntaxError). r >>= λ rest. end_with s (t ∷ us) rest s.domain s.goal) (need_fit kinds.Close (sections_want s) t us close)
       ∙ lacking s (t ∷ us) us s.domain s.goal e ∙ ap (λ (x : SyntaxError). Err x) (sym (missing_refused s t close))
 
-  end_misfit : (s : ProblemParts) (ts : List Token) → section_test (front ts) ≡ false → fits (Places.MoreSections s) (front ts) ≡ false → sections_end s ts ≡ Err (refused (Places.MoreSections s) (front ts))
+  pub end_misfit : (s : ProblemParts) (ts : List Token) → section_test (front ts) ≡ false → fits (Places.MoreSections s) (front ts) ≡ false → sections_end s ts ≡ Err (refused (Places.MoreSections s) (front ts))
   end_misfit s ts last misfit =
       decide (is_kind kinds.Close (front ts))
       (λ close. lacks s ts close (ap (λ b. b && is_some s.domain && is_some s.goal) (sym close) ∙ sym (close_fits s (front ts) last) ∙ misfit))
       (λ other. ap (λ (r : Result (List Token) SyntaxError). r >>= λ rest. end_with s ts rest s.domain s.goal) (need_misfit kinds.Close (sections_want s) ts other ∙ ap (λ (e : SyntaxError). Err e) (sym (section_plain s (front ts) other))))
 
-  end_is : (s : ProblemParts) (t : Token) (us : List Token) (d : Name) (g : List Atom) → is_kind kinds.Close t ≡ true → s.domain ≡ Some d → s.goal ≡ Some g → sections_end s (t ∷ us) ≡ Ok (value s d g, us)
+  pub end_is : (s : ProblemParts) (t : Token) (us : List Token) (d : Name) (g : List Atom) → is_kind kinds.Close t ≡ true → s.domain ≡ Some d → s.goal ≡ Some g → sections_end s (t ∷ us) ≡ Ok (value s d g, us)
   unfolding there
   end_is s t us d g close domain_is goal_is =
       ap (λ (r : Result (List Token) SyntaxError). r >>= λ rest. end_with s (t ∷ us) rest s.domain s.goal) (need_fit kinds.Close (sections_want s) t us close)
       ∙ ap (λ (o : Option Name). end_with s (t ∷ us) us o s.goal) domain_is ∙ ap (λ (o : Option (List Atom)). end_with s (t ∷ us) us (Some d) o) goal_is
 
   -- where the ) fits, both stood
-  both_stood : (s : ProblemParts) (t : Token) → section_test t ≡ false → fits (Places.MoreSections s) t ≡ true → (is_kind kinds.Close t ≡ true) × (is_some s.domain ≡ true) × (is_some s.goal ≡ true)
+  pub both_stood : (s : ProblemParts) (t : Token) → section_test t ≡ false → fits (Places.MoreSections s) t ≡ true → (is_kind kinds.Close t ≡ true) × (is_some s.domain ≡ true) × (is_some s.goal ≡ true)
   both_stood s t last fit =
       let a = and_both (is_kind kinds.Close t && is_some s.domain) (is_some s.goal) (sym (close_fits s t last) ∙ fit) in
       let b = and_both (is_kind kinds.Close t) (is_some s.domain) a.0 in

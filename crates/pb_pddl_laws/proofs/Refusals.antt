@@ -16,6 +16,9 @@ use Rattle.pb_pddl.specs.Reading.{◌>>=◌, Read, kind_number, same_kind, front
 use Rattle.pb_pddl.specs.Places
 use Rattle.pb_pddl.specs.Places.{Place, fits, is_word, is_head, sample, takes_section, takes_part, first_fit, reserved_head, left_out, wanted, refused_token, refused}
 use Rattle.pb_pddl_laws.proofs.Readers.{Reads, Can, reads_one, can_one}
+use Rattle.pb_pddl_laws.specs.Table
+use Rattle.pb_pddl_laws.specs.Table.{Symbol, after}
+use Rattle.pb_pddl_laws.proofs.Following.{Does, does_one}
 
 -- the error of what is left out, or of what must stand
 abbrev pub told : Option LeftOut → ℕ → Want → SyntaxError
@@ -25,7 +28,7 @@ head_told : (b : Bool) (at : ℕ) (want : Want) → told (if b then Some left.He
 head_told true at want = refl
 head_told false at want = refl
 
-abbrev by_kind : Token → SyntaxError → SyntaxError
+abbrev pub by_kind : Token → SyntaxError → SyntaxError
 by_kind t other = elim t.kind [
   | kinds.Byte ↦ errors.Byte t.at
   | kinds.Deep ↦ errors.Deep t.at
@@ -38,6 +41,12 @@ pub plain : (place : Place) (t : Token) (want : Want) → refused_token place t 
 unfolding refused refusal
 plain place t want is head wants_it =
     ap (by_kind t) (is ∙ ap (λ (x : Option LeftOut). told x t.at (wanted place t)) head ∙ ap (told (reserved_head t) t.at) wants_it ∙ head_told (t.head && is_reserved t.text) t.at want)
+
+-- two places that leave out the same and want the same
+pub told_same : (a b : Place) (t : Token) → refused_token a t ≡ told (left_out a t) t.at (wanted a t) → refused_token b t ≡ told (left_out b t) t.at (wanted b t) → left_out a t ≡ left_out b t → wanted a t ≡ wanted b t → refused a t ≡ refused b t
+unfolding refused
+told_same a b t is_a is_b lefts wants_same =
+    ap (by_kind t) (is_a ∙ ap (λ (x : Option LeftOut). told x t.at (wanted a t)) lefts ∙ ap (told (left_out b t) t.at) wants_same ∙ sym is_b)
 
 -- ---- one token, and what is read of it
 
@@ -123,6 +132,9 @@ module _ {X : Type 0} (h : List Token → Read X) (can : Can h) where
   pub reads_open : (n : ℕ) → ((m : ℕ) → m < n → Reads X m h) → Reads X n (λ ts. need kinds.Open wants.Paren ts >>= h)
   reads_open n r = reads_one (λ ts. need kinds.Open wants.Paren ts >>= h) (λ t. h) Places.AnOpen open_no_end open_misfit open_fit (λ t fit. can) can_open n (λ m less t fit. r m less)
 
+  pub does_open : (rest : X → List Symbol) (symbols : List Symbol) (n : ℕ) → ((m : ℕ) → m < n → Does m h rest symbols) → Does n (λ ts. need kinds.Open wants.Paren ts >>= h) rest (Table.Opening ∷ symbols)
+  does_open rest symbols n d = does_one (λ ts. need kinds.Open wants.Paren ts >>= h) (λ t. h) Places.AnOpen open_no_end open_misfit open_fit Table.Opening (λ t. (refl, refl)) rest symbols n (λ m less t fit. d m less)
+
   close_no_end : fits Places.AClose no_token ≡ false
   unfolding fits same_kind kind_number
   close_no_end = refl
@@ -144,6 +156,9 @@ module _ {X : Type 0} (h : List Token → Read X) (can : Can h) where
 
   pub reads_close : (n : ℕ) → ((m : ℕ) → m < n → Reads X m h) → Reads X n (λ ts. need kinds.Close wants.Close ts >>= h)
   reads_close n r = reads_one (λ ts. need kinds.Close wants.Close ts >>= h) (λ t. h) Places.AClose close_no_end close_misfit close_fit (λ t fit. can) can_close n (λ m less t fit. r m less)
+
+  pub does_close : (rest : X → List Symbol) (symbols : List Symbol) (n : ℕ) → ((m : ℕ) → m < n → Does m h rest symbols) → Does n (λ ts. need kinds.Close wants.Close ts >>= h) rest (Table.Closing ∷ symbols)
+  does_close rest symbols n d = does_one (λ ts. need kinds.Close wants.Close ts >>= h) (λ t. h) Places.AClose close_no_end close_misfit close_fit Table.Closing (λ t. (refl, refl)) rest symbols n (λ m less t fit. d m less)
 
   -- a word of this text
   module _ (text : List ℕ) (same : bytes_eq text text ≡ true) where
@@ -172,6 +187,9 @@ module _ {X : Type 0} (h : List Token → Read X) (can : Can h) where
     pub reads_word : (n : ℕ) → ((m : ℕ) → m < n → Reads X m h) → Reads X n (λ ts. need_word text ts >>= h)
     reads_word n r = reads_one (λ ts. need_word text ts >>= h) (λ t. h) (Places.TheWord text) word_no_end this_misfit this_fit (λ t fit. can) can_word n (λ m less t fit. r m less)
 
+    pub does_word : (rest : X → List Symbol) (symbols : List Symbol) (n : ℕ) → ((m : ℕ) → m < n → Does m h rest symbols) → Does n (λ ts. need_word text ts >>= h) rest (Table.ThisWord text ∷ symbols)
+    does_word rest symbols n d = does_one (λ ts. need_word text ts >>= h) (λ t. h) (Places.TheWord text) word_no_end this_misfit this_fit (Table.ThisWord text) (λ t. (refl, refl)) rest symbols n (λ m less t fit. d m less)
+
 module _ {X : Type 0} (h : Name → List Token → Read X) (can : (name : Name) → Can (h name)) where
   abbrev named : List Token → Read X
   named ts = name_at kinds.Word wants.Name ts >>= λ p. h p.0 p.1
@@ -197,6 +215,9 @@ module _ {X : Type 0} (h : Name → List Token → Read X) (can : (name : Name) 
 
   pub reads_name : (n : ℕ) → ((m : ℕ) → m < n → (name : Name) → Reads X m (h name)) → Reads X n named
   reads_name n r = reads_one named (λ t. h (name_of t)) Places.AName name_no_end a_name_misfit a_name_fit (λ t fit. can (name_of t)) can_name n (λ m less t fit. r m less (name_of t))
+
+  pub does_name : (rest : X → List Symbol) (symbols : List Symbol) (n : ℕ) → ((m : ℕ) → m < n → (name : Name) → Does m (h name) rest symbols) → Does n (λ ts. name_at kinds.Word wants.Name ts >>= λ p. h p.0 p.1) rest (Table.AnyName ∷ symbols)
+  does_name rest symbols n d = does_one named (λ t. h (name_of t)) Places.AName name_no_end a_name_misfit a_name_fit Table.AnyName (λ t. (refl, refl)) rest symbols n (λ m less t fit. d m less (name_of t))
 
   abbrev headed : List Token → Read X
   headed ts = head_at ts >>= λ p. h p.0 p.1
@@ -225,3 +246,6 @@ module _ {X : Type 0} (h : Name → List Token → Read X) (can : (name : Name) 
 
   pub reads_head : (n : ℕ) → ((m : ℕ) → m < n → (name : Name) → Reads X m (h name)) → Reads X n headed
   reads_head n r = reads_one headed (λ t. h (name_of t)) Places.AHead head_no_end a_head_misfit (λ t us fit. a_head_fit t us (fits_head t fit)) (λ t fit. can (name_of t)) can_head n (λ m less t fit. r m less (name_of t))
+
+  pub does_head : (rest : X → List Symbol) (symbols : List Symbol) (n : ℕ) → ((m : ℕ) → m < n → (name : Name) → Does m (h name) rest symbols) → Does n (λ ts. head_at ts >>= λ p. h p.0 p.1) rest (Table.HeadName ∷ symbols)
+  does_head rest symbols n d = does_one headed (λ t. h (name_of t)) Places.AHead head_no_end a_head_misfit (λ t us fit. a_head_fit t us (fits_head t fit)) Table.HeadName (λ t. (refl, refl)) rest symbols n (λ m less t fit. d m less (name_of t))

@@ -8,6 +8,7 @@ use Rattle.pb_pddl.specs.Tokens.{TextTokens}
 use Rattle.pb_pddl.specs.Reading.{Gives}
 use Rattle.pb_pddl.specs.Places.{IsFault}
 use Rattle.pb_pddl.specs.Trees.{IsRead, FirstFault}
+use Rattle.pb_pddl_laws.specs.Table.{Symbol, IsTold, ToldFault}
 
 abbrev fails : {X : Type 0} → SyntaxError → Result X SyntaxError
 fails e = Err e
@@ -35,3 +36,11 @@ module _ {X : Type 0} (reading : List Token → Result X SyntaxError) (Is : List
   pub first : (r : Result X SyntaxError) → ((ts : List Token) (e : SyntaxError) → reading ts ≡ Err e → IsFault X Is ts e) → IsRead reading text r → IfErr r (λ e. e ≢ errors.Memory → FirstFault X Is text e)
   first (Ok x) fault is = tt
   first (Err e) fault is = λ some. let u = is some in (u.0, u.1, fault u.0 e u.2)
+
+  pub told : (whole : List Symbol) (r : Result X SyntaxError) → ((ts : List Token) (e : SyntaxError) → reading ts ≡ Err e → IsTold X Is whole ts e) → IsRead reading text r → IfErr r (λ e. e ≢ errors.Memory → ToldFault X Is whole text e)
+  told whole (Ok x) tells is = tt
+  told whole (Err e) tells is = λ some. let u = is some in (u.0, u.1, tells u.0 e u.2)
+
+  pub fault : (whole : List Symbol) (r : Result X SyntaxError) → ((ts : List Token) (e : SyntaxError) → IsTold X Is whole ts e → reading ts ≡ Err e) → ((ts : List Token) → TextTokens text ts → Gives (λ y. y) r (reading ts))
+      → (e : SyntaxError) → ToldFault X Is whole text e → Gives (λ y. y) r (Err e)
+  fault whole r read all e (ts, are, is) = subst (λ (q : Result X SyntaxError). Gives (λ y. y) r q) (read ts e is) (all ts are)

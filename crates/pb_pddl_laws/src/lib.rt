@@ -12,6 +12,7 @@ ghost use Rattle.pb_pddl.specs.Tokens.{TextTokens};
 ghost use Rattle.pb_pddl.specs.Reading.{limited, unlimited, domain_at, problem_at};
 ghost use Rattle.pb_pddl.specs.Grammar.{IsDomain, IsProblem};
 ghost use Rattle.pb_pddl.specs.Places.{IsFault};
+ghost use Rattle.pb_pddl_laws.specs.Table.{Symbol, Leads, IsWhole, IsTold, domain_form, problem_form};
 ghost use Rattle.pb_pddl.specs.Trees.{SpellsDomain, SpellsProblem};
 ghost use Rattle.pb_pddl.specs.Readings.{tokens_of};
 ghost use Rattle.pb_pddl.specs.Words.{DomainHasWords, ProblemHasWords};
@@ -33,6 +34,31 @@ pub fn problem_reading_is_exact()
 pub fn error_is_first()
     ensures domain { (ts : List Token) (e : SyntaxError) → domain_at unlimited ts ≡ Err e → IsFault Domain IsDomain ts e }
     ensures problem { (ts : List Token) (e : SyntaxError) → problem_at unlimited ts ≡ Err e → IsFault Problem IsProblem ts e }
+{}
+
+/// A law: the tokens before a place fix the place, since they fix what is due.
+pub fn place_is_one()
+    ensures { (whole : List Symbol) (before : List Token) (due other : List Symbol) → Leads whole before due → Leads whole before other → due ≡ other }
+{}
+
+/// A law: the table has the whole forms that the grammar has.
+pub fn table_is_the_grammar()
+    ensures domain { (ts : List Token) → IsWhole domain_form ts → (domain : Domain) × IsDomain ts domain }
+    ensures problem { (ts : List Token) → IsWhole problem_form ts → (problem : Problem) × IsProblem ts problem }
+    ensures domain_whole { (ts : List Token) (domain : Domain) → IsDomain ts domain → IsWhole domain_form ts }
+    ensures problem_whole { (ts : List Token) (problem : Problem) → IsProblem ts problem → IsWhole problem_form ts }
+{}
+
+/// A law: the error of tokens that are refused is told by the only place that the tokens before it lead to.
+pub fn error_is_told()
+    ensures domain { (ts : List Token) (e : SyntaxError) → domain_at unlimited ts ≡ Err e → IsTold Domain IsDomain domain_form ts e }
+    ensures problem { (ts : List Token) (e : SyntaxError) → problem_at unlimited ts ≡ Err e → IsTold Problem IsProblem problem_form ts e }
+{}
+
+/// A law: no other error is told of tokens than the one that reading them gives. So there is one error at most.
+pub fn told_error_is_read()
+    ensures domain { (ts : List Token) (e : SyntaxError) → IsTold Domain IsDomain domain_form ts e → domain_at unlimited ts ≡ Err e }
+    ensures problem { (ts : List Token) (e : SyntaxError) → IsTold Problem IsProblem problem_form ts e → problem_at unlimited ts ≡ Err e }
 {}
 
 /// A law: in the tokens of a text a `(` that is too deep is refused before the limit on recursion could decide, so what

@@ -6,6 +6,3 @@ mod text;
 
 pub use piece::Piece;
 pub use text::{push_line, push_number, push_text};
-
-#[cfg(test)]
-mod tests;

@@ -6,6 +6,3 @@ mod report;
 mod words;
 
 pub use report::Report;
-
-#[cfg(test)]
-mod tests;

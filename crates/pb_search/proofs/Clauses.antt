@@ -88,7 +88,7 @@ module _ (parts : TaskParts) (abstraction : AbstractGraph) (settings : Settings)
     finest = finest;
     machine = h.machine;
     run = h.run;
-    alone = h.alone;
+    ordered = h.ordered;
     lawful = lawful;
     end_is = is;
     finished = h.finished;

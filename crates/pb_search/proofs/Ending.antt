@@ -1,5 +1,5 @@
 -- A search from its opening to its end: by one worker, and by several.
-use Rattle.std.proofs.Common.{◌≡◌, ◌<◌, true, false, None, Some, is_some, IsSome, Option, List, ◌++◌, ◌⊎◌, inl, inr, refl, sym, ap, ◌∙◌, subst, arith}
+use Rattle.std.proofs.Common.{◌≡◌, true, false, None, Some, is_some, IsSome, Option, List, ◌++◌, ◌⊎◌, inl, inr, refl, sym, ap, ◌∙◌, subst, arith}
 use Rattle.pb_machine.specs.declared.event.Event.{Event}
 use Rattle.pb_machine.specs.declared.event.End.{End}
 use Rattle.pb_machine.specs.declared.event.End.TheVariants.{Quiet, Budget}
@@ -8,18 +8,17 @@ use Rattle.pb_machine.specs.Counts.{Counts, opening_counts, is_any_out}
 use Rattle.pb_machine.specs.History.{AreFinished}
 use Rattle.pb_machine.specs.Machine.{Setup, journal_of, opening_machine}
 use Rattle.pb_machine.proofs.TableLaws.{any_false}
-use Rattle.pb_machine.proofs.LeaseTurns.{ordered_runs_are_runs}
 use Rattle.pb_task.specs.declared.parts.TaskParts.{TaskParts}
 use Rattle.pb_abstract.specs.Graph.{AbstractGraph}
 use Rattle.pb_lease.specs.GraphValue.{GraphValue, setup_in, counts_in, IsLeaseGraph}
 use Rattle.pb_lease.specs.Choices.{is_out_in}
 use Rattle.pb_workers.specs.Runs.{IsSameSearch, IsAnyMoment, RunsOn}
 use Rattle.pb_workers.specs.Teams.{KeepsSearch}
-use Rattle.pb_workers.proofs.Going.{alone_is_in_order}
 use Rattle.pb_yard.specs.declared.view.View.{View}
 use Rattle.pb_yard.specs.Views.{opening_view}
 use Rattle.pb_yard.specs.Calls.{IsClosed}
-use Rattle.pb_search.specs.Ends.{search_of, Leads, LeadsAlone}
+use Rattle.pb_yard.proofs.InTime.{in_time_is_run}
+use Rattle.pb_search.specs.Ends.{search_of, LeadsInTime}
 use Rattle.pb_search.specs.Searched.{Opens, HasSearched}
 
 -- the search ended, quietly or by its budget
@@ -62,7 +61,7 @@ module _ (parts : TaskParts) (abstraction : AbstractGraph) (settings : Settings)
     alone_searched lawful runs home off ended =
         let last = runs (λ worker home state. None) (opening_machine (setup_in old)) (opens.opening.moment (λ worker home state. None)) in
         let to = last.1 in
-        let run : LeadsAlone setup to.moves last.0 = subst (λ (s : Setup). LeadsAlone s to.moves last.0) old_setup to.run in
+        let run : LeadsInTime setup to.moves last.0 = subst (λ (s : Setup). LeadsInTime s to.moves last.0) old_setup to.run in
         record {
           task = same.task ∙ opens.task;
           graph_is = same.graph ∙ opens.graph_is;
@@ -73,15 +72,15 @@ module _ (parts : TaskParts) (abstraction : AbstractGraph) (settings : Settings)
           moves = to.moves;
           journal = to.events ∙ ap (λ (j : List Event). j ++ journal_of to.moves) opens.opening.empty;
           machine = last.0;
-          run = ordered_runs_are_runs setup to.moves (opening_machine setup) last.0 (alone_is_in_order setup to.moves (opening_machine setup) last.0 run);
-          alone = λ one. run;
+          run = in_time_is_run setup to.moves (opening_machine setup) last.0 run;
+          ordered = run;
           recorded = λ worker home state. None;
           moment = to.moment;
           finished = all_off last.0.counts to.moment.at.counts off ended;
         }
 
   -- several workers whose yard was closed
-  module _ (view : View) (keeps : KeepsSearch (opening_view old) view) (new : GraphValue) (closed : IsClosed view new) (several : 1 < settings.workers) where
+  module _ (view : View) (keeps : KeepsSearch (opening_view old) view) (new : GraphValue) (closed : IsClosed view new) where
     task : new.task ≡ parts
     task = sym closed.search.task ∙ keeps.task ∙ opens.task
 
@@ -97,6 +96,7 @@ module _ (parts : TaskParts) (abstraction : AbstractGraph) (settings : Settings)
     pub yard_searched : IsLeaseGraph new → HasEnded new → HasSearched parts abstraction settings new
     yard_searched lawful ended =
         let moment = closed.moment (λ worker home state. None) in
+        let run : LeadsInTime setup closed.moves closed.machine = subst (λ (s : Setup). LeadsInTime s closed.moves closed.machine) new_setup closed.run in
         record {
           task = task;
           graph_is = graph;
@@ -107,8 +107,8 @@ module _ (parts : TaskParts) (abstraction : AbstractGraph) (settings : Settings)
           moves = closed.moves;
           journal = sym closed.journal;
           machine = closed.machine;
-          run = subst (λ (s : Setup). Leads s closed.moves closed.machine) new_setup closed.run;
-          alone = λ one. absurd (omega (arith, one, several));
+          run = in_time_is_run setup closed.moves (opening_machine setup) closed.machine run;
+          ordered = run;
           recorded = λ worker home state. None;
           moment = moment;
           finished = subst (λ (c : Counts). AreFinished settings c) (sym moment.at.counts)

@@ -19,7 +19,7 @@ use Rattle.pb_abstract.specs.Graph.{AbstractGraph, blocks_of, IsGraphOf}
 use Rattle.pb_lease.specs.Leased.{guide_of, setup_of}
 use Rattle.pb_lease.specs.GraphValue.{GraphValue}
 use Rattle.pb_lease.specs.Choices.{is_out_in}
-use Rattle.pb_workers.specs.Runs.{RunsAlone}
+use Rattle.pb_yard.specs.Order.{RunsInTime}
 use Rattle.pb_workers.specs.Ends.{home_store, IsBestEnd}
 
 -- ---- the rows at a quiet end
@@ -49,9 +49,11 @@ search_of parts graph settings = setup_of parts graph settings 0
 abbrev pub Leads : Setup → List Move → Machine → Type 0
 Leads setup moves machine = Runs setup (opening_machine setup) moves machine
 
--- the same as the run of a worker that searches alone
-abbrev pub LeadsAlone : Setup → List Move → Machine → Type 0
-LeadsAlone setup moves machine = RunsAlone setup (opening_machine setup) moves machine
+-- The same, in order and in time: each lease is of the first choice at that moment, and with the
+-- incumbent of the whole store; its worker takes the first Opened row of its block again and again;
+-- and it goes on, or comes back, with a cause.
+abbrev pub LeadsInTime : Setup → List Move → Machine → Type 0
+LeadsInTime setup moves machine = RunsInTime setup (opening_machine setup) moves machine
 
 -- this work leads from the start's row alone, at the weight of the settings, to this store
 abbrev pub ComesFromStart : TaskParts → AbstractGraph → Settings → List Work → Store → Type 0
@@ -72,10 +74,10 @@ HasEndedSo Memory settings store expanded = ⊥
 -- A search by leases of this task, with these settings, came to this end by these moves: over the
 -- finest abstract graph of the task that has no more blocks than are wished for, they lead from the
 -- machine that has the start's row alone to a lawful one, whose end is that, and where every worker
--- has signed off. So their events are a finished legal history. With one worker the moves are those
--- of a worker that searches alone: in order and in time, each lease with the incumbent of the whole
--- store. Expansions, none of them broken off, lead from the start's row alone to the rows of that
--- machine, as the end says.
+-- has signed off. So their events are a finished legal history. Whatever the number of workers, the
+-- moves are in order and in time: each lease is of the first choice at its moment, with the
+-- incumbent of the whole store. Expansions, none of them broken off, lead from the start's row alone
+-- to the rows of that machine, as the end says.
 pub record EndsBy (parts : TaskParts) (settings : Settings) (end : End) (moves : List Move)
     : Type 0 where
   pub graph : AbstractGraph
@@ -83,7 +85,7 @@ pub record EndsBy (parts : TaskParts) (settings : Settings) (end : End) (moves :
   pub finest : IsFinest parts settings.wish graph.projection
   pub machine : Machine
   pub run : Leads (search_of parts graph settings) moves machine
-  pub alone : settings.workers ≡ 1 → LeadsAlone (search_of parts graph settings) moves machine
+  pub ordered : LeadsInTime (search_of parts graph settings) moves machine
   pub lawful : IsLawful (search_of parts graph settings) machine
   pub end_is : machine.counts.end ≡ Some end
   pub finished : AreFinished settings machine.counts

@@ -12,7 +12,7 @@ use Rattle.pb_lease.specs.GraphValue.{GraphValue, counts_in, IsLeaseGraph}
 use Rattle.pb_lease.specs.Choices.{is_out_in}
 use Rattle.pb_lease.specs.Moments.{IsMoment}
 use Rattle.pb_yard.specs.Calls.{IsOpening}
-use Rattle.pb_search.specs.Ends.{search_of, Leads, LeadsAlone}
+use Rattle.pb_search.specs.Ends.{search_of, Leads, LeadsInTime}
 
 -- the graph is that of a search of this task by this abstract graph, with these settings, that
 -- begins: the start alone has a row
@@ -27,7 +27,7 @@ pub record Opens (parts : TaskParts) (abstraction : AbstractGraph) (settings : S
 -- The graph is what a search of this task by this abstract graph, with these settings, came to,
 -- quietly or by its budget. Moves from the machine that has the start's row alone lead to one that
 -- the graph is a moment of, where every worker has signed off; their events are the graph's journal.
--- With one worker they are the run of a worker that searches alone. No lease is out.
+-- They are in order and in time. No lease is out.
 pub record HasSearched (parts : TaskParts) (abstraction : AbstractGraph) (settings : Settings)
     (graph : GraphValue) : Type 0 where
   pub task : graph.task ≡ parts
@@ -40,7 +40,7 @@ pub record HasSearched (parts : TaskParts) (abstraction : AbstractGraph) (settin
   pub journal : graph.table.journal ≡ journal_of moves
   pub machine : Machine
   pub run : Leads (search_of parts abstraction settings) moves machine
-  pub alone : settings.workers ≡ 1 → LeadsAlone (search_of parts abstraction settings) moves machine
+  pub ordered : LeadsInTime (search_of parts abstraction settings) moves machine
   pub recorded : (worker : ℕ) → Rows
   pub moment : IsMoment graph recorded machine
   pub finished : AreFinished settings machine.counts

@@ -8,6 +8,3 @@ mod searching;
 mod together;
 
 pub use searching::search;
-
-#[cfg(test)]
-mod tests;

@@ -14,3 +14,4 @@ pub mod DifferentRows
 pub mod Texts
 pub mod Telling
 pub mod Printed
+pub mod Never

@@ -1,5 +1,5 @@
 -- Why a domain and a problem are no task: the first cause in order.
-use Rattle.std.specs.Prelude.{◌≡◌, nat_lt, if◌then◌else◌, length, Option, Some, None}
+use Rattle.std.specs.Prelude.{◌≡◌, ◌≤◌, nat_lt, if◌then◌else◌, length, Option, Some, None}
 use Rattle.pb_pddl.specs.declared.tree.Domain.{Domain}
 use Rattle.pb_pddl.specs.declared.tree.Problem.{Problem}
 use Rattle.pb_lifted.specs.declared.lifted.Lifted.{Lifted}
@@ -32,3 +32,8 @@ Tells fault (errors.Refused refusal) = fault ≡ Some (errors.Refused refusal)
 Tells fault (errors.TooManyAtoms n) = fault ≡ Some (errors.TooManyAtoms n)
 Tells fault errors.TooManyActions = fault ≡ Some errors.TooManyActions
 Tells fault errors.Memory = Unit {0}
+
+-- at most 256 ground atoms and 65,536 ground actions
+abbrev pub IsWithinLimits : Domain → Problem → Type 0
+IsWithinLimits domain problem =
+    (length (ground_atoms (lifted_of domain problem)) ≤ 256) × (length (ground_actions (lifted_of domain problem) (ground_atoms (lifted_of domain problem))) ≤ 65536)

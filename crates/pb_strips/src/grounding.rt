@@ -1,7 +1,9 @@
 ghost use Rattle.std.specs.Prelude.{◌≡◌, None, OnOk, IfOk, IfErr};
 ghost use Rattle.pb_task.specs.declared.parts.TaskParts.TheVariants.{Strips};
 ghost use Rattle.pb_strips.specs.Grounding.{strips_of};
-ghost use Rattle.pb_strips.specs.Refusals.{first_fault, Tells};
+ghost use Rattle.pb_lifted.specs.Typing.{IsWellTyped};
+ghost use Rattle.pb_strips.specs.declared.error.StripsError.TheVariants.{Memory};
+ghost use Rattle.pb_strips.specs.Refusals.{first_fault, Tells, IsWithinLimits};
 
 use crate::error::StripsError;
 use crate::parts::parts_of;
@@ -10,6 +12,18 @@ use pb_lifted::resolve;
 use pb_pddl::{Domain, Problem};
 use pb_task::Task;
 use std::alloc::Global;
+
+fn task_of(alloc: Global, domain: &Domain, problem: &Problem) -> Result<Task, StripsError>
+    ensures accepted { OnOk result (first_fault domain.now problem.now ≡ None) }
+    ensures task { IfOk result (λ task. task ≡ Strips (strips_of domain.now problem.now)) }
+    ensures refused { IfErr result (Tells (first_fault domain.now problem.now)) }
+{
+    let lifted = resolve(alloc, domain, problem)?;
+    let atoms = ground_atoms(alloc, &lifted)?;
+    let actions = ground_actions(alloc, &lifted, &atoms)?;
+    let parts = parts_of(alloc, domain, problem, &lifted, &atoms, actions.as_slice())?;
+    Ok(Task::of_strips(parts))
+}
 
 /// The task of a domain and a problem: its atoms are the ground atoms in their order, and its actions the ground actions in theirs, under the
 /// names that plans print. Else the first fault: that of a name or of too many objects, then too many atoms, then too many actions. Both limits
@@ -21,10 +35,8 @@ pub fn ground(alloc: Global, domain: &Domain, problem: &Problem) -> Result<Task,
     ensures task { IfOk result (λ task. task ≡ Strips (strips_of domain.now problem.now)) }
     // This is the first fault, unless memory ran out.
     ensures refused { IfErr result (Tells (first_fault domain.now problem.now)) }
+    // What is well typed and within the numbers of atoms and actions is never refused, unless memory runs out.
+    ensures never { IsWellTyped domain.now problem.now → IsWithinLimits domain.now problem.now → IfErr result (λ e. e ≡ Memory) }
 {
-    let lifted = resolve(alloc, domain, problem)?;
-    let atoms = ground_atoms(alloc, &lifted)?;
-    let actions = ground_actions(alloc, &lifted, &atoms)?;
-    let parts = parts_of(alloc, domain, problem, &lifted, &atoms, actions.as_slice())?;
-    Ok(Task::of_strips(parts))
+    task_of(alloc, domain, problem)
 }

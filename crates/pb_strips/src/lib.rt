@@ -13,6 +13,3 @@ pub use grounding::ground;
 pub use laws::{
     names_are_printed, names_tell_actions, plans_are_lifted, steps_are_lifted, texts_keep_names,
 };
-
-#[cfg(test)]
-mod tests;

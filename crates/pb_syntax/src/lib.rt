@@ -15,6 +15,3 @@ pub use pb_pddl::{
     Text, Typed, Want,
 };
 pub use reader::{read_domain, read_problem};
-
-#[cfg(test)]
-mod tests;

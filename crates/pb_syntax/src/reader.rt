@@ -1,7 +1,8 @@
-ghost use Rattle.std.specs.Prelude.{◌≡◌, ◌≢◌, List, Ok, IfOk, IfErr};
+ghost use Rattle.std.specs.Prelude.{◌≡◌, ◌≢◌, List, Ok, Err, IfOk, IfErr};
 ghost use Rattle.pb_pddl.specs.declared.token.Token.{Token};
 ghost use Rattle.pb_pddl.specs.declared.tree.Domain.{Domain};
 ghost use Rattle.pb_pddl.specs.declared.tree.Problem.{Problem};
+ghost use Rattle.pb_pddl.specs.declared.error.SyntaxError.{SyntaxError};
 ghost use Rattle.pb_pddl.specs.declared.error.SyntaxError.TheVariants.{Memory};
 ghost use Rattle.pb_pddl.specs.Tokens.{TextTokens};
 ghost use Rattle.pb_pddl.specs.Grammar.{IsDomain, IsProblem};
@@ -9,6 +10,7 @@ ghost use Rattle.pb_pddl.specs.Trees.{IsRead, SpellsDomain, SpellsProblem, First
 ghost use Rattle.pb_pddl.specs.Reading.{Gives, unlimited, domain_at, problem_at};
 ghost use Rattle.pb_pddl.specs.Readings.{domain_reading, problem_reading};
 ghost use Rattle.pb_pddl.specs.Words.{DomainHasWords, ProblemHasWords};
+ghost use Rattle.pb_pddl_laws.specs.Table.{ToldFault, domain_form, problem_form};
 
 use crate::domain::domain;
 use crate::problem::problem;
@@ -46,6 +48,10 @@ pub fn read_domain(alloc: Global, text: &[u8]) -> Result<Domain, SyntaxError>
     ensures none { IfErr result (λ e. e ≢ Memory → (d : Domain) → SpellsDomain text.now d → ⊥) }
     // What stands before the error's token is the beginning of a domain, that token can't follow, and the error is the first that fits it.
     ensures first { IfErr result (λ e. e ≢ Memory → FirstFault Domain IsDomain text.now e) }
+    // The tokens before it lead to one place by the grammar's table, and the error is told of that place.
+    ensures told { IfErr result (λ e. e ≢ Memory → ToldFault Domain IsDomain domain_form text.now e) }
+    // The error that is told of a place is answered, unless memory runs out. So a text has one error at most.
+    ensures fault { (e : SyntaxError) → ToldFault Domain IsDomain domain_form text.now e → Gives (λ x. x) result (Err e) }
     // It is the one answer that reading from left to right gives, however deep the parentheses.
     ensures exact { IsRead (domain_at unlimited) text.now result }
     // The same as a function of the text: the answer is its reading, unless memory runs out.
@@ -66,6 +72,10 @@ pub fn read_problem(alloc: Global, text: &[u8]) -> Result<Problem, SyntaxError>
     ensures none { IfErr result (λ e. e ≢ Memory → (p : Problem) → SpellsProblem text.now p → ⊥) }
     // What stands before the error's token is the beginning of a problem, that token can't follow, and the error is the first that fits it.
     ensures first { IfErr result (λ e. e ≢ Memory → FirstFault Problem IsProblem text.now e) }
+    // The tokens before it lead to one place by the grammar's table, and the error is told of that place.
+    ensures told { IfErr result (λ e. e ≢ Memory → ToldFault Problem IsProblem problem_form text.now e) }
+    // The error that is told of a place is answered, unless memory runs out. So a text has one error at most.
+    ensures fault { (e : SyntaxError) → ToldFault Problem IsProblem problem_form text.now e → Gives (λ x. x) result (Err e) }
     // It is the one answer that reading from left to right gives, however deep the parentheses.
     ensures exact { IsRead (problem_at unlimited) text.now result }
     // The same as a function of the text: the answer is its reading, unless memory runs out.

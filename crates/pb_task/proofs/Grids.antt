@@ -1,9 +1,9 @@
--- A grid's steps lead from states to states, by four actions, at cost 1, and what that gives for tasks of every kind.
+-- A grid's steps lead from states to states, by four actions, at cost 1 or 2, and what that gives for tasks of every kind.
 use Rattle.std.proofs.Common.{◌≡◌, ℕ, zero, suc, ◌+◌, ◌*◌, ◌^◌, ◌<◌, ◌≤◌, Bool, true, false, IsTrue, Option, None, Some, unwrap_or, nat_lt, ◌&&◌, if◌then◌else◌, slice_get, refl, sym, subst, ap, arith, ◌∙◌}
 use Rattle.std.proofs.lemmas.Bool.Decides.{nat_tests}
 use Rattle.pb_packed.specs.Bits.{bits_of}
 use Rattle.pb_model.specs.Space.{Space, Steps, IsProper}
-use Rattle.pb_task.specs.Grid.{is_passable, are_connected, class_at, cell_state, class_of_state, cell_beside, step_to, grid_space, IsGrid}
+use Rattle.pb_task.specs.Grid.{is_passable, are_connected, class_at, is_swamp, entry_cost, cell_state, class_of_state, cell_beside, step_to, grid_space, IsGrid}
 use Rattle.pb_task.specs.Laws.{GridsAreProper, TasksAreProper}
 use Rattle.pb_task.specs.declared.parts.TaskParts.TheVariants.{Grid, Tiles, Strips}
 use Rattle.pb_task.specs.Parts.{greatest_cost}
@@ -65,18 +65,22 @@ cell_is_state grid x y w h e =
 record IsStep (grid : GridParts) (from : Class) (to cost : ℕ) : Type 0 where
   pub from_passable : is_passable from ≡ true
   pub to_state : is_passable (class_of_state grid to) ≡ true
-  pub unit : cost ≡ 1
+  pub low : (1 ≤ cost) × (cost ≤ 2)
+
+low_entry : (swamp : Bool) → (1 ≤ (if swamp then 2 else 1)) × ((if swamp then 2 else 1) ≤ 2)
+low_entry true = (omega arith, omega arith)
+low_entry false = (omega arith, omega arith)
 
 at_cell : (grid : GridParts) (from : Class) (x y to cost : ℕ) (test : Bool) → grid.width ≤ 2048 → grid.height ≤ 2048 → are_connected from (class_at grid x y) ≡ test
-    → ◌≡◌ {A = Option (ℕ × ℕ)} (if test then Some (cell_state x y, 1) else None) (Some (to, cost)) → IsStep grid from to cost
+    → ◌≡◌ {A = Option (ℕ × ℕ)} (if test then Some (cell_state x y, entry_cost grid x y) else None) (Some (to, cost)) → IsStep grid from to cost
 at_cell grid from x y to cost false w h is e = cc
 at_cell grid from x y to cost true w h is e =
-    let same : ◌≡◌ {A = ℕ × ℕ} (cell_state x y, 1) (to, cost) = cc in
+    let same : ◌≡◌ {A = ℕ × ℕ} (cell_state x y, entry_cost grid x y) (to, cost) = cc in
     let there : cell_state x y ≡ to = ap (λ (p : ℕ × ℕ). p.0) same in
     record {
       from_passable = passable_from from (class_at grid x y) is;
       to_state = subst (λ t. is_passable (class_of_state grid t) ≡ true) there (cell_is_state grid x y w h (passable_to from (class_at grid x y) is));
-      unit = sym (ap (λ (p : ℕ × ℕ). p.1) same);
+      low = subst (λ n. (1 ≤ n) × (n ≤ 2)) (ap (λ (p : ℕ × ℕ). p.1) same) (low_entry (is_swamp grid x y));
     }
 
 to_beside : (grid : GridParts) (from : Class) (beside : Option (ℕ × ℕ)) (to cost : ℕ) → grid.width ≤ 2048 → grid.height ≤ 2048
@@ -95,14 +99,14 @@ by_four grid from (suc (suc zero)) to cost step = omega arith
 by_four grid from (suc (suc (suc zero))) to cost step = omega arith
 by_four grid from (suc (suc (suc (suc more)))) to cost step = cc
 
-grid_is_proper : (grid : GridParts) → IsGrid grid → IsProper (grid_space grid) 1
+grid_is_proper : (grid : GridParts) → IsGrid grid → IsProper (grid_space grid) 2
 grid_is_proper grid is = record {
   start = cell_is_state grid grid.start.0 grid.start.1 is.width.1 is.height.1 is.start;
   action = by_four grid;
   from_state = λ from action to cost step. (step_is grid is from action to cost step).from_passable;
   to_state = λ from action to cost step. (step_is grid is from action to cost step).to_state;
-  positive = λ from action to cost step. let unit : cost ≡ 1 = (step_is grid is from action to cost step).unit in omega arith;
-  bounded = λ from action to cost step. let unit : cost ≡ 1 = (step_is grid is from action to cost step).unit in omega arith;
+  positive = λ from action to cost step. (step_is grid is from action to cost step).low.0;
+  bounded = λ from action to cost step. (step_is grid is from action to cost step).low.1;
 }
 
 has_few_bits : (test : Bool) (class : Class) → is_passable (if test then class else Blocked) ≡ true → test ≡ true
@@ -129,7 +133,7 @@ costs_within space least most more proper = record {
 
 pub tasks_are_proper : TasksAreProper
 tasks_are_proper (Grid grid) is =
-    (costs_within (grid_space grid) 1 greatest_cost (omega arith) (grid_is_proper grid is), λ state e. let few : state < 2 ^ 22 = states_are_small grid state e in omega arith)
+    (costs_within (grid_space grid) 2 greatest_cost (omega arith) (grid_is_proper grid is), λ state e. let few : state < 2 ^ 22 = states_are_small grid state e in omega arith)
 tasks_are_proper (Tiles tiles) is =
     (costs_within (tiles_space tiles) 1 greatest_cost (omega arith) (tiles_is_proper tiles is), λ state e. let few : state < 2 ^ 64 = boards_are_small tiles is state e in omega arith)
 tasks_are_proper (Strips strips) is = strips_are_proper strips is

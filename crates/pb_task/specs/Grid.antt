@@ -1,4 +1,5 @@
--- Grids: the states are the land and water cells of a map, and an action leads to the cell beside it that has the same class, at cost 1.
+-- Grids: the states are the land and water cells of a map, and an action leads to the cell beside it that has the same class, at cost 2 into
+-- swamp and else at cost 1.
 use Rattle.std.specs.Prelude.{◌≡◌, ℕ, zero, suc, ◌+◌, ◌-◌, ◌*◌, ◌^◌, ◌≤◌, Bool, true, false, IsTrue, List, length, codes, Option, None, Some, unwrap_or, slice_get, if◌then◌else◌, nat_lt, ◌==◌, ◌&&◌}
 use Rattle.pb_packed.specs.Bits.{bits_of}
 use Rattle.pb_model.specs.Space.{Space}
@@ -27,6 +28,15 @@ abbrev pub class_at : GridParts → (x y : ℕ) → Class
 class_at grid x y =
     if nat_lt x grid.width && nat_lt y grid.height then unwrap_or (slice_get grid.cells (y * grid.width + x)) Blocked else Blocked
 
+-- the cell in this column and row is swamp; off the map none is
+abbrev pub is_swamp : GridParts → (x y : ℕ) → Bool
+is_swamp grid x y =
+    if nat_lt x grid.width && nat_lt y grid.height then unwrap_or (slice_get grid.swamp (y * grid.width + x)) false else false
+
+-- what it costs to enter a cell
+abbrev pub entry_cost : GridParts → (x y : ℕ) → ℕ
+entry_cost grid x y = if is_swamp grid x y then 2 else 1
+
 -- a cell as a state: x in the bits 0 to 10 and y in the bits 11 to 21, and all other bits 0
 abbrev pub cell_state : (x y : ℕ) → ℕ
 cell_state x y = x + y * 2 ^ 11
@@ -46,7 +56,7 @@ cell_beside x y (suc (suc (suc (suc more)))) = None
 -- the step from a cell of the class to this cell, where the two are connected
 abbrev pub step_to : GridParts → (from : Class) → (cell : Option (ℕ × ℕ)) → Option (ℕ × ℕ)
 step_to grid from None = None
-step_to grid from (Some cell) = if are_connected from (class_at grid cell.0 cell.1) then Some (cell_state cell.0 cell.1, 1) else None
+step_to grid from (Some cell) = if are_connected from (class_at grid cell.0 cell.1) then Some (cell_state cell.0 cell.1, entry_cost grid cell.0 cell.1) else None
 
 abbrev pub grid_step : GridParts → (state action : ℕ) → Option (ℕ × ℕ)
 grid_step grid state action = step_to grid (class_of_state grid state) (cell_beside (bits_of state 0 11) (bits_of state 11 11) action)
@@ -68,10 +78,11 @@ direction (suc zero) = codes "down"
 direction (suc (suc zero)) = codes "left"
 direction (suc (suc (suc more))) = codes "right"
 
--- Each side has 1 to 2,048 cells, there are as many classes as cells, and start and goal can be entered.
+-- Each side has 1 to 2,048 cells, there are as many classes and marks of swamp as cells, and start and goal can be entered.
 pub record IsGrid (grid : GridParts) : Type 0 where
   pub width : (1 ≤ grid.width) × (grid.width ≤ 2048)
   pub height : (1 ≤ grid.height) × (grid.height ≤ 2048)
   pub area : length grid.cells ≡ grid.width * grid.height
+  pub swamp : length grid.swamp ≡ grid.width * grid.height
   pub start : IsTrue (is_passable (class_at grid grid.start.0 grid.start.1))
   pub goal : IsTrue (is_passable (class_at grid grid.goal.0 grid.goal.1))

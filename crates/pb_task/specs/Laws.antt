@@ -15,12 +15,12 @@ use Rattle.pb_task.specs.Strips.{has_atom, set_of, strips_space, IsStrips, Acts}
 use Rattle.pb_task.specs.declared.parts.StripsParts.{StripsParts}
 use Rattle.pb_task.specs.Parts.{space_of, IsTask, max_degree_of, greatest_cost}
 
--- A grid's start is a state, each of its steps is by one of four actions, leads from a state to a state, and costs 1, and its states
+-- A grid's start is a state, each of its steps is by one of four actions, leads from a state to a state, and costs 1 or 2, and its states
 -- are numbers below 2^22.
 abbrev pub GridsAreProper : Type 0
 GridsAreProper =
     (grid : GridParts) → IsGrid grid
-    → IsProper (grid_space grid) 1 × ((grid_space grid).actions ≡ 4) × ((state : ℕ) → IsTrue ((grid_space grid).is_state state) → state < 2 ^ 22)
+    → IsProper (grid_space grid) 2 × ((grid_space grid).actions ≡ 4) × ((state : ℕ) → IsTrue ((grid_space grid).is_state state) → state < 2 ^ 22)
 
 -- The start of sliding tiles is a state, each of their steps is by one of four actions, leads from a board to a board, and costs 1, and
 -- their states are numbers below 2^64.

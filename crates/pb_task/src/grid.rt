@@ -1,6 +1,6 @@
 ghost use Rattle.std.specs.Prelude.{◌≡◌, ◌≢◌, ◌+◌, ◌*◌, ◌<◌, ◌≤◌, ◌^◌};
 ghost use Rattle.pb_packed.specs.Bits.{bits_of};
-ghost use Rattle.pb_task.specs.Grid.{class_at, cell_state, class_of_state, is_passable, are_connected, cell_beside, step_to, grid_step, direction};
+ghost use Rattle.pb_task.specs.Grid.{class_at, is_swamp, entry_cost, cell_state, class_of_state, is_passable, are_connected, cell_beside, step_to, grid_step, direction};
 ghost use Rattle.pb_task.specs.declared.parts.Class.TheVariants.{Blocked};
 
 use crate::parts::{Class, GridParts};
@@ -8,6 +8,9 @@ use pb_packed::Packed;
 
 /// How many actions a grid and a board of tiles have: up, down, left and right.
 pub const DIRECTIONS: u32 = 4;
+
+// What it costs to enter a cell of swamp. Any other cell costs 1.
+const SWAMP_COST: u64 = 2;
 
 // How many bits of a state hold a coordinate.
 const BITS: u32 = 11;
@@ -47,6 +50,25 @@ impl GridParts {
             Class::Blocked
         }
     }
+
+    /// Whether the cell in this column and row is swamp. Off the map none is.
+    pub fn is_swamp(&self, x: u32, y: u32) -> bool
+        ensures { result ≡ is_swamp self.now x y }
+    {
+        if x < self.width && y < self.height {
+            let at = u64::from(y) * u64::from(self.width) + u64::from(x);
+            self.swamp.get(at as usize).unwrap_or(false)
+        } else {
+            false
+        }
+    }
+}
+
+// What it costs to enter a cell.
+fn entry_cost(grid: &GridParts, x: u32, y: u32) -> u64
+    ensures { result ≡ entry_cost grid.now x y }
+{
+    if grid.is_swamp(x, y) { SWAMP_COST } else { 1 }
 }
 
 /// The class of the cell that a state stands for. Blocked where it stands for none.
@@ -104,7 +126,7 @@ fn step_to(grid: &GridParts, from: Class, cell: Option<(u32, u32)>) -> Option<(P
 {
     let (x, y) = cell?;
     if are_connected(from, grid.class_at(x, y)) {
-        Some((pack(x, y), 1))
+        Some((pack(x, y), entry_cost(grid, x, y)))
     } else {
         None
     }

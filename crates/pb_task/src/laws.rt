@@ -1,6 +1,6 @@
 ghost use Rattle.pb_task.specs.Laws.{GridsAreProper, TilesAreProper, BoardsArePacked, TilesSlide, StripsAreProper, StripsAct, SetsAreOfAtoms, TasksAreProper, DegreesAreBounded, FaultsAreUnique, FaultsKeepFromPlans};
 
-/// The steps of a grid are by four actions, lead from states to states and cost 1, and its states have 22 bits.
+/// The steps of a grid are by four actions, lead from states to states and cost 1 or 2, and its states have 22 bits.
 pub fn grids_are_proper()
     ensures { GridsAreProper }
 {}

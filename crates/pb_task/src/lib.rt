@@ -18,13 +18,8 @@ pub use laws::{
     tiles_are_proper, tiles_slide,
 };
 pub use parts::{
-    ActionName, Actions, Board, Cells, Class, GridParts, GroundAction, StripsParts, TaskParts,
-    TilesParts,
+    ActionName, Actions, Board, Cells, Class, GridParts, GroundAction, StripsParts, Swamp,
+    TaskParts, TilesParts,
 };
 pub use plan::PlanFault;
 pub use task::Task;
-
-#[cfg(test)]
-mod strips_tests;
-#[cfg(test)]
-mod tests;

@@ -45,6 +45,36 @@ impl Cells {
     }
 }
 
+/// Which of a map's cells cost 2 to enter, row by row from the upper left cell on.
+#[derive(Drop)]
+pub struct Swamp {
+    marks: Vec<bool>,
+}
+
+impl Model for Swamp {
+    ghost use Rattle.std.specs.Prelude.{Bool, List};
+
+    ghost Value = { List Bool };
+
+    ghost view = { λ s. s.marks.items };
+}
+
+impl Swamp {
+    /// The swamp that has these marks, one for each cell: `true` is swamp.
+    pub fn of(marks: Vec<bool>) -> Swamp
+        ensures { result ≡ marks.items }
+    {
+        Swamp { marks }
+    }
+
+    /// Whether the cell at this place, counted from 0, is swamp. None where there are fewer.
+    pub fn get(&self, at: usize) -> Option<bool>
+        ensures { result ≡ slice_get self.now at }
+    {
+        self.marks.get(at).copied()
+    }
+}
+
 /// A grid: a map, and a start and a goal on it. Cells are named by their column and row, (0, 0) being the upper left one.
 #[derive(Drop)]
 pub struct GridParts {
@@ -54,6 +84,8 @@ pub struct GridParts {
     pub height: u32,
     /// The classes of its cells.
     pub cells: Cells,
+    /// Which of its cells are swamp, which costs 2 to enter: as many marks as cells.
+    pub swamp: Swamp,
     /// The cell that a plan starts from.
     pub start: (u32, u32),
     /// The cell that a plan leads to.

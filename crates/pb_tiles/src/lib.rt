@@ -14,6 +14,3 @@ mod words;
 pub use error::TilesError;
 pub use laws::{readings_are_spelled, spelled_tiles_are_unique};
 pub use reader::read_tiles;
-
-#[cfg(test)]
-mod tests;

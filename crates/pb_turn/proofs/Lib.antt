@@ -1,3 +1,2 @@
 pub mod PassLists
-pub mod CountingKeeps
 pub mod Keeping

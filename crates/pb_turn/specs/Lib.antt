@@ -1,4 +1,3 @@
-pub mod Counting
 pub mod Obligations
 pub mod Passes
 pub mod Table

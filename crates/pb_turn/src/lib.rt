@@ -15,8 +15,6 @@ mod plays;
 mod rule;
 mod steps;
 mod table_rule;
-#[cfg(test)]
-mod tests;
 mod turn;
 
 pub use lock::TurnLock;

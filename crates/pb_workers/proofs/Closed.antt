@@ -8,8 +8,9 @@ use Rattle.pb_lease.specs.Events.{ending}
 use Rattle.pb_lease.specs.GraphValue.{GraphValue, counts_in}
 use Rattle.pb_lease.specs.Choices.{is_out_in}
 use Rattle.pb_lease.specs.Steps.{IsSignedOff, KeepsLeases}
+use Rattle.pb_yard.proofs.InTime.{ending_grants_none}
 use Rattle.pb_workers.specs.Runs.{IsSameSearch, RunsOn}
-use Rattle.pb_workers.proofs.Going.{keeping_runs, ending_grants_none}
+use Rattle.pb_workers.proofs.Going.{keeping_runs}
 use Rattle.pb_workers.proofs.Returned.{ending_same, ended_by_memory}
 
 module _ (old : GraphValue) (trouble : Bool) (new : GraphValue) (s : IsSignedOff old 0 trouble new) where

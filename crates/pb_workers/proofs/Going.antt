@@ -1,14 +1,10 @@
 -- Runs of a graph, one after another.
-use Rattle.std.proofs.Common.{◌≡◌, ℕ, Bool, true, false, cond, ◌&&◌, is_none, Option, None, Some, List, [], ◌∷◌, ◌++◌, refl, sym, ap, ◌∙◌, subst}
+use Rattle.std.proofs.Common.{◌≡◌, ℕ, false, List, [], ◌∷◌, ◌++◌, refl, sym, ap, ◌∙◌, subst}
 use Rattle.std.proofs.lemmas.List.{append_assoc, append-nil}
 use Rattle.pb_model.specs.Store.{Rows}
-use Rattle.pb_machine.specs.declared.event.End.{End}
-use Rattle.pb_machine.specs.declared.event.End.TheVariants.{Memory}
 use Rattle.pb_machine.specs.declared.event.Event.{Event}
-use Rattle.pb_machine.specs.declared.event.Event.TheVariants.{Lease, Renew, Hot, Cold, Release, Off, Ended}
 use Rattle.pb_machine.specs.Counts.{Counts, is_any_out}
-use Rattle.pb_machine.specs.Machine.{Setup, Machine, Move, event_move, journal_of}
-use Rattle.pb_machine.specs.Turns.{RunsInOrder}
+use Rattle.pb_machine.specs.Machine.{Setup, Machine, journal_of}
 use Rattle.pb_machine.proofs.LeaseTurns.{runs_go_on}
 use Rattle.pb_machine.proofs.WholeStore.{all_is_home}
 use Rattle.pb_bundles.specs.Homes.{home_rows}
@@ -16,10 +12,11 @@ use Rattle.pb_lease.specs.Leased.{setup_of}
 use Rattle.pb_lease.specs.GraphValue.{GraphValue, setup_in}
 use Rattle.pb_lease.specs.Choices.{is_out_in}
 use Rattle.pb_lease.specs.Moments.{IsMoment, FollowsInOrder, moves_of}
-use Rattle.pb_lease.specs.Events.{ending}
-use Rattle.pb_lease.specs.Steps.{KeepsLeases, end_events}
+use Rattle.pb_lease.specs.Steps.{KeepsLeases}
 use Rattle.pb_lease.proofs.InOrder.{keeps_in_order}
-use Rattle.pb_workers.specs.Runs.{IsSameSearch, GivesWholeIncumbent, IsTimely, RunsAlone, RunsTo, RunsOn}
+use Rattle.pb_yard.specs.Order.{RunsInTime}
+use Rattle.pb_yard.proofs.InTime.{GrantsNone, in_time_on, in_time_events}
+use Rattle.pb_workers.specs.Runs.{IsSameSearch, RunsTo, RunsOn}
 
 -- ---- the same search
 
@@ -31,60 +28,6 @@ same_then old mid new first second = record { task = second.task ∙ first.task;
 
 pub setup_is_same : (old new : GraphValue) → IsSameSearch old new → setup_in new ≡ setup_in old
 setup_is_same old new same = λ i. setup_of (same.task i) (same.graph i) (same.settings i) 0
-
--- ---- runs of a worker that searches alone
-
-module _ (setup : Setup) where
-  -- they are in order
-  pub alone_is_in_order : (moves : List Move) (old new : Machine) → RunsAlone setup old moves new → RunsInOrder setup old moves new
-  alone_is_in_order [] old new runs = runs
-  alone_is_in_order (move ∷ moves) old new runs = (runs.0, runs.1, runs.2, alone_is_in_order moves runs.0 new runs.5)
-
-  alone_on : (moves more : List Move) (old between new : Machine) → RunsAlone setup old moves between → RunsAlone setup between more new → RunsAlone setup old (moves ++ more) new
-  alone_on [] more old between new first later = subst (λ (q : Machine). RunsAlone setup q more new) first later
-  alone_on (move ∷ moves) more old between new first later = (first.0, first.1, first.2, first.3, first.4, alone_on moves more first.0 between new first.5 later)
-
-  -- one event
-  pub alone_one : (event : Event) (old new : Machine) → GivesWholeIncumbent (event_move event) new → IsTimely setup old (event_move event) new
-      → RunsInOrder setup old (event_move event ∷ []) new → RunsAlone setup old (event_move event ∷ []) new
-  alone_one event old new gives timely runs = (
-    runs.0,
-    runs.1,
-    runs.2,
-    subst (λ (m : Machine). GivesWholeIncumbent (event_move event) m) runs.3 gives,
-    subst (λ (m : Machine). IsTimely setup old (event_move event) m) runs.3 timely,
-    runs.3,
-  )
-
--- among these events no lease is given, none goes on, and none comes back but for want of memory
-abbrev pub GrantsNone : List Event → Type 0
-GrantsNone [] = Unit {0}
-GrantsNone (Lease worker block quota ∷ events) = ⊥
-GrantsNone (Renew worker used quota ∷ events) = ⊥
-GrantsNone (Release worker used false ∷ events) = ⊥
-GrantsNone (event ∷ events) = GrantsNone events
-
-pub alone_events : (setup : Setup) (events : List Event) (old new : Machine) → GrantsNone events → RunsInOrder setup old (moves_of events) new → RunsAlone setup old (moves_of events) new
-alone_events setup [] old new none runs = runs
-alone_events setup (Lease worker block quota ∷ events) old new none runs = absurd none
-alone_events setup (Renew worker used quota ∷ events) old new none runs = absurd none
-alone_events setup (Hot worker block ∷ events) old new none runs = (runs.0, runs.1, runs.2, tt, tt, alone_events setup events runs.0 new none runs.3)
-alone_events setup (Cold worker block ∷ events) old new none runs = (runs.0, runs.1, runs.2, tt, tt, alone_events setup events runs.0 new none runs.3)
-alone_events setup (Release worker used false ∷ events) old new none runs = absurd none
-alone_events setup (Release worker used true ∷ events) old new none runs = (runs.0, runs.1, runs.2, tt, tt, alone_events setup events runs.0 new none runs.3)
-alone_events setup (Off worker trouble ∷ events) old new none runs = (runs.0, runs.1, runs.2, tt, tt, alone_events setup events runs.0 new none runs.3)
-alone_events setup (Ended end ∷ events) old new none runs = (runs.0, runs.1, runs.2, tt, tt, alone_events setup events runs.0 new none runs.3)
-
-pub ending_grants_none : (memory : Bool) (end : Option End) → GrantsNone (ending memory end)
-ending_grants_none memory end = go (memory && is_none end)
-  where
-    go : (r : Bool) → GrantsNone (cond r (Ended Memory ∷ []) [])
-    go true = tt
-    go false = tt
-
-pub end_grants_none : (standing : Option End) (end : End) → GrantsNone (end_events standing end)
-end_grants_none None end = tt
-end_grants_none (Some standing) end = tt
 
 -- ---- runs
 
@@ -98,11 +41,11 @@ run_none g recorded machine m = record { moves = []; run = refl; events = sym (a
 
 -- what follows by events is a run
 pub run_one : (old : GraphValue) (machine : Machine) (events : List Event) (new : GraphValue) (recorded : (worker : ℕ) → Rows) (next : Machine)
-    → FollowsInOrder old machine events new recorded next → RunsAlone (setup_in old) machine (moves_of events) next → new.table.journal ≡ old.table.journal ++ events
+    → FollowsInOrder old machine events new recorded next → RunsInTime (setup_in old) machine (moves_of events) next → new.table.journal ≡ old.table.journal ++ events
     → RunsTo old machine new recorded next
-run_one old machine events new recorded next f alone journal = record {
+run_one old machine events new recorded next f in_time journal = record {
   moves = moves_of events;
-  run = alone;
+  run = in_time;
   events = journal ∙ ap (λ es. old.table.journal ++ es) (sym (events_of events));
   moment = f.moment;
 }
@@ -114,8 +57,8 @@ run_then old mid new machine next last recorded after same first second =
     let both = runs_go_on (setup_in old) first.moves second.moves machine next last in
     record {
       moves = first.moves ++ second.moves;
-      run = alone_on (setup_in old) first.moves second.moves machine next last first.run
-          (subst (λ (s : Setup). RunsAlone s next second.moves last) (setup_is_same old mid same) second.run);
+      run = in_time_on (setup_in old) first.moves second.moves machine next last first.run
+          (subst (λ (s : Setup). RunsInTime s next second.moves last) (setup_is_same old mid same) second.run);
       events = second.events ∙ ap (λ j. j ++ journal_of second.moves) first.events
           ∙ append_assoc old.table.journal (journal_of first.moves) (journal_of second.moves) ∙ ap (λ j. old.table.journal ++ j) (sym both.2);
       moment = second.moment;
@@ -148,7 +91,7 @@ run_home old machine new recorded other next home r = record { moves = r.moves; 
 pub keeping_runs : (old : GraphValue) (events : List Event) (new : GraphValue) → GrantsNone events → KeepsLeases old events new → new.incumbent ≡ old.incumbent → new.table.journal ≡ old.table.journal ++ events → RunsOn old new
 keeping_runs old events new none keeps same journal recorded machine m =
     let next = keeps_in_order old events new keeps same recorded machine m in
-    (next.0, run_one old machine events new recorded next.0 next.1 (alone_events (setup_in old) events machine next.0 none next.1.moves) journal)
+    (next.0, run_one old machine events new recorded next.0 next.1 (in_time_events (setup_in old) events machine next.0 none next.1.moves) journal)
 
 pub on_none : (g : GraphValue) → RunsOn g g
 on_none g recorded machine m = (machine, run_none g recorded machine m)

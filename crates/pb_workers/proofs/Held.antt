@@ -1,36 +1,33 @@
 -- The turns of a worker that has a lease.
 use Rattle.std.proofs.Common.{◌≡◌, ℕ, ◌+◌, ◌-◌, ◌<◌, ◌≤◌, Bool, true, false, is_some, length, [], ◌∷◌, ◌++◌, Option, Some, None, sym, ap, ◌∙◌, arith, subst, inl, inr, nat_lt}
-use Rattle.pb_model.specs.Store.{Rows, HasOpened}
+use Rattle.pb_model.specs.Store.{HasOpened}
 use Rattle.pb_model.proofs.Tests.{by_cases, below, not_below, equal_self}
 use Rattle.pb_machine.specs.declared.event.Event.TheVariants.{Renew, Release}
 use Rattle.pb_machine.specs.declared.event.Grant.{Grant}
 use Rattle.pb_machine.specs.Tables.{with_entry}
 use Rattle.pb_machine.specs.Counts.{Counts, quota_of}
-use Rattle.pb_machine.specs.Choice.{IsFirstChoice, counts_with_lease_home}
 use Rattle.pb_machine.specs.Machine.{Machine}
 use Rattle.pb_machine.proofs.TableLaws.{entry_here}
 use Rattle.pb_task.specs.declared.parts.TaskParts.{TaskParts}
 use Rattle.pb_abstract.specs.Graph.{AbstractGraph, blocks_of}
 use Rattle.pb_bundles.specs.Parts.{away_rows}
 use Rattle.pb_bundles.specs.Homes.{HomeTable, key_at}
-use Rattle.pb_bundles.proofs.Lists.{past}
-use Rattle.pb_bundles.proofs.ByKey.{first_choices_are_by_key}
 use Rattle.pb_lease.specs.Tables.{blocks, rooms}
 use Rattle.pb_lease.specs.Events.{ending}
 use Rattle.pb_lease.specs.LeaseValue.{LeaseValue, leased_store, IsSameLease}
 use Rattle.pb_lease.specs.Leased.{grant_of, HasScope, IsOutInTurns}
 use Rattle.pb_lease.specs.GraphValue.{GraphValue, setup_in, counts_in, IsLeaseGraph, IsOfGraph}
 use Rattle.pb_lease.specs.Steps.{IsReleased, ReleasesNext, IsRenewed, RenewsNext, GoesOn, renewed_quota}
-use Rattle.pb_lease.specs.Leasing.{can_be_leased}
-use Rattle.pb_lease.specs.Moments.{IsMoment}
-use Rattle.pb_lease.proofs.GraphBasics.{setup_is, passes_from, passes_to}
+use Rattle.pb_lease.proofs.GraphBasics.{setup_is}
 use Rattle.pb_lease.proofs.InOrder.{releases_in_order, renews_in_order}
 use Rattle.pb_expand.specs.Turned.{IsAtWork}
+use Rattle.pb_yard.proofs.InTime.{in_time_one, in_time_events, ending_grants_none}
+use Rattle.pb_yard.proofs.Causes.{still_first}
 use Rattle.pb_workers.specs.Runs.{IsSameSearch}
 use Rattle.pb_workers.specs.Holding.{Works, IsHeld, RunsOut, RunsHome, left_with, IsNearer, IsMarkedAtMost}
-use Rattle.pb_workers.proofs.Going.{same_then, run_one, run_then, alone_one, alone_events, ending_grants_none}
+use Rattle.pb_workers.proofs.Going.{same_then, run_one, run_then}
 use Rattle.pb_workers.proofs.Marked.{marked_same, marked_homes, marked_leases, marked_signed, marked_left, marked_end, marked_room, marked_runs}
-use Rattle.pb_workers.proofs.Returned.{returned_vacant, returned_left, returned_end, none_left, fewer_opened}
+use Rattle.pb_workers.proofs.Returned.{returned_vacant, returned_left, returned_end, none_opened_then, fewer_opened}
 
 module _ (g : GraphValue) (lease : LeaseValue) (held : IsHeld g lease) (task : TaskParts) (graph : AbstractGraph) (task_is : g.task ≡ task) (graph_is : g.table.graph ≡ graph) where
   pub at_work : IsLeaseGraph g → IsAtWork task graph lease
@@ -74,7 +71,7 @@ module _ (g : GraphValue) (lease : LeaseValue) (held : IsHeld g lease) (task : T
           recorded,
           step.0,
           run_one g machine (Release worked.worker worked.used true ∷ ending true g.table.end) new recorded step.0 step.1
-              (alone_events (setup_in g) (Release worked.worker worked.used true ∷ ending true g.table.end) machine step.0 (ending_grants_none true g.table.end) step.1.moves) r.events.journal,
+              (in_time_events (setup_in g) (Release worked.worker worked.used true ∷ ending true g.table.end) machine step.0 (ending_grants_none true g.table.end) step.1.moves) r.events.journal,
         )
 
     -- since no row of its block is Opened
@@ -86,8 +83,8 @@ module _ (g : GraphValue) (lease : LeaseValue) (held : IsHeld g lease) (task : T
           recorded,
           step.0,
           run_one g machine (Release worked.worker worked.used false ∷ []) new recorded step.0 step.1
-              (alone_one (setup_in g) (Release worked.worker worked.used false) machine step.0 tt
-              (grant_of worked, after.0.leased, inr (none_left g k worked worked_of_graph new r recorded machine m after none recorded step.0 step.1.moment)) step.1.moves) r.events.journal,
+              (in_time_one (setup_in g) (Release worked.worker worked.used false) machine step.0 tt
+              (grant_of worked, after.0.leased, inr (none_opened_then g k worked worked_of_graph new r recorded machine m after none recorded step.0 step.1.moment)) step.1.moves) r.events.journal,
         )
 
     pub vacant_then : (old : GraphValue) (trouble : Bool) (new : GraphValue) → IsReleased old worked trouble new → (counts_in new).leases lease.worker ≡ None
@@ -132,7 +129,7 @@ module _ (g : GraphValue) (lease : LeaseValue) (held : IsHeld g lease) (task : T
             step.0,
             run_then g marked new machine along.0 step.0 recorded recorded (marked_same g worked.worker marked mark) along.1
                 (run_one marked along.0 (Release worked.worker worked.used false ∷ []) new recorded step.0 step.1
-                (alone_one (setup_in marked) (Release worked.worker worked.used false) along.0 step.0 tt (grant_of worked, after.0.leased, inl spent) step.1.moves) r.events.journal),
+                (in_time_one (setup_in marked) (Release worked.worker worked.used false) along.0 step.0 tt (grant_of worked, after.0.leased, inl spent) step.1.moves) r.events.journal),
           )
 
       pub nearer_given : worked.used ≡ worked.quota → (new : GraphValue) → IsReleased marked worked false new → IsNearer g lease new
@@ -178,26 +175,10 @@ module _ (g : GraphValue) (lease : LeaseValue) (held : IsHeld g lease) (task : T
         given_whole : (machine : Machine) → machine.store.incumbent ≡ new.incumbent → machine.given kept.worker ≡ kept.incumbent → machine.given worked.worker ≡ machine.store.incumbent
         given_whole machine whole given = ap machine.given (sym kept_by) ∙ given ∙ ap (λ (l : LeaseValue). l.incumbent) n.kept_is ∙ sym n.incumbent ∙ sym whole
 
-        -- no block above the greatest number has a key
-        none_above : IsLeaseGraph g → (block : ℕ) → (blocks marked.table).count ≤ block → key_at new.homes block ≡ None
-        none_above k block above =
-            let places : length marked.homes.keys ≡ length g.homes.keys = ap (λ (h : HomeTable). length h.keys) (marked_homes g worked.worker marked mark) in
-            let count : (blocks marked.table).count ≡ (blocks g.table).count = ap (λ (a : AbstractGraph). (blocks_of a).count) (marked_same g worked.worker marked mark).graph in
-            past new.homes.keys block (omega (arith, above, places, count, n.noted.count, k.key_places))
-
-        -- with the lease home its block is the first choice, by the rows that the whole store has then
-        still_first : IsLeaseGraph g → (before after : (worker : ℕ) → Rows) (machine next : Machine) → IsMoment marked before machine → IsMoment new after next
-            → IsFirstChoice (blocks marked.table) marked.table.settings (counts_with_lease_home machine.counts worked.worker worked.used) next.store worked.block
-        still_first k before after machine next m at =
-            let home = counts_with_lease_home (counts_in marked) worked.worker worked.used in
-            let pass = can_be_leased (blocks marked.table) marked.table.settings home in
-            let both = (first_choices_are_by_key (blocks marked.table) marked.table.settings home next.store (key_at new.homes) pass at.at.keys (none_above k)
-            (λ block lt. (
-              passes_from (blocks marked.table) marked.table.settings home block,
-              λ p. passes_to (blocks marked.table) marked.table.settings home block p.0 p.1 p.2 p.3,
-            ))).0 worked.block in
-            subst (λ (c : Counts). IsFirstChoice (blocks marked.table) marked.table.settings (counts_with_lease_home c worked.worker worked.used) next.store worked.block)
-            (sym m.at.counts) (both.0 goes.0)
+        -- each block has a place for its key
+        places : IsLeaseGraph g → length marked.homes.keys ≡ (blocks marked.table).count
+        places k = ap (λ (h : HomeTable). length h.keys) (marked_homes g worked.worker marked mark) ∙ k.key_places
+            ∙ ap (λ (a : AbstractGraph). (blocks_of a).count) (sym (marked_same g worked.worker marked mark).graph)
 
         pub kept_out : IsLeaseGraph g → Works task graph lease worked 0 → worked.used ≡ worked.quota → RenewsNext marked worked kept new → RunsOut g lease new kept
         kept_out k works spent next recorded machine m out =
@@ -209,8 +190,8 @@ module _ (g : GraphValue) (lease : LeaseValue) (held : IsHeld g lease) (task : T
               step.0,
               run_then g marked new machine along.0 step.0 recorded after (marked_same g worked.worker marked mark) along.1
                   (run_one marked along.0 (Renew worked.worker worked.used kept.quota ∷ []) new after step.0 step.1
-                  (alone_one (setup_in marked) (Renew worked.worker worked.used kept.quota) along.0 step.0 (given_whole step.0 step.1.moment.incumbent step.2)
-                  (grant_of worked, before.0.leased, spent, still_first k recorded after along.0 step.0 along.1.moment step.1.moment) step.1.moves)
+                  (in_time_one (setup_in marked) (Renew worked.worker worked.used kept.quota) along.0 step.0 (given_whole step.0 step.1.moment.incumbent step.2)
+                  (grant_of worked, before.0.leased, spent, still_first marked worked new n.noted (places k) recorded after along.0 step.0 along.1.moment.at step.1.moment.at goes.0) step.1.moves)
                   (n.events.journal ∙ ap (λ q. marked.table.journal ++ Renew worked.worker worked.used q ∷ []) (sym kept_quota))),
               step.3,
             )

@@ -14,9 +14,10 @@ use Rattle.pb_lease.specs.Choices.{MayMark}
 use Rattle.pb_lease.specs.Moments.{IsMoment}
 use Rattle.pb_lease.specs.Steps.{IsMarked, KeepsLeases}
 use Rattle.pb_lease.proofs.InOrder.{keeps_in_order}
+use Rattle.pb_yard.proofs.InTime.{in_time_events}
 use Rattle.pb_workers.specs.Runs.{IsSameSearch, RunsTo}
 use Rattle.pb_workers.specs.Holding.{MarksWhereMay, IsMarkedAtMost}
-use Rattle.pb_workers.proofs.Going.{run_none, run_one, alone_events}
+use Rattle.pb_workers.proofs.Going.{run_none, run_one}
 
 module _ (old : GraphValue) (worker : ℕ) (new : GraphValue) where
   by_mark : {A : Type 0} (of : GraphValue → A) → ((block : ℕ) → IsMarked old worker (Hot worker block) new → of new ≡ of old) → IsMarkedAtMost old worker new → of new ≡ of old
@@ -69,7 +70,7 @@ module _ (old : GraphValue) (worker : ℕ) (new : GraphValue) where
       )
   marked_runs (inr mark) recorded machine m =
       let step = keeps_in_order old (Hot worker mark.0 ∷ []) new mark.2 (ap (λ (v : GraphValue). v.incumbent) mark.1.rest) recorded machine m in
-      (step.0, run_one old machine (Hot worker mark.0 ∷ []) new recorded step.0 step.1 (alone_events (setup_in old) (Hot worker mark.0 ∷ []) machine step.0 tt step.1.moves) mark.1.events.journal, step.2)
+      (step.0, run_one old machine (Hot worker mark.0 ∷ []) new recorded step.0 step.1 (in_time_events (setup_in old) (Hot worker mark.0 ∷ []) machine step.0 tt step.1.moves) mark.1.events.journal, step.2)
 
 -- what a mark by this worker answers
 module _ (old : GraphValue) (worker called rival : ℕ) (new : GraphValue) (result : Bool) (by : called ≡ worker) (answer : IsTrue result ↔ MayMark old called rival)

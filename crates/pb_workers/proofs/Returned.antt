@@ -1,10 +1,7 @@
 -- What a lease that came back leaves.
 use Rattle.std.proofs.Common.{◌≡◌, ℕ, ◌+◌, ◌-◌, ◌<◌, Bool, true, false, cond, ◌&&◌, is_some, is_none, [], ◌∷◌, Option, Some, None, refl, sym, ap, ◌∙◌, arith, subst, true≢false}
-use Rattle.pb_model.specs.declared.key.Key.{Key}
-use Rattle.pb_model.specs.Weight.{Weight}
-use Rattle.pb_model.specs.Key.{IsBest}
-use Rattle.pb_model.specs.Store.{Part, Rows, HasOpened}
-use Rattle.pb_model.proofs.Tests.{by_cases, equal_self}
+use Rattle.pb_model.specs.Store.{Rows, HasOpened}
+use Rattle.pb_model.proofs.Tests.{equal_self}
 use Rattle.pb_machine.specs.declared.event.End.{End}
 use Rattle.pb_machine.specs.declared.event.End.TheVariants.{Memory}
 use Rattle.pb_machine.specs.declared.event.Event.TheVariants.{Release, Ended}
@@ -16,8 +13,8 @@ use Rattle.pb_machine.specs.Counts.{Counts, quota_of, counts_after}
 use Rattle.pb_machine.specs.Machine.{Machine, lent_store}
 use Rattle.pb_machine.proofs.TableLaws.{entry_here}
 use Rattle.pb_abstract.specs.Graph.{AbstractGraph, blocks_of}
-use Rattle.pb_lists.specs.Bundle.{Content, row_of}
-use Rattle.pb_bundles.specs.Parts.{content_in, rows_in}
+use Rattle.pb_lists.specs.Bundle.{Content}
+use Rattle.pb_bundles.specs.Parts.{content_in}
 use Rattle.pb_bundles.specs.Homes.{key_at}
 use Rattle.pb_bundles.proofs.ByKey.{opened_is_by_key}
 use Rattle.pb_lease.specs.Tables.{blocks}
@@ -28,6 +25,7 @@ use Rattle.pb_lease.specs.GraphValue.{GraphValue, setup_in, counts_in, IsLeaseGr
 use Rattle.pb_lease.specs.Moments.{IsMoment}
 use Rattle.pb_lease.specs.Steps.{IsReleased}
 use Rattle.pb_lease.proofs.GraphBasics.{setup_is}
+use Rattle.pb_yard.proofs.Causes.{brought_opened, block_known, none_here, none_left}
 use Rattle.pb_workers.specs.Runs.{IsSameSearch}
 use Rattle.pb_workers.specs.Holding.{opened_blocks}
 use Rattle.pb_workers.proofs.Opened.{none_opened, count_fewer}
@@ -75,35 +73,12 @@ returned_end old lease new r none = ap (λ (c : Counts). c.end) r.events.counts
 
 -- ---- keys
 
-opened_best : (weight : Weight) (part : Part) (key : Option Key) → IsBest weight part key → is_some key ≡ true → HasOpened part
-opened_best weight part None best there = absurd (true≢false (sym there))
-opened_best weight part (Some key) best there = (best.0.0, best.0.1, best.0.2, best.0.3)
-
 module _ (old : GraphValue) (k : IsLeaseGraph old) (lease : LeaseValue) (of : IsOfGraph old lease) (new : GraphValue) (r : IsReleased old lease false new)
     (recorded : (worker : ℕ) → Rows) (machine : Machine) (m : IsMoment old recorded machine) (out : IsOutInTurns (setup_in old) machine 0 lease) where
-  brought : (block : ℕ) (content : Content) → content_in lease.parts block ≡ Some content → is_some (key_at new.homes block) ≡ true → HasOpened ((leased_store lease).rows block)
-  brought block content is there =
-      subst (λ (o : Option Content). HasOpened (rows_in o)) (sym is) (opened_best content.weight (row_of content) (key_at new.homes block) (r.noted.noted block content is) there)
-
-  block_known : lease.block < (blocks old.table).count
-  block_known = (m.at.lawful.counts.known lease.worker (grant_of lease) out.0.leased).1
-
-  own_there : is_some (content_in lease.parts lease.block) ≡ true
-  own_there = of.scope.blocks lease.block ∙ (setup_is old k).blocks.own lease.block block_known
-
-  none_here : (HasOpened ((leased_store lease).rows lease.block) → ⊥) → is_some (key_at new.homes lease.block) ≡ false
-  none_here none = by_cases (is_some (key_at new.homes lease.block)) (λ e. absurd (none (go (content_in lease.parts lease.block) refl own_there e))) (λ e. e)
-    where
-      go : (o : Option Content) → content_in lease.parts lease.block ≡ o → is_some o ≡ true → is_some (key_at new.homes lease.block) ≡ true → HasOpened ((leased_store lease).rows lease.block)
-      go None is some there = absurd (true≢false (sym some))
-      go (Some content) is some there = brought lease.block content is there
-
   -- no row of its block is Opened in the whole store then
-  pub none_left : (HasOpened ((leased_store lease).rows lease.block) → ⊥) → (after : (worker : ℕ) → Rows) (next : Machine) → IsMoment new after next
+  pub none_opened_then : (HasOpened ((leased_store lease).rows lease.block) → ⊥) → (after : (worker : ℕ) → Rows) (next : Machine) → IsMoment new after next
       → HasOpened (next.store.rows lease.block) → ⊥
-  none_left none after next n opened =
-      let there = ((opened_is_by_key next.store (key_at new.homes) n.at.keys).0 lease.block).1 opened in
-      true≢false (sym there ∙ none_here none)
+  none_opened_then none after next n = none_left old lease new r.noted (setup_is old k) of recorded machine m.at none after next n.at
 
   module _ (unused : lease.used ≡ 0) where
     lent : (block : ℕ) → HasOpened ((leased_store lease).rows block) → HasOpened ((lent_store (setup_in old) lease.block machine.store (machine.given lease.worker)).rows block)
@@ -123,10 +98,11 @@ module _ (old : GraphValue) (k : IsLeaseGraph old) (lease : LeaseValue) (of : Is
       where
         go : (o : Option Content) → content_in lease.parts block ≡ o → is_some (key_at old.homes block) ≡ true
         go None is = ap is_some (sym (r.noted.others block is)) ∙ there
-        go (Some content) is = ((opened_is_by_key machine.store (key_at old.homes) m.at.keys).0 block).1 (inside block (lent block (brought block content is there)))
+        go (Some content) is = ((opened_is_by_key machine.store (key_at old.homes) m.at.keys).0 block).1 (inside block (lent block (brought_opened old lease new r.noted block content is there)))
 
     -- fewer blocks have an Opened row: not the lease's any more, and no other one that had none
     pub fewer_opened : is_some (key_at old.homes lease.block) ≡ true → (HasOpened ((leased_store lease).rows lease.block) → ⊥) → opened_blocks new < opened_blocks old
     fewer_opened opened none =
         subst (λ (a : AbstractGraph). count_below (blocks_of a).count (λ block. is_some (key_at new.homes block)) < opened_blocks old) (sym r.events.graph)
-        (count_fewer (blocks old.table).count lease.block (λ block. is_some (key_at new.homes block)) (λ block. is_some (key_at old.homes block)) still_opened block_known (none_here none) opened)
+        (count_fewer (blocks old.table).count lease.block (λ block. is_some (key_at new.homes block)) (λ block. is_some (key_at old.homes block)) still_opened (block_known old lease new r.noted (setup_is old k) of recorded machine m.at)
+        (none_here old lease new r.noted (setup_is old k) of recorded machine m.at none) opened)

@@ -18,9 +18,10 @@ use Rattle.pb_lease.specs.Choices.{is_out_in, IsOver}
 use Rattle.pb_lease.specs.Steps.{IsLeased, LeasesNext, IsEnded, KeepsLeases, end_events}
 use Rattle.pb_lease.proofs.GraphBasics.{passes_from}
 use Rattle.pb_lease.proofs.InOrder.{leases_in_order}
+use Rattle.pb_yard.proofs.InTime.{in_time_one, end_grants_none}
 use Rattle.pb_workers.specs.Runs.{IsSameSearch, IsAnyMoment, RunsOn}
 use Rattle.pb_workers.specs.Holding.{IsHeld, RunsHome, left_with, opened_blocks, IsNearer}
-use Rattle.pb_workers.proofs.Going.{run_one, run_then, run_home, on_then, keeping_runs, alone_one, end_grants_none}
+use Rattle.pb_workers.proofs.Going.{run_one, run_then, run_home, on_then, keeping_runs}
 
 -- ---- one worker
 
@@ -79,7 +80,7 @@ leased_runs first old mid new worker lease l next back same home before recorded
     let after = with_entry recorded lease.worker (away_rows lease.parts) in
     let c = back after b.0 b.1.moment b.3 in
     let leased = run_one old a.0 (Lease lease.worker lease.block lease.quota ∷ []) mid after b.0 b.1
-    (alone_one (setup_in old) (Lease lease.worker lease.block lease.quota) a.0 b.0 (b.2 ∙ l.lent_incumbent ∙ sym l.incumbent ∙ sym b.1.moment.incumbent) tt b.1.moves)
+    (in_time_one (setup_in old) (Lease lease.worker lease.block lease.quota) a.0 b.0 (b.2 ∙ l.lent_incumbent ∙ sym l.incumbent ∙ sym b.1.moment.incumbent) tt b.1.moves)
     (subst (λ w. mid.table.journal ≡ old.table.journal ++ Lease w lease.block lease.quota ∷ []) (sym l.worker_is) l.events.journal) in (
       c.1,
       run_then first old new machine a.0 c.1 recorded recorded same a.1

@@ -2,6 +2,7 @@
 use Rattle.std.proofs.Common.{◌≡◌, ℕ, ◌-◌, ◌<◌, ◌||◌, Bool, true, false, cond, is_some, List, [], ◌∷◌, Option, Some, None, refl, sym, ap, ◌∙◌, arith, subst, inl, inr, true≢false}
 use Rattle.std.specs.List.{list_any}
 use Rattle.std.proofs.lemmas.List.Folds.{list_any-append}
+use Rattle.pb_model.specs.Work.{Work}
 use Rattle.pb_model.proofs.Tests.{by_cases, equal_self}
 use Rattle.pb_machine.specs.declared.event.End.{End}
 use Rattle.pb_machine.specs.declared.event.Event.{Event}
@@ -9,6 +10,7 @@ use Rattle.pb_machine.specs.declared.event.Event.TheVariants.{Hot, Off}
 use Rattle.pb_machine.specs.Counts.{Counts}
 use Rattle.pb_machine.specs.History.{events_of, is_event_of, is_off, end_in}
 use Rattle.pb_machine.specs.Machine.{IsWorked, lent_store}
+use Rattle.pb_machine.specs.Turns.{AreLeaseTurns}
 use Rattle.pb_machine.proofs.EndsTold.{ends_are_told}
 use Rattle.pb_machine.proofs.LeaseWork.{lease_work_stays}
 use Rattle.pb_task.specs.declared.parts.TaskParts.{TaskParts}
@@ -175,17 +177,27 @@ module _ (task : TaskParts) (graph : AbstractGraph) (view : View) (live : view.j
     pub lease_of : IsLeaseOf view worked
     lease_of = (same.worker ∙ worker_is, ap grant_in l.lent ∙ (λ i. Some (record { block = sym same.block i; quota = sym same.quota i })))
 
+    -- so many expansions in turns
+    abbrev InTurns : TaskParts → AbstractGraph → ℕ → Type 0
+    InTurns p a used = (work : IsWorked (space_of p) (guide_of p a) lease.block used broken (was_read view) (leased_store lease) (leased_store worked))
+        × AreLeaseTurns (space_of p) (guide_of p a) work.works (leased_store lease)
+
+    in_turns : InTurns view.task view.graph worked.used
+    in_turns =
+        let stays = lease_work_stays (space_of task) (guide_of task graph) lease.block (worked.used - lease.used) broken broken reads_none (was_read view) (leased_store lease) (leased_store worked) turned.work (omega arith)
+        (λ incumbent bad. absurd (true≢false (sym bad))) in
+        subst (λ (p : TaskParts). InTurns p view.graph worked.used) (sym l.task_is) (subst (λ (a : AbstractGraph). InTurns task a worked.used) (sym l.graph_is)
+        (subst (λ used. InTurns task graph used) used_is
+        (stays.0, subst (λ (works : List Work). AreLeaseTurns (space_of task) (guide_of task graph) works (leased_store lease)) (sym stays.1) turned.turns)))
+
     pub brought : IsBrought view broken worked
     brought = record {
       lent = lease;
       lent_is = l.lent;
       same = same;
       weights = scope.weights;
-      work = subst (λ (p : TaskParts). IsWorked (space_of p) (guide_of p view.graph) lease.block worked.used broken (was_read view) (leased_store lease) (leased_store worked)) (sym l.task_is)
-          (subst (λ (a : AbstractGraph). IsWorked (space_of task) (guide_of task a) lease.block worked.used broken (was_read view) (leased_store lease) (leased_store worked)) (sym l.graph_is)
-          (subst (λ used. IsWorked (space_of task) (guide_of task graph) lease.block used broken (was_read view) (leased_store lease) (leased_store worked)) used_is
-          (lease_work_stays (space_of task) (guide_of task graph) lease.block (worked.used - lease.used) broken broken reads_none (was_read view) (leased_store lease) (leased_store worked) turned.work (omega arith)
-          (λ incumbent bad. absurd (true≢false (sym bad)))).0));
+      work = in_turns.0;
+      turns = in_turns.1;
       told = λ cost is. told_none cost is;
     }
 
@@ -198,16 +210,19 @@ module _ (old : View) (most_broken : ℕ) (lease : LeaseValue) (b : IsBrought ol
   read_too journal events (Some cost) is = is
 
   pub still_brought : (step : GraphValue → GraphValue → Type 0) (list : GraphValue → List Event) (new : View) → Looks step list old new → IsBrought new most_broken lease
-  still_brought step list new h = subst (λ (v : View). IsBrought v most_broken lease) (sym h.view) record {
-    lent = b.lent;
-    lent_is = b.lent_is;
-    same = b.same;
-    weights = b.weights;
-    work = (lease_work_stays (space_of old.task) (guide_of old.task old.graph) b.lent.block lease.used most_broken most_broken (was_read old)
-        (was_read (view_then h.found.table.journal (list h.found) old.lent old.told old)) (leased_store b.lent) (leased_store lease) b.work (omega arith)
-        (read_too h.found.table.journal (list h.found))).0;
-    told = b.told;
-  }
+  still_brought step list new h =
+      let stays = lease_work_stays (space_of old.task) (guide_of old.task old.graph) b.lent.block lease.used most_broken most_broken (was_read old)
+      (was_read (view_then h.found.table.journal (list h.found) old.lent old.told old)) (leased_store b.lent) (leased_store lease) b.work (omega arith)
+      (read_too h.found.table.journal (list h.found)) in
+      subst (λ (v : View). IsBrought v most_broken lease) (sym h.view) record {
+        lent = b.lent;
+        lent_is = b.lent_is;
+        same = b.same;
+        weights = b.weights;
+        work = stays.0;
+        turns = subst (λ (works : List Work). AreLeaseTurns (space_of old.task) (guide_of old.task old.graph) works (leased_store b.lent)) (sym stays.1) b.turns;
+        told = b.told;
+      }
 
 pub rival_known : (lease : LeaseValue) (old new : View) (rival : ℕ) → old.journal.is_live ≡ true → AsksRival lease old (Some rival) new → rival < (blocks_of new.graph).count
 rival_known lease old new rival live h =

@@ -16,8 +16,3 @@ mod yard_turns;
 
 pub use alone::run_alone;
 pub use workers::run_workers;
-
-#[cfg(test)]
-mod tests;
-#[cfg(test)]
-mod yard_tests;

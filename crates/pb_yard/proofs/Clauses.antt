@@ -15,6 +15,7 @@ use Rattle.pb_lease.specs.declared.answer.LeaseReply.{LeaseReply}
 use Rattle.pb_lease.specs.declared.answer.LeaseReply.TheVariants.{Leased, NotYet, Over, Memory}
 use Rattle.pb_lease.specs.declared.answer.Renewed.{Renewed}
 use Rattle.pb_lease.specs.declared.answer.Renewed.TheVariants.{Kept, Given}
+use Rattle.pb_lease.specs.Tables.{blocks}
 use Rattle.pb_lease.specs.Events.{Adds, ending}
 use Rattle.pb_lease.specs.LeaseValue.{LeaseValue}
 use Rattle.pb_lease.specs.GraphValue.{GraphValue}
@@ -22,10 +23,12 @@ use Rattle.pb_lease.specs.Choices.{IsOver, IsToWait}
 use Rattle.pb_lease.specs.Steps.{IsLeased, LeasesNext, IsEnded, end_events, KeepsLeases, IsMarked, GoesOn, ChoosesByRows, IsRenewed, RenewsNext, IsReleased, ReleasesNext}
 use Rattle.pb_yard.specs.declared.view.View.{View}
 use Rattle.pb_yard.specs.Views.{view_then, view_left}
+use Rattle.pb_yard.specs.Order.{HasCause}
 use Rattle.pb_yard.specs.Rule.{IsYard}
 use Rattle.pb_yard.specs.Replies.{NoneMayBeLeased, LeasesAs, lease_events, lent_by, told_by, RenewsAs, renewal_events, kept_by, ReleasesAs, release_events, ChangesMarkAs, mark_events, SignsOffAs, off_events}
 use Rattle.pb_yard.specs.Returning.{IsBrought}
 use Rattle.pb_yard.specs.Calls.{Holds}
+use Rattle.pb_yard.proofs.InTime.{GrantsNone, ending_grants_none, end_grants_none}
 use Rattle.pb_yard.proofs.Holding.{holding_keeps}
 use Rattle.pb_yard.proofs.Steps.{Steps, keeps_step, lease_step, release_step, renew_step, same_rest, first_by, end_by, ending_by}
 use Rattle.pb_yard.proofs.Asks.{begins}
@@ -81,34 +84,34 @@ module _ (x y : GraphValue) (v : View) (live : v.journal.is_live ≡ true) where
 
   pub stays : y ≡ x → MayGo x y v live [] v.lent v.told
   stays is views seat h at = subst (λ (z : GraphValue). Steps x z x.incumbent views seat v h at live [] v.lent v.told z.incumbent) (sym is)
-      (keeps_step x x x.incumbent views seat v h at live [] (nothing x) record { task = refl; graph = refl; settings = refl } (sym (append-nil x.table.journal)) (λ other else. refl))
+      (keeps_step x x x.incumbent views seat v h at live [] tt (nothing x) record { task = refl; graph = refl; settings = refl } (sym (append-nil x.table.journal)) (λ other else. refl))
 
   -- all but the tables stay
-  pub keeps : (events : List Event) → Adds x.table y.table events → y ≡ record x { table = y.table } → KeepsLeases x events y → AreBy Own events → MayGo x y v live events v.lent v.told
-  keeps events adds rest k by views seat h at = subst (λ o. Steps x y x.incumbent views seat v h at live events v.lent v.told o) (sym (ap (λ (g : GraphValue). g.incumbent) rest))
-      (keeps_step x y x.incumbent views seat v h at live events k (same_rest x y events adds rest) adds.journal by)
+  pub keeps : (events : List Event) → GrantsNone events → Adds x.table y.table events → y ≡ record x { table = y.table } → KeepsLeases x events y → AreBy Own events → MayGo x y v live events v.lent v.told
+  keeps events none adds rest k by views seat h at = subst (λ o. Steps x y x.incumbent views seat v h at live events v.lent v.told o) (sym (ap (λ (g : GraphValue). g.incumbent) rest))
+      (keeps_step x y x.incumbent views seat v h at live events none k (same_rest x y events adds rest) adds.journal by)
 
   pub may_lease : (reply : LeaseReply) → LeasesAs Own reply x y → MayGo x y v live (lease_events Own reply x) (lent_by reply v.lent) (told_by reply v.told)
   may_lease (Leased lease) is = λ views seat h at. subst (λ o. Steps x y x.incumbent views seat v h at live (lease_events Own (Leased lease) x) (Some lease) None o) (sym is.0.incumbent)
-      (lease_step x y x.incumbent views seat v h at live lease is.0 is.1)
+      (lease_step x y x.incumbent views seat v h at live lease refl is.0 is.1)
   may_lease NotYet is = stays is.2
-  may_lease (Over end) is = keeps (end_events x.table.end end) is.1.events is.1.rest is.2 (end_by Own x.table.end end)
+  may_lease (Over end) is = keeps (end_events x.table.end end) (end_grants_none x.table.end end) is.1.events is.1.rest is.2 (end_by Own x.table.end end)
   may_lease Memory is = stays is.2
 
-  pub may_renew : (lease : LeaseValue) (reply : Renewed) → IsBrought v 0 lease → RenewsAs lease reply x y → MayGo x y v live (renewal_events lease reply) (kept_by reply) None
-  may_renew lease (Kept kept) b is views seat h at = renew_step x y x.incumbent views seat v h at live lease kept b refl is.1 is.3
-  may_renew lease Given b is views seat h at = release_step x y x.incumbent views seat v h at live lease false b refl is.1 is.3
+  pub may_renew : (lease : LeaseValue) (reply : Renewed) → lease.used ≡ lease.quota → length x.homes.keys ≡ (blocks x.table).count → IsBrought v 0 lease → RenewsAs lease reply x y → MayGo x y v live (renewal_events lease reply) (kept_by reply) None
+  may_renew lease (Kept kept) spent places b is views seat h at = renew_step x y x.incumbent views seat v h at live lease kept spent places b refl is.1 is.0 is.3
+  may_renew lease Given spent places b is views seat h at = release_step x y x.incumbent views seat v h at live lease false (inl spent) b refl is.1 is.3
 
-  pub may_release : (lease : LeaseValue) (trouble : Bool) → IsBrought v (one_if trouble) lease → ReleasesAs lease trouble x y → MayGo x y v live (release_events lease trouble x) None None
-  may_release lease trouble b is views seat h at = release_step x y x.incumbent views seat v h at live lease trouble b refl is.0 is.1
+  pub may_release : (lease : LeaseValue) (trouble : Bool) → HasCause lease trouble → IsBrought v (one_if trouble) lease → ReleasesAs lease trouble x y → MayGo x y v live (release_events lease trouble x) None None
+  may_release lease trouble cause b is views seat h at = release_step x y x.incumbent views seat v h at live lease trouble cause b refl is.0 is.1
 
-  pub may_mark : (may : Type 0) (event : Event) (done : Bool) → AreBy Own (event ∷ []) → ChangesMarkAs may Own event done x y → MayGo x y v live (mark_events event done) v.lent v.told
-  may_mark may event true by is = keeps (event ∷ []) is.1.events is.1.rest is.2 by
-  may_mark may event false by is = stays is.1
+  pub may_mark : (may : Type 0) (event : Event) (done : Bool) → GrantsNone (event ∷ []) → AreBy Own (event ∷ []) → ChangesMarkAs may Own event done x y → MayGo x y v live (mark_events event done) v.lent v.told
+  may_mark may event true none by is = keeps (event ∷ []) none is.1.events is.1.rest is.2 by
+  may_mark may event false none by is = stays is.1
 
   pub may_sign_off : (trouble : Bool) → SignsOffAs Own trouble x y → MayGo x y v live (off_events Own trouble x) v.lent v.told
   may_sign_off trouble is =
-      keeps (Off Own trouble ∷ ending trouble x.table.end) is.0.events is.0.rest is.1 (first_by Own (Off Own trouble) (ending trouble x.table.end) (λ other. refl) (ending_by Own trouble x.table.end))
+      keeps (Off Own trouble ∷ ending trouble x.table.end) (ending_grants_none trouble x.table.end) is.0.events is.0.rest is.1 (first_by Own (Off Own trouble) (ending trouble x.table.end) (λ other. refl) (ending_by Own trouble x.table.end))
 
 -- ---- the replies of the graph, by cases
 

@@ -14,7 +14,7 @@ use Rattle.pb_machine.specs.Tables.{with_entry}
 use Rattle.pb_machine.specs.Counts.{Counts}
 use Rattle.pb_machine.specs.Views as of_machine
 use Rattle.pb_machine.specs.Views.{AreTrueOf, AreBy, view_after}
-use Rattle.pb_machine.specs.Machine.{Setup, IsSetup, Machine, opening_machine, Runs, journal_of}
+use Rattle.pb_machine.specs.Machine.{Setup, IsSetup, Machine, opening_machine, journal_of}
 use Rattle.pb_machine.proofs.TableLaws.{entry_here, entry_else}
 use Rattle.pb_machine.proofs.Holding.{holding_keeps_views}
 use Rattle.pb_machine.proofs.LeaseTurns.{runs_go_on}
@@ -26,7 +26,9 @@ use Rattle.pb_lease.specs.Moments.{moves_of, Follows}
 use Rattle.pb_lease.proofs.MomentsStay.{events_leave_others}
 use Rattle.pb_yard.specs.declared.view.View.{View}
 use Rattle.pb_yard.specs.Views.{view_then}
+use Rattle.pb_yard.specs.Order.{RunsInTime}
 use Rattle.pb_yard.specs.Rule.{rows_of, grant_in, journal_view, IsLent, IsKnownTo, IsViewOf, HasNoPass, IsYard}
+use Rattle.pb_yard.proofs.InTime.{in_time_on}
 use Rattle.pb_yard.proofs.Parts.{events_of_moves, GoesOnAs, setup_same, search_same, still_of_graph, moment_where_leased, at_journal, workers_differ, no_pass_before}
 
 -- From the graph x at a moment of the rule these events of one pass's worker, or of nobody, lead to
@@ -34,6 +36,7 @@ use Rattle.pb_yard.proofs.Parts.{events_of_moves, GoesOnAs, setup_same, search_s
 pub record IsStep (x y : GraphValue) (machine next : Machine) (worker : ℕ) (events : List Event) (lent_to : ℕ → Option LeaseValue) (lent : Option LeaseValue) (told : Option ℕ) : Type 0 where
   pub recorded : ℕ → Rows
   pub follows : Follows x machine events y recorded next
+  pub in_time : RunsInTime (setup_in x) machine (moves_of events) next
   pub same : GoesOnAs x y
   pub added : y.table.journal ≡ x.table.journal ++ events
   pub by : AreBy worker events
@@ -64,8 +67,8 @@ module _ (x y : GraphValue) (shared later : Option ℕ) (views : List View) (sea
       → (next.counts.leases other ≡ h.machine.counts.leases other) × (next.given other ≡ h.machine.given other) × (next.told other ≡ h.machine.told other)
   left other else = others_are_left (setup_in x) (moves_of events) h.machine next other s.follows.moves (events_leave_others Own other events s.by else)
 
-  run : Runs (setup_in x) (opening_machine (setup_in x)) (h.moves ++ moves_of events) next
-  run = (runs_go_on (setup_in x) h.moves (moves_of events) (opening_machine (setup_in x)) h.machine next).0 h.run s.follows.moves
+  run : RunsInTime (setup_in x) (opening_machine (setup_in x)) (h.moves ++ moves_of events) next
+  run = in_time_on (setup_in x) h.moves (moves_of events) (opening_machine (setup_in x)) h.machine next h.run s.in_time
 
   journal : journal_of (h.moves ++ moves_of events) ≡ y.table.journal
   journal = (runs_go_on (setup_in x) h.moves (moves_of events) (opening_machine (setup_in x)) h.machine next).2
@@ -133,7 +136,7 @@ module _ (x y : GraphValue) (shared later : Option ℕ) (views : List View) (sea
     moves = h.moves ++ moves_of events;
     machine = next;
     lent = Lent;
-    run = subst (λ (t : Setup). Runs t (opening_machine t) (h.moves ++ moves_of events) next) (sym setup) run;
+    run = subst (λ (t : Setup). RunsInTime t (opening_machine t) (h.moves ++ moves_of events) next) (sym setup) run;
     journal = journal;
     moment = moment_where_leased y s.recorded (λ other. rows_of (Lent other)) next s.records s.follows.moment;
     shared_is = shared_is;
@@ -144,6 +147,6 @@ module _ (x y : GraphValue) (shared later : Option ℕ) (views : List View) (sea
     others = others;
   }
 
-  pub holding_keeps : (after : IsYard y later (set views seat New)) × Runs (setup_in x) h.machine (moves_of events) after.machine
+  pub holding_keeps : (after : IsYard y later (set views seat New)) × RunsInTime (setup_in x) h.machine (moves_of events) after.machine
   unfolding held
-  holding_keeps = (held, s.follows.moves)
+  holding_keeps = (held, s.in_time)

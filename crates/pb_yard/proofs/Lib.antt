@@ -1,4 +1,6 @@
 pub mod Parts
+pub mod InTime
+pub mod Causes
 pub mod Holding
 pub mod Meaning
 pub mod Steps

@@ -4,7 +4,7 @@ use Rattle.pb_task.specs.Parts.{greatest_cost}
 use Rattle.pb_machine.specs.declared.event.Event.{Event}
 use Rattle.pb_machine.specs.Counts.{Counts}
 use Rattle.pb_machine.specs.History.{IsHistory}
-use Rattle.pb_machine.specs.Machine.{opening_machine, lent_store}
+use Rattle.pb_machine.specs.Machine.{opening_machine, Runs, lent_store}
 use Rattle.pb_machine.proofs.MomentLaws.{journals_are_histories, scopes_are_apart}
 use Rattle.pb_machine.proofs.WholeStore.{recorded_rows_are_lent}
 use Rattle.pb_bundles.specs.Homes.{home_rows}
@@ -16,12 +16,16 @@ use Rattle.pb_yard.specs.declared.view.View.{View}
 use Rattle.pb_yard.specs.Rule.{rows_of, grant_in, IsYard}
 use Rattle.pb_yard.specs.Laws.{YardsAreLawful, LentLeasesAreOut, ViewsBeginTheHistory}
 use Rattle.pb_yard.proofs.Parts.{at_journal}
+use Rattle.pb_yard.proofs.InTime.{in_time_is_run}
 
 module _ (g : GraphValue) (shared : Option ℕ) (views : List View) (yard : IsYard g shared views) where
+  pub runs : Runs (setup_in g) (opening_machine (setup_in g)) yard.moves yard.machine
+  runs = in_time_is_run (setup_in g) yard.moves (opening_machine (setup_in g)) yard.machine yard.run
+
   pub history : IsHistory (blocks g.table) g.table.settings 0 g.table.journal (counts_in g)
   history = subst (λ (c : Counts). IsHistory (blocks g.table) g.table.settings 0 g.table.journal c) yard.moment.counts
       (subst (λ (j : List Event). IsHistory (blocks g.table) g.table.settings 0 j yard.machine.counts) yard.journal
-      (journals_are_histories (setup_in g) yard.moves (opening_machine (setup_in g)) yard.machine 0 yard.in_range (omega arith) refl yard.run))
+      (journals_are_histories (setup_in g) yard.moves (opening_machine (setup_in g)) yard.machine 0 yard.in_range (omega arith) refl runs))
 
   module _ (worker : ℕ) (lease : LeaseValue) (is : yard.lent worker ≡ Some lease) where
     pub leased : yard.machine.counts.leases worker ≡ Some (grant_of lease)

@@ -23,6 +23,7 @@ use Rattle.pb_yard.specs.Views.{opening_view, split_view, next_pass_view, met_pa
 use Rattle.pb_yard.specs.Rule.{rows_of, grant_in, journal_view, was_read, IsViewOf, HasNoPass, IsYard}
 use Rattle.pb_yard.specs.Calls.{IsOpening}
 use Rattle.pb_yard.proofs.Parts.{at_journal, below_made, no_pass_before}
+use Rattle.pb_yard.proofs.Meaning.{runs}
 
 -- ---- the first pass
 
@@ -98,7 +99,7 @@ module _ (x : GraphValue) (shared : Option ℕ) (views : List View) (seat : ℕ)
           let bad : None ≡ Some t.0 = sym (h.leases v.journal.made ∙ ap grant_in free) ∙ t.1 in absurd cc
 
   known_none : (worker : ℕ) → h.machine.known worker None ≡ true
-  known_none worker = known_stays (setup_in x) h.moves (opening_machine (setup_in x)) h.machine h.run worker None refl
+  known_none worker = known_stays (setup_in x) h.moves (opening_machine (setup_in x)) h.machine (runs x shared views h) worker None refl
 
   journals : AreTrueOf x.table.settings.workers x.table.journal (map journal_view Both)
   journals = subst (λ (l : List of_machine.View). AreTrueOf x.table.settings.workers x.table.journal l)

@@ -1,5 +1,5 @@
 -- What each call of a graph does is a step of the rule.
-use Rattle.std.proofs.Common.{◌≡◌, ℕ, ◌==◌, Bool, true, false, cond, nat_eq, is_some, List, [], ◌∷◌, ◌++◌, Option, Some, None, refl, sym, ap, ◌∙◌, subst}
+use Rattle.std.proofs.Common.{◌≡◌, ℕ, ◌==◌, inl, inr, length, Bool, true, false, cond, nat_eq, is_some, List, [], ◌∷◌, ◌++◌, Option, Some, None, refl, sym, ap, ◌∙◌, subst}
 use mathlib.Core.Option.{some}
 use lib.ListN.{get_elem?}
 use Rattle.pb_model.specs.Store.{Rows, Store, HasGoalWithin, lesser}
@@ -15,7 +15,7 @@ use Rattle.pb_machine.specs.Counts.{Counts, counts_after}
 use Rattle.pb_machine.specs.History.{is_event_of, events_of}
 use Rattle.pb_machine.specs.Views.{AreBy}
 use Rattle.pb_machine.specs.Machine.{Machine, IsWorked, with_incumbent, KeepsRows}
-use Rattle.pb_machine.specs.Turns.{RunsInOrder}
+use Rattle.pb_machine.specs.Turns.{AreLeaseTurns, RunsInOrder}
 use Rattle.pb_machine.proofs.Known.{known_new}
 use Rattle.pb_machine.proofs.TableLaws.{entry_here, entry_else}
 use Rattle.pb_bundles.specs.Parts.{content_in}
@@ -23,18 +23,22 @@ use Rattle.pb_lists.specs.Bundle.{Content}
 use Rattle.std.specs.Map.{keys_of}
 use Rattle.pb_abstract.specs.Graph.{AbstractGraph}
 use Rattle.pb_bundles.specs.Parts.{away_rows}
+use Rattle.pb_bundles.specs.Moves.{NotesKeys}
 use Rattle.pb_lease.specs.Tables.{blocks}
 use Rattle.pb_lease.specs.Events.{Adds, ending}
 use Rattle.pb_lease.specs.LeaseValue.{LeaseValue, leased_store}
-use Rattle.pb_lease.specs.Leased.{guide_of, grant_of, IsOut}
+use Rattle.pb_lease.specs.Leased.{guide_of, grant_of, IsOutInTurns}
 use Rattle.pb_lease.specs.GraphValue.{GraphValue, setup_in, counts_in, IsOfGraph}
-use Rattle.pb_lease.specs.Moments.{Follows, moves_of, ShowsTold, IsKnownThen}
-use Rattle.pb_lease.specs.Steps.{IsLeased, LeasesNext, end_events, KeepsLeases, IsReleased, ReleasesNext, IsRenewed, RenewsNext}
+use Rattle.pb_lease.specs.Moments.{IsMomentAt, Follows, moves_of, ShowsTold, IsKnownThen}
+use Rattle.pb_lease.specs.Steps.{IsLeased, LeasesNext, end_events, KeepsLeases, IsReleased, ReleasesNext, IsRenewed, RenewsNext, GoesOn}
 use Rattle.pb_lease.proofs.MomentReturns.{ending_leases}
 use Rattle.pb_lease.proofs.WorkedOut.{worked_leases_are_out}
 use Rattle.pb_yard.specs.declared.view.View.{View}
+use Rattle.pb_yard.specs.Order.{HasCause, RunsInTime}
 use Rattle.pb_yard.specs.Rule.{rows_of, grant_in, was_read, IsLent, IsViewOf, IsYard}
 use Rattle.pb_yard.specs.Returning.{IsBrought}
+use Rattle.pb_yard.proofs.InTime.{GrantsNone, ending_grants_none, in_time_one, in_time_events}
+use Rattle.pb_yard.proofs.Causes.{none_left, still_first}
 use Rattle.pb_yard.proofs.Parts.{GoesOnAs, still_of_graph}
 use Rattle.pb_yard.proofs.Holding.{IsStep}
 
@@ -114,12 +118,13 @@ module _ (x y : GraphValue) (shared : Option ℕ) (views : List View) (seat : �
   Steps events lent told incumbent = (next : Machine) × IsStep x y h.machine next Own events h.lent lent told × (next.store.incumbent ≡ incumbent)
 
   -- what leaves all leases as they are
-  pub keeps_step : (events : List Event) → KeepsLeases x events y → GoesOnAs x y → y.table.journal ≡ x.table.journal ++ events → AreBy Own events → Steps events v.lent v.told shared
-  keeps_step events keeps same added by = (
+  pub keeps_step : (events : List Event) → GrantsNone events → KeepsLeases x events y → GoesOnAs x y → y.table.journal ≡ x.table.journal ++ events → AreBy Own events → Steps events v.lent v.told shared
+  keeps_step events none keeps same added by = (
     next,
     record {
       recorded = Recorded;
       follows = k.1;
+      in_time = in_time_events (setup_in x) events h.machine next none k.4;
       same = same;
       added = added;
       by = by;
@@ -152,9 +157,10 @@ module _ (x y : GraphValue) (shared : Option ℕ) (views : List View) (seat : �
 
   -- ---- a lease
 
-  module _ (lease : LeaseValue) (l : IsLeased x Own lease y) (n : LeasesNext x lease y) where
+  module _ (lease : LeaseValue) (is_shared : shared ≡ x.incumbent) (l : IsLeased x Own lease y) (n : LeasesNext x lease y) where
     leased_next : (next : Machine) × Follows x h.machine (Lease Own lease.block lease.quota ∷ []) y (with_entry Recorded Own (away_rows lease.parts)) next
         × (next.given Own ≡ lease.incumbent) × (next.counts.leases Own ≡ Some (grant_of lease)) × (next.store ≡ h.machine.store) × (next.told ≡ with_entry h.machine.told Own None)
+        × RunsInOrder (setup_in x) h.machine (moves_of (Lease Own lease.block lease.quota ∷ [])) next
     leased_next = let t = n Recorded h.machine h.moment in (
       t.0,
       subst (λ w. Follows x h.machine (Lease w lease.block lease.quota ∷ []) y (with_entry Recorded w (away_rows lease.parts)) t.0) l.worker_is t.1,
@@ -162,7 +168,12 @@ module _ (x y : GraphValue) (shared : Option ℕ) (views : List View) (seat : �
       subst (λ w. t.0.counts.leases w ≡ Some (grant_of lease)) l.worker_is t.3.0.leased,
       t.4,
       subst (λ w. t.0.told ≡ with_entry h.machine.told w None) l.worker_is t.5,
+      subst (λ w. RunsInOrder (setup_in x) h.machine (moves_of (Lease w lease.block lease.quota ∷ [])) t.0) l.worker_is t.6,
     )
+
+    -- the lease has the incumbent of the whole store
+    gives_whole : leased_next.0.given Own ≡ leased_next.0.store.incumbent
+    gives_whole = let t = leased_next in t.2 ∙ l.lent_incumbent ∙ sym is_shared ∙ sym h.shared_is ∙ sym (ap (λ (s : Store). s.incumbent) t.4)
 
     pub lease_step : Steps (Lease Own lease.block lease.quota ∷ []) (Some lease) None shared
     lease_step = let t = leased_next in (
@@ -170,6 +181,7 @@ module _ (x y : GraphValue) (shared : Option ℕ) (views : List View) (seat : �
       record {
         recorded = with_entry Recorded Own (away_rows lease.parts);
         follows = t.1;
+        in_time = in_time_one (setup_in x) (Lease Own lease.block lease.quota) h.machine t.0 gives_whole tt t.6;
         same = same_adds x y (Lease Own lease.block lease.quota ∷ []) l.events l.task;
         added = l.events.journal;
         by = first_by Own (Lease Own lease.block lease.quota) [] (λ other. refl) (λ other else. refl);
@@ -194,14 +206,19 @@ module _ (x y : GraphValue) (shared : Option ℕ) (views : List View) (seat : �
     pub is_own : lease.worker ≡ Own
     is_own = b.same.worker ∙ is_lent.worker_is
 
-    worked : IsWorked (setup_in x).space (setup_in x).guide b.lent.block lease.used most_broken (was_read v) (leased_store b.lent) (leased_store lease)
-    worked = subst (λ (t : TaskParts). IsWorked (space_of t) (guide_of t x.table.graph) b.lent.block lease.used most_broken (was_read v) (leased_store b.lent) (leased_store lease)) mine.search.task
-        (subst (λ (a : AbstractGraph). IsWorked (space_of v.task) (guide_of v.task a) b.lent.block lease.used most_broken (was_read v) (leased_store b.lent) (leased_store lease)) mine.search.graph b.work)
+    -- it worked in turns
+    abbrev WorkedBy : TaskParts → AbstractGraph → Type 0
+    WorkedBy t a = (w : IsWorked (space_of t) (guide_of t a) b.lent.block lease.used most_broken (was_read v) (leased_store b.lent) (leased_store lease))
+        × AreLeaseTurns (space_of t) (guide_of t a) w.works (leased_store b.lent)
 
-    out : IsOut (setup_in x) h.machine most_broken lease
-    out = (worked_leases_are_out x Recorded h.machine h.moment b.lent lease most_broken (was_read v) is_lent.of_graph b.same
+    worked : WorkedBy x.task x.table.graph
+    worked = subst (λ (t : TaskParts). WorkedBy t x.table.graph) mine.search.task (subst (λ (a : AbstractGraph). WorkedBy v.task a) mine.search.graph (b.work, b.turns))
+
+    out : IsOutInTurns (setup_in x) h.machine most_broken lease
+    out = let there = worked_leases_are_out x Recorded h.machine h.moment b.lent lease most_broken (was_read v) is_lent.of_graph b.same
         (ap (λ k. rows_of (h.lent k)) is_lent.worker_is ∙ ap rows_of lent_own) (ap h.machine.given is_lent.worker_is ∙ is_lent.given)
-        (λ incumbent has. mine.known.read incumbent has b.lent.worker) worked).0
+        (λ incumbent has. mine.known.read incumbent has b.lent.worker) worked.0 in
+        (there.0, there.1 worked.1)
 
     shows : ShowsTold x h.machine lease
     shows cost told =
@@ -225,10 +242,23 @@ module _ (x y : GraphValue) (shared : Option ℕ) (views : List View) (seat : �
       };
     }
 
-  module _ (lease : LeaseValue) (trouble : Bool) (b : IsBrought v (one_if trouble) lease) (is_shared : shared ≡ x.incumbent) (r : IsReleased x lease trouble y) (n : ReleasesNext x lease trouble y) where
+  module _ (lease : LeaseValue) (trouble : Bool) (cause : HasCause lease trouble) (b : IsBrought v (one_if trouble) lease) (is_shared : shared ≡ x.incumbent) (r : IsReleased x lease trouble y) (n : ReleasesNext x lease trouble y) where
+    abbrev Returns : Bool → Machine → Type 0
+    Returns trouble next = RunsInOrder (setup_in x) h.machine (moves_of (Release lease.worker lease.used trouble ∷ ending trouble x.table.end)) next
+        → RunsInTime (setup_in x) h.machine (moves_of (Release lease.worker lease.used trouble ∷ ending trouble x.table.end)) next
+
+    returns_in_time : (next : Machine) → IsMomentAt y Recorded next → Returns trouble next
+    returns_in_time next m = go trouble cause (r.noted) (out (one_if trouble) lease b).0.leased
+      where
+        go : (trouble : Bool) → HasCause lease trouble → NotesKeys lease.parts x.homes.keys y.homes.keys → h.machine.counts.leases lease.worker ≡ Some (grant_of lease) → Returns trouble next
+        go true why noted leased = in_time_events (setup_in x) (Release lease.worker lease.used true ∷ ending true x.table.end) h.machine next (ending_grants_none true x.table.end)
+        go false (inl spent) noted leased = in_time_one (setup_in x) (Release lease.worker lease.used false) h.machine next tt (grant_of lease, leased, inl spent)
+        go false (inr none) noted leased = in_time_one (setup_in x) (Release lease.worker lease.used false) h.machine next tt
+            (grant_of lease, leased, inr (none_left x lease y noted h.is_setup (brought_of_graph (one_if trouble) lease b) Recorded h.machine h.moment none Recorded next m))
+
     pub release_step : Steps (Release lease.worker lease.used trouble ∷ ending trouble x.table.end) None None y.incumbent
     release_step =
-        let t = n Recorded h.machine h.moment (out (one_if trouble) lease b) (shows (one_if trouble) lease b) (known_then (one_if trouble) lease b is_shared r.incumbent) in
+        let t = n Recorded h.machine h.moment (out (one_if trouble) lease b).0 (shows (one_if trouble) lease b) (known_then (one_if trouble) lease b is_shared r.incumbent) in
         let own : lease.worker ≡ Own = is_own (one_if trouble) lease b in
         let gone : t.0.counts.leases Own ≡ None =
         ap t.0.counts.leases (sym own) ∙ ap (λ (c : Counts). c.leases lease.worker) t.1.moment.counts ∙ ap (λ (c : Counts). c.leases lease.worker) r.events.counts
@@ -238,6 +268,7 @@ module _ (x y : GraphValue) (shared : Option ℕ) (views : List View) (seat : �
           record {
             recorded = Recorded;
             follows = t.1;
+            in_time = returns_in_time t.0 t.1.moment (t.4 (out (one_if trouble) lease b).1);
             same = same_adds x y (Release lease.worker lease.used trouble ∷ ending trouble x.table.end) r.events r.task;
             added = r.events.journal;
             by = first_by Own (Release lease.worker lease.used trouble) (ending trouble x.table.end) (λ other. ap (λ w. w == other) own) (ending_by Own trouble x.table.end);
@@ -251,11 +282,15 @@ module _ (x y : GraphValue) (shared : Option ℕ) (views : List View) (seat : �
           t.2 ∙ brought (one_if trouble) lease b is_shared r.incumbent,
         )
 
-  module _ (lease kept : LeaseValue) (b : IsBrought v 0 lease) (is_shared : shared ≡ x.incumbent) (r : IsRenewed x lease kept y) (n : RenewsNext x lease kept y) where
+  module _ (lease kept : LeaseValue) (spent : lease.used ≡ lease.quota) (places : length x.homes.keys ≡ (blocks x.table).count) (b : IsBrought v 0 lease) (is_shared : shared ≡ x.incumbent)
+      (r : IsRenewed x lease kept y) (goes : GoesOn x lease y) (n : RenewsNext x lease kept y) where
     pub renew_step : Steps (Renew lease.worker lease.used kept.quota ∷ []) (Some kept) None y.incumbent
     renew_step =
-        let t = n Recorded h.machine h.moment (out 0 lease b) (shows 0 lease b) (known_then 0 lease b is_shared r.incumbent) in
+        let t = n Recorded h.machine h.moment (out 0 lease b).0 (shows 0 lease b) (known_then 0 lease b is_shared r.incumbent) in
         let own : lease.worker ≡ Own = is_own 0 lease b in
+        let after = with_entry Recorded lease.worker (away_rows kept.parts) in
+        let whole : t.0.given lease.worker ≡ t.0.store.incumbent =
+        ap t.0.given (ap (λ (k : LeaseValue). k.worker) (sym r.kept_is)) ∙ t.2 ∙ ap (λ (k : LeaseValue). k.incumbent) r.kept_is ∙ ap (λ o. lesser o lease.incumbent) (sym is_shared ∙ sym h.shared_is) ∙ sym t.4 in
         let kept_own : kept.worker ≡ Own = ap (λ (k : LeaseValue). k.worker) r.kept_is ∙ own in
         let same : y.table.journal ≡ x.table.journal ++ Renew lease.worker lease.used kept.quota ∷ [] =
         r.events.journal ∙ ap (λ (k : LeaseValue). x.table.journal ++ Renew lease.worker lease.used k.quota ∷ []) (sym r.kept_is) in (
@@ -263,6 +298,8 @@ module _ (x y : GraphValue) (shared : Option ℕ) (views : List View) (seat : �
           record {
             recorded = with_entry Recorded lease.worker (away_rows kept.parts);
             follows = t.1;
+            in_time = in_time_one (setup_in x) (Renew lease.worker lease.used kept.quota) h.machine t.0 whole
+                (grant_of lease, (out 0 lease b).0.leased, spent, still_first x lease y r.noted places Recorded after h.machine t.0 h.moment t.1.moment goes.0) (t.6 (out 0 lease b).1);
             same = record { task = r.task; graph = r.events.graph; settings = r.events.settings };
             added = same;
             by = first_by Own (Renew lease.worker lease.used kept.quota) [] (λ other. ap (λ w. w == other) own) (λ other else. refl);

@@ -35,6 +35,7 @@ lent_leases_may_come_back g view at live lease is untold most_broken =
       same = record { worker = refl; block = refl; quota = refl; weight = refl; places = refl; incumbent = at_most_self lease.incumbent };
       weights = it.of_graph.scope.weights;
       work = record { works = []; on = tt; comes = refl; used_is = sym it.unused; few_broken = omega arith; stops = tt };
+      turns = tt;
       told = λ cost told. let bad : None ≡ Some cost = sym untold ∙ told in absurd cc;
     }
 

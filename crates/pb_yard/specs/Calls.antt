@@ -6,7 +6,7 @@ use Rattle.pb_machine.specs.declared.event.Event.{Event}
 use Rattle.pb_machine.specs.declared.event.Event.TheVariants.{Hot, Cold}
 use Rattle.pb_machine.specs.History.{StartsWith, is_off, AreFinished, IsHistory}
 use Rattle.pb_machine.specs.Views.{IsShareOf}
-use Rattle.pb_machine.specs.Machine.{Machine, opening_machine, Move, Runs, journal_of}
+use Rattle.pb_machine.specs.Machine.{Machine, opening_machine, Move, journal_of}
 use Rattle.pb_lease.specs.declared.answer.LeaseReply.{LeaseReply}
 use Rattle.pb_lease.specs.declared.answer.Renewed.{Renewed}
 use Rattle.pb_lease.specs.Tables.{blocks}
@@ -16,6 +16,7 @@ use Rattle.pb_lease.specs.Choices.{is_out_in}
 use Rattle.pb_lease.specs.Moments.{IsMoment, moves_of}
 use Rattle.pb_yard.specs.declared.view.View.{View}
 use Rattle.pb_yard.specs.Views.{view_then}
+use Rattle.pb_yard.specs.Order.{RunsInTime}
 use Rattle.pb_yard.specs.Rule.{IsAt, IsSearchOf}
 use Rattle.pb_yard.specs.Replies.{LeasesAs, lease_events, lent_by, told_by, RenewsAs, renewal_events, kept_by, ReleasesAs, release_events, RivalsAs, MarksAs, CoolsAs, mark_events, SignsOffAs, off_events}
 
@@ -32,8 +33,9 @@ pub record IsOpening (g : GraphValue) : Type 0 where
 -- The pass held the graph once. It found one that is a lawful moment, whose journal begins with all
 -- that the pass had seen. The graph went from there to the one that the pass left as `step` says,
 -- which is a lawful moment too. Exactly these events came to the journal, and they are the moves
--- that lead from the one moment to the other. The pass has seen the whole journal then, and of the
--- events that came has its own worker's; it has this lease, and has told this cost.
+-- that lead from the one moment to the other, in order and in time. The pass has seen the whole
+-- journal then, and of the events that came has its own worker's; it has this lease, and has told
+-- this cost.
 pub record Holds (step : (found left : GraphValue) → Type 0) (events : (found : GraphValue) → List Event) (old : View) (lent : Option LeaseValue) (told : Option ℕ) (new : View) : Type 0 where
   pub found : GraphValue
   pub left : GraphValue
@@ -42,7 +44,7 @@ pub record Holds (step : (found left : GraphValue) → Type 0) (events : (found 
   pub seen : StartsWith found.table.journal old.journal.seen
   pub step_is : step found left
   pub added : left.table.journal ≡ found.table.journal ++ events found
-  pub moves : Runs (setup_in found) before.yard.machine (moves_of (events found)) after.yard.machine
+  pub moves : RunsInTime (setup_in found) before.yard.machine (moves_of (events found)) after.yard.machine
   pub view : new ≡ view_then found.table.journal (events found) lent told old
 
 -- the pass asked for a lease, with this answer
@@ -107,7 +109,7 @@ pub record AllSignedOff (view : View) : Type 0 where
 -- The graph is of the search that the yard began with. Its journal is what the pass has seen, and
 -- is a finished history: an end stands and every worker has signed off. Each worker's events in it
 -- are those that the pass has of it. No lease is out, and the graph is the moment of the lease
--- machine to which moves from the opening lead whose events are the journal.
+-- machine to which moves from the opening lead, in order and in time, whose events are the journal.
 pub record IsClosed (view : View) (g : GraphValue) : Type 0 where
   pub search : IsSearchOf g view
   pub seen : view.journal.seen ≡ g.table.journal
@@ -117,6 +119,6 @@ pub record IsClosed (view : View) (g : GraphValue) : Type 0 where
   pub home : IsFalse (is_out_in g)
   pub moves : List Move
   pub machine : Machine
-  pub run : Runs (setup_in g) (opening_machine (setup_in g)) moves machine
+  pub run : RunsInTime (setup_in g) (opening_machine (setup_in g)) moves machine
   pub journal : journal_of moves ≡ g.table.journal
   pub moment : (recorded : (worker : ℕ) → Rows) → IsMoment g recorded machine

@@ -7,7 +7,8 @@ use Rattle.pb_machine.specs.declared.event.Event.{Event}
 use Rattle.pb_machine.specs.Blocks.{interferes}
 use Rattle.pb_machine.specs.History.{IsHistory, StartsWith, is_off, end_in}
 use Rattle.pb_machine.specs.Views.{IsShareOf}
-use Rattle.pb_machine.specs.Machine.{lent_store}
+use Rattle.pb_machine.specs.Machine.{Setup, Machine, lent_store, Move, Runs}
+use Rattle.pb_machine.specs.Turns.{RunsInOrder}
 use Rattle.pb_machine.specs.Lawful.{IsLawful}
 use Rattle.pb_lease.specs.declared.answer.LeaseReply.TheVariants.{Over}
 use Rattle.pb_lease.specs.Tables.{blocks}
@@ -16,6 +17,7 @@ use Rattle.pb_lease.specs.Leased.{grant_of}
 use Rattle.pb_lease.specs.GraphValue.{GraphValue, setup_in, counts_in}
 use Rattle.pb_yard.specs.declared.view.View.{View}
 use Rattle.pb_yard.specs.Views.{view_then}
+use Rattle.pb_yard.specs.Order.{RunsInTime}
 use Rattle.pb_yard.specs.Rule.{IsYard, IsAt}
 use Rattle.pb_yard.specs.Returning.{IsBrought}
 use Rattle.pb_yard.specs.Calls.{Leases, SignsOff, HasSignedOff, IsActive}
@@ -68,3 +70,9 @@ ActiveStay =
 abbrev pub SigningOffIsSeen : Type 0
 SigningOffIsSeen = (worker : ℕ) (trouble : Bool) (old new : View) → old.journal.own.worker ≡ worker → SignsOff worker trouble old new
     → HasSignedOff new
+
+-- A run in order and in time is one in order, and so a run.
+abbrev pub RunsInTimeAreInOrder : Type 0
+RunsInTimeAreInOrder =
+    (setup : Setup) (moves : List Move) (old new : Machine) → RunsInTime setup old moves new
+    → RunsInOrder setup old moves new × Runs setup old moves new

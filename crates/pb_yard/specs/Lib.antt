@@ -1,4 +1,5 @@
 pub mod Views
+pub mod Order
 pub mod Rule
 pub mod Replies
 pub mod Returning

@@ -4,6 +4,7 @@ use Rattle.std.specs.Prelude.{◌≡◌, ℕ, Some}
 use Rattle.pb_model.specs.Store.{HasGoalWithin}
 use Rattle.pb_task.specs.Parts.{space_of}
 use Rattle.pb_machine.specs.Machine.{IsWorked}
+use Rattle.pb_machine.specs.Turns.{AreLeaseTurns}
 use Rattle.pb_lease.specs.LeaseValue.{LeaseValue, leased_store, HasWeights, IsSameLease}
 use Rattle.pb_lease.specs.Leased.{guide_of, grant_of}
 use Rattle.pb_yard.specs.declared.view.View.{View}
@@ -14,12 +15,14 @@ abbrev pub IsLeaseOf : View → LeaseValue → Type 0
 IsLeaseOf view lease = (lease.worker ≡ view.journal.own.worker) × (grant_in view.lent ≡ Some (grant_of lease))
 
 -- The lease came from the one that the pass was lent by the work of its worker: by exactly the
--- expansions that it counts, and by at most this many that were broken off. What its worker told is
--- shown by a goal's row of the lease.
+-- expansions that it counts, and by at most this many that were broken off. It was done in turns,
+-- each on the first Opened row of the block. What its worker told is shown by a goal's row of the
+-- lease.
 pub record IsBrought (view : View) (most_broken : ℕ) (lease : LeaseValue) : Type 0 where
   pub lent : LeaseValue
   pub lent_is : view.lent ≡ Some lent
   pub same : IsSameLease lent lease
   pub weights : HasWeights lease
   pub work : IsWorked (space_of view.task) (guide_of view.task view.graph) lent.block lease.used most_broken (was_read view) (leased_store lent) (leased_store lease)
+  pub turns : AreLeaseTurns (space_of view.task) (guide_of view.task view.graph) work.works (leased_store lent)
   pub told : (cost : ℕ) → view.told ≡ Some cost → HasGoalWithin (space_of view.task) (guide_of view.task view.graph) (leased_store lease) cost

@@ -10,13 +10,14 @@ use Rattle.pb_machine.specs.declared.event.Grant.{Grant}
 use Rattle.pb_machine.specs.Settings.{AreInRange}
 use Rattle.pb_machine.specs.Views as of_machine
 use Rattle.pb_machine.specs.Views.{AreTrueOf}
-use Rattle.pb_machine.specs.Machine.{IsSetup, Machine, opening_machine, Move, Runs, journal_of}
+use Rattle.pb_machine.specs.Machine.{IsSetup, Machine, opening_machine, Move, journal_of}
 use Rattle.pb_bundles.specs.Parts.{away_rows}
 use Rattle.pb_lease.specs.LeaseValue.{LeaseValue}
 use Rattle.pb_lease.specs.Leased.{grant_of}
 use Rattle.pb_lease.specs.GraphValue.{GraphValue, setup_in, IsOfGraph}
 use Rattle.pb_lease.specs.Moments.{IsMomentAt}
 use Rattle.pb_yard.specs.declared.view.View.{View}
+use Rattle.pb_yard.specs.Order.{RunsInTime}
 
 -- the rows that a lease was given or last renewed with
 abbrev pub rows_of : Option LeaseValue → Rows
@@ -70,16 +71,16 @@ HasNoPass worker views = (seat : ℕ) (view : View) → get_elem? views seat ≡
     → IsFalse (view.journal.own.worker == worker)
 
 -- The graph, with what its workers were lent, is a lawful moment of the lease machine, to which
--- moves from the opening lead whose events are the journal. This is the least cost that was found
--- or told. The views of all passes are true of the journal and of what is lent, and who has no live
--- pass has no lease.
+-- moves from the opening lead, in order and in time, whose events are the journal. This is the
+-- least cost that was found or told. The views of all passes are true of the journal and of what is
+-- lent, and who has no live pass has no lease.
 pub record IsYard (g : GraphValue) (shared : Option ℕ) (views : List View) : Type 0 where
   pub is_setup : IsSetup (setup_in g) greatest_cost
   pub in_range : AreInRange g.table.settings
   pub moves : List Move
   pub machine : Machine
   pub lent : (worker : ℕ) → Option LeaseValue
-  pub run : Runs (setup_in g) (opening_machine (setup_in g)) moves machine
+  pub run : RunsInTime (setup_in g) (opening_machine (setup_in g)) moves machine
   pub journal : journal_of moves ≡ g.table.journal
   pub moment : IsMomentAt g (λ worker. rows_of (lent worker)) machine
   pub shared_is : machine.store.incumbent ≡ shared

@@ -1,5 +1,5 @@
 //! What the rule of a yard means. Each law is the contract of a function without a body.
-ghost use Rattle.pb_yard.specs.Laws.{YardsAreLawful, LentLeasesAreOut, ViewsBeginTheHistory, LentLeasesMayComeBack, EndsAreSeen, ActiveStay, SigningOffIsSeen};
+ghost use Rattle.pb_yard.specs.Laws.{YardsAreLawful, LentLeasesAreOut, ViewsBeginTheHistory, LentLeasesMayComeBack, EndsAreSeen, ActiveStay, SigningOffIsSeen, RunsInTimeAreInOrder};
 
 /// The moment is lawful, and the journal is a legal history. No block is in the scopes of two
 /// leases that are out, and no two hot blocks interfere.
@@ -36,4 +36,9 @@ pub fn active_stay()
 /// After its own sign-off a worker has signed off.
 pub fn signing_off_is_seen()
     ensures { SigningOffIsSeen }
+{}
+
+/// A run in order and in time is one in order, and so a run of the lease machine.
+pub fn runs_in_time_are_in_order()
+    ensures { RunsInTimeAreInOrder }
 {}

@@ -2,6 +2,7 @@
 ghost use Rattle.std.specs.Prelude.{◌≡◌, None};
 ghost use Rattle.pb_machine.specs.Tables.{one_if};
 ghost use Rattle.pb_yard.specs.Passes.{view_of, worker_of, IsOf, KeepsPass};
+ghost use Rattle.pb_yard.specs.Order.{HasCause};
 ghost use Rattle.pb_yard.specs.Returning.{IsBrought};
 ghost use Rattle.pb_yard.specs.Calls.{IsActive, Leases, Renews, Releases};
 
@@ -29,15 +30,18 @@ impl Yard {
     }
 
     /// The pass's worker asks to go on with its lease, which came from the one that it was lent by
-    /// its work alone.
+    /// its work alone, in turns. The lease's quota is used up.
     pub fn renew<W: Wait>(&self, rt: &W, pass: &mut Pass, lease: Lease) -> Renewed
         requires own { IsOf self.now pass.old }
         requires brought { IsBrought (view_of pass.old) 0 lease }
+        requires spent { lease.used ≡ lease.quota }
         ensures same { KeepsPass pass.old pass.new }
         ensures renewed { Renews lease (view_of pass.old) result (view_of pass.new) }
     {
         let mut held = self.lock.enter(rt, &mut pass.turn);
-        let reply = held.state_mut().renew(lease);
+        let graph = held.state_mut();
+        let _ = graph.abstraction();
+        let reply = graph.renew(lease);
         pass.seen = held.state().journal().len() as u64;
         self.lock
             .leave::<AfterRenewal>(&mut pass.turn, held, &reply);
@@ -45,10 +49,12 @@ impl Yard {
     }
 
     /// The pass's worker brings its lease back, which came from the one that it was lent by its
-    /// work alone. An expansion may have been broken off only where want of memory is reported.
+    /// work alone, in turns. It has a cause: its quota is used up, no row of its block is Opened, or
+    /// want of memory is reported. Only then an expansion may have been broken off.
     pub fn release<W: Wait>(&self, rt: &W, pass: &mut Pass, lease: Lease, trouble: bool)
         requires own { IsOf self.now pass.old }
         requires brought { IsBrought (view_of pass.old) (one_if trouble) lease }
+        requires cause { HasCause lease trouble }
         ensures same { KeepsPass pass.old pass.new }
         ensures released { Releases lease trouble (view_of pass.old) (view_of pass.new) }
     {

@@ -17,14 +17,12 @@ mod marks;
 mod pass;
 mod passes;
 mod rule;
-#[cfg(test)]
-mod tests;
 mod view;
 mod yard;
 
 pub use laws::{
     active_stay, ends_are_seen, lent_leases_are_out, lent_leases_may_come_back,
-    signing_off_is_seen, views_begin_the_history, yards_are_lawful,
+    runs_in_time_are_in_order, signing_off_is_seen, views_begin_the_history, yards_are_lawful,
 };
 pub use pass::Pass;
 pub use rule::YardRule;

@@ -6,18 +6,18 @@ use Rattle.pb_answer.proofs.Certified.{is_certificate, certifies}
 use Rattle.pb_answer.proofs.solve.certify.Goals as goal
 
 pub returns-in_ok-certificate-in-Some : goal.returns-in_ok-certificate-in-Some
-returns-in_ok-certificate-in-Some c = λ is backs fits.
+returns-in_ok-certificate-in-Some c = λ best.
     certifies c.args.task.now (solve_meant c.args.solve.now) c.args.graph.now c.requires.quiet
     c.args.plan (Some c.in-Some.name.now) (rw c.in-Some.is refl)
-    (output c.in-Some.name.now (text_of c.in_ok-certificate-in-Some.certificate) ∷ []) backs
+    (output c.in-Some.name.now (text_of c.in_ok-certificate-in-Some.certificate) ∷ []) best
     (is_certificate c.args.task.now (solve_meant c.args.solve.now) c.args.graph.now c.requires.quiet
     c.max_degree-lawful.ensures.lawful c.requires.range c.in_ok-certificate-in-Some.certificate
     c.args.plan c.in-Some.name.now (c.in_ok-certificate-in-Some.ensures.kind ∙ c.kind.ensures.kind)
     c.in_ok-certificate-in-Some.ensures.weight c.in_ok-certificate-in-Some.ensures.plan
     c.in_ok-certificate-in-Some.ensures.count c.in_ok-certificate-in-Some.ensures.lines
-    c.in_ok-certificate-in-Some.ensures.valid is backs fits)
+    c.in_ok-certificate-in-Some.ensures.valid best)
 
 pub returns-in-None : goal.returns-in-None
-returns-in-None c = λ is backs fits.
+returns-in-None c = λ best.
     certifies c.args.task.now (solve_meant c.args.solve.now) c.args.graph.now c.requires.quiet
-    c.args.plan None (rw c.in-None.is refl) [] backs refl
+    c.args.plan None (rw c.in-None.is refl) [] best refl

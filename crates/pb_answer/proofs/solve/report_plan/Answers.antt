@@ -3,23 +3,23 @@ use Rattle.std.proofs.lemmas.List.Elements.{All-from_recursion}
 use Rattle.pb_model.specs.Plan.{IsBound}
 use Rattle.pb_task.specs.Parts.{space_of, greatest_cost}
 use Rattle.pb_task.proofs.Grids.{tasks_are_proper}
+use Rattle.pb_made.proofs.QuietEnds.{walk_actions, can_be_traced, traced_plan}
 use Rattle.pb_command.specs.Causes.{solve_meant}
 use Rattle.pb_answer.specs.Searches.{settings_of, weight_asked}
 use Rattle.pb_answer.specs.Claims.{journal_outputs}
 use Rattle.pb_answer.specs.Answer.{certificates_of, journals_of}
-use Rattle.pb_answer.proofs.Groups.{walk_actions}
-use Rattle.pb_answer.proofs.Certified.{can_be_traced, solved, with_journal}
+use Rattle.pb_answer.proofs.Certified.{solved, with_journal}
 use Rattle.pb_answer.proofs.solve.report_plan.Goals as goal
 
 pub trace-requires-clause-sound : goal.trace-requires-clause-sound
 trace-requires-clause-sound c =
-    (can_be_traced c.args.task.now (solve_meant c.args.solve) c.args.graph.now c.requires.quiet
-    c.requires.known.0 c.requires.known.1).0
+    (can_be_traced c.args.task.now (settings_of (solve_meant c.args.solve)) c.args.graph.now
+    c.requires.quiet c.requires.known.0 c.requires.known.1).0
 
 pub trace-requires-clause-goal : goal.trace-requires-clause-goal
 trace-requires-clause-goal c =
-    (can_be_traced c.args.task.now (solve_meant c.args.solve) c.args.graph.now c.requires.quiet
-    c.requires.known.0 c.requires.known.1).1
+    (can_be_traced c.args.task.now (settings_of (solve_meant c.args.solve)) c.args.graph.now
+    c.requires.quiet c.requires.known.0 c.requires.known.1).1
 
 pub plan-requires : goal.plan-requires
 plan-requires c =
@@ -32,15 +32,19 @@ pub returns : goal.returns
 returns c =
     solved c.args.task.now (solve_meant c.args.solve) c.args.graph.now c.requires.quiet
     c.max_degree-lawful.ensures.lawful c.requires.names c.requires.known.0 c.requires.known.1
+    c.in_ok-plan.plan
+    (traced_plan c.args.task.now (settings_of (solve_meant c.args.solve)) c.args.graph.now
+    c.requires.quiet c.max_degree-lawful.ensures.lawful c.requires.known.0 c.requires.known.1
     c.in_ok-plan.plan c.in_ok-plan.ensures.plan c.in_ok-plan.ensures.cheapest
+    c.in_ok-plan.ensures.traced)
     c.bound_of-bound.result
     (subst (λ n. IsBound (weight_asked (solve_meant c.args.solve)) n c.bound_of-bound.result)
     c.cost.ensures c.bound_of-bound.ensures)
     _ refl c.in_ok-report.ensures.report c.in_ok-report.ensures.fits
-    (λ is backs fits.
+    (λ best.
     with_journal (solve_meant c.args.solve) c.args.task.now (Some c.in_ok-plan.plan)
     (certificates_of c.in_ok-certificate.certificate)
     (journal_outputs (solve_meant c.args.solve).journal (settings_of (solve_meant c.args.solve))
     c.args.graph.now.table.journal)
     (journals_of c.save_journal-journal.result) c.save_journal-journal.ensures
-    (c.in_ok-certificate.ensures is backs fits))
+    (c.in_ok-certificate.ensures best))

@@ -4,6 +4,7 @@ use Rattle.pb_check.specs.Kinds.{kind_of}
 use Rattle.pb_check.proofs.Known.{accepted, claimed}
 use Rattle.pb_check.proofs.Completeness.{gives_accepted}
 use Rattle.pb_check.proofs.Claims.{verdicts}
+use Rattle.pb_check.proofs.Cuts.{gives_cut}
 use Rattle.pb_check.proofs.checker.check.Goals as goal
 
 pub returns-clause-valid : goal.returns-clause-valid
@@ -18,3 +19,6 @@ returns-clause-claim c = claimed c.args.task.now c.args.bytes.now c.first_fault.
 pub returns-clause-holds : goal.returns-clause-holds
 returns-clause-holds c =
     verdicts (space_of c.args.task.now) (kind_of c.args.task.now) c.args.bytes.now c.first_fault.result (claimed c.args.task.now c.args.bytes.now c.first_fault.result c.first_fault.ensures.lawful c.first_fault.ensures.exact)
+
+pub returns-clause-cut : goal.returns-clause-cut
+returns-clause-cut c = gives_cut (space_of c.args.task.now) (estimate_of c.args.task.now) (kind_of c.args.task.now) c.args.bytes.now c.first_fault.result c.first_fault.ensures.exact

@@ -12,4 +12,5 @@ returns-clause-app c =
     let certificate = c.in_ok-with_certificate.ensures.app ∙ ap₂ with_rule kind c.required_word-2.ensures.rule in
     let first = c.in_ok-with_first.ensures.app ∙ ap₂ with_rule certificate c.required_word-3.ensures.rule in
     let second = c.in_ok-with_second.ensures.app ∙ ap₂ with_rule first c.optional_word.ensures.rule in
-    IfOk-weaker c.add-5.result _ _ (λ m h. h ∙ ap₂ with_rule second c.number_option.ensures.rule) c.add-5.ensures.app
+    let row = c.in_ok-with_row.ensures.app ∙ ap₂ with_rule second c.number_option.ensures.rule in
+    IfOk-weaker c.add-6.result _ _ (λ m h. h ∙ ap₂ with_rule row c.flag.ensures.rule) c.add-6.ensures.app

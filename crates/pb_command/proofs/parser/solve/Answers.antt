@@ -20,4 +20,5 @@ returns-clause-app c =
     let blocks = c.in_ok-with_blocks.ensures.app ∙ ap₂ with_rule lot c.number_option-7.ensures.rule in
     let certificate = c.in_ok-with_certificate.ensures.app ∙ ap₂ with_rule blocks c.text_option.ensures.rule in
     let journal = c.in_ok-with_journal.ensures.app ∙ ap₂ with_rule certificate c.text_option-2.ensures.rule in
-    IfOk-weaker c.add-13.result _ _ (λ m h. h ∙ ap₂ with_rule journal c.flag.ensures.rule) c.add-13.ensures.app
+    let plain = c.in_ok-with_plain.ensures.app ∙ ap₂ with_rule journal c.flag.ensures.rule in
+    IfOk-weaker c.add-14.result _ _ (λ m h. h ∙ ap₂ with_rule plain c.flag-2.ensures.rule) c.add-14.ensures.app

@@ -4,11 +4,12 @@ use Rattle.pb_pddl.specs.Readings.{tokens_of, domain_reading}
 use Rattle.pb_pddl.specs.Trees.{SpellsDomain}
 use Rattle.pb_pddl.specs.Words.{DomainHasWords}
 use Rattle.pb_pddl.specs.Grammar.{IsDomain}
+use Rattle.pb_pddl_laws.specs.Table.{domain_form}
 use Rattle.pb_pddl_laws.proofs.FormsRead.{domain_is, domain_again}
-use Rattle.pb_pddl_laws.proofs.Faults.{domain_fault}
+use Rattle.pb_pddl_laws.proofs.Faults.{domain_fault, domain_told, told_domain}
 use Rattle.pb_pddl_laws.proofs.TokensOf.{texts_have_tokens}
 use Rattle.pb_pddl_laws.proofs.NamesAreWords.{domain_has_words}
-use Rattle.pb_pddl_laws.proofs.Whole.{found, only, none, first}
+use Rattle.pb_pddl_laws.proofs.Whole.{found, only, none, first, told, fault}
 use Rattle.pb_syntax.proofs.reader.read_domain.Goals as goal
 
 pub returns-clause-found : goal.returns-clause-found
@@ -22,6 +23,12 @@ returns-clause-none c = none (domain_at unlimited) IsDomain c.args.text.now c.do
 
 pub returns-clause-first : goal.returns-clause-first
 returns-clause-first c = first (domain_at unlimited) IsDomain c.args.text.now c.domain_of.result domain_fault c.domain_of.ensures.is
+
+pub returns-clause-told : goal.returns-clause-told
+returns-clause-told c = told (domain_at unlimited) IsDomain c.args.text.now domain_form c.domain_of.result domain_told c.domain_of.ensures.is
+
+pub returns-clause-fault : goal.returns-clause-fault
+returns-clause-fault c = fault (domain_at unlimited) IsDomain c.args.text.now domain_form c.domain_of.result told_domain c.domain_of.ensures.only
 
 pub returns-clause-reading : goal.returns-clause-reading
 unfolding domain_reading

@@ -4,11 +4,12 @@ use Rattle.pb_pddl.specs.Readings.{tokens_of, problem_reading}
 use Rattle.pb_pddl.specs.Trees.{SpellsProblem}
 use Rattle.pb_pddl.specs.Words.{ProblemHasWords}
 use Rattle.pb_pddl.specs.Grammar.{IsProblem}
+use Rattle.pb_pddl_laws.specs.Table.{problem_form}
 use Rattle.pb_pddl_laws.proofs.FormsRead.{problem_is, problem_again}
-use Rattle.pb_pddl_laws.proofs.Faults.{problem_fault}
+use Rattle.pb_pddl_laws.proofs.Faults.{problem_fault, problem_told, told_problem}
 use Rattle.pb_pddl_laws.proofs.TokensOf.{texts_have_tokens}
 use Rattle.pb_pddl_laws.proofs.NamesAreWords.{problem_has_words}
-use Rattle.pb_pddl_laws.proofs.Whole.{found, only, none, first}
+use Rattle.pb_pddl_laws.proofs.Whole.{found, only, none, first, told, fault}
 use Rattle.pb_syntax.proofs.reader.read_problem.Goals as goal
 
 pub returns-clause-found : goal.returns-clause-found
@@ -22,6 +23,12 @@ returns-clause-none c = none (problem_at unlimited) IsProblem c.args.text.now c.
 
 pub returns-clause-first : goal.returns-clause-first
 returns-clause-first c = first (problem_at unlimited) IsProblem c.args.text.now c.problem_of.result problem_fault c.problem_of.ensures.is
+
+pub returns-clause-told : goal.returns-clause-told
+returns-clause-told c = told (problem_at unlimited) IsProblem c.args.text.now problem_form c.problem_of.result problem_told c.problem_of.ensures.is
+
+pub returns-clause-fault : goal.returns-clause-fault
+returns-clause-fault c = fault (problem_at unlimited) IsProblem c.args.text.now problem_form c.problem_of.result told_problem c.problem_of.ensures.only
 
 pub returns-clause-reading : goal.returns-clause-reading
 unfolding problem_reading

@@ -1,4 +1,4 @@
-use Rattle.std.proofs.Common.{true, false, ◌∙◌}
+use Rattle.std.proofs.Common.{true, false, inr, refl, ◌∙◌}
 use Rattle.pb_yard.specs.Passes.{view_of}
 use Rattle.pb_yard.specs.Replies.{RenewsAs, renewal_events, ReleasesAs, release_events}
 use Rattle.pb_lease.specs.declared.answer.Renewed.TheVariants.{Kept, Given}
@@ -25,6 +25,13 @@ release-requires-clause-brought g c =
 pub release-requires-in-Memory-clause-brought : goal.release-requires-in-Memory-clause-brought
 release-requires-in-Memory-clause-brought g c =
     brought c.args.worker.now.task.now c.args.worker.now.abstraction.now (view_of c.args.pass.now) c.args.pass.now.is_live c.args.lease c.requires.leased c.work-worked.new.lease 1 c.in-Memory.ensures.turned c.work-worked.ensures.same c.work-worked.ensures.scope
+
+-- the quota is used up, or no row of the block is Opened
+pub renew-requires-clause-spent : goal.renew-requires-clause-spent
+renew-requires-clause-spent g c = (c.in-Spent.ensures.spent.0 refl).1
+
+pub release-requires-clause-cause : goal.release-requires-clause-cause
+release-requires-clause-cause g c = inr (c.in-Empty.ensures.empty.0 refl)
 
 pub returns-in-Kept-clause-kept : goal.returns-in-Kept-clause-kept
 returns-in-Kept-clause-kept g c =

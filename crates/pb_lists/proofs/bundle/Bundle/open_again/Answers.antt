@@ -1,22 +1,25 @@
-use Rattle.pb_lists.proofs.Moves.{move_agrees, stay_agrees, places_apart, places_same}
+use Rattle.pb_lists.specs.Fields.{weight_of}
+use Rattle.pb_lists.proofs.Filing.{kept_filed, put_filed}
 use Rattle.pb_lists.proofs.bundle.Bundle.open_again.Goals as goal
 
-pub invariant_of-self-then-ne : goal.invariant_of-self-then-ne
-invariant_of-self-then-ne c =
-    let found = rw (← c.self.view_is) at c.requires.found in
-    let apart = places_apart c.ne.result c.of-left.result c.of-place.result c.ne.ensures c.if-ne.true in
+pub invariant_of-self : goal.invariant_of-self
+invariant_of-self c =
+    let weight = weight_of c.self.inside.num c.self.inside.den in
     record {
-      agrees = move_agrees _ c.self.inside.rows.entries c.insert-2.new.self.entries c.self.inside.opened c.args.state c.args.was c.args.row c.self.invariant.agrees c.in-Ok.ensures.updates.0 found
-          c.requires.opened c.insert.new.self c.remove.new.self (rw (c.of-left.ensures, c.of-place.ensures) at apart) (rw c.of-place.ensures at c.in_ok-insert.ensures.updates) (rw c.of-left.ensures at c.remove.ensures.updates);
+      filed = kept_filed weight c.self.inside.rows.entries c.self.inside.opened c.file.new.buckets c.file.ensures.kept c.self.invariant.filed;
+      heaps = c.file.ensures.heaps c.self.invariant.heaps;
+      tidy = c.in_err-file.ensures.err weight c.self.inside.rows.entries c.self.invariant.tidy;
       is_weight = c.self.invariant.is_weight;
     }
 
-pub invariant_of-self-else-ne : goal.invariant_of-self-else-ne
-invariant_of-self-else-ne c =
-    let found = rw (← c.self.view_is) at c.requires.found in
-    let same = places_same c.ne.result c.of-left.result c.of-place.result c.ne.ensures c.if-ne.false in
+pub invariant_of-self-in-Ok : goal.invariant_of-self-in-Ok
+invariant_of-self-in-Ok c =
+    let weight = weight_of c.self.inside.num c.self.inside.den in
     record {
-      agrees = stay_agrees _ c.self.inside.rows.entries c.insert-2.new.self.entries c.self.inside.opened c.args.state c.args.was c.args.row c.self.invariant.agrees c.in-Ok.ensures.updates.0 found
-          c.requires.opened c.insert.new.self (rw (c.of-left.ensures, c.of-place.ensures) at same) (rw c.of-place.ensures at c.in_ok-insert.ensures.updates);
+      filed = c.tidy.ensures.filed
+          (put_filed weight c.self.inside.rows.entries c.insert.new.self.entries c.args.state c.args.row c.in-Ok.ensures.updates.0
+          c.self.inside.opened c.file.new.buckets c.key_of-key.result c.key_of-key.ensures c.in_ok-file.ensures.filed c.file.ensures.kept c.self.invariant.filed);
+      heaps = c.tidy.ensures.heaps;
+      tidy = c.tidy.ensures.tidy;
       is_weight = c.self.invariant.is_weight;
     }

@@ -31,7 +31,7 @@ leave-requires-clause-rule g c =
     let found_is : c.state_mut.result.now ≡ x = c.state_mut.ensures.value ∙ e.won.1 in
     let r : ReleasesAs l t x y = subst (λ (z : GraphValue). ReleasesAs l t z y) found_is (f.released, f.moment) in
     subst (λ (u : View). LeaveKeeps Fact (number c.enter-held.new.pass) u x y (view_left x y (None) (None) u)) (sym e.same.1)
-    (leave_keeps x y v p.is_live (release_events l t) (None) (None) (may_release x y v p.is_live l t c.requires.brought r) (number c.enter-held.new.pass))
+    (leave_keeps x y v p.is_live (release_events l t) (None) (None) (may_release x y v p.is_live l t c.requires.cause c.requires.brought r) (number c.enter-held.new.pass))
 
 pub returns-clause-released : goal.returns-clause-released
 returns-clause-released g c =
@@ -48,7 +48,7 @@ returns-clause-released g c =
     let is : view c.leave.new.pass ≡ view_left x y (None) (None) v =
     c.leave.ensures.view ∙ ap (λ (u : View). view_left x y (None) (None) u) e.same.1 in
     (subst (λ (u : View). Releases l t v u) (sym is)
-    (holds x y v p.is_live (release_events l t) (None) (None) (may_release x y v p.is_live l t c.requires.brought r) (number p.turn) e.rule (ReleasesAs l t) r))
+    (holds x y v p.is_live (release_events l t) (None) (None) (may_release x y v p.is_live l t c.requires.cause c.requires.brought r) (number p.turn) e.rule (ReleasesAs l t) r))
 
 pub invariant_of-pass-clause-seen_is : goal.invariant_of-pass-clause-seen_is
 invariant_of-pass-clause-seen_is g c =
@@ -65,5 +65,5 @@ invariant_of-pass-clause-seen_is g c =
     let is : view c.leave.new.pass ≡ view_left x y (None) (None) v =
     c.leave.ensures.view ∙ ap (λ (u : View). view_left x y (None) (None) u) e.same.1 in
     ap (λ (u : View). length u.journal.seen) is
-    ∙ ap length (seen_is x y v p.is_live (release_events l t) (None) (None) (may_release x y v p.is_live l t c.requires.brought r) (number p.turn) e.rule)
+    ∙ ap length (seen_is x y v p.is_live (release_events l t) (None) (None) (may_release x y v p.is_live l t c.requires.cause c.requires.brought r) (number p.turn) e.rule)
     ∙ ap length (ap (λ (z : GraphValue). z.table.journal) (sym c.state.ensures) ∙ sym c.journal.ensures.events)

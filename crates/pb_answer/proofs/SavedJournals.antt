@@ -1,0 +1,75 @@
+-- The journal that is saved of a search is the text of a finished legal history of the task. `pbnf`
+-- cites this module.
+use Rattle.std.proofs.Common.{◌≡◌, ℕ, Option, None, Some, List, [], ◌++◌, length, refl, sym, subst}
+use Rattle.pb_model.specs.Plan.{Plan}
+use Rattle.pb_machine.specs.declared.event.End.{End}
+use Rattle.pb_machine.specs.declared.event.Event.{Event}
+use Rattle.pb_machine.specs.Settings.{settings_with_weight}
+use Rattle.pb_machine.specs.History.{IsHistory}
+use Rattle.pb_task.specs.declared.parts.TaskParts.{TaskParts}
+use Rattle.pb_abstract.specs.Graph.{blocks_of}
+use Rattle.pb_journal.specs.Texts.{journal_text}
+use Rattle.pb_journal.specs.Shown.{one, WrittenJournalsAreAccepted}
+use Rattle.pb_made.specs.Searches.{SearchEnds}
+use Rattle.pb_command.specs.Meaning.{SolveMeaning}
+use Rattle.pb_answer.specs.Outputs.{Output}
+use Rattle.pb_answer.specs.Searches.{settings_of}
+use Rattle.pb_answer.specs.Claims.{journal_outputs, Certifies, Stops}
+use Rattle.pb_answer.specs.Journals.{IsJournalOf}
+
+-- The last of what is saved is the journal with these events, if it has a name. Its text is that of
+-- a finished legal history of the task.
+pub record SavesJournal (saves : List Output → Type 0) (solve : SolveMeaning) (parts : TaskParts)
+    : Type 0 where
+  pub events : List Event
+  pub first : List Output
+  pub saved : saves (first ++ journal_outputs solve.journal (settings_of solve) events)
+  pub legal : IsJournalOf parts (journal_text (settings_of solve) events) (length events)
+
+module _ (written : WrittenJournalsAreAccepted) (solve : SolveMeaning) (parts : TaskParts) where
+  is_journal : (end : End) (events : List Event) → SearchEnds parts (settings_of solve) end events
+      → IsJournalOf parts (journal_text (settings_of solve) events) (length events)
+  is_journal end events run =
+      let ends = run.ends in
+      let legal : IsHistory (blocks_of ends.graph) (settings_of solve) 0 events ends.machine.counts =
+      subst (λ (j : List Event).
+      IsHistory (blocks_of ends.graph) (settings_of solve) 0 j ends.machine.counts)
+      (sym run.events) ends.legal in
+      let read = written (blocks_of ends.graph) (settings_of solve) events ends.machine.counts
+      ends.few legal ends.finished in
+      record {
+        graph = ends.graph;
+        blocks = record {
+          settings = settings_with_weight (settings_of solve) one;
+          header = read.1;
+          graph_of = ends.graph_of;
+          finest = ends.finest;
+        };
+        finished = record {
+          settings = settings_of solve;
+          journal = events;
+          counts = ends.machine.counts;
+          text = refl;
+          legal = legal;
+          finished = ends.finished;
+          count = refl;
+        };
+      }
+
+  pub of_quiet : (saves : List Output → Type 0) (plan : Option Plan)
+      → Certifies saves solve parts plan → SavesJournal saves solve parts
+  of_quiet saves plan (events, found, outputs, certificate, saved) = record {
+    events = events;
+    first = outputs;
+    saved = saved;
+    legal = is_journal _ events found.run;
+  }
+
+  pub of_stopped : (saves : List Output → Type 0) → Stops saves solve parts
+      → SavesJournal saves solve parts
+  of_stopped saves (events, run, saved) = record {
+    events = events;
+    first = [];
+    saved = saved;
+    legal = is_journal _ events run;
+  }

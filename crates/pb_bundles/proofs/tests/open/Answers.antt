@@ -1,5 +1,0 @@
-use Rattle.pb_bundles.proofs.ByRows.{changes_are_apart}
-use Rattle.pb_bundles.proofs.tests.open.Goals as goal
-
-pub returns : goal.returns
-returns c = (changes_are_apart c.args.parts.now c.args.block c.offer.new.self c.requires).0

@@ -1,0 +1,428 @@
+-- A certificate that is cut off is refused in the line that it ends in.
+use Rattle.std.proofs.Common.{◌≡◌, ◌≢◌, ◌⊎◌, inl, inr, ℕ, zero, suc, ◌+◌, Bool, true, false, cond, eqb, Option, None, Some, List, [], ◌∷◌, ◌++◌, length, Result, Ok, Err, refl, sym, ap, ◌∙◌, subst, arith, append_assoc, length-append}
+use Rattle.std.specs.Prelude.{codes}
+use Rattle.std.proofs.lemmas.Bool.{eqb-true}
+use Rattle.std.proofs.lemmas.List.{nil_from_length}
+use Rattle.pb_model.specs.declared.row.Estimate.{Estimate}
+use Rattle.pb_model.specs.Space.{Space}
+use Rattle.pb_model.specs.Weight.{Weight}
+use Rattle.pb_model.specs.Plan.{Plan}
+use Rattle.pb_model.specs.Certificate.{Line}
+use Rattle.pb_check.specs.declared.kind.TaskKind.{TaskKind}
+use Rattle.pb_check.specs.declared.fault.CertificateFault.{CertificateFault}
+use Rattle.pb_check.specs.declared.fault.CertificateFault.TheVariants.{Syntax}
+use Rattle.pb_check.specs.declared.fault.CheckError.{CheckError}
+use Rattle.pb_check.specs.declared.fault.Verdict.{Verdict}
+use Rattle.pb_lines.specs.Words.{part, is_text, has_none, line_feeds}
+use Rattle.pb_check.specs.Faults.{◌>>=◌, wanted, Gives}
+use Rattle.pb_check.specs.Reading.{line_at, number_behind, kind_in, weight_in, row_in, fixed_at, number_at, kind_at, weight_at, row_at, actions_at, rows_at, steps_at, plan_at, plan_lines, Text, end_at, body_at, text_of}
+use Rattle.pb_check.specs.Judging.{judged, checked}
+use Rattle.pb_check.specs.Shown.{IsCutOff, CutCertificatesAreRefused}
+use Rattle.pb_lines.proofs.Parts.{part_is, part_none, part_again, one_feed, no_feed}
+use Rattle.pb_check.proofs.Spelled.{bind_ok, ok_is, guard_ok}
+use Rattle.pb_check.proofs.Written.{read_as_spelled}
+
+-- ---- the first line of a text that goes on
+
+-- the fault of the line that a text ends in, from this line on
+abbrev cut : {A : Type 0} → (line : ℕ) → (text : List ℕ) → Result A CertificateFault
+cut line text = Err (Syntax (line + line_feeds text))
+
+record HasFirst (line : ℕ) (start rest : List ℕ) : Type 0 where
+  first : List ℕ
+  left : List ℕ
+  here : line_at line start ≡ Ok (first, left)
+  there : line_at line (start ++ rest) ≡ Ok (first, left ++ rest)
+  one : line_feeds start ≡ suc (line_feeds left)
+
+first_cases : (line : ℕ) (start rest : List ℕ) → HasFirst line start rest
+    ⊎ (line_at line start ≡ cut line start)
+first_cases line start rest = go (part 10 start) refl
+  where
+    go : (o : Option (List ℕ × List ℕ)) → part 10 start ≡ o → HasFirst line start rest
+        ⊎ (line_at line start ≡ cut line start)
+    go (Some x) is =
+        let none : has_none 10 x.0 ≡ true = part_none 10 start x.0 x.1 is in
+        let here : start ≡ x.0 ++ 10 ∷ x.1 = part_is 10 start x.0 x.1 is in
+        let whole : start ++ rest ≡ x.0 ++ 10 ∷ (x.1 ++ rest) =
+        ap (λ (t : List ℕ). t ++ rest) here ∙ append_assoc x.0 (10 ∷ x.1) rest in
+        inl (record {
+          first = x.0;
+          left = x.1;
+          here = ap (wanted line) is;
+          there = ap (line_at line) whole ∙ ap (wanted line) (part_again 10 x.0 (x.1 ++ rest) none);
+          one = one_feed start x.0 x.1 is;
+        })
+    go None is =
+        let none : line_feeds start ≡ 0 = no_feed start is in
+        let same : line ≡ line + line_feeds start = omega (arith, none) in
+        inr (ap (wanted line) is ∙ ap (λ (n : ℕ). Err (Syntax n)) same)
+
+-- ---- reading some lines of a text that goes on: its beginning is read so too, or is cut off
+
+abbrev Goes : {A : Type 0} → (n line : ℕ) → Result (A × List ℕ) CertificateFault
+    → (start rest : List ℕ) → A → (after : List ℕ) → Type 0
+Goes n line read start rest x after =
+    ((left : List ℕ) × (read ≡ Ok (x, left)) × (after ≡ left ++ rest)
+    × (line_feeds start ≡ n + line_feeds left)) ⊎ (read ≡ cut line start)
+
+-- what was read tells how many lines it took
+abbrev IsStep : {A : Type 0} → (lines : A → ℕ) → (line : ℕ)
+    → (List ℕ → Result (A × List ℕ) CertificateFault) → Type 0
+IsStep {A} lines line read =
+    (start rest : List ℕ) (x : A) (after : List ℕ) → read (start ++ rest) ≡ Ok (x, after)
+    → Goes (lines x) line (read start) start rest x after
+
+-- reading all of a text
+abbrev IsLast : {A : Type 0} → (line : ℕ) → (List ℕ → Result A CertificateFault) → Type 0
+IsLast {A} line read = (start rest : List ℕ) (x : A) → read (start ++ rest) ≡ Ok x → rest ≢ []
+    → read start ≡ cut line start
+
+abbrev named : {A B : Type 0} → (A → B) → A × List ℕ → Result (B × List ℕ) CertificateFault
+named f x = Ok (f x.0, x.1)
+
+pair_is : {A : Type 0} (x y : A) (s t : List ℕ)
+    → ◌≡◌ {A = Result (A × List ℕ) CertificateFault} (Ok (x, s)) (Ok (y, t)) → (x ≡ y) × (s ≡ t)
+pair_is {A} x y s t e =
+    let same = ok_is (x, s) (y, t) e in
+    (ap (λ (z : A × List ℕ). z.0) same, ap (λ (z : A × List ℕ). z.1) same)
+
+-- nothing more is read
+given_step : {A : Type 0} (lines : A → ℕ) (line : ℕ) (x : A) → lines x ≡ 0
+    → IsStep lines line (λ text. Ok (x, text))
+given_step {A} lines line x none start rest y after e =
+    let same = pair_is x y (start ++ rest) after e in
+    let count : lines y ≡ 0 = ap lines (sym same.0) ∙ none in
+    inl (start, ap (λ (z : A). Ok (z, start)) same.0, sym same.1, omega (arith, count))
+
+-- what a line says doesn't depend on the text after it
+after_words : {A B : Type 0} (lines : B → ℕ) (line : ℕ) (words : Result A CertificateFault)
+    (next : A → List ℕ → Result (B × List ℕ) CertificateFault)
+    → ((x : A) → IsStep lines line (next x))
+    → IsStep lines line (λ text. words >>= λ x. next x text)
+after_words lines line (Ok x) next steps start rest y after e = steps x start rest y after e
+after_words lines line (Err fault) next steps start rest y after e = absurd cc
+
+either_step : {A : Type 0} (lines : A → ℕ) (line : ℕ) (b : Bool)
+    (one two : List ℕ → Result (A × List ℕ) CertificateFault)
+    → IsStep lines line one → IsStep lines line two
+    → IsStep lines line (λ text. cond b (one text) (two text))
+either_step lines line true one two is are = is
+either_step lines line false one two is are = are
+
+-- a line, and what is read after it
+line_step : {A : Type 0} (n m : A → ℕ) (line : ℕ)
+    (read : List ℕ × List ℕ → Result (A × List ℕ) CertificateFault) → ((x : A) → n x ≡ 1 + m x)
+    → ((first : List ℕ) → IsStep m (line + 1) (λ text. read (first, text)))
+    → IsStep n line (λ text. line_at line text >>= read)
+line_step {A} n m line read count steps start rest x after e = go (first_cases line start rest)
+  where
+    go : HasFirst line start rest ⊎ (line_at line start ≡ cut line start)
+        → Goes (n x) line (line_at line start >>= read) start rest x after
+    go (inr fails) = inr (ap (λ r. r >>= read) fails)
+    go (inl h) = more (steps h.first h.left rest x after (sym (ap (λ r. r >>= read) h.there) ∙ e))
+      where
+        more : Goes (m x) (line + 1) (read (h.first, h.left)) h.left rest x after
+            → Goes (n x) line (line_at line start >>= read) start rest x after
+        more (inl k) = let c = count x in let one = h.one in let f = k.3 in
+            inl (k.0, ap (λ r. r >>= read) h.here ∙ k.1, k.2, omega (arith, c, one, f))
+        more (inr k) =
+            let same : line + 1 + line_feeds h.left ≡ line + line_feeds start =
+            (let one = h.one in omega (arith, one)) in
+            inr (ap (λ r. r >>= read) h.here ∙ k ∙ ap (λ (l : ℕ). Err (Syntax l)) same)
+
+-- one thing and then another
+then_step : {A B C : Type 0} (n : A → ℕ) (m : B → ℕ) (lines : C → ℕ) (made : A → B → C)
+    → ((x : A) (y : B) → lines (made x y) ≡ n x + m y)
+    → (line : ℕ) (read : List ℕ → Result (A × List ℕ) CertificateFault)
+    (next : A → List ℕ → Result (B × List ℕ) CertificateFault)
+    → IsStep n line read → ((x : A) → IsStep m (line + n x) (next x))
+    → IsStep lines line (λ text. read text >>= λ x. next x.0 x.1 >>= named (made x.0))
+then_step {A} {B} {C} n m lines made count line read next one two start rest z after e =
+    let a = bind_ok (read (start ++ rest)) (λ x. next x.0 x.1 >>= named (made x.0)) (z, after) e in
+    let b = bind_ok (next a.0.0 a.0.1) (named (made a.0.0)) (z, after) a.2 in
+    let same = pair_is (made a.0.0 b.0.0) z b.0.1 after b.2 in
+    go a.0 b.0 b.1 same.0 same.1 (one start rest a.0.0 a.0.1 a.1)
+  where
+    go : (x : A × List ℕ) (y : B × List ℕ) → next x.0 x.1 ≡ Ok y → made x.0 y.0 ≡ z → y.1 ≡ after
+        → Goes (n x.0) line (read start) start rest x.0 x.1
+        → Goes (lines z) line (read start >>= λ x. next x.0 x.1
+        >>= named (made x.0)) start rest z after
+    go x y is made_is after_is (inr fails) =
+        inr (ap (λ r. r >>= λ x. next x.0 x.1 >>= named (made x.0)) fails)
+    go x y is made_is after_is (inl h) =
+        more (two x.0 h.0 rest y.0 y.1 (ap (next x.0) (sym h.2) ∙ is))
+      where
+        here : (read start >>= λ x. next x.0 x.1 >>= named (made x.0))
+            ≡ (next x.0 h.0 >>= named (made x.0))
+        here = ap (λ r. r >>= λ x. next x.0 x.1 >>= named (made x.0)) h.1
+
+        more : Goes (m y.0) (line + n x.0) (next x.0 h.0) h.0 rest y.0 y.1
+            → Goes (lines z) line (read start >>= λ x. next x.0 x.1
+            >>= named (made x.0)) start rest z after
+        more (inl k) =
+            let c : lines z ≡ n x.0 + m y.0 = ap lines (sym made_is) ∙ count x.0 y.0 in
+            let f = h.3 in let g = k.3 in
+            inl (
+              k.0,
+              here ∙ ap (λ r. r >>= named (made x.0)) k.1 ∙ ap (λ (w : C). Ok (w, k.0)) made_is,
+              sym after_is ∙ k.2,
+              omega (arith, c, f, g),
+            )
+        more (inr k) =
+            let same : line + n x.0 + line_feeds h.0 ≡ line + line_feeds start =
+            (let f = h.3 in omega (arith, f)) in
+            inr (here ∙ ap (λ r. r >>= named (made x.0)) k ∙ ap (λ (l : ℕ). Err (Syntax l)) same)
+
+-- the same under another name
+named_step : {A B : Type 0} (n : A → ℕ) (lines : B → ℕ) (f : A → B) → ((x : A) → lines (f x) ≡ n x)
+    → (line : ℕ) (read : List ℕ → Result (A × List ℕ) CertificateFault)
+    → IsStep n line read → IsStep lines line (λ text. read text >>= named f)
+named_step {A} {B} n lines f count line read one start rest z after e =
+    let a = bind_ok (read (start ++ rest)) (named f) (z, after) e in
+    let same = pair_is (f a.0.0) z a.0.1 after a.2 in
+    go a.0 same.0 same.1 (one start rest a.0.0 a.0.1 a.1)
+  where
+    go : (x : A × List ℕ) → f x.0 ≡ z → x.1 ≡ after
+        → Goes (n x.0) line (read start) start rest x.0 x.1
+        → Goes (lines z) line (read start >>= named f) start rest z after
+    go x named_is after_is (inr fails) = inr (ap (λ r. r >>= named f) fails)
+    go x named_is after_is (inl h) =
+        let c : lines z ≡ n x.0 = ap lines (sym named_is) ∙ count x.0 in
+        let g = h.3 in
+        inl (
+          h.0,
+          ap (λ r. r >>= named f) h.1 ∙ ap (λ (w : B). Ok (w, h.0)) named_is,
+          sym after_is
+              ∙ h.2,
+          omega (arith, c, g),
+        )
+
+-- some lines, and then all that is left
+then_last : {A B : Type 0} (n : A → ℕ) (line : ℕ)
+    (read : List ℕ → Result (A × List ℕ) CertificateFault)
+    (next : A → List ℕ → Result B CertificateFault)
+    → IsStep n line read → ((x : A) → IsLast (line + n x) (next x))
+    → IsLast line (λ text. read text >>= λ x. next x.0 x.1)
+then_last {A} {B} n line read next one two start rest y e some =
+    let a = bind_ok (read (start ++ rest)) (λ x. next x.0 x.1) y e in
+    go a.0 a.2 (one start rest a.0.0 a.0.1 a.1)
+  where
+    go : (x : A × List ℕ) → next x.0 x.1 ≡ Ok y → Goes (n x.0) line (read start) start rest x.0 x.1
+        → (read start >>= λ x. next x.0 x.1) ≡ cut line start
+    go x is (inr fails) = ap (λ r. r >>= λ x. next x.0 x.1) fails
+    go x is (inl h) =
+        let same : line + n x.0 + line_feeds h.0 ≡ line + line_feeds start =
+        (let f = h.3 in omega (arith, f)) in
+        ap (λ r. r >>= λ x. next x.0 x.1) h.1
+        ∙ two x.0 h.0 rest y (ap (next x.0) (sym h.2) ∙ is) some
+        ∙ ap (λ (l : ℕ). Err (Syntax l)) same
+
+named_last : {A B : Type 0} (line : ℕ) (read : List ℕ → Result A CertificateFault) (f : A → B)
+    → IsLast line read → IsLast line (λ text. read text >>= λ x. Ok (f x))
+named_last line read f last start rest y e some =
+    let a = bind_ok (read (start ++ rest)) (λ x. Ok (f x)) y e in
+    ap (λ r. r >>= λ x. Ok (f x)) (last start rest a.0 a.1 some)
+
+abbrev after_fixed : {A : Type 0} → (line : ℕ) → (piece : List ℕ)
+    → (next : List ℕ → Result A CertificateFault) → Result (List ℕ × List ℕ) CertificateFault
+    → Result A CertificateFault
+after_fixed line piece next r =
+    (r >>= λ first. cond (is_text piece first.0) (Ok first.1) (Err (Syntax line))) >>= next
+
+-- a line that is given, and then all that is left
+fixed_last : {A : Type 0} (line : ℕ) (piece : List ℕ) (next : List ℕ → Result A CertificateFault)
+    → IsLast (line + 1) next → IsLast line (λ text. fixed_at line piece text >>= next)
+unfolding fixed_at
+fixed_last {A} line piece next last start rest y e some = go (first_cases line start rest)
+  where
+    go : HasFirst line start rest ⊎ (line_at line start ≡ cut line start)
+        → after_fixed line piece next (line_at line start) ≡ cut line start
+    go (inr fails) = ap (after_fixed line piece next) fails
+    go (inl h) =
+        let a = bind_ok (cond (is_text piece h.first) (Ok (h.left ++ rest))
+        (Err (Syntax line))) next y (sym (ap (after_fixed line piece next) h.there) ∙ e) in
+        let g = guard_ok (is_text piece h.first) (Syntax line) (h.left ++ rest) a.0 a.1 in
+        let same : line + 1 + line_feeds h.left ≡ line + line_feeds start =
+        (let one = h.one in omega (arith, one)) in
+        ap (after_fixed line piece next) h.here
+        ∙ ap (λ t. cond t (Ok h.left) (Err (Syntax line)) >>= next) g.0
+        ∙ last h.left rest y (ap next g.1 ∙ a.2) some ∙ ap (λ (l : ℕ). Err (Syntax l)) same
+
+-- the end, with nothing behind it
+end_last : (line : ℕ) → IsLast line (end_at line)
+unfolding end_at
+end_last line = fixed_last line (codes "end")
+    (λ rest. cond (eqb (length rest) 0) (Ok true) (Err (Syntax (line + 1)))) nothing
+  where
+    nothing : IsLast (line + 1) (λ rest. cond (eqb (length rest) 0) (Ok true)
+        (Err (Syntax (line + 1))))
+    nothing start rest x e some =
+        let g = guard_ok (eqb (length (start ++ rest)) 0) (Syntax (line + 1)) true x e in
+        let none : length (start ++ rest) ≡ 0 = eqb-true _ _ g.0 in
+        let left : length rest ≡ 0 = (let both = length-append start rest in
+        omega (arith, none, both)) in
+        absurd (some (nil_from_length rest left))
+
+-- ---- the lines of a certificate
+
+word_step : {A : Type 0} (line : ℕ) (words : Result A CertificateFault)
+    → IsStep (λ x. 0) line (λ text. words >>= λ x. Ok (x, text))
+word_step {A} line words = after_words (λ x. 0) line words (λ x text. Ok (x, text))
+    (λ x. given_step (λ x. 0) line x refl)
+
+number_step : (line : ℕ) (piece : List ℕ) → IsStep (λ n. 1) line (number_at line piece)
+unfolding number_at
+number_step line piece =
+    line_step (λ n. 1) (λ n. 0) line
+    (λ first. number_behind line piece first.0 >>= λ n. Ok (n, first.1)) (λ n. refl)
+    (λ first. word_step (line + 1) (number_behind line piece first))
+
+kind_step : (line : ℕ) → IsStep (λ kind. 1) line (kind_at line)
+unfolding kind_at
+kind_step line = line_step (λ kind. 1) (λ kind. 0) line
+    (λ first. kind_in line first.0 >>= λ kind. Ok (kind, first.1)) (λ kind. refl)
+    (λ first. word_step (line + 1) (kind_in line first))
+
+weight_step : (line : ℕ) → IsStep (λ weight. 1) line (weight_at line)
+unfolding weight_at
+weight_step line =
+    line_step (λ weight. 1) (λ weight. 0) line
+    (λ first. weight_in line first.0 >>= λ weight. Ok (weight, first.1)) (λ weight. refl)
+    (λ first. word_step (line + 1) (weight_in line first))
+
+row_step : (line : ℕ) → IsStep (λ row. 1) line (row_at line)
+unfolding row_at
+row_step line = line_step (λ row. 1) (λ row. 0) line
+    (λ first. row_in line first.0 >>= λ row. Ok (row, first.1)) (λ row. refl)
+    (λ first. word_step (line + 1) (row_in line first))
+
+one_more : {A : Type 0} (x : A) (xs : List A) → length (x ∷ xs) ≡ 1 + length xs
+one_more x xs = omega arith
+
+actions_step : (count line : ℕ) → IsStep (λ actions. length actions) line (actions_at count line)
+unfolding actions_at
+actions_step zero line = given_step (λ actions. length actions) line [] refl
+actions_step (suc count) line =
+    then_step (λ action. 1) (λ actions. length actions) (λ actions. length actions)
+    (λ action actions. action ∷ actions) one_more
+    line (number_at line []) (λ action text. actions_at count (line + 1) text) (number_step line [])
+    (λ action. actions_step count (line + 1))
+
+rows_step : (count line : ℕ) → IsStep (λ rows. length rows) line (rows_at count line)
+unfolding rows_at
+rows_step zero line = given_step (λ rows. length rows) line [] refl
+rows_step (suc count) line =
+    then_step (λ row. 1) (λ rows. length rows) (λ rows. length rows)
+    (λ row rows. row ∷ rows) one_more
+    line (row_at line) (λ row text. rows_at count (line + 1) text) (row_step line)
+    (λ row. rows_step count (line + 1))
+
+abbrev lines_of : Plan → ℕ
+lines_of plan = length plan.actions + 1
+
+steps_step : (count line : ℕ) → IsStep lines_of line (steps_at count line)
+unfolding steps_at
+steps_step count line =
+    then_step (λ actions. length actions) (λ cost. 1) lines_of
+    (λ actions cost. record { actions = actions; cost = cost }) (λ actions cost. refl)
+    line (actions_at count line) (λ actions text. number_at (line + length actions)
+    (codes "cost ") text)
+    (actions_step count line) (λ actions. number_step (line + length actions) (codes "cost "))
+
+-- how many lines come after a plan's first
+abbrev later_lines : Option Plan → ℕ
+later_lines None = 0
+later_lines (Some plan) = lines_of plan
+
+abbrev plan_after : (line : ℕ) → List ℕ × List ℕ → Result (Option Plan × List ℕ) CertificateFault
+plan_after line first =
+    cond (is_text (codes "none") first.0) (Ok (None, first.1))
+    (number_behind line (codes "plan ") first.0 >>= λ count. steps_at count (line + 1) first.1
+    >>= λ plan. Ok (Some plan.0, plan.1))
+
+plan_step : (line : ℕ) → IsStep plan_lines line (plan_at line)
+unfolding plan_at
+plan_step line = line_step plan_lines later_lines line (plan_after line) count later
+  where
+    count : (plan : Option Plan) → plan_lines plan ≡ 1 + later_lines plan
+    count None = refl
+    count (Some plan) = omega arith
+
+    stated : (count : ℕ) → IsStep later_lines (line + 1)
+        (λ text. steps_at count (line + 1) text >>= λ plan. Ok (Some plan.0, plan.1))
+    stated count = named_step lines_of later_lines (λ plan. Some plan) (λ plan. refl) (line + 1)
+        (steps_at count (line + 1)) (steps_step count (line + 1))
+
+    later : (first : List ℕ) → IsStep later_lines (line + 1) (λ text. plan_after line (first, text))
+    later first =
+        either_step later_lines (line + 1) (is_text (codes "none") first) (λ text. Ok (None, text))
+        (λ text. number_behind line (codes "plan ") first
+        >>= λ count. steps_at count (line + 1) text >>= λ plan. Ok (Some plan.0, plan.1))
+        (given_step later_lines (line + 1) None refl)
+        (after_words later_lines (line + 1) (number_behind line (codes "plan ") first)
+        (λ count text. steps_at count (line + 1) text
+        >>= λ plan. Ok (Some plan.0, plan.1)) stated)
+
+body_last : (line : ℕ) → IsLast line (body_at line)
+unfolding body_at
+body_last line =
+    then_last (λ count. 1) line (number_at line (codes "rows "))
+    (λ count text. rows_at count (line + 1) text
+    >>= λ rows. end_at (line + 1 + length rows.0) rows.1 >>= λ ended. Ok rows.0)
+    (number_step line (codes "rows "))
+    (λ count. then_last (λ rows. length rows) (line + 1) (rows_at count (line + 1))
+    (λ rows text. end_at (line + 1 + length rows) text >>= λ ended. Ok rows)
+    (rows_step count (line + 1))
+    (λ rows. named_last (line + 1 + length rows) (end_at (line + 1 + length rows)) (λ ended. rows)
+    (end_last (line + 1 + length rows))))
+
+abbrev text_with : TaskKind → Weight → Option Plan → List Line → Text
+text_with kind weight plan rows =
+    record {
+      kind = kind;
+      certificate =
+          record { weight = weight; plan = plan; lines = rows };
+      first = 5 + plan_lines plan;
+    }
+
+text_last : IsLast 1 text_of
+unfolding text_of
+text_last =
+    fixed_last 1 (codes "pbnf-certificate 1")
+    (λ rest. kind_at 2 rest >>= λ kind. weight_at 3 kind.1 >>= λ weight. plan_at 4 weight.1
+    >>= λ plan. body_at (4 + plan_lines plan.0) plan.1
+    >>= λ rows. Ok (text_with kind.0 weight.0 plan.0 rows))
+    (then_last (λ kind. 1) 2 (kind_at 2)
+    (λ kind rest. weight_at 3 rest >>= λ weight. plan_at 4 weight.1
+    >>= λ plan. body_at (4 + plan_lines plan.0) plan.1
+    >>= λ rows. Ok (text_with kind weight.0 plan.0 rows)) (kind_step 2)
+    (λ kind. then_last (λ weight. 1) 3 (weight_at 3)
+    (λ weight rest. plan_at 4 rest >>= λ plan. body_at (4 + plan_lines plan.0) plan.1
+    >>= λ rows. Ok (text_with kind weight plan.0 rows)) (weight_step 3)
+    (λ weight. then_last plan_lines 4 (plan_at 4)
+    (λ plan rest. body_at (4 + plan_lines plan) rest
+    >>= λ rows. Ok (text_with kind weight plan rows)) (plan_step 4)
+    (λ plan. named_last (4 + plan_lines plan) (body_at (4 + plan_lines plan))
+    (text_with kind weight plan) (body_last (4 + plan_lines plan))))))
+
+pub cut_certificates_are_refused : CutCertificatesAreRefused
+unfolding checked
+cut_certificates_are_refused space estimate kind bytes is =
+    let text : Text = record {
+      kind = is.0;
+      certificate = is.1;
+      first =
+          5 + plan_lines is.1.plan;
+    } in
+    ap (λ r. r >>= λ text. judged space estimate kind text)
+    (text_last bytes is.2 text ((read_as_spelled (bytes ++ is.2) text).1 is.3 refl) is.4)
+
+-- so the call refuses it
+pub gives_cut : (space : Space) (estimate : ℕ → Estimate) (kind : TaskKind) (bytes : List ℕ)
+    (r : Result Verdict CheckError) → Gives (λ x. x) r (checked space estimate kind bytes)
+    → IsCutOff bytes
+    → Gives {Y = Verdict} (λ x. x) r (Err (Syntax (1 + line_feeds bytes)))
+gives_cut space estimate kind bytes r exact is =
+    subst (λ (given : Result Verdict CertificateFault). Gives (λ x. x) r given)
+    (cut_certificates_are_refused space estimate kind bytes is) exact

@@ -1,0 +1,23 @@
+//! What the definitions mean. Each law is the contract of a function without a body.
+ghost use Rattle.pb_lines.specs.Laws.{NumbersAreDecimal, PartsAreJoined, PiecesAreJoined, TextsAreEqual};
+
+/// A text is cut at a byte exactly if it has one: into what stands before the first, and what stands
+/// after it.
+pub fn parts_are_joined()
+    ensures { PartsAreJoined }
+{}
+
+/// A text has something behind a piece exactly if it begins with the piece.
+pub fn pieces_are_joined()
+    ensures { PiecesAreJoined }
+{}
+
+/// A text is a piece exactly if both are the same.
+pub fn texts_are_equal()
+    ensures { TextsAreEqual }
+{}
+
+/// A word spells a number exactly if it is the decimal digits of the number, which is below 2^63.
+pub fn numbers_are_decimal()
+    ensures { NumbersAreDecimal }
+{}

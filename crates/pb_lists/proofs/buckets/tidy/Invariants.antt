@@ -1,0 +1,13 @@
+use Rattle.std.specs.BTreeMap.{btree_map_len}
+use Rattle.pb_lists.specs.Fields.{weight_of}
+use Rattle.pb_lists.specs.Buckets.{HasHeaps, HasFiled}
+use Rattle.pb_lists.proofs.buckets.tidy.Given as goal
+
+abbrev pub invariant-loop-key : goal.invariant-loop-key
+invariant-loop-key l = record {
+  heaps : HasHeaps l.buckets;
+  filed : HasFiled (weight_of l.num l.den) l.rows.entries l.initial.buckets → HasFiled (weight_of l.num l.den) l.rows.entries l.buckets;
+}
+
+abbrev pub decreases-loop-key : goal.decreases-loop-key
+decreases-loop-key l = btree_map_len l.buckets

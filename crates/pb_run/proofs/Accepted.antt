@@ -1,0 +1,224 @@
+-- What one call of the program saves, another one accepts.
+use Rattle.std.proofs.Common.{◌≡◌, ◌⊎◌, inl, inr, ℕ, Bool, false, ◌≤◌, IsTrue, Option, None, Some, List, [], ◌∷◌, ◌++◌, length, Ok, refl, sym, ap, subst, ◌∙◌, arith}
+use Rattle.pb_model.specs.Plan.{Plan}
+use Rattle.pb_task.specs.declared.parts.TaskParts.{TaskParts}
+use Rattle.pb_task.specs.Parts.{space_of}
+use Rattle.pb_estimate.specs.Estimates.{estimate_of}
+use Rattle.pb_lease.specs.Leased.{guide_of}
+use Rattle.pb_check.specs.Judging.{checked}
+use Rattle.pb_check.specs.Kinds.{kind_of}
+use Rattle.pb_grid.specs.Laws.{SwampChangesMarksAlone}
+use Rattle.pb_abstract.specs.Laws.{BlocksAskForNoCosts}
+use Rattle.pb_journal.specs.Texts.{journal_text}
+use Rattle.pb_journal.specs.Shown.{WrittenJournalsAreAccepted}
+use Rattle.pb_command.specs.Values.{InputNames, Grid, Tiles, Strips}
+use Rattle.pb_command.specs.Meaning.{Reading, Read, Solve, Check, Journal, SolveMeaning, CheckMeaning, JournalMeaning, reading_of_words}
+use Rattle.pb_command.specs.Options.{SolveReadsOptions, CheckReadsOptions, JournalReadsOptions}
+use Rattle.pb_answer.specs.Outputs.{Output, output}
+use Rattle.pb_answer.specs.Loaded.{input_task, solve_task, check_task, journal_task, with_text}
+use Rattle.pb_answer.specs.Searches.{settings_of, weight_asked}
+use Rattle.pb_answer.specs.Claims.{IsCertificate, journal_outputs, Certifies}
+use Rattle.pb_answer.specs.Journals.{IsJournalOf}
+use Rattle.pb_answer.specs.Answer.{Saves}
+use Rattle.pb_answer.proofs.SavedJournals.{SavesJournal, of_quiet, of_stopped}
+use Rattle.pb_answer.proofs.SameBlocks.{without_swamp}
+use Rattle.pb_run.specs.Course.{Ran}
+use Rattle.pb_run.specs.Headline.{IsAnswer, IsBroken, IsOfVerdict, AllOfOnePlan, CertificateOfNone, StopHasCause, CheckIsDecided, JournalIsDecided}
+use Rattle.pb_run.specs.Laws.{IsSavedFirst, IsSavedLast, SavedCertificatesAreAccepted, SavedJournalsAreAccepted, Keeps, AreMatching, AcceptsIt, CertificatesAreAcceptedByWords, JournalsAreAcceptedByWords}
+
+-- the texts behind another one spell the task that they spell alone
+input_behind : (input : InputNames) (row : ℕ) (swamp : Bool) (text : List ℕ) (texts : List (List ℕ))
+    → input_task input row swamp 1 (text ∷ texts) ≡ input_task input row swamp 0 texts
+input_behind (Grid names) row swamp text texts = refl
+input_behind (Tiles board) row swamp text texts = refl
+input_behind (Strips names) row swamp text texts = refl
+
+-- ---- certificates
+
+abbrev pub first_text : List Output → List ℕ
+first_text [] = []
+first_text (first ∷ rest) = first.text
+
+module _ (solve : SolveMeaning) (check : CheckMeaning) (ran checked_ran : Ran) (name text : List ℕ) (same_input : check.input ≡ solve.input) (same_row : check.row ≡ solve.row)
+    (same_swamp : check.swamp ≡ solve.swamp) (named : solve.certificate ≡ Some name) (saved : IsSavedFirst ran.said name text) (texts : checked_ran.texts ≡ text ∷ ran.texts) (decided : CheckIsDecided (Read (Check check)) checked_ran) where
+  task_is : (parts : TaskParts) → solve_task solve ran.texts ≡ Ok parts → check_task check checked_ran.texts ≡ Ok (parts, text)
+  task_is parts is =
+      let input : input_task check.input check.row check.swamp 1 (text ∷ ran.texts) ≡ Ok parts =
+      (λ i. input_task (same_input i) (same_row i) (same_swamp i) 1 (text ∷ ran.texts)) ∙ input_behind solve.input solve.row solve.swamp text ran.texts ∙ is in
+      ap (check_task check) texts ∙ ap (with_text (Some text)) input
+
+  -- the text of the certificate is accepted
+  accepted : (parts : TaskParts) (plan : Option Plan) → solve_task solve ran.texts ≡ Ok parts → Certifies (Saves ran.said) solve parts plan
+      → (checked_ran.said.status ≡ 0) ⊎ IsBroken checked_ran.said.status
+  accepted parts plan is (journal, found, outputs, certificate, saves) =
+      let mine = subst (λ (n : Option (List ℕ)). IsCertificate n parts (weight_asked solve)
+      (guide_of parts found.run.ends.graph) found.run.ends.machine.store plan outputs) named
+      certificate in
+      let all : output name text ∷ saved.0
+      ≡ (output name mine.0 ∷ []) ++ journal_outputs solve.journal (settings_of solve) journal =
+      sym saved.1 ∙ saves
+      ∙ ap (λ (os : List Output). os ++ journal_outputs solve.journal (settings_of solve) journal)
+      mine.2 in
+      let same : text ≡ mine.0 = ap first_text all in
+      subst (λ v. IsOfVerdict v checked_ran.said.status)
+      (ap (checked (space_of parts) (estimate_of parts) (kind_of parts)) same ∙ mine.1.accepted)
+      (decided parts text (task_is parts is))
+
+  pub either : (ran.said.status ≡ 0) ⊎ (ran.said.status ≡ 1) → AllOfOnePlan (Read (Solve solve)) ran → CertificateOfNone (Read (Solve solve)) ran
+      → (checked_ran.said.status ≡ 0) ⊎ IsBroken checked_ran.said.status
+  either (inl zero) all none = let found = all zero in accepted found.0 (Some found.2.0) found.1 found.2.6
+  either (inr one) all none = let found = none one in accepted found.0 None found.1 found.2
+
+pub saved_certificates_are_accepted : SavedCertificatesAreAccepted
+saved_certificates_are_accepted solve check ran checked_ran name text same_input same_row same_swamp named answered saved texts all none decided =
+    either solve check ran checked_ran name text same_input same_row same_swamp named saved texts decided answered all none
+
+-- ---- journals
+
+last_text : List Output → List ℕ
+last_text [] = []
+last_text (last ∷ []) = last.text
+last_text (first ∷ (second ∷ rest)) = last_text (second ∷ rest)
+
+last_is : (first : List Output) (last : Output) → last_text (first ++ last ∷ []) ≡ last.text
+unfolding last_text
+last_is [] last = refl
+last_is (a ∷ []) last = refl
+last_is (a ∷ (b ∷ rest)) last = last_is (b ∷ rest) last
+
+-- two lists with the same files have the same last one
+same_last : (first others : List Output) (name text other : List ℕ)
+    → first ++ output name text ∷ [] ≡ others ++ output name other ∷ [] → text ≡ other
+same_last first others name text other e =
+    sym (last_is first (output name text)) ∙ ap last_text e ∙ last_is others (output name other)
+
+module _ (law : WrittenJournalsAreAccepted) (marks : SwampChangesMarksAlone)
+    (blocks : BlocksAskForNoCosts) (solve : SolveMeaning) (journal : JournalMeaning)
+    (ran judged_ran : Ran) (name text : List ℕ) (same_input : journal.input ≡ solve.input)
+    (same_row : journal.row ≡ solve.row) (named : solve.journal ≡ Some name)
+    (saved : IsSavedLast ran.said name text) (texts : judged_ran.texts ≡ text ∷ ran.texts)
+    (decided : JournalIsDecided (Read (Journal journal)) judged_ran) where
+  judged_task : (parts : TaskParts) → input_task solve.input solve.row false 0 ran.texts ≡ Ok parts
+      → journal_task journal judged_ran.texts ≡ Ok (parts, text)
+  judged_task parts is =
+      let input : input_task journal.input journal.row false 1 (text ∷ ran.texts) ≡ Ok parts =
+      (λ i. input_task (same_input i) (same_row i) false 1 (text ∷ ran.texts))
+      ∙ input_behind solve.input solve.row false text ran.texts ∙ is in
+      ap (journal_task journal) texts ∙ ap (with_text (Some text)) input
+
+  -- the saved text is accepted, whatever was saved before it
+  journal_accepted : (parts : TaskParts) → solve_task solve ran.texts ≡ Ok parts
+      → SavesJournal (Saves ran.said) solve parts
+      → (judged_ran.said.status ≡ 0) ⊎ IsBroken judged_ran.said.status
+  journal_accepted parts is mine =
+      let written = journal_text (settings_of solve) mine.events in
+      let all : saved.0 ++ output name text ∷ [] ≡ mine.first ++ output name written ∷ [] =
+      sym saved.1 ∙ mine.saved
+      ∙ ap (λ (n : Option (List ℕ)). mine.first ++ journal_outputs n (settings_of solve) mine.events)
+      named in
+      let same : text ≡ written = same_last saved.0 mine.first name text written all in
+      let there = without_swamp marks blocks solve.input solve.row solve.swamp 0 ran.texts parts is in
+      decided there.other text (length mine.events) (judged_task there.other there.is)
+      (there.journals text (length mine.events)
+      (subst (λ (t : List ℕ). IsJournalOf parts t (length mine.events)) (sym same) mine.legal))
+
+  pub any_journal : (ran.said.status ≡ 0) ⊎ ((ran.said.status ≡ 1) ⊎ (ran.said.status ≡ 2))
+      → AllOfOnePlan (Read (Solve solve)) ran → CertificateOfNone (Read (Solve solve)) ran
+      → StopHasCause (Read (Solve solve)) ran
+      → (judged_ran.said.status ≡ 0) ⊎ IsBroken judged_ran.said.status
+  any_journal (inl zero) all none stop =
+      let found = all zero in
+      journal_accepted found.0 found.1
+      (of_quiet law solve found.0 (Saves ran.said) (Some found.2.0) found.2.6)
+  any_journal (inr (inl one)) all none stop =
+      let found = none one in
+      journal_accepted found.0 found.1 (of_quiet law solve found.0 (Saves ran.said) None found.2)
+  any_journal (inr (inr two)) all none stop =
+      let found = (stop two).1 in
+      journal_accepted found.0 found.1 (of_stopped law solve found.0 (Saves ran.said) found.2)
+
+pub saved_journals_are_accepted : WrittenJournalsAreAccepted → SwampChangesMarksAlone
+    → BlocksAskForNoCosts → SavedJournalsAreAccepted
+saved_journals_are_accepted law marks blocks solve journal ran judged name text same_input same_row named answered saved texts all none stop decided =
+    any_journal law marks blocks solve journal ran judged name text same_input same_row named saved
+    texts decided answered all none stop
+
+-- ---- by the words
+
+-- an answer that is none of the broken ones is that it is accepted
+accepts_it : (status : ℕ) → (status ≡ 0) ⊎ IsBroken status → AcceptsIt status
+accepts_it status (inl zero) = (inl zero, λ served. inl zero)
+accepts_it status (inr (inl memory)) = (inr (inl memory), λ served. inr memory)
+accepts_it status (inr (inr (inl shelf))) = (inr (inr (inl shelf)), λ served. no_fault served)
+  where
+    no_fault : IsAnswer status ⊎ (status ≡ 71) → (status ≡ 0) ⊎ (status ≡ 71)
+    no_fault (inl (inl k)) = inl k
+    no_fault (inl (inr (inl k))) = absurd (omega (arith, k, shelf))
+    no_fault (inl (inr (inr (inl k)))) = absurd (omega (arith, k, shelf))
+    no_fault (inl (inr (inr (inr (inl k))))) = absurd (omega (arith, k, shelf))
+    no_fault (inl (inr (inr (inr (inr (inl k)))))) = absurd (omega (arith, k, shelf))
+    no_fault (inl (inr (inr (inr (inr (inr k)))))) = absurd (omega (arith, k, shelf))
+    no_fault (inr k) = inr k
+accepts_it status (inr (inr (inr sink))) = (inr (inr (inr sink)), λ served. no_fault served)
+  where
+    no_fault : IsAnswer status ⊎ (status ≡ 71) → (status ≡ 0) ⊎ (status ≡ 71)
+    no_fault (inl (inl k)) = inl k
+    no_fault (inl (inr (inl k))) = absurd (omega (arith, k, sink))
+    no_fault (inl (inr (inr (inl k)))) = absurd (omega (arith, k, sink))
+    no_fault (inl (inr (inr (inr (inl k))))) = absurd (omega (arith, k, sink))
+    no_fault (inl (inr (inr (inr (inr (inl k)))))) = absurd (omega (arith, k, sink))
+    no_fault (inl (inr (inr (inr (inr (inr k)))))) = absurd (omega (arith, k, sink))
+    no_fault (inr k) = inr k
+
+-- what is kept of words is kept of what they ask for
+module _ (words others : List (List ℕ)) (solve : SolveMeaning) (solved other : Ran)
+    (reads : reading_of_words words ≡ Read (Solve solve)) (kept : Keeps words solved)
+    (kept_too : Keeps others other) where
+  all_there : AllOfOnePlan (Read (Solve solve)) solved
+  all_there = subst (λ (r : Reading). AllOfOnePlan r solved) reads kept.solved
+
+  none_there : CertificateOfNone (Read (Solve solve)) solved
+  none_there = subst (λ (r : Reading). CertificateOfNone r solved) reads kept.certified_none
+
+  stop_there : StopHasCause (Read (Solve solve)) solved
+  stop_there = subst (λ (r : Reading). StopHasCause r solved) reads kept.stopped
+
+  pub certificate_by_words : (check : CheckMeaning) (name text : List ℕ)
+      → reading_of_words others ≡ Read (Check check) → check.input ≡ solve.input
+      → check.row ≡ solve.row → check.swamp ≡ solve.swamp → solve.certificate ≡ Some name
+      → (solved.said.status ≡ 0) ⊎ (solved.said.status ≡ 1)
+      → IsSavedFirst solved.said name text → other.texts ≡ text ∷ solved.texts
+      → AcceptsIt other.said.status
+  certificate_by_words check name text also same_input same_row same_swamp named answered saved texts =
+      accepts_it other.said.status
+      (saved_certificates_are_accepted solve check solved other name text same_input same_row
+      same_swamp named answered saved texts all_there none_there
+      (subst (λ (r : Reading). CheckIsDecided r other) also kept_too.check_exact))
+
+  pub journal_by_words : SavedJournalsAreAccepted → (journal : JournalMeaning) (name text : List ℕ)
+      → reading_of_words others ≡ Read (Journal journal) → journal.input ≡ solve.input
+      → journal.row ≡ solve.row → solve.journal ≡ Some name
+      → (solved.said.status ≡ 0) ⊎ ((solved.said.status ≡ 1) ⊎ (solved.said.status ≡ 2))
+      → IsSavedLast solved.said name text → other.texts ≡ text ∷ solved.texts
+      → AcceptsIt other.said.status
+  journal_by_words law journal name text also same_input same_row named answered saved texts =
+      accepts_it other.said.status
+      (law solve journal solved other name text same_input same_row named answered saved texts
+      all_there none_there stop_there
+      (subst (λ (r : Reading). JournalIsDecided r other) also kept_too.journal_exact))
+
+pub certificates_are_accepted_by_words : SolveReadsOptions → CheckReadsOptions
+    → CertificatesAreAcceptedByWords
+certificates_are_accepted_by_words solve_reads check_reads input name file text arguments others solved checked matching same_swamp named kept kept_too answered saved texts =
+    certificate_by_words _ _ _ solved checked
+    (solve_reads input arguments matching.solve matching.weight matching.names) kept kept_too _ name
+    text (check_reads input file others matching.each matching.distinct matching.placed) refl
+    matching.row same_swamp named answered saved texts
+
+pub journals_are_accepted_by_words : SavedJournalsAreAccepted → SolveReadsOptions
+    → JournalReadsOptions → JournalsAreAcceptedByWords
+journals_are_accepted_by_words law solve_reads journal_reads input name file text arguments others solved judged matching named kept kept_too answered saved texts =
+    journal_by_words _ _ _ solved judged
+    (solve_reads input arguments matching.solve matching.weight matching.names) kept kept_too law _
+    name text (journal_reads input file others matching.each matching.distinct matching.placed) refl
+    matching.row named answered saved texts

@@ -1,0 +1,573 @@
+-- From how a call of the program goes to its promises.
+use Rattle.std.proofs.Common.{◌≡◌, ◌≢◌, ◌⊎◌, ◌↔◌, inl, inr, ℕ, ◌<◌, IsTrue, false, true≢false, Option, None, Some, List, [], ◌∷◌, ◌++◌, map, Result, Ok, Err, refl, sym, ap, subst, ◌∙◌, arith, append-nil}
+use Rattle.pb_outside.specs.Outside.{Files, IfTold, Appends, KeepsAll}
+use Rattle.pb_outside.specs.Calls.{Call}
+use Rattle.pb_outside.specs.declared.shelf.Load.TheVariants.{Failed}
+use Rattle.pb_task.specs.Parts.{space_of}
+use Rattle.pb_estimate.specs.Estimates.{estimate_of}
+use Rattle.pb_check.specs.declared.fault.CertificateFault.{CertificateFault}
+use Rattle.pb_check.specs.declared.fault.Verdict.{Verdict}
+use Rattle.pb_check.specs.Judging.{checked}
+use Rattle.pb_check.specs.Kinds.{kind_of}
+use Rattle.pb_command.specs.Meaning.{Reading, Refused, Read, Solve, Check, Journal, Make}
+use Rattle.pb_run.specs.Asked.{files_of, saved_names}
+use Rattle.pb_answer.specs.Outputs.{Output}
+use Rattle.pb_run.specs.Calls.{calls_since, loaded_texts, outputs_in, put_bytes, have_failed, load_calls, SaveAll, FailToSaveAll}
+use Rattle.pb_run.specs.Loads.{loads_of, AreLoaded}
+use Rattle.pb_answer.specs.Answer.{Said, AnswersReading}
+use Rattle.pb_run.specs.Course.{RunsOut, FailsToLoad, HandsOut, FailsToSave, FailsToPut, HasAnswered, Does, DoesSince, Ran, ran_by, ran}
+use Rattle.pb_run.specs.Headline.{IsAnswer, IsBroken, AllOfOnePlan, PlanIsPlan, NoneIsCheaper, CertificateHolds, NoneMeansNone, CertificateOfNone, StopHasCause, AcceptedIsValid, RejectedIsFaulty, IsOfVerdict, CheckIsDecided, JournalIsLegal, JournalIsDecided, MadeIsLeast, NamedPlanIsPlan, NamedNoneMeansNone, NamedVerdictHolds, WordsAreRefused, InputIsRefused, AreSomeOf, OutputsAreNamed, IsAnswered, IsComplete}
+use Rattle.pb_run.specs.Contents.{IsNoneOf, SavesIn, SavesPartIn, LeavesPart, KeepsUnnamed, TellsHands, GoesBy, Goes, WritesPut}
+use Rattle.pb_run.proofs.CallLists.{since_is, loads_tell, loads_save_none, loads_fail_none, loads_fail, ended_few, ended_no_fault, saves_tell, failures_tell}
+use Rattle.pb_run.proofs.Some.{first_are_some, none_of_some}
+use Rattle.pb_run.proofs.Told as told
+
+module _ (reading : Reading) (n : ℕ) (shelf sink : List Call) where
+  abbrev pub Made : Ran
+  Made = ran_by n shelf sink
+
+  -- ---- which way it went
+
+  answered_texts : (a : HasAnswered reading n shelf sink) → loaded_texts a.saves ≡ [] → loaded_texts shelf ≡ a.texts
+  answered_texts a none = ap loaded_texts a.shelf_is ∙ loads_tell (files_of reading) a.texts a.unloaded a.saves (ended_few (files_of reading) a.texts a.unloaded a.ends)
+      ∙ ap (λ (ts : List (List ℕ)). a.texts ++ ts) none ∙ append-nil a.texts
+
+  answered_outputs : (a : HasAnswered reading n shelf sink) → outputs_in shelf ≡ outputs_in a.saves
+  answered_outputs a = ap outputs_in a.shelf_is ∙ loads_save_none (files_of reading) a.texts a.unloaded a.saves
+
+  answered_failed : (a : HasAnswered reading n shelf sink) → have_failed shelf ≡ have_failed a.saves
+  answered_failed a = ap have_failed a.shelf_is ∙ loads_fail_none (files_of reading) a.texts a.unloaded a.saves (ended_no_fault (files_of reading) a.texts a.unloaded a.ends)
+
+  -- the report was put
+  made_is : (a : HasAnswered reading n shelf sink) → HandsOut a.said n a.saves sink → (loaded_texts shelf ≡ a.texts) × (Made.said ≡ a.said)
+  made_is a h =
+      let tell = saves_tell a.saves a.said.outputs h.saves_are in (
+        answered_texts a tell.none_loaded,
+        λ i. record { status = h.status_is i; report = (ap put_bytes h.sink_is ∙ append-nil a.said.report) i; outputs = (answered_outputs a ∙ tell.saved) i },
+      )
+
+  made_answers : (a : HasAnswered reading n shelf sink) → HandsOut a.said n a.saves sink → AnswersReading reading Made.texts Made.said
+  made_answers a h =
+      let is = made_is a h in
+      subst (λ (s : Said). AnswersReading reading Made.texts s) (sym is.1) (subst (λ (ts : List (List ℕ)). AnswersReading reading ts a.said) (sym is.0) a.answers)
+
+  -- an answer was handed out, or memory ran out, or the shelf or the sink failed
+  pub way : Does reading n shelf sink → AnswersReading reading Made.texts Made.said ⊎ ((n ≡ 71) ⊎ ((n ≡ 73) ⊎ (n ≡ 74)))
+  way (inl out) = inr (inl out.status_is)
+  way (inr (inl failed)) = inr (inr (inl failed.status_is))
+  way (inr (inr a)) = go a.hands
+    where
+      go : HandsOut a.said n a.saves sink ⊎ (FailsToSave a.said n a.saves sink ⊎ FailsToPut a.said n a.saves sink) → AnswersReading reading Made.texts Made.said ⊎ ((n ≡ 71) ⊎ ((n ≡ 73) ⊎ (n ≡ 74)))
+      go (inl h) = inl (made_answers a h)
+      go (inr (inl f)) = inr (inr (inl f.status_is))
+      go (inr (inr f)) = inr (inr (inr f.status_is))
+
+  -- ---- failures
+
+  no_fault : have_failed shelf ≡ false → (n ≡ 73 → ⊥) → n ≡ 73 ↔ IsTrue (have_failed shelf)
+  no_fault none other = (λ e. absurd (other e), λ failed. absurd (true≢false (sym failed ∙ none)))
+
+  pub shelf_fails : Does reading n shelf sink → n ≡ 73 ↔ IsTrue (have_failed shelf)
+  shelf_fails (inl out) = no_fault
+      (ap have_failed (out.shelf_is ∙ sym (append-nil (load_calls (files_of reading) out.texts out.unloaded))) ∙ loads_fail_none (files_of reading) out.texts out.unloaded [] out.no_fault)
+      (λ e. omega (arith, e, out.status_is))
+  shelf_fails (inr (inl failed)) = (λ e. ap have_failed failed.shelf_is ∙ loads_fail (files_of reading) failed.texts failed.few, λ h. failed.status_is)
+  shelf_fails (inr (inr a)) = go a.hands
+    where
+      go : HandsOut a.said n a.saves sink ⊎ (FailsToSave a.said n a.saves sink ⊎ FailsToPut a.said n a.saves sink) → n ≡ 73 ↔ IsTrue (have_failed shelf)
+      go (inl h) = no_fault (answered_failed a ∙ (saves_tell a.saves a.said.outputs h.saves_are).none_failed)
+          (λ e. let known = told.known a.texts a.said reading a.answers in not_broken known (sym h.status_is ∙ e))
+        where
+          not_broken : IsAnswer a.said.status → a.said.status ≡ 73 → ⊥
+          not_broken (inl k) e = omega (arith, k, e)
+          not_broken (inr (inl k)) e = omega (arith, k, e)
+          not_broken (inr (inr (inl k))) e = omega (arith, k, e)
+          not_broken (inr (inr (inr (inl k)))) e = omega (arith, k, e)
+          not_broken (inr (inr (inr (inr (inl k))))) e = omega (arith, k, e)
+          not_broken (inr (inr (inr (inr (inr k))))) e = omega (arith, k, e)
+      go (inr (inl f)) = (λ e. answered_failed a ∙ (failures_tell a.saves a.said.outputs f.saves_are).failed, λ h. f.status_is)
+      go (inr (inr f)) = no_fault (answered_failed a ∙ (saves_tell a.saves a.said.outputs f.saves_are).none_failed) (λ e. omega (arith, e, f.status_is))
+
+  none_put : sink ≡ [] → (n ≡ 74 → ⊥) → n ≡ 74 ↔ IsTrue (have_failed sink)
+  none_put none other = (λ e. absurd (other e), λ failed. absurd (true≢false (sym failed ∙ ap have_failed none)))
+
+  pub sink_fails : Does reading n shelf sink → n ≡ 74 ↔ IsTrue (have_failed sink)
+  sink_fails (inl out) = none_put out.sink_is (λ e. omega (arith, e, out.status_is))
+  sink_fails (inr (inl failed)) = none_put failed.sink_is (λ e. omega (arith, e, failed.status_is))
+  sink_fails (inr (inr a)) = go a.hands
+    where
+      go : HandsOut a.said n a.saves sink ⊎ (FailsToSave a.said n a.saves sink ⊎ FailsToPut a.said n a.saves sink) → n ≡ 74 ↔ IsTrue (have_failed sink)
+      go (inl h) = (λ e. absurd (not_broken (told.known a.texts a.said reading a.answers) (sym h.status_is ∙ e)), λ failed. absurd (true≢false (sym failed ∙ ap have_failed h.sink_is)))
+        where
+          not_broken : IsAnswer a.said.status → a.said.status ≡ 74 → ⊥
+          not_broken (inl k) e = omega (arith, k, e)
+          not_broken (inr (inl k)) e = omega (arith, k, e)
+          not_broken (inr (inr (inl k))) e = omega (arith, k, e)
+          not_broken (inr (inr (inr (inl k)))) e = omega (arith, k, e)
+          not_broken (inr (inr (inr (inr (inl k))))) e = omega (arith, k, e)
+          not_broken (inr (inr (inr (inr (inr k))))) e = omega (arith, k, e)
+      go (inr (inl f)) = none_put f.sink_is (λ e. omega (arith, e, f.status_is))
+      go (inr (inr f)) = (λ e. ap have_failed f.sink_is, λ h. f.status_is)
+
+  -- ---- the promises
+
+  -- what holds of an answer, and of each status where nothing is answered
+  by_way : (P : Type 0) → Does reading n shelf sink → (AnswersReading reading Made.texts Made.said → P) → (n ≡ 71 → P) → (n ≡ 73 → P) → (n ≡ 74 → P) → P
+  by_way P does f memory shelf_failed sink_failed = go (way does)
+    where
+      go : AnswersReading reading Made.texts Made.said ⊎ ((n ≡ 71) ⊎ ((n ≡ 73) ⊎ (n ≡ 74))) → P
+      go (inl answers) = f answers
+      go (inr (inl e)) = memory e
+      go (inr (inr (inl e))) = shelf_failed e
+      go (inr (inr (inr e))) = sink_failed e
+
+  pub statuses : Does reading n shelf sink → IsAnswer n ⊎ IsBroken n
+  statuses does = by_way (IsAnswer n ⊎ IsBroken n) does (λ answers. inl (told.known Made.texts Made.said reading answers)) (λ e. inr (inl e)) (λ e. inr (inr (inl e))) (λ e. inr (inr (inr e)))
+
+  abbrev pub IsIdle : (Reading → Ran → Type 0) → Type 0
+  IsIdle P = (n ≡ 71) ⊎ ((n ≡ 73) ⊎ (n ≡ 74)) → P reading Made
+
+  promise : (P : Reading → Ran → Type 0) → Does reading n shelf sink → (AnswersReading reading Made.texts Made.said → P reading Made) → IsIdle P → P reading Made
+  promise P does f idle = by_way (P reading Made) does f (λ e. idle (inl e)) (λ e. idle (inr (inl e))) (λ e. idle (inr (inr e)))
+
+-- a status at which nothing is answered is another one
+pub broken_is_other : (n k : ℕ) → k < 71 → (n ≡ 71) ⊎ ((n ≡ 73) ⊎ (n ≡ 74)) → n ≢ k
+broken_is_other n k less (inl e) f = omega (arith, less, e, f)
+broken_is_other n k less (inr (inl e)) f = omega (arith, less, e, f)
+broken_is_other n k less (inr (inr e)) f = omega (arith, less, e, f)
+
+pub all_of_one : (reading : Reading) (n : ℕ) (shelf sink : List Call) → Does reading n shelf sink → AllOfOnePlan reading (ran_by n shelf sink)
+all_of_one reading n shelf sink does = promise reading n shelf sink AllOfOnePlan does (told.all_of_one (loaded_texts shelf) (ran_by n shelf sink).said reading) (idle reading)
+  where
+    idle : (r : Reading) → (n ≡ 71) ⊎ ((n ≡ 73) ⊎ (n ≡ 74)) → AllOfOnePlan r (ran_by n shelf sink)
+    idle (Refused fault) broken = tt
+    idle (Read (Solve solve)) broken = λ e. absurd (broken_is_other n 0 (omega arith) broken e)
+    idle (Read (Check check)) broken = tt
+    idle (Read (Journal journal)) broken = tt
+    idle (Read (Make make)) broken = tt
+
+pub plan_is_plan : (reading : Reading) (n : ℕ) (shelf sink : List Call) → Does reading n shelf sink → PlanIsPlan reading (ran_by n shelf sink)
+plan_is_plan reading n shelf sink does = promise reading n shelf sink PlanIsPlan does (told.plan_is_plan (loaded_texts shelf) (ran_by n shelf sink).said reading) (idle reading)
+  where
+    idle : (r : Reading) → (n ≡ 71) ⊎ ((n ≡ 73) ⊎ (n ≡ 74)) → PlanIsPlan r (ran_by n shelf sink)
+    idle (Refused fault) broken = tt
+    idle (Read (Solve solve)) broken = λ e. absurd (broken_is_other n 0 (omega arith) broken e)
+    idle (Read (Check check)) broken = tt
+    idle (Read (Journal journal)) broken = tt
+    idle (Read (Make make)) broken = tt
+
+pub none_is_cheaper : (reading : Reading) (n : ℕ) (shelf sink : List Call) → Does reading n shelf sink → NoneIsCheaper reading (ran_by n shelf sink)
+none_is_cheaper reading n shelf sink does = promise reading n shelf sink NoneIsCheaper does (told.none_is_cheaper (loaded_texts shelf) (ran_by n shelf sink).said reading) (idle reading)
+  where
+    idle : (r : Reading) → (n ≡ 71) ⊎ ((n ≡ 73) ⊎ (n ≡ 74)) → NoneIsCheaper r (ran_by n shelf sink)
+    idle (Refused fault) broken = tt
+    idle (Read (Solve solve)) broken = λ e. absurd (broken_is_other n 0 (omega arith) broken e)
+    idle (Read (Check check)) broken = tt
+    idle (Read (Journal journal)) broken = tt
+    idle (Read (Make make)) broken = tt
+
+pub certificate_holds : (reading : Reading) (n : ℕ) (shelf sink : List Call) → Does reading n shelf sink → CertificateHolds reading (ran_by n shelf sink)
+certificate_holds reading n shelf sink does = promise reading n shelf sink CertificateHolds does (told.certificate_holds (loaded_texts shelf) (ran_by n shelf sink).said reading) (idle reading)
+  where
+    idle : (r : Reading) → (n ≡ 71) ⊎ ((n ≡ 73) ⊎ (n ≡ 74)) → CertificateHolds r (ran_by n shelf sink)
+    idle (Refused fault) broken = tt
+    idle (Read (Solve solve)) broken = λ e. absurd (broken_is_other n 0 (omega arith) broken e)
+    idle (Read (Check check)) broken = tt
+    idle (Read (Journal journal)) broken = tt
+    idle (Read (Make make)) broken = tt
+
+pub none_means_none : (reading : Reading) (n : ℕ) (shelf sink : List Call) → Does reading n shelf sink → NoneMeansNone reading (ran_by n shelf sink)
+none_means_none reading n shelf sink does = promise reading n shelf sink NoneMeansNone does (told.none_means_none (loaded_texts shelf) (ran_by n shelf sink).said reading) (idle reading)
+  where
+    idle : (r : Reading) → (n ≡ 71) ⊎ ((n ≡ 73) ⊎ (n ≡ 74)) → NoneMeansNone r (ran_by n shelf sink)
+    idle (Refused fault) broken = broken_is_other n 1 (omega arith) broken
+    idle (Read (Solve solve)) broken = λ e. absurd (broken_is_other n 1 (omega arith) broken e)
+    idle (Read (Check check)) broken = broken_is_other n 1 (omega arith) broken
+    idle (Read (Journal journal)) broken = broken_is_other n 1 (omega arith) broken
+    idle (Read (Make make)) broken = λ e. absurd (broken_is_other n 1 (omega arith) broken e)
+
+pub certificate_of_none : (reading : Reading) (n : ℕ) (shelf sink : List Call) → Does reading n shelf sink → CertificateOfNone reading (ran_by n shelf sink)
+certificate_of_none reading n shelf sink does = promise reading n shelf sink CertificateOfNone does (told.certificate_of_none (loaded_texts shelf) (ran_by n shelf sink).said reading) (idle reading)
+  where
+    idle : (r : Reading) → (n ≡ 71) ⊎ ((n ≡ 73) ⊎ (n ≡ 74)) → CertificateOfNone r (ran_by n shelf sink)
+    idle (Refused fault) broken = tt
+    idle (Read (Solve solve)) broken = λ e. absurd (broken_is_other n 1 (omega arith) broken e)
+    idle (Read (Check check)) broken = tt
+    idle (Read (Journal journal)) broken = tt
+    idle (Read (Make make)) broken = tt
+
+pub stop_has_cause : (reading : Reading) (n : ℕ) (shelf sink : List Call) → Does reading n shelf sink → StopHasCause reading (ran_by n shelf sink)
+stop_has_cause reading n shelf sink does = promise reading n shelf sink StopHasCause does (told.stop_has_cause (loaded_texts shelf) (ran_by n shelf sink).said reading) (idle reading)
+  where
+    idle : (r : Reading) → (n ≡ 71) ⊎ ((n ≡ 73) ⊎ (n ≡ 74)) → StopHasCause r (ran_by n shelf sink)
+    idle (Refused fault) broken = broken_is_other n 2 (omega arith) broken
+    idle (Read (Solve solve)) broken = λ e. absurd (broken_is_other n 2 (omega arith) broken e)
+    idle (Read (Check check)) broken = broken_is_other n 2 (omega arith) broken
+    idle (Read (Journal journal)) broken = broken_is_other n 2 (omega arith) broken
+    idle (Read (Make make)) broken = λ e. absurd (broken_is_other n 2 (omega arith) broken e)
+
+pub accepted_is_valid : (reading : Reading) (n : ℕ) (shelf sink : List Call) → Does reading n shelf sink → AcceptedIsValid reading (ran_by n shelf sink)
+accepted_is_valid reading n shelf sink does = promise reading n shelf sink AcceptedIsValid does (told.accepted_is_valid (loaded_texts shelf) (ran_by n shelf sink).said reading) (idle reading)
+  where
+    idle : (r : Reading) → (n ≡ 71) ⊎ ((n ≡ 73) ⊎ (n ≡ 74)) → AcceptedIsValid r (ran_by n shelf sink)
+    idle (Refused fault) broken = broken_is_other n 0 (omega arith) broken
+    idle (Read (Solve solve)) broken = tt
+    idle (Read (Check check)) broken = λ e. absurd (broken_is_other n 0 (omega arith) broken e)
+    idle (Read (Journal journal)) broken = tt
+    idle (Read (Make make)) broken = tt
+
+pub rejected_is_faulty : (reading : Reading) (n : ℕ) (shelf sink : List Call) → Does reading n shelf sink → RejectedIsFaulty reading (ran_by n shelf sink)
+rejected_is_faulty reading n shelf sink does = promise reading n shelf sink RejectedIsFaulty does (told.rejected_is_faulty (loaded_texts shelf) (ran_by n shelf sink).said reading) (idle reading)
+  where
+    idle : (r : Reading) → (n ≡ 71) ⊎ ((n ≡ 73) ⊎ (n ≡ 74)) → RejectedIsFaulty r (ran_by n shelf sink)
+    idle (Refused fault) broken = broken_is_other n 3 (omega arith) broken
+    idle (Read (Solve solve)) broken = broken_is_other n 3 (omega arith) broken
+    idle (Read (Check check)) broken = λ e. absurd (broken_is_other n 3 (omega arith) broken e)
+    idle (Read (Journal journal)) broken = λ e. absurd (broken_is_other n 3 (omega arith) broken e)
+    idle (Read (Make make)) broken = broken_is_other n 3 (omega arith) broken
+
+pub named_plan_is_plan : (reading : Reading) (n : ℕ) (shelf sink : List Call) → Does reading n shelf sink → NamedPlanIsPlan reading (ran_by n shelf sink)
+named_plan_is_plan reading n shelf sink does = promise reading n shelf sink NamedPlanIsPlan does (told.named_plan_is_plan (loaded_texts shelf) (ran_by n shelf sink).said reading) (idle reading)
+  where
+    idle : (r : Reading) → (n ≡ 71) ⊎ ((n ≡ 73) ⊎ (n ≡ 74)) → NamedPlanIsPlan r (ran_by n shelf sink)
+    idle (Refused fault) broken = tt
+    idle (Read (Solve solve)) broken = λ e. absurd (broken_is_other n 0 (omega arith) broken e)
+    idle (Read (Check check)) broken = tt
+    idle (Read (Journal journal)) broken = tt
+    idle (Read (Make make)) broken = tt
+
+pub named_none_means_none : (reading : Reading) (n : ℕ) (shelf sink : List Call) → Does reading n shelf sink → NamedNoneMeansNone reading (ran_by n shelf sink)
+named_none_means_none reading n shelf sink does = promise reading n shelf sink NamedNoneMeansNone does (told.named_none_means_none (loaded_texts shelf) (ran_by n shelf sink).said reading) (idle reading)
+  where
+    idle : (r : Reading) → (n ≡ 71) ⊎ ((n ≡ 73) ⊎ (n ≡ 74)) → NamedNoneMeansNone r (ran_by n shelf sink)
+    idle (Refused fault) broken = tt
+    idle (Read (Solve solve)) broken = λ e. absurd (broken_is_other n 1 (omega arith) broken e)
+    idle (Read (Check check)) broken = tt
+    idle (Read (Journal journal)) broken = tt
+    idle (Read (Make make)) broken = tt
+
+pub named_verdict_holds : (reading : Reading) (n : ℕ) (shelf sink : List Call) → Does reading n shelf sink → NamedVerdictHolds reading (ran_by n shelf sink)
+named_verdict_holds reading n shelf sink does = promise reading n shelf sink NamedVerdictHolds does (told.named_verdict_holds (loaded_texts shelf) (ran_by n shelf sink).said reading) (idle reading)
+  where
+    idle : (r : Reading) → (n ≡ 71) ⊎ ((n ≡ 73) ⊎ (n ≡ 74)) → NamedVerdictHolds r (ran_by n shelf sink)
+    idle (Refused fault) broken = tt
+    idle (Read (Solve solve)) broken = tt
+    idle (Read (Check check)) broken = λ e. absurd (broken_is_other n 0 (omega arith) broken e)
+    idle (Read (Journal journal)) broken = tt
+    idle (Read (Make make)) broken = tt
+
+pub check_is_decided : (reading : Reading) (n : ℕ) (shelf sink : List Call) → Does reading n shelf sink → CheckIsDecided reading (ran_by n shelf sink)
+check_is_decided reading n shelf sink does = promise reading n shelf sink CheckIsDecided does (told.check_is_decided (loaded_texts shelf) (ran_by n shelf sink).said reading) (idle reading)
+  where
+    either : (v : Result Verdict CertificateFault) → IsBroken n → IsOfVerdict v n
+    either (Ok verdict) broken = inr broken
+    either (Err fault) broken = inr broken
+
+    idle : (r : Reading) → (n ≡ 71) ⊎ ((n ≡ 73) ⊎ (n ≡ 74)) → CheckIsDecided r (ran_by n shelf sink)
+    idle (Refused fault) broken = tt
+    idle (Read (Solve solve)) broken = tt
+    idle (Read (Check check)) broken = λ parts certificate is. either (checked (space_of parts) (estimate_of parts) (kind_of parts) certificate) broken
+    idle (Read (Journal journal)) broken = tt
+    idle (Read (Make make)) broken = tt
+
+pub journal_is_legal : (reading : Reading) (n : ℕ) (shelf sink : List Call) → Does reading n shelf sink → JournalIsLegal reading (ran_by n shelf sink)
+journal_is_legal reading n shelf sink does = promise reading n shelf sink JournalIsLegal does (told.journal_is_legal (loaded_texts shelf) (ran_by n shelf sink).said reading) (idle reading)
+  where
+    idle : (r : Reading) → (n ≡ 71) ⊎ ((n ≡ 73) ⊎ (n ≡ 74)) → JournalIsLegal r (ran_by n shelf sink)
+    idle (Refused fault) broken = tt
+    idle (Read (Solve solve)) broken = tt
+    idle (Read (Check check)) broken = tt
+    idle (Read (Journal journal)) broken = λ e. absurd (broken_is_other n 0 (omega arith) broken e)
+    idle (Read (Make make)) broken = tt
+
+pub journal_is_decided : (reading : Reading) (n : ℕ) (shelf sink : List Call) → Does reading n shelf sink → JournalIsDecided reading (ran_by n shelf sink)
+journal_is_decided reading n shelf sink does = promise reading n shelf sink JournalIsDecided does (told.journal_is_decided (loaded_texts shelf) (ran_by n shelf sink).said reading) (idle reading)
+  where
+    idle : (r : Reading) → (n ≡ 71) ⊎ ((n ≡ 73) ⊎ (n ≡ 74)) → JournalIsDecided r (ran_by n shelf sink)
+    idle (Refused fault) broken = tt
+    idle (Read (Solve solve)) broken = tt
+    idle (Read (Check check)) broken = tt
+    idle (Read (Journal journal)) broken = λ parts text events is legal. inr broken
+    idle (Read (Make make)) broken = tt
+
+pub made_is_least : (reading : Reading) (n : ℕ) (shelf sink : List Call) → Does reading n shelf sink → MadeIsLeast reading (ran_by n shelf sink)
+made_is_least reading n shelf sink does = promise reading n shelf sink MadeIsLeast does (told.made_is_least (loaded_texts shelf) (ran_by n shelf sink).said reading) (idle reading)
+  where
+    idle : (r : Reading) → (n ≡ 71) ⊎ ((n ≡ 73) ⊎ (n ≡ 74)) → MadeIsLeast r (ran_by n shelf sink)
+    idle (Refused fault) broken = tt
+    idle (Read (Solve solve)) broken = tt
+    idle (Read (Check check)) broken = tt
+    idle (Read (Journal journal)) broken = tt
+    idle (Read (Make make)) broken = λ e. absurd (broken_is_other n 0 (omega arith) broken e)
+
+-- if no call failed, there is an answer to the texts that were loaded, or want of memory
+pub done_is_answered : (reading : Reading) (n : ℕ) (shelf sink : List Call) → Does reading n shelf sink → have_failed shelf ≡ false → have_failed sink ≡ false
+    → IsAnswered reading (loaded_texts shelf) n
+done_is_answered reading n shelf sink does shelf_done sink_done =
+    by_way reading n shelf sink (IsAnswered reading (loaded_texts shelf) n) does (told.answered (loaded_texts shelf) (ran_by n shelf sink).said reading)
+    (told.memory_answers reading (loaded_texts shelf) n)
+    (λ e. absurd (true≢false (sym ((shelf_fails reading n shelf sink does).0 e) ∙ shelf_done)))
+    (λ e. absurd (true≢false (sym ((sink_fails reading n shelf sink does).0 e) ∙ sink_done)))
+
+pub input_is_refused : (reading : Reading) (n : ℕ) (shelf sink : List Call) → Does reading n shelf sink → InputIsRefused reading (ran_by n shelf sink)
+input_is_refused reading n shelf sink does = promise reading n shelf sink InputIsRefused does (told.input_is_refused (loaded_texts shelf) (ran_by n shelf sink).said reading)
+    (λ broken. (λ e. absurd (broken_is_other n 65 (omega arith) broken e), λ report refuses. inr broken))
+
+-- words that are no command line name no files and ask for nothing to be saved, so the shelf doesn't fail
+pub words_are_refused : (reading : Reading) (n : ℕ) (shelf sink : List Call) → Does reading n shelf sink → WordsAreRefused reading (ran_by n shelf sink)
+words_are_refused reading n shelf sink does = promise reading n shelf sink WordsAreRefused does (told.words_are_refused (loaded_texts shelf) (ran_by n shelf sink).said reading) (idle reading does)
+  where
+    idle : (r : Reading) → Does r n shelf sink → (n ≡ 71) ⊎ ((n ≡ 73) ⊎ (n ≡ 74)) → WordsAreRefused r (ran_by n shelf sink)
+    idle (Refused fault) went (inl e) = inr (inl e)
+    idle (Refused fault) went (inr (inr e)) = inr (inr e)
+    idle (Refused fault) (inl out) (inr (inl e)) = absurd (omega (arith, e, out.status_is))
+    idle (Refused fault) (inr (inl failed)) (inr (inl e)) = absurd (omega (arith, failed.few))
+    idle (Refused fault) (inr (inr a)) (inr (inl e)) = go a.hands
+      where
+        none : FailToSaveAll a.saves a.said.outputs → ⊥
+        none fails = subst (λ (os : List Output). FailToSaveAll a.saves os) a.answers.2 fails
+
+        go : HandsOut a.said n a.saves sink ⊎ (FailsToSave a.said n a.saves sink ⊎ FailsToPut a.said n a.saves sink) → WordsAreRefused (Refused fault) (ran_by n shelf sink)
+        go (inl h) = absurd (omega (arith, e, h.status_is, a.answers.0))
+        go (inr (inl f)) = absurd (none f.saves_are)
+        go (inr (inr f)) = absurd (omega (arith, e, f.status_is))
+    idle (Read meaning) went broken = broken_is_other n 64 (omega arith) broken
+
+-- ---- what is saved and printed
+
+answer_not : (n : ℕ) → IsAnswer n → (n ≡ 71) ⊎ ((n ≡ 73) ⊎ (n ≡ 74)) → ⊥
+answer_not n (inl k) broken = broken_is_other n 0 (omega arith) broken k
+answer_not n (inr (inl k)) broken = broken_is_other n 1 (omega arith) broken k
+answer_not n (inr (inr (inl k))) broken = broken_is_other n 2 (omega arith) broken k
+answer_not n (inr (inr (inr (inl k)))) broken = broken_is_other n 3 (omega arith) broken k
+answer_not n (inr (inr (inr (inr (inl k))))) broken = broken_is_other n 64 (omega arith) broken k
+answer_not n (inr (inr (inr (inr (inr k))))) broken = broken_is_other n 65 (omega arith) broken k
+
+abbrev pub names_of : List Output → List (List ℕ)
+names_of outputs = map (λ (o : Output). o.name) outputs
+
+none_begun : (reading : Reading) (outputs : List Output) → outputs ≡ [] → AreSomeOf (names_of outputs) (saved_names reading)
+none_begun reading outputs none = subst (λ (os : List Output). AreSomeOf (names_of os) (saved_names reading)) (sym none) tt
+
+module _ (reading : Reading) (n : ℕ) (shelf sink : List Call) where
+  no_outputs_out : (out : RunsOut reading n shelf sink) → outputs_in shelf ≡ []
+  no_outputs_out out = ap outputs_in (out.shelf_is ∙ sym (append-nil (load_calls (files_of reading) out.texts out.unloaded))) ∙ loads_save_none (files_of reading) out.texts out.unloaded []
+
+  no_outputs_failed : (failed : FailsToLoad reading n shelf sink) → outputs_in shelf ≡ []
+  no_outputs_failed failed = ap outputs_in (failed.shelf_is ∙ sym (append-nil (load_calls (files_of reading) failed.texts (Some Failed)))) ∙ loads_save_none (files_of reading) failed.texts (Some Failed) []
+
+  pub outputs_are_named : Does reading n shelf sink → OutputsAreNamed reading (ran_by n shelf sink)
+  outputs_are_named (inl out) = none_begun reading (outputs_in shelf) (no_outputs_out out)
+  outputs_are_named (inr (inl failed)) = none_begun reading (outputs_in shelf) (no_outputs_failed failed)
+  outputs_are_named (inr (inr a)) = go a.hands
+    where
+      due : AreSomeOf (names_of a.said.outputs) (saved_names reading)
+      due = told.outputs_are_named a.texts a.said reading a.answers
+
+      named_as : (outputs : List Output) → outputs_in shelf ≡ outputs → AreSomeOf (names_of outputs) (saved_names reading) → OutputsAreNamed reading (ran_by n shelf sink)
+      named_as outputs is some = subst (λ (os : List Output). AreSomeOf (names_of os) (saved_names reading)) (sym is) some
+
+      whole : SaveAll a.saves a.said.outputs → OutputsAreNamed reading (ran_by n shelf sink)
+      whole saves = named_as a.said.outputs (answered_outputs reading n shelf sink a ∙ (saves_tell a.saves a.said.outputs saves).saved) due
+
+      go : HandsOut a.said n a.saves sink ⊎ (FailsToSave a.said n a.saves sink ⊎ FailsToPut a.said n a.saves sink) → OutputsAreNamed reading (ran_by n shelf sink)
+      go (inl h) = whole h.saves_are
+      go (inr (inl f)) =
+          let tell = failures_tell a.saves a.said.outputs f.saves_are in
+          named_as (outputs_in a.saves) (answered_outputs reading n shelf sink a)
+          (first_are_some (names_of (outputs_in a.saves)) tell.rest (saved_names reading) (subst (λ (ns : List (List ℕ)). AreSomeOf ns (saved_names reading)) tell.named due))
+      go (inr (inr f)) = whole f.saves_are
+
+  pub nothing_saved : Does reading n shelf sink → (n ≡ 3) ⊎ (n ≡ 64) ⊎ (n ≡ 65) ⊎ (n ≡ 71) → outputs_in shelf ≡ []
+  nothing_saved (inl out) e = no_outputs_out out
+  nothing_saved (inr (inl failed)) e = no_outputs_failed failed
+  nothing_saved (inr (inr a)) e = go a.hands
+    where
+      other : (k : ℕ) → k < 3 → n ≡ k → ⊥
+      other k less f = which e
+        where
+          which : (n ≡ 3) ⊎ (n ≡ 64) ⊎ (n ≡ 65) ⊎ (n ≡ 71) → ⊥
+          which (inl h) = omega (arith, h, f, less)
+          which (inr (inl h)) = omega (arith, h, f, less)
+          which (inr (inr (inl h))) = omega (arith, h, f, less)
+          which (inr (inr (inr h))) = omega (arith, h, f, less)
+
+      neither : (k : ℕ) → 72 < k → n ≡ k → ⊥
+      neither k more f = which e
+        where
+          which : (n ≡ 3) ⊎ (n ≡ 64) ⊎ (n ≡ 65) ⊎ (n ≡ 71) → ⊥
+          which (inl h) = omega (arith, h, f, more)
+          which (inr (inl h)) = omega (arith, h, f, more)
+          which (inr (inr (inl h))) = omega (arith, h, f, more)
+          which (inr (inr (inr h))) = omega (arith, h, f, more)
+
+      go : HandsOut a.said n a.saves sink ⊎ (FailsToSave a.said n a.saves sink ⊎ FailsToPut a.said n a.saves sink) → outputs_in shelf ≡ []
+      go (inl h) = answered_outputs reading n shelf sink a ∙ (saves_tell a.saves a.said.outputs h.saves_are).saved
+          ∙ told.nothing_to_save a.texts a.said reading a.answers (λ zero. other 0 (omega arith) (h.status_is ∙ zero)) (λ one. other 1 (omega arith) (h.status_is ∙ one)) (λ two. other 2 (omega arith) (h.status_is ∙ two))
+      go (inr (inl f)) = absurd (neither 73 (omega arith) f.status_is)
+      go (inr (inr f)) = absurd (neither 74 (omega arith) f.status_is)
+
+  pub silent : Does reading n shelf sink → (n ≡ 71) ⊎ (n ≡ 73) → put_bytes sink ≡ []
+  silent (inl out) e = ap put_bytes out.sink_is
+  silent (inr (inl failed)) e = ap put_bytes failed.sink_is
+  silent (inr (inr a)) e = go a.hands
+    where
+      broken : (n ≡ 71) ⊎ (n ≡ 73) → (n ≡ 71) ⊎ ((n ≡ 73) ⊎ (n ≡ 74))
+      broken (inl h) = inl h
+      broken (inr h) = inr (inl h)
+
+      not_printed : (n ≡ 71) ⊎ (n ≡ 73) → n ≡ 74 → ⊥
+      not_printed (inl h) f = omega (arith, h, f)
+      not_printed (inr h) f = omega (arith, h, f)
+
+      go : HandsOut a.said n a.saves sink ⊎ (FailsToSave a.said n a.saves sink ⊎ FailsToPut a.said n a.saves sink) → put_bytes sink ≡ []
+      go (inl h) = absurd (answer_not n (subst IsAnswer (sym h.status_is) (told.known a.texts a.said reading a.answers)) (broken e))
+      go (inr (inl f)) = ap put_bytes f.sink_is
+      go (inr (inr f)) = absurd (not_printed e f.status_is)
+
+  -- ---- where the shelf tells its files
+
+  module _ (files files' : Option Files) where
+    pub does : GoesBy reading n files files' shelf sink → Does reading n shelf sink
+    does (inl (out, kept)) = inl out
+    does (inr (inl (failed, kept))) = inr (inl failed)
+    does (inr (inr (a, loaded, hands))) = inr (inr a)
+
+    pub texts_loaded : GoesBy reading n files files' shelf sink → IsAnswer n → AreLoaded files (files_of reading) (loaded_texts shelf)
+    texts_loaded (inl (out, kept)) is = absurd (answer_not n is (inl out.status_is))
+    texts_loaded (inr (inl (failed, kept))) is = absurd (answer_not n is (inr (inl failed.status_is)))
+    texts_loaded (inr (inr (a, loaded, hands))) is = go a.hands
+      where
+        go : HandsOut a.said n a.saves sink ⊎ (FailsToSave a.said n a.saves sink ⊎ FailsToPut a.said n a.saves sink) → AreLoaded files (files_of reading) (loaded_texts shelf)
+        go (inl h) = subst (AreLoaded files (files_of reading)) (sym (made_is reading n shelf sink a h).0) loaded
+        go (inr (inl f)) = absurd (answer_not n is (inr (inl f.status_is)))
+        go (inr (inr f)) = absurd (answer_not n is (inr (inr f.status_is)))
+
+    told_map : (a b : Option Files) (P Q : Files → Files → Type 0) → ((x y : Files) → P x y → Q x y) → IfTold a b P → IfTold a b Q
+    told_map None None P Q f h = tt
+    told_map (Some x) (Some y) P Q f h = f x y h
+    told_map None (Some y) P Q f h = absurd h
+    told_map (Some x) None P Q f h = absurd h
+
+    saved_by : (a : HasAnswered reading n shelf sink) → SaveAll a.saves a.said.outputs → IfTold files files' (SavesIn a.said.outputs) → IfTold files files' (SavesIn (outputs_in shelf))
+    saved_by a saves told_it = subst (λ (os : List Output). IfTold files files' (SavesIn os)) (sym (answered_outputs reading n shelf sink a ∙ (saves_tell a.saves a.said.outputs saves).saved)) told_it
+
+    pub files_saved : GoesBy reading n files files' shelf sink → IsAnswer n ⊎ (n ≡ 74) → IfTold files files' (SavesIn (outputs_in shelf))
+    files_saved (inl (out, kept)) is = absurd (not_out is)
+      where
+        not_out : IsAnswer n ⊎ (n ≡ 74) → ⊥
+        not_out (inl k) = answer_not n k (inl out.status_is)
+        not_out (inr k) = omega (arith, k, out.status_is)
+    files_saved (inr (inl (failed, kept))) is = absurd (not_failed is)
+      where
+        not_failed : IsAnswer n ⊎ (n ≡ 74) → ⊥
+        not_failed (inl k) = answer_not n k (inr (inl failed.status_is))
+        not_failed (inr k) = omega (arith, k, failed.status_is)
+    files_saved (inr (inr (a, loaded, hands))) is = go a.hands hands
+      where
+        not_cut : n ≡ 73 → IsAnswer n ⊎ (n ≡ 74) → ⊥
+        not_cut e (inl k) = answer_not n k (inr (inl e))
+        not_cut e (inr k) = omega (arith, k, e)
+
+        go : (h : HandsOut a.said n a.saves sink ⊎ (FailsToSave a.said n a.saves sink ⊎ FailsToPut a.said n a.saves sink)) → TellsHands a.said files files' h → IfTold files files' (SavesIn (outputs_in shelf))
+        go (inl h) told_it = saved_by a h.saves_are told_it
+        go (inr (inl f)) told_it = absurd (not_cut f.status_is is)
+        go (inr (inr f)) told_it = saved_by a f.saves_are told_it
+
+    pub files_kept : GoesBy reading n files files' shelf sink → n ≡ 71 → IfTold files files' KeepsAll
+    files_kept (inl (out, kept)) e = kept
+    files_kept (inr (inl (failed, kept))) e = kept
+    files_kept (inr (inr (a, loaded, hands))) e = go a.hands
+      where
+        go : HandsOut a.said n a.saves sink ⊎ (FailsToSave a.said n a.saves sink ⊎ FailsToPut a.said n a.saves sink) → IfTold files files' KeepsAll
+        go (inl h) = absurd (answer_not n (subst IsAnswer (sym h.status_is) (told.known a.texts a.said reading a.answers)) (inl e))
+        go (inr (inl f)) = absurd (omega (arith, e, f.status_is))
+        go (inr (inr f)) = absurd (omega (arith, e, f.status_is))
+
+    pub files_left : GoesBy reading n files files' shelf sink → n ≡ 73 → IfTold files files' (λ before after. KeepsAll before after ⊎ LeavesPart reading (loaded_texts shelf) before after)
+    files_left (inl (out, kept)) e = absurd (omega (arith, e, out.status_is))
+    files_left (inr (inl (failed, kept))) e = told_map files files' KeepsAll _ (λ x y h. inl h) kept
+    files_left (inr (inr (a, loaded, hands))) e = go a.hands hands
+      where
+        go : (h : HandsOut a.said n a.saves sink ⊎ (FailsToSave a.said n a.saves sink ⊎ FailsToPut a.said n a.saves sink)) → TellsHands a.said files files' h
+            → IfTold files files' (λ before after. KeepsAll before after ⊎ LeavesPart reading (loaded_texts shelf) before after)
+        go (inl h) told_it = absurd (answer_not n (subst IsAnswer (sym h.status_is) (told.known a.texts a.said reading a.answers)) (inr (inl e)))
+        go (inr (inl f)) told_it =
+            let none = (failures_tell a.saves a.said.outputs f.saves_are).none_loaded in
+            let answers = subst (λ (ts : List (List ℕ)). AnswersReading reading ts a.said) (sym (answered_texts reading n shelf sink a none)) a.answers in
+            told_map files files' (SavesPartIn a.said.outputs) _ (λ x y part. inr (a.said, answers, part)) told_it
+        go (inr (inr f)) told_it = absurd (omega (arith, e, f.status_is))
+
+    -- ---- files under other names
+
+    stay_in : (outputs : List Output) (x y : Files) (other : List ℕ) → IsNoneOf (names_of outputs) other → SavesIn outputs x y → y other ≡ x other
+    stay_in [] x y other h saves = saves other
+    stay_in (first ∷ outputs) x y other h (between, here, others, more) = stay_in outputs between y other h.1 more ∙ others other h.0
+
+    stay_in_part : (outputs : List Output) (x y : Files) (other : List ℕ) → IsNoneOf (names_of outputs) other → SavesPartIn outputs x y → y other ≡ x other
+    stay_in_part [] x y other h saves = absurd saves
+    stay_in_part (first ∷ outputs) x y other h (inl (part, others)) = others other h.0
+    stay_in_part (first ∷ outputs) x y other h (inr (between, here, others, more)) = stay_in_part outputs between y other h.1 more ∙ others other h.0
+
+    pub others_stay : GoesBy reading n files files' shelf sink → IfTold files files' (KeepsUnnamed reading)
+    others_stay (inl (out, kept)) = told_map files files' KeepsAll (KeepsUnnamed reading) (λ x y h other none. h other) kept
+    others_stay (inr (inl (failed, kept))) = told_map files files' KeepsAll (KeepsUnnamed reading) (λ x y h other none. h other) kept
+    others_stay (inr (inr (a, loaded, hands))) = go a.hands hands
+      where
+        none_due : (other : List ℕ) → IsNoneOf (saved_names reading) other → IsNoneOf (names_of a.said.outputs) other
+        none_due other none = none_of_some (names_of a.said.outputs) (saved_names reading) other (told.outputs_are_named a.texts a.said reading a.answers) none
+
+        go : (h : HandsOut a.said n a.saves sink ⊎ (FailsToSave a.said n a.saves sink ⊎ FailsToPut a.said n a.saves sink)) → TellsHands a.said files files' h → IfTold files files' (KeepsUnnamed reading)
+        go (inl h) told_it = told_map files files' (SavesIn a.said.outputs) (KeepsUnnamed reading) (λ x y saves other none. stay_in a.said.outputs x y other (none_due other none) saves) told_it
+        go (inr (inl f)) told_it = told_map files files' (SavesPartIn a.said.outputs) (KeepsUnnamed reading) (λ x y part other none. stay_in_part a.said.outputs x y other (none_due other none) part) told_it
+        go (inr (inr f)) told_it = told_map files files' (SavesIn a.said.outputs) (KeepsUnnamed reading) (λ x y saves other none. stay_in a.said.outputs x y other (none_due other none) saves) told_it
+
+    same_texts : (loads : Option (List (List ℕ))) (a b : List (List ℕ)) → loads ≡ Some a → loads ≡ Some b → a ≡ b
+    same_texts loads a b x y = cc
+
+    -- where nothing fails there is an answer to the texts of the files
+    pub complete : GoesBy reading n files files' shelf sink → IsAnswer n ⊎ (n ≡ 71) → IsComplete reading files n
+    complete by is = go files refl
+      where
+        at : IsAnswer n ⊎ (n ≡ 71) → (shelf_files : Files) → files ≡ Some shelf_files → (texts : List (List ℕ)) → loads_of shelf_files (files_of reading) ≡ Some texts → IsAnswered reading texts n
+        at (inr e) shelf_files there texts loads = told.memory_answers reading texts n e
+        at (inl k) shelf_files there texts loads =
+            let mine : loads_of shelf_files (files_of reading) ≡ Some (loaded_texts shelf) = subst (λ (f : Option Files). AreLoaded f (files_of reading) (loaded_texts shelf)) there (texts_loaded by k) in
+            let same = same_texts (loads_of shelf_files (files_of reading)) (loaded_texts shelf) texts mine loads in
+            subst (λ (ts : List (List ℕ)). IsAnswered reading ts n) same (by_answer (way reading n shelf sink (does by)))
+          where
+            by_answer : AnswersReading reading (loaded_texts shelf) (ran_by n shelf sink).said ⊎ ((n ≡ 71) ⊎ ((n ≡ 73) ⊎ (n ≡ 74))) → IsAnswered reading (loaded_texts shelf) n
+            by_answer (inl answers) = told.answered (loaded_texts shelf) (ran_by n shelf sink).said reading answers
+            by_answer (inr broken) = absurd (answer_not n k broken)
+
+        go : (f : Option Files) → files ≡ f → IsComplete reading f n
+        go None there = tt
+        go (Some shelf_files) there = at is shelf_files there
+
+-- ---- by the calls that were made since
+
+module _ (reading : Reading) (n : ℕ) (files files' : Option Files) (shelf shelf' sink sink' : List Call) (goes : Goes reading n files files' shelf shelf' sink sink') where
+  own_calls : calls_since shelf shelf' ≡ goes.0
+  own_calls = ap (calls_since shelf) goes.2 ∙ since_is shelf goes.0
+
+  own_puts : calls_since sink sink' ≡ goes.1
+  own_puts = ap (calls_since sink) goes.3 ∙ since_is sink goes.1
+
+  pub since : (P : ℕ → List Call → List Call → Type 0) (k : ℕ) → k ≡ n → (GoesBy reading n files files' goes.0 goes.1 → P n goes.0 goes.1) → P k (calls_since shelf shelf') (calls_since sink sink')
+  since P k is f = subst (λ m. P m (calls_since shelf shelf') (calls_since sink sink')) (sym is)
+      (subst (λ (calls : List Call). P n calls (calls_since sink sink')) (sym own_calls) (subst (λ (calls : List Call). P n goes.0 calls) (sym own_puts) (f goes.4)))
+
+  pub promised : (P : Reading → Ran → Type 0) → ((m : ℕ) (own out : List Call) → Does reading m own out → P reading (ran_by m own out)) → (k : ℕ) → k ≡ n → P reading (ran k shelf shelf' sink sink')
+  promised P f k is = since (λ m own out. P reading (ran_by m own out)) k is (λ by. f n goes.0 goes.1 (does reading n goes.0 goes.1 files files' by))
+
+  pub does_since : (k : ℕ) → k ≡ n → DoesSince reading k shelf shelf' sink sink'
+  does_since k is = record {
+    shelf_grows = goes.2 ∙ ap (λ (calls : List Call). shelf ++ calls) (sym own_calls);
+    sink_grows = goes.3 ∙ ap (λ (calls : List Call). sink ++ calls) (sym own_puts);
+    does = since (λ m own out. Does reading m own out) k is (does reading n goes.0 goes.1 files files');
+  }
+
+pub puts_since : (written written' : Option (List ℕ)) (sink sink' : List Call) → WritesPut written written' sink sink'
+    → IfTold written written' (λ before after. Appends before after (put_bytes (calls_since sink sink')))
+puts_since written written' sink sink' (out, is, told_it) =
+    subst (λ (calls : List Call). IfTold written written' (λ before after. Appends before after (put_bytes calls))) (sym (ap (calls_since sink) is ∙ since_is sink out)) told_it

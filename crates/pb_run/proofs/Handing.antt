@@ -1,0 +1,195 @@
+-- The whole way of a call of the program, exit by exit.
+use Rattle.std.proofs.Common.{◌≡◌, ◌⊎◌, inl, inr, ℕ, Option, None, Some, IsSome, List, [], ◌∷◌, ◌++◌, length, take, Result, Ok, Err, OnOk, OnErr, refl, sym, ap, subst, ◌∙◌, append_assoc, append-nil}
+use Rattle.pb_outside.specs.Outside.{Files, IfTold, Appends, KeepsAll, KeepsOthers, KeepsHolds}
+use Rattle.pb_outside.specs.Calls.{Call, Put, PutFailed}
+use Rattle.pb_outside.proofs.Told.{told_then, told_both}
+use Rattle.pb_outside.specs.declared.shelf.Load.TheVariants.{Failed}
+use Rattle.pb_command.specs.Meaning.{Reading}
+use Rattle.pb_outside.specs.Saves.{IsPartSaved}
+use Rattle.pb_run.specs.Asked.{files_of, CanLoad}
+use Rattle.pb_answer.specs.Statuses.{number_of}
+use Rattle.pb_answer.specs.Outputs.{Output, output}
+use Rattle.pb_run.specs.Calls.{load_calls, CanHold}
+use Rattle.pb_run.specs.Loads.{AreLoaded}
+use Rattle.pb_answer.specs.Answer.{Said, AnswersReading}
+use Rattle.pb_run.specs.Headline.{IsAnswer, CanServe}
+use Rattle.pb_run.specs.Fit.{IfShelf, status_of}
+use Rattle.pb_run.specs.Contents.{SavesIn, SavesPartIn, LoadsAll, LoadsUpTo, Hands, HandsTold, Goes, WritesPut}
+use Rattle.pb_run.specs.declared.load.Fault.{Fault}
+use Rattle.pb_run.specs.declared.load.Fault.TheVariants.{OutOfMemory, ShelfFailed}
+use Rattle.pb_run.specs.declared.output.Ending.TheVariants.{Done, NotSaved, NotPrinted}
+use Rattle.pb_run.proofs.CallLists.{ended_few, ended_no_fault}
+use Rattle.pb_run.proofs.Told as told
+
+-- ---- one file that is saved
+
+pub on_ok_as : {T E P Q : Type 0} (result : Result T E) → OnOk result P → (P → Q) → OnOk result Q
+on_ok_as (Ok x) p f = f p
+on_ok_as (Err e) p f = tt
+
+pub on_err_as : {T E P Q : Type 0} (result : Result T E) → OnErr result P → (P → Q) → OnErr result Q
+on_err_as (Ok x) p f = tt
+on_err_as (Err e) p f = f p
+
+pub saved_one : (files files' : Option Files) (name text : List ℕ) → IfTold files files' (λ before after. after name ≡ Some text) → IfTold files files' (λ before after. KeepsOthers before after name)
+    → IfTold files files' (SavesIn (output name text ∷ []))
+saved_one files files' name text here others = told_both files files' _ _ (SavesIn (output name text ∷ [])) here others (λ x y h o. (y, h, o, λ other. refl))
+
+pub part_of_one : (files files' : Option Files) (name text : List ℕ) → IfTold files files' (λ before after. IsPartSaved before after name text) → IfTold files files' (λ before after. KeepsOthers before after name)
+    → IfTold files files' (SavesPartIn (output name text ∷ []))
+part_of_one files files' name text part others = told_both files files' _ _ (SavesPartIn (output name text ∷ [])) part others (λ x y p o. inl (p, o))
+
+-- ---- files that are kept, and then something is saved
+
+after_kept : (outputs : List Output) (x y z : Files) → KeepsAll x y → SavesIn outputs y z → SavesIn outputs x z
+after_kept [] x y z kept saves = λ other. saves other ∙ kept other
+after_kept (first ∷ outputs) x y z kept (between, here, others, more) = (between, here, λ other apart. others other apart ∙ kept other, more)
+
+part_kept : (outputs : List Output) (x y z : Files) → KeepsAll x y → SavesPartIn outputs y z → SavesPartIn outputs x z
+part_kept [] x y z kept saves = saves
+part_kept (first ∷ outputs) x y z kept (inl (inl same, others)) = inl (inl (same ∙ kept first.name), λ other apart. others other apart ∙ kept other)
+part_kept (first ∷ outputs) x y z kept (inl (inr part, others)) = inl (inr part, λ other apart. others other apart ∙ kept other)
+part_kept (first ∷ outputs) x y z kept (inr (between, here, others, more)) = inr (between, here, λ other apart. others other apart ∙ kept other, more)
+
+-- ---- nothing is put
+
+pub writes_none : (written : Option (List ℕ)) (sink : List Call) → WritesPut written written sink sink
+writes_none written sink = ([], sym (append-nil sink), same written)
+  where
+    same : (w : Option (List ℕ)) → IfTold w w (λ before after. Appends before after [])
+    same None = tt
+    same (Some text) = sym (append-nil text)
+
+-- ---- the exits
+
+module _ (reading : Reading) (files files' : Option Files) (shelf shelf' sink : List Call) where
+  pub goes_failed : (fault : Fault) (n : ℕ) → n ≡ number_of (status_of fault) → LoadsUpTo shelf shelf' (files_of reading) fault → IfTold files files' KeepsAll → Goes reading n files files' shelf shelf' sink sink
+  goes_failed OutOfMemory n is (texts, unloaded, few, none, are) kept =
+      (load_calls (files_of reading) texts unloaded, [], are, sym (append-nil sink), inl (record { texts = texts; unloaded = unloaded; few = few; no_fault = none; status_is = is; shelf_is = refl; sink_is = refl }, kept))
+  goes_failed ShelfFailed n is (texts, few, are) kept =
+      (load_calls (files_of reading) texts (Some Failed), [], are, sym (append-nil sink), inr (inl (record { texts = texts; few = few; status_is = is; shelf_is = refl; sink_is = refl }, kept)))
+
+  pub goes_full : (texts : List (List ℕ)) (n : ℕ) → n ≡ 71 → LoadsAll shelf shelf' (files_of reading) texts → IfTold files files' KeepsAll → Goes reading n files files' shelf shelf' sink sink
+  goes_full texts n is (unloaded, ends, are) kept = (
+    load_calls (files_of reading) texts unloaded,
+    [],
+    are,
+    sym (append-nil sink),
+    inl (record { texts = texts; unloaded = unloaded; few = ended_few (files_of reading) texts unloaded ends; no_fault = ended_no_fault (files_of reading) texts unloaded ends; status_is = is; shelf_is = refl; sink_is = refl }, kept),
+  )
+
+pub sure_failed : (reading : Reading) (files : Option Files) (can_load : List ℕ → Type 0) (can_hold : List ℕ → ℕ → Type 0) (can_take : ℕ → Type 0) (fault : Fault) (n : ℕ) → n ≡ number_of (status_of fault)
+    → (CanLoad can_load (files_of reading) → IfShelf fault ⊥) → CanServe reading files can_load can_hold can_take → IsAnswer n ⊎ (n ≡ 71)
+sure_failed reading None can_load can_hold can_take fault n is sure can = absurd can
+sure_failed reading (Some told_files) can_load can_hold can_take OutOfMemory n is sure can = inr is
+sure_failed reading (Some told_files) can_load can_hold can_take ShelfFailed n is sure can = absurd (sure can.0)
+
+module _ (reading : Reading) (files between files' : Option Files) (shelf mid shelf' sink sink' : List Call) (written written' : Option (List ℕ)) (texts : List (List ℕ)) (said : Said)
+    (loads : LoadsAll shelf mid (files_of reading) texts) (are : AreLoaded files (files_of reading) texts) (answers : AnswersReading reading texts said) (kept : IfTold files between KeepsAll) where
+  all_calls : (saves : List Call) → shelf' ≡ mid ++ saves → shelf' ≡ shelf ++ (load_calls (files_of reading) texts loads.0 ++ saves)
+  all_calls saves is = is ∙ ap (λ (calls : List Call). calls ++ saves) loads.2 ∙ append_assoc shelf (load_calls (files_of reading) texts loads.0) saves
+
+  kept_then : (P : Files → Files → Type 0) → ((x y z : Files) → KeepsAll x y → P y z → P x z) → IfTold between files' P → IfTold files files' P
+  kept_then P f h = told_then files between files' KeepsAll P P kept h f
+
+  pub goes_done : (n : ℕ) → n ≡ said.status → Hands said Done mid shelf' sink sink' written written' → HandsTold said Done between files' → Goes reading n files files' shelf shelf' sink sink'
+  goes_done n is ((saves, saved, save), noted, told_it) tells = (
+    load_calls (files_of reading) texts loads.0 ++ saves,
+    Put said.report ∷ [],
+    all_calls saves saved,
+    noted,
+    inr (inr (
+      record {
+        texts = texts;
+        unloaded = loads.0;
+        ends = loads.1;
+        said = said;
+        answers = answers;
+        saves = saves;
+        shelf_is = refl;
+        hands = inl (record { status_is = is; saves_are = save; sink_is = refl });
+      },
+      are,
+      kept_then (SavesIn said.outputs) (after_kept said.outputs) tells,
+    )),
+  )
+
+  pub goes_not_saved : (n : ℕ) → n ≡ 73 → Hands said NotSaved mid shelf' sink sink' written written' → HandsTold said NotSaved between files' → Goes reading n files files' shelf shelf' sink sink'
+  goes_not_saved n is ((saves, saved, save), same, told_it) tells = (
+    load_calls (files_of reading) texts loads.0 ++ saves,
+    [],
+    all_calls saves saved,
+    same ∙ sym (append-nil sink),
+    inr (inr (
+      record {
+        texts = texts;
+        unloaded = loads.0;
+        ends = loads.1;
+        said = said;
+        answers = answers;
+        saves = saves;
+        shelf_is = refl;
+        hands = inr (inl (record { status_is = is; saves_are = save; sink_is = refl }));
+      },
+      are,
+      kept_then (SavesPartIn said.outputs) (part_kept said.outputs) tells,
+    )),
+  )
+
+  pub goes_not_printed : (n : ℕ) → n ≡ 74 → Hands said NotPrinted mid shelf' sink sink' written written' → HandsTold said NotPrinted between files' → Goes reading n files files' shelf shelf' sink sink'
+  goes_not_printed n is ((saves, saved, save), failed) tells = (
+    load_calls (files_of reading) texts loads.0 ++ saves,
+    PutFailed said.report failed.kept ∷ [],
+    all_calls saves saved,
+    failed.noted,
+    inr (inr (
+      record {
+        texts = texts;
+        unloaded = loads.0;
+        ends = loads.1;
+        said = said;
+        answers = answers;
+        saves = saves;
+        shelf_is = refl;
+        hands = inr (inr (record { kept = failed.kept; within = failed.within; status_is = is; saves_are = save; sink_is = refl }));
+      },
+      are,
+      kept_then (SavesIn said.outputs) (after_kept said.outputs) tells,
+    )),
+  )
+
+  -- the shelf can hold what is due, and the sink can take it
+  pub can_serve : (can_load : List ℕ → Type 0) (before now : List ℕ → ℕ → Type 0) (can_take : ℕ → Type 0) → KeepsHolds before now → CanServe reading files can_load before can_take
+      → IsSome between × CanHold now said.outputs × can_take (length said.report)
+  can_serve can_load before now can_take keeps can = go files between kept are can
+    where
+      still : (outputs : List Output) → CanHold before outputs → CanHold now outputs
+      still [] h = tt
+      still (first ∷ outputs) h = (keeps first.name (length first.text) h.0, still outputs h.1)
+
+      go : (f b : Option Files) → IfTold f b KeepsAll → AreLoaded f (files_of reading) texts → CanServe reading f can_load before can_take → IsSome b × CanHold now said.outputs × can_take (length said.report)
+      go None b k l c = absurd c
+      go (Some x) None k l c = absurd k
+      go (Some x) (Some y) k l c = let all = c.1 texts l said answers in (refl, still said.outputs all.0, all.1)
+
+  pub known_answer : (n : ℕ) → n ≡ said.status → IsAnswer n ⊎ (n ≡ 71)
+  known_answer n is = inl (subst IsAnswer (sym is) (told.known texts said reading answers))
+
+-- ---- what was written
+
+pub writes_done : (said : Said) (shelf shelf' sink sink' : List Call) (written written' : Option (List ℕ)) → Hands said Done shelf shelf' sink sink' written written' → WritesPut written written' sink sink'
+writes_done said shelf shelf' sink sink' written written' (saved, noted, told_it) =
+    (Put said.report ∷ [], noted, subst (λ t. IfTold written written' (λ before after. Appends before after t)) (sym (append-nil said.report)) told_it)
+
+pub writes_not_saved : (said : Said) (shelf shelf' sink sink' : List Call) (written written' : Option (List ℕ)) → Hands said NotSaved shelf shelf' sink sink' written written' → WritesPut written written' sink sink'
+writes_not_saved said shelf shelf' sink sink' written written' (saved, same, told_it) = ([], same ∙ sym (append-nil sink), go written written' told_it)
+  where
+    go : (w v : Option (List ℕ)) → IfTold w v (λ before after. after ≡ before) → IfTold w v (λ before after. Appends before after [])
+    go None None h = tt
+    go (Some x) (Some y) h = h ∙ sym (append-nil x)
+    go None (Some y) h = absurd h
+    go (Some x) None h = absurd h
+
+pub writes_part : (said : Said) (shelf shelf' sink sink' : List Call) (written written' : Option (List ℕ)) → Hands said NotPrinted shelf shelf' sink sink' written written' → WritesPut written written' sink sink'
+writes_part said shelf shelf' sink sink' written written' (saved, failed) =
+    (PutFailed said.report failed.kept ∷ [], failed.noted, subst (λ t. IfTold written written' (λ before after. Appends before after t)) (sym (append-nil (take failed.kept said.report))) failed.told)

@@ -1,0 +1,101 @@
+-- What a call of the program does to the files that a shelf tells.
+use Rattle.std.specs.Prelude.{◌≡◌, ◌≢◌, ◌⊎◌, ℕ, ◌<◌, ◌≤◌, Option, Some, IfSome, List, [], ◌∷◌, ◌++◌, length, ⊤}
+use mathlib.Core.Logic.{inl, inr}
+use Rattle.pb_outside.specs.declared.shelf.Load.{Load}
+use Rattle.pb_outside.specs.declared.shelf.Load.TheVariants.{Failed}
+use Rattle.pb_outside.specs.Outside.{Files, IfTold, Appends, KeepsAll, KeepsOthers}
+use Rattle.pb_outside.specs.Calls.{Call, Put, Notes, NotesPutFailed, IsNoFault}
+use Rattle.pb_outside.specs.Saves.{IsPartSaved}
+use Rattle.pb_command.specs.Meaning.{Reading}
+use Rattle.pb_run.specs.Asked.{Wanted, files_of, saved_names}
+use Rattle.pb_answer.specs.Outputs.{Output}
+use Rattle.pb_run.specs.Calls.{put_bytes, load_calls, EndLoads, SaveAll, FailToSaveAll}
+use Rattle.pb_run.specs.Loads.{AreLoaded}
+use Rattle.pb_answer.specs.Answer.{Said, AnswersReading}
+use Rattle.pb_run.specs.Course.{RunsOut, FailsToLoad, HandsOut, FailsToSave, FailsToPut, HasAnswered}
+use Rattle.pb_run.specs.declared.output.Ending.{Ending}
+use Rattle.pb_run.specs.declared.output.Ending.TheVariants.{Done, NotSaved, NotPrinted}
+use Rattle.pb_run.specs.declared.load.Fault.{Fault}
+use Rattle.pb_run.specs.declared.load.Fault.TheVariants.{OutOfMemory, ShelfFailed}
+
+-- ---- files
+
+-- these files were saved, one after another, and all others stay
+abbrev pub SavesIn : List Output → Files → Files → Type 0
+SavesIn [] before after = KeepsAll before after
+SavesIn (first ∷ outputs) before after =
+    (between : Files) × (between first.name ≡ Some first.text) × KeepsOthers before between first.name × SavesIn outputs between after
+
+-- some of them were saved, and of the next one a first part, or nothing of it; all others stay
+abbrev pub SavesPartIn : List Output → Files → Files → Type 0
+SavesPartIn [] before after = ⊥
+SavesPartIn (first ∷ outputs) before after =
+    (IsPartSaved before after first.name first.text × KeepsOthers before after first.name)
+    ⊎ ((between : Files) × (between first.name ≡ Some first.text) × KeepsOthers before between first.name × SavesPartIn outputs between after)
+
+-- of what is due for these texts only a part was saved
+abbrev pub LeavesPart : Reading → (texts : List (List ℕ)) → Files → Files → Type 0
+LeavesPart reading texts before after = (said : Said) × AnswersReading reading texts said × SavesPartIn said.outputs before after
+
+-- it is none of these names
+abbrev pub IsNoneOf : (names : List (List ℕ)) → (other : List ℕ) → Type 0
+IsNoneOf [] other = ⊤
+IsNoneOf (name ∷ names) other = (other ≢ name) × IsNoneOf names other
+
+-- all files stay but those under the names that the words give
+abbrev pub KeepsUnnamed : Reading → Files → Files → Type 0
+KeepsUnnamed reading before after = (other : List ℕ) → IsNoneOf (saved_names reading) other → after other ≡ before other
+
+-- ---- how the parts of the program go
+
+-- the loads came to their end, with these texts
+abbrev pub LoadsAll : (old new : List Call) → List Wanted → (texts : List (List ℕ)) → Type 0
+LoadsAll old new files texts = (unloaded : Option Load) × EndLoads files texts unloaded × (new ≡ old ++ load_calls files texts unloaded)
+
+-- memory ran out while files were loaded, or a load failed by a fault of the shelf
+abbrev pub LoadsUpTo : (old new : List Call) → List Wanted → Fault → Type 0
+LoadsUpTo old new files OutOfMemory =
+    (texts : List (List ℕ)) × (unloaded : Option Load) × (length texts ≤ length files) × IfSome unloaded IsNoFault × (new ≡ old ++ load_calls files texts unloaded)
+LoadsUpTo old new files ShelfFailed = (texts : List (List ℕ)) × (length texts < length files) × (new ≡ old ++ load_calls files texts (Some Failed))
+
+abbrev pub Saved : (old new : List Call) → List Output → Type 0
+Saved old new outputs = (saves : List Call) × (new ≡ old ++ saves) × SaveAll saves outputs
+
+abbrev pub SavedPart : (old new : List Call) → List Output → Type 0
+SavedPart old new outputs = (saves : List Call) × (new ≡ old ++ saves) × FailToSaveAll saves outputs
+
+-- an answer was handed out, or the shelf or the sink failed
+abbrev pub Hands : Said → Ending → (shelf shelf' sink sink' : List Call) → (written written' : Option (List ℕ)) → Type 0
+Hands said Done shelf shelf' sink sink' written written' =
+    Saved shelf shelf' said.outputs × Notes sink sink' (Put said.report) × IfTold written written' (λ before after. Appends before after said.report)
+Hands said NotSaved shelf shelf' sink sink' written written' =
+    SavedPart shelf shelf' said.outputs × (sink' ≡ sink) × IfTold written written' (λ before after. after ≡ before)
+Hands said NotPrinted shelf shelf' sink sink' written written' =
+    Saved shelf shelf' said.outputs × NotesPutFailed sink sink' written written' said.report
+
+-- the same of the files that the shelf tells
+abbrev pub HandsTold : Said → Ending → Option Files → Option Files → Type 0
+HandsTold said Done files files' = IfTold files files' (SavesIn said.outputs)
+HandsTold said NotSaved files files' = IfTold files files' (SavesPartIn said.outputs)
+HandsTold said NotPrinted files files' = IfTold files files' (SavesIn said.outputs)
+
+abbrev pub TellsHands : {status : ℕ} {saves sink : List Call} → (said : Said) → Option Files → Option Files
+    → HandsOut said status saves sink ⊎ (FailsToSave said status saves sink ⊎ FailsToPut said status saves sink) → Type 0
+TellsHands said files files' (inl done) = IfTold files files' (SavesIn said.outputs)
+TellsHands said files files' (inr (inl failed)) = IfTold files files' (SavesPartIn said.outputs)
+TellsHands said files files' (inr (inr failed)) = IfTold files files' (SavesIn said.outputs)
+
+-- what was done, with what that means for the files that the shelf tells
+abbrev pub GoesBy : Reading → (status : ℕ) → Option Files → Option Files → (shelf sink : List Call) → Type 0
+GoesBy reading status files files' shelf sink =
+    (RunsOut reading status shelf sink × IfTold files files' KeepsAll)
+    ⊎ ((FailsToLoad reading status shelf sink × IfTold files files' KeepsAll)
+    ⊎ ((a : HasAnswered reading status shelf sink) × AreLoaded files (files_of reading) a.texts × TellsHands a.said files files' a.hands))
+
+abbrev pub Goes : Reading → (status : ℕ) → Option Files → Option Files → (shelf shelf' sink sink' : List Call) → Type 0
+Goes reading status files files' shelf shelf' sink sink' =
+    (own : List Call) × (out : List Call) × (shelf' ≡ shelf ++ own) × (sink' ≡ sink ++ out) × GoesBy reading status files files' own out
+
+-- what was put since stands behind what was written before, where the sink tells that
+abbrev pub WritesPut : (written written' : Option (List ℕ)) → (sink sink' : List Call) → Type 0
+WritesPut written written' sink sink' = (out : List Call) × (sink' ≡ sink ++ out) × IfTold written written' (λ before after. Appends before after (put_bytes out))

@@ -1,0 +1,39 @@
+-- What is well typed and within the limits is not refused.
+use Rattle.std.proofs.Common.{◌≡◌, ◌≤◌, ℕ, Bool, true, false, cond, nat_lt, length, Option, Some, None, Result, Ok, Err, refl, sym, ap, ◌∙◌, subst, arith}
+use Rattle.std.specs.Prelude.{IfErr}
+use Rattle.std.proofs.lemmas.Bool.Decides.{nat_tests}
+use Rattle.pb_pddl.specs.declared.tree.Domain.{Domain}
+use Rattle.pb_pddl.specs.declared.tree.Problem.{Problem}
+use Rattle.pb_lifted.specs.declared.refusal.TypingRefusal.{TypingRefusal}
+use Rattle.pb_lifted.specs.Lifted.{lifted_of}
+use Rattle.pb_lifted.specs.Typing.{IsWellTyped}
+use Rattle.pb_lifted.proofs.Accepted.{well_typed_is_accepted}
+use Rattle.pb_ground.specs.Atoms.{ground_atoms}
+use Rattle.pb_ground.specs.Actions.{ground_actions}
+use Rattle.pb_ground.specs.Errors as ground
+use Rattle.pb_strips.specs.declared.error.StripsError.{StripsError}
+use Rattle.pb_strips.specs.declared.error.StripsError.TheVariants as errors
+use Rattle.pb_strips.specs.Refusals.{or_too_many, first_fault, Tells, IsWithinLimits}
+
+within : (limit n : ℕ) → n ≤ limit → nat_lt limit n ≡ false
+within limit n few = grind (arith, nat_tests)
+
+pub no_fault : (domain : Domain) (problem : Problem) → IsWellTyped domain problem → IsWithinLimits domain problem → first_fault domain problem ≡ None
+no_fault domain problem typed limits =
+    let lifted = lifted_of domain problem in
+    let atoms : ℕ = length (ground_atoms lifted) in
+    let actions : ℕ = length (ground_actions lifted (ground_atoms lifted)) in
+    let more : Option StripsError = Some (errors.TooManyAtoms (ground.told atoms)) in
+    let last : Option StripsError = Some errors.TooManyActions in
+    ap (λ (r : Option TypingRefusal). or_too_many r lifted) (well_typed_is_accepted domain problem typed)
+    ∙ ap (λ b. cond b more (cond (nat_lt 65536 actions) last None)) (within 256 atoms limits.0) ∙ ap (λ b. cond b last None) (within 65536 actions limits.1)
+
+memory_alone : (e : StripsError) → Tells None e → e ≡ errors.Memory
+memory_alone (errors.Refused refusal) told = cc
+memory_alone (errors.TooManyAtoms n) told = cc
+memory_alone errors.TooManyActions told = cc
+memory_alone errors.Memory told = refl
+
+pub only_memory : {X : Type 0} (r : Result X StripsError) (fault : Option StripsError) → IfErr r (Tells fault) → fault ≡ None → IfErr r (λ e. e ≡ errors.Memory)
+only_memory (Ok x) fault told none = tt
+only_memory (Err e) fault told none = memory_alone e (subst (λ (f : Option StripsError). Tells f e) none told)

@@ -1,0 +1,5 @@
+//! Tests of command lines: the command that the words are, or what is wrong with them.
+#![tactic(auto)]
+
+#[cfg(test)]
+mod words;

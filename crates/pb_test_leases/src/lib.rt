@@ -1,0 +1,7 @@
+//! Tests of the lease graph: its tables, and what its calls answer.
+#![tactic(auto)]
+
+#[cfg(test)]
+mod calls;
+#[cfg(test)]
+mod tables;

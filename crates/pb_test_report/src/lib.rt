@@ -1,0 +1,5 @@
+//! Tests of reports, byte for byte.
+#![tactic(auto)]
+
+#[cfg(test)]
+mod reports;

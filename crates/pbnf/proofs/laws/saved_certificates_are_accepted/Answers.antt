@@ -1,5 +1,0 @@
-use Rattle.pbnf.proofs.Accepted as law
-use Rattle.pbnf.proofs.laws.saved_certificates_are_accepted.Goals as goal
-
-pub returns : goal.returns
-returns c = law.saved_certificates_are_accepted

@@ -1,8 +1,0 @@
-use Rattle.std.proofs.Common.{map, string_bytes, Global}
-use Rattle.pb_command.specs.Meaning.{reading_of_words}
-use Rattle.pbnf.specs.Asked.{files_of}
-use Rattle.pbnf.proofs.Loading.{none_loaded}
-use Rattle.pbnf.proofs.load.load_files.Goals as goal
-
-pub returns-in-Err-clause-calls_error : goal.returns-in-Err-clause-calls_error
-returns-in-Err-clause-calls_error g c = none_loaded (g.H.Shelf.calls c.args.shelf.now) (files_of (reading_of_words (map (string_bytes {Z = Global}) c.args.words.now)))
