@@ -1,11 +1,14 @@
-// The choice of a block alone, in ordinary Rust: a port of the program's three forms, for bench/leases.
-// It prints, for each number of blocks, the nanoseconds of a lease's part in it: one choice, and the
-// keys of nine blocks noted anew. `cargo` isn't needed: rustc -O builds it.
+// The choice of a block alone, in ordinary Rust: a port of the program's three forms, for
+// bench/leases. It prints, for each number of blocks, the nanoseconds of a lease's part in it: one
+// choice, and the keys of nine blocks noted anew. `cargo` isn't needed: rustc -O builds it.
 use std::hint::black_box;
 
 #[derive(Clone, Copy, PartialEq, Eq, PartialOrd, Ord)]
 enum Key {
-    Sum { sum: u128, h: u64 },
+    Sum {
+        sum: u128,
+        h: u64,
+    },
     #[allow(dead_code)]
     Dead,
 }
@@ -95,11 +98,8 @@ impl Machine {
             return true;
         }
         let busy = self.busy[block as usize];
-        let is_clear = if busy == 1 {
-            self.interference[own as usize].contains(&block)
-        } else {
-            busy == 0
-        };
+        let is_clear =
+            if busy == 1 { self.interference[own as usize].contains(&block) } else { busy == 0 };
         is_clear && !self.seats.iter().any(|seat| *seat == Some(block))
     }
 
@@ -132,7 +132,12 @@ impl Machine {
         best
     }
 
-    fn choice_by_tree(&self, own: u32, at: usize, best: Option<(Noted, u32)>) -> Option<(Noted, u32)> {
+    fn choice_by_tree(
+        &self,
+        own: u32,
+        at: usize,
+        best: Option<(Noted, u32)>,
+    ) -> Option<(Noted, u32)> {
         let winner = self.node(at);
         let improves = winner.0.is_some()
             && best.is_none_or(|other| comes_before(winner.0, winner.1, other.0, other.1));
@@ -180,7 +185,8 @@ fn main() {
                 let rounds = 60_000;
                 let begun = processor_time();
                 for _ in 0..rounds {
-                    drawn = drawn.wrapping_mul(6364136223846793005).wrapping_add(1442695040888963407);
+                    drawn =
+                        drawn.wrapping_mul(6364136223846793005).wrapping_add(1442695040888963407);
                     let first = (drawn >> 33) as usize % count;
                     for step in 0..NEAR {
                         let sum = u128::from(drawn >> (20 + step)) % 1000;
@@ -195,7 +201,9 @@ fn main() {
                         _ => machine.choice_by_tree(own, 1, None).map(|winner| winner.1),
                     };
                     machine.lease(own, u32::MAX);
-                    sums[form] = sums[form].wrapping_mul(31).wrapping_add(u64::from(black_box(chosen).unwrap_or(9999)));
+                    sums[form] = sums[form]
+                        .wrapping_mul(31)
+                        .wrapping_add(u64::from(black_box(chosen).unwrap_or(9999)));
                 }
                 *least = least.min((processor_time() - begun) / rounds as f64);
             }
@@ -203,7 +211,11 @@ fn main() {
         assert!(sums[0] == sums[1] && sums[0] == sums[2], "the forms choose other blocks");
         println!(
             "{count} | {:.0} | {:.0} | {:.0} | {:.2}, {:.2}",
-            best[0], best[1], best[2], best[1] / best[0], best[2] / best[0]
+            best[0],
+            best[1],
+            best[2],
+            best[1] / best[0],
+            best[2] / best[0]
         );
     }
 }

@@ -1,5 +1,6 @@
-// A plain A* over STRIPS tasks with hmax by counters, over std's heap and map, as a yardstick for the proved program: nothing here is proved.
-// It reads the part of PDDL that the tasks of bench/strips are written in. Usage: strips_astar DOMAIN PROBLEM. It prints the cost of a cheapest
+// A plain A* over STRIPS tasks with hmax by counters, over std's heap and map, as a yardstick for
+// the proved program: nothing here is proved. It reads the part of PDDL that the tasks of
+// bench/strips are written in. Usage: strips_astar DOMAIN PROBLEM. It prints the cost of a cheapest
 // plan or `none`, how many states it expanded, and how many ground atoms and actions there are.
 use std::cmp::Reverse;
 use std::collections::{BinaryHeap, HashMap, HashSet};
@@ -29,7 +30,8 @@ impl Tree {
 }
 
 fn trees_of(text: &str) -> Vec<Tree> {
-    let spaced: String = text.lines().map(|line| line.split(';').next().unwrap().to_lowercase() + "\n").collect();
+    let spaced: String =
+        text.lines().map(|line| line.split(';').next().unwrap().to_lowercase() + "\n").collect();
     let mut open: Vec<Vec<Tree>> = vec![Vec::new()];
     for token in spaced.replace('(', " ( ").replace(')', " ) ").split_whitespace() {
         match token {
@@ -83,10 +85,17 @@ struct Schema {
 }
 
 fn schema_of(items: &[Tree]) -> Schema {
-    let part = |name: &str| items.iter().position(|item| matches!(item, Tree::Word(word) if word == name)).map(|at| &items[at + 1]);
+    let part = |name: &str| {
+        items
+            .iter()
+            .position(|item| matches!(item, Tree::Word(word) if word == name))
+            .map(|at| &items[at + 1])
+    };
     Schema {
         parameters: part(":parameters").map_or(Vec::new(), |tree| typed(tree.list())),
-        needs: part(":precondition").map_or(Vec::new(), |tree| literals(tree).into_iter().map(|literal| literal.1).collect()),
+        needs: part(":precondition").map_or(Vec::new(), |tree| {
+            literals(tree).into_iter().map(|literal| literal.1).collect()
+        }),
         effects: part(":effect").map_or(Vec::new(), literals),
     }
 }
@@ -144,9 +153,14 @@ impl Grounder<'_> {
         set
     }
 
-    // Binds the parameters from this one on. An instance is given up once an atom that never changes doesn't hold.
+    // Binds the parameters from this one on. An instance is given up once an atom that never
+    // changes doesn't hold.
     fn bind(&mut self, schema: &Schema, bound: &mut Vec<String>) {
-        let value = |word: &String, bound: &[String]| match schema.parameters.iter().position(|parameter| parameter.0 == *word) {
+        let value = |word: &String, bound: &[String]| match schema
+            .parameters
+            .iter()
+            .position(|parameter| parameter.0 == *word)
+        {
             Some(at) => bound.get(at).cloned(),
             None => Some(word.clone()),
         };
@@ -157,11 +171,32 @@ impl Grounder<'_> {
             }
         }
         if bound.len() == schema.parameters.len() {
-            let ground = |words: &Vec<String>| -> Vec<String> { words.iter().map(|word| value(word, bound).unwrap()).collect() };
-            let needs: Vec<_> = schema.needs.iter().filter(|need| !self.fixed.contains(&need[0])).map(ground).collect();
-            let adds: Vec<_> = schema.effects.iter().filter(|effect| effect.0).map(|effect| ground(&effect.1)).collect();
-            let deletes: Vec<_> = schema.effects.iter().filter(|effect| !effect.0).map(|effect| ground(&effect.1)).collect();
-            let action = Action { needs: self.atoms(&needs), adds: self.atoms(&adds), deletes: self.atoms(&deletes) };
+            let ground = |words: &Vec<String>| -> Vec<String> {
+                words.iter().map(|word| value(word, bound).unwrap()).collect()
+            };
+            let needs: Vec<_> = schema
+                .needs
+                .iter()
+                .filter(|need| !self.fixed.contains(&need[0]))
+                .map(ground)
+                .collect();
+            let adds: Vec<_> = schema
+                .effects
+                .iter()
+                .filter(|effect| effect.0)
+                .map(|effect| ground(&effect.1))
+                .collect();
+            let deletes: Vec<_> = schema
+                .effects
+                .iter()
+                .filter(|effect| !effect.0)
+                .map(|effect| ground(&effect.1))
+                .collect();
+            let action = Action {
+                needs: self.atoms(&needs),
+                adds: self.atoms(&adds),
+                deletes: self.atoms(&deletes),
+            };
             self.actions.push(action);
             return;
         }
@@ -175,25 +210,52 @@ impl Grounder<'_> {
     }
 }
 
+// Whether the tree is a list that begins with this word.
+fn begins_with(tree: &Tree, name: &str) -> bool {
+    match tree {
+        Tree::List(items) => matches!(items.first(), Some(Tree::Word(word)) if word == name),
+        Tree::Word(_) => false,
+    }
+}
+
 fn task_of(domain: &str, problem: &str) -> Task {
     let (domain, problem) = (trees_of(domain), trees_of(problem));
     let section = |trees: &'_ [Tree], name: &str| -> Option<usize> {
-        trees[0].list().iter().position(|tree| matches!(tree, Tree::List(items) if matches!(items.first(), Some(Tree::Word(word)) if word == name)))
+        trees[0].list().iter().position(|tree| begins_with(tree, name))
     };
-    let parents: HashMap<String, String> =
-        section(&domain, ":types").map_or(HashMap::new(), |at| typed(&domain[0].list()[at].list()[1..]).into_iter().collect());
-    let is_action = |tree: &&Tree| matches!(tree, Tree::List(items) if matches!(items.first(), Some(Tree::Word(word)) if word == ":action"));
-    let schemas: Vec<Schema> = domain[0].list().iter().filter(is_action).map(|tree| schema_of(tree.list())).collect();
-    let objects = section(&problem, ":objects").map_or(Vec::new(), |at| typed(&problem[0].list()[at].list()[1..]));
+    let parents: HashMap<String, String> = section(&domain, ":types")
+        .map_or(HashMap::new(), |at| {
+            typed(&domain[0].list()[at].list()[1..]).into_iter().collect()
+        });
+    let is_action = |tree: &&Tree| begins_with(tree, ":action");
+    let schemas: Vec<Schema> =
+        domain[0].list().iter().filter(is_action).map(|tree| schema_of(tree.list())).collect();
+    let objects = section(&problem, ":objects")
+        .map_or(Vec::new(), |at| typed(&problem[0].list()[at].list()[1..]));
     let init = &problem[0].list()[section(&problem, ":init").expect("an :init")].list()[1..];
-    let facts: HashSet<Vec<String>> = init.iter().flat_map(literals).map(|literal| literal.1).collect();
+    let facts: HashSet<Vec<String>> =
+        init.iter().flat_map(literals).map(|literal| literal.1).collect();
     let goal = literals(&problem[0].list()[section(&problem, ":goal").expect("a :goal")].list()[1]);
-    let changed: HashSet<&String> = schemas.iter().flat_map(|schema| schema.effects.iter().map(|effect| &effect.1[0])).collect();
-    let fixed: HashSet<String> =
-        schemas.iter().flat_map(|schema| schema.needs.iter().map(|need| &need[0])).filter(|name| !changed.contains(name)).cloned().collect();
-    let mut grounder =
-        Grounder { objects: &objects, parents: &parents, fixed: &fixed, facts: &facts, numbers: HashMap::new(), actions: Vec::new() };
-    let mut held: Vec<Vec<String>> = facts.iter().filter(|fact| changed.contains(&fact[0])).cloned().collect();
+    let changed: HashSet<&String> = schemas
+        .iter()
+        .flat_map(|schema| schema.effects.iter().map(|effect| &effect.1[0]))
+        .collect();
+    let fixed: HashSet<String> = schemas
+        .iter()
+        .flat_map(|schema| schema.needs.iter().map(|need| &need[0]))
+        .filter(|name| !changed.contains(name))
+        .cloned()
+        .collect();
+    let mut grounder = Grounder {
+        objects: &objects,
+        parents: &parents,
+        fixed: &fixed,
+        facts: &facts,
+        numbers: HashMap::new(),
+        actions: Vec::new(),
+    };
+    let mut held: Vec<Vec<String>> =
+        facts.iter().filter(|fact| changed.contains(&fact[0])).cloned().collect();
     held.sort();
     let start = grounder.atoms(&held);
     let wanted: Vec<Vec<String>> = goal.into_iter().map(|literal| literal.1).collect();
@@ -232,7 +294,11 @@ impl Hmax {
         let mut needs = Vec::new();
         let mut free = Vec::new();
         for (number, action) in task.actions.iter().enumerate() {
-            adds.extend(atoms_in(&action.adds).filter(|atom| !has(&action.needs, *atom)).map(|atom| atom as u8));
+            adds.extend(
+                atoms_in(&action.adds)
+                    .filter(|atom| !has(&action.needs, *atom))
+                    .map(|atom| atom as u8),
+            );
             adds_from.push(adds.len() as u32);
             for atom in atoms_in(&action.needs) {
                 lists[atom].push(number as u32);
@@ -375,7 +441,10 @@ fn search(task: &Task) -> (Option<u32>, u64) {
 
 fn main() {
     let args: Vec<String> = env::args().collect();
-    let task = task_of(&fs::read_to_string(&args[1]).expect("a domain"), &fs::read_to_string(&args[2]).expect("a problem"));
+    let task = task_of(
+        &fs::read_to_string(&args[1]).expect("a domain"),
+        &fs::read_to_string(&args[2]).expect("a problem"),
+    );
     let (cost, expanded) = search(&task);
     let cost = cost.map_or("none".to_string(), |cost| cost.to_string());
     println!("{cost} {expanded} {} {}", task.atoms, task.actions.len());

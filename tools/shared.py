@@ -46,15 +46,20 @@ DELIVERY_DOMAIN = """(define (domain delivery) (:types truck box - movable movab
 
 @dataclasses.dataclass
 class Task:
-    """The texts of a task's files by their names, and the row of its scenario."""
+    """The texts of a task's files by their names, its scenario's row, and if swamp costs 2."""
 
     kind: str
     texts: dict
     row: int = 0
+    swamp: bool = False
 
     def words(self):
-        """The words that name its files and its row."""
-        return [*FILE_NAMES[self.kind], *(["--row", str(self.row)] if self.row else [])]
+        """The words that name its files, its row, and that swamp costs 2."""
+        return [*self.words_of_journal(), *["--swamp"] * self.swamp]
+
+    def words_of_journal(self):
+        """The same for `journal`, which no cost concerns."""
+        return [*FILE_NAMES[self.kind], *["--row", str(self.row)] * bool(self.row)]
 
     def write(self, folder):
         for name, text in self.texts.items():
@@ -150,7 +155,7 @@ def make_task(random, kind, size=1):
 
 def make_grid(random, size):
     width, height = random.randint(1, 6 + 4 * size), random.randint(1, 6 + 4 * size)
-    bytes_of_cells = random.choice(["....@", ".....W@", "..GSWW@OT", "....", ".@"])
+    bytes_of_cells = random.choice(["....@", ".....W@", "..GSWW@OT", "....", ".@", "..S", "...SS@"])
     cells = [[random.choice(bytes_of_cells) for _ in range(width)] for _ in range(height)]
     rows = [make_scenario_row(random, cells) for _ in range(random.randint(1, 3))]
     heads = ["type octile", f"height {height}", f"width {width}", "map"]
@@ -158,7 +163,8 @@ def make_grid(random, size):
     end = random.choice(["\n", "\n", "\r\n"])
     texts = {"map": end.join(map_lines + [""]), "scenario": end.join(["version 1", *rows, ""])}
     row = random.randrange(len(rows))
-    return Task("grid", {name: text.encode() for name, text in texts.items()}, row)
+    swamp = random.random() < 0.5
+    return Task("grid", {name: text.encode() for name, text in texts.items()}, row, swamp)
 
 
 def make_scenario_row(random, cells):

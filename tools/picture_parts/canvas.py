@@ -1,5 +1,6 @@
 """A page that grows downwards: a title, facts, a figure and a legend, written as SVG."""
 
+import math
 import textwrap
 from xml.sax.saxutils import escape, quoteattr
 
@@ -153,7 +154,7 @@ class Page:
         self.y = row + 1.6 * size
 
     def svg(self):
-        width, height = n(self.width), n(self.y + self.margin)
+        width, height = math.ceil(self.width), math.ceil(self.y + self.margin)
         head = (f'<svg xmlns="http://www.w3.org/2000/svg" width="{width}" height="{height}" '
                 f'viewBox="0 0 {width} {height}" role="img" aria-label={quoteattr(self.name)} '
                 f'font-family="{FONT}">')
@@ -161,7 +162,7 @@ class Page:
         return "\n".join([
             head, f"<title>{escape(self.name)}</title>",
             f"<desc>{escape('; '.join(self.said))}</desc>", f"<style>{style}</style>",
-            rect("f-page", 0, 0, self.width, self.y + self.margin), *self.parts, "</svg>", ""])
+            rect("f-page", 0, 0, width, height), *self.parts, "</svg>", ""])
 
 
 def box(fill, stroke="s-line"):

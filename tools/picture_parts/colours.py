@@ -1,27 +1,39 @@
-"""The colours of the pictures by name, once for a light and once for a dark reader.
+"""The colours of the pictures by name, each for a light and for a dark reader.
 
 `tools/picture-check` measures the contrast of the pairs in `CONTRASTS`, after the Web Content
 Accessibility Guidelines 2.1 (2018): 4.5 for text, 3 for lines and areas that carry meaning.
 """
 
-LIGHT = {
-    "page": "#ffffff", "ink": "#1b1f24", "muted": "#57606a", "line": "#8c959f",
-    "land": "#faf8f3", "water": "#3f8fc4", "blocked": "#2b2f36",
-    "plan": "#0b3fa8", "casing": "#ffffff", "cut": "#8a1fb8", "mark": "#b3261e",
-    "closed0": "#fbd05b", "closed1": "#f6b32f", "closed2": "#f19612", "closed3": "#e37f11",
-    "closed4": "#d36a14", "closed5": "#bf5515", "closed6": "#b04717", "closed7": "#9c3817",
-    "worker0": "#d9660a", "worker1": "#00735a", "worker2": "#5b3fc4", "worker3": "#db5ca1",
-    "worker4": "#0b62c4", "worker5": "#8a6d00", "worker6": "#6b2d1a", "worker7": "#6e7781",
+COLOURS = {
+    "page": ("#ffffff", "#0d1117"),
+    "ink": ("#1b1f24", "#f0f3f6"),
+    "muted": ("#57606a", "#a4afba"),
+    "line": ("#8c959f", "#768390"),
+    "land": ("#faf8f3", "#1c2128"),
+    "water": ("#3f8fc4", "#3a7fb5"),
+    "blocked": ("#2b2f36", "#b1bac4"),
+    "plan": ("#0b3fa8", "#7ab8ff"),
+    "casing": ("#ffffff", "#05080c"),
+    "cut": ("#8a1fb8", "#d78bff"),
+    "mark": ("#b3261e", "#ff8f85"),
+    "closed0": ("#fbd05b", "#6c280f"),
+    "closed1": ("#f6b32f", "#7a3411"),
+    "closed2": ("#f19612", "#874213"),
+    "closed3": ("#e37f11", "#924f15"),
+    "closed4": ("#d36a14", "#9d5e16"),
+    "closed5": ("#bf5515", "#aa7019"),
+    "closed6": ("#b04717", "#b07e19"),
+    "closed7": ("#9c3817", "#b98f1a"),
+    "worker0": ("#d9660a", "#ff9a4d"),
+    "worker1": ("#00735a", "#3fc79a"),
+    "worker2": ("#5b3fc4", "#a594ff"),
+    "worker3": ("#db5ca1", "#ff8cc6"),
+    "worker4": ("#0b62c4", "#6cb6ff"),
+    "worker5": ("#8a6d00", "#d6bf4a"),
+    "worker6": ("#6b2d1a", "#d99a80"),
+    "worker7": ("#6e7781", "#adbac7"),
 }
-DARK = {
-    "page": "#0d1117", "ink": "#f0f3f6", "muted": "#a4afba", "line": "#768390",
-    "land": "#1c2128", "water": "#3a7fb5", "blocked": "#b1bac4",
-    "plan": "#7ab8ff", "casing": "#05080c", "cut": "#d78bff", "mark": "#ff8f85",
-    "closed0": "#6c280f", "closed1": "#7a3411", "closed2": "#874213", "closed3": "#924f15",
-    "closed4": "#9d5e16", "closed5": "#aa7019", "closed6": "#b07e19", "closed7": "#b98f1a",
-    "worker0": "#ff9a4d", "worker1": "#3fc79a", "worker2": "#a594ff", "worker3": "#ff8cc6",
-    "worker4": "#6cb6ff", "worker5": "#d6bf4a", "worker6": "#d99a80", "worker7": "#adbac7",
-}
+LIGHT, DARK = ({name: pair[theme] for name, pair in COLOURS.items()} for theme in (0, 1))
 SHADES = 8
 WORKERS = 8
 CONTRASTS = (

@@ -183,8 +183,7 @@ def block_fills(squares, pixels, found):
     return parts
 
 
-def map_figure(page, options, journal, leases):
-    grid = read_grid(*options.map, options.row)
+def map_figure(page, grid, options, journal, leases):
     squares = Squares(grid, journal.settings["blocks"])
     found = leased_by(leases, squares, options.journal)
     pixels = cell_pixels(grid)
@@ -195,7 +194,7 @@ def map_figure(page, options, journal, leases):
     words = {b: str(sum(counts.values())) for b, counts in found.items()}
     elements = map_elements(grid, pixels) + block_fills(squares, pixels, found)
     elements += [borders(squares, pixels), *block_numbers(squares, pixels, words, size)]
-    return grid, elements, grid.width * pixels, grid.height * pixels
+    page.figure(elements, grid.width * pixels, grid.height * pixels)
 
 
 def worker_legend(leases):
@@ -227,7 +226,9 @@ def draw_journal(options):
     leases, marks = leases_of(journal)
     settings = journal.settings
     lanes = Lanes(len(journal.events), settings["workers"])
-    page = canvas.Page(lanes.width, 1.0, options.colours)
+    grid = read_grid(*options.map, options.row) if options.map else None
+    width = max(lanes.width, grid.width * cell_pixels(grid) if grid else 0)
+    page = canvas.Page(width, 1.0, options.colours)
     page.title(os.path.basename(options.journal))
     used = sum(lease.used for lease in leases)
     renewals = sum(len(lease.renewals) for lease in leases)
@@ -244,10 +245,9 @@ def draw_journal(options):
     parts += mark_elements(lanes, marks)
     page.figure(parts, lanes.width, lanes.height)
     items = list(LEGEND)
-    if options.map:
+    if grid:
         page.legend(items)
-        grid, elements, width, height = map_figure(page, options, journal, leases)
-        page.figure(elements, width, height)
+        map_figure(page, grid, options, journal, leases)
         items = worker_legend(leases) + land_legend(grid)
     page.legend(items)
     return page.svg()

@@ -1,0 +1,58 @@
+"""What the scripts of bench/ share: builds of plain searches, and measured runs."""
+
+import math
+import subprocess
+import sys
+from pathlib import Path
+
+from inputs import ROOT
+
+BUILT = ROOT / "crates" / "pbnf" / "out" / "pbnf"
+
+
+def build_plain(folder):
+    """Builds plain_astar.rs; the program's path."""
+    plain = Path(folder) / "plain_astar"
+    source = ROOT / "bench" / "plain_astar.rs"
+    subprocess.run(["rustc", "-O", "-o", plain, source], check=True)
+    return str(plain)
+
+
+class Run:
+    """The least processor time, wall time (ms) and peak memory (MiB) of several runs."""
+
+    def __init__(self):
+        self.processor = self.wall = self.memory = math.inf
+        self.cost = None
+        self.bound = None
+        self.expanded = None
+
+    def add(self, plain, words, folder):
+        """One run; what it prints, without the line of `measure`."""
+        run = subprocess.run([plain, "measure", *words], cwd=folder, capture_output=True,
+                             text=True, check=True)
+        text, _, last = run.stdout.rstrip("\n").rpartition("\n")
+        processor, wall, memory, status = map(int, last.split(" "))
+        if status not in (0, 1):
+            sys.exit(f"{' '.join(map(str, words))}: status {status}: {text} {run.stderr}")
+        self.processor = min(self.processor, processor / 1000)
+        self.wall = min(self.wall, wall / 1000)
+        self.memory = min(self.memory, memory / 1024)
+        return text
+
+    def add_search(self, plain, words, folder):
+        """One run of the program, with the cost and the bound that it prints."""
+        text = self.add(plain, words, folder)
+        lines = [line.split(" ") for line in text.split("\n")]
+        self.cost = lines[0][1] if lines[0][0] == "plan" else lines[0][0]
+        self.bound = lines[-1][1] if lines[-1][0] == "bound" else "none"
+
+    def count_expansions(self, words, folder):
+        """How many expansions the program makes in one more run, as its journal says."""
+        journal = Path(folder) / "journal"
+        journal.unlink(missing_ok=True)
+        subprocess.run([*words, "--trace", journal], cwd=folder, stdout=subprocess.DEVNULL,
+                       check=False)
+        with journal.open(encoding="ascii") as file:
+            used = (line.split(" ") for line in file if line.startswith(("renew ", "release ")))
+            self.expanded = sum(int(line[2]) for line in used)
