@@ -1,5 +1,5 @@
--- The journal that is saved of a search is the text of a finished legal history of the task. `pbnf`
--- cites this module.
+-- The journal that is saved of a search is the text of a finished legal history of the task.
+-- `pb_run` cites this module.
 use Rattle.std.proofs.Common.{◌≡◌, ℕ, Option, None, Some, List, [], ◌++◌, length, refl, sym, subst}
 use Rattle.pb_model.specs.Plan.{Plan}
 use Rattle.pb_machine.specs.declared.event.End.{End}

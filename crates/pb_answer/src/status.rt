@@ -5,13 +5,13 @@ ghost use Rattle.pb_answer.specs.Statuses.{number_of};
 /// What the program answers, as its exit status tells it.
 #[derive(Clone, Copy, Debug, PartialEq, Eq)]
 pub enum Status {
-    /// A plan was found, or a certificate is accepted: 0.
+    /// A plan was found, also of a made task, or a certificate or a journal is accepted: 0.
     Success,
-    /// There is no plan: 1.
+    /// There is no plan, of the task that was loaded or made: 1.
     NoPlan,
-    /// The search used up its budget: 2.
+    /// The search, of the task that was loaded or made, used up its budget: 2.
     Stopped,
-    /// A certificate is refused: 3.
+    /// A certificate or a journal is refused: 3.
     Rejected,
     /// The words are no command line: 64.
     WordsRefused,

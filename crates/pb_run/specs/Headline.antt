@@ -74,7 +74,7 @@ CertificateHolds (Read (Make make)) ran = ⊤
 
 -- ---- no plan
 
--- Only a search answers that there is no plan, and then there is none.
+-- Only a search, of a made task too, answers that there is no plan, and then there is none.
 abbrev pub NoneMeansNone : Reading → Ran → Type 0
 NoneMeansNone (Refused fault) ran = ran.said.status ≢ 1
 NoneMeansNone (Read (Solve solve)) ran = ran.said.status ≡ 1 → Says ran.said none_report × OfTexts solve ran.texts (λ parts. HasNoPlan (space_of parts))
@@ -92,7 +92,7 @@ CertificateOfNone (Read (Make make)) ran = ⊤
 
 -- ---- a stop
 
--- Only a search stops, and then it used up its budget: it names that, saves at most its journal, and claims nothing of plans.
+-- Only a search, of a made task too, stops, and then it used up its budget: it names that, saves at most its journal, and claims nothing of plans.
 abbrev pub StopHasCause : Reading → Ran → Type 0
 StopHasCause (Refused fault) ran = ran.said.status ≢ 2
 StopHasCause (Read (Solve solve)) ran =
@@ -111,7 +111,7 @@ AcceptedIsValid (Read (Check check)) ran = ran.said.status ≡ 0 → OfCheckedTe
 AcceptedIsValid (Read (Journal journal)) ran = ⊤
 AcceptedIsValid (Read (Make make)) ran = ⊤
 
--- Only a check rejects, and then the certificate isn't valid, or the journal is none of the task, and the first fault is printed.
+-- Only a certificate or a journal is rejected, and then the certificate isn't valid, or the journal is none of the task, and the first fault is printed.
 abbrev pub RejectedIsFaulty : Reading → Ran → Type 0
 RejectedIsFaulty (Refused fault) ran = ran.said.status ≢ 3
 RejectedIsFaulty (Read (Solve solve)) ran = ran.said.status ≢ 3
