@@ -9,7 +9,8 @@ use Rattle.pb_check.specs.declared.fault.CertificateFault.{CertificateFault}
 use Rattle.pb_check.specs.declared.fault.Verdict.{Verdict}
 use Rattle.pb_check.specs.Judging.{checked}
 use Rattle.pb_check.specs.Kinds.{kind_of}
-use Rattle.pb_command.specs.Meaning.{Reading, Refused, Read, Solve, Check, Journal, Make}
+use Rattle.pb_command.specs.declared.refusal.CommandFault.{CommandFault}
+use Rattle.pb_command.specs.Meaning.{Reading, Refused, Read, Solve, Check, Journal, Make, SolveMeaning, CheckMeaning, JournalMeaning, MakeMeaning}
 use Rattle.pb_run.specs.Asked.{files_of, saved_names}
 use Rattle.pb_answer.specs.Outputs.{Output}
 use Rattle.pb_run.specs.Calls.{calls_since, loaded_texts, outputs_in, put_bytes, have_failed, load_calls, SaveAll, FailToSaveAll}
@@ -22,9 +23,29 @@ use Rattle.pb_run.proofs.CallLists.{since_is, loads_tell, loads_save_none, loads
 use Rattle.pb_run.proofs.Some.{first_are_some, none_of_some}
 use Rattle.pb_run.proofs.Told as told
 
+-- ---- statuses
+
+-- a status at which nothing is answered is another one
+pub broken_is_other : (n k : ℕ) → k < 71 → IsBroken n → n ≢ k
+broken_is_other n k less (inl e) f = omega (arith, less, e, f)
+broken_is_other n k less (inr (inl e)) f = omega (arith, less, e, f)
+broken_is_other n k less (inr (inr e)) f = omega (arith, less, e, f)
+
+answer_not : (n : ℕ) → IsAnswer n → IsBroken n → ⊥
+answer_not n (inl k) broken = broken_is_other n 0 (omega arith) broken k
+answer_not n (inr (inl k)) broken = broken_is_other n 1 (omega arith) broken k
+answer_not n (inr (inr (inl k))) broken = broken_is_other n 2 (omega arith) broken k
+answer_not n (inr (inr (inr (inl k)))) broken = broken_is_other n 3 (omega arith) broken k
+answer_not n (inr (inr (inr (inr (inl k))))) broken = broken_is_other n 64 (omega arith) broken k
+answer_not n (inr (inr (inr (inr (inr k))))) broken = broken_is_other n 65 (omega arith) broken k
+
 module _ (reading : Reading) (n : ℕ) (shelf sink : List Call) where
   abbrev pub Made : Ran
   Made = ran_by n shelf sink
+
+  -- how far an answer was handed out
+  abbrev pub Handed : HasAnswered reading n shelf sink → Type 0
+  Handed a = HandsOut a.said n a.saves sink ⊎ (FailsToSave a.said n a.saves sink ⊎ FailsToPut a.said n a.saves sink)
 
   -- ---- which way it went
 
@@ -46,18 +67,21 @@ module _ (reading : Reading) (n : ℕ) (shelf sink : List Call) where
         λ i. record { status = h.status_is i; report = (ap put_bytes h.sink_is ∙ append-nil a.said.report) i; outputs = (answered_outputs a ∙ tell.saved) i },
       )
 
+  answer_is : (a : HasAnswered reading n shelf sink) → HandsOut a.said n a.saves sink → IsAnswer n
+  answer_is a h = subst IsAnswer (sym h.status_is) (told.known a.texts a.said reading a.answers)
+
   made_answers : (a : HasAnswered reading n shelf sink) → HandsOut a.said n a.saves sink → AnswersReading reading Made.texts Made.said
   made_answers a h =
       let is = made_is a h in
       subst (λ (s : Said). AnswersReading reading Made.texts s) (sym is.1) (subst (λ (ts : List (List ℕ)). AnswersReading reading ts a.said) (sym is.0) a.answers)
 
   -- an answer was handed out, or memory ran out, or the shelf or the sink failed
-  pub way : Does reading n shelf sink → AnswersReading reading Made.texts Made.said ⊎ ((n ≡ 71) ⊎ ((n ≡ 73) ⊎ (n ≡ 74)))
+  pub way : Does reading n shelf sink → AnswersReading reading Made.texts Made.said ⊎ (IsBroken n)
   way (inl out) = inr (inl out.status_is)
   way (inr (inl failed)) = inr (inr (inl failed.status_is))
   way (inr (inr a)) = go a.hands
     where
-      go : HandsOut a.said n a.saves sink ⊎ (FailsToSave a.said n a.saves sink ⊎ FailsToPut a.said n a.saves sink) → AnswersReading reading Made.texts Made.said ⊎ ((n ≡ 71) ⊎ ((n ≡ 73) ⊎ (n ≡ 74)))
+      go : Handed a → AnswersReading reading Made.texts Made.said ⊎ (IsBroken n)
       go (inl h) = inl (made_answers a h)
       go (inr (inl f)) = inr (inr (inl f.status_is))
       go (inr (inr f)) = inr (inr (inr f.status_is))
@@ -74,17 +98,9 @@ module _ (reading : Reading) (n : ℕ) (shelf sink : List Call) where
   shelf_fails (inr (inl failed)) = (λ e. ap have_failed failed.shelf_is ∙ loads_fail (files_of reading) failed.texts failed.few, λ h. failed.status_is)
   shelf_fails (inr (inr a)) = go a.hands
     where
-      go : HandsOut a.said n a.saves sink ⊎ (FailsToSave a.said n a.saves sink ⊎ FailsToPut a.said n a.saves sink) → n ≡ 73 ↔ IsTrue (have_failed shelf)
+      go : Handed a → n ≡ 73 ↔ IsTrue (have_failed shelf)
       go (inl h) = no_fault (answered_failed a ∙ (saves_tell a.saves a.said.outputs h.saves_are).none_failed)
-          (λ e. let known = told.known a.texts a.said reading a.answers in not_broken known (sym h.status_is ∙ e))
-        where
-          not_broken : IsAnswer a.said.status → a.said.status ≡ 73 → ⊥
-          not_broken (inl k) e = omega (arith, k, e)
-          not_broken (inr (inl k)) e = omega (arith, k, e)
-          not_broken (inr (inr (inl k))) e = omega (arith, k, e)
-          not_broken (inr (inr (inr (inl k)))) e = omega (arith, k, e)
-          not_broken (inr (inr (inr (inr (inl k))))) e = omega (arith, k, e)
-          not_broken (inr (inr (inr (inr (inr k))))) e = omega (arith, k, e)
+          (λ e. answer_not n (answer_is a h) (inr (inl e)))
       go (inr (inl f)) = (λ e. answered_failed a ∙ (failures_tell a.saves a.said.outputs f.saves_are).failed, λ h. f.status_is)
       go (inr (inr f)) = no_fault (answered_failed a ∙ (saves_tell a.saves a.said.outputs f.saves_are).none_failed) (λ e. omega (arith, e, f.status_is))
 
@@ -96,16 +112,8 @@ module _ (reading : Reading) (n : ℕ) (shelf sink : List Call) where
   sink_fails (inr (inl failed)) = none_put failed.sink_is (λ e. omega (arith, e, failed.status_is))
   sink_fails (inr (inr a)) = go a.hands
     where
-      go : HandsOut a.said n a.saves sink ⊎ (FailsToSave a.said n a.saves sink ⊎ FailsToPut a.said n a.saves sink) → n ≡ 74 ↔ IsTrue (have_failed sink)
-      go (inl h) = (λ e. absurd (not_broken (told.known a.texts a.said reading a.answers) (sym h.status_is ∙ e)), λ failed. absurd (true≢false (sym failed ∙ ap have_failed h.sink_is)))
-        where
-          not_broken : IsAnswer a.said.status → a.said.status ≡ 74 → ⊥
-          not_broken (inl k) e = omega (arith, k, e)
-          not_broken (inr (inl k)) e = omega (arith, k, e)
-          not_broken (inr (inr (inl k))) e = omega (arith, k, e)
-          not_broken (inr (inr (inr (inl k)))) e = omega (arith, k, e)
-          not_broken (inr (inr (inr (inr (inl k))))) e = omega (arith, k, e)
-          not_broken (inr (inr (inr (inr (inr k))))) e = omega (arith, k, e)
+      go : Handed a → n ≡ 74 ↔ IsTrue (have_failed sink)
+      go (inl h) = (λ e. absurd (answer_not n (answer_is a h) (inr (inr e))), λ failed. absurd (true≢false (sym failed ∙ ap have_failed h.sink_is)))
       go (inr (inl f)) = none_put f.sink_is (λ e. omega (arith, e, f.status_is))
       go (inr (inr f)) = (λ e. ap have_failed f.sink_is, λ h. f.status_is)
 
@@ -115,7 +123,7 @@ module _ (reading : Reading) (n : ℕ) (shelf sink : List Call) where
   by_way : (P : Type 0) → Does reading n shelf sink → (AnswersReading reading Made.texts Made.said → P) → (n ≡ 71 → P) → (n ≡ 73 → P) → (n ≡ 74 → P) → P
   by_way P does f memory shelf_failed sink_failed = go (way does)
     where
-      go : AnswersReading reading Made.texts Made.said ⊎ ((n ≡ 71) ⊎ ((n ≡ 73) ⊎ (n ≡ 74))) → P
+      go : AnswersReading reading Made.texts Made.said ⊎ (IsBroken n) → P
       go (inl answers) = f answers
       go (inr (inl e)) = memory e
       go (inr (inr (inl e))) = shelf_failed e
@@ -124,181 +132,108 @@ module _ (reading : Reading) (n : ℕ) (shelf sink : List Call) where
   pub statuses : Does reading n shelf sink → IsAnswer n ⊎ IsBroken n
   statuses does = by_way (IsAnswer n ⊎ IsBroken n) does (λ answers. inl (told.known Made.texts Made.said reading answers)) (λ e. inr (inl e)) (λ e. inr (inr (inl e))) (λ e. inr (inr (inr e)))
 
-  abbrev pub IsIdle : (Reading → Ran → Type 0) → Type 0
-  IsIdle P = (n ≡ 71) ⊎ ((n ≡ 73) ⊎ (n ≡ 74)) → P reading Made
+  abbrev pub IsIdle : (Reading → Ran → Type 0) → Reading → Type 0
+  IsIdle P r = IsBroken n → P r Made
 
-  promise : (P : Reading → Ran → Type 0) → Does reading n shelf sink → (AnswersReading reading Made.texts Made.said → P reading Made) → IsIdle P → P reading Made
-  promise P does f idle = by_way (P reading Made) does f (λ e. idle (inl e)) (λ e. idle (inr (inl e))) (λ e. idle (inr (inr e)))
+  promise : (P : Reading → Ran → Type 0) → ((texts : List (List ℕ)) (said : Said) (r : Reading) → AnswersReading r texts said → P r (told.Done texts said))
+      → IsIdle P reading → Does reading n shelf sink → P reading Made
+  promise P answered idle does = by_way (P reading Made) does (answered Made.texts Made.said reading) (λ e. idle (inl e)) (λ e. idle (inr (inl e))) (λ e. idle (inr (inr e)))
 
--- a status at which nothing is answered is another one
-pub broken_is_other : (n k : ℕ) → k < 71 → (n ≡ 71) ⊎ ((n ≡ 73) ⊎ (n ≡ 74)) → n ≢ k
-broken_is_other n k less (inl e) f = omega (arith, less, e, f)
-broken_is_other n k less (inr (inl e)) f = omega (arith, less, e, f)
-broken_is_other n k less (inr (inr e)) f = omega (arith, less, e, f)
+  -- what is left of a promise where nothing is answered, by what the words ask
+  idle : (P : Reading → Ran → Type 0) → ((fault : CommandFault) → IsIdle P (Refused fault)) → ((solve : SolveMeaning) → IsIdle P (Read (Solve solve)))
+      → ((check : CheckMeaning) → IsIdle P (Read (Check check))) → ((journal : JournalMeaning) → IsIdle P (Read (Journal journal)))
+      → ((make : MakeMeaning) → IsIdle P (Read (Make make))) → IsIdle P reading
+  idle P refused solve check journal make = go reading
+    where
+      go : (r : Reading) → IsIdle P r
+      go (Refused fault) = refused fault
+      go (Read (Solve meaning)) = solve meaning
+      go (Read (Check meaning)) = check meaning
+      go (Read (Journal meaning)) = journal meaning
+      go (Read (Make meaning)) = make meaning
 
-pub all_of_one : (reading : Reading) (n : ℕ) (shelf sink : List Call) → Does reading n shelf sink → AllOfOnePlan reading (ran_by n shelf sink)
-all_of_one reading n shelf sink does = promise reading n shelf sink AllOfOnePlan does (told.all_of_one (loaded_texts shelf) (ran_by n shelf sink).said reading) (idle reading)
-  where
-    idle : (r : Reading) → (n ≡ 71) ⊎ ((n ≡ 73) ⊎ (n ≡ 74)) → AllOfOnePlan r (ran_by n shelf sink)
-    idle (Refused fault) broken = tt
-    idle (Read (Solve solve)) broken = λ e. absurd (broken_is_other n 0 (omega arith) broken e)
-    idle (Read (Check check)) broken = tt
-    idle (Read (Journal journal)) broken = tt
-    idle (Read (Make make)) broken = tt
+  not_zero : IsBroken n → n ≢ 0
+  not_zero = broken_is_other n 0 (omega arith)
 
-pub plan_is_plan : (reading : Reading) (n : ℕ) (shelf sink : List Call) → Does reading n shelf sink → PlanIsPlan reading (ran_by n shelf sink)
-plan_is_plan reading n shelf sink does = promise reading n shelf sink PlanIsPlan does (told.plan_is_plan (loaded_texts shelf) (ran_by n shelf sink).said reading) (idle reading)
-  where
-    idle : (r : Reading) → (n ≡ 71) ⊎ ((n ≡ 73) ⊎ (n ≡ 74)) → PlanIsPlan r (ran_by n shelf sink)
-    idle (Refused fault) broken = tt
-    idle (Read (Solve solve)) broken = λ e. absurd (broken_is_other n 0 (omega arith) broken e)
-    idle (Read (Check check)) broken = tt
-    idle (Read (Journal journal)) broken = tt
-    idle (Read (Make make)) broken = tt
+  not_one : IsBroken n → n ≢ 1
+  not_one = broken_is_other n 1 (omega arith)
 
-pub none_is_cheaper : (reading : Reading) (n : ℕ) (shelf sink : List Call) → Does reading n shelf sink → NoneIsCheaper reading (ran_by n shelf sink)
-none_is_cheaper reading n shelf sink does = promise reading n shelf sink NoneIsCheaper does (told.none_is_cheaper (loaded_texts shelf) (ran_by n shelf sink).said reading) (idle reading)
-  where
-    idle : (r : Reading) → (n ≡ 71) ⊎ ((n ≡ 73) ⊎ (n ≡ 74)) → NoneIsCheaper r (ran_by n shelf sink)
-    idle (Refused fault) broken = tt
-    idle (Read (Solve solve)) broken = λ e. absurd (broken_is_other n 0 (omega arith) broken e)
-    idle (Read (Check check)) broken = tt
-    idle (Read (Journal journal)) broken = tt
-    idle (Read (Make make)) broken = tt
+  not_two : IsBroken n → n ≢ 2
+  not_two = broken_is_other n 2 (omega arith)
 
-pub certificate_holds : (reading : Reading) (n : ℕ) (shelf sink : List Call) → Does reading n shelf sink → CertificateHolds reading (ran_by n shelf sink)
-certificate_holds reading n shelf sink does = promise reading n shelf sink CertificateHolds does (told.certificate_holds (loaded_texts shelf) (ran_by n shelf sink).said reading) (idle reading)
-  where
-    idle : (r : Reading) → (n ≡ 71) ⊎ ((n ≡ 73) ⊎ (n ≡ 74)) → CertificateHolds r (ran_by n shelf sink)
-    idle (Refused fault) broken = tt
-    idle (Read (Solve solve)) broken = λ e. absurd (broken_is_other n 0 (omega arith) broken e)
-    idle (Read (Check check)) broken = tt
-    idle (Read (Journal journal)) broken = tt
-    idle (Read (Make make)) broken = tt
+  not_three : IsBroken n → n ≢ 3
+  not_three = broken_is_other n 3 (omega arith)
 
-pub none_means_none : (reading : Reading) (n : ℕ) (shelf sink : List Call) → Does reading n shelf sink → NoneMeansNone reading (ran_by n shelf sink)
-none_means_none reading n shelf sink does = promise reading n shelf sink NoneMeansNone does (told.none_means_none (loaded_texts shelf) (ran_by n shelf sink).said reading) (idle reading)
-  where
-    idle : (r : Reading) → (n ≡ 71) ⊎ ((n ≡ 73) ⊎ (n ≡ 74)) → NoneMeansNone r (ran_by n shelf sink)
-    idle (Refused fault) broken = broken_is_other n 1 (omega arith) broken
-    idle (Read (Solve solve)) broken = λ e. absurd (broken_is_other n 1 (omega arith) broken e)
-    idle (Read (Check check)) broken = broken_is_other n 1 (omega arith) broken
-    idle (Read (Journal journal)) broken = broken_is_other n 1 (omega arith) broken
-    idle (Read (Make make)) broken = λ e. absurd (broken_is_other n 1 (omega arith) broken e)
+  pub all_of_one : Does reading n shelf sink → AllOfOnePlan reading Made
+  all_of_one = promise AllOfOnePlan told.all_of_one
+      (idle AllOfOnePlan (λ f b. tt) (λ s b e. absurd (not_zero b e)) (λ c b. tt) (λ j b. tt) (λ m b. tt))
 
-pub certificate_of_none : (reading : Reading) (n : ℕ) (shelf sink : List Call) → Does reading n shelf sink → CertificateOfNone reading (ran_by n shelf sink)
-certificate_of_none reading n shelf sink does = promise reading n shelf sink CertificateOfNone does (told.certificate_of_none (loaded_texts shelf) (ran_by n shelf sink).said reading) (idle reading)
-  where
-    idle : (r : Reading) → (n ≡ 71) ⊎ ((n ≡ 73) ⊎ (n ≡ 74)) → CertificateOfNone r (ran_by n shelf sink)
-    idle (Refused fault) broken = tt
-    idle (Read (Solve solve)) broken = λ e. absurd (broken_is_other n 1 (omega arith) broken e)
-    idle (Read (Check check)) broken = tt
-    idle (Read (Journal journal)) broken = tt
-    idle (Read (Make make)) broken = tt
+  pub plan_is_plan : Does reading n shelf sink → PlanIsPlan reading Made
+  plan_is_plan = promise PlanIsPlan told.plan_is_plan
+      (idle PlanIsPlan (λ f b. tt) (λ s b e. absurd (not_zero b e)) (λ c b. tt) (λ j b. tt) (λ m b. tt))
 
-pub stop_has_cause : (reading : Reading) (n : ℕ) (shelf sink : List Call) → Does reading n shelf sink → StopHasCause reading (ran_by n shelf sink)
-stop_has_cause reading n shelf sink does = promise reading n shelf sink StopHasCause does (told.stop_has_cause (loaded_texts shelf) (ran_by n shelf sink).said reading) (idle reading)
-  where
-    idle : (r : Reading) → (n ≡ 71) ⊎ ((n ≡ 73) ⊎ (n ≡ 74)) → StopHasCause r (ran_by n shelf sink)
-    idle (Refused fault) broken = broken_is_other n 2 (omega arith) broken
-    idle (Read (Solve solve)) broken = λ e. absurd (broken_is_other n 2 (omega arith) broken e)
-    idle (Read (Check check)) broken = broken_is_other n 2 (omega arith) broken
-    idle (Read (Journal journal)) broken = broken_is_other n 2 (omega arith) broken
-    idle (Read (Make make)) broken = λ e. absurd (broken_is_other n 2 (omega arith) broken e)
+  pub none_is_cheaper : Does reading n shelf sink → NoneIsCheaper reading Made
+  none_is_cheaper = promise NoneIsCheaper told.none_is_cheaper
+      (idle NoneIsCheaper (λ f b. tt) (λ s b e. absurd (not_zero b e)) (λ c b. tt) (λ j b. tt) (λ m b. tt))
 
-pub accepted_is_valid : (reading : Reading) (n : ℕ) (shelf sink : List Call) → Does reading n shelf sink → AcceptedIsValid reading (ran_by n shelf sink)
-accepted_is_valid reading n shelf sink does = promise reading n shelf sink AcceptedIsValid does (told.accepted_is_valid (loaded_texts shelf) (ran_by n shelf sink).said reading) (idle reading)
-  where
-    idle : (r : Reading) → (n ≡ 71) ⊎ ((n ≡ 73) ⊎ (n ≡ 74)) → AcceptedIsValid r (ran_by n shelf sink)
-    idle (Refused fault) broken = broken_is_other n 0 (omega arith) broken
-    idle (Read (Solve solve)) broken = tt
-    idle (Read (Check check)) broken = λ e. absurd (broken_is_other n 0 (omega arith) broken e)
-    idle (Read (Journal journal)) broken = tt
-    idle (Read (Make make)) broken = tt
+  pub certificate_holds : Does reading n shelf sink → CertificateHolds reading Made
+  certificate_holds = promise CertificateHolds told.certificate_holds
+      (idle CertificateHolds (λ f b. tt) (λ s b e. absurd (not_zero b e)) (λ c b. tt) (λ j b. tt) (λ m b. tt))
 
-pub rejected_is_faulty : (reading : Reading) (n : ℕ) (shelf sink : List Call) → Does reading n shelf sink → RejectedIsFaulty reading (ran_by n shelf sink)
-rejected_is_faulty reading n shelf sink does = promise reading n shelf sink RejectedIsFaulty does (told.rejected_is_faulty (loaded_texts shelf) (ran_by n shelf sink).said reading) (idle reading)
-  where
-    idle : (r : Reading) → (n ≡ 71) ⊎ ((n ≡ 73) ⊎ (n ≡ 74)) → RejectedIsFaulty r (ran_by n shelf sink)
-    idle (Refused fault) broken = broken_is_other n 3 (omega arith) broken
-    idle (Read (Solve solve)) broken = broken_is_other n 3 (omega arith) broken
-    idle (Read (Check check)) broken = λ e. absurd (broken_is_other n 3 (omega arith) broken e)
-    idle (Read (Journal journal)) broken = λ e. absurd (broken_is_other n 3 (omega arith) broken e)
-    idle (Read (Make make)) broken = broken_is_other n 3 (omega arith) broken
+  pub none_means_none : Does reading n shelf sink → NoneMeansNone reading Made
+  none_means_none = promise NoneMeansNone told.none_means_none
+      (idle NoneMeansNone (λ f b. not_one b) (λ s b e. absurd (not_one b e)) (λ c b. not_one b) (λ j b. not_one b) (λ m b e. absurd (not_one b e)))
 
-pub named_plan_is_plan : (reading : Reading) (n : ℕ) (shelf sink : List Call) → Does reading n shelf sink → NamedPlanIsPlan reading (ran_by n shelf sink)
-named_plan_is_plan reading n shelf sink does = promise reading n shelf sink NamedPlanIsPlan does (told.named_plan_is_plan (loaded_texts shelf) (ran_by n shelf sink).said reading) (idle reading)
-  where
-    idle : (r : Reading) → (n ≡ 71) ⊎ ((n ≡ 73) ⊎ (n ≡ 74)) → NamedPlanIsPlan r (ran_by n shelf sink)
-    idle (Refused fault) broken = tt
-    idle (Read (Solve solve)) broken = λ e. absurd (broken_is_other n 0 (omega arith) broken e)
-    idle (Read (Check check)) broken = tt
-    idle (Read (Journal journal)) broken = tt
-    idle (Read (Make make)) broken = tt
+  pub certificate_of_none : Does reading n shelf sink → CertificateOfNone reading Made
+  certificate_of_none = promise CertificateOfNone told.certificate_of_none
+      (idle CertificateOfNone (λ f b. tt) (λ s b e. absurd (not_one b e)) (λ c b. tt) (λ j b. tt) (λ m b. tt))
 
-pub named_none_means_none : (reading : Reading) (n : ℕ) (shelf sink : List Call) → Does reading n shelf sink → NamedNoneMeansNone reading (ran_by n shelf sink)
-named_none_means_none reading n shelf sink does = promise reading n shelf sink NamedNoneMeansNone does (told.named_none_means_none (loaded_texts shelf) (ran_by n shelf sink).said reading) (idle reading)
-  where
-    idle : (r : Reading) → (n ≡ 71) ⊎ ((n ≡ 73) ⊎ (n ≡ 74)) → NamedNoneMeansNone r (ran_by n shelf sink)
-    idle (Refused fault) broken = tt
-    idle (Read (Solve solve)) broken = λ e. absurd (broken_is_other n 1 (omega arith) broken e)
-    idle (Read (Check check)) broken = tt
-    idle (Read (Journal journal)) broken = tt
-    idle (Read (Make make)) broken = tt
+  pub stop_has_cause : Does reading n shelf sink → StopHasCause reading Made
+  stop_has_cause = promise StopHasCause told.stop_has_cause
+      (idle StopHasCause (λ f b. not_two b) (λ s b e. absurd (not_two b e)) (λ c b. not_two b) (λ j b. not_two b) (λ m b e. absurd (not_two b e)))
 
-pub named_verdict_holds : (reading : Reading) (n : ℕ) (shelf sink : List Call) → Does reading n shelf sink → NamedVerdictHolds reading (ran_by n shelf sink)
-named_verdict_holds reading n shelf sink does = promise reading n shelf sink NamedVerdictHolds does (told.named_verdict_holds (loaded_texts shelf) (ran_by n shelf sink).said reading) (idle reading)
-  where
-    idle : (r : Reading) → (n ≡ 71) ⊎ ((n ≡ 73) ⊎ (n ≡ 74)) → NamedVerdictHolds r (ran_by n shelf sink)
-    idle (Refused fault) broken = tt
-    idle (Read (Solve solve)) broken = tt
-    idle (Read (Check check)) broken = λ e. absurd (broken_is_other n 0 (omega arith) broken e)
-    idle (Read (Journal journal)) broken = tt
-    idle (Read (Make make)) broken = tt
+  pub accepted_is_valid : Does reading n shelf sink → AcceptedIsValid reading Made
+  accepted_is_valid = promise AcceptedIsValid told.accepted_is_valid
+      (idle AcceptedIsValid (λ f b. not_zero b) (λ s b. tt) (λ c b e. absurd (not_zero b e)) (λ j b. tt) (λ m b. tt))
 
-pub check_is_decided : (reading : Reading) (n : ℕ) (shelf sink : List Call) → Does reading n shelf sink → CheckIsDecided reading (ran_by n shelf sink)
-check_is_decided reading n shelf sink does = promise reading n shelf sink CheckIsDecided does (told.check_is_decided (loaded_texts shelf) (ran_by n shelf sink).said reading) (idle reading)
-  where
-    either : (v : Result Verdict CertificateFault) → IsBroken n → IsOfVerdict v n
-    either (Ok verdict) broken = inr broken
-    either (Err fault) broken = inr broken
+  pub rejected_is_faulty : Does reading n shelf sink → RejectedIsFaulty reading Made
+  rejected_is_faulty = promise RejectedIsFaulty told.rejected_is_faulty
+      (idle RejectedIsFaulty (λ f b. not_three b) (λ s b. not_three b) (λ c b e. absurd (not_three b e)) (λ j b e. absurd (not_three b e)) (λ m b. not_three b))
 
-    idle : (r : Reading) → (n ≡ 71) ⊎ ((n ≡ 73) ⊎ (n ≡ 74)) → CheckIsDecided r (ran_by n shelf sink)
-    idle (Refused fault) broken = tt
-    idle (Read (Solve solve)) broken = tt
-    idle (Read (Check check)) broken = λ parts certificate is. either (checked (space_of parts) (estimate_of parts) (kind_of parts) certificate) broken
-    idle (Read (Journal journal)) broken = tt
-    idle (Read (Make make)) broken = tt
+  pub named_plan_is_plan : Does reading n shelf sink → NamedPlanIsPlan reading Made
+  named_plan_is_plan = promise NamedPlanIsPlan told.named_plan_is_plan
+      (idle NamedPlanIsPlan (λ f b. tt) (λ s b e. absurd (not_zero b e)) (λ c b. tt) (λ j b. tt) (λ m b. tt))
 
-pub journal_is_legal : (reading : Reading) (n : ℕ) (shelf sink : List Call) → Does reading n shelf sink → JournalIsLegal reading (ran_by n shelf sink)
-journal_is_legal reading n shelf sink does = promise reading n shelf sink JournalIsLegal does (told.journal_is_legal (loaded_texts shelf) (ran_by n shelf sink).said reading) (idle reading)
-  where
-    idle : (r : Reading) → (n ≡ 71) ⊎ ((n ≡ 73) ⊎ (n ≡ 74)) → JournalIsLegal r (ran_by n shelf sink)
-    idle (Refused fault) broken = tt
-    idle (Read (Solve solve)) broken = tt
-    idle (Read (Check check)) broken = tt
-    idle (Read (Journal journal)) broken = λ e. absurd (broken_is_other n 0 (omega arith) broken e)
-    idle (Read (Make make)) broken = tt
+  pub named_none_means_none : Does reading n shelf sink → NamedNoneMeansNone reading Made
+  named_none_means_none = promise NamedNoneMeansNone told.named_none_means_none
+      (idle NamedNoneMeansNone (λ f b. tt) (λ s b e. absurd (not_one b e)) (λ c b. tt) (λ j b. tt) (λ m b. tt))
 
-pub journal_is_decided : (reading : Reading) (n : ℕ) (shelf sink : List Call) → Does reading n shelf sink → JournalIsDecided reading (ran_by n shelf sink)
-journal_is_decided reading n shelf sink does = promise reading n shelf sink JournalIsDecided does (told.journal_is_decided (loaded_texts shelf) (ran_by n shelf sink).said reading) (idle reading)
-  where
-    idle : (r : Reading) → (n ≡ 71) ⊎ ((n ≡ 73) ⊎ (n ≡ 74)) → JournalIsDecided r (ran_by n shelf sink)
-    idle (Refused fault) broken = tt
-    idle (Read (Solve solve)) broken = tt
-    idle (Read (Check check)) broken = tt
-    idle (Read (Journal journal)) broken = λ parts text events is legal. inr broken
-    idle (Read (Make make)) broken = tt
+  pub named_verdict_holds : Does reading n shelf sink → NamedVerdictHolds reading Made
+  named_verdict_holds = promise NamedVerdictHolds told.named_verdict_holds
+      (idle NamedVerdictHolds (λ f b. tt) (λ s b. tt) (λ c b e. absurd (not_zero b e)) (λ j b. tt) (λ m b. tt))
 
-pub made_is_least : (reading : Reading) (n : ℕ) (shelf sink : List Call) → Does reading n shelf sink → MadeIsLeast reading (ran_by n shelf sink)
-made_is_least reading n shelf sink does = promise reading n shelf sink MadeIsLeast does (told.made_is_least (loaded_texts shelf) (ran_by n shelf sink).said reading) (idle reading)
-  where
-    idle : (r : Reading) → (n ≡ 71) ⊎ ((n ≡ 73) ⊎ (n ≡ 74)) → MadeIsLeast r (ran_by n shelf sink)
-    idle (Refused fault) broken = tt
-    idle (Read (Solve solve)) broken = tt
-    idle (Read (Check check)) broken = tt
-    idle (Read (Journal journal)) broken = tt
-    idle (Read (Make make)) broken = λ e. absurd (broken_is_other n 0 (omega arith) broken e)
+  pub journal_is_legal : Does reading n shelf sink → JournalIsLegal reading Made
+  journal_is_legal = promise JournalIsLegal told.journal_is_legal
+      (idle JournalIsLegal (λ f b. tt) (λ s b. tt) (λ c b. tt) (λ j b e. absurd (not_zero b e)) (λ m b. tt))
+
+  pub made_is_least : Does reading n shelf sink → MadeIsLeast reading Made
+  made_is_least = promise MadeIsLeast told.made_is_least
+      (idle MadeIsLeast (λ f b. tt) (λ s b. tt) (λ c b. tt) (λ j b. tt) (λ m b e. absurd (not_zero b e)))
+
+  pub check_is_decided : Does reading n shelf sink → CheckIsDecided reading Made
+  check_is_decided = promise CheckIsDecided told.check_is_decided
+      (idle CheckIsDecided (λ f b. tt) (λ s b. tt) (λ c b parts certificate is. either (checked (space_of parts) (estimate_of parts) (kind_of parts) certificate) b) (λ j b. tt) (λ m b. tt))
+    where
+      either : (v : Result Verdict CertificateFault) → IsBroken n → IsOfVerdict v n
+      either (Ok verdict) broken = inr broken
+      either (Err fault) broken = inr broken
+
+  pub journal_is_decided : Does reading n shelf sink → JournalIsDecided reading Made
+  journal_is_decided = promise JournalIsDecided told.journal_is_decided
+      (idle JournalIsDecided (λ f b. tt) (λ s b. tt) (λ c b. tt) (λ j b parts text events is legal. inr b) (λ m b. tt))
+
+  pub input_is_refused : Does reading n shelf sink → InputIsRefused reading Made
+  input_is_refused = promise InputIsRefused told.input_is_refused (λ broken. (λ e. absurd (broken_is_other n 65 (omega arith) broken e), λ report refuses. inr broken))
 
 -- if no call failed, there is an answer to the texts that were loaded, or want of memory
 pub done_is_answered : (reading : Reading) (n : ℕ) (shelf sink : List Call) → Does reading n shelf sink → have_failed shelf ≡ false → have_failed sink ≡ false
@@ -309,39 +244,27 @@ done_is_answered reading n shelf sink does shelf_done sink_done =
     (λ e. absurd (true≢false (sym ((shelf_fails reading n shelf sink does).0 e) ∙ shelf_done)))
     (λ e. absurd (true≢false (sym ((sink_fails reading n shelf sink does).0 e) ∙ sink_done)))
 
-pub input_is_refused : (reading : Reading) (n : ℕ) (shelf sink : List Call) → Does reading n shelf sink → InputIsRefused reading (ran_by n shelf sink)
-input_is_refused reading n shelf sink does = promise reading n shelf sink InputIsRefused does (told.input_is_refused (loaded_texts shelf) (ran_by n shelf sink).said reading)
-    (λ broken. (λ e. absurd (broken_is_other n 65 (omega arith) broken e), λ report refuses. inr broken))
-
 -- words that are no command line name no files and ask for nothing to be saved, so the shelf doesn't fail
 pub words_are_refused : (reading : Reading) (n : ℕ) (shelf sink : List Call) → Does reading n shelf sink → WordsAreRefused reading (ran_by n shelf sink)
-words_are_refused reading n shelf sink does = promise reading n shelf sink WordsAreRefused does (told.words_are_refused (loaded_texts shelf) (ran_by n shelf sink).said reading) (idle reading does)
+words_are_refused reading n shelf sink does = promise reading n shelf sink WordsAreRefused told.words_are_refused (left reading does) does
   where
-    idle : (r : Reading) → Does r n shelf sink → (n ≡ 71) ⊎ ((n ≡ 73) ⊎ (n ≡ 74)) → WordsAreRefused r (ran_by n shelf sink)
-    idle (Refused fault) went (inl e) = inr (inl e)
-    idle (Refused fault) went (inr (inr e)) = inr (inr e)
-    idle (Refused fault) (inl out) (inr (inl e)) = absurd (omega (arith, e, out.status_is))
-    idle (Refused fault) (inr (inl failed)) (inr (inl e)) = absurd (omega (arith, failed.few))
-    idle (Refused fault) (inr (inr a)) (inr (inl e)) = go a.hands
+    left : (r : Reading) → Does r n shelf sink → IsBroken n → WordsAreRefused r (ran_by n shelf sink)
+    left (Refused fault) went (inl e) = inr (inl e)
+    left (Refused fault) went (inr (inr e)) = inr (inr e)
+    left (Refused fault) (inl out) (inr (inl e)) = absurd (omega (arith, e, out.status_is))
+    left (Refused fault) (inr (inl failed)) (inr (inl e)) = absurd (omega (arith, failed.few))
+    left (Refused fault) (inr (inr a)) (inr (inl e)) = go a.hands
       where
         none : FailToSaveAll a.saves a.said.outputs → ⊥
         none fails = subst (λ (os : List Output). FailToSaveAll a.saves os) a.answers.2 fails
 
-        go : HandsOut a.said n a.saves sink ⊎ (FailsToSave a.said n a.saves sink ⊎ FailsToPut a.said n a.saves sink) → WordsAreRefused (Refused fault) (ran_by n shelf sink)
+        go : Handed (Refused fault) n shelf sink a → WordsAreRefused (Refused fault) (ran_by n shelf sink)
         go (inl h) = absurd (omega (arith, e, h.status_is, a.answers.0))
         go (inr (inl f)) = absurd (none f.saves_are)
         go (inr (inr f)) = absurd (omega (arith, e, f.status_is))
-    idle (Read meaning) went broken = broken_is_other n 64 (omega arith) broken
+    left (Read meaning) went broken = broken_is_other n 64 (omega arith) broken
 
 -- ---- what is saved and printed
-
-answer_not : (n : ℕ) → IsAnswer n → (n ≡ 71) ⊎ ((n ≡ 73) ⊎ (n ≡ 74)) → ⊥
-answer_not n (inl k) broken = broken_is_other n 0 (omega arith) broken k
-answer_not n (inr (inl k)) broken = broken_is_other n 1 (omega arith) broken k
-answer_not n (inr (inr (inl k))) broken = broken_is_other n 2 (omega arith) broken k
-answer_not n (inr (inr (inr (inl k)))) broken = broken_is_other n 3 (omega arith) broken k
-answer_not n (inr (inr (inr (inr (inl k))))) broken = broken_is_other n 64 (omega arith) broken k
-answer_not n (inr (inr (inr (inr (inr k))))) broken = broken_is_other n 65 (omega arith) broken k
 
 abbrev pub names_of : List Output → List (List ℕ)
 names_of outputs = map (λ (o : Output). o.name) outputs
@@ -370,7 +293,7 @@ module _ (reading : Reading) (n : ℕ) (shelf sink : List Call) where
       whole : SaveAll a.saves a.said.outputs → OutputsAreNamed reading (ran_by n shelf sink)
       whole saves = named_as a.said.outputs (answered_outputs reading n shelf sink a ∙ (saves_tell a.saves a.said.outputs saves).saved) due
 
-      go : HandsOut a.said n a.saves sink ⊎ (FailsToSave a.said n a.saves sink ⊎ FailsToPut a.said n a.saves sink) → OutputsAreNamed reading (ran_by n shelf sink)
+      go : Handed reading n shelf sink a → OutputsAreNamed reading (ran_by n shelf sink)
       go (inl h) = whole h.saves_are
       go (inr (inl f)) =
           let tell = failures_tell a.saves a.said.outputs f.saves_are in
@@ -401,7 +324,7 @@ module _ (reading : Reading) (n : ℕ) (shelf sink : List Call) where
           which (inr (inr (inl h))) = omega (arith, h, f, more)
           which (inr (inr (inr h))) = omega (arith, h, f, more)
 
-      go : HandsOut a.said n a.saves sink ⊎ (FailsToSave a.said n a.saves sink ⊎ FailsToPut a.said n a.saves sink) → outputs_in shelf ≡ []
+      go : Handed reading n shelf sink a → outputs_in shelf ≡ []
       go (inl h) = answered_outputs reading n shelf sink a ∙ (saves_tell a.saves a.said.outputs h.saves_are).saved
           ∙ told.nothing_to_save a.texts a.said reading a.answers (λ zero. other 0 (omega arith) (h.status_is ∙ zero)) (λ one. other 1 (omega arith) (h.status_is ∙ one)) (λ two. other 2 (omega arith) (h.status_is ∙ two))
       go (inr (inl f)) = absurd (neither 73 (omega arith) f.status_is)
@@ -412,7 +335,7 @@ module _ (reading : Reading) (n : ℕ) (shelf sink : List Call) where
   silent (inr (inl failed)) e = ap put_bytes failed.sink_is
   silent (inr (inr a)) e = go a.hands
     where
-      broken : (n ≡ 71) ⊎ (n ≡ 73) → (n ≡ 71) ⊎ ((n ≡ 73) ⊎ (n ≡ 74))
+      broken : (n ≡ 71) ⊎ (n ≡ 73) → IsBroken n
       broken (inl h) = inl h
       broken (inr h) = inr (inl h)
 
@@ -420,8 +343,8 @@ module _ (reading : Reading) (n : ℕ) (shelf sink : List Call) where
       not_printed (inl h) f = omega (arith, h, f)
       not_printed (inr h) f = omega (arith, h, f)
 
-      go : HandsOut a.said n a.saves sink ⊎ (FailsToSave a.said n a.saves sink ⊎ FailsToPut a.said n a.saves sink) → put_bytes sink ≡ []
-      go (inl h) = absurd (answer_not n (subst IsAnswer (sym h.status_is) (told.known a.texts a.said reading a.answers)) (broken e))
+      go : Handed reading n shelf sink a → put_bytes sink ≡ []
+      go (inl h) = absurd (answer_not n (answer_is reading n shelf sink a h) (broken e))
       go (inr (inl f)) = ap put_bytes f.sink_is
       go (inr (inr f)) = absurd (not_printed e f.status_is)
 
@@ -438,7 +361,7 @@ module _ (reading : Reading) (n : ℕ) (shelf sink : List Call) where
     texts_loaded (inr (inl (failed, kept))) is = absurd (answer_not n is (inr (inl failed.status_is)))
     texts_loaded (inr (inr (a, loaded, hands))) is = go a.hands
       where
-        go : HandsOut a.said n a.saves sink ⊎ (FailsToSave a.said n a.saves sink ⊎ FailsToPut a.said n a.saves sink) → AreLoaded files (files_of reading) (loaded_texts shelf)
+        go : Handed reading n shelf sink a → AreLoaded files (files_of reading) (loaded_texts shelf)
         go (inl h) = subst (AreLoaded files (files_of reading)) (sym (made_is reading n shelf sink a h).0) loaded
         go (inr (inl f)) = absurd (answer_not n is (inr (inl f.status_is)))
         go (inr (inr f)) = absurd (answer_not n is (inr (inr f.status_is)))
@@ -469,7 +392,7 @@ module _ (reading : Reading) (n : ℕ) (shelf sink : List Call) where
         not_cut e (inl k) = answer_not n k (inr (inl e))
         not_cut e (inr k) = omega (arith, k, e)
 
-        go : (h : HandsOut a.said n a.saves sink ⊎ (FailsToSave a.said n a.saves sink ⊎ FailsToPut a.said n a.saves sink)) → TellsHands a.said files files' h → IfTold files files' (SavesIn (outputs_in shelf))
+        go : (h : Handed reading n shelf sink a) → TellsHands a.said files files' h → IfTold files files' (SavesIn (outputs_in shelf))
         go (inl h) told_it = saved_by a h.saves_are told_it
         go (inr (inl f)) told_it = absurd (not_cut f.status_is is)
         go (inr (inr f)) told_it = saved_by a f.saves_are told_it
@@ -479,8 +402,8 @@ module _ (reading : Reading) (n : ℕ) (shelf sink : List Call) where
     files_kept (inr (inl (failed, kept))) e = kept
     files_kept (inr (inr (a, loaded, hands))) e = go a.hands
       where
-        go : HandsOut a.said n a.saves sink ⊎ (FailsToSave a.said n a.saves sink ⊎ FailsToPut a.said n a.saves sink) → IfTold files files' KeepsAll
-        go (inl h) = absurd (answer_not n (subst IsAnswer (sym h.status_is) (told.known a.texts a.said reading a.answers)) (inl e))
+        go : Handed reading n shelf sink a → IfTold files files' KeepsAll
+        go (inl h) = absurd (answer_not n (answer_is reading n shelf sink a h) (inl e))
         go (inr (inl f)) = absurd (omega (arith, e, f.status_is))
         go (inr (inr f)) = absurd (omega (arith, e, f.status_is))
 
@@ -489,9 +412,9 @@ module _ (reading : Reading) (n : ℕ) (shelf sink : List Call) where
     files_left (inr (inl (failed, kept))) e = told_map files files' KeepsAll _ (λ x y h. inl h) kept
     files_left (inr (inr (a, loaded, hands))) e = go a.hands hands
       where
-        go : (h : HandsOut a.said n a.saves sink ⊎ (FailsToSave a.said n a.saves sink ⊎ FailsToPut a.said n a.saves sink)) → TellsHands a.said files files' h
+        go : (h : Handed reading n shelf sink a) → TellsHands a.said files files' h
             → IfTold files files' (λ before after. KeepsAll before after ⊎ LeavesPart reading (loaded_texts shelf) before after)
-        go (inl h) told_it = absurd (answer_not n (subst IsAnswer (sym h.status_is) (told.known a.texts a.said reading a.answers)) (inr (inl e)))
+        go (inl h) told_it = absurd (answer_not n (answer_is reading n shelf sink a h) (inr (inl e)))
         go (inr (inl f)) told_it =
             let none = (failures_tell a.saves a.said.outputs f.saves_are).none_loaded in
             let answers = subst (λ (ts : List (List ℕ)). AnswersReading reading ts a.said) (sym (answered_texts reading n shelf sink a none)) a.answers in
@@ -517,7 +440,7 @@ module _ (reading : Reading) (n : ℕ) (shelf sink : List Call) where
         none_due : (other : List ℕ) → IsNoneOf (saved_names reading) other → IsNoneOf (names_of a.said.outputs) other
         none_due other none = none_of_some (names_of a.said.outputs) (saved_names reading) other (told.outputs_are_named a.texts a.said reading a.answers) none
 
-        go : (h : HandsOut a.said n a.saves sink ⊎ (FailsToSave a.said n a.saves sink ⊎ FailsToPut a.said n a.saves sink)) → TellsHands a.said files files' h → IfTold files files' (KeepsUnnamed reading)
+        go : (h : Handed reading n shelf sink a) → TellsHands a.said files files' h → IfTold files files' (KeepsUnnamed reading)
         go (inl h) told_it = told_map files files' (SavesIn a.said.outputs) (KeepsUnnamed reading) (λ x y saves other none. stay_in a.said.outputs x y other (none_due other none) saves) told_it
         go (inr (inl f)) told_it = told_map files files' (SavesPartIn a.said.outputs) (KeepsUnnamed reading) (λ x y part other none. stay_in_part a.said.outputs x y other (none_due other none) part) told_it
         go (inr (inr f)) told_it = told_map files files' (SavesIn a.said.outputs) (KeepsUnnamed reading) (λ x y saves other none. stay_in a.said.outputs x y other (none_due other none) saves) told_it
@@ -536,7 +459,7 @@ module _ (reading : Reading) (n : ℕ) (shelf sink : List Call) where
             let same = same_texts (loads_of shelf_files (files_of reading)) (loaded_texts shelf) texts mine loads in
             subst (λ (ts : List (List ℕ)). IsAnswered reading ts n) same (by_answer (way reading n shelf sink (does by)))
           where
-            by_answer : AnswersReading reading (loaded_texts shelf) (ran_by n shelf sink).said ⊎ ((n ≡ 71) ⊎ ((n ≡ 73) ⊎ (n ≡ 74))) → IsAnswered reading (loaded_texts shelf) n
+            by_answer : AnswersReading reading (loaded_texts shelf) (ran_by n shelf sink).said ⊎ (IsBroken n) → IsAnswered reading (loaded_texts shelf) n
             by_answer (inl answers) = told.answered (loaded_texts shelf) (ran_by n shelf sink).said reading answers
             by_answer (inr broken) = absurd (answer_not n k broken)
 

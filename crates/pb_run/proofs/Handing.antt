@@ -12,6 +12,7 @@ use Rattle.pb_answer.specs.Outputs.{Output, output}
 use Rattle.pb_run.specs.Calls.{load_calls, CanHold}
 use Rattle.pb_run.specs.Loads.{AreLoaded}
 use Rattle.pb_answer.specs.Answer.{Said, AnswersReading}
+use Rattle.pb_run.specs.Course.{HandsOut, FailsToSave, FailsToPut, HasAnswered}
 use Rattle.pb_run.specs.Headline.{IsAnswer, CanServe}
 use Rattle.pb_run.specs.Fit.{IfShelf, status_of}
 use Rattle.pb_run.specs.Contents.{SavesIn, SavesPartIn, LoadsAll, LoadsUpTo, Hands, HandsTold, Goes, WritesPut}
@@ -89,6 +90,12 @@ module _ (reading : Reading) (files between files' : Option Files) (shelf mid sh
   all_calls : (saves : List Call) → shelf' ≡ mid ++ saves → shelf' ≡ shelf ++ (load_calls (files_of reading) texts loads.0 ++ saves)
   all_calls saves is = is ∙ ap (λ (calls : List Call). calls ++ saves) loads.2 ∙ append_assoc shelf (load_calls (files_of reading) texts loads.0) saves
 
+  -- the answer was handed out as far as these calls go
+  abbrev answered : (n : ℕ) (saves puts : List Call) → HandsOut said n saves puts ⊎ (FailsToSave said n saves puts ⊎ FailsToPut said n saves puts)
+      → HasAnswered reading n (load_calls (files_of reading) texts loads.0 ++ saves) puts
+  answered n saves puts hands =
+      record { texts = texts; unloaded = loads.0; ends = loads.1; said = said; answers = answers; saves = saves; shelf_is = refl; hands = hands }
+
   kept_then : (P : Files → Files → Type 0) → ((x y z : Files) → KeepsAll x y → P y z → P x z) → IfTold between files' P → IfTold files files' P
   kept_then P f h = told_then files between files' KeepsAll P P kept h f
 
@@ -99,16 +106,7 @@ module _ (reading : Reading) (files between files' : Option Files) (shelf mid sh
     all_calls saves saved,
     noted,
     inr (inr (
-      record {
-        texts = texts;
-        unloaded = loads.0;
-        ends = loads.1;
-        said = said;
-        answers = answers;
-        saves = saves;
-        shelf_is = refl;
-        hands = inl (record { status_is = is; saves_are = save; sink_is = refl });
-      },
+      answered n saves (Put said.report ∷ []) (inl (record { status_is = is; saves_are = save; sink_is = refl })),
       are,
       kept_then (SavesIn said.outputs) (after_kept said.outputs) tells,
     )),
@@ -121,16 +119,7 @@ module _ (reading : Reading) (files between files' : Option Files) (shelf mid sh
     all_calls saves saved,
     same ∙ sym (append-nil sink),
     inr (inr (
-      record {
-        texts = texts;
-        unloaded = loads.0;
-        ends = loads.1;
-        said = said;
-        answers = answers;
-        saves = saves;
-        shelf_is = refl;
-        hands = inr (inl (record { status_is = is; saves_are = save; sink_is = refl }));
-      },
+      answered n saves [] (inr (inl (record { status_is = is; saves_are = save; sink_is = refl }))),
       are,
       kept_then (SavesPartIn said.outputs) (part_kept said.outputs) tells,
     )),
@@ -143,16 +132,7 @@ module _ (reading : Reading) (files between files' : Option Files) (shelf mid sh
     all_calls saves saved,
     failed.noted,
     inr (inr (
-      record {
-        texts = texts;
-        unloaded = loads.0;
-        ends = loads.1;
-        said = said;
-        answers = answers;
-        saves = saves;
-        shelf_is = refl;
-        hands = inr (inr (record { kept = failed.kept; within = failed.within; status_is = is; saves_are = save; sink_is = refl }));
-      },
+      answered n saves (PutFailed said.report failed.kept ∷ []) (inr (inr (record { kept = failed.kept; within = failed.within; status_is = is; saves_are = save; sink_is = refl }))),
       are,
       kept_then (SavesIn said.outputs) (after_kept said.outputs) tells,
     )),
