@@ -11,7 +11,7 @@ use Rattle.clap.specs.ValueTests.{accepts}
 use Rattle.clap.specs.Faults.{settle_fault, walk_fault, level_fault, check_fault, defaults_fault}
 use Rattle.clap.specs.declared.builder.value_parser.Reading.TheVariants.{AsWritten}
 use Rattle.clap.specs.declared.parser.matches.ValueSource.TheVariants.{CommandLine}
-use Rattle.pb_command.specs.Options.{ValuedOption, Row, Workers, Num, Den, Budget, Lot, Blocks, Certificate, Journal, is_same, Argument, Placed, Valued, Flag, FlagOption, Plain, Swamp, flag_word, is_same_flag, words_of, placed_words, value_given, flag_given, AreDistinct, IsArgumentOf}
+use Rattle.pb_command.specs.Options.{ValuedOption, Row, Workers, Num, Den, Budget, Lot, Blocks, Certificate, Journal, is_same, Argument, Placed, Valued, Flag, FlagOption, Plain, Swamp, is_same_flag, words_of, placed_words, value_given, flag_given, AreDistinct, IsArgumentOf}
 use Rattle.pb_command.proofs.Walking.{Place, Kind, FirstFile, SecondFile, CertificateFile, JournalFile, Seed, Size, place_id, place_parser, HasOption, HasFlag, HasPlace, at, option_id, flag_id, match_row, held_with, held_flag}
 use Rattle.pb_command.proofs.Walking.{same_option, same_itself, ids_apart, ids_same, place_no_option, option_no_place, place_no_flag, flag_no_place, option_no_flag, flag_no_option, same_flag, same_flag_itself, flag_ids_apart, flag_ids_same, put_last, still_none}
 use Rattle.pb_command.proofs.Walking.{valued_step, placed_step, flag_step, valued_fault, placed_fault, flag_fault, valued_rows, placed_rows, flag_rows, valued_faultless, placed_faultless}

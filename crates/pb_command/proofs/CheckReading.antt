@@ -10,8 +10,8 @@ use Rattle.pb_command.specs.Meaning.{Read, Check, reading_of_words, unless_fault
 use Rattle.pb_command.specs.Options.{Row, Argument, words_of, placed_words, value_given, number_given, AreDistinct, IsArgumentOf, is_of_check, is_flag_of_check, Swamp, flag_given, kind_word, file_words}
 use Rattle.pb_command.proofs.Walking.{Place, Kind, FirstFile, SecondFile, CertificateFile, match_row, flag_rule, defaults_last, last_default_fault, flags_default_fault}
 use Rattle.pb_command.proofs.Arguments.{row_of, rows_for, word_at, FitPlaces, found_flag, walks_all, rows_are, no_fault_at_all}
-use Rattle.pb_command.proofs.Found.{finds, finds_with, flag_read, text_read, number_read, value_fits}
-use Rattle.pb_command.proofs.Shapes.{check_shape, flagless_rules, check_takes, by_check, rules_of_check, no_default_in_check}
+use Rattle.pb_command.proofs.Found.{first_file, finds, finds_with, flag_read, text_read, number_read, value_fits}
+use Rattle.pb_command.proofs.Shapes.{check_shape, flagless_rules, check_takes, by_words, ToCheck, rules_of_check, no_default_in_check}
 
 abbrev pub check_places : List Place
 check_places = Kind ∷ CertificateFile ∷ FirstFile ∷ SecondFile ∷ []
@@ -47,17 +47,12 @@ check_is arguments all distinct fit kind certificate first kind_is certificate_h
     let none = no_fault_at_all check_shape check_places arguments check_takes.strict w no_default_fails
     (ap (λ x. check_fault check_shape x false) same ∙ nothing_missing rows kind certificate first kind_row certificate_row first_row) in
     let are : rows_after check_shape.rules [] (words_of arguments) ≡ rows = rows_are check_shape check_places arguments w ∙ same in
-    by_check (words_of arguments) ∙ (ap₂ unless_faulty none (ap check_of are)
+    by_words ToCheck (words_of arguments) ∙ (ap₂ unless_faulty none (ap check_of are)
     ∙ check_values rows (Some kind) (Some certificate) (Some first) (word_at SecondFile check_places (placed_words arguments)) (Some (number_given Row 0 arguments)) (flag_given Swamp arguments)
     (text_read rows (codes "KIND") (Some kind) kind_row) (text_read rows (codes "CERTIFICATE") (Some certificate) certificate_row) (text_read rows (codes "FIRST_FILE") (Some first) first_row)
     (text_read rows (codes "SECOND_FILE") (word_at SecondFile check_places (placed_words arguments)) (found.place SecondFile))
     (number_read row_option rows (value_given Row arguments) (found.option Row) (λ value given. value_fits is_of_check is_flag_of_check Row value arguments all given))
     (flag_read Swamp arguments bare (found_flag check_places Swamp arguments)))
-
-abbrev first_file : InputNames → Text
-first_file (Grid names) = names.map
-first_file (Tiles board) = board
-first_file (Strips names) = names.domain
 
 files_fit : (input : InputNames) (certificate : Text) → FitPlaces check_places (kind_word input ∷ certificate ∷ file_words input)
 files_fit (Grid names) certificate = (refl, (refl, (refl, (refl, tt))))

@@ -9,11 +9,17 @@ use Rattle.clap.specs.ValueTests.{is_unsigned_in}
 use Rattle.clap.specs.declared.builder.value_parser.Reading.TheVariants.{AsWritten}
 use Rattle.clap.specs.declared.parser.matches.ValueSource.TheVariants.{DefaultValue}
 use Rattle.pb_command.specs.Parser.{NumberOption, row_option, workers_option, num_option, den_option, budget_option, lot_option, blocks_option}
-use Rattle.pb_command.specs.Values.{option_of, flag_of}
+use Rattle.pb_command.specs.Values.{InputNames, Grid, Tiles, Strips, option_of, flag_of}
 use Rattle.pb_command.specs.Meaning.{SolveNumbers, numbers_of}
-use Rattle.pb_command.specs.Options.{ValuedOption, Row, Workers, Num, Den, Budget, Lot, Blocks, is_same, Argument, Placed, Valued, Flag, FlagOption, Plain, Swamp, placed_words, value_given, flag_given, number_given, number_of, IsArgumentOf, is_value_of}
+use Rattle.pb_command.specs.Options.{ValuedOption, Row, Workers, Num, Den, Budget, Lot, Blocks, is_same, Argument, Placed, Valued, Flag, FlagOption, placed_words, value_given, flag_given, number_given, number_of, IsArgumentOf, is_value_of}
 use Rattle.pb_command.proofs.Walking.{Place, place_id, option_id, flag_id, match_row, flag_rule, same_option, flag_no_option, flag_no_place, flag_ids_same}
-use Rattle.pb_command.proofs.Arguments.{row_of, rows_for, word_at, found_option, found_place, found_flag, has_row_is}
+use Rattle.pb_command.proofs.Arguments.{row_of, rows_for, word_at, found_option, found_place, has_row_is}
+
+-- the first file of an input
+abbrev pub first_file : InputNames → Text
+first_file (Grid names) = names.map
+first_file (Tiles board) = board
+first_file (Strips names) = names.domain
 
 -- ---- rows that come last
 

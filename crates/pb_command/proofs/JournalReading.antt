@@ -10,8 +10,8 @@ use Rattle.pb_command.specs.Meaning.{Read, Journal, reading_of_words, unless_fau
 use Rattle.pb_command.specs.Options.{Row, Argument, words_of, placed_words, value_given, number_given, AreDistinct, IsArgumentOf, is_of_check, no_flag, kind_word, file_words}
 use Rattle.pb_command.proofs.Walking.{Place, Kind, FirstFile, SecondFile, JournalFile, match_row, no_defaults, no_default_fault}
 use Rattle.pb_command.proofs.Arguments.{row_of, rows_for, word_at, FitPlaces, walks_all, rows_are, no_fault_at_all}
-use Rattle.pb_command.proofs.Found.{finds, text_read, number_read, value_fits}
-use Rattle.pb_command.proofs.Shapes.{journal_shape, journal_takes, by_journal, no_default_in_journal}
+use Rattle.pb_command.proofs.Found.{first_file, finds, text_read, number_read, value_fits}
+use Rattle.pb_command.proofs.Shapes.{journal_shape, journal_takes, by_words, ToJournal, no_default_in_journal}
 
 abbrev pub journal_places : List Place
 journal_places = Kind ∷ JournalFile ∷ FirstFile ∷ SecondFile ∷ []
@@ -45,16 +45,11 @@ journal_is arguments all distinct fit kind journal first kind_is journal_here fi
     let none = no_fault_at_all journal_shape journal_places arguments journal_takes.strict w (no_default_fault rows journal_shape.rules no_default_in_journal)
     (ap (λ x. check_fault journal_shape x false) same ∙ nothing_missing rows kind journal first kind_row journal_row first_row) in
     let are : rows_after journal_shape.rules [] (words_of arguments) ≡ rows = rows_are journal_shape journal_places arguments w ∙ same in
-    by_journal (words_of arguments) ∙ (ap₂ unless_faulty none (ap journal_of are)
+    by_words ToJournal (words_of arguments) ∙ (ap₂ unless_faulty none (ap journal_of are)
     ∙ journal_values rows (Some kind) (Some journal) (Some first) (word_at SecondFile journal_places (placed_words arguments)) (Some (number_given Row 0 arguments))
     (text_read rows (codes "KIND") (Some kind) kind_row) (text_read rows (codes "JOURNAL") (Some journal) journal_row) (text_read rows (codes "FIRST_FILE") (Some first) first_row)
     (text_read rows (codes "SECOND_FILE") (word_at SecondFile journal_places (placed_words arguments)) (found.place SecondFile))
     (number_read row_option rows (value_given Row arguments) (found.option Row) (λ value given. value_fits is_of_check no_flag Row value arguments all given)))
-
-abbrev first_file : InputNames → Text
-first_file (Grid names) = names.map
-first_file (Tiles board) = board
-first_file (Strips names) = names.domain
 
 files_fit : (input : InputNames) (journal : Text) → FitPlaces journal_places (kind_word input ∷ journal ∷ file_words input)
 files_fit (Grid names) journal = (refl, (refl, (refl, (refl, tt))))

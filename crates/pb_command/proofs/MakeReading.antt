@@ -15,7 +15,7 @@ use Rattle.pb_command.specs.declared.refusal.CommandFault.TheVariants as fault
 use Rattle.pb_command.proofs.Walking.{Place, Kind, Seed, Size, match_row, no_defaults, no_default_fault}
 use Rattle.pb_command.proofs.Arguments.{row_of, rows_for, FitPlaces, walks_all, rows_are, no_fault_at_all}
 use Rattle.pb_command.proofs.Found.{finds, text_read, number_read, value_fits}
-use Rattle.pb_command.proofs.Shapes.{make_shape, make_takes, by_make, no_default_in_make}
+use Rattle.pb_command.proofs.Shapes.{make_shape, make_takes, by_words, ToMake, no_default_in_make}
 
 abbrev pub make_places : List Place
 make_places = Kind ∷ Seed ∷ Size ∷ []
@@ -57,7 +57,7 @@ make_is arguments all distinct kind seed size placed seed_fits size_fits =
     let none = no_fault_at_all make_shape make_places arguments make_takes.strict w (no_default_fault rows make_shape.rules no_default_in_make)
     (ap (λ x. check_fault make_shape x false) same ∙ nothing_missing rows kind seed size kind_row seed_row size_row) in
     let are : rows_after make_shape.rules [] (words_of arguments) ≡ rows = rows_are make_shape make_places arguments w ∙ same in
-    by_make (words_of arguments) ∙ (ap₂ unless_faulty none (ap make_of are)
+    by_words ToMake (words_of arguments) ∙ (ap₂ unless_faulty none (ap make_of are)
     ∙ make_values rows (Some kind) (Some (number_of seed)) (Some (number_of size)) (Some (number_given Workers 1 arguments))
     (text_read rows (codes "KIND") (Some kind) kind_row) (seed_read rows seed seed_row seed_fits) (size_read rows size size_row size_fits)
     (number_read workers_option rows (value_given Workers arguments) (found.option Workers) (λ value given. value_fits is_of_make no_flag Workers value arguments all given)))

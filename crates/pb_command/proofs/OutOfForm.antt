@@ -14,7 +14,7 @@ use Rattle.pb_command.specs.declared.refusal.CommandFault.TheVariants as fault
 use Rattle.pb_command.proofs.Walking.{FailsHere as IsFaulty, HasOption, at, option_id, flag_id, match_row, held_with, valued_step, flag_again, option_accepts}
 use Rattle.pb_command.proofs.Arguments.{row_of, rows_for, found_option, has_flag_row, IsWalkedWhole}
 use Rattle.clap.proofs.OnLiterals.{clap_on_literals}
-use Rattle.pb_command.proofs.Shapes.{solve_shape, make_shape, plainless_rules, solve_takes, by_solve, by_make}
+use Rattle.pb_command.proofs.Shapes.{solve_shape, make_shape, plainless_rules, solve_takes, by_words, ToSolve, ToMake}
 use Rattle.pb_command.proofs.SolveReading.{solve_places, solve_walk, solve_fits}
 
 first_fails : (a b : Kinds) → IsFaulty a → IsFaulty (or_else a b)
@@ -53,7 +53,7 @@ module _ (arguments : List Argument) (w : IsWalkedWhole solve_shape solve_places
       fault_on solve_shape (walk_from nothing_held) (words_of arguments) more
       ∙ ap₂ or_else w.no_fault (ap (λ x. walk_fault solve_shape [] x more) w.walk) in
       let fails : IsFaulty (walk_fault solve_shape [] (walk_from nothing_held) (words_of arguments ++ more)) = subst IsFaulty (sym parts) is in
-      by_solve (words_of arguments ++ more) ∙ is_refused (level_fault solve_shape [] nothing_held (words_of arguments ++ more) false []) _
+      by_words ToSolve (words_of arguments ++ more) ∙ is_refused (level_fault solve_shape [] nothing_held (words_of arguments ++ more) false []) _
       (first_fails (walk_fault solve_shape [] (walk_from nothing_held) (words_of arguments ++ more)) _ fails)
 
   -- or what is held at their end
@@ -66,7 +66,7 @@ module _ (arguments : List Argument) (w : IsWalkedWhole solve_shape solve_places
       let end = fold (walked solve_shape.rules []) (walk_from nothing_held) (words_of arguments ++ more) in
       let fails : IsFaulty (settle_fault solve_shape.rules solve_shape.args_override_self end.held) =
       subst (λ (x : Walk). IsFaulty (settle_fault solve_shape.rules solve_shape.args_override_self x.held)) (sym whole) is in
-      by_solve (words_of arguments ++ more) ∙ is_refused (level_fault solve_shape [] nothing_held (words_of arguments ++ more) false []) _
+      by_words ToSolve (words_of arguments ++ more) ∙ is_refused (level_fault solve_shape [] nothing_held (words_of arguments ++ more) false []) _
       (second_fails (walk_fault solve_shape [] (walk_from nothing_held) (words_of arguments ++ more)) _
       (first_fails (settle_fault solve_shape.rules solve_shape.args_override_self end.held) _ fails))
 
@@ -137,4 +137,4 @@ unfolding make_shape clap_on_literals
 seed_fails = tt
 
 pub seed_refused : reading_of_words (codes "make" ∷ codes "grid" ∷ codes "4294967296" ∷ codes "1" ∷ []) ≡ Refused fault.Form
-seed_refused = by_make (codes "grid" ∷ codes "4294967296" ∷ codes "1" ∷ []) ∙ is_refused _ _ seed_fails
+seed_refused = by_words ToMake (codes "grid" ∷ codes "4294967296" ∷ codes "1" ∷ []) ∙ is_refused _ _ seed_fails

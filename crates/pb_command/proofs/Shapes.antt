@@ -2,12 +2,12 @@
 use Rattle.std.proofs.Common.{◌≡◌, ◌∙◌, ◌++◌, true, false, List, [], ◌∷◌, refl, ap, ap₂, codes}
 use Rattle.std.specs.List.{AllByRecursion}
 use Rattle.std.specs.Prelude.{fold, map}
-use Rattle.clap.specs.Walk.{Rule, Text, Walk, walked, walk_from, nothing_held, rows_after, stop_after}
+use Rattle.clap.specs.Walk.{Rule, Row as MatchRow, Text, Walk, walked, walk_from, nothing_held, rows_after, stop_after}
 use Rattle.clap.specs.Simple.{App, Shape, built, new_shape, names_of, argument_words, entered}
 use Rattle.clap.specs.Faults.{built_fault, level_fault, walk_fault, defaults_fault}
 use Rattle.clap.specs.Kinds.{Kinds, or_else}
 use Rattle.pb_command.specs.Parser.{the_program}
-use Rattle.pb_command.specs.Meaning.{reading_of_words, unless_faulty, command_met, solve_of, check_of, journal_of, make_of}
+use Rattle.pb_command.specs.Meaning.{Reading, reading_of_words, unless_faulty, command_met, solve_of, check_of, journal_of, make_of}
 use Rattle.pb_command.specs.Options.{ValuedOption, Row, Workers, Num, Den, Budget, Lot, Blocks, Certificate, Journal, is_of_solve, is_of_check, is_of_make, FlagOption, Plain, Swamp, every_flag, no_flag, is_flag_of_check}
 use Rattle.pb_command.proofs.Declared.{program_on_literals}
 use Rattle.pb_command.proofs.Walking.{Kind, FirstFile, SecondFile, CertificateFile, JournalFile, Seed, Size, HasOption, HasFlag, HasNoDefault, placed_rule, valued_rule, flag_rule}
@@ -78,97 +78,66 @@ or_none : (kinds : Kinds) → or_else kinds [] ≡ kinds
 or_none [] = refl
 or_none (k ∷ ks) = refl
 
--- ---- `solve` is read by its own words
+-- ---- each subcommand is read by its own words
 
-walk_to_solve : (words : List Text) → fold (walked top_shape.rules (names_of program_built)) (walk_from nothing_held) (codes "solve" ∷ words) ≡ stopped_at (walk_from nothing_held) (codes "solve") words
+pub data Subcommand : Type 0 where
+  ToSolve : Subcommand
+  ToCheck : Subcommand
+  ToJournal : Subcommand
+  ToMake : Subcommand
+
+abbrev pub name_of : Subcommand → Text
+name_of ToSolve = codes "solve"
+name_of ToCheck = codes "check"
+name_of ToJournal = codes "journal"
+name_of ToMake = codes "make"
+
+abbrev pub shape_of : Subcommand → Shape
+shape_of ToSolve = solve_shape
+shape_of ToCheck = check_shape
+shape_of ToJournal = journal_shape
+shape_of ToMake = make_shape
+
+abbrev pub meaning_of : Subcommand → List MatchRow → Reading
+meaning_of ToSolve = solve_of
+meaning_of ToCheck = check_of
+meaning_of ToJournal = journal_of
+meaning_of ToMake = make_of
+
+walk_to : (c : Subcommand) (words : List Text)
+    → fold (walked top_shape.rules (names_of program_built)) (walk_from nothing_held) (name_of c ∷ words) ≡ stopped_at (walk_from nothing_held) (name_of c) words
 unfolding walked program_built top_shape solve_shape check_shape journal_shape make_shape
-walk_to_solve words = stays_stopped top_shape.rules (names_of program_built) (walk_from nothing_held) (codes "solve") [] words
+walk_to ToSolve words = stays_stopped top_shape.rules (names_of program_built) (walk_from nothing_held) (codes "solve") [] words
+walk_to ToCheck words = stays_stopped top_shape.rules (names_of program_built) (walk_from nothing_held) (codes "check") [] words
+walk_to ToJournal words = stays_stopped top_shape.rules (names_of program_built) (walk_from nothing_held) (codes "journal") [] words
+walk_to ToMake words = stays_stopped top_shape.rules (names_of program_built) (walk_from nothing_held) (codes "make") [] words
 
-no_fault_to_solve : (words : List Text) → walk_fault top_shape (names_of program_built) (walk_from nothing_held) (codes "solve" ∷ words) ≡ []
+no_fault_to : (c : Subcommand) (words : List Text) → walk_fault top_shape (names_of program_built) (walk_from nothing_held) (name_of c ∷ words) ≡ []
 unfolding walked walk_fault program_built top_shape solve_shape check_shape journal_shape make_shape
-no_fault_to_solve words = no_fault_when_stopped top_shape (names_of program_built) (walk_from nothing_held) (codes "solve") [] words
+no_fault_to ToSolve words = no_fault_when_stopped top_shape (names_of program_built) (walk_from nothing_held) (codes "solve") [] words
+no_fault_to ToCheck words = no_fault_when_stopped top_shape (names_of program_built) (walk_from nothing_held) (codes "check") [] words
+no_fault_to ToJournal words = no_fault_when_stopped top_shape (names_of program_built) (walk_from nothing_held) (codes "journal") [] words
+no_fault_to ToMake words = no_fault_when_stopped top_shape (names_of program_built) (walk_from nothing_held) (codes "make") [] words
 
-fault_of_solve : (words : List Text) → built_fault program_built nothing_held (codes "solve" ∷ words) ≡ or_else (level_fault solve_shape [] nothing_held words false []) []
+fault_of : (c : Subcommand) (words : List Text)
+    → built_fault program_built nothing_held (name_of c ∷ words) ≡ or_else (level_fault (shape_of c) [] nothing_held words false []) []
 unfolding program_built top_shape solve_shape check_shape journal_shape make_shape defaults_fault
-fault_of_solve words = rw (no_fault_to_solve words) (rw (walk_to_solve words) refl)
+fault_of ToSolve words = rw (no_fault_to ToSolve words) (rw (walk_to ToSolve words) refl)
+fault_of ToCheck words = rw (no_fault_to ToCheck words) (rw (walk_to ToCheck words) refl)
+fault_of ToJournal words = rw (no_fault_to ToJournal words) (rw (walk_to ToJournal words) refl)
+fault_of ToMake words = rw (no_fault_to ToMake words) (rw (walk_to ToMake words) refl)
 
-values_of_solve : (words : List Text)
-    → command_met (entered program_built (stop_after program_built.top.rules (names_of program_built) (codes "solve" ∷ words))) ≡ solve_of (rows_after solve_shape.rules [] words)
+values_of : (c : Subcommand) (words : List Text)
+    → command_met (entered program_built (stop_after program_built.top.rules (names_of program_built) (name_of c ∷ words))) ≡ meaning_of c (rows_after (shape_of c).rules [] words)
 unfolding program_built top_shape solve_shape check_shape journal_shape make_shape
-values_of_solve words = ap (λ (w : Walk). command_met (entered program_built w.stopped)) (walk_to_solve words)
+values_of ToSolve words = ap (λ (w : Walk). command_met (entered program_built w.stopped)) (walk_to ToSolve words)
+values_of ToCheck words = ap (λ (w : Walk). command_met (entered program_built w.stopped)) (walk_to ToCheck words)
+values_of ToJournal words = ap (λ (w : Walk). command_met (entered program_built w.stopped)) (walk_to ToJournal words)
+values_of ToMake words = ap (λ (w : Walk). command_met (entered program_built w.stopped)) (walk_to ToMake words)
 
-pub by_solve : (words : List Text)
-    → reading_of_words (codes "solve" ∷ words) ≡ unless_faulty (level_fault solve_shape [] nothing_held words false []) (solve_of (rows_after solve_shape.rules [] words))
-by_solve words = by_built (codes "solve" ∷ words) ∙ ap₂ unless_faulty (fault_of_solve words ∙ or_none _) (values_of_solve words)
-
--- ---- `check` is read by its own words
-
-walk_to_check : (words : List Text) → fold (walked top_shape.rules (names_of program_built)) (walk_from nothing_held) (codes "check" ∷ words) ≡ stopped_at (walk_from nothing_held) (codes "check") words
-unfolding walked program_built top_shape solve_shape check_shape journal_shape make_shape
-walk_to_check words = stays_stopped top_shape.rules (names_of program_built) (walk_from nothing_held) (codes "check") [] words
-
-no_fault_to_check : (words : List Text) → walk_fault top_shape (names_of program_built) (walk_from nothing_held) (codes "check" ∷ words) ≡ []
-unfolding walked walk_fault program_built top_shape solve_shape check_shape journal_shape make_shape
-no_fault_to_check words = no_fault_when_stopped top_shape (names_of program_built) (walk_from nothing_held) (codes "check") [] words
-
-fault_of_check : (words : List Text) → built_fault program_built nothing_held (codes "check" ∷ words) ≡ or_else (level_fault check_shape [] nothing_held words false []) []
-unfolding program_built top_shape solve_shape check_shape journal_shape make_shape defaults_fault
-fault_of_check words = rw (no_fault_to_check words) (rw (walk_to_check words) refl)
-
-values_of_check : (words : List Text)
-    → command_met (entered program_built (stop_after program_built.top.rules (names_of program_built) (codes "check" ∷ words))) ≡ check_of (rows_after check_shape.rules [] words)
-unfolding program_built top_shape solve_shape check_shape journal_shape make_shape
-values_of_check words = ap (λ (w : Walk). command_met (entered program_built w.stopped)) (walk_to_check words)
-
-pub by_check : (words : List Text)
-    → reading_of_words (codes "check" ∷ words) ≡ unless_faulty (level_fault check_shape [] nothing_held words false []) (check_of (rows_after check_shape.rules [] words))
-by_check words = by_built (codes "check" ∷ words) ∙ ap₂ unless_faulty (fault_of_check words ∙ or_none _) (values_of_check words)
-
--- ---- `journal` is read by its own words
-
-walk_to_journal : (words : List Text) → fold (walked top_shape.rules (names_of program_built)) (walk_from nothing_held) (codes "journal" ∷ words) ≡ stopped_at (walk_from nothing_held) (codes "journal") words
-unfolding walked program_built top_shape solve_shape check_shape journal_shape make_shape
-walk_to_journal words = stays_stopped top_shape.rules (names_of program_built) (walk_from nothing_held) (codes "journal") [] words
-
-no_fault_to_journal : (words : List Text) → walk_fault top_shape (names_of program_built) (walk_from nothing_held) (codes "journal" ∷ words) ≡ []
-unfolding walked walk_fault program_built top_shape solve_shape check_shape journal_shape make_shape
-no_fault_to_journal words = no_fault_when_stopped top_shape (names_of program_built) (walk_from nothing_held) (codes "journal") [] words
-
-fault_of_journal : (words : List Text) → built_fault program_built nothing_held (codes "journal" ∷ words) ≡ or_else (level_fault journal_shape [] nothing_held words false []) []
-unfolding program_built top_shape solve_shape check_shape journal_shape make_shape defaults_fault
-fault_of_journal words = rw (no_fault_to_journal words) (rw (walk_to_journal words) refl)
-
-values_of_journal : (words : List Text)
-    → command_met (entered program_built (stop_after program_built.top.rules (names_of program_built) (codes "journal" ∷ words))) ≡ journal_of (rows_after journal_shape.rules [] words)
-unfolding program_built top_shape solve_shape check_shape journal_shape make_shape
-values_of_journal words = ap (λ (w : Walk). command_met (entered program_built w.stopped)) (walk_to_journal words)
-
-pub by_journal : (words : List Text)
-    → reading_of_words (codes "journal" ∷ words) ≡ unless_faulty (level_fault journal_shape [] nothing_held words false []) (journal_of (rows_after journal_shape.rules [] words))
-by_journal words = by_built (codes "journal" ∷ words) ∙ ap₂ unless_faulty (fault_of_journal words ∙ or_none _) (values_of_journal words)
-
--- ---- `make` is read by its own words
-
-walk_to_make : (words : List Text) → fold (walked top_shape.rules (names_of program_built)) (walk_from nothing_held) (codes "make" ∷ words) ≡ stopped_at (walk_from nothing_held) (codes "make") words
-unfolding walked program_built top_shape solve_shape check_shape journal_shape make_shape
-walk_to_make words = stays_stopped top_shape.rules (names_of program_built) (walk_from nothing_held) (codes "make") [] words
-
-no_fault_to_make : (words : List Text) → walk_fault top_shape (names_of program_built) (walk_from nothing_held) (codes "make" ∷ words) ≡ []
-unfolding walked walk_fault program_built top_shape solve_shape check_shape journal_shape make_shape
-no_fault_to_make words = no_fault_when_stopped top_shape (names_of program_built) (walk_from nothing_held) (codes "make") [] words
-
-fault_of_make : (words : List Text) → built_fault program_built nothing_held (codes "make" ∷ words) ≡ or_else (level_fault make_shape [] nothing_held words false []) []
-unfolding program_built top_shape solve_shape check_shape journal_shape make_shape defaults_fault
-fault_of_make words = rw (no_fault_to_make words) (rw (walk_to_make words) refl)
-
-values_of_make : (words : List Text)
-    → command_met (entered program_built (stop_after program_built.top.rules (names_of program_built) (codes "make" ∷ words))) ≡ make_of (rows_after make_shape.rules [] words)
-unfolding program_built top_shape solve_shape check_shape journal_shape make_shape
-values_of_make words = ap (λ (w : Walk). command_met (entered program_built w.stopped)) (walk_to_make words)
-
-pub by_make : (words : List Text)
-    → reading_of_words (codes "make" ∷ words) ≡ unless_faulty (level_fault make_shape [] nothing_held words false []) (make_of (rows_after make_shape.rules [] words))
-by_make words = by_built (codes "make" ∷ words) ∙ ap₂ unless_faulty (fault_of_make words ∙ or_none _) (values_of_make words)
+pub by_words : (c : Subcommand) (words : List Text)
+    → reading_of_words (name_of c ∷ words) ≡ unless_faulty (level_fault (shape_of c) [] nothing_held words false []) (meaning_of c (rows_after (shape_of c).rules [] words))
+by_words c words = by_built (name_of c ∷ words) ∙ ap₂ unless_faulty (fault_of c words ∙ or_none _) (values_of c words)
 
 -- ---- what the walks ask of them
 

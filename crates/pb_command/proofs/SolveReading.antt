@@ -12,8 +12,8 @@ use Rattle.pb_command.specs.Options.{Num, Den, Certificate, Journal, number_give
 use Rattle.pb_command.specs.declared.refusal.CommandFault.TheVariants as fault
 use Rattle.pb_command.proofs.Walking.{Place, Kind, FirstFile, SecondFile, flag_id, match_row, flag_rule, defaults_last, last_default_fault, flags_default_fault}
 use Rattle.pb_command.proofs.Arguments.{row_of, rows_for, word_at, FitPlaces, IsWalkedWhole, found_flag, walks_all, rows_are, no_fault_at_all}
-use Rattle.pb_command.proofs.Found.{Finds, finds, finds_with, row_beside_flag, flag_read, flag_read_beside, text_read, numbers_given, numbers_read}
-use Rattle.pb_command.proofs.Shapes.{solve_shape, plainless_rules, solve_takes, by_solve, no_default_in_solve, rules_of_solve}
+use Rattle.pb_command.proofs.Found.{first_file, Finds, finds, finds_with, row_beside_flag, flag_read, flag_read_beside, text_read, numbers_given, numbers_read}
+use Rattle.pb_command.proofs.Shapes.{solve_shape, plainless_rules, solve_takes, by_words, ToSolve, no_default_in_solve, rules_of_solve}
 
 abbrev pub solve_places : List Place
 solve_places = Kind ∷ FirstFile ∷ SecondFile ∷ []
@@ -78,7 +78,7 @@ solve_is arguments all distinct fit kind first kind_is first_is =
     let none = no_fault_at_all solve_shape solve_places arguments solve_takes.strict w (no_default_fails arguments)
     (ap (λ x. check_fault solve_shape x false) (with_flags arguments) ∙ nothing_missing rows kind first kind_row first_row) in
     let are : rows_after solve_shape.rules [] (words_of arguments) ≡ rows = rows_are solve_shape solve_places arguments w ∙ with_flags arguments in
-    by_solve (words_of arguments) ∙ (ap₂ unless_faulty none (ap solve_of are)
+    by_words ToSolve (words_of arguments) ∙ (ap₂ unless_faulty none (ap solve_of are)
     ∙ solve_values rows (Some kind) (Some first) (word_at SecondFile solve_places (placed_words arguments)) (value_given Certificate arguments) (value_given Journal arguments) (flag_given Plain arguments) (flag_given Swamp arguments) arguments
     (text_read rows (codes "KIND") (Some kind) kind_row) (text_read rows (codes "FIRST_FILE") (Some first) first_row)
     (text_read rows (codes "SECOND_FILE") (word_at SecondFile solve_places (placed_words arguments)) (found.place SecondFile))
@@ -87,11 +87,6 @@ solve_is arguments all distinct fit kind first kind_is first_is =
     (text_read rows (codes "trace") (value_given Journal arguments) (found.option Journal)))
 
 -- the first of the files
-abbrev first_file : InputNames → Text
-first_file (Grid names) = names.map
-first_file (Tiles board) = board
-first_file (Strips names) = names.domain
-
 pub files_fit : (input : InputNames) → FitPlaces solve_places (kind_word input ∷ file_words input)
 files_fit (Grid names) = (refl, (refl, (refl, tt)))
 files_fit (Tiles board) = (refl, (refl, tt))
