@@ -1,4 +1,3 @@
-pub mod Digits
 pub mod Parting
 pub mod Sizes
 pub mod Rows

@@ -3,17 +3,18 @@ use Rattle.std.proofs.Common.{◌≡◌, ℕ, ◌+◌, ◌≤◌, true, ◌&&◌
 use Rattle.std.specs.List.{concat, AllByRecursion}
 use Rattle.std.proofs.lemmas.Bool.{le-leb, eq-eqb}
 use Rattle.std.proofs.lemmas.List.{drop-drop, drop_at}
+use Rattle.pb_lines.specs.ShortNumbers.{IsShortNumber}
 use Rattle.pb_task.specs.declared.parts.Class.{Class}
 use Rattle.pb_grid.specs.declared.error.GridError.TheVariants as errors
 use Rattle.pb_grid.specs.Lines.{lines_of, line_at, words_of}
 use Rattle.pb_grid.specs.Reading.{◌>>=◌, must, are_words, number_named, size_of_map, is_side, class_of_byte, cells_of, row_of_map, rows_of_map, below_map, map_reading}
-use Rattle.pb_grid.specs.Form.{IsNumber, SpellsMap}
+use Rattle.pb_grid.specs.Form.{SpellsMap}
 use Rattle.pb_grid.proofs.Steps.{and_true, is_blank_is, are_words_is, number_named_is}
 
 -- ---- the first four lines
 
 pub said_size : (lines : List (List ℕ)) (height_word width_word : List ℕ) (height width : ℕ) → words_of (line_at lines 1) ≡ codes "type" ∷ codes "octile" ∷ [] → words_of (line_at lines 2) ≡ codes "height" ∷ height_word ∷ []
-    → words_of (line_at lines 3) ≡ codes "width" ∷ width_word ∷ [] → words_of (line_at lines 4) ≡ codes "map" ∷ [] → IsNumber height_word height → IsNumber width_word width → size_of_map lines ≡ Ok (height, width)
+    → words_of (line_at lines 3) ≡ codes "width" ∷ width_word ∷ [] → words_of (line_at lines 4) ≡ codes "map" ∷ [] → IsShortNumber height_word height → IsShortNumber width_word width → size_of_map lines ≡ Ok (height, width)
 unfolding size_of_map
 said_size lines height_word width_word height width a b c d height_is width_is =
     let p : are_words (words_of (line_at lines 1)) (codes "type" ∷ codes "octile" ∷ []) ≡ true = ap (λ (ws : List (List ℕ)). are_words ws (codes "type" ∷ codes "octile" ∷ [])) a ∙ are_words_is (codes "type" ∷ codes "octile" ∷ []) in

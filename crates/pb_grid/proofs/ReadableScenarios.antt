@@ -3,18 +3,19 @@ use Rattle.std.proofs.Common.{suc, ◌≡◌, ℕ, ◌+◌, ◌≤◌, Bool, tru
 use Rattle.std.specs.List.{slice_get, starts_with, filter}
 use Rattle.std.proofs.lemmas.Bool.{eqb-true}
 use Rattle.std.proofs.lemmas.List.{reverse-append, length-reverse}
+use Rattle.pb_lines.specs.ShortNumbers.{short_number_of, IsShortNumber}
+use Rattle.pb_lines.proofs.ShortNumbers.{reads_short_number}
 use Rattle.pb_grid.specs.declared.error.GridError.TheVariants as errors
 use Rattle.pb_grid.specs.declared.scenario.ScenarioParts.{ScenarioParts}
-use Rattle.pb_grid.specs.Lines.{lines_of, line_at, words_of, is_blank_line, number_of}
+use Rattle.pb_grid.specs.Lines.{lines_of, line_at, words_of, is_blank_line}
 use Rattle.pb_grid.specs.Reading.{◌>>=◌, wanted, must, rows_of_scenario, pair_of, scenario_of, scenario_of_words, scenario_reading}
-use Rattle.pb_grid.specs.Form.{IsNumber, SpellsRow, SpellsScenario}
+use Rattle.pb_grid.specs.Form.{SpellsRow, SpellsScenario}
 use Rattle.pb_grid.proofs.Chosen.{rows_from, nine}
-use Rattle.pb_grid.proofs.Steps.{number_of_is}
 
 -- ---- the numbers of a row
 
-pair_read : (x y : List ℕ) (pair : ℕ × ℕ) → IsNumber x pair.0 × IsNumber y pair.1 → pair_of x y ≡ Some pair
-pair_read x y pair is = let p : number_of x ≡ Some pair.0 = number_of_is x pair.0 is.0 in let q : number_of y ≡ Some pair.1 = number_of_is y pair.1 is.1 in rw (p, q) refl
+pair_read : (x y : List ℕ) (pair : ℕ × ℕ) → IsShortNumber x pair.0 × IsShortNumber y pair.1 → pair_of x y ≡ Some pair
+pair_read x y pair is = let p : short_number_of x ≡ Some pair.0 = reads_short_number x pair.0 is.0 in let q : short_number_of y ≡ Some pair.1 = reads_short_number y pair.1 is.1 in rw (p, q) refl
 
 pub row_read : (line : List ℕ) (width height : ℕ) (start goal : ℕ × ℕ) → SpellsRow line width height start goal → scenario_of_words (reverse (words_of line)) ≡ Some (record { width = width; height = height; start = start; goal = goal })
 row_read line width height start goal is = ap scenario_of_words words ∙ last (reverse (is.bucket ∷ is.name)) (length-reverse (is.bucket ∷ is.name)) where

@@ -4,24 +4,26 @@ use Rattle.std.specs.List.{slice_get, starts_with, filter}
 use Rattle.std.proofs.lemmas.Bool.Decides.{Decides-eqb}
 use Rattle.std.proofs.lemmas.List.{reverse-append, reverse-reverse, length-reverse}
 use Rattle.std.proofs.lemmas.Slice.Eq.{starts_is}
+use Rattle.pb_lines.specs.ShortNumbers.{short_number_of, IsShortNumber}
+use Rattle.pb_lines.proofs.ShortNumbers.{spells_short_number}
 use Rattle.pb_grid.specs.declared.error.GridError.TheVariants as errors
 use Rattle.pb_grid.specs.declared.scenario.ScenarioParts.{ScenarioParts}
-use Rattle.pb_grid.specs.Lines.{lines_of, line_at, words_of, is_blank_line, number_of}
+use Rattle.pb_grid.specs.Lines.{lines_of, line_at, words_of, is_blank_line}
 use Rattle.pb_grid.specs.Reading.{wanted, must, rows_of_scenario, pair_of, scenario_of, scenario_of_words, scenario_reading}
-use Rattle.pb_grid.specs.Form.{IsNumber, SpellsRow, SpellsScenario}
+use Rattle.pb_grid.specs.Form.{SpellsRow, SpellsScenario}
 use Rattle.pb_grid.proofs.Chosen.{rows_from, fewer, nine}
-use Rattle.pb_grid.proofs.Steps.{some_is, bind_ok, must_ok, wanted_ok, number_is}
+use Rattle.pb_grid.proofs.Steps.{some_is, bind_ok, must_ok, wanted_ok}
 
 -- ---- the numbers of a row
 
-pairs_are : (x y : List ℕ) (pair : ℕ × ℕ) → pair_of x y ≡ Some pair → IsNumber x pair.0 × IsNumber y pair.1
-pairs_are x y pair e = go (number_of x) (number_of y) refl refl e where
-  go : (a b : Option ℕ) → number_of x ≡ a → number_of y ≡ b → pair_of x y ≡ Some pair → IsNumber x pair.0 × IsNumber y pair.1
+pairs_are : (x y : List ℕ) (pair : ℕ × ℕ) → pair_of x y ≡ Some pair → IsShortNumber x pair.0 × IsShortNumber y pair.1
+pairs_are x y pair e = go (short_number_of x) (short_number_of y) refl refl e where
+  go : (a b : Option ℕ) → short_number_of x ≡ a → short_number_of y ≡ b → pair_of x y ≡ Some pair → IsShortNumber x pair.0 × IsShortNumber y pair.1
   go None b p q e = let no : pair_of x y ≡ None = rw p refl in cc
   go (Some m) None p q e = let no : pair_of x y ≡ None = rw (p, q) refl in cc
   go (Some m) (Some n) p q e =
       let is : pair_of x y ≡ Some (m, n) = rw (p, q) refl in
-      subst (λ (s : ℕ × ℕ). IsNumber x s.0 × IsNumber y s.1) (some_is (m, n) pair (sym is ∙ e)) (number_is x m p, number_is y n q)
+      subst (λ (s : ℕ × ℕ). IsShortNumber x s.0 × IsShortNumber y s.1) (some_is (m, n) pair (sym is ∙ e)) (spells_short_number x m p, spells_short_number y n q)
 
 record AllPairs (size start goal : Option (ℕ × ℕ)) (parts : ScenarioParts) : Type 0 where
   pub size_is : size ≡ Some (parts.width, parts.height)
@@ -58,7 +60,7 @@ row_of line parts (way ∷ goal_y ∷ goal_x ∷ start_y ∷ start_x ∷ height 
     front (reverse (name ∷ bucket ∷ more)) (length-reverse (name ∷ bucket ∷ more)) (turned way goal_y goal_x start_y start_x height width (name ∷ bucket ∷ more) (words_of line) is) size
     (pairs_are start_x start_y parts.start pairs.start_is) (pairs_are goal_x goal_y parts.goal pairs.goal_is) where
       front : (others : List (List ℕ)) → length others ≡ length (name ∷ bucket ∷ more) → words_of line ≡ others ++ width ∷ height ∷ start_x ∷ start_y ∷ goal_x ∷ goal_y ∷ way ∷ []
-          → IsNumber width parts.width × IsNumber height parts.height → IsNumber start_x parts.start.0 × IsNumber start_y parts.start.1 → IsNumber goal_x parts.goal.0 × IsNumber goal_y parts.goal.1
+          → IsShortNumber width parts.width × IsShortNumber height parts.height → IsShortNumber start_x parts.start.0 × IsShortNumber start_y parts.start.1 → IsShortNumber goal_x parts.goal.0 × IsShortNumber goal_y parts.goal.1
           → SpellsRow line parts.width parts.height parts.start parts.goal
       front [] len words size start goal = absurd (omega arith)
       front (first ∷ others) len words size start goal = record {

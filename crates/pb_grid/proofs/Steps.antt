@@ -1,14 +1,13 @@
 -- What lies behind a reading that went well, step by step.
-use Rattle.std.proofs.Common.{◌≡◌, ℕ, Bool, true, false, ◌&&◌, cond, Option, Some, None, Result, Ok, Err, List, [], ◌∷◌, length, eqb, leb, refl, sym, ap, ◌∙◌, arith}
-use Rattle.std.specs.Char.{is_ascii_digit}
-use Rattle.std.specs.List.{list_all}
+use Rattle.std.proofs.Common.{◌≡◌, ℕ, Bool, true, false, ◌&&◌, cond, Option, Some, None, Result, Ok, Err, List, [], ◌∷◌, length, eqb, refl, ap, ◌∙◌, arith}
 use Rattle.std.specs.Str.{bytes_eq}
-use Rattle.std.proofs.lemmas.Bool.{leb-true, le-leb, eqb-true}
+use Rattle.std.proofs.lemmas.Bool.{eqb-true}
 use Rattle.std.proofs.lemmas.Slice.Eq.{bytes_eq-Decides}
 use Rattle.pb_grid.specs.declared.error.GridError.{GridError}
-use Rattle.pb_grid.specs.Lines.{words_of, is_blank_line, number_of, is_number, value_behind}
+use Rattle.pb_lines.specs.ShortNumbers.{short_number_of, IsShortNumber}
+use Rattle.pb_lines.proofs.ShortNumbers.{spells_short_number, reads_short_number}
+use Rattle.pb_grid.specs.Lines.{words_of, is_blank_line}
 use Rattle.pb_grid.specs.Reading.{◌>>=◌, wanted, must, are_words, number_named}
-use Rattle.pb_grid.specs.Form.{IsNumber}
 
 -- ---- results
 
@@ -75,40 +74,19 @@ are_words_is (word ∷ words) = and_true (bytes_eq word word) (are_words words w
 
 -- ---- numbers
 
-pub number_is : (word : List ℕ) (number : ℕ) → number_of word ≡ Some number → IsNumber word number
-unfolding number_of
-number_is word number e =
-    let found = if_some (is_number word) (Some (value_behind 0 word)) number e in
-    let one = both_true (leb 1 (length word)) (leb (length word) 9 && list_all is_ascii_digit word) found.0 in
-    let two = both_true (leb (length word) 9) (list_all is_ascii_digit word) one.1 in
-    record {
-      some = leb-true 1 (length word) one.0;
-      most = leb-true (length word) 9 two.0;
-      digits = two.1;
-      value = sym (some_is (value_behind 0 word) number found.1);
-    }
-
-pub number_of_is : (word : List ℕ) (number : ℕ) → IsNumber word number → number_of word ≡ Some number
-unfolding number_of
-number_of_is word number is =
-    ap (λ b. cond b (Some (value_behind 0 word)) None)
-    (and_true (leb 1 (length word)) (leb (length word) 9 && list_all is_ascii_digit word) (le-leb 1 (length word) is.some)
-    (and_true (leb (length word) 9) (list_all is_ascii_digit word) (le-leb (length word) 9 is.most) is.digits))
-    ∙ ap Some (sym is.value)
-
 pub record Named (name : List ℕ) (words : List (List ℕ)) (number : ℕ) : Type 0 where
   pub word : List ℕ
   pub words_are : words ≡ name ∷ word ∷ []
-  pub number_is : IsNumber word number
+  pub number_is : IsShortNumber word number
 
 pub named_is : (name : List ℕ) (words : List (List ℕ)) (number : ℕ) → number_named name words ≡ Some number → Named name words number
 named_is name [] number e = cc
 named_is name (word ∷ []) number e = cc
 named_is name (word ∷ digits ∷ []) number e =
-    let found = if_some (bytes_eq word name) (number_of digits) number e in
+    let found = if_some (bytes_eq word name) (short_number_of digits) number e in
     let same : word ≡ name = (bytes_eq-Decides word name).0 found.0 in
-    record { word = digits; words_are = λ i. same i ∷ digits ∷ []; number_is = number_is digits number found.1 }
+    record { word = digits; words_are = λ i. same i ∷ digits ∷ []; number_is = spells_short_number digits number found.1 }
 named_is name (word ∷ digits ∷ more ∷ words) number e = cc
 
-pub number_named_is : (name word : List ℕ) (number : ℕ) → IsNumber word number → number_named name (name ∷ word ∷ []) ≡ Some number
-number_named_is name word number is = ap (λ b. cond b (number_of word) None) ((bytes_eq-Decides name name).1 refl) ∙ number_of_is word number is
+pub number_named_is : (name word : List ℕ) (number : ℕ) → IsShortNumber word number → number_named name (name ∷ word ∷ []) ≡ Some number
+number_named_is name word number is = ap (λ b. cond b (short_number_of word) None) ((bytes_eq-Decides name name).1 refl) ∙ reads_short_number word number is

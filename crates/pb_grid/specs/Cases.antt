@@ -1,19 +1,20 @@
 -- When each refusal is told, in the formats' own words: what is judged before the fault is as it must be, and then comes the fault.
 use Rattle.std.specs.Prelude.{◌≡◌, ◌≢◌, ℕ, zero, suc, ◌+◌, ◌≤◌, ◌<◌, false, IsTrue, List, [], ◌∷◌, ◌++◌, length, drop, map, filter, codes, Some, None, not, ◌⊎◌}
 use Rattle.std.specs.List.{AllByRecursion}
+use Rattle.pb_lines.specs.ShortNumbers.{IsShortNumber}
 use Rattle.pb_task.specs.declared.parts.Class.{Class}
 use Rattle.pb_task.specs.declared.parts.GridParts.{GridParts}
 use Rattle.pb_grid.specs.declared.error.GridError.{GridError}
 use Rattle.pb_grid.specs.declared.error.GridError.TheVariants as errors
 use Rattle.pb_grid.specs.Lines.{lines_of, line_at, words_of, is_blank_line}
 use Rattle.pb_grid.specs.Reading.{class_of_byte, is_free}
-use Rattle.pb_grid.specs.Form.{IsNumber, SpellsMap, SpellsRow, SpellsScenario}
+use Rattle.pb_grid.specs.Form.{SpellsMap, SpellsRow, SpellsScenario}
 
 -- ---- the first four lines of a map
 
 -- the words are this name and a number
 abbrev pub NamesNumber : (name : List ℕ) → (words : List (List ℕ)) → (number : ℕ) → Type 0
-NamesNumber name words number = (word : List ℕ) × (words ≡ name ∷ word ∷ []) × IsNumber word number
+NamesNumber name words number = (word : List ℕ) × (words ≡ name ∷ word ∷ []) × IsShortNumber word number
 
 abbrev pub SaysType : (lines : List (List ℕ)) → Type 0
 SaysType lines = words_of (line_at lines 1) ≡ codes "type" ∷ codes "octile" ∷ []

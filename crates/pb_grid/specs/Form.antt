@@ -1,18 +1,11 @@
 -- How the texts of a MovingAI map and scenario (Sturtevant, "Benchmarks for grid-based pathfinding", 2012) spell a grid.
-use Rattle.std.specs.Prelude.{◌≡◌, ℕ, ◌≤◌, ◌<◌, Bool, true, IsTrue, List, [], ◌∷◌, ◌++◌, length, map, filter, codes, Some, not}
-use Rattle.std.specs.Char.{is_ascii_digit}
-use Rattle.std.specs.List.{list_all, concat, AllByRecursion}
+use Rattle.std.specs.Prelude.{◌≡◌, ℕ, ◌≤◌, ◌<◌, Bool, IsTrue, List, [], ◌∷◌, ◌++◌, length, map, filter, codes, Some, not}
+use Rattle.std.specs.List.{concat, AllByRecursion}
 use Rattle.pb_task.specs.declared.parts.GridParts.{GridParts}
 use Rattle.pb_task.specs.declared.parts.Class.{Class}
-use Rattle.pb_grid.specs.Lines.{lines_of, words_of, is_blank_line, value_behind}
+use Rattle.pb_lines.specs.ShortNumbers.{IsShortNumber}
+use Rattle.pb_grid.specs.Lines.{lines_of, words_of, is_blank_line}
 use Rattle.pb_grid.specs.Reading.{class_of_byte, is_swamp_byte, is_free}
-
--- one to nine decimal digits, and the number that they spell
-pub record IsNumber (word : List ℕ) (number : ℕ) : Type 0 where
-  pub some : 1 ≤ length word
-  pub most : length word ≤ 9
-  pub digits : list_all is_ascii_digit word ≡ true
-  pub value : number ≡ value_behind 0 word
 
 -- ---- maps
 
@@ -37,8 +30,8 @@ pub record SpellsMap (text : List ℕ) (width height : ℕ) (cells : List Class)
   pub height_words : words_of height_line ≡ codes "height" ∷ height_word ∷ []
   pub width_words : words_of width_line ≡ codes "width" ∷ width_word ∷ []
   pub map_words : words_of map_line ≡ codes "map" ∷ []
-  pub height_is : IsNumber height_word height
-  pub width_is : IsNumber width_word width
+  pub height_is : IsShortNumber height_word height
+  pub width_is : IsShortNumber width_word width
   pub height_in : (1 ≤ height) × (height ≤ 2048)
   pub width_in : (1 ≤ width) × (width ≤ 2048)
   pub rows_are : AreRows width height rows cells
@@ -60,10 +53,10 @@ pub record SpellsRow (line : List ℕ) (width height : ℕ) (start goal : ℕ ×
   pub way : List ℕ
   pub words : words_of line ≡ bucket ∷ (name ++ width_word ∷ height_word ∷ start_x ∷ start_y ∷ goal_x ∷ goal_y ∷ way ∷ [])
   pub named : 1 ≤ length name
-  pub width_is : IsNumber width_word width
-  pub height_is : IsNumber height_word height
-  pub start_is : IsNumber start_x start.0 × IsNumber start_y start.1
-  pub goal_is : IsNumber goal_x goal.0 × IsNumber goal_y goal.1
+  pub width_is : IsShortNumber width_word width
+  pub height_is : IsShortNumber height_word height
+  pub start_is : IsShortNumber start_x start.0 × IsShortNumber start_y start.1
+  pub goal_is : IsShortNumber goal_x goal.0 × IsShortNumber goal_y goal.1
 
 -- A scenario is a line that begins with `version`, and then rows, counted from 0, among blank lines. Only the chosen row is looked at.
 pub record SpellsScenario (text : List ℕ) (row width height : ℕ) (start goal : ℕ × ℕ) : Type 0 where

@@ -1,7 +1,6 @@
--- Lines, words and numbers. A text, a line and a word are lists of bytes.
-use Rattle.std.specs.Prelude.{◌≡◌, ◌<◌, ℕ, ◌+◌, ◌-◌, ◌*◌, Bool, true, false, slice_index, List, [], ◌∷◌, length, map, filter, Option, None, Some, unwrap_or, slice_get, if◌then◌else◌, nat_lt, nat_le, ◌==◌, ◌&&◌, ◌||◌}
-use Rattle.std.specs.Char.{is_ascii_digit}
-use Rattle.std.specs.List.{list_all, slice_split}
+-- Lines and words. A text, a line and a word are lists of bytes.
+use Rattle.std.specs.Prelude.{◌≡◌, ◌<◌, ℕ, ◌-◌, Bool, true, false, slice_index, List, [], ◌∷◌, length, map, filter, unwrap_or, slice_get, if◌then◌else◌, nat_lt, ◌==◌, ◌||◌}
+use Rattle.std.specs.List.{slice_split}
 use Rattle.std.specs.Str.Lines.{strip_carriage_return}
 
 -- ---- lines
@@ -47,18 +46,3 @@ words_of line = filter has_bytes (slice_split is_blank line)
 -- a blank line has no words
 abbrev pub is_blank_line : (line : List ℕ) → Bool
 is_blank_line line = length (words_of line) == 0
-
--- ---- numbers
-
--- the value of decimal digits that stand behind a number
-abbrev pub value_behind : (number : ℕ) → (digits : List ℕ) → ℕ
-value_behind number [] = number
-value_behind number (digit ∷ digits) = value_behind (number * 10 + (digit - 48)) digits
-
--- one to nine decimal digits
-abbrev pub is_number : (word : List ℕ) → Bool
-is_number word = nat_le 1 (length word) && (nat_le (length word) 9 && list_all is_ascii_digit word)
-
--- the number that a word spells, if it spells one
-unfoldable pub number_of : (word : List ℕ) → Option ℕ
-number_of word = if is_number word then Some (value_behind 0 word) else None

@@ -12,7 +12,8 @@ use Rattle.pb_grid.specs.declared.error.GridError.{GridError}
 use Rattle.pb_grid.specs.declared.error.GridError.TheVariants as errors
 use Rattle.pb_grid.specs.declared.map.MapParts.{MapParts}
 use Rattle.pb_grid.specs.declared.scenario.ScenarioParts.{ScenarioParts}
-use Rattle.pb_grid.specs.Lines.{lines_of, line_at, words_of, is_blank_line, number_of}
+use Rattle.pb_lines.specs.ShortNumbers.{short_number_of}
+use Rattle.pb_grid.specs.Lines.{lines_of, line_at, words_of, is_blank_line}
 
 -- ---- one refusal after another
 
@@ -49,7 +50,7 @@ are_words (word ∷ words) (want ∷ wanted) = bytes_eq word want && are_words w
 abbrev pub number_named : (name : List ℕ) → (words : List (List ℕ)) → Option ℕ
 number_named name [] = None
 number_named name (word ∷ []) = None
-number_named name (word ∷ number ∷ []) = if bytes_eq word name then number_of number else None
+number_named name (word ∷ number ∷ []) = if bytes_eq word name then short_number_of number else None
 number_named name (word ∷ number ∷ more ∷ words) = None
 
 -- the height and the width
@@ -137,7 +138,7 @@ rows_of_scenario lines = filter (λ row. not (is_blank_line row.1)) (enumerate_f
 
 -- the numbers that two words spell
 abbrev pub pair_of : (x y : List ℕ) → Option (ℕ × ℕ)
-pair_of x y = both (number_of x) (number_of y)
+pair_of x y = both (short_number_of x) (short_number_of y)
   where
     both : Option ℕ → Option ℕ → Option (ℕ × ℕ)
     both None y = None

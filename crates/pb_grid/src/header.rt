@@ -4,7 +4,8 @@ ghost use Rattle.pb_grid.specs.Reading.{Gives, are_words, number_named, size_of_
 
 use crate::error::GridError;
 use crate::lines::next_line;
-use crate::words::{number_of, split_word};
+use crate::words::split_word;
+use pb_lines::short_number_of;
 
 // Whether a line has this word and no other.
 fn is_only_word(line: &[u8], word: &[u8]) -> bool
@@ -39,7 +40,7 @@ fn number_named(line: &[u8], name: &[u8]) -> Option<u32>
     if first != name || split_word(rest).is_some() {
         return None;
     }
-    number_of(second)
+    short_number_of(second)
 }
 
 /// The height and the width that the first four lines of a map say, and the text behind them.

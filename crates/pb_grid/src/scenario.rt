@@ -5,7 +5,8 @@ ghost use Rattle.pb_grid.specs.Reading.{Gives, wanted, pair_of, scenario_of, sce
 
 use crate::error::GridError;
 use crate::lines::{next_line, split_line};
-use crate::words::{is_blank_line, number_of, split_last_word};
+use crate::words::{is_blank_line, split_last_word};
+use pb_lines::short_number_of;
 
 /// What the chosen row of a scenario says.
 #[derive(Clone, Copy, Debug)]
@@ -73,10 +74,10 @@ fn number_words(line: &[u8]) -> Option<NumberWords<'_>>
 fn pair_of(x: &[u8], y: &[u8]) -> Option<(u32, u32)>
     ensures { result ≡ pair_of x.now y.now }
 {
-    let Some(first) = number_of(x) else {
+    let Some(first) = short_number_of(x) else {
         return None;
     };
-    let Some(second) = number_of(y) else {
+    let Some(second) = short_number_of(y) else {
         return None;
     };
     Some((first, second))

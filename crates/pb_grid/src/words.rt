@@ -1,10 +1,5 @@
-ghost use Rattle.std.specs.Prelude.{◌≡◌, ◌≤◌, ◌<◌, ℕ, [], ◌∷◌, length, reverse, position, slice_index, not, true, false, IfSome, IfNone};
-ghost use Rattle.std.specs.Char.{is_ascii_digit};
-ghost use Rattle.std.specs.List.{list_all};
-ghost use Rattle.pb_grid.specs.Lines.{is_blank, IsLastAt, words_of, is_blank_line, value_behind, is_number, number_of};
-
-// How many digits a number may have.
-const LONGEST_NUMBER: usize = 9;
+ghost use Rattle.std.specs.Prelude.{◌≡◌, ◌<◌, ℕ, [], ◌∷◌, length, reverse, position, slice_index, not, true, false, IfSome, IfNone};
+ghost use Rattle.pb_grid.specs.Lines.{is_blank, IsLastAt, words_of, is_blank_line};
 
 // A space or a tab.
 fn is_blank(byte: u8) -> bool
@@ -81,42 +76,4 @@ pub fn is_blank_line(line: &[u8]) -> bool
         Some(_) => false,
         None => true,
     }
-}
-
-// Whether all bytes of a word are decimal digits.
-fn are_digits(word: &[u8]) -> bool
-    ensures { result ≡ list_all is_ascii_digit word.now }
-{
-    word.iter().all(|byte| byte.is_ascii_digit())
-}
-
-// Whether a word is one to nine decimal digits.
-fn is_number(word: &[u8]) -> bool
-    ensures { result ≡ is_number word.now }
-{
-    !word.is_empty() && word.len() <= LONGEST_NUMBER && are_digits(word)
-}
-
-/// The number that a word of one to nine decimal digits spells.
-#[tactic(auto, unfolding(crate::specs::Lines::number_of))]
-pub fn number_of(word: &[u8]) -> Option<u32>
-    ensures { result ≡ number_of word.now }
-{
-    if is_number(word) {
-        Some(value_of(word))
-    } else {
-        None
-    }
-}
-
-// The number that at most nine digits spell.
-fn value_of(digits: &[u8]) -> u32
-    requires { is_number digits.now ≡ true }
-    ensures { result ≡ value_behind 0 digits.now }
-{
-    let mut value = 0;
-    for digit in digits {
-        value = value * 10 + u32::from(*digit - b'0');
-    }
-    value
 }

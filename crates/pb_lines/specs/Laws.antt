@@ -2,6 +2,7 @@
 use Rattle.std.specs.Prelude.{◌≡◌, ◌<◌, ◌^◌, ℕ, true, List, ◌∷◌, ◌++◌, Some}
 use Rattle.std.specs.Fmt.{decimal}
 use Rattle.pb_lines.specs.Words.{part, behind, is_text, number_of, has_none}
+use Rattle.pb_lines.specs.ShortNumbers.{short_number_of, IsShortNumber}
 
 -- A text is cut at a byte exactly if it has one: into what stands before the first, and what stands
 -- after it.
@@ -33,3 +34,11 @@ NumbersAreDecimal =
     (word : List ℕ) (n : ℕ)
     → (number_of word ≡ Some n → (word ≡ decimal n) × (n < 2 ^ 63))
     × (word ≡ decimal n → n < 2 ^ 63 → number_of word ≡ Some n)
+
+-- A word spells a short number exactly if it is one to nine decimal digits, and the number is their
+-- value. So a short number has several spellings.
+abbrev pub ShortNumbersAreDigits : Type 0
+ShortNumbersAreDigits =
+    (word : List ℕ) (number : ℕ)
+    → (short_number_of word ≡ Some number → IsShortNumber word number)
+    × (IsShortNumber word number → short_number_of word ≡ Some number)

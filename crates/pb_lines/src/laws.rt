@@ -1,5 +1,5 @@
 //! What the definitions mean. Each law is the contract of a function without a body.
-ghost use Rattle.pb_lines.specs.Laws.{NumbersAreDecimal, PartsAreJoined, PiecesAreJoined, TextsAreEqual};
+ghost use Rattle.pb_lines.specs.Laws.{NumbersAreDecimal, PartsAreJoined, PiecesAreJoined, ShortNumbersAreDigits, TextsAreEqual};
 
 /// A text is cut at a byte exactly if it has one: into what stands before the first, and what stands
 /// after it.
@@ -20,4 +20,10 @@ pub fn texts_are_equal()
 /// A word spells a number exactly if it is the decimal digits of the number, which is below 2^63.
 pub fn numbers_are_decimal()
     ensures { NumbersAreDecimal }
+{}
+
+/// A word spells a short number exactly if it is one to nine decimal digits, and the number is their
+/// value.
+pub fn short_numbers_are_digits()
+    ensures { ShortNumbersAreDigits }
 {}

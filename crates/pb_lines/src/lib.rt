@@ -1,9 +1,14 @@
-//! Lines, words and numbers of a text that this project wrote: cutting the text at a byte or behind a
-//! piece, and reading decimal numbers.
+//! Lines, words and numbers of a text: cutting the text at a byte or behind a piece, and reading decimal
+//! numbers.
 #![tactic(auto)]
 
 mod laws;
+mod short_numbers;
 mod words;
 
-pub use laws::{numbers_are_decimal, parts_are_joined, pieces_are_joined, texts_are_equal};
+pub use laws::{
+    numbers_are_decimal, parts_are_joined, pieces_are_joined, short_numbers_are_digits,
+    texts_are_equal,
+};
+pub use short_numbers::short_number_of;
 pub use words::{behind, is_text, number_of, part};

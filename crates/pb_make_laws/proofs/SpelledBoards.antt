@@ -6,7 +6,8 @@ use Rattle.std.specs.Char.{is_ascii_digit}
 use Rattle.std.specs.List.{list_all}
 use Rattle.pb_task.proofs.Boards.{is_board_by}
 use Rattle.pb_tiles.specs.Words.{is_blank}
-use Rattle.pb_tiles.specs.Spelling.{AreNumbers, AreWordsOf, IsNumber}
+use Rattle.pb_lines.specs.ShortNumbers.{IsShortNumber}
+use Rattle.pb_tiles.specs.Spelling.{AreNumbers, AreWordsOf}
 use Rattle.pb_make.specs.Boards.{board_text, goal_board, made_board, row_line}
 use Rattle.pb_make_laws.specs.Laws.{MadeBoardsAreSpelled}
 use Rattle.pb_make_laws.proofs.MadeBoards.{made_listed, goal_listed}
@@ -19,7 +20,7 @@ digit_is_no_blank n small = grind (arith, nat_tests)
 digit_is_digit : (n : ℕ) → n < 10 → is_ascii_digit (48 + n) ≡ true
 digit_is_digit n small = grind (arith, nat_tests)
 
-digit_number : (n : ℕ) → n < 10 → IsNumber ((48 + n) ∷ []) n
+digit_number : (n : ℕ) → n < 10 → IsShortNumber ((48 + n) ∷ []) n
 digit_number n small = record {
   some = omega arith;
   most = omega arith;

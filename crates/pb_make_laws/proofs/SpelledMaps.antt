@@ -10,7 +10,8 @@ use Rattle.pb_task.specs.declared.parts.Class.TheVariants.{Blocked, Land}
 use Rattle.pb_task.specs.Grid.{is_passable}
 use Rattle.pb_grid.specs.Lines.{lines_of, words_of}
 use Rattle.pb_grid.specs.Reading.{class_of_byte, is_swamp_byte}
-use Rattle.pb_grid.specs.Form.{IsNumber, SpellsMap, SpellsScenario}
+use Rattle.pb_lines.specs.ShortNumbers.{IsShortNumber}
+use Rattle.pb_grid.specs.Form.{SpellsMap, SpellsScenario}
 use Rattle.pb_make.specs.Draws.{draws}
 use Rattle.pb_make.specs.Lines.{line, lines, rows_of}
 use Rattle.pb_make.specs.Maps.{cell, map_cells, map_text, scenario_row, scenario_text}
@@ -120,7 +121,7 @@ scenario_spelled side some most =
     let small_last : side - 1 < 10 ^ 9 = omega arith in
     let zero_word : IsPlainWord (codes "0") = record { some = omega arith; plain = refl } in
     let name_word : IsPlainWord (codes "made") = record { some = omega arith; plain = refl } in
-    let zero_number : IsNumber (codes "0") 0 = record { some = omega arith; most = omega arith; digits = refl; value = refl } in
+    let zero_number : IsShortNumber (codes "0") 0 = record { some = omega arith; most = omega arith; digits = refl; value = refl } in
     let side_word = decimal_plain side wide in
     let last_word = decimal_plain (side - 1) wide_last in
     let words = codes "0" ∷ codes "made" ∷ decimal side ∷ decimal side ∷ codes "0" ∷ codes "0" ∷ decimal last ∷ decimal last ∷ codes "0" ∷ [] in

@@ -1,5 +1,5 @@
 -- Lines, words and numbers that were put together are taken apart again.
-use Rattle.std.proofs.Common.{◌≡◌, ℕ, zero, suc, ◌+◌, ◌-◌, ◌*◌, ◌/◌, ◌%◌, ◌^◌, ◌<◌, ◌≤◌, Bool, true, false, cond, not, ◌&&◌, ◌==◌, nat_lt, if◌then◌else◌, List, [], ◌∷◌, ◌++◌, length, take, drop, map, filter, get_or, refl, ap, arith, ◌∙◌, append_assoc}
+use Rattle.std.proofs.Common.{◌≡◌, ℕ, zero, suc, ◌+◌, ◌-◌, ◌/◌, ◌%◌, ◌^◌, ◌<◌, ◌≤◌, Bool, true, false, cond, not, ◌&&◌, ◌==◌, nat_lt, if◌then◌else◌, List, [], ◌∷◌, ◌++◌, length, take, drop, map, filter, get_or, refl, ap, arith, ◌∙◌, append_assoc}
 use Rattle.std.proofs.lemmas.Bool.{lt-ltb}
 use Rattle.std.proofs.lemmas.Bool.Decides.{nat_tests}
 use Rattle.std.proofs.lemmas.Fmt.{decimal_by_steps, length-decimal-le}
@@ -7,8 +7,9 @@ use Rattle.std.specs.Fmt.{decimal}
 use Rattle.std.specs.Char.{is_ascii_digit}
 use Rattle.std.specs.List.{AllByRecursion, join_with_byte, list_all, onto_first, slice_split}
 use Rattle.std.specs.Str.Lines.{strip_carriage_return}
-use Rattle.pb_grid.specs.Lines.{is_line_feed, is_blank, has_bytes, lines_of, value_behind, without_empty_last, words_of}
-use Rattle.pb_grid.specs.Form.{IsNumber}
+use Rattle.pb_grid.specs.Lines.{is_line_feed, is_blank, has_bytes, lines_of, without_empty_last, words_of}
+use Rattle.pb_lines.specs.ShortNumbers.{value_behind, IsShortNumber}
+use Rattle.pb_lines.proofs.ShortNumbers.{value_push}
 use Rattle.pb_grid.proofs.Parting.{no_lines, no_words, split_some}
 use Rattle.pb_make.specs.Lines.{line, lines}
 
@@ -138,10 +139,6 @@ joined_inner (word ∷ next ∷ words) all =
 
 -- ---- numbers
 
-value_push : (n : ℕ) (ds : List ℕ) (d : ℕ) → value_behind n (ds ++ d ∷ []) ≡ value_behind n ds * 10 + (d - 48)
-value_push n [] d = refl
-value_push n (e ∷ ds) d = value_push (n * 10 + (e - 48)) ds d
-
 digit_is : (n : ℕ) → n < 10 → is_ascii_digit (48 + n) ≡ true
 digit_is n small = grind (arith, nat_tests)
 
@@ -174,7 +171,7 @@ decimal_digits = decimal_by_steps AreDigits one more
           value = omega (arith, value_push 0 ds (48 + n % 10), is.value);
         }
 
-pub decimal_number : (n : ℕ) → n < 10 ^ 9 → IsNumber (decimal n) n
+pub decimal_number : (n : ℕ) → n < 10 ^ 9 → IsShortNumber (decimal n) n
 decimal_number n small =
     let wide : n < 2 ^ 64 = omega arith in
     let is = decimal_digits n wide in

@@ -11,11 +11,12 @@ use Rattle.pb_task.proofs.Boards.{listed}
 use Rattle.pb_tiles.specs.declared.error.TilesError.{TilesError}
 use Rattle.pb_tiles.specs.declared.error.TilesError.TheVariants.{Syntax, Size, Count, Number, Twice, Memory}
 use Rattle.pb_tiles.specs.Said.{Said}
-use Rattle.pb_tiles.specs.Words.{is_blank, Word, word_end, line_behind, words_behind, words, number_of}
+use Rattle.pb_lines.specs.ShortNumbers.{short_number_of}
+use Rattle.pb_lines.proofs.ShortNumbers.{spells_short_number, reads_short_number}
+use Rattle.pb_tiles.specs.Words.{is_blank, Word, word_end, line_behind, words_behind, words}
 use Rattle.pb_tiles.specs.Reading.{nothing_said, with_word, next, said_by, is_side, boards_fault, unless_fault, boards_reading, numbers_reading, read_after, tiles_reading}
 use Rattle.pb_tiles.specs.Spelling.{BeginsBlank, AreBlanks, AreWordsOf, AreNumbers, SpellsGoal, SpellsTiles}
 use Rattle.pb_tiles.specs.Laws.{ReadingsAreSpelled, SpelledTilesAreUnique}
-use Rattle.pb_tiles.proofs.Digits.{spells_number, number_is}
 use Rattle.pb_tiles.proofs.Filling.{listed_have_no_fault, are_tiles}
 
 -- ---- words of a text
@@ -114,7 +115,7 @@ numbers_before said [] more [] are = ap (λ n. said_texts (before_goal n) more) 
 numbers_before said [] more (n ∷ ns) are = absurd are
 numbers_before said (t ∷ ts) more [] are = absurd are
 numbers_before said (t ∷ ts) more (n ∷ ns) are =
-    ap (λ o. option_and_then (λ after. said_texts after (ts ++ more)) (with_word (before_goal said) o (bytes_eq t (codes "goal")))) (number_is t n are.0)
+    ap (λ o. option_and_then (λ after. said_texts after (ts ++ more)) (with_word (before_goal said) o (bytes_eq t (codes "goal")))) (reads_short_number t n are.0)
     ∙ numbers_before (said ++ n ∷ []) ts more ns are.1 ∙ ap (λ numbers. said_texts (before_goal numbers) more) (append_assoc said (n ∷ []) ns)
 
 numbers_behind : (said goal : List ℕ) (ts : List (List ℕ)) (ns : List ℕ) → AreNumbers ts ns → said_texts (behind_goal said goal) ts ≡ Some (behind_goal said (goal ++ ns))
@@ -122,10 +123,11 @@ numbers_behind said goal [] [] are = ap (λ n. Some (behind_goal said n)) (sym (
 numbers_behind said goal [] (n ∷ ns) are = absurd are
 numbers_behind said goal (t ∷ ts) [] are = absurd are
 numbers_behind said goal (t ∷ ts) (n ∷ ns) are =
-    ap (λ o. option_and_then (λ after. said_texts after ts) (with_word (behind_goal said goal) o (bytes_eq t (codes "goal")))) (number_is t n are.0)
+    ap (λ o. option_and_then (λ after. said_texts after ts) (with_word (behind_goal said goal) o (bytes_eq t (codes "goal")))) (reads_short_number t n are.0)
     ∙ numbers_behind said (goal ++ n ∷ []) ts ns are.1 ∙ ap (λ numbers. Some (behind_goal said numbers)) (append_assoc goal (n ∷ []) ns)
 
 goal_stands : (rows cols : ℕ) (start : List ℕ) → next (before_goal (rows ∷ cols ∷ start)) (codes "goal") ≡ Some (behind_goal (rows ∷ cols ∷ start) [])
+unfolding short_number_of
 goal_stands rows cols start =
     ap (λ test. if test && true then Some (behind_goal (rows ∷ cols ∷ start) []) else None) (let two : nat_le 2 (length (rows ∷ cols ∷ start)) ≡ true = grind (arith, nat_tests) in two)
 
@@ -140,13 +142,13 @@ record Behind (said goal : List ℕ) (ts : List (List ℕ)) (after : Said) : Typ
 were_behind : (said goal : List ℕ) (ts : List (List ℕ)) (after : Said) → said_texts (behind_goal said goal) ts ≡ Some after → Behind said goal ts after
 were_behind said goal [] after e =
     record { ns = []; are = tt; is = (let same : behind_goal said goal ≡ after = cc in sym same ∙ ap (behind_goal said) (sym (append-nil goal))) }
-were_behind said goal (t ∷ ts) after e = go (number_of t) refl e (λ n. were_behind said (goal ++ n ∷ []) ts after) where
-  go : (number : Option ℕ) → number_of t ≡ number → option_and_then (λ between. said_texts between ts) (with_word (behind_goal said goal) number (bytes_eq t (codes "goal"))) ≡ Some after
+were_behind said goal (t ∷ ts) after e = go (short_number_of t) refl e (λ n. were_behind said (goal ++ n ∷ []) ts after) where
+  go : (number : Option ℕ) → short_number_of t ≡ number → option_and_then (λ between. said_texts between ts) (with_word (behind_goal said goal) number (bytes_eq t (codes "goal"))) ≡ Some after
       → ((n : ℕ) → said_texts (behind_goal said (goal ++ n ∷ [])) ts ≡ Some after → Behind said (goal ++ n ∷ []) ts after) → Behind said goal (t ∷ ts) after
   go None is e rest = cc
   go (Some n) is e rest =
       let others : Behind said (goal ++ n ∷ []) ts after = rest n e in
-      record { ns = n ∷ others.ns; are = (spells_number t n is, others.are); is = others.is ∙ ap (behind_goal said) (append_assoc goal (n ∷ []) others.ns) }
+      record { ns = n ∷ others.ns; are = (spells_short_number t n is, others.are); is = others.is ∙ ap (behind_goal said) (append_assoc goal (n ∷ []) others.ns) }
 
 -- words are numbers, and maybe `goal` and numbers
 abbrev IsGoal : (ts : List (List ℕ)) → (has_goal : Bool) → (behind : List ℕ) → Type 0
@@ -165,7 +167,7 @@ were_taken : (said : List ℕ) (ts : List (List ℕ)) (after : Said) → said_te
 were_taken said [] after e =
     let same : before_goal said ≡ after = cc in
     record { ws = []; gs = []; ns = []; split = refl; are = tt; before_is = ap (λ (s : Said). s.before) (sym same) ∙ sym (append-nil said); goal_is = inl (refl, ap (λ (s : Said). s.has_goal) (sym same)) }
-were_taken said (t ∷ ts) after e = go (number_of t) refl e (λ n. were_taken (said ++ n ∷ []) ts after) where
+were_taken said (t ∷ ts) after e = go (short_number_of t) refl e (λ n. were_taken (said ++ n ∷ []) ts after) where
   at_goal : (test : Bool) → bytes_eq t (codes "goal") ≡ test
       → option_and_then (λ between. said_texts between ts) (if nat_le 2 (length said) && test then Some (behind_goal said []) else None) ≡ Some after → Taken said (t ∷ ts) after
   at_goal test is e = inside (nat_le 2 (length said)) test is e where
@@ -184,7 +186,7 @@ were_taken said (t ∷ ts) after e = go (number_of t) refl e (λ n. were_taken (
     inside true false is e = cc
     inside false test is e = cc
 
-  go : (number : Option ℕ) → number_of t ≡ number → option_and_then (λ between. said_texts between ts) (with_word (before_goal said) number (bytes_eq t (codes "goal"))) ≡ Some after
+  go : (number : Option ℕ) → short_number_of t ≡ number → option_and_then (λ between. said_texts between ts) (with_word (before_goal said) number (bytes_eq t (codes "goal"))) ≡ Some after
       → ((n : ℕ) → said_texts (before_goal (said ++ n ∷ [])) ts ≡ Some after → Taken (said ++ n ∷ []) ts after) → Taken said (t ∷ ts) after
   go None is e rest = at_goal (bytes_eq t (codes "goal")) refl e
   go (Some n) is e rest =
@@ -194,7 +196,7 @@ were_taken said (t ∷ ts) after e = go (number_of t) refl e (λ n. were_taken (
         gs = others.gs;
         ns = n ∷ others.ns;
         split = ap (λ more. t ∷ more) others.split;
-        are = (spells_number t n is, others.are);
+        are = (spells_short_number t n is, others.are);
         before_is = others.before_is ∙ append_assoc said (n ∷ []) others.ns;
         goal_is = others.goal_is;
       }

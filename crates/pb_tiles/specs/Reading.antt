@@ -7,7 +7,8 @@ use Rattle.pb_task.specs.declared.parts.TilesParts.{TilesParts}
 use Rattle.pb_tiles.specs.declared.error.TilesError.{TilesError}
 use Rattle.pb_tiles.specs.declared.error.TilesError.TheVariants.{Syntax, Size, Count, Number, Twice}
 use Rattle.pb_tiles.specs.Said.{Said}
-use Rattle.pb_tiles.specs.Words.{Word, words, number_of}
+use Rattle.pb_lines.specs.ShortNumbers.{short_number_of}
+use Rattle.pb_tiles.specs.Words.{Word, words}
 
 -- ---- what words say
 
@@ -29,7 +30,7 @@ with_word said (Some number) is_goal = Some (with_number said number)
 with_word said None is_goal = if may_have_goal said && is_goal then Some (record said { has_goal = true }) else None
 
 abbrev pub next : Said → (word : List ℕ) → Option Said
-next said word = with_word said (number_of word) (bytes_eq word (codes "goal"))
+next said word = with_word said (short_number_of word) (bytes_eq word (codes "goal"))
 
 -- what is said after more words, or the line of the first word that can't stand where it does
 abbrev pub said_by : Said → List Word → Result Said TilesError

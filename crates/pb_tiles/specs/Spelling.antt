@@ -1,10 +1,10 @@
 -- How a text spells sliding tiles.
 use Rattle.std.specs.Prelude.{◌≡◌, ℕ, ◌≤◌, true, false, ◌⊎◌, List, [], ◌∷◌, ◌++◌, length, codes}
-use Rattle.std.specs.Char.{is_ascii_digit}
-use Rattle.std.specs.List.{list_all, range_with_len, AllByRecursion}
+use Rattle.std.specs.List.{range_with_len, AllByRecursion}
 use Rattle.pb_task.specs.Tiles.{cell_count, IsTiles}
 use Rattle.pb_task.specs.declared.parts.TilesParts.{TilesParts}
-use Rattle.pb_tiles.specs.Words.{is_blank, value_behind}
+use Rattle.pb_lines.specs.ShortNumbers.{IsShortNumber}
+use Rattle.pb_tiles.specs.Words.{is_blank}
 
 -- ---- words
 
@@ -28,19 +28,12 @@ AreWordsOf text (word ∷ words) =
 
 -- ---- numbers
 
--- one to nine decimal digits, and the number that they spell
-pub record IsNumber (word : List ℕ) (number : ℕ) : Type 0 where
-  pub some : 1 ≤ length word
-  pub most : length word ≤ 9
-  pub digits : list_all is_ascii_digit word ≡ true
-  pub value : number ≡ value_behind 0 word
-
 -- the words spell the numbers, one by one
 abbrev pub AreNumbers : (words : List (List ℕ)) → (numbers : List ℕ) → Type 0
 AreNumbers [] [] = Unit {0}
 AreNumbers [] (number ∷ numbers) = ⊥
 AreNumbers (word ∷ words) [] = ⊥
-AreNumbers (word ∷ words) (number ∷ numbers) = IsNumber word number × AreNumbers words numbers
+AreNumbers (word ∷ words) (number ∷ numbers) = IsShortNumber word number × AreNumbers words numbers
 
 -- ---- tiles
 
@@ -57,8 +50,8 @@ pub record SpellsTiles (text : List ℕ) (tiles : TilesParts) : Type 0 where
   pub start_words : List (List ℕ)
   pub goal_words : List (List ℕ)
   pub words_are : AreWordsOf text (rows_word ∷ cols_word ∷ (start_words ++ goal_words))
-  pub rows_is : IsNumber rows_word tiles.rows
-  pub cols_is : IsNumber cols_word tiles.cols
+  pub rows_is : IsShortNumber rows_word tiles.rows
+  pub cols_is : IsShortNumber cols_word tiles.cols
   pub start_is : AreNumbers start_words tiles.start
   pub goal_is : SpellsGoal goal_words tiles
   pub are_tiles : IsTiles tiles

@@ -1,7 +1,5 @@
 -- The words of a text: its longest runs of bytes that are no blanks, each with the number of its line.
-use Rattle.std.specs.Prelude.{ℕ, ◌+◌, ◌-◌, ◌*◌, Bool, ◌==◌, ◌&&◌, ◌||◌, nat_le, List, [], ◌∷◌, ◌++◌, length, Option, None, Some, if◌then◌else◌}
-use Rattle.std.specs.Char.{is_ascii_digit}
-use Rattle.std.specs.List.{list_all}
+use Rattle.std.specs.Prelude.{ℕ, ◌+◌, ◌-◌, Bool, ◌==◌, ◌||◌, List, [], ◌∷◌, ◌++◌, if◌then◌else◌}
 
 -- space, tab, carriage return and line feed part words
 abbrev pub is_blank : (byte : ℕ) → Bool
@@ -28,14 +26,3 @@ words_behind line word (byte ∷ text) =
 
 abbrev pub words : (text : List ℕ) → List Word
 words text = words_behind 1 [] text
-
--- ---- numbers
-
--- the value of decimal digits that stand behind a number
-abbrev pub value_behind : (number : ℕ) → (digits : List ℕ) → ℕ
-value_behind number [] = number
-value_behind number (digit ∷ digits) = value_behind (number * 10 + (digit - 48)) digits
-
--- the number that a word spells: it is 1 to 9 decimal digits
-abbrev pub number_of : (word : List ℕ) → Option ℕ
-number_of word = if nat_le 1 (length word) && nat_le (length word) 9 && list_all is_ascii_digit word then Some (value_behind 0 word) else None

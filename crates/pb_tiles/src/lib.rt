@@ -6,7 +6,6 @@
 mod boards;
 mod error;
 mod laws;
-mod numbers;
 mod reader;
 mod said;
 mod words;

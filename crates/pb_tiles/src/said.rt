@@ -4,7 +4,7 @@ ghost use Rattle.pb_tiles.specs.Reading.{nothing_said, with_number, may_have_goa
 ghost use Rattle.pb_tiles.specs.declared.error.TilesError.TheVariants.{Memory};
 
 use crate::error::TilesError;
-use crate::numbers::number_of;
+use pb_lines::short_number_of;
 use std::alloc::{AllocError, Global};
 use std::marker::Model;
 
@@ -68,7 +68,7 @@ impl Numbers {
         if word.is_empty() {
             return Ok(());
         }
-        if let Some(number) = number_of(word) {
+        if let Some(number) = short_number_of(word) {
             self.push(number)?;
             return Ok(());
         }

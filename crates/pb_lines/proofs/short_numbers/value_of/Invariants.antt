@@ -1,6 +1,6 @@
 use Rattle.std.proofs.Common.{◌≡◌, ◌<◌, ◌^◌, take}
-use Rattle.pb_grid.specs.Lines.{value_behind}
-use Rattle.pb_grid.proofs.words.value_of.Given as goal
+use Rattle.pb_lines.specs.ShortNumbers.{value_behind}
+use Rattle.pb_lines.proofs.short_numbers.value_of.Given as goal
 
 abbrev pub invariant-loop-digit : goal.invariant-loop-digit
 invariant-loop-digit l = record {

@@ -1,9 +1,0 @@
-use Rattle.std.proofs.Common.{◌≡◌, ◌<◌, ◌^◌, take}
-use Rattle.pb_tiles.specs.Words.{value_behind}
-use Rattle.pb_tiles.proofs.numbers.value_of.Given as goal
-
-abbrev pub invariant-loop-digit : goal.invariant-loop-digit
-invariant-loop-digit l = record {
-  value : l.value ≡ value_behind 0 (take l.digit-index l.digits);
-  small : l.value < 10 ^ l.digit-index;
-}
