@@ -12,6 +12,7 @@ use Rattle.pb_pddl.specs.Readings.{domain_reading, problem_reading}
 use Rattle.pb_lifted.specs.Plans.{NamedAction, IsPlan}
 use Rattle.pb_strips.specs.declared.error.StripsError.{StripsError}
 use Rattle.pb_pddl.specs.Readings.{tokens_of}
+use Rattle.pb_pddl.specs.Trees.{SpellsDomain, SpellsProblem}
 use Rattle.pb_pddl.specs.Words.{DomainHasWords, ProblemHasWords}
 use Rattle.pb_pddl_laws.proofs.FormsRead.{domain_is, problem_is}
 use Rattle.pb_pddl_laws.proofs.TokensOf.{texts_have_tokens}
@@ -35,13 +36,19 @@ use Rattle.pb_answer.specs.Named.{SpellTrees, OfTrees, named_cost, HasNoNamedPla
 
 -- ---- the trees of a task
 
-domain_words : (text : List ℕ) (domain : Domain) → domain_reading text ≡ Ok domain → DomainHasWords domain
+spells_domain : (text : List ℕ) (domain : Domain) → domain_reading text ≡ Ok domain → SpellsDomain text domain
 unfolding domain_reading
-domain_words text domain reads = domain_has_words text domain (tokens_of text, texts_have_tokens text, domain_is (tokens_of text) domain reads)
+spells_domain text domain reads = (tokens_of text, texts_have_tokens text, domain_is (tokens_of text) domain reads)
+
+spells_problem : (text : List ℕ) (problem : Problem) → problem_reading text ≡ Ok problem → SpellsProblem text problem
+unfolding problem_reading
+spells_problem text problem reads = (tokens_of text, texts_have_tokens text, problem_is (tokens_of text) problem reads)
+
+domain_words : (text : List ℕ) (domain : Domain) → domain_reading text ≡ Ok domain → DomainHasWords domain
+domain_words text domain reads = domain_has_words text domain (spells_domain text domain reads)
 
 problem_words : (text : List ℕ) (problem : Problem) → problem_reading text ≡ Ok problem → ProblemHasWords problem
-unfolding problem_reading
-problem_words text problem reads = problem_has_words text problem (tokens_of text, texts_have_tokens text, problem_is (tokens_of text) problem reads)
+problem_words text problem reads = problem_has_words text problem (spells_problem text problem reads)
 
 -- they are a task, and their names are words
 pub record AreTask (domain : Domain) (problem : Problem) : Type 0 where
@@ -72,7 +79,7 @@ trees_of (Some domain_text) (Some problem_text) task e = at_domain (domain_readi
         record {
           domain = domain;
           problem = problem;
-          spelled = (reads, also);
+          spelled = (spells_domain domain_text domain reads, spells_problem problem_text problem also);
           are = record { accepted = accepted; words = domain_words domain_text domain reads; others = problem_words problem_text problem also };
           is = is;
         }

@@ -5,4 +5,5 @@ pub mod Judged
 pub mod SavedJournals
 pub mod MadeTasks
 pub mod ByNames
+pub mod Spelled
 pub mod SameBlocks

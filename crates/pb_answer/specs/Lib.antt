@@ -3,6 +3,7 @@ pub mod Loaded
 pub mod Tasks
 pub mod Searches
 pub mod Named
+pub mod Spelled
 pub mod Outputs
 pub mod Claims
 pub mod Journals

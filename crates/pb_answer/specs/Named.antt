@@ -1,6 +1,6 @@
 -- What is claimed of a STRIPS task by names: of the domain and the problem that the texts spell, where a state is a set of facts and an action is one
 -- of the domain's with objects. Neither ground atoms nor bits occur in these claims.
-use Rattle.std.specs.Prelude.{◌≡◌, ℕ, ◌+◌, ◌*◌, ◌≤◌, ⊤, Option, None, Some, List, length, map, slice_get, Ok}
+use Rattle.std.specs.Prelude.{◌≡◌, ℕ, ◌+◌, ◌*◌, ◌≤◌, ⊤, Option, None, Some, List, length, map, slice_get}
 use Rattle.pb_model.specs.Weight.{Weight}
 use Rattle.pb_model.specs.Plan.{IsBound}
 use Rattle.pb_model.specs.Texts.{plan_report}
@@ -8,7 +8,7 @@ use Rattle.pb_task.specs.declared.parts.TaskParts.{TaskParts}
 use Rattle.pb_task.specs.Parts.{space_of, action_name}
 use Rattle.pb_pddl.specs.declared.tree.Domain.{Domain}
 use Rattle.pb_pddl.specs.declared.tree.Problem.{Problem}
-use Rattle.pb_pddl.specs.Readings.{domain_reading, problem_reading}
+use Rattle.pb_pddl.specs.Trees.{SpellsDomain, SpellsProblem}
 use Rattle.pb_lifted.specs.Plans.{NamedAction, IsPlan}
 use Rattle.pb_strips.specs.Names.{action_bytes}
 use Rattle.pb_strips.specs.Naming.{AreTellingNames}
@@ -25,11 +25,11 @@ NamesTell parts = AreTellingNames (space_of parts).actions (action_name parts)
 
 -- ---- the trees
 
--- the two texts spell this domain and this problem
+-- the two texts spell this domain and this problem, by the grammar
 abbrev pub SpellTrees : (domain_text problem_text : Option (List ℕ)) → Domain → Problem → Type 0
 SpellTrees None problem_text domain problem = ⊥
 SpellTrees (Some domain_text) None domain problem = ⊥
-SpellTrees (Some domain_text) (Some problem_text) domain problem = (domain_reading domain_text ≡ Ok domain) × (problem_reading problem_text ≡ Ok problem)
+SpellTrees (Some domain_text) (Some problem_text) domain problem = SpellsDomain domain_text domain × SpellsProblem problem_text problem
 
 -- where the input is a domain and a problem, the texts from this place on spell them, and P holds of them
 abbrev pub OfTrees : InputNames → (first : ℕ) → (texts : List (List ℕ)) → (P : Domain → Problem → Type 0) → Type 0

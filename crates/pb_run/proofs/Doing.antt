@@ -17,7 +17,7 @@ use Rattle.pb_run.specs.Calls.{calls_since, loaded_texts, outputs_in, put_bytes,
 use Rattle.pb_run.specs.Loads.{loads_of, AreLoaded}
 use Rattle.pb_answer.specs.Answer.{Said, AnswersReading}
 use Rattle.pb_run.specs.Course.{RunsOut, FailsToLoad, HandsOut, FailsToSave, FailsToPut, HasAnswered, Does, DoesSince, Ran, ran_by, ran}
-use Rattle.pb_run.specs.Headline.{IsAnswer, IsBroken, AllOfOnePlan, PlanIsPlan, NoneIsCheaper, CertificateHolds, NoneMeansNone, CertificateOfNone, StopHasCause, AcceptedIsValid, RejectedIsFaulty, IsOfVerdict, CheckIsDecided, JournalIsLegal, JournalIsDecided, MadeIsLeast, NamedPlanIsPlan, NamedNoneMeansNone, NamedVerdictHolds, WordsAreRefused, InputIsRefused, AreSomeOf, OutputsAreNamed, IsAnswered, IsComplete}
+use Rattle.pb_run.specs.Headline.{IsAnswer, IsBroken, AllOfOnePlan, PlanIsPlan, NoneIsCheaper, CertificateHolds, NoneMeansNone, CertificateOfNone, StopHasCause, AcceptedIsValid, RejectedIsFaulty, IsOfVerdict, CheckIsDecided, JournalIsLegal, JournalIsDecided, MadeIsLeast, NamedPlanIsPlan, NamedNoneMeansNone, NamedVerdictHolds, WordsAreRefused, InputIsRefused, SpelledIsNotRefused, AreSomeOf, OutputsAreNamed, IsAnswered, IsComplete}
 use Rattle.pb_run.specs.Contents.{IsNoneOf, SavesIn, SavesPartIn, LeavesPart, KeepsUnnamed, TellsHands, GoesBy, Goes, WritesPut}
 use Rattle.pb_run.proofs.CallLists.{since_is, loads_tell, loads_save_none, loads_fail_none, loads_fail, ended_few, ended_no_fault, saves_tell, failures_tell}
 use Rattle.pb_run.proofs.Some.{first_are_some, none_of_some}
@@ -234,6 +234,9 @@ module _ (reading : Reading) (n : ℕ) (shelf sink : List Call) where
 
   pub input_is_refused : Does reading n shelf sink → InputIsRefused reading Made
   input_is_refused = promise InputIsRefused told.input_is_refused (λ broken. (λ e. absurd (broken_is_other n 65 (omega arith) broken e), λ report refuses. inr broken))
+
+  pub spelled_is_not_refused : Does reading n shelf sink → SpelledIsNotRefused reading Made
+  spelled_is_not_refused = promise SpelledIsNotRefused told.spelled_is_not_refused (λ broken spelled. broken_is_other n 65 (omega arith) broken)
 
 -- if no call failed, there is an answer to the texts that were loaded, or want of memory
 pub done_is_answered : (reading : Reading) (n : ℕ) (shelf sink : List Call) → Does reading n shelf sink → have_failed shelf ≡ false → have_failed sink ≡ false

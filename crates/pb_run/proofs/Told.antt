@@ -22,8 +22,9 @@ use Rattle.pb_answer.specs.Journals.{AcceptsJournal, RejectsJournal}
 use Rattle.pb_answer.specs.Makes.{MakesPlan, MakesNone, MakesStop}
 use Rattle.pb_answer.specs.Answer.{Said, Says, Saves, IsSolved, IsUnsolvable, IsStopped, IsFound, IsChecked, IsJudged, IsMade, IsRefused, OrRefused, AnswersReading}
 use Rattle.pb_run.specs.Course.{Ran}
-use Rattle.pb_run.specs.Headline.{IsAnswer, AllOfOnePlan, PlanIsPlan, NoneIsCheaper, CertificateHolds, NoneMeansNone, CertificateOfNone, StopHasCause, AcceptedIsValid, RejectedIsFaulty, IsOfVerdict, CheckIsDecided, JournalIsLegal, JournalIsDecided, MadeIsLeast, NamedPlanIsPlan, NamedNoneMeansNone, NamedVerdictHolds, WordsAreRefused, InputIsRefused, AreSomeOf, OutputsAreNamed, IsAnswered}
+use Rattle.pb_run.specs.Headline.{IsAnswer, AllOfOnePlan, PlanIsPlan, NoneIsCheaper, CertificateHolds, NoneMeansNone, CertificateOfNone, StopHasCause, AcceptedIsValid, RejectedIsFaulty, IsOfVerdict, CheckIsDecided, JournalIsLegal, JournalIsDecided, MadeIsLeast, NamedPlanIsPlan, NamedNoneMeansNone, NamedVerdictHolds, WordsAreRefused, InputIsRefused, SpelledIsNotRefused, AreSomeOf, OutputsAreNamed, IsAnswered}
 use Rattle.pb_run.proofs.Some.{all_are_some, some_behind}
+use Rattle.pb_answer.proofs.Spelled.{never_refused}
 use Rattle.pb_answer.proofs.ByNames.{solved_by_names, none_by_names, accepted_by_names}
 
 module _ (texts : List (List ℕ)) (said : Said) where
@@ -380,6 +381,9 @@ module _ (texts : List (List ℕ)) (said : Said) where
   input_is_refused (Read (Check check)) answers = (verdict_refused (check_task check texts) Accepts Rejects answers, λ report is. inl (refuses (check_task check texts) (λ t. IsChecked t.0 t.1) answers report is))
   input_is_refused (Read (Journal journal)) answers = (verdict_refused (journal_task journal texts) AcceptsJournal RejectsJournal answers, λ report is. inl (refuses (journal_task journal texts) (λ t. IsJudged t.0 t.1) answers report is))
   input_is_refused (Read (Make make)) answers = (λ e. absurd (made_other make answers 65 (λ e. omega (arith, e)) (λ e. omega (arith, e)) (λ e. omega (arith, e)) e), λ report refuses. absurd refuses)
+
+  pub spelled_is_not_refused : (reading : Reading) → AnswersReading reading texts said → SpelledIsNotRefused reading Done
+  spelled_is_not_refused reading answers = λ spelled e. never_refused reading texts spelled said.report ((input_is_refused reading answers).0 e)
 
   -- ---- what is saved
 

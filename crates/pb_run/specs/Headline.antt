@@ -18,6 +18,7 @@ use Rattle.pb_run.specs.Asked.{files_of, saved_names, CanLoad}
 use Rattle.pb_answer.specs.Outputs.{Output}
 use Rattle.pb_run.specs.Calls.{CanHold}
 use Rattle.pb_run.specs.Loads.{loads_of}
+use Rattle.pb_answer.specs.Spelled.{SpellTask}
 use Rattle.pb_answer.specs.Loaded.{solve_task, check_task, journal_task, OfTexts, OfCheckedTexts, OfJournalTexts, RefusesTexts}
 use Rattle.pb_answer.specs.Searches.{weight_asked}
 use Rattle.pb_answer.specs.Claims.{Certifies, Stops, Solves, PrintsPlan, PrintsLeastCost, SavesPlan, Accepts, Rejects}
@@ -200,6 +201,10 @@ abbrev pub InputIsRefused : Reading → Ran → Type 0
 InputIsRefused reading ran =
     (ran.said.status ≡ 65 → RefusesTexts reading ran.texts ran.said.report)
     × ((report : List ℕ) → RefusesTexts reading ran.texts report → (ran.said.status ≡ 65) ⊎ IsBroken ran.said.status)
+
+-- Texts are not refused that spell a domain and a problem by the grammar, which are well typed and within the numbers of atoms and actions.
+abbrev pub SpelledIsNotRefused : Reading → Ran → Type 0
+SpelledIsNotRefused reading ran = SpellTask reading ran.texts → ran.said.status ≢ 65
 
 -- these are some of the names, in their order
 abbrev pub AreSomeOf : (begun names : List (List ℕ)) → Type 0

@@ -7,7 +7,7 @@ ghost use Rattle.pb_run.specs.Loads.{AreLoaded};
 ghost use Rattle.pb_run.specs.Calls.{calls_since, have_failed};
 ghost use Rattle.pb_answer.specs.Answer.{AnswersReading};
 ghost use Rattle.pb_run.specs.Course.{DoesSince, ran};
-ghost use Rattle.pb_run.specs.Headline.{IsAnswer, IsBroken, AllOfOnePlan, PlanIsPlan, NoneIsCheaper, CertificateHolds, NoneMeansNone, CertificateOfNone, StopHasCause, AcceptedIsValid, RejectedIsFaulty, CheckIsDecided, JournalIsLegal, JournalIsDecided, MadeIsLeast, NamedPlanIsPlan, NamedNoneMeansNone, NamedVerdictHolds, WordsAreRefused, InputIsRefused, OutputsAreNamed, IsAnswered, CanServe, IsComplete};
+ghost use Rattle.pb_run.specs.Headline.{IsAnswer, IsBroken, AllOfOnePlan, PlanIsPlan, NoneIsCheaper, CertificateHolds, NoneMeansNone, CertificateOfNone, StopHasCause, AcceptedIsValid, RejectedIsFaulty, CheckIsDecided, JournalIsLegal, JournalIsDecided, MadeIsLeast, NamedPlanIsPlan, NamedNoneMeansNone, NamedVerdictHolds, WordsAreRefused, InputIsRefused, SpelledIsNotRefused, OutputsAreNamed, IsAnswered, CanServe, IsComplete};
 ghost use Rattle.pb_run.specs.Contents.{SavesIn, LeavesPart, KeepsUnnamed, Goes, WritesPut};
 
 use crate::load::load_files;
@@ -82,6 +82,7 @@ pub fn run<R: Threads + Wait + Sync, H: Shelf, K: Sink, G: Gate>(
     ensures statuses { IsAnswer result ⊎ IsBroken result }
     ensures words { WordsAreRefused (reading_of_words (map string_bytes words.now)) (ran result (H.calls shelf.old) (H.calls shelf.new) (K.calls out.old) (K.calls out.new)) }
     ensures input { InputIsRefused (reading_of_words (map string_bytes words.now)) (ran result (H.calls shelf.old) (H.calls shelf.new) (K.calls out.old) (K.calls out.new)) }
+    ensures spelled { SpelledIsNotRefused (reading_of_words (map string_bytes words.now)) (ran result (H.calls shelf.old) (H.calls shelf.new) (K.calls out.old) (K.calls out.new)) }
     ensures named { OutputsAreNamed (reading_of_words (map string_bytes words.now)) (ran result (H.calls shelf.old) (H.calls shelf.new) (K.calls out.old) (K.calls out.new)) }
     ensures nothing_saved { (result ≡ 3) ⊎ (result ≡ 64) ⊎ (result ≡ 65) ⊎ (result ≡ 71) → (ran result (H.calls shelf.old) (H.calls shelf.new) (K.calls out.old) (K.calls out.new)).said.outputs ≡ [] }
     ensures silent { (result ≡ 71) ⊎ (result ≡ 73) → (ran result (H.calls shelf.old) (H.calls shelf.new) (K.calls out.old) (K.calls out.new)).said.report ≡ [] }

@@ -9,7 +9,7 @@ use Rattle.pb_run.specs.Course.{Does, Ran, ran_by, ran}
 use Rattle.pb_run.specs.Calls.{calls_since, loaded_texts, outputs_in, put_bytes, have_failed}
 use Rattle.pb_run.specs.Loads.{AreLoaded}
 use Rattle.pb_run.specs.Contents.{SavesIn, LeavesPart, GoesBy}
-use Rattle.pb_run.specs.Headline.{IsAnswer, IsBroken, AllOfOnePlan, PlanIsPlan, NoneIsCheaper, CertificateHolds, NoneMeansNone, CertificateOfNone, StopHasCause, AcceptedIsValid, RejectedIsFaulty, CheckIsDecided, JournalIsLegal, JournalIsDecided, MadeIsLeast, NamedPlanIsPlan, NamedNoneMeansNone, NamedVerdictHolds, WordsAreRefused, InputIsRefused, OutputsAreNamed, IsAnswered, IsComplete}
+use Rattle.pb_run.specs.Headline.{IsAnswer, IsBroken, AllOfOnePlan, PlanIsPlan, NoneIsCheaper, CertificateHolds, NoneMeansNone, CertificateOfNone, StopHasCause, AcceptedIsValid, RejectedIsFaulty, CheckIsDecided, JournalIsLegal, JournalIsDecided, MadeIsLeast, NamedPlanIsPlan, NamedNoneMeansNone, NamedVerdictHolds, WordsAreRefused, InputIsRefused, SpelledIsNotRefused, OutputsAreNamed, IsAnswered, IsComplete}
 use Rattle.pb_run.proofs.Doing as doing
 use Rattle.pb_run.proofs.top.run.Given as given
 use Rattle.pb_run.proofs.top.run.Goals as goal
@@ -117,6 +117,9 @@ returns-clause-words g c = promised g c WordsAreRefused (doing.words_are_refused
 
 pub returns-clause-input : goal.returns-clause-input
 returns-clause-input g c = promised g c InputIsRefused (doing.input_is_refused (asked g c))
+
+pub returns-clause-spelled : goal.returns-clause-spelled
+returns-clause-spelled g c = promised g c SpelledIsNotRefused (doing.spelled_is_not_refused (asked g c))
 
 pub returns-clause-named : goal.returns-clause-named
 returns-clause-named g c = promised g c OutputsAreNamed (doing.outputs_are_named (asked g c))
