@@ -1,1 +1,2 @@
 mod CountingKeeps
+mod LoweringKeeps

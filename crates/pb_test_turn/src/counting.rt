@@ -61,7 +61,7 @@ impl TurnRule for CounterRule {
 
     type View = u64;
 
-    ghost fact = { λ c views. Counts c.count c.history.items views };
+    ghost fact = { λ c number views. Counts c.count c.history.items views };
 
     ghost first = { λ _. 0 };
 
@@ -72,6 +72,10 @@ impl TurnRule for CounterRule {
     ghost met = { λ v w. v + w };
 
     ghost spent = { 0 };
+
+    ghost loaded = { λ _ v number. v };
+
+    ghost lowered = { λ v number. v };
 }
 
 /// Leaving where the holder says whether it counted.
@@ -153,7 +157,8 @@ fn close(lock: TurnLock<CounterRule>, pass: Pass<CounterRule>) -> Counter
     ensures count { result.count ≡ view pass }
     ensures history { result.history.items ≡ up_to (view pass) }
 {
-    lock.close_with(pass)
+    let (counter, _) = lock.close_with(pass);
+    counter
 }
 
 // Four workers in four threads: the counter, and how often they counted.
@@ -237,7 +242,7 @@ fn try_beside_a_holder<W: Wait>(
 fn open<R: Abort>(rt: &R, alloc: Global) -> (TurnLock<CounterRule>, Pass<CounterRule>)
     ensures { IsPassOf result.0 result.1 × IsResting result.1 × (parts result.1 ≡ whole) × (view result.1 ≡ 0) }
 {
-    match TurnLock::new(alloc, Counter::new(alloc)) {
+    match TurnLock::new(alloc, Counter::new(alloc), 0) {
         Ok(made) => made,
         Err((_, counter)) => {
             drop(counter.destroy());

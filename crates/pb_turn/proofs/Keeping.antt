@@ -1,20 +1,20 @@
 -- Each step of the table under a lock keeps its rule.
-use Rattle.std.proofs.Common.{◌≡◌, ◌≢◌, ℕ, zero, suc, ◌+◌, ◌<◌, eqb, List, [], ◌∷◌, ◌++◌, map, get_or, set, Some, sym, refl, ap, ◌∙◌, subst, arith, eq-eqb, ne_eqb}
+use Rattle.std.proofs.Common.{◌≡◌, ◌≢◌, ℕ, zero, suc, ◌+◌, ◌<◌, min, eqb, List, [], ◌∷◌, ◌++◌, map, get_or, set, Some, sym, refl, ap, ◌∙◌, subst, arith, eq-eqb, ne_eqb}
 use mathlib.Core.Option as maybe
 use mathlib.Core.Option.{none, some, some-injective, some-ne-none}
 use mathlib.Core.Logic.{dite}
 use native.Mathlib.Decide.{ℕ_discrete}
 use lib.ListN.{get_elem?}
 use prog.Atomic.{either}
-use Rattle.std.specs.Prelude.{Option}
+use Rattle.std.specs.Prelude.{Option, None}
 use Rattle.atomic_table.specs.Table.{State, step, keeps, takes, gives, stepped, Allows, Splits, Joins, put_back, rest, opening, Final, Seen}
 use Rattle.atomic_table.proofs.Lists.{at_map, set_again, set_else, at_longer}
 use Rattle.pb_turn.specs.declared.table_rule.PassView.{PassView}
 use Rattle.pb_turn.specs.declared.table_rule.Stage.{Stage}
 use Rattle.pb_turn.specs.declared.table_rule.Stage.TheVariants.{Resting, Holding}
-use Rattle.pb_turn.specs.Obligations.{LeaveKeeps, SplitKeeps, MeetKeeps, Stands, StandsAlone}
-use Rattle.pb_turn.specs.Passes.{whole}
-use Rattle.pb_turn.specs.Table.{home_of, Knows, Known, pass_view, first_pass, spent_pass, kept_pass, given_pass, met_pass, view_of, parts_of, Turned, tried, left}
+use Rattle.pb_turn.specs.Obligations.{LeaveKeeps, LoadKeeps, LowerKeeps, SplitKeeps, MeetKeeps, Stands, StandsAt, StandsAlone, IsHeld}
+use Rattle.pb_turn.specs.Passes.{whole, found_by}
+use Rattle.pb_turn.specs.Table.{home_of, Knows, Known, pass_view, first_pass, spent_pass, kept_pass, given_pass, met_pass, view_of, parts_of, Turned, tried, read, sunk, left}
 use Rattle.pb_turn.proofs.PassLists.{put_there, each_set, each_snoc, sum_set, sum_snoc, sum_two, map_at, map_set, map_snoc}
 
 module _ {S : Type 0} where
@@ -26,7 +26,18 @@ module _ {S : Type 0} where
   other_knows b h x b' h' x' j Resting off k = tt
   other_knows b h x b' h' x' j (Holding y) off k = absurd (off k.0 k.1)
 
-module _ {S V : Type 0} (fact : S → List V → Type 0) (spent : V) where
+-- a pass that holds the turn found the state
+knows_held : {S : Type 0} (turn holder : ℕ) (x : S) (pass : ℕ) (st : Stage S) → Knows turn holder x pass st → IsHeld (found_by st) x
+knows_held turn holder x pass Resting k found e = absurd (none_some found e)
+  where
+    none_some : {S : Type 0} (a : S) → None ≡ Some a → ⊥
+    none_some a e = cc
+knows_held turn holder x pass (Holding y) k found e = some_same y found e ∙ k.2
+  where
+    some_same : {S : Type 0} (a b : S) → Some a ≡ Some b → b ≡ a
+    some_same a b e = cc
+
+module _ {S V : Type 0} (fact : S → ℕ → List V → Type 0) (spent : V) where
   abbrev D : Type 0
   D = PassView S V
 
@@ -44,11 +55,12 @@ module _ {S V : Type 0} (fact : S → List V → Type 0) (spent : V) where
   first_parts v zero d e z = let p : whole ≡ d.parts = ap (λ (y : D). y.parts) (some-injective (first_pass v) d e) in absurd (omega arith)
   first_parts v (suc j) d e z = absurd (some-ne-none d (sym e))
 
-  pub begins : (x : S) (v : V) → fact x (v ∷ []) → Rule (opening (0 ∷ []) (Some x ∷ []) (first_pass v))
-  begins x v h = record {
+  pub begins : (x : S) (n : ℕ) (v : V) → fact x n (v ∷ []) → Rule (opening (0 ∷ n ∷ []) (Some x ∷ []) (first_pass v))
+  begins x n v h = record {
     state = x;
     turn = 0;
     holder = 0;
+    number = n;
     low = omega arith;
     words = refl;
     homes = refl;
@@ -78,6 +90,7 @@ module _ {S V : Type 0} (fact : S → List V → Type 0) (spent : V) where
     state = r.state;
     turn = r.turn;
     holder = r.holder;
+    number = r.number;
     low = r.low;
     words = ap (λ (l : List ℕ). set l 0 (get_or l 0 0)) r.words;
     homes = r.homes;
@@ -89,7 +102,7 @@ module _ {S V : Type 0} (fact : S → List V → Type 0) (spent : V) where
     );
     all_parts = let p = sum_set parts_of s.views id me.0 w at in let a = r.all_parts in omega arith;
     no_parts = each_set (λ j d. d.parts ≡ 0 → d ≡ spent_pass spent) s.views id w (λ z. absurd (omega arith)) (λ j d _ e. r.no_parts j d e);
-    kept = subst (fact r.state) (sym (map_set view_of s.views id w ∙ set_again (map view_of s.views) id me.0.view (at_map view_of s.views id me.0 at))) r.kept;
+    kept = subst (fact r.state r.number) (sym (map_set view_of s.views id w ∙ set_again (map view_of s.views) id me.0.view (at_map view_of s.views id me.0 at))) r.kept;
   }
 
   gained : (s : St) (r : Rule s) (id : ℕ) (me : Known S V) → r.turn ≡ 0 → 0 < me.0.parts → get_elem? s.views id ≡ some me.0
@@ -98,6 +111,7 @@ module _ {S V : Type 0} (fact : S → List V → Type 0) (spent : V) where
     state = r.state;
     turn = 1;
     holder = id;
+    number = r.number;
     low = omega arith;
     words = ap (λ (l : List ℕ). set l 0 1) r.words;
     homes = ap (λ (l : List (maybe.Option (Option S))). set l 0 none) r.homes;
@@ -106,12 +120,12 @@ module _ {S V : Type 0} (fact : S → List V → Type 0) (spent : V) where
     holds_it = λ _. (w, put_there s.views id me.0 w at, refl);
     all_parts = let p = sum_set parts_of s.views id me.0 w at in let a = r.all_parts in omega arith;
     no_parts = each_set (λ j d. d.parts ≡ 0 → d ≡ spent_pass spent) s.views id w (λ z. absurd (omega arith)) (λ j d _ e. r.no_parts j d e);
-    kept = subst (fact r.state) (sym (map_set view_of s.views id w ∙ set_again (map view_of s.views) id me.0.view (at_map view_of s.views id me.0 at))) r.kept;
+    kept = subst (fact r.state r.number) (sym (map_set view_of s.views id w ∙ set_again (map view_of s.views) id me.0.view (at_map view_of s.views id me.0 at))) r.kept;
   }
 
   -- the fact stands for each pass
   stands : (s : St) (r : Rule s) (id : ℕ) (me : Known S V) → get_elem? s.views id ≡ some me.0 → Stands fact id me.0.view r.state
-  stands s r id me at = (map view_of s.views, r.kept, at_map view_of s.views id me.0 at)
+  stands s r id me at = (r.number, (map view_of s.views, r.kept, at_map view_of s.views id me.0 at))
 
   -- a resting pass that found the turn held hasn't all parts
   not_alone : (s : St) (r : Rule s) (id : ℕ) (me : Known S V) → me.0.stage ≡ Resting → get_elem? s.views id ≡ some me.0 → get_or s.words 0 0 ≡ r.turn → get_or s.words 0 0 ≢ 0 → me.0.parts ≢ whole
@@ -146,6 +160,7 @@ module _ {S V : Type 0} (fact : S → List V → Type 0) (spent : V) where
           state = y;
           turn = 0;
           holder = 0;
+          number = r.number;
           low = omega arith;
           words = ap (λ (l : List ℕ). set l 0 0) r.words;
           homes = λ i. put_back (r.homes i) (has i);
@@ -154,7 +169,7 @@ module _ {S V : Type 0} (fact : S → List V → Type 0) (spent : V) where
           all_parts = let p = sum_set parts_of s.views id me.0 d' at in let a = r.all_parts in omega arith;
           no_parts = each_set (λ j d. d.parts ≡ 0 → d ≡ spent_pass spent) s.views id d'
               (λ z. absurd (idle_not x (sym (ap (λ (d : D). d.stage) (r.no_parts id me.0 at z)) ∙ holds))) (λ j d _ e. r.no_parts j d e);
-          kept = subst (fact y) (sym (map_set view_of s.views id d')) (asked (map view_of s.views) (subst (λ (z : S). fact z (map view_of s.views)) (sym known.2) r.kept) (at_map view_of s.views id me.0 at));
+          kept = subst (fact y r.number) (sym (map_set view_of s.views id d')) (asked r.number (map view_of s.views) (subst (λ (z : S). fact z r.number (map view_of s.views)) (sym known.2) r.kept) (at_map view_of s.views id me.0 at));
         },
         (refl, refl, refl, is, ap rest has),
       )
@@ -164,6 +179,7 @@ module _ {S V : Type 0} (fact : S → List V → Type 0) (spent : V) where
     state = r.state;
     turn = r.turn;
     holder = r.holder;
+    number = r.number;
     low = r.low;
     words = r.words;
     homes = r.homes;
@@ -173,7 +189,7 @@ module _ {S V : Type 0} (fact : S → List V → Type 0) (spent : V) where
         (λ apart. (h.0, at_longer l (b ∷ []) r.holder h.0 (set_else s.views id r.holder a apart ∙ h.1), h.2));
     all_parts = let p = sum_set parts_of s.views id d a at in let q = sum_snoc parts_of l b in let w = r.all_parts in omega arith;
     no_parts = each_snoc (λ j y. y.parts ≡ 0 → y ≡ spent_pass spent) l b (λ j z. absurd (omega arith)) (each_set (λ j y. y.parts ≡ 0 → y ≡ spent_pass spent) s.views id a (λ z. absurd (omega arith)) (λ j y _ e. r.no_parts j y e));
-    kept = subst (fact r.state) (sym (map_snoc view_of l b ∙ ap (λ (cs : List V). cs ++ b.view ∷ []) (map_set view_of s.views id a))) (asked r.state (map view_of s.views) r.kept (at_map view_of s.views id d at));
+    kept = subst (fact r.state r.number) (sym (map_snoc view_of l b ∙ ap (λ (cs : List V). cs ++ b.view ∷ []) (map_set view_of s.views id a))) (asked r.state r.number (map view_of s.views) r.kept (at_map view_of s.views id d at));
   }
 
   pub joins : (id : ℕ) (d : D) (other : ℕ) (e : D) (met : V → V → V) → 0 < d.parts → e.stage ≡ Resting → MeetKeeps fact id d.view other e.view (met d.view e.view) spent
@@ -182,6 +198,7 @@ module _ {S V : Type 0} (fact : S → List V → Type 0) (spent : V) where
     state = r.state;
     turn = r.turn;
     holder = r.holder;
+    number = r.number;
     low = r.low;
     words = r.words;
     homes = r.homes;
@@ -193,20 +210,68 @@ module _ {S V : Type 0} (fact : S → List V → Type 0) (spent : V) where
     all_parts = let p = sum_set parts_of s.views id d b at in let q = sum_set parts_of l other e z there in let w = r.all_parts in omega arith;
     no_parts = each_set (λ j y. y.parts ≡ 0 → y ≡ spent_pass spent) l other z (λ _. refl)
         (λ j y _ i. each_set (λ k u. u.parts ≡ 0 → u ≡ spent_pass spent) s.views id b (λ n. absurd (omega arith)) (λ k u _ m. r.no_parts k u m) j y i);
-    kept = subst (fact r.state) (sym (map_set view_of l other z ∙ ap (λ (cs : List V). set cs other spent) (map_set view_of s.views id b)))
-        (asked r.state (map view_of s.views) r.kept (at_map view_of s.views id d at) apart
+    kept = subst (fact r.state r.number) (sym (map_set view_of l other z ∙ ap (λ (cs : List V). set cs other spent) (map_set view_of s.views id b)))
+        (asked r.state r.number (map view_of s.views) r.kept (at_map view_of s.views id d at) apart
         (subst (λ (cs : List V). get_elem? cs other ≡ some e.view) (map_set view_of s.views id b) (at_map view_of l other e there)));
   }
 
-  pub closes : (id : ℕ) (d : D) (ws : List ℕ) (xs : List (Option S)) → d.stage ≡ Resting → d.parts ≡ whole → Final (Seen Rule id d) ws xs → (y : Option S) → get_elem? xs 0 ≡ some y
-      → (x : S) × (y ≡ Some x) × StandsAlone fact id d.view spent x
-  closes id d ws xs idle all f y e = let s : St = f.0 in let r : Rule s = f.1.0 in let at = f.1.1 in (
-    r.state,
-    some-injective y (Some r.state) (sym e ∙ f.4 0 (Some r.state) (at_home s r id d idle all at)),
-    (
-      map view_of s.views,
-      r.kept,
-      at_map view_of s.views id d at,
-      λ j w there apart. let m = map_at view_of s.views j w there in sym m.2 ∙ ap view_of (others_spent s r id d idle all at j m.0 m.1 apart),
-    ),
-  )
+  pub closes : (id : ℕ) (d : D) (ws : List ℕ) (xs : List (Option S)) → d.stage ≡ Resting → d.parts ≡ whole → Final (Seen Rule id d) ws xs → (y : Option S) (n : ℕ) → get_elem? xs 0 ≡ some y → get_elem? ws 1 ≡ some n
+      → (x : S) × (y ≡ Some x) × StandsAlone fact id d.view spent x n
+  closes id d ws xs idle all f y n e last = let s : St = f.0 in let r : Rule s = f.1.0 in let at = f.1.1 in
+      let same : r.number ≡ n = some-injective r.number n (ap (λ (l : List ℕ). get_elem? l 1) (sym r.words ∙ f.2) ∙ last) in (
+        r.state,
+        some-injective y (Some r.state) (sym e ∙ f.4 0 (Some r.state) (at_home s r id d idle all at)),
+        (
+          map view_of s.views,
+          subst (λ (k : ℕ). fact r.state k (map view_of s.views)) same r.kept,
+          at_map view_of s.views id d at,
+          λ j w there apart. let m = map_at view_of s.views j w there in sym m.2 ∙ ap view_of (others_spent s r id d idle all at j m.0 m.1 apart),
+        ),
+      )
+
+  -- a step on the number alone, after which the pass has another view
+  numbered : (s : St) (r : Rule s) (n id : ℕ) (me : Known S V) (w : V) → 0 < me.0.parts → get_elem? s.views id ≡ some me.0 → fact r.state n (set (map view_of s.views) id w)
+      → Rule (stepped s 1 n id me.1 (pass_view me.0.stage me.0.parts me.0.misses w) keeps)
+  numbered s r n id me w some_parts at h = let d' : D = pass_view me.0.stage me.0.parts me.0.misses w in record {
+    state = r.state;
+    turn = r.turn;
+    holder = r.holder;
+    number = n;
+    low = r.low;
+    words = ap (λ (l : List ℕ). set l 1 n) r.words;
+    homes = r.homes;
+    each_pass = each_set (λ j d. Knows r.turn r.holder r.state j d.stage) s.views id d' (r.each_pass id me.0 at) (λ j d _ e. r.each_pass j d e);
+    holds_it = λ b. let k = r.holds_it b in dite (ℕ_discrete r.holder id)
+        (λ same. (d', subst (λ (i : ℕ). get_elem? (set s.views id d') i ≡ some d') (sym same) (put_there s.views id me.0 d' at), ap (λ (y : D). y.stage) (some-injective me.0 k.0 (sym at ∙ ap (get_elem? s.views) (sym same) ∙ k.1)) ∙ k.2))
+        (λ apart. (k.0, set_else s.views id r.holder d' apart ∙ k.1, k.2));
+    all_parts = let p = sum_set parts_of s.views id me.0 d' at in let a = r.all_parts in omega arith;
+    no_parts = each_set (λ j d. d.parts ≡ 0 → d ≡ spent_pass spent) s.views id d' (λ z. absurd (omega arith)) (λ j d _ e. r.no_parts j d e);
+    kept = subst (fact r.state n) (sym (map_set view_of s.views id d')) h;
+  }
+
+  -- what the table has as the number, the fact is of
+  at_number : (s : St) (r : Rule s) → fact r.state (get_or s.words 1 0) (map view_of s.views)
+  at_number s r = subst (λ (k : ℕ). fact r.state k (map view_of s.views)) (sym (ap (λ (l : List ℕ). get_or l 1 0) r.words)) r.kept
+
+  pub reads : (slots id : ℕ) (me : Known S V) (pass : ℕ) (loaded : Option S → V → ℕ → V) → pass ≡ id → 0 < me.0.parts → LoadKeeps fact id me.0.view (found_by me.0.stage) (loaded (found_by me.0.stage) me.0.view)
+      → Allows Rule slots id me 1 (λ n. n) (read fact loaded pass (step slots 1 0 0 none) me)
+  reads slots id me pass loaded same some_parts asked s r _ at _ = let n : ℕ = get_or s.words 1 0 in let h = at_number s r in
+      let there = at_map view_of s.views id me.0 at in let w : V = loaded (found_by me.0.stage) me.0.view n in
+      let held = knows_held r.turn r.holder r.state id me.0.stage (r.each_pass id me.0 at) in (
+        pass_view me.0.stage me.0.parts me.0.misses w,
+        keeps,
+        tt,
+        numbered s r n id me w some_parts at (asked r.state n (map view_of s.views) h there held),
+        (refl, (r.state, subst (λ (k : ℕ). StandsAt fact k me.0.view r.state n) (sym same) (map view_of s.views, h, there), held)),
+      )
+
+  pub sinks : (slots id : ℕ) (me : Known S V) (pass k : ℕ) (lowered : V → ℕ → V) → pass ≡ id → 0 < me.0.parts → LowerKeeps fact id me.0.view k (lowered me.0.view k)
+      → Allows Rule slots id me 1 (λ n. min n k) (sunk fact lowered pass (step slots 1 k 0 none) me)
+  sinks slots id me pass k lowered same some_parts asked s r _ at _ = let n : ℕ = get_or s.words 1 0 in let h = at_number s r in
+      let there = at_map view_of s.views id me.0 at in let w : V = lowered me.0.view k in (
+        pass_view me.0.stage me.0.parts me.0.misses w,
+        keeps,
+        tt,
+        numbered s r (min n k) id me w some_parts at (asked r.state n (map view_of s.views) h there),
+        (refl, (r.state, subst (λ (i : ℕ). StandsAt fact i me.0.view r.state n) (sym same) (map view_of s.views, h, there))),
+      )

@@ -1,9 +1,10 @@
 -- What clauses say of a pass, of what a holder has, and of the lock.
-use Rattle.std.specs.Prelude.{◌≡◌, ℕ, [], ◌∷◌, Some, None}
+use Rattle.std.specs.Prelude.{◌≡◌, ℕ, [], ◌∷◌, Option, Some, None}
 use Rattle.pb_turn.specs.declared.rule.TurnRule.{Ghosts}
 use Rattle.pb_turn.specs.declared.pass.Pass.{Pass}
 use Rattle.pb_turn.specs.declared.pass.Held.{Held}
 use Rattle.pb_turn.specs.declared.lock.TurnLock.{TurnLock}
+use Rattle.pb_turn.specs.declared.table_rule.Stage.{Stage}
 use Rattle.pb_turn.specs.declared.table_rule.Stage.TheVariants.{Resting, Holding}
 
 -- the state that the holder found, and what it has made of it
@@ -19,6 +20,11 @@ with_state h x = record h { state = x }
 -- all parts of the right to close. The first pass has them, a split gives one away, and a meeting adds up; a pass has one at least, so the pass that has all is the only one
 abbrev pub whole : ℕ
 whole = 18446744073709551616
+
+-- the state that a pass has found, if it holds the turn
+abbrev pub found_by : {S : Type 0} → Stage S → Option S
+found_by Resting = None
+found_by (Holding x) = Some x
 
 module _ {R S V : Type 0} {g : Ghosts R S V} where
   -- what the caller's rule sees of a pass
@@ -40,6 +46,10 @@ module _ {R S V : Type 0} {g : Ghosts R S V} where
   -- it doesn't hold the turn
   abbrev pub IsResting : Pass R S V g → Type 0
   IsResting p = (p.seat.me.0.stage ≡ Resting) × (p.seat.me.1 ≡ [])
+
+  -- the state that it found, if it holds the turn
+  abbrev pub held : Pass R S V g → Option S
+  held p = found_by p.seat.me.0.stage
 
   -- it holds the turn, and found this state
   abbrev pub HoldsTurn : Pass R S V g → S → Type 0

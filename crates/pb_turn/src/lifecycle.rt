@@ -2,24 +2,26 @@
 ghost use Rattle.std.specs.Prelude.{◌≡◌, ◌+◌, ◌<◌, [], ◌∷◌, Some, IfOk, IfErr};
 ghost use Rattle.pb_turn.specs.Obligations.{SplitKeeps, MeetKeeps, StandsAlone};
 ghost use Rattle.pb_turn.specs.Passes.{view, number, parts, misses, whole, IsResting, IsPassOf, IsSamePlace};
+ghost use Rattle.pb_turn.specs.Passes as passes;
 
 use crate::lock::TurnLock;
 use crate::pass::Pass;
 use crate::rule::TurnRule;
-use crate::table_rule::{FREE, STATE};
+use crate::table_rule::{FREE, NUMBER, STATE};
 use atomic_table::{Refused, Table};
 use std::alloc::{AllocError, Global};
 use std::snapshot::Snapshot;
 
 impl<R: TurnRule> TurnLock<R> {
-    /// A lock with this state, and the first pass, which has all parts. Where there is no memory, the state comes back.
+    /// A lock with this state and number, and the first pass, which has all parts. Where there is no memory, the state comes back.
     pub fn new(
         alloc: Global,
         state: R::State,
+        number: u64,
     ) -> Result<(TurnLock<R>, Pass<R>), (AllocError, R::State)>
-        requires rule { R.fact state (R.first state ∷ []) }
+        requires rule { R.fact state number (R.first state ∷ []) }
         ensures ok { IfOk result (λ r. IsPassOf r.0 r.1 × IsResting r.1 × (view r.1 ≡ R.first state) × (parts r.1 ≡ whole)) }
-        ensures first { IfOk result (λ r. (number r.1 ≡ 0) × (misses r.1 ≡ 0)) }
+        ensures first { IfOk result (λ r. (passes.number r.1 ≡ 0) × (misses r.1 ≡ 0)) }
         ensures err { IfErr result (λ r. r.1 ≡ state) }
     {
         let about = Snapshot::of(&state);
@@ -27,7 +29,7 @@ impl<R: TurnRule> TurnLock<R> {
             return Err((AllocError, state));
         };
         slots.push_reserved(Some(state));
-        match Table::new(alloc, &[FREE], slots, &about) {
+        match Table::new(alloc, &[FREE, number], slots, &about) {
             Ok((table, seat)) => Ok((TurnLock { table }, Pass { seat })),
             Err(refused) => Err((AllocError, state_of::<R>(refused))),
         }
@@ -56,20 +58,21 @@ impl<R: TurnRule> TurnLock<R> {
         self.take_in(pass, other);
     }
 
-    /// Takes the lock apart when all other passes were met: the state that the last holder left.
-    pub fn close_with(self, pass: Pass<R>) -> R::State
+    /// Takes the lock apart when all other passes were met: the state that the last holder left, and the last number.
+    pub fn close_with(self, pass: Pass<R>) -> (R::State, u64)
         requires own { IsPassOf self pass }
         requires rests { IsResting pass }
         requires whole { parts pass ≡ whole }
-        ensures rule { StandsAlone R.fact (number pass) (view pass) R.spent result }
+        ensures rule { StandsAlone R.fact (number pass) (view pass) R.spent result.0 result.1 }
     {
         let TurnLock { table } = self;
         let Pass { seat } = pass;
         let mut closed = table.close_with(seat);
+        let number = closed.word(NUMBER);
         let state = closed.take(STATE);
         closed.free();
         let Some(state) = state else { unreachable!() };
-        state
+        (state, number)
     }
 }
 

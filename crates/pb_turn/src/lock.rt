@@ -17,5 +17,5 @@ pub struct TurnLock<R: TurnRule> {
         LockRule<R>,
         Global,
     >,
-    ghost shape: { (table.shared.table_id.words ≡ 1) × (table.shared.table_id.slots ≡ 1) },
+    ghost shape: { (table.shared.table_id.words ≡ 2) × (table.shared.table_id.slots ≡ 1) },
 }

@@ -1,6 +1,6 @@
 //! What each step on the table tells.
 ghost use Rattle.std.specs.Prelude.{None};
-ghost use Rattle.pb_turn.specs.Table.{tried, left, kept_pass, given_pass, met_pass, spent_pass};
+ghost use Rattle.pb_turn.specs.Table.{tried, read, sunk, left, kept_pass, given_pass, met_pass, spent_pass};
 
 use crate::rule::TurnRule;
 use crate::table_rule::PassView;
@@ -26,6 +26,26 @@ pub(crate) struct TryTurn<R, N> {
 impl<R: TurnRule, N: PassNumber> Play<Option<R::State>, PassView<R::State, R::View>>
     for TryTurn<R, N> {
     ghost then = { tried R.fact N.number };
+}
+
+/// A load of the number.
+pub(crate) struct ReadNumber<R, N> {
+    rule: PhantomData<(R, N)>,
+}
+
+impl<R: TurnRule, N: PassNumber> Play<Option<R::State>, PassView<R::State, R::View>>
+    for ReadNumber<R, N> {
+    ghost then = { read R.fact R.loaded N.number };
+}
+
+/// A lowering of the number.
+pub(crate) struct LowerNumber<R, N> {
+    rule: PhantomData<(R, N)>,
+}
+
+impl<R: TurnRule, N: PassNumber> Play<Option<R::State>, PassView<R::State, R::View>>
+    for LowerNumber<R, N> {
+    ghost then = { sunk R.fact R.lowered N.number };
 }
 
 /// The view that a holder leaves with, which the call picks.

@@ -1,5 +1,5 @@
 //! The rule of a caller's lock.
-ghost use Rattle.std.specs.Prelude.{List};
+ghost use Rattle.std.specs.Prelude.{List, Option, ℕ};
 
 /// What a lock guards, what one pass knows of it, and the fact that ties the two.
 pub trait TurnRule {
@@ -9,9 +9,9 @@ pub trait TurnRule {
     /// What one pass knows: its view. No value of it is made.
     type View;
 
-    // What holds between any two steps, of the state that the last holder left and of the views of all passes, each at
-    // its pass's number. The views of passes that were dropped or met stay in the list.
-    ghost fact: { Self.State → List Self.View → Type 0 };
+    // What holds between any two steps, of the state that the last holder left, of the number, and of the views of all
+    // passes, each at its pass's number. The views of passes that were dropped or met stay in the list.
+    ghost fact: { Self.State → ℕ → List Self.View → Type 0 };
 
     // The view of the first pass.
     ghost first: { Self.State → Self.View };
@@ -25,6 +25,13 @@ pub trait TurnRule {
     ghost met: { Self.View → Self.View → Self.View };
 
     ghost spent: { Self.View };
+
+    // The view that a load of the number leaves: of the state that the pass has found, if it holds the turn, of the view
+    // before, and of the number.
+    ghost loaded: { Option Self.State → Self.View → ℕ → Self.View };
+
+    // The view that a lowering leaves, of the view before and the number that was brought.
+    ghost lowered: { Self.View → ℕ → Self.View };
 }
 
 /// The view that a holder leaves with.

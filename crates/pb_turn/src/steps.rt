@@ -1,14 +1,16 @@
 //! The steps on the table of which the calls of a lock are made. Each is one atomic step, but for the two that move the
 //! state between the slot and the holder, which only the holder of the turn does.
-ghost use Rattle.std.specs.Prelude.{◌≡◌, ◌≢◌, ◌+◌, ◌<◌, Some, MatchBool, ⊤};
-ghost use Rattle.pb_turn.specs.Obligations.{LeaveKeeps, SplitKeeps, MeetKeeps, Stands};
-ghost use Rattle.pb_turn.specs.Passes.{view, number, parts, misses, whole, found, state, IsResting, HoldsTurn, HasLaid, IsPassOf, IsSamePass, IsSamePlace};
+ghost use Rattle.std.specs.Prelude.{◌≡◌, ◌≢◌, ◌+◌, ◌<◌, ℕ, Some, MatchBool, ⊤};
+ghost use Rattle.pb_turn.specs.Obligations.{LeaveKeeps, LoadKeeps, LowerKeeps, SplitKeeps, MeetKeeps, Stands, StandsAt, IsHeld};
+ghost use Rattle.pb_turn.specs.Passes.{view, number, parts, misses, whole, held, found, state, IsResting, HoldsTurn, HasLaid, IsPassOf, IsSamePass, IsSamePlace};
 
 use crate::lock::TurnLock;
 use crate::pass::{Held, Pass};
-use crate::plays::{LeaveTurn, MeetPass, NextView, PassNumber, SplitPass, TryTurn};
+use crate::plays::{
+    LeaveTurn, LowerNumber, MeetPass, NextView, PassNumber, ReadNumber, SplitPass, TryTurn,
+};
 use crate::rule::{Leaving, TurnRule};
-use crate::table_rule::{FREE, STATE, TAKEN, TURN};
+use crate::table_rule::{FREE, NUMBER, STATE, TAKEN, TURN};
 use std::marker::Brand;
 use std::snapshot::Snapshot;
 
@@ -104,6 +106,54 @@ impl<R: TurnRule> TurnLock<R> {
         let _ = said;
         let shared = &self.table.shared;
         shared.store::<LeaveTurn<N>>(&mut pass.seat, TURN, FREE);
+    }
+
+    // Reads the number.
+    pub(crate) fn load_number(&self, pass: &mut Pass<R>) -> u64
+        requires own { IsPassOf self.now pass.old }
+        requires rule { LoadKeeps R.fact (number pass.old) (view pass.old) (held pass.old) (R.loaded (held pass.old) (view pass.old)) }
+        ensures same { IsSamePlace pass.old pass.new × (parts pass.new ≡ parts pass.old) × (misses pass.new ≡ misses pass.old) }
+        ensures view { view pass.new ≡ R.loaded (held pass.old) (view pass.old) result }
+        ensures rule { (x : R.State) × StandsAt R.fact (number pass.old) (view pass.old) x result × IsHeld (held pass.old) x }
+    {
+        self.load_number_as::<Brand>(pass)
+    }
+
+    // The same, where the call picks the pass's number.
+    fn load_number_as<N: PassNumber>(&self, pass: &mut Pass<R>) -> u64
+        requires own { IsPassOf self.now pass.old }
+        requires number { N.number ≡ number pass.old }
+        requires rule { LoadKeeps R.fact (number pass.old) (view pass.old) (held pass.old) (R.loaded (held pass.old) (view pass.old)) }
+        ensures same { IsSamePlace pass.old pass.new × (parts pass.new ≡ parts pass.old) × (misses pass.new ≡ misses pass.old) }
+        ensures view { view pass.new ≡ R.loaded (held pass.old) (view pass.old) result }
+        ensures rule { (x : R.State) × StandsAt R.fact (number pass.old) (view pass.old) x result × IsHeld (held pass.old) x }
+    {
+        let shared = &self.table.shared;
+        shared.load::<ReadNumber<R, N>>(&mut pass.seat, NUMBER)
+    }
+
+    // Lowers the number to this one, unless it is at most this already.
+    pub(crate) fn lower_number(&self, pass: &mut Pass<R>, to: u64)
+        requires own { IsPassOf self.now pass.old }
+        requires rule { LowerKeeps R.fact (number pass.old) (view pass.old) to (R.lowered (view pass.old) to) }
+        ensures same { IsSamePlace pass.old pass.new × (parts pass.new ≡ parts pass.old) × (misses pass.new ≡ misses pass.old) }
+        ensures view { view pass.new ≡ R.lowered (view pass.old) to }
+        ensures rule { (x : R.State) × (found : ℕ) × StandsAt R.fact (number pass.old) (view pass.old) x found }
+    {
+        self.lower_number_as::<Brand>(pass, to);
+    }
+
+    // The same, where the call picks the pass's number.
+    fn lower_number_as<N: PassNumber>(&self, pass: &mut Pass<R>, to: u64)
+        requires own { IsPassOf self.now pass.old }
+        requires number { N.number ≡ number pass.old }
+        requires rule { LowerKeeps R.fact (number pass.old) (view pass.old) to (R.lowered (view pass.old) to) }
+        ensures same { IsSamePlace pass.old pass.new × (parts pass.new ≡ parts pass.old) × (misses pass.new ≡ misses pass.old) }
+        ensures view { view pass.new ≡ R.lowered (view pass.old) to }
+        ensures rule { (x : R.State) × (found : ℕ) × StandsAt R.fact (number pass.old) (view pass.old) x found }
+    {
+        let shared = &self.table.shared;
+        shared.fetch_min::<LowerNumber<R, N>>(&mut pass.seat, NUMBER, to);
     }
 
     // Splits a new pass off.

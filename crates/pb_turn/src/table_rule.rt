@@ -1,5 +1,5 @@
-//! The rule of the table under a lock: one word, which is the turn, and one slot, in which the state lies while no pass
-//! holds the turn.
+//! The rule of the table under a lock: a word that is the turn, a word that is the number, and a slot, in which the state
+//! lies while no pass holds the turn.
 ghost use Rattle.std.specs.Prelude.{ℕ};
 
 use crate::rule::TurnRule;
@@ -9,6 +9,9 @@ use std::snapshot::Snapshot;
 
 /// The number of the word that is the turn.
 pub(crate) const TURN: usize = 0;
+
+/// The number of the word that is the lock's number.
+pub(crate) const NUMBER: usize = 1;
 
 /// The turn, while no pass holds it, and while one does.
 pub(crate) const FREE: u64 = 0;

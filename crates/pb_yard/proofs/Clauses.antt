@@ -33,27 +33,27 @@ use Rattle.pb_yard.proofs.Holding.{holding_keeps}
 use Rattle.pb_yard.proofs.Steps.{Steps, keeps_step, lease_step, release_step, renew_step, same_rest, first_by, end_by, ending_by}
 use Rattle.pb_yard.proofs.Asks.{begins}
 
-abbrev pub Fact : GraphValue → List View → Type 0
-Fact g views = IsYard g g.incumbent views
+abbrev pub Fact : GraphValue → ℕ → List View → Type 0
+Fact g number views = IsYard g g.incumbent views
 
 -- whatever the others know, the graph may go from x to y so, by these events, and the pass then has
 -- this lease and has told this cost
 abbrev pub MayGo : (x y : GraphValue) → (v : View) → v.journal.is_live ≡ true → List Event → Option LeaseValue → Option ℕ → Type 0
 MayGo x y v live events lent told =
-    (views : List View) (seat : ℕ) (h : Fact x views) (at : get_elem? views seat ≡ some v) → Steps x y x.incumbent views seat v h at live events lent told y.incumbent
+    (views : List View) (seat : ℕ) (h : IsYard x x.incumbent views) (at : get_elem? views seat ≡ some v) → Steps x y x.incumbent views seat v h at live events lent told y.incumbent
 
 module _ (x y : GraphValue) (v : View) (live : v.journal.is_live ≡ true) (list : GraphValue → List Event) (lent : Option LeaseValue) (told : Option ℕ) (may : MayGo x y v live (list x) lent told) where
   left_is : y.table.journal ≡ x.table.journal ++ list x → view_left x y lent told v ≡ view_then x.table.journal (list x) lent told v
   left_is added = ap (λ events. view_then x.table.journal events lent told v) (ap (drop (length x.table.journal)) added ∙ drop-append_seam x.table.journal (list x))
 
   pub leave_keeps : (seat : ℕ) → LeaveKeeps Fact seat v x y (view_left x y lent told v)
-  leave_keeps seat views h at =
+  leave_keeps seat number views h at =
       let t = may views seat h at in
       subst (λ (u : View). IsYard y y.incumbent (set views seat u)) (sym (left_is t.1.added))
       (holding_keeps x y x.incumbent y.incumbent views seat v (list x) lent told h at live t.0 t.1 t.2).0
 
   pub holds : (seat : ℕ) → Stands Fact seat v x → (step : GraphValue → GraphValue → Type 0) → step x y → Holds step list v lent told (view_left x y lent told v)
-  holds seat (views, h, at) step is =
+  holds seat (number, (views, h, at)) step is =
       let t = may views seat h at in
       let after = holding_keeps x y x.incumbent y.incumbent views seat v (list x) lent told h at live t.0 t.1 t.2 in
       subst (λ (u : View). Holds step list v lent told u) (sym (left_is t.1.added)) record {
@@ -70,7 +70,7 @@ module _ (x y : GraphValue) (v : View) (live : v.journal.is_live ≡ true) (list
 
   -- the pass has seen the whole journal then
   pub seen_is : (seat : ℕ) → Stands Fact seat v x → (view_left x y lent told v).journal.seen ≡ y.table.journal
-  seen_is seat (views, h, at) = let t = may views seat h at in ap (λ (u : View). u.journal.seen) (left_is t.1.added) ∙ sym t.1.added
+  seen_is seat (number, (views, h, at)) = let t = may views seat h at in ap (λ (u : View). u.journal.seen) (left_is t.1.added) ∙ sym t.1.added
 
 -- ---- the calls, by what the graph does
 

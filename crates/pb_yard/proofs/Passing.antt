@@ -148,8 +148,8 @@ module _ (x : GraphValue) (shared : Option ℕ) (views : List View) (seat : ℕ)
   }
 
 pub split_keeps : (seat : ℕ) (v : View) → v.journal.is_live ≡ true → v.journal.own.worker ≡ 0 → v.journal.made < v.settings.workers
-    → SplitKeeps (λ (g : GraphValue) (views : List View). IsYard g g.incumbent views) seat v (split_view v) (next_pass_view v)
-split_keeps seat v live first more x views h at = split_yard x x.incumbent views seat v h at live first
+    → SplitKeeps (λ (g : GraphValue) (number : ℕ) (views : List View). IsYard g g.incumbent views) seat v (split_view v) (next_pass_view v)
+split_keeps seat v live first more x number views h at = split_yard x x.incumbent views seat v h at live first
     (subst (λ (t : Settings). v.journal.made < t.workers) (h.each seat v at live).search.settings more)
 
 -- ---- passes that meet
@@ -218,6 +218,6 @@ module _ (x : GraphValue) (shared : Option ℕ) (views : List View) (seat : ℕ)
   }
 
 pub meet_keeps : (seat : ℕ) (v : View) (other : ℕ) (w : View) → v.journal.is_live ≡ true → w.journal.is_live ≡ true → w.lent ≡ None
-    → MeetKeeps (λ (g : GraphValue) (views : List View). IsYard g g.incumbent views) seat v other w (met_pass_view v w) spent_pass_view
-meet_keeps seat v other w live up free x views h at apart there =
+    → MeetKeeps (λ (g : GraphValue) (number : ℕ) (views : List View). IsYard g g.incumbent views) seat v other w (met_pass_view v w) spent_pass_view
+meet_keeps seat v other w live up free x number views h at apart there =
     met_yard x x.incumbent views seat v other w h at live apart (sym (set_else views seat other (met_pass_view v w) apart) ∙ there) up free

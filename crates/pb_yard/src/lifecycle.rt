@@ -20,7 +20,7 @@ impl Yard {
         ensures err { IfErr result (λ r. r.1 ≡ graph) }
     {
         let _ = graph.abstraction();
-        let (lock, turn) = TurnLock::new(alloc, graph)?;
+        let (lock, turn) = TurnLock::new(alloc, graph, u64::MAX)?;
         Ok((
             Yard { lock },
             Pass {
@@ -89,6 +89,7 @@ impl Yard {
             made: _,
             seen: _,
         } = pass;
-        lock.close_with(turn)
+        let (graph, _) = lock.close_with(turn);
+        graph
     }
 }

@@ -15,7 +15,7 @@ impl TurnRule for YardRule {
 
     type View = View;
 
-    ghost fact = { λ g views. IsYard g g.incumbent views };
+    ghost fact = { λ g number views. IsYard g g.incumbent views };
 
     ghost first = { opening_view };
 
@@ -26,6 +26,10 @@ impl TurnRule for YardRule {
     ghost met = { met_pass_view };
 
     ghost spent = { spent_pass_view };
+
+    ghost loaded = { λ _ v number. v };
+
+    ghost lowered = { λ v number. v };
 }
 
 /// Leaving after a lease was asked for.

@@ -9,5 +9,5 @@ leave-requires-clause-rule c =
     let after = c.count_once-did.new.self in
     let did = c.count_once-did.result in
     let same = c.state_mut.ensures.value ∙ c.requires.holds.1 in
-    holding_keeps did _ _ _ _ _ _ (subst (λ (x : Counter). after.count ≡ counted did x.count) same c.count_once-did.ensures.count)
+    λ number. holding_keeps did _ _ _ _ _ _ (subst (λ (x : Counter). after.count ≡ counted did x.count) same c.count_once-did.ensures.count)
     (subst (λ (x : Counter). MatchBool did (after.history.items ≡ x.history.items ++ after.count ∷ []) (after.history.items ≡ x.history.items)) same c.count_once-did.ensures.history)

@@ -2,13 +2,13 @@ use Rattle.pb_test_turn.proofs.CountingKeeps.{split_keeps, meet_keeps}
 use Rattle.pb_test_turn.proofs.counting.count_by_four.Goals as goal
 
 pub split-second-requires-clause-rule : goal.split-second-requires-clause-rule
-split-second-requires-clause-rule g c x views h at = split_keeps _ _ _ _ views h at
+split-second-requires-clause-rule g c x number views h at = split_keeps _ _ _ _ views h at
 
 pub split-third-requires-clause-rule : goal.split-third-requires-clause-rule
-split-third-requires-clause-rule g c x views h at = split_keeps _ _ _ _ views h at
+split-third-requires-clause-rule g c x number views h at = split_keeps _ _ _ _ views h at
 
 pub split-fourth-requires-clause-rule : goal.split-fourth-requires-clause-rule
-split-fourth-requires-clause-rule g c x views h at = split_keeps _ _ _ _ views h at
+split-fourth-requires-clause-rule g c x number views h at = split_keeps _ _ _ _ views h at
 
 pub meet-requires-clause-rule : goal.meet-requires-clause-rule
-meet-requires-clause-rule g c x views h at apart there = meet_keeps _ _ _ _ _ _ views h at there
+meet-requires-clause-rule g c x number views h at apart there = meet_keeps _ _ _ _ _ _ views h at there

@@ -2,4 +2,4 @@ use Rattle.pb_test_turn.proofs.CountingKeeps.{meet_keeps}
 use Rattle.pb_test_turn.proofs.counting.count_by_two.Goals as goal
 
 pub meet-requires-clause-rule : goal.meet-requires-clause-rule
-meet-requires-clause-rule g c x views h at apart there = meet_keeps _ _ _ _ _ _ views h at there
+meet-requires-clause-rule g c x number views h at apart there = meet_keeps _ _ _ _ _ _ views h at there

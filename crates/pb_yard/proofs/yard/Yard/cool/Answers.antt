@@ -17,7 +17,7 @@ use Rattle.pb_yard.proofs.yard.Yard.cool.Goals as goal
 pub cool-done-requires-clause-leased : goal.cool-done-requires-clause-leased
 cool-done-requires-clause-leased g c =
     let p = c.args.pass.now in
-    let r = c.enter-held.ensures.rule in
+    let r = c.enter-held.ensures.rule.1 in
     subst (λ (z : GraphValue). IsSome ((counts_in z).leases p.worker)) (sym (c.state_mut.ensures.value ∙ c.enter-held.ensures.won.1))
     (subst (λ w. IsSome ((counts_in (found c.enter-held.result)).leases w)) p.worker_is
     (has_lease (found c.enter-held.result) (found c.enter-held.result).incumbent r.0 (number p.turn) (view p.turn) r.1 r.2 p.is_live c.requires.leased))
@@ -25,7 +25,7 @@ cool-done-requires-clause-leased g c =
 pub cool-done-requires-clause-block : goal.cool-done-requires-clause-block
 cool-done-requires-clause-block g c =
     let p = c.args.pass.now in
-    let r = c.enter-held.ensures.rule in
+    let r = c.enter-held.ensures.rule.1 in
     subst (λ (z : GraphValue). c.args.block < (blocks z.table).count) (sym (c.state_mut.ensures.value ∙ c.enter-held.ensures.won.1))
     (block_known (found c.enter-held.result) (found c.enter-held.result).incumbent r.0 (number p.turn) (view p.turn) r.1 r.2 p.is_live c.args.block c.requires.block)
 

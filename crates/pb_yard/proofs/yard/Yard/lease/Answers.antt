@@ -12,20 +12,20 @@ use Rattle.pb_yard.proofs.yard.Yard.lease.Goals as goal
 
 pub lease-reply-requires-clause-worker : goal.lease-reply-requires-clause-worker
 lease-reply-requires-clause-worker g c =
-    let p = c.args.pass.now in let r = c.enter-held.ensures.rule in
+    let p = c.args.pass.now in let r = c.enter-held.ensures.rule.1 in
     subst (λ (z : GraphValue). p.worker < z.table.settings.workers) (sym (c.state_mut.ensures.value ∙ c.enter-held.ensures.won.1))
     (subst (λ w. w < (found c.enter-held.result).table.settings.workers) p.worker_is (worker_known (found c.enter-held.result) (found c.enter-held.result).incumbent r.0 (number p.turn) (view p.turn) r.1 r.2 p.is_live))
 
 pub lease-reply-requires-clause-vacant : goal.lease-reply-requires-clause-vacant
 lease-reply-requires-clause-vacant g c =
-    let p = c.args.pass.now in let r = c.enter-held.ensures.rule in
+    let p = c.args.pass.now in let r = c.enter-held.ensures.rule.1 in
     subst (λ (z : GraphValue). (counts_in z).leases p.worker ≡ None) (sym (c.state_mut.ensures.value ∙ c.enter-held.ensures.won.1))
     (subst (λ w. (counts_in (found c.enter-held.result)).leases w ≡ None) p.worker_is
     (vacant (found c.enter-held.result) (found c.enter-held.result).incumbent r.0 (number p.turn) (view p.turn) r.1 r.2 p.is_live c.requires.vacant))
 
 pub lease-reply-requires-clause-stays : goal.lease-reply-requires-clause-stays
 lease-reply-requires-clause-stays g c =
-    let p = c.args.pass.now in let r = c.enter-held.ensures.rule in
+    let p = c.args.pass.now in let r = c.enter-held.ensures.rule.1 in
     subst (λ (z : GraphValue). (counts_in z).signed_off p.worker ≡ false) (sym (c.state_mut.ensures.value ∙ c.enter-held.ensures.won.1))
     (subst (λ w. (counts_in (found c.enter-held.result)).signed_off w ≡ false) p.worker_is
     (active (found c.enter-held.result) (found c.enter-held.result).incumbent r.0 (number p.turn) (view p.turn) r.1 r.2 p.is_live c.requires.stays))

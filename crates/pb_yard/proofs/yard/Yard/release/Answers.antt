@@ -14,7 +14,7 @@ use Rattle.pb_yard.proofs.yard.Yard.release.Goals as goal
 pub release-requires : goal.release-requires
 release-requires g c =
     let p = c.args.pass.now in
-    let r = c.enter-held.ensures.rule in
+    let r = c.enter-held.ensures.rule.1 in
     subst (λ (z : GraphValue). IsOfGraph z c.args.lease) (sym (c.state_mut.ensures.value ∙ c.enter-held.ensures.won.1))
     (brought_of_graph (found c.enter-held.result) (found c.enter-held.result) (found c.enter-held.result).incumbent r.0 (number p.turn) (view p.turn) r.1 r.2 p.is_live (one_if c.args.trouble) c.args.lease c.requires.brought)
 

@@ -14,7 +14,7 @@ use Rattle.pb_yard.proofs.yard.Yard.renew.Goals as goal
 pub renew-reply-requires : goal.renew-reply-requires
 renew-reply-requires g c =
     let p = c.args.pass.now in
-    let r = c.enter-held.ensures.rule in
+    let r = c.enter-held.ensures.rule.1 in
     subst (λ (z : GraphValue). IsOfGraph z c.args.lease) (sym (c.state_mut-graph.ensures.value ∙ c.enter-held.ensures.won.1))
     (brought_of_graph (found c.enter-held.result) (found c.enter-held.result) (found c.enter-held.result).incumbent r.0 (number p.turn) (view p.turn) r.1 r.2 p.is_live 0 c.args.lease c.requires.brought)
 

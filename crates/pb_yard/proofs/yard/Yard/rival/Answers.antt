@@ -14,7 +14,7 @@ use Rattle.pb_yard.proofs.yard.Yard.rival.Goals as goal
 pub rival-rival-requires : goal.rival-rival-requires
 rival-rival-requires g c =
     let p = c.args.pass.now in
-    let r = c.enter-held.ensures.rule in
+    let r = c.enter-held.ensures.rule.1 in
     subst (λ (z : GraphValue). (counts_in z).leases c.args.lease.now.worker ≡ Some (grant_of c.args.lease.now)) (sym (c.state.ensures ∙ c.enter-held.ensures.won.1))
     (leased_as (found c.enter-held.result) (found c.enter-held.result).incumbent r.0 (number p.turn) (view p.turn) r.1 r.2 p.is_live c.args.lease.now c.requires.leased)
 

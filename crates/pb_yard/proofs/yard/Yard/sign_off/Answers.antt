@@ -13,7 +13,7 @@ use Rattle.pb_yard.proofs.yard.Yard.sign_off.Goals as goal
 pub sign_off-requires-clause-worker : goal.sign_off-requires-clause-worker
 sign_off-requires-clause-worker g c =
     let p = c.args.pass.now in
-    let r = c.enter-held.ensures.rule in
+    let r = c.enter-held.ensures.rule.1 in
     subst (λ (z : GraphValue). p.worker < z.table.settings.workers) (sym (c.state_mut.ensures.value ∙ c.enter-held.ensures.won.1))
     (subst (λ w. w < (found c.enter-held.result).table.settings.workers) p.worker_is
     (worker_known (found c.enter-held.result) (found c.enter-held.result).incumbent r.0 (number p.turn) (view p.turn) r.1 r.2 p.is_live))
@@ -21,7 +21,7 @@ sign_off-requires-clause-worker g c =
 pub sign_off-requires-clause-vacant : goal.sign_off-requires-clause-vacant
 sign_off-requires-clause-vacant g c =
     let p = c.args.pass.now in
-    let r = c.enter-held.ensures.rule in
+    let r = c.enter-held.ensures.rule.1 in
     subst (λ (z : GraphValue). (counts_in z).leases p.worker ≡ None) (sym (c.state_mut.ensures.value ∙ c.enter-held.ensures.won.1))
     (subst (λ w. (counts_in (found c.enter-held.result)).leases w ≡ None) p.worker_is
     (vacant (found c.enter-held.result) (found c.enter-held.result).incumbent r.0 (number p.turn) (view p.turn) r.1 r.2 p.is_live c.requires.vacant))
@@ -29,7 +29,7 @@ sign_off-requires-clause-vacant g c =
 pub sign_off-requires-clause-stays : goal.sign_off-requires-clause-stays
 sign_off-requires-clause-stays g c =
     let p = c.args.pass.now in
-    let r = c.enter-held.ensures.rule in
+    let r = c.enter-held.ensures.rule.1 in
     subst (λ (z : GraphValue). (counts_in z).signed_off p.worker ≡ false) (sym (c.state_mut.ensures.value ∙ c.enter-held.ensures.won.1))
     (subst (λ w. (counts_in (found c.enter-held.result)).signed_off w ≡ false) p.worker_is
     (active (found c.enter-held.result) (found c.enter-held.result).incumbent r.0 (number p.turn) (view p.turn) r.1 r.2 p.is_live c.requires.stays))
@@ -37,7 +37,7 @@ sign_off-requires-clause-stays g c =
 pub sign_off-requires-clause-cause : goal.sign_off-requires-clause-cause
 sign_off-requires-clause-cause g c =
     let p = c.args.pass.now in
-    let r = c.enter-held.ensures.rule in
+    let r = c.enter-held.ensures.rule.1 in
     subst (λ (z : GraphValue). (c.args.trouble || is_some z.table.end) ≡ true) (sym (c.state_mut.ensures.value ∙ c.enter-held.ensures.won.1))
     (cause (found c.enter-held.result) (found c.enter-held.result).incumbent r.0 (number p.turn) (view p.turn) r.1 r.2 p.is_live c.args.trouble c.requires.cause)
 
