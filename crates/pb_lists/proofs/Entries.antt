@@ -1,15 +1,17 @@
 -- A row that is put into a list of entries.
-use Rattle.std.proofs.Common.{◌≡◌, ◌≤◌, ℕ, Bool, true, false, cond, Option, Some, List, [], ◌∷◌, refl, sym, ap, ◌∙◌, arith, nat_eq, nat_lt, if◌then◌else◌}
+use Rattle.std.proofs.Common.{◌≡◌, ◌≤◌, ℕ, Bool, true, false, cond, Option, Some, List, [], ◌∷◌, refl, sym, ap, ◌∙◌, arith, nat_eq, nat_lt, if◌then◌else◌, is_some, true≢false}
 use Rattle.std.proofs.lemmas.Bool.Decides.{nat_tests}
 use Rattle.std.proofs.lemmas.Cmp.{nat_eq_equiv}
 use Rattle.std.proofs.lemmas.Map.Entries.{place_from_lookup, lookup_from_place}
 use Rattle.std.specs.List.{slice_get}
+use Rattle.std.specs.Map.{set_value}
 use Rattle.indexmap.specs.IndexMap.{insert_entry}
 use Rattle.pb_model.specs.declared.row.Estimate.{Estimate}
 use Rattle.pb_model.specs.declared.row.Row.{Row}
+use Rattle.pb_model.specs.declared.row.Status.{Status}
 use Rattle.pb_model.specs.declared.row.Status.TheVariants.{Opened}
-use Rattle.pb_model.specs.Work.{offered_row}
-use Rattle.pb_lists.specs.Bundle.{Content, row_in, row_of, put}
+use Rattle.pb_model.specs.Work.{offered_row, with_status}
+use Rattle.pb_lists.specs.Bundle.{Content, row_in, row_of, put, SetsStatus}
 use Rattle.pb_lists.specs.Laws.{EntriesAreRows}
 
 pub entries_are_rows : EntriesAreRows
@@ -34,6 +36,16 @@ put_same state row (entry ∷ entries) found = at (nat_eq state entry.0) found (
     at true f next = let same : entry.1 ≡ row = cc in ap (λ r. (entry.0, r) ∷ entries) (sym same)
     at false f next = ap (λ rest. entry ∷ rest) (next f)
 
+-- a row that is there is put by writing it where it stands
+pub put_there : (state : ℕ) (row : Row) (entries : List (ℕ × Row)) → is_some (row_in entries state) ≡ true → insert_entry nat_eq entries state row ≡ set_value (nat_eq state) entries row
+put_there state row [] there = absurd (true≢false (sym there))
+put_there state row (entry ∷ entries) there = at (nat_eq state entry.0) there (λ t. put_there state row entries t)
+  where
+    at : (here : Bool) → is_some (cond here (Some entry.1) (row_in entries state)) ≡ true → (is_some (row_in entries state) ≡ true → insert_entry nat_eq entries state row ≡ set_value (nat_eq state) entries row)
+        → cond here ((entry.0, row) ∷ entries) (entry ∷ insert_entry nat_eq entries state row) ≡ cond here ((entry.0, row) ∷ entries) (entry ∷ set_value (nat_eq state) entries row)
+    at true t next = refl
+    at false t next = ap (λ rest. entry ∷ rest) (next t)
+
 -- an offer that is no cheaper changes nothing
 pub put_worse : (content : Content) (state g : ℕ) (estimate : Estimate) (parent : Option ℕ) (action : ℕ) (was : Row) → row_of content state ≡ Some was → was.g ≤ g
     → content ≡ put content state (offered_row g estimate parent action (row_of content state))
@@ -47,3 +59,22 @@ put_worse content state g estimate parent action was found le =
     same : offered_row g estimate parent action (row_of content state) ≡ was
     same = ap (λ old. offered_row g estimate parent action old) found
         ∙ kept (nat_lt g was.g) (record { g = g; estimate = was.estimate; parent = parent; action = action; status = Opened }) (grind (arith, nat_tests))
+
+-- a status that is written is set, and all else stays
+pub status_sets : (entries after : List (ℕ × Row)) (state : ℕ) (row : Row) (status : Status) → row_in entries state ≡ Some row
+    → ((other : ℕ) → row_in after other ≡ cond (nat_eq state other) (Some (record row { status = status })) (row_in entries other)) → SetsStatus (row_in entries) (row_in after) state status
+status_sets entries after state row status found updates = record {
+  here = updates state
+      ∙ (ap (λ b. cond b (Some (record row { status = status })) (row_in entries state)) (same state) ∙ sym (ap (with_status status) found));
+  others = λ other apart. updates other ∙ ap (λ b. cond b (Some (record row { status = status })) (row_in entries other)) (differ other apart (nat_eq state other) refl);
+}
+  where
+    same : (n : ℕ) → nat_eq n n ≡ true
+    same n = grind (arith, nat_tests)
+
+    equal : (n m : ℕ) → nat_eq n m ≡ true → n ≡ m
+    equal n m e = grind (arith, nat_tests)
+
+    differ : (other : ℕ) → (other ≡ state → ⊥) → (b : Bool) → nat_eq state other ≡ b → nat_eq state other ≡ false
+    differ other apart true e = absurd (apart (sym (equal state other e)))
+    differ other apart false e = e

@@ -1,15 +1,12 @@
 -- The buckets after a state was put into one, and after states left one.
-use Rattle.std.proofs.Common.{◌≡◌, ℕ, Bool, true, false, cond, Option, Some, None, List, [], ◌∷◌, ◌||◌, ◌&&◌, ◌⊎◌, inl, inr, ◌≤◌, refl, sym, ap, ◌∙◌, subst, arith, nat_eq, true≢false, IfSome, IfNone, slice_index_or}
+use Rattle.std.proofs.Common.{◌≡◌, ℕ, Bool, true, false, cond, Option, Some, None, List, [], ◌∷◌, ◌&&◌, ◌⊎◌, inl, inr, refl, sym, ap, ◌∙◌, subst, arith, nat_eq, true≢false, IfSome, IfNone}
 use Rattle.std.proofs.lemmas.Bool.Decides.{nat_tests}
-use Rattle.std.proofs.lemmas.List.Sorted.{list_any-IsPermutation}
-use Rattle.std.specs.List.Sorted.{IsPermutation}
 use Rattle.std.specs.Ordering.{is_eq, match_ordering}
 use Rattle.std.specs.declared.cmp.Ordering.{Ordering}
 use Rattle.std.specs.declared.cmp.Ordering.TheVariants.{Less, Equal, Greater}
 use Rattle.std.specs.declared.cmp.Reverse.{Reverse}
 use Rattle.std.specs.Map.{lookup, set_value}
 use Rattle.std.specs.BTreeMap.{get, is_at, insert_entry, Updates, IsUnchanged}
-use Rattle.std.specs.BinaryHeap.{heap_items, IsHeap, HeapUnchanged}
 use Rattle.pb_model.specs.declared.key.Key.{Key}
 use Rattle.pb_model.specs.declared.row.Row.{Row}
 use Rattle.pb_model.specs.declared.row.Status.TheVariants.{Opened}
@@ -17,31 +14,18 @@ use Rattle.pb_model.specs.Weight.{Weight}
 use Rattle.pb_model.specs.KeyOrder.{key_cmp, same_key}
 use Rattle.pb_lists.specs.Bundle.{row_in}
 use Rattle.pb_lists.specs.Fields.{key_at, is_opened, is_open_at}
-use Rattle.pb_lists.specs.Buckets.{Bucket, Buckets, later, is_among, states_in, has_state, top_of, first_key_of, HasHeaps, HasFiled, is_led, is_tidy, IsTidy, KeepsStates, KeepsLive}
+use Rattle.pb_lists.specs.Buckets.{Buckets, is_among, states_of, states_in, has_state, top_of, first_key_of, IsOrdered, HasHeaps, HasFiled, is_led, is_tidy, IsTidy, KeepsStates, KeepsLive}
+use Rattle.pb_lists.specs.declared.bucket.Bucket.{Bucket}
 use Rattle.pb_lists.proofs.Order.{key_self, key_found}
 
-or_true : (b : Bool) → (b || true) ≡ true
-or_true true = refl
-or_true false = refl
-
-nat_same : (n m : ℕ) → n ≡ m → nat_eq n m ≡ true
+pub nat_same : (n m : ℕ) → n ≡ m → nat_eq n m ≡ true
 nat_same n m e = grind (arith, nat_tests)
 
-nat_found : (n m : ℕ) → nat_eq n m ≡ true → n ≡ m
+pub nat_found : (n m : ℕ) → nat_eq n m ≡ true → n ≡ m
 nat_found n m e = grind (arith, nat_tests)
 
 pub key_same : (key : Key) → same_key key key ≡ true
 key_same key = ap is_eq (key_self key)
-
--- ---- a state that is pushed
-
-pub pushed_member : (item : Reverse ℕ) (states after : List (Reverse ℕ)) → IsPermutation (item ∷ states) after → is_among item.0 after ≡ true
-pushed_member item states after moved =
-    sym (list_any-IsPermutation (λ (other : Reverse ℕ). nat_eq item.0 other.0) (item ∷ states) after moved) ∙ ap (λ b. b || is_among item.0 states) (nat_same item.0 item.0 refl)
-
-pub pushed_keeps : (state : ℕ) (item : Reverse ℕ) (states after : List (Reverse ℕ)) → IsPermutation (item ∷ states) after → is_among state states ≡ true → is_among state after ≡ true
-pushed_keeps state item states after moved had =
-    sym (list_any-IsPermutation (λ (other : Reverse ℕ). nat_eq state other.0) (item ∷ states) after moved) ∙ (ap (λ b. nat_eq state item.0 || b) had ∙ or_true (nat_eq state item.0))
 
 -- ---- a bucket that is written
 
@@ -52,28 +36,28 @@ module _ (old new : Buckets) (key : Key) (bucket : Bucket) (set : (q : Key) → 
   at_other : (q : Key) → same_key key q ≡ false → get key_cmp new q ≡ get key_cmp old q
   at_other q other = set q ∙ ap (λ b. cond b (Some bucket) (get key_cmp old q)) other
 
-  pub set_here : (state : ℕ) → is_among state (heap_items bucket) ≡ true → has_state new key state ≡ true
+  pub set_here : (state : ℕ) → is_among state (states_of bucket) ≡ true → has_state new key state ≡ true
   set_here state member = ap (λ found. is_among state (states_in found)) (at_key key (key_same key)) ∙ member
 
-  pub set_keeps : ((state : ℕ) → has_state old key state ≡ true → is_among state (heap_items bucket) ≡ true) → KeepsStates old new
+  pub set_keeps : ((state : ℕ) → has_state old key state ≡ true → is_among state (states_of bucket) ≡ true) → KeepsStates old new
   set_keeps more q state had = which (same_key key q) refl
     where
       which : (b : Bool) → same_key key q ≡ b → has_state new q state ≡ true
       which true same = ap (λ found. is_among state (states_in found)) (at_key q same) ∙ more state (subst (λ k. has_state old k state ≡ true) (sym (key_found key q same)) had)
       which false other = ap (λ found. is_among state (states_in found)) (at_other q other) ∙ had
 
-  pub set_heaps : IsHeap later (heap_items bucket) → HasHeaps old → HasHeaps new
+  pub set_heaps : IsOrdered bucket → HasHeaps old → HasHeaps new
   set_heaps heap heaps q = which (same_key key q) refl
     where
-      which : (b : Bool) → same_key key q ≡ b → IfSome (get key_cmp new q) (λ (found : Bucket). IsHeap later (heap_items found))
-      which true same = subst (λ found. IfSome found (λ (b : Bucket). IsHeap later (heap_items b))) (sym (at_key q same)) heap
-      which false other = subst (λ found. IfSome found (λ (b : Bucket). IsHeap later (heap_items b))) (sym (at_other q other)) (heaps q)
+      which : (b : Bool) → same_key key q ≡ b → IfSome (get key_cmp new q) IsOrdered
+      which true same = subst (λ found. IfSome found IsOrdered) (sym (at_key q same)) heap
+      which false other = subst (λ found. IfSome found IsOrdered) (sym (at_other q other)) (heaps q)
 
-  pub set_empty : heap_items bucket ≡ [] → (state : ℕ) → has_state new key state ≡ false
+  pub set_empty : states_of bucket ≡ [] → (state : ℕ) → has_state new key state ≡ false
   set_empty none state = ap (λ found. is_among state (states_in found)) (at_key key (key_same key)) ∙ ap (λ states. is_among state states) none
 
   -- the bucket was cleared of what isn't Opened at its key
-  pub set_filed : (weight : Weight) (entries : List (ℕ × Row)) → ((state : ℕ) → is_open_at weight (row_in entries state) key ≡ true → has_state old key state ≡ true → is_among state (heap_items bucket) ≡ true)
+  pub set_filed : (weight : Weight) (entries : List (ℕ × Row)) → ((state : ℕ) → is_open_at weight (row_in entries state) key ≡ true → has_state old key state ≡ true → is_among state (states_of bucket) ≡ true)
       → HasFiled weight entries old → HasFiled weight entries new
   set_filed weight entries left filed state row found opened = which (same_key key (key_at weight row)) refl
     where
@@ -98,27 +82,27 @@ set_first test (first ∷ list) bucket = which (test first.0)
 
 module _ (weight : Weight) (entries : List (ℕ × Row)) where
   -- a bucket is written as it was
-  pub tidy_same : (test : Key → Bool) (list : List (Key × Bucket)) (was bucket : Bucket) → lookup test list ≡ Some was → heap_items bucket ≡ heap_items was
+  pub tidy_same : (test : Key → Bool) (list : List (Key × Bucket)) (was bucket : Bucket) → lookup test list ≡ Some was → states_of bucket ≡ states_of was
       → is_tidy weight entries (set_value test list bucket) ≡ is_tidy weight entries list
   tidy_same test [] was bucket found same = refl
   tidy_same test (first ∷ list) was bucket found same = which (test first.0) found
     where
       which : (b : Bool) → cond b (Some first.1) (lookup test list) ≡ Some was
-          → is_tidy weight entries (cond b ((first.0, bucket) ∷ list) (first ∷ set_value test list bucket)) ≡ is_led weight entries first.0 (heap_items first.1)
-      which true e = let is : first.1 ≡ was = cc in ap (λ states. is_led weight entries first.0 states) (same ∙ ap (λ (b : Bucket). heap_items b) (sym is))
+          → is_tidy weight entries (cond b ((first.0, bucket) ∷ list) (first ∷ set_value test list bucket)) ≡ is_led weight entries first.0 (states_of first.1)
+      which true e = let is : first.1 ≡ was = cc in ap (λ states. is_led weight entries first.0 states) (same ∙ ap (λ (b : Bucket). states_of b) (sym is))
       which false e = refl
 
-  pub tidy_led : (key : Key) (list : List (Key × Bucket)) (bucket : Bucket) → first_key_of list ≡ Some key → is_led weight entries key (heap_items bucket) ≡ true
+  pub tidy_led : (key : Key) (list : List (Key × Bucket)) (bucket : Bucket) → first_key_of list ≡ Some key → is_led weight entries key (states_of bucket) ≡ true
       → is_tidy weight entries (set_value (is_at (key_cmp key)) list bucket) ≡ true
   tidy_led key [] bucket first led = cc
   tidy_led key (entry ∷ list) bucket first led =
       let same : entry.0 ≡ key = cc in
       ap (λ b. is_tidy weight entries (cond b ((entry.0, bucket) ∷ list) (entry ∷ set_value (is_at (key_cmp key)) list bucket))) (subst (λ k. same_key key k ≡ true) (sym same) (key_same key))
-      ∙ subst (λ k. is_led weight entries k (heap_items bucket) ≡ true) (sym same) led
+      ∙ subst (λ k. is_led weight entries k (states_of bucket) ≡ true) (sym same) led
 
   -- a bucket has the top that it had, or an Opened row of its key
   pub tidy_pushed : (key : Key) (list : List (Key × Bucket)) (was bucket : Bucket) → lookup (is_at (key_cmp key)) list ≡ Some was
-      → (is_led weight entries key (heap_items was) ≡ true → is_led weight entries key (heap_items bucket) ≡ true)
+      → (is_led weight entries key (states_of was) ≡ true → is_led weight entries key (states_of bucket) ≡ true)
       → is_tidy weight entries list ≡ true → is_tidy weight entries (set_value (is_at (key_cmp key)) list bucket) ≡ true
   tidy_pushed key [] was bucket found led tidy = refl
   tidy_pushed key (first ∷ list) was bucket found led tidy = which (same_key key first.0) refl found
@@ -128,12 +112,12 @@ module _ (weight : Weight) (entries : List (ℕ × Row)) where
       which true same e =
           let is : first.1 ≡ was = cc in
           let one : key ≡ first.0 = key_found key first.0 same in
-          let had : is_led weight entries key (heap_items was) ≡ true =
-          subst (λ (b : Bucket). is_led weight entries key (heap_items b) ≡ true) is (subst (λ k. is_led weight entries k (heap_items first.1) ≡ true) (sym one) tidy) in
-          subst (λ k. is_led weight entries k (heap_items bucket) ≡ true) one (led had)
+          let had : is_led weight entries key (states_of was) ≡ true =
+          subst (λ (b : Bucket). is_led weight entries key (states_of b) ≡ true) is (subst (λ k. is_led weight entries k (states_of first.1) ≡ true) (sym one) tidy) in
+          subst (λ k. is_led weight entries k (states_of bucket) ≡ true) one (led had)
       which false other e = tidy
 
-  pub tidy_new : (key : Key) (list : List (Key × Bucket)) (bucket : Bucket) → is_led weight entries key (heap_items bucket) ≡ true
+  pub tidy_new : (key : Key) (list : List (Key × Bucket)) (bucket : Bucket) → is_led weight entries key (states_of bucket) ≡ true
       → is_tidy weight entries list ≡ true → is_tidy weight entries (insert_entry key_cmp list key bucket) ≡ true
   tidy_new key [] bucket led tidy = led
   tidy_new key (first ∷ list) bucket led tidy = which (key_cmp key first.0) refl
@@ -141,7 +125,7 @@ module _ (weight : Weight) (entries : List (ℕ × Row)) where
       which : (o : Ordering) → key_cmp key first.0 ≡ o
           → is_tidy weight entries (match_ordering o ((key, bucket) ∷ first ∷ list) ((first.0, bucket) ∷ list) (first ∷ insert_entry key_cmp list key bucket)) ≡ true
       which Less e = led
-      which Equal e = subst (λ k. is_led weight entries k (heap_items bucket) ≡ true) (key_found key first.0 (ap is_eq e)) led
+      which Equal e = subst (λ k. is_led weight entries k (states_of bucket) ≡ true) (key_found key first.0 (ap is_eq e)) led
       which Greater e = tidy
 
   pub led_pushed : (key : Key) (old new : List (Reverse ℕ)) (state : ℕ) → is_open_at weight (row_in entries state) key ≡ true
@@ -164,72 +148,42 @@ module _ (weight : Weight) (entries : List (ℕ × Row)) where
       let same : other.0 ≡ state = cc in
       subst (λ s. is_open_at weight (row_in entries s) key ≡ true) (sym same) live
 
--- the top after a push
-pub pushed_top : (item : Reverse ℕ) (old new : List (Reverse ℕ)) → IsPermutation (item ∷ old) new
-    → IfSome (top_of old) (λ least. (other : ℕ) → is_among other old ≡ true → least ≤ other)
-    → IfSome (top_of new) (λ least. (other : ℕ) → is_among other new ≡ true → least ≤ other)
-    → top_of new ≡ top_of old ⊎ (top_of new ≡ Some item.0)
-pushed_top item old [] moved low least = absurd (true≢false (sym (pushed_member item old [] moved)))
-pushed_top item old (top ∷ new) moved low least =
-    which (nat_eq top.0 item.0) refl
-    (list_any-IsPermutation (λ (other : Reverse ℕ). nat_eq top.0 other.0) (item ∷ old) (top ∷ new) moved ∙ ap (λ b. b || is_among top.0 new) (nat_same top.0 top.0 refl))
-    (λ state had. pushed_keeps state item old (top ∷ new) moved had)
-  where
-    among : (states : List (Reverse ℕ)) → is_among top.0 states ≡ true → IfSome (top_of states) (λ least. (other : ℕ) → is_among other states ≡ true → least ≤ other)
-        → ((state : ℕ) → is_among state states ≡ true → is_among state (top ∷ new) ≡ true) → Some top.0 ≡ top_of states
-    among [] m l k = absurd (true≢false (sym m))
-    among (first ∷ rest) m l k =
-        let le : first.0 ≤ top.0 = l top.0 m in
-        let ge : top.0 ≤ first.0 = least first.0 (k first.0 (ap (λ b. b || is_among first.0 rest) (nat_same first.0 first.0 refl))) in
-        let same : top.0 ≡ first.0 = omega arith in
-        ap (λ s. Some s) same
-
-    which : (b : Bool) → nat_eq top.0 item.0 ≡ b → (b || is_among top.0 old) ≡ true → ((state : ℕ) → is_among state old ≡ true → is_among state (top ∷ new) ≡ true)
-        → Some top.0 ≡ top_of old ⊎ (Some top.0 ≡ Some item.0)
-    which true e m k = inr (ap (λ s. Some s) (nat_found top.0 item.0 e))
-    which false e m k = inl (among old m low k)
-
 -- ---- states that leave a bucket
 
 pub top_none : (states : List (Reverse ℕ)) → top_of states ≡ None → states ≡ []
 top_none [] e = refl
 top_none (state ∷ states) e = cc
 
-top_is : (states : List (Reverse ℕ)) (item : Reverse ℕ) (state : ℕ) → top_of states ≡ Some state → item ≡ slice_index_or states 0 item → item.0 ≡ state
-top_is [] item state top first = cc
-top_is (other ∷ states) item state top first = let e : other.0 ≡ state = cc in ap (λ (r : Reverse ℕ). r.0) first ∙ e
-
 module _ (weight : Weight) (entries : List (ℕ × Row)) (key : Key) where
   pub led_by : (states : List (Reverse ℕ)) (state : ℕ) → top_of states ≡ Some state → is_open_at weight (row_in entries state) key ≡ true → is_led weight entries key states ≡ true
   led_by [] state top live = cc
   led_by (other ∷ states) state top live = let e : other.0 ≡ state = cc in ap (λ s. is_open_at weight (row_in entries s) key) e ∙ live
 
-  pub pop_keeps : (old new : Bucket) (state : ℕ) (popped : Option (Reverse ℕ)) → top_of (heap_items old) ≡ Some state → is_open_at weight (row_in entries state) key ≡ false
-      → IfSome popped (λ item. item ≡ slice_index_or (heap_items old) 0 item) → IfSome popped (λ item. IsPermutation (heap_items old) (item ∷ heap_items new))
-      → IfNone popped (HeapUnchanged old new) → KeepsLive weight entries key (heap_items old) (heap_items new)
-  pop_keeps old new state None top off first moved same q live had = subst (λ states. is_among q states ≡ true) (sym same.0) had
-  pop_keeps old new state (Some item) top off first moved same q live had =
-      which (nat_eq q item.0) refl (sym (list_any-IsPermutation (λ (other : Reverse ℕ). nat_eq q other.0) (heap_items old) (item ∷ heap_items new) moved) ∙ had)
+  -- the bucket loses its top, which isn't Opened at its key
+  pub pop_keeps : (old new : List (Reverse ℕ)) (state : ℕ) → top_of old ≡ Some state → is_open_at weight (row_in entries state) key ≡ false
+      → ((other : ℕ) → is_among other old ≡ true → (top_of old ≡ Some other) ⊎ (is_among other new ≡ true)) → KeepsLive weight entries key old new
+  pop_keeps old new state top off left other live had = which (left other had)
     where
-      which : (b : Bool) → nat_eq q item.0 ≡ b → (b || is_among q (heap_items new)) ≡ true → is_among q (heap_items new) ≡ true
-      which true t m =
-          let is : q ≡ state = nat_found q item.0 t ∙ top_is (heap_items old) item state top first in
-          absurd (true≢false (sym live ∙ (ap (λ s. is_open_at weight (row_in entries s) key) is ∙ off)))
-      which false t m = m
+      which : (top_of old ≡ Some other) ⊎ (is_among other new ≡ true) → is_among other new ≡ true
+      which (inl e) =
+          let same : Some state ≡ Some other = sym top ∙ e in
+          let is : state ≡ other = cc in
+          absurd (true≢false (sym live ∙ (ap (λ s. is_open_at weight (row_in entries s) key) (sym is) ∙ off)))
+      which (inr m) = m
 
 -- ---- the first bucket, which is empty, is taken out
 
 module _ (old new : Buckets) (key : Key) where
   pub pop_heaps : (popped : Option (Key × Bucket)) → IfSome popped (λ entry. Updates key_cmp old new entry.0 None) → IfNone popped (IsUnchanged old new) → HasHeaps old → HasHeaps new
-  pop_heaps None updates same heaps q = subst (λ list. IfSome (lookup (is_at (key_cmp q)) list) (λ (b : Bucket). IsHeap later (heap_items b))) (sym same) (heaps q)
+  pop_heaps None updates same heaps q = subst (λ list. IfSome (lookup (is_at (key_cmp q)) list) IsOrdered) (sym same) (heaps q)
   pop_heaps (Some entry) updates same heaps q = which (same_key entry.0 q) refl
     where
       is : (b : Bool) → same_key entry.0 q ≡ b → get key_cmp new q ≡ cond b None (get key_cmp old q)
       is b e = updates.0 q ∙ ap (λ t. cond t None (get key_cmp old q)) e
 
-      which : (b : Bool) → same_key entry.0 q ≡ b → IfSome (get key_cmp new q) (λ (found : Bucket). IsHeap later (heap_items found))
-      which true e = subst (λ found. IfSome found (λ (b : Bucket). IsHeap later (heap_items b))) (sym (is true e)) tt
-      which false e = subst (λ found. IfSome found (λ (b : Bucket). IsHeap later (heap_items b))) (sym (is false e)) (heaps q)
+      which : (b : Bool) → same_key entry.0 q ≡ b → IfSome (get key_cmp new q) IsOrdered
+      which true e = subst (λ found. IfSome found IsOrdered) (sym (is true e)) tt
+      which false e = subst (λ found. IfSome found IsOrdered) (sym (is false e)) (heaps q)
 
   pub pop_filed : (weight : Weight) (entries : List (ℕ × Row)) (popped : Option (Key × Bucket)) → first_key_of old.entries ≡ Some key → ((state : ℕ) → has_state old key state ≡ false)
       → IfSome popped (λ entry. old.entries ≡ entry ∷ new.entries) → IfSome popped (λ entry. Updates key_cmp old new entry.0 None) → IfNone popped (IsUnchanged old new)
@@ -294,7 +248,7 @@ module _ (weight : Weight) (entries after : List (ℕ × Row)) (here : ℕ) (row
 
       first : (list : List (Key × Bucket)) → is_tidy weight entries list ≡ true → is_tidy weight after list ≡ true
       first [] t = t
-      first (entry ∷ list) t = led (heap_items entry.1) entry.0 t
+      first (entry ∷ list) t = led (states_of entry.1) entry.0 t
 
   pub live_row : (key : Key) → key ≡ key_at weight row → row.status ≡ Opened → is_open_at weight (row_in after here) key ≡ true
   live_row key is opened =

@@ -5,7 +5,7 @@ use Rattle.std.specs.List.{AllByRecursion}
 use Rattle.std.specs.Ordering.{nat_cmp, is_lt, is_gt}
 use Rattle.std.specs.declared.cmp.Reverse.{Reverse}
 use Rattle.std.specs.BTreeMap.{get, IsLowerBound}
-use Rattle.std.specs.BinaryHeap.{heap_items, lt_by_cmp, IsHeap}
+use Rattle.std.specs.BinaryHeap.{lt_by_cmp}
 use Rattle.pb_model.specs.declared.key.Key.{Key}
 use Rattle.pb_model.specs.declared.row.Row.{Row}
 use Rattle.pb_model.specs.declared.row.Status.{Status}
@@ -17,7 +17,8 @@ use Rattle.pb_model.proofs.Keys.{key_cases}
 use Rattle.pb_model.proofs.Tests.{by_cases, below, not_below}
 use Rattle.pb_lists.specs.Bundle.{row_in}
 use Rattle.pb_lists.specs.Fields.{key_at, is_opened, is_open_at}
-use Rattle.pb_lists.specs.Buckets.{Bucket, Buckets, later, is_among, states_in, has_state, top_of, HasHeaps, HasFiled, is_led, is_tidy, IsTidy}
+use Rattle.pb_lists.specs.Buckets.{Buckets, later, is_among, states_of, states_in, has_state, top_of, IsOrdered, HasHeaps, HasFiled, is_led, is_tidy, IsTidy}
+use Rattle.pb_lists.specs.declared.bucket.Bucket.{Bucket}
 use Rattle.pb_lists.proofs.Order.{less, key_found, key_above}
 
 -- ---- the top of a heap
@@ -33,8 +34,8 @@ least_among item (other ∷ states) above state among = which (nat_eq state othe
     which true e m rest = let same : state ≡ other.0 = grind (arith, nat_tests) in let le = not_less other.0 item.0 above.0 in omega arith
     which false e m rest = rest m
 
-pub heap_at : (buckets : Buckets) (key : Key) (bucket : Bucket) → get key_cmp buckets key ≡ Some bucket → HasHeaps buckets → IsHeap later (heap_items bucket)
-heap_at buckets key bucket value heaps = subst (λ found. IfSome found (λ (b : Bucket). IsHeap later (heap_items b))) value (heaps key)
+pub heap_at : (buckets : Buckets) (key : Key) (bucket : Bucket) → get key_cmp buckets key ≡ Some bucket → HasHeaps buckets → IsOrdered bucket
+heap_at buckets key bucket value heaps = subst (λ found. IfSome found IsOrdered) value (heaps key)
 
 -- ---- the first bucket
 
@@ -58,15 +59,15 @@ has_bucket state None e = absurd (true≢false (sym e))
 has_bucket state (Some bucket) e = refl
 
 led_first : (weight : Weight) (entries : List (ℕ × Row)) (list : List (Key × Bucket)) (key : Key) (bucket : Bucket) → slice_get list 0 ≡ Some (key, bucket) → is_tidy weight entries list ≡ true
-    → is_led weight entries key (heap_items bucket) ≡ true
+    → is_led weight entries key (states_of bucket) ≡ true
 led_first weight entries [] key bucket first tidy = cc
 led_first weight entries (entry ∷ list) key bucket first tidy =
     let same : entry ≡ (key, bucket) = cc in
-    subst (λ (e : Key × Bucket). is_led weight entries e.0 (heap_items e.1) ≡ true) same tidy
+    subst (λ (e : Key × Bucket). is_led weight entries e.0 (states_of e.1) ≡ true) same tidy
 
 module _ (weight : Weight) (entries : List (ℕ × Row)) (buckets : Buckets) (filed : HasFiled weight entries buckets) (tidy : IsTidy weight entries buckets)
     (key : Key) (bucket : Bucket) (first : slice_get buckets.entries 0 ≡ Some (key, bucket)) (value : get key_cmp buckets key ≡ Some bucket) (least : IsLowerBound key_cmp buckets key) where
-  led : is_led weight entries key (heap_items bucket) ≡ true
+  led : is_led weight entries key (states_of bucket) ≡ true
   led = led_first weight entries buckets.entries key bucket first tidy
 
   -- no Opened row has a lesser key
@@ -76,7 +77,7 @@ module _ (weight : Weight) (entries : List (ℕ × Row)) (buckets : Buckets) (fi
       ∙ least (key_at weight row) (has_bucket state (get key_cmp buckets (key_at weight row)) (filed state row found opened)))
 
   pub best_of : IsBest weight (row_in entries) (Some key)
-  best_of = top (heap_items bucket) led
+  best_of = top (states_of bucket) led
     where
       top : (states : List (Reverse ℕ)) → is_led weight entries key states ≡ true → IsBest weight (row_in entries) (Some key)
       top [] e = absurd (true≢false (sym e))
@@ -86,13 +87,13 @@ module _ (weight : Weight) (entries : List (ℕ × Row)) (buckets : Buckets) (fi
             λ other has low. not_above has.0 has.1 has.2 has.3 (subst (λ k. IsKeyBelow k key) (sym has.4) low),
           )
 
-  first_row : (state : ℕ) → HasKey weight (row_in entries state) key → ((other : ℕ) → is_among other (heap_items bucket) ≡ true → state ≤ other) → (row : Row) × IsFirstRow weight (row_in entries) state row
+  first_row : (state : ℕ) → HasKey weight (row_in entries state) key → ((other : ℕ) → is_among other (states_of bucket) ≡ true → state ≤ other) → (row : Row) × IsFirstRow weight (row_in entries) state row
   first_row state here low = (here.0, record { found = here.1; opened = here.2; first = before })
     where
       at_key : (other : ℕ) (other_row : Row) → row_in entries other ≡ Some other_row → other_row.status ≡ Opened → key ≡ key_at weight other_row
           → (other ≡ state) ⊎ IsBefore (key_at weight here.0) state (key_at weight other_row) other
       at_key other other_row found opened same =
-          let member : is_among other (heap_items bucket) ≡ true =
+          let member : is_among other (states_of bucket) ≡ true =
           sym (ap (λ f. is_among other (states_in f)) value) ∙ subst (λ k. has_state buckets k other ≡ true) (sym same) (filed other other_row found opened) in
           let le : state ≤ other = low other member in
           by_cases (nat_lt state other) (λ t. inr (inr (here.3 ∙ same, below state other t))) (λ f. let ge = not_below state other f in inl (omega arith))
@@ -106,10 +107,10 @@ module _ (weight : Weight) (entries : List (ℕ × Row)) (buckets : Buckets) (fi
           which (inr (inl same)) = at_key other other_row found opened same
           which (inr (inr g)) = absurd (not_above other other_row found opened g)
 
-  pub first_of : (result : Option ℕ) → result ≡ top_of (heap_items bucket) → IfSome result (λ state. (other : ℕ) → is_among other (heap_items bucket) ≡ true → state ≤ other)
+  pub first_of : (result : Option ℕ) → result ≡ top_of (states_of bucket) → IfSome result (λ state. (other : ℕ) → is_among other (states_of bucket) ≡ true → state ≤ other)
       → IfSome result (λ state. (row : Row) × IsFirstRow weight (row_in entries) state row)
   first_of None is low = tt
-  first_of (Some state) is low = top (heap_items bucket) is led
+  first_of (Some state) is low = top (states_of bucket) is led
     where
       top : (states : List (Reverse ℕ)) → Some state ≡ top_of states → is_led weight entries key states ≡ true → (row : Row) × IsFirstRow weight (row_in entries) state row
       top [] e l = absurd (true≢false (sym l))

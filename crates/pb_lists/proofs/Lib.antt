@@ -1,4 +1,5 @@
 pub mod Order
+pub mod Parts
 pub mod Filing
 pub mod First
 pub mod Entries

@@ -1,23 +1,19 @@
 //! The Opened rows of a bundle, in buckets by key.
-ghost use Rattle.std.specs.Prelude.{◌≡◌, ◌⊎◌, ◌≤◌, true, false, [], ℕ, List, Some, IfSome, OnOk, OnErr};
+ghost use Rattle.std.specs.Prelude.{◌≡◌, ◌≤◌, true, false, [], ℕ, List, Some, OnOk, OnErr};
 ghost use Rattle.std.specs.BTreeMap.{btree_map_len};
-ghost use Rattle.std.specs.BinaryHeap.{heap_items, IsHeap};
 ghost use Rattle.pb_lists.specs.Bundle.{row_in};
 ghost use Rattle.pb_lists.specs.Fields.{weight_of, key_at, is_open_at};
 ghost use Rattle.pb_model.specs.Weight.{Weight};
 ghost use Rattle.pb_model.specs.declared.row.Row.{Row};
-ghost use Rattle.pb_lists.specs.Buckets.{top_of, is_among, has_state, first_key_of, later};
-ghost use Rattle.pb_lists.specs.Buckets.{KeepsLive, KeepsStates, HasHeaps, HasFiled, IsTidy, is_led};
+ghost use Rattle.pb_lists.specs.Buckets.{states_of, has_state, first_key_of};
+ghost use Rattle.pb_lists.specs.Buckets.{KeepsLive, KeepsStates, IsOrdered, HasHeaps, HasFiled, IsTidy, is_led};
 
+use crate::bucket::Bucket;
 use indexmap::IndexMap;
 use pb_model::{Estimate, Key, Row, Status};
 use pb_packed::Packed;
 use std::alloc::{AllocError, Global};
-use std::cmp::Reverse;
-use std::collections::{BTreeMap, BinaryHeap};
-
-// The states at one key, the least on top.
-pub(crate) type Bucket = BinaryHeap<Reverse<Packed>>;
+use std::collections::BTreeMap;
 
 // Of each key its bucket.
 pub(crate) type Buckets = BTreeMap<Key, Bucket>;
@@ -56,34 +52,16 @@ pub(crate) fn file(
 {
     match buckets.get_mut(&key) {
         Some(bucket) => {
-            push(bucket, state)?;
+            bucket.push(state)?;
             Ok(())
         }
         None => {
-            let mut bucket = BinaryHeap::new(alloc);
-            push(&mut bucket, state)?;
+            let mut bucket = Bucket::new(alloc);
+            bucket.push(state)?;
             buckets.insert(key, bucket)?;
             Ok(())
         }
     }
-}
-
-// Puts a state into a bucket. Its top is then the state, or what it was: the calls of `top` are for
-// their clauses alone.
-fn push(bucket: &mut Bucket, state: Packed) -> Result<(), AllocError>
-    ensures heap { IsHeap later (heap_items bucket.old) → IsHeap later (heap_items bucket.new) }
-    ensures member { OnOk result (is_among state (heap_items bucket.new) ≡ true) }
-    ensures kept { (other : ℕ) → is_among other (heap_items bucket.old) ≡ true
-        → is_among other (heap_items bucket.new) ≡ true }
-    ensures top { OnOk result (IsHeap later (heap_items bucket.old)
-        → top_of (heap_items bucket.new) ≡ top_of (heap_items bucket.old)
-        ⊎ (top_of (heap_items bucket.new) ≡ Some state)) }
-    ensures err { OnErr result (heap_items bucket.new ≡ heap_items bucket.old) }
-{
-    let _ = top(bucket);
-    bucket.push(Reverse(state))?;
-    let _ = top(bucket);
-    Ok(())
 }
 
 // Takes what is no longer Opened at its key from the first bucket, until a row that is stands on
@@ -140,37 +118,26 @@ fn clear_first(
     }
 }
 
-// Takes states from the top of a bucket until a row on top is Opened at the bucket's key. Answers whether a state is left.
+// Takes states from the top of a bucket until a row on top is Opened at the bucket's key. Answers
+// whether a state is left.
 fn clear(bucket: &mut Bucket, rows: &IndexMap<Packed, Row>, num: u64, den: u64, key: &Key) -> bool
     requires num { num ≤ 1000 }
     requires den { den ≤ 1000 }
-    requires heap { IsHeap later (heap_items bucket.old) }
-    ensures heap { IsHeap later (heap_items bucket.new) }
+    requires heap { IsOrdered bucket.old }
+    ensures heap { IsOrdered bucket.new }
     ensures kept { KeepsLive (weight_of num den) rows.now.entries key.now
-        (heap_items bucket.old) (heap_items bucket.new) }
+        (states_of bucket.old) (states_of bucket.new) }
     ensures led { result ≡ true
-        → is_led (weight_of num den) rows.now.entries key.now (heap_items bucket.new) ≡ true }
-    ensures none { result ≡ false → heap_items bucket.new ≡ [] }
+        → is_led (weight_of num den) rows.now.entries key.now (states_of bucket.new) ≡ true }
+    ensures none { result ≡ false → states_of bucket.new ≡ [] }
 {
-    while let Some(state) = top(bucket) {
+    while let Some(state) = bucket.top() {
         if is_opened_at(rows, num, den, key, &state) {
             return true;
         }
         bucket.pop();
     }
     false
-}
-
-// The least state of a bucket.
-pub(crate) fn top(bucket: &Bucket) -> Option<Packed>
-    ensures top { result ≡ top_of (heap_items bucket.now) }
-    ensures least { IsHeap later (heap_items bucket.now) → IfSome result (λ state. (other : ℕ)
-        → is_among other (heap_items bucket.now) ≡ true → state ≤ other) }
-{
-    match bucket.peek() {
-        Some(state) => Some(state.0),
-        None => None,
-    }
 }
 
 // Whether the state's row is Opened, with this key.

@@ -1,15 +1,16 @@
-ghost use Rattle.std.specs.Prelude.{◌≡◌, false, ◌<◌, ◌≤◌, Option, Some, None, [], IfOk, IsSome, IfSome, IfNone, OnOk, OnErr, option_copied, nat_eq, slice_get, length};
+ghost use Rattle.std.specs.Prelude.{◌≡◌, false, ◌<◌, ◌≤◌, Option, Some, None, [], IfOk, IsSome, IfSome, IfNone, OnOk, OnErr, option_copied, nat_eq, slice_get, length, if◌then◌else◌};
 ghost use Rattle.std.specs.Map.{keys_of};
 ghost use Rattle.std.specs.List.{IsDistinct};
 ghost use Rattle.pb_model.specs.Key.{IsBest, IsFirstRow};
 ghost use Rattle.pb_model.specs.Store.{HasOpened};
 ghost use Rattle.pb_model.specs.Work.{offered_row};
 ghost use Rattle.pb_model.specs.declared.row.Status.TheVariants.{Opened, Closed, Cut};
-ghost use Rattle.pb_lists.specs.Bundle.{Content, row_of, put, SetsRow, SetsStatus, IsOpened};
+ghost use Rattle.indexmap.specs.IndexMap.{insert_entry};
+ghost use Rattle.pb_lists.specs.Bundle.{Content, row_in, row_of, put, SetsRow, SetsStatus, IsOpened};
 ghost use Rattle.pb_lists.specs.Offers.{offer_of};
 ghost use Rattle.pb_lists.specs.Fields.{is_opened};
 
-use crate::buckets::{Buckets, file, key_of, tidy, top};
+use crate::buckets::{Buckets, file, key_of, tidy};
 use indexmap::IndexMap;
 use pb_model::{Estimate, Key, Row, Status};
 use pb_packed::Packed;
@@ -101,7 +102,7 @@ impl Bundle {
         ensures none { IfNone result (HasOpened (row_of self.now) → ⊥) }
     {
         match self.opened.first_key_value() {
-            Some((_, bucket)) => top(bucket),
+            Some((_, bucket)) => bucket.top(),
             None => None,
         }
     }
@@ -214,14 +215,20 @@ impl Bundle {
         ensures sets { SetsStatus (row_of self.old) (row_of self.new) state.now status }
         ensures weight { self.new.weight ≡ self.old.weight }
     {
-        let at = *state;
-        match self.row(&at).copied() {
-            Some(was) => match self.rows.insert(at, Row { status, ..was }) {
-                Ok(_) => tidy(&mut self.opened, &self.rows, self.num, self.den),
-                Err(_) => unreachable!(),
-            },
-            None => unreachable!(),
-        }
+        set_status(&mut self.rows, state, status);
+        tidy(&mut self.opened, &self.rows, self.num, self.den);
+    }
+}
+
+// Writes the status of a state's row, by one look-up.
+fn set_status(rows: &mut IndexMap<Packed, Row>, state: &Packed, status: Status)
+    requires found { IsSome (row_in rows.old.entries state.now) }
+    ensures entries { (row : _) → row_in rows.old.entries state.now ≡ Some row → rows.new.entries ≡ insert_entry nat_eq rows.old.entries state.now (record row { status = status }) }
+    ensures updates { (row : _) → row_in rows.old.entries state.now ≡ Some row → (other : _) → row_in rows.new.entries other ≡ (if nat_eq state.now other then Some (record row { status = status }) else row_in rows.old.entries other) }
+{
+    match rows.get_mut(state) {
+        Some(row) => row.status = status,
+        None => unreachable!(),
     }
 }
 

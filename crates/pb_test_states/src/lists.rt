@@ -44,6 +44,30 @@ fn a_dead_row_keeps_its_place(rt: HostRuntime) -> Result<(), Fail> {
     Ok(())
 }
 
+// Two states of more than one word, and then two that fit one.
+#[test]
+fn the_least_state_comes_first_at_one_key(rt: HostRuntime) -> Result<(), Fail> {
+    let mut bundle = Bundle::new(rt.alloc(), 1, 1)?;
+    let least = Packed::zero().with_bits(0, 64, 1);
+    for state in [
+        Packed::zero().with_bits(192, 64, u64::MAX),
+        Packed::zero().with_bits(64, 1, 1),
+        Packed::zero().with_bits(0, 64, u64::MAX),
+        least,
+    ] {
+        bundle.offer(state, 4, Estimate::Cost(2), None, 0)?;
+        assert!(rt; bundle.first() == Some(state));
+    }
+    for state in [
+        Packed::zero().with_bits(0, 64, 2),
+        Packed::zero().with_bits(64, 64, 1 << 63),
+    ] {
+        bundle.offer(state, 4, Estimate::Cost(2), None, 0)?;
+        assert!(rt; bundle.first() == Some(least));
+    }
+    Ok(())
+}
+
 fn moved<T: Send>(value: T) -> T {
     value
 }
