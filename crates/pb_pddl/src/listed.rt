@@ -42,6 +42,13 @@ impl<T> Listed<T> {
         self.items.push(x)
     }
 
+    /// Gives back the memory that it holds beyond its elements.
+    pub fn trim(&mut self)
+        ensures { self.new ≡ self.old }
+    {
+        self.items.shrink_to_fit();
+    }
+
     /// Removes the last element, where there is one.
     pub fn pop(&mut self)
     where

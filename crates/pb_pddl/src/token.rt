@@ -1,4 +1,5 @@
 use crate::listed::Listed;
+use crate::text::Text;
 
 /// Of what kind a token is. Each place of a text has one: where no token begins it is `Byte`, where the text ends `End`.
 #[derive(Clone, Copy, Debug, PartialEq, Eq)]
@@ -25,14 +26,14 @@ pub enum TokenKind {
     End,
 }
 
-/// A token and its place: the slice of its text that begins there.
+/// A token and its place: the slice of its text that begins there. The order of the fields keeps it at 24 bytes.
 #[derive(Debug, Drop)]
 pub struct Token {
-    pub kind: TokenKind,
-    /// Its bytes, in lower case.
-    pub text: Listed<u8>,
+    /// Its bytes, in lower case, as a range of the whole text.
+    pub text: Text,
     /// The place of its first byte. At the end of the text that of the innermost `(` that is open.
-    pub at: u64,
+    pub at: u32,
+    pub kind: TokenKind,
     /// Whether it stands directly after a `(`.
     pub head: bool,
 }

@@ -83,7 +83,8 @@ pub fn atom<'a>(
     ensures { Gives (λ x. (x.0, x.1.now)) result (atom_at variables tokens.now) }
 {
     let (predicate, rest) = head(alloc, tokens)?;
-    let (terms, rest) = terms(alloc, variables, rest)?;
+    let (mut terms, rest) = terms(alloc, variables, rest)?;
+    terms.trim();
     let rest = need(TokenKind::Close, Want::Name, rest)?;
     Ok((Atom { predicate, terms }, rest))
 }

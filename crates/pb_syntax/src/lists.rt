@@ -126,6 +126,7 @@ pub fn list(
     let rest = groups(alloc, kind, &mut group, tokens)?;
     let rest = need(TokenKind::Close, want, rest)?;
     give_type(&mut group.done, group.waiting.as_slice(), &None)?;
+    group.done.trim();
     Ok((group.done, rest))
 }
 

@@ -91,18 +91,17 @@ fn is_reserved(text: &[u8]) -> bool
 fn refusal(want: Want, token: &Token) -> SyntaxError
     ensures { result ≡ refusal want token.now }
 {
+    let at = u64::from(token.at);
     match token.kind {
-        TokenKind::Byte => SyntaxError::Byte { at: token.at },
-        TokenKind::Deep => SyntaxError::Deep { at: token.at },
-        TokenKind::End => SyntaxError::Unclosed { at: token.at },
+        TokenKind::Byte => SyntaxError::Byte { at },
+        TokenKind::Deep => SyntaxError::Deep { at },
+        TokenKind::End => SyntaxError::Unclosed { at },
         _ => {
             if token.head && is_reserved(token.text.as_slice()) {
-                SyntaxError::LeftOut {
-                    at: token.at,
-                    what: LeftOut::Head,
-                }
+                let what = LeftOut::Head;
+                SyntaxError::LeftOut { at, what }
             } else {
-                SyntaxError::Expected { at: token.at, want }
+                SyntaxError::Expected { at, want }
             }
         }
     }
@@ -126,7 +125,10 @@ pub fn left_out(what: LeftOut, tokens: &[Token]) -> SyntaxError
 {
     match tokens {
         [] => SyntaxError::LeftOut { at: 0, what },
-        [token, ..] => SyntaxError::LeftOut { at: token.at, what },
+        [token, ..] => SyntaxError::LeftOut {
+            at: u64::from(token.at),
+            what,
+        },
     }
 }
 
@@ -175,8 +177,8 @@ pub fn first_name(alloc: Global, tokens: &[Token]) -> Result<Name, AllocError>
             at: 0,
         }),
         [token, ..] => Ok(Name {
-            text: Text::new(alloc, token.text.as_slice())?,
-            at: token.at,
+            text: token.text.share()?,
+            at: u64::from(token.at),
         }),
     }
 }
@@ -226,6 +228,6 @@ pub fn place(tokens: &[Token]) -> u64
 {
     match tokens {
         [] => 0,
-        [token, ..] => token.at,
+        [token, ..] => u64::from(token.at),
     }
 }

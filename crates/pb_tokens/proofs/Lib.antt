@@ -1,3 +1,4 @@
 pub mod Runs
 pub mod Lex
 pub mod SpansLaw
+pub mod Place

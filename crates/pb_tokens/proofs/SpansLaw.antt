@@ -1,21 +1,16 @@
 -- Tokens are slices of their text, one behind the other.
-use Rattle.std.proofs.Common.{◌≡◌, ℕ, zero, suc, ◌+◌, Bool, true, false, List, [], ◌∷◌, length, take, drop, map, refl, sym, ap, subst, ◌∙◌, arith, ◌⊎◌, inl, inr, zero-add}
+use Rattle.std.proofs.Common.{◌≡◌, ℕ, zero, suc, ◌+◌, Bool, true, false, List, [], ◌∷◌, length, take, drop, map, refl, sym, ap, subst, ◌∙◌, arith, ◌⊎◌, inl, inr}
 use Rattle.pb_pddl.specs.declared.token.TokenKind.TheVariants as kinds
 use Rattle.pb_pddl.specs.declared.token.Token.{Token}
 use Rattle.pb_pddl.specs.declared.token.Cursor.{Cursor}
 use Rattle.pb_pddl.specs.Tokens.{lower, gap_len, token_at, kind_of, kind_inside, word_first, len_of, is_last, AreTokens, moved, behind}
 use Rattle.pb_pddl.specs.Spans.{Spans}
+use Rattle.pb_pddl.proofs.Ranges.{drop_drop}
 
 take_taken : (n : ℕ) (xs : List ℕ) → take (length (map lower (take n xs))) xs ≡ take n xs
 take_taken zero xs = refl
 take_taken (suc n) [] = refl
 take_taken (suc n) (x ∷ xs) = ap (λ (ys : List ℕ). x ∷ ys) (take_taken n xs)
-
-drop_drop : (m n : ℕ) (xs : List ℕ) → drop n (drop m xs) ≡ drop (m + n) xs
-drop_drop zero n xs = ap (λ k. drop k xs) (sym (zero-add n))
-drop_drop (suc m) zero [] = let k : suc m + zero ≡ suc m = omega arith in ap (λ i. drop i []) (sym k)
-drop_drop (suc m) (suc n) [] = let k : suc m + suc n ≡ suc (m + suc n) = omega arith in ap (λ i. drop {A = ℕ} i []) (sym k)
-drop_drop (suc m) n (x ∷ xs) = let k : suc m + n ≡ suc (m + n) = omega arith in drop_drop m n xs ∙ ap (λ i. drop i (x ∷ xs)) (sym k)
 
 token_slice : (h : Cursor) (rest : List ℕ) → ((token_at h rest).kind ≡ kinds.End) ⊎ (((token_at h rest).at ≡ h.at) × ((token_at h rest).text ≡ map lower (take (length (token_at h rest).text) rest)))
 unfolding token_at

@@ -1,9 +1,9 @@
-ghost use Rattle.std.specs.Prelude.{◌≡◌, ◌+◌, ◌≤◌, ◌<◌, ◌^◌, ◌∷◌, length, IfOk, OnOk, false, Ok};
+ghost use Rattle.std.specs.Prelude.{◌≡◌, ◌+◌, ◌≤◌, ◌<◌, ◌^◌, ◌∷◌, length, take, drop, map, IfOk, OnOk, false, Ok};
 ghost use Rattle.pb_pddl.specs.Spans.{Spans};
-ghost use Rattle.pb_pddl.specs.Tokens.{kind_of, kind_inside, len_of, token_at, is_last, is_open, behind, unclosed, TextTokens};
+ghost use Rattle.pb_pddl.specs.Tokens.{lower, kind_of, kind_inside, len_of, token_at, is_last, is_open, behind, unclosed, TextTokens};
 
 use crate::bytes::{begins_word, gap_len, lowered, run_len, word_first};
-use pb_pddl::{Cursor, Listed, Token, TokenKind};
+use pb_pddl::{Cursor, Listed, Text, Token, TokenKind};
 use std::alloc::{AllocError, Global};
 
 #[tactic(auto, unfolding(pb_pddl::specs::Tokens::kind_of))]
@@ -106,10 +106,33 @@ fn unclosed(here: &Cursor) -> u64
     }
 }
 
-// The token that these bytes begin with, behind all white space.
+// The first bytes of this text, in lower case, as a range of the source.
+#[tactic(auto, using(crate::proofs::Place::slice_is, crate::proofs::Place::slice_len, crate::proofs::Place::slice_within))]
+fn slice(source: &Text, at: u64, text: &[u8], len: usize) -> Result<Text, AllocError>
+    requires within { len ≤ length text.now }
+    requires some { 0 < length text.now }
+    requires place { drop at source.now ≡ map lower text.now }
+    ensures len { IfOk result (λ part. length part ≡ len) }
+    ensures slice { IfOk result (λ part. part ≡ map lower (take len text.now)) }
+{
+    source.part(at as usize, len)
+}
+
+// Where a token stands. It fails for a place of 4 GiB or more.
+fn place_of(at: u64) -> Result<u32, AllocError>
+    ensures { IfOk result (λ place. place ≡ at) }
+{
+    match u32::try_from(at) {
+        Ok(place) => Ok(place),
+        Err(_) => Err(AllocError),
+    }
+}
+
+// The token that these bytes begin with, behind all white space. In lower case they are the source's from here on.
 #[tactic(auto, unfolding(pb_pddl::specs::Tokens::token_at, pb_pddl::specs::Tokens::is_last))]
-fn token_at(alloc: Global, here: &Cursor, text: &[u8]) -> Result<Token, AllocError>
-    requires { length text.now < 2 ^ 63 }
+fn token_at(source: &Text, here: &Cursor, text: &[u8]) -> Result<Token, AllocError>
+    requires size { length text.now < 2 ^ 63 }
+    requires place { drop here.now.at source.now ≡ map lower text.now }
     ensures within { IfOk result (λ t. length t.text ≤ length text.now) }
     ensures some { IfOk result (λ t. is_last t.kind ≡ false → 0 < length t.text) }
     ensures token { IfOk result (λ t. t ≡ token_at here.now text.now) }
@@ -117,8 +140,8 @@ fn token_at(alloc: Global, here: &Cursor, text: &[u8]) -> Result<Token, AllocErr
     let Some((byte, behind)) = text.split_first() else {
         return Ok(Token {
             kind: TokenKind::End,
-            text: Listed::new(alloc),
-            at: unclosed(here),
+            text: source.part(0, 0)?,
+            at: place_of(unclosed(here))?,
             head: here.head,
         });
     };
@@ -126,11 +149,10 @@ fn token_at(alloc: Global, here: &Cursor, text: &[u8]) -> Result<Token, AllocErr
         here.nest.as_slice().len(),
         kind_of(*byte, word_first(behind)),
     );
-    let (front, _) = text.split_at(len_of(kind, behind));
     Ok(Token {
         kind,
-        text: lowered(alloc, front)?,
-        at: here.at,
+        text: slice(source, here.at, text, len_of(kind, behind))?,
+        at: place_of(here.at)?,
         head: here.head,
     })
 }
@@ -163,11 +185,10 @@ fn pass(here: &mut Cursor, token: &Token) -> Result<(), AllocError>
     Ok(())
 }
 
-/// The tokens of a text, each the longest at its place. The last is the first that goes on nowhere: the end, bytes that
-/// begin no token, or a `(` inside 32 others. Its only error is want of memory.
-pub fn tokens(alloc: Global, text: &[u8]) -> Result<Listed<Token>, AllocError>
+// The tokens of a text, of which this source is the lower case.
+fn tokens_in(alloc: Global, source: &Text, text: &[u8]) -> Result<Listed<Token>, AllocError>
+    requires { source.now ≡ map lower text.now }
     ensures tokens { IfOk result (TextTokens text.now) }
-    // Each but the end is a slice of the text at its place, in lower case, and stands behind the one before it.
     ensures slices { IfOk result (Spans 0 text.now) }
 {
     let mut out = Listed::new(alloc);
@@ -180,7 +201,7 @@ pub fn tokens(alloc: Global, text: &[u8]) -> Result<Listed<Token>, AllocError>
     loop {
         let (gap, bytes) = rest.split_at(gap_len(rest));
         here.at += gap.len() as u64;
-        let token = token_at(alloc, &here, bytes)?;
+        let token = token_at(source, &here, bytes)?;
         if is_last(token.kind) {
             out.push(token)?;
             return Ok(out);
@@ -190,4 +211,15 @@ pub fn tokens(alloc: Global, text: &[u8]) -> Result<Listed<Token>, AllocError>
         rest = after;
         out.push(token)?;
     }
+}
+
+/// The tokens of a text, each the longest at its place. The last is the first that goes on nowhere: the end, bytes that
+/// begin no token, or a `(` inside 32 others. Its only error is want of memory.
+pub fn tokens(alloc: Global, text: &[u8]) -> Result<Listed<Token>, AllocError>
+    ensures tokens { IfOk result (TextTokens text.now) }
+    // Each but the end is a slice of the text at its place, in lower case, and stands behind the one before it.
+    ensures slices { IfOk result (Spans 0 text.now) }
+{
+    let source = Text::of(alloc, lowered(alloc, text)?)?;
+    tokens_in(alloc, &source, text)
 }
