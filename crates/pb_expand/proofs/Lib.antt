@@ -6,3 +6,4 @@ pub mod Known
 pub mod Listed
 pub mod Far
 pub mod Estimates
+pub mod Watched

@@ -10,7 +10,7 @@ use Rattle.pb_model.specs.Space.{Space, steps}
 use Rattle.pb_model.specs.Guide.{Guide}
 use Rattle.pb_model.specs.Store.{Store, is_place_of, lesser, MayBeCut}
 use Rattle.pb_model.specs.Key.{IsFirstRow}
-use Rattle.pb_model.specs.Work.{Work, expand, break_off, cut, take_goal, offered_row, row_after_offer, row_after_offers, row_after_status, row_after, incumbent_after, weight_after, g_of, g_before, store_after, May, expansions, broken_expansions}
+use Rattle.pb_model.specs.Work.{Work, expand, break_off, cut, take_goal, lower, offered_row, row_after_offer, row_after_offers, row_after_status, row_after, incumbent_after, weight_after, g_of, g_before, store_after, May, expansions, broken_expansions}
 use Rattle.pb_model.proofs.Locality.{broken_append}
 use Rattle.pb_model.proofs.Offers.{Left, place_of, offers_leave, offers_push}
 use Rattle.pb_model.proofs.Tests.{by_cases}
@@ -72,6 +72,12 @@ module _ (space : Space) (guide : Guide) (work : Work) (g : ℕ) (old new : Leas
         incumbent = (incumbent ∙ ap (λ k. incumbent_after work k old.incumbent) same) i;
         weight = weight i;
       }
+
+-- a cost was taken that was read
+pub lowered_turned : (space : Space) (guide : Guide) (known : Option ℕ → Bool) (block : ℕ) (old new : LeaseValue) (cost : ℕ) → IsTrue (known (Some cost))
+    → new ≡ record old { incumbent = lesser old.incumbent (Some cost) } → HasTurned space guide known block 0 0 (leased_store old) (leased_store new)
+lowered_turned space guide known block old new cost read is =
+    one_turn space guide {known = known} block (lower cost) 0 0 (leased_store old) (leased_store new) read tt tt (ap leased_store is) refl refl tt
 
 module _ (space : Space) (guide : Guide) (block : ℕ) (old : LeaseValue) (state : ℕ) (row : Row) (own : old.block ≡ block) (home : guide.home state ≡ block) where
   module _ (first : IsFirstRow old.weight (own_rows old) state row) where

@@ -1,3 +1,4 @@
 pub mod Turned
 pub mod Rows
 pub mod Worked
+pub mod Watching

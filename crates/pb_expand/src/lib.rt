@@ -1,15 +1,20 @@
 //! The expansion of rows in a lease: what a worker of a parallel best-first search does with the block that it has leased (Burns, Lemons,
 //! Ruml and Zhou, "Best-First Heuristic Search for Multicore Machines", Journal of Artificial Intelligence Research 39, 2010).
 //!
-//! What the contracts cite is in `specs`: `IsAtWork` says which leases may be worked on, and `HasTurned` what was done.
+//! What the contracts cite is in `specs`: `IsAtWork` says which leases may be worked on, `HasTurned` what was done, and `Watching` what a
+//! worker knows that watches the incumbent.
 #![tactic(auto)]
 
 mod bundles;
 mod offers;
 mod rules;
 mod turns;
+mod watch;
+mod watching;
 mod working;
 
+pub use watch::Watch;
+pub use watching::work_watched;
 pub use working::{Worked, work};
 
 #[cfg(test)]

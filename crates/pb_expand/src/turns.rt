@@ -87,6 +87,7 @@ pub fn expand(
     ensures broken { OnErr result (HasTurned (space_of task.now) (guide_of task.now graph.now) reads_none lease.old.block 0 1 (leased_store lease.old) (leased_store lease.new)) }
     ensures unused { OnErr result (lease.new.used ≡ lease.old.used) }
     ensures opened { OnErr result (HasOpened (own_rows lease.new)) }
+    ensures incumbent { lease.new.incumbent ≡ lease.old.incumbent }
     ensures same { IsSameLease lease.old lease.new }
     ensures weights { HasWeights lease.new }
     ensures tables { IsOfTask estimator.new task.now }

@@ -1,7 +1,7 @@
--- A graph that stays a moment while costs are told, and whose moves a run's events are.
-use Rattle.std.proofs.Common.{◌≡◌, ℕ, cond, List, [], ◌∷◌, refl, sym, ap, ◌∙◌, subst}
-use Rattle.pb_model.specs.Store.{Store}
-use Rattle.pb_model.proofs.Tests.{by_cases}
+-- A graph that stays a moment while costs are told or taken, and whose moves a run's events are.
+use Rattle.std.proofs.Common.{◌≡◌, ℕ, min, Bool, nat_lt, cond, List, [], ◌∷◌, Option, Some, None, IsTrue, refl, sym, ap, ◌∙◌, subst, arith}
+use Rattle.pb_model.specs.Store.{Store, lesser}
+use Rattle.pb_model.proofs.Tests.{by_cases, below, not_below}
 use Rattle.pb_task.specs.Parts.{greatest_cost}
 use Rattle.pb_machine.specs.declared.event.Event.{Event}
 use Rattle.pb_machine.specs.Counts.{Counts, is_any_out}
@@ -13,9 +13,10 @@ use Rattle.pb_machine.proofs.OwnMoves.{none_out_untold}
 use Rattle.pb_machine.proofs.WholeStore.{others_keep_whole}
 use Rattle.pb_bundles.specs.Homes.{key_at, home_rows}
 use Rattle.pb_bundles.specs.Stores.{HasKeys}
-use Rattle.pb_lease.specs.GraphValue.{setup_in}
+use Rattle.pb_lease.specs.GraphValue.{GraphValue, setup_in, IsLeaseGraph}
 use Rattle.pb_lease.specs.Moments.{moves_of}
 use Rattle.pb_lease.specs.Laws.{TellsKeepMoments, NoneOutIsMoment, EventsLeaveOthers}
+use Rattle.pb_lease.specs.Steps.{TakesBound}
 use Rattle.pb_lease.proofs.GraphBasics.{setup_is}
 
 pub tells_keep_moments : TellsKeepMoments
@@ -42,3 +43,33 @@ none_own other (event ∷ events) none = by_cases (is_event_of other event)
 
 pub events_leave_others : EventsLeaveOthers
 events_leave_others worker other events by else = none_own other events (by other else)
+
+-- ---- a cost that is taken
+
+-- the lesser of two costs is known where both are
+known_lesser : (known : Option ℕ → Bool) (incumbent : Option ℕ) (cost : ℕ) → IsTrue (known incumbent) → IsTrue (known (Some cost)) → IsTrue (known (lesser incumbent (Some cost)))
+known_lesser known None cost first second = second
+known_lesser known (Some incumbent) cost first second = by_cases (nat_lt cost incumbent)
+    (λ e. let low = below cost incumbent e in let same : min incumbent cost ≡ cost = omega (arith, low) in subst (λ n. IsTrue (known (Some n))) (sym same) second)
+    (λ e. let low = not_below cost incumbent e in let same : min incumbent cost ≡ incumbent = omega (arith, low) in subst (λ n. IsTrue (known (Some n))) (sym same) first)
+
+-- with another incumbent it is still a graph
+pub bounded_kept : (g : GraphValue) → IsLeaseGraph g → (incumbent : Option ℕ) → IsLeaseGraph (record g { incumbent = incumbent })
+bounded_kept g k incumbent = record {
+  is_task = k.is_task;
+  graph_of = k.graph_of;
+  legal = k.legal;
+  places = k.places;
+  key_places = k.key_places;
+  home = k.home;
+  weights = k.weights;
+}
+
+pub bound_taken : (g : GraphValue) (cost : ℕ) → TakesBound g cost (record g { incumbent = lesser g.incumbent (Some cost) })
+bound_taken g cost recorded machine m known = record {
+  lawful = m.lawful;
+  counts = m.counts;
+  whole = m.whole;
+  keys = m.keys;
+  incumbent = λ worker. known_lesser (machine.known worker) g.incumbent cost (m.incumbent worker) (known worker);
+}

@@ -1,5 +1,5 @@
 -- What each call of a graph leaves.
-use Rattle.std.specs.Prelude.{◌≡◌, ℕ, ◌+◌, ◌-◌, ◌<◌, ◌↔◌, min, Bool, if◌then◌else◌, List, [], ◌∷◌, Option, Some, None}
+use Rattle.std.specs.Prelude.{◌≡◌, ℕ, ◌+◌, ◌-◌, ◌<◌, ◌↔◌, min, Bool, IsTrue, if◌then◌else◌, List, [], ◌∷◌, Option, Some, None}
 use Rattle.std.specs.Option.{option_or}
 use Rattle.pb_model.specs.Store.{Rows, lesser}
 use Rattle.pb_model.specs.Local.{merged_store}
@@ -153,3 +153,12 @@ ChoosesByRows old lease new =
     → IsChoiceWithHome old lease new (Some lease.block)
     ↔ IsFirstChoice (blocks old.table) old.table.settings (counts_with_lease_home machine.counts lease.worker lease.used)
     (merged_store ((blocks old.table).scope lease.block) (leased_store lease) machine.store) lease.block
+
+-- ---- a cost that is known before its lease comes back
+
+-- At each moment of the old graph at which every worker can have read the cost, the new graph is that moment too, with the same
+-- rows recorded.
+abbrev pub TakesBound : (old : GraphValue) → (cost : ℕ) → (new : GraphValue) → Type 0
+TakesBound old cost new =
+    (recorded : (worker : ℕ) → Rows) (machine : Machine) → IsMomentAt old recorded machine → ((worker : ℕ) → IsTrue (machine.known worker (Some cost)))
+    → IsMomentAt new recorded machine

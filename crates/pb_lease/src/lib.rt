@@ -13,6 +13,7 @@ mod hot;
 mod laws;
 mod lease;
 mod leasing;
+mod lowering;
 mod marking;
 mod marks;
 mod returning;

@@ -115,7 +115,7 @@ impl LeaseGraph {
 }
 
 /// The lesser of two costs, of which one or both may be unknown.
-fn least(first: Option<u64>, second: Option<u64>) -> Option<u64>
+pub(crate) fn least(first: Option<u64>, second: Option<u64>) -> Option<u64>
     ensures { result ≡ lesser first second }
 {
     match (first, second) {

@@ -1,4 +1,4 @@
-use Rattle.std.proofs.Common.{◌≡◌, ◌-◌, ◌≤◌, vec_capacity}
+use Rattle.std.proofs.Common.{◌-◌, ◌≤◌, vec_capacity}
 use Rattle.pb_task.specs.Parts.{space_of}
 use Rattle.pb_estimate.specs.Tables.{IsOfTask}
 use Rattle.pb_lease.specs.LeaseValue.{leased_store, IsSameLease}

@@ -2,11 +2,10 @@ use Rattle.std.proofs.Common.{◌≡◌, ◌<◌, ◌≤◌, ◌+◌, ◌-◌, �
 use Rattle.pb_model.proofs.Tests.{by_cases, equal}
 use Rattle.pb_machine.specs.declared.event.Grant.{Grant}
 use Rattle.pb_machine.specs.Tables.{one_if}
-use Rattle.pb_machine.specs.Blocks.{Blocks, interferes}
+use Rattle.pb_machine.specs.Blocks.{interferes}
 use Rattle.pb_machine.specs.Counts.{quota_of}
 use Rattle.pb_machine.specs.Counters.{busy_count}
 use Rattle.pb_machine.specs.Choice.{counts_with_lease_home}
-use Rattle.pb_abstract.specs.Graph.{blocks_of}
 use Rattle.pb_lease.specs.Tables.{Table, blocks, counts_of, seat_of}
 use Rattle.pb_lease.specs.Leasing.{can_be_leased}
 use Rattle.pb_lease.proofs.Lists.{item_is, none_is}

@@ -1,0 +1,341 @@
+-- Turns under a watch of the incumbent.
+use Rattle.std.proofs.Common.{◌≡◌, ℕ, ◌+◌, ◌-◌, ◌<◌, ◌≤◌, ◌^◌, Bool, true, false, ◌||◌, Option, Some, None, IsTrue, refl, sym, ap, ◌∙◌, subst, arith, ◌⊎◌, inl, inr, true≢false}
+use Rattle.pb_model.specs.declared.row.Row.{Row}
+use Rattle.pb_model.specs.Key.{IsFirstRow}
+use Rattle.pb_model.specs.Space.{Space}
+use Rattle.pb_model.specs.Guide.{Guide}
+use Rattle.pb_model.specs.Store.{Store, HasGoalWithin, AtMost, lesser}
+use Rattle.pb_model.specs.Work.{broken_expansions}
+use Rattle.pb_model.proofs.Backing.{goal_still, goal_within}
+use Rattle.pb_model.proofs.Incumbents.{at_most_self, at_most_trans, lesser_at_most, lesser_falls, lesser_cases}
+use Rattle.pb_machine.specs.Machine.{IsWorked, lent_store}
+use Rattle.pb_machine.specs.Turns.{AreLeaseTurns}
+use Rattle.pb_machine.proofs.LeaseWork.{lease_work_goes_on, lease_work_stays}
+use Rattle.pb_machine.proofs.LeaseTurns.{lease_turns_go_on}
+use Rattle.pb_task.specs.declared.parts.TaskParts.{TaskParts}
+use Rattle.pb_task.specs.Parts.{space_of}
+use Rattle.pb_abstract.specs.Graph.{AbstractGraph}
+use Rattle.pb_lease.specs.LeaseValue.{LeaseValue, leased_store, HasWeights, IsSameLease}
+use Rattle.pb_lease.specs.Leased.{guide_of, setup_of, HasScope}
+use Rattle.pb_expand.specs.Turned.{own_rows, IsAtWork, HasTurned, reads_none}
+use Rattle.pb_expand.specs.Watching.{WatchView, IsFromLent, IsWatched, MayTell, KeepsWatch, HasRead, HasTold, IsAtWatch, HasTurnedWatched}
+use Rattle.pb_expand.specs.Rows.{ChangesRows}
+use Rattle.pb_expand.proofs.Same.{same_none, same_on, same_changed}
+use Rattle.pb_expand.proofs.Known.{scope_on, row_is_home, row_is_cheap}
+use Rattle.pb_expand.proofs.Turned.{turned_none, turned_on, lowered_turned}
+
+-- ---- costs
+
+-- the lesser of both is the second where that is no greater
+lesser_other : (u : Option ℕ) (cost : ℕ) → AtMost (Some cost) u → lesser u (Some cost) ≡ Some cost
+lesser_other None cost low = refl
+lesser_other (Some u) cost low = ap (λ n. Some n) (omega (arith, low))
+
+-- what is no greater than an unknown cost
+none_below : (u : Option ℕ) → AtMost None u → u ≡ None
+none_below None low = refl
+none_below (Some u) low = absurd low
+
+or_first : (a b : Bool) → a ≡ true → (a || b) ≡ true
+or_first true b h = refl
+or_first false b h = absurd (true≢false (sym h))
+
+or_second : (a b : Bool) → b ≡ true → (a || b) ≡ true
+or_second true b h = refl
+or_second false b h = h
+
+lesser_none : (u : Option ℕ) → lesser u None ≡ u
+lesser_none None = refl
+lesser_none (Some u) = refl
+
+-- it is the same lease after its incumbent fell
+same_lowered : (lease : LeaseValue) (found : Option ℕ) → IsSameLease lease (record lease { incumbent = lesser lease.incumbent found })
+same_lowered lease found = record { worker = refl; block = refl; quota = refl; weight = refl; places = refl; incumbent = lesser_at_most lease.incumbent found }
+
+-- ---- a watch
+
+pub keeps_none : (view : WatchView) → KeepsWatch view view
+keeps_none view = record { others = refl; knows = λ incumbent k. k; falls = at_most_self view.least }
+
+pub keeps_on : (old mid new : WatchView) → KeepsWatch old mid → KeepsWatch mid new → KeepsWatch old new
+keeps_on old mid new first second = record {
+  others = second.others ∙ ap (λ (view : WatchView). record view { read = new.read; least = new.least; told = new.told }) first.others;
+  knows = λ incumbent k. second.knows incumbent (first.knows incumbent k);
+  falls = at_most_trans new.least mid.least old.least second.falls first.falls;
+}
+
+module _ (space : Space) (guide : Guide) where
+  -- turns are that also where more is known
+  pub turned_known : (known later : Option ℕ → Bool) (block used broken : ℕ) (old new : Store) → ((incumbent : Option ℕ) → IsTrue (known incumbent) → IsTrue (later incumbent))
+      → HasTurned space guide known block used broken old new → HasTurned space guide later block used broken old new
+  turned_known known later block used broken old new more turned =
+      let same = lease_work_stays space guide block used broken broken known later old new turned.work (omega arith) more in
+      record {
+        work = same.0;
+        broken_is = ap broken_expansions same.1 ∙ turned.broken_is;
+        turns = subst (λ works. AreLeaseTurns space guide works old) (sym same.1) turned.turns;
+      }
+
+  -- a lease that came from the lent one and did more turns came from it
+  module _ (was now : WatchView) (kept : KeepsWatch was now) (old new : LeaseValue) (more broken : ℕ)
+      (turned : HasTurned space guide now.read old.block more broken (leased_store old) (leased_store new))
+      (same : IsSameLease old new) (used : new.used ≡ old.used + more) where
+    from_on : IsFromLent space guide was 0 old → IsFromLent space guide now broken new
+    from_on from =
+        let second : HasTurned space guide now.read from.lent.block more broken (leased_store old) (leased_store new) =
+        subst (λ block. HasTurned space guide now.read block more broken (leased_store old) (leased_store new)) from.same.block turned in
+        let both = lease_work_goes_on space guide from.lent.block old.used more broken was.read now.read (leased_store from.lent) (leased_store old) (leased_store new) from.work second.work kept.knows in
+        let done : (work : IsWorked space guide from.lent.block (old.used + more) broken now.read (leased_store from.lent) (leased_store new)) × AreLeaseTurns space guide work.works (leased_store from.lent) = (
+          both.0,
+          subst (λ works. AreLeaseTurns space guide works (leased_store from.lent)) (sym both.1)
+              (lease_turns_go_on space guide from.work.works second.work.works (leased_store from.lent) (leased_store old) from.work.comes from.turns second.turns),
+        ) in
+        let counted = subst (λ n. (work : IsWorked space guide from.lent.block n broken now.read (leased_store from.lent) (leased_store new)) × AreLeaseTurns space guide work.works (leased_store from.lent)) (sym used) done in
+        record {
+          lent = from.lent;
+          lent_is = ap (λ (view : WatchView). view.lent) kept.others ∙ from.lent_is;
+          same = same_on from.lent old new from.same same;
+          work = counted.0;
+          turns = counted.1;
+        }
+
+    pub watched_on : IsFromLent space guide was 0 old → AtMost now.least new.incumbent → ((cost : ℕ) → now.told ≡ Some cost → HasGoalWithin space guide (leased_store old) cost)
+        → IsWatched space guide now broken new
+    watched_on from copy shown = record {
+      from = from_on from;
+      copy = copy;
+      shown = λ cost is. goal_still space guide turned.work.works (leased_store old) (leased_store new) cost turned.work.comes (shown cost is);
+    }
+
+  pub none_watched : (lease : LeaseValue) (view : WatchView) → IsWatched space guide view 0 lease → HasTurnedWatched space guide 0 0 lease view lease view
+  none_watched lease view watched = record {
+    turned = turned_none space guide lease.block (leased_store lease);
+    same = same_none lease;
+    used = omega arith;
+    weights = λ has. has;
+    kept = keeps_none view;
+    watched = watched;
+    level = λ same. same;
+  }
+
+  -- turns go on where others stopped
+  pub watched_then : (first_more more broken : ℕ) (old : LeaseValue) (was : WatchView) (mid : LeaseValue) (between : WatchView) (new : LeaseValue) (now : WatchView)
+      → HasTurnedWatched space guide first_more 0 old was mid between → HasTurnedWatched space guide more broken mid between new now
+      → HasTurnedWatched space guide (first_more + more) broken old was new now
+  watched_then first_more more broken old was mid between new now first second = record {
+    turned = turned_on space guide {known = now.read} old.block first_more more broken (leased_store old) (leased_store mid) (leased_store new)
+        (turned_known between.read now.read old.block first_more 0 (leased_store old) (leased_store mid) second.kept.knows first.turned)
+        (subst (λ block. HasTurned space guide now.read block more broken (leased_store mid) (leased_store new)) first.same.block second.turned);
+    same = same_on old mid new first.same second.same;
+    used = omega (arith, second.used, first.used);
+    weights = λ has. second.weights (first.weights has);
+    kept = keeps_on was between now first.kept second.kept;
+    watched = second.watched;
+    level = λ same. second.level (first.level same);
+  }
+
+  -- ---- one turn
+
+  -- turns that leave the lease's incumbent, while the watch does nothing
+  pub unread_turned : (old new : LeaseValue) (view : WatchView) (more broken : ℕ) → IsWatched space guide view 0 old
+      → HasTurned space guide view.read old.block more broken (leased_store old) (leased_store new) → IsSameLease old new → new.used ≡ old.used + more → (HasWeights old → HasWeights new)
+      → new.incumbent ≡ old.incumbent → HasTurnedWatched space guide more broken old view new view
+  unread_turned old new view more broken watched turned same used weights incumbent = record {
+    turned = turned;
+    same = same;
+    used = used;
+    weights = weights;
+    kept = keeps_none view;
+    watched = watched_on view view (keeps_none view) old new more broken turned same used watched.from (subst (λ u. AtMost view.least u) (sym incumbent) watched.copy) watched.shown;
+    level = λ level. incumbent ∙ level;
+  }
+
+  -- a goal's row was taken after its cost was told
+  pub told_turned : (old new : LeaseValue) (was now : WatchView) (cost : ℕ) → IsWatched space guide was 0 old → HasTold was cost now → HasGoalWithin space guide (leased_store old) cost
+      → HasTurned space guide now.read old.block 0 0 (leased_store old) (leased_store new) → IsSameLease old new → new.used ≡ old.used → (HasWeights old → HasWeights new)
+      → new.incumbent ≡ lesser old.incumbent (Some cost) → HasTurnedWatched space guide 0 0 old was new now
+  told_turned old new was now cost watched told goal turned same used weights incumbent = record {
+    turned = turned;
+    same = same;
+    used = omega (arith, used);
+    weights = weights;
+    kept = told.kept;
+    watched = watched_on was now told.kept old new 0 0 turned same (omega (arith, used)) watched.from
+        (subst (λ u. AtMost now.least u) (sym incumbent) (subst (λ u. AtMost u (lesser old.incumbent (Some cost))) (sym told.least) (lesser_falls was.least old.incumbent cost watched.copy)))
+        (λ most is. which most (lesser_cases was.told cost most (sym told.told ∙ is)));
+    level = λ level. incumbent ∙ ap (λ u. lesser u (Some cost)) level ∙ sym told.least;
+  }
+    where
+      which : (most : ℕ) → ((cost ≤ most) ⊎ ((before : ℕ) × (was.told ≡ Some before) × (before ≤ most))) → HasGoalWithin space guide (leased_store old) most
+      which most (inl low) = goal_within space guide (leased_store old) cost most low goal
+      which most (inr before) = goal_within space guide (leased_store old) before.0 most before.2 (watched.shown before.0 before.1)
+
+  -- the incumbent was read, and a cost taken
+  module _ (old new : LeaseValue) (was now : WatchView) (watched : IsWatched space guide was 0 old) where
+    read_copy : (cost : ℕ) → HasRead was (Some cost) now → new.incumbent ≡ lesser old.incumbent (Some cost) → new.incumbent ≡ now.least
+    read_copy cost read incumbent =
+        let low : AtMost (Some cost) was.least = subst (λ u. AtMost u was.least) (sym read.least) read.kept.falls in
+        incumbent ∙ lesser_other old.incumbent cost (at_most_trans (Some cost) was.least old.incumbent low watched.copy) ∙ read.least
+
+    none_copy : HasRead was None now → new.incumbent ≡ old.incumbent → new.incumbent ≡ now.least
+    none_copy read incumbent =
+        let low : AtMost None was.least = subst (λ u. AtMost u was.least) (sym read.least) read.kept.falls in
+        incumbent ∙ none_below old.incumbent (at_most_trans None was.least old.incumbent low watched.copy) ∙ read.least
+
+    read_turned : (found : Option ℕ) → HasRead was found now → HasTurned space guide now.read old.block 0 0 (leased_store old) (leased_store new) → IsSameLease old new → new.used ≡ old.used
+        → (HasWeights old → HasWeights new) → new.incumbent ≡ now.least → HasTurnedWatched space guide 0 0 old was new now
+    read_turned found read turned same used weights copy = record {
+      turned = turned;
+      same = same;
+      used = omega (arith, used);
+      weights = weights;
+      kept = read.kept;
+      watched = watched_on was now read.kept old new 0 0 turned same (omega (arith, used)) watched.from (subst (λ u. AtMost now.least u) (sym copy) (at_most_self now.least))
+          (λ cost is. watched.shown cost (sym read.told ∙ is));
+      level = λ level. copy;
+    }
+
+  -- what was read was taken, if it was a cost
+  taken : (old : LeaseValue) (was now : WatchView) (found : Option ℕ) → HasRead was found now → IsWatched space guide was 0 old
+      → HasTurnedWatched space guide 0 0 old was (record old { incumbent = lesser old.incumbent found }) now
+  taken old was now None read watched =
+      let new : LeaseValue = record old { incumbent = lesser old.incumbent None } in
+      let same : lesser old.incumbent None ≡ old.incumbent = lesser_none old.incumbent in
+      read_turned old new was now watched None read
+      (subst (λ u. HasTurned space guide now.read old.block 0 0 (leased_store old) (leased_store (record old { incumbent = u }))) (sym same) (turned_none space guide old.block (leased_store old)))
+      (same_lowered old None) refl (λ has. has) (none_copy old new was now watched read same)
+  taken old was now (Some cost) read watched =
+      let new : LeaseValue = record old { incumbent = lesser old.incumbent (Some cost) } in
+      read_turned old new was now watched (Some cost) read
+      (lowered_turned space guide now.read old.block old new cost (read.read cost refl) refl)
+      (same_lowered old (Some cost)) refl (λ has. has) (read_copy old new was now watched cost read refl)
+
+  pub read_taken : (old : LeaseValue) (was : WatchView) (found : Option ℕ) (new : LeaseValue) (now : WatchView) → HasRead was found now
+      → new ≡ record old { incumbent = lesser old.incumbent found } → IsWatched space guide was 0 old → HasTurnedWatched space guide 0 0 old was new now
+  read_taken old was found new now read is watched =
+      subst (λ (lease : LeaseValue). HasTurnedWatched space guide 0 0 old was lease now) (sym is) (taken old was now found read watched)
+
+  -- so the lease has what is known
+  pub taken_copy : (old : LeaseValue) (was : WatchView) (found : Option ℕ) (new : LeaseValue) (now : WatchView) → HasRead was found now
+      → new ≡ record old { incumbent = lesser old.incumbent found } → IsWatched space guide was 0 old → new.incumbent ≡ now.least
+  taken_copy old was None new now read is watched = none_copy old new was now watched read (ap (λ (lease : LeaseValue). lease.incumbent) is ∙ lesser_none old.incumbent)
+  taken_copy old was (Some cost) new now read is watched = read_copy old new was now watched cost read (ap (λ (lease : LeaseValue). lease.incumbent) is)
+
+  -- a row was cut that may be cut
+  pub cut_watched : (old new : LeaseValue) (view : WatchView) → IsWatched space guide view 0 old → HasTurned space guide view.read old.block 0 0 (leased_store old) (leased_store new)
+      → ChangesRows old new → HasTurnedWatched space guide 0 0 old view new view
+  cut_watched old new view watched turned changes =
+      let used : new.used ≡ old.used = ap (λ (lease : LeaseValue). lease.used) changes.others in
+      unread_turned old new view 0 0 watched turned (same_changed old new changes) (omega (arith, used)) changes.weights
+      (ap (λ (lease : LeaseValue). lease.incumbent) changes.others)
+
+  -- a goal's row was taken
+  pub take_watched : (old new : LeaseValue) (was now : WatchView) (cost : ℕ) → IsWatched space guide was 0 old → HasTold was cost now → HasGoalWithin space guide (leased_store old) cost
+      → HasTurned space guide now.read old.block 0 0 (leased_store old) (leased_store new) → ChangesRows (record old { incumbent = lesser old.incumbent (Some cost) }) new
+      → HasTurnedWatched space guide 0 0 old was new now
+  take_watched old new was now cost watched told goal turned changes =
+      told_turned old new was now cost watched told goal turned
+      (same_on old (record old { incumbent = lesser old.incumbent (Some cost) }) new (same_lowered old (Some cost)) (same_changed (record old { incumbent = lesser old.incumbent (Some cost) }) new changes))
+      (ap (λ (lease : LeaseValue). lease.used) changes.others) changes.weights (ap (λ (lease : LeaseValue). lease.incumbent) changes.others)
+
+  -- so the count of expansions tells how many there were
+  pub watched_far : (more broken : ℕ) (first : LeaseValue) (start : WatchView) (old : LeaseValue) (was : WatchView) (new : LeaseValue) (now : WatchView) → first.used ≤ old.used
+      → HasTurnedWatched space guide (old.used - first.used) 0 first start old was → HasTurnedWatched space guide more broken old was new now
+      → HasTurnedWatched space guide (new.used - first.used) broken first start new now
+  watched_far more broken first start old was new now counted before turned =
+      let used : new.used ≡ old.used + more = turned.used in
+      let sum : (old.used - first.used) + more ≡ new.used - first.used = omega (arith, used, counted) in
+      subst (λ n. HasTurnedWatched space guide n broken first start new now) sum (watched_then (old.used - first.used) more broken first start old was new now before turned)
+
+-- ---- a lease at work under a watch
+
+module _ (task : TaskParts) (graph : AbstractGraph) (old new : LeaseValue) (was now : WatchView) (more : ℕ)
+    (turned : HasTurnedWatched (space_of task) (guide_of task graph) more 0 old was new now) where
+  at_work_after : IsAtWork task graph old → IsAtWork task graph new
+  at_work_after at =
+      let known : Option ℕ → Bool = λ incumbent. at.known incumbent || now.read incumbent in
+      let given : ℕ → ℕ → Store = λ block worker. lent_store (setup_of task graph at.settings at.reopenings) block at.machine.store (at.machine.given worker) in
+      let second = lease_work_stays (space_of task) (guide_of task graph) old.block more 0 0 now.read known (leased_store old) (leased_store new) turned.turned.work (omega arith)
+      (λ incumbent k. or_second (at.known incumbent) (now.read incumbent) k) in
+      let both : IsWorked (space_of task) (guide_of task graph) old.block (old.used + more) 0 known (given old.block old.worker) (leased_store new) =
+      (lease_work_goes_on (space_of task) (guide_of task graph) old.block old.used more 0 at.known known (given old.block old.worker) (leased_store old) (leased_store new)
+      at.work second.0 (λ incumbent k. or_first (at.known incumbent) (now.read incumbent) k)).0 in
+      record {
+        settings = at.settings;
+        reopenings = at.reopenings;
+        machine = at.machine;
+        is_setup = at.is_setup;
+        in_range = at.in_range;
+        lawful = at.lawful;
+        leased = ap at.machine.counts.leases turned.same.worker ∙ at.leased ∙ λ i. Some (record { block = sym turned.same.block i; quota = sym turned.same.quota i });
+        known = known;
+        work = subst (λ n. IsWorked (space_of task) (guide_of task graph) new.block n 0 known (given new.block new.worker) (leased_store new)) (sym turned.used)
+            (subst (λ b. IsWorked (space_of task) (guide_of task graph) b (old.used + more) 0 known (given b new.worker) (leased_store new)) (sym turned.same.block)
+            (subst (λ w. IsWorked (space_of task) (guide_of task graph) old.block (old.used + more) 0 known (given old.block w) (leased_store new)) (sym turned.same.worker) both));
+        scope = scope_on task graph old new more at turned.same (turned.weights at.scope.weights);
+      }
+
+  pub at_watch_on : IsAtWatch task graph was old → new.used ≤ new.quota → IsAtWatch task graph now new
+  at_watch_on at within = record {
+    task_is = ap (λ (view : WatchView). view.task) turned.kept.others ∙ at.task_is;
+    graph_is = ap (λ (view : WatchView). view.graph) turned.kept.others ∙ at.graph_is;
+    at_work = at_work_after at.at_work;
+    watched = turned.watched;
+    within = within;
+  }
+
+-- turns without an expansion leave it at work under the watch
+module _ (task : TaskParts) (graph : AbstractGraph) (old new : LeaseValue) (was now : WatchView) (turned : HasTurnedWatched (space_of task) (guide_of task graph) 0 0 old was new now) where
+  pub at_watch_still : IsAtWatch task graph was old → IsAtWatch task graph now new
+  at_watch_still at = at_watch_on task graph old new was now 0 turned at (omega (arith, turned.used, turned.same.quota, at.within))
+
+module _ (task : TaskParts) (graph : AbstractGraph) (first : LeaseValue) (start : WatchView) (old : LeaseValue) (was : WatchView) (new : LeaseValue) (now : WatchView) where
+  -- and others may follow
+  pub then_still : IsAtWatch task graph start first → HasTurnedWatched (space_of task) (guide_of task graph) 0 0 first start old was
+      → (IsAtWatch task graph was old → HasTurnedWatched (space_of task) (guide_of task graph) 0 0 old was new now) → HasTurnedWatched (space_of task) (guide_of task graph) 0 0 first start new now
+  then_still at before next =
+      watched_then (space_of task) (guide_of task graph) 0 0 0 first start old was new now before (next (at_watch_still task graph first old start was before at))
+
+  -- how far the work has come
+  pub record IsFarWatched (broken : ℕ) : Type 0 where
+    pub turned : HasTurnedWatched (space_of task) (guide_of task graph) (new.used - first.used) broken first start new now
+    pub counted : first.used ≤ new.used
+    pub scope : HasScope graph new
+
+  pub far_on : (more broken : ℕ) → IsAtWatch task graph was old → first.used ≤ old.used → HasTurnedWatched (space_of task) (guide_of task graph) (old.used - first.used) 0 first start old was
+      → HasTurnedWatched (space_of task) (guide_of task graph) more broken old was new now → IsFarWatched broken
+  far_on more broken at counted before turned = record {
+    turned = watched_far (space_of task) (guide_of task graph) more broken first start old was new now counted before turned;
+    counted = omega (arith, turned.used, counted);
+    scope = scope_on task graph old new 0 at.at_work turned.same (turned.weights at.at_work.scope.weights);
+  }
+
+-- ---- what a turn needs
+
+-- turns that read nothing, under a watch that does nothing meanwhile
+pub expanded : (task : TaskParts) (graph : AbstractGraph) (old new : LeaseValue) (view : WatchView) (more broken : ℕ) → IsAtWatch task graph view old
+    → HasTurned (space_of task) (guide_of task graph) reads_none old.block more broken (leased_store old) (leased_store new) → IsSameLease old new → new.used ≡ old.used + more → HasWeights new
+    → new.incumbent ≡ old.incumbent → HasTurnedWatched (space_of task) (guide_of task graph) more broken old view new view
+expanded task graph old new view more broken at turned same used weights incumbent =
+    unread_turned (space_of task) (guide_of task graph) old new view more broken at.watched
+    (turned_known (space_of task) (guide_of task graph) reads_none view.read old.block more broken (leased_store old) (leased_store new) (λ incumbent k. absurd (true≢false (sym k))) turned)
+    same used (λ has. weights) incumbent
+
+module _ (task : TaskParts) (graph : AbstractGraph) (view : WatchView) (lease : LeaseValue) (at : IsAtWatch task graph view lease) (state : ℕ) (row : Row)
+    (first : IsFirstRow lease.weight (own_rows lease) state row) (goal : IsTrue ((space_of task).is_goal state)) where
+  -- a goal's row of the block
+  pub goal_here : HasGoalWithin (space_of task) (guide_of task graph) (leased_store lease) row.g
+  goal_here = (
+    state,
+    goal,
+    (row, subst (λ block. (leased_store lease).rows block state ≡ Some row) (sym (row_is_home task graph lease at.at_work state row first.found)) first.found, omega arith),
+  )
+
+  -- its cost may be told
+  pub may_tell : MayTell view lease row.g
+  may_tell =
+      let cheap : row.g < 2 ^ 61 = row_is_cheap task graph lease at.at_work state row first.found at.within in
+      let both : IsWatched (space_of view.task) (guide_of view.task view.graph) view 0 lease × HasGoalWithin (space_of view.task) (guide_of view.task view.graph) (leased_store lease) row.g =
+      subst (λ t. IsWatched (space_of t) (guide_of t view.graph) view 0 lease × HasGoalWithin (space_of t) (guide_of t view.graph) (leased_store lease) row.g) (sym at.task_is)
+      (subst (λ g. IsWatched (space_of task) (guide_of task g) view 0 lease × HasGoalWithin (space_of task) (guide_of task g) (leased_store lease) row.g) (sym at.graph_is) (at.watched, goal_here)) in
+      record { below = omega (arith, cheap); watched = both.0; goal = both.1 }

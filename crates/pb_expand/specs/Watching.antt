@@ -1,0 +1,84 @@
+-- What a worker that watches the incumbent knows, and what it shows of its lease.
+use Rattle.std.specs.Prelude.{◌≡◌, ℕ, ◌+◌, ◌-◌, ◌<◌, ◌≤◌, ◌^◌, Bool, Option, Some, IsTrue}
+use Rattle.pb_model.specs.Space.{Space}
+use Rattle.pb_model.specs.Guide.{Guide}
+use Rattle.pb_model.specs.Store.{HasGoalWithin, AtMost, lesser}
+use Rattle.pb_machine.specs.Machine.{IsWorked}
+use Rattle.pb_machine.specs.Turns.{AreLeaseTurns}
+use Rattle.pb_task.specs.declared.parts.TaskParts.{TaskParts}
+use Rattle.pb_task.specs.Parts.{space_of}
+use Rattle.pb_abstract.specs.Graph.{AbstractGraph}
+use Rattle.pb_lease.specs.LeaseValue.{LeaseValue, leased_store, HasWeights, IsSameLease}
+use Rattle.pb_lease.specs.Leased.{guide_of}
+use Rattle.pb_expand.specs.Turned.{IsAtWork, HasTurned}
+
+-- What a watch knows: what is searched and by which blocks, the lease as it was given or last renewed, what it has read as the
+-- incumbent, the least cost that it has read or told, and the least one that it has told since the lease was given or last renewed.
+pub record WatchView : Type 0 where
+  pub task : TaskParts
+  pub graph : AbstractGraph
+  pub lent : Option LeaseValue
+  pub read : Option ℕ → Bool
+  pub least : Option ℕ
+  pub told : Option ℕ
+
+-- The lease came from the one that the watch's worker was lent, by exactly the expansions that it counts, and by at most this many
+-- that were broken off, in turns. What its worker read as the incumbent the watch has read.
+pub record IsFromLent (space : Space) (guide : Guide) (view : WatchView) (most_broken : ℕ) (lease : LeaseValue) : Type 0 where
+  pub lent : LeaseValue
+  pub lent_is : view.lent ≡ Some lent
+  pub same : IsSameLease lent lease
+  pub work : IsWorked space guide lent.block lease.used most_broken view.read (leased_store lent) (leased_store lease)
+  pub turns : AreLeaseTurns space guide work.works (leased_store lent)
+
+-- The lease came from the one that was lent. Its incumbent is no lower than what the watch has read or told, and what was told is
+-- shown by a goal's row of the lease.
+pub record IsWatched (space : Space) (guide : Guide) (view : WatchView) (most_broken : ℕ) (lease : LeaseValue) : Type 0 where
+  pub from : IsFromLent space guide view most_broken lease
+  pub copy : AtMost view.least lease.incumbent
+  pub shown : (cost : ℕ) → view.told ≡ Some cost → HasGoalWithin space guide (leased_store lease) cost
+
+-- The cost may be told: the lease has a goal's row that costs no more, and the lease doesn't have it as its incumbent before it is told.
+-- The greatest number stands for a cost that is unknown.
+pub record MayTell (view : WatchView) (lease : LeaseValue) (cost : ℕ) : Type 0 where
+  pub below : cost < 2 ^ 64 - 1
+  pub watched : IsWatched (space_of view.task) (guide_of view.task view.graph) view 0 lease
+  pub goal : HasGoalWithin (space_of view.task) (guide_of view.task view.graph) (leased_store lease) cost
+
+-- It is the same search and the same lent lease, what was read stays read, and the least cost doesn't rise.
+pub record KeepsWatch (old new : WatchView) : Type 0 where
+  pub others : new ≡ record old { read = new.read; least = new.least; told = new.told }
+  pub knows : (incumbent : Option ℕ) → IsTrue (old.read incumbent) → IsTrue (new.read incumbent)
+  pub falls : AtMost new.least old.least
+
+-- The watch has read this as the incumbent, which is the least cost that it knows now.
+pub record HasRead (old : WatchView) (found : Option ℕ) (new : WatchView) : Type 0 where
+  pub kept : KeepsWatch old new
+  pub told : new.told ≡ old.told
+  pub read : (cost : ℕ) → found ≡ Some cost → IsTrue (new.read (Some cost))
+  pub least : found ≡ new.least
+
+-- The watch has told the cost.
+pub record HasTold (old : WatchView) (cost : ℕ) (new : WatchView) : Type 0 where
+  pub kept : KeepsWatch old new
+  pub told : new.told ≡ lesser old.told (Some cost)
+  pub least : new.least ≡ lesser old.least (Some cost)
+
+-- The lease may be worked on under this watch.
+pub record IsAtWatch (task : TaskParts) (graph : AbstractGraph) (view : WatchView) (lease : LeaseValue) : Type 0 where
+  pub task_is : view.task ≡ task
+  pub graph_is : view.graph ≡ graph
+  pub at_work : IsAtWork task graph lease
+  pub watched : IsWatched (space_of task) (guide_of task graph) view 0 lease
+  pub within : lease.used ≤ lease.quota
+
+-- From the one lease to the other its worker did turns under the watch, with exactly this many expansions more, and exactly this many
+-- that were broken off. If the lease's incumbent was what the watch had read or told, it still is.
+pub record HasTurnedWatched (space : Space) (guide : Guide) (more broken : ℕ) (old : LeaseValue) (was : WatchView) (new : LeaseValue) (now : WatchView) : Type 0 where
+  pub turned : HasTurned space guide now.read old.block more broken (leased_store old) (leased_store new)
+  pub same : IsSameLease old new
+  pub used : new.used ≡ old.used + more
+  pub weights : HasWeights old → HasWeights new
+  pub kept : KeepsWatch was now
+  pub watched : IsWatched space guide now broken new
+  pub level : old.incumbent ≡ was.least → new.incumbent ≡ now.least

@@ -1,0 +1,168 @@
+//! The turns of a worker that reads the incumbent before each, and tells each better cost before it has it.
+ghost use Rattle.std.specs.Prelude.{◌≡◌, ◌-◌, ◌<◌, ◌≤◌, ◌↔◌, ℕ, true, false, IsSome, IfSome, IfNone, vec_capacity};
+ghost use Rattle.pb_model.specs.Space.{Space};
+ghost use Rattle.pb_model.specs.Guide.{Guide};
+ghost use Rattle.pb_model.specs.Store.{HasOpened, lesser};
+ghost use Rattle.pb_model.specs.Key.{IsFirstRow};
+ghost use Rattle.pb_model.specs.declared.row.Row.{Row};
+ghost use Rattle.pb_task.specs.Parts.{space_of, max_degree_of};
+ghost use Rattle.pb_estimate.specs.Tables.{IsOfTask};
+ghost use Rattle.pb_abstract.specs.Graph.{AbstractGraph, IsGraphOf};
+ghost use Rattle.pb_bundles.specs.Parts.{content_in};
+ghost use Rattle.pb_lease.specs.LeaseValue.{leased_store, HasWeights, IsSameLease};
+ghost use Rattle.pb_lease.specs.Leased.{guide_of, HasScope};
+ghost use Rattle.pb_expand.specs.Turned.{own_rows, IsAtWork, HasTurned, IsNext};
+ghost use Rattle.pb_expand.specs.Rows.{own_opened};
+ghost use Rattle.pb_expand.specs.Worked.{broken_by};
+ghost use Rattle.pb_expand.specs.Watching.{IsWatched, KeepsWatch, IsAtWatch, HasTurnedWatched};
+ghost use Rattle.pb_expand.specs.declared.working.Worked.TheVariants.{Spent, Empty, Memory};
+
+use crate::bundles::{cut, first};
+use crate::rules::may_be_cut;
+use crate::turns::expand;
+use crate::watch::Watch;
+use crate::working::Worked;
+use pb_abstract::AbsGraph;
+use pb_estimate::Estimator;
+use pb_lease::Lease;
+use pb_model::{Row, Succ};
+use pb_packed::Packed;
+use pb_task::Task;
+
+// Takes a cost that was read, if there is one: the lease's incumbent becomes the lesser of both.
+fn take_read(lease: &mut Lease, found: Option<u64>)
+    ensures { lease.new ≡ record lease.old { incumbent = lesser lease.old.incumbent found } }
+{
+    if let Some(cost) = found {
+        lease.take_bound(cost);
+    }
+}
+
+// The first Opened row of the lease's block, and its state, after the incumbent was read and taken.
+fn next_row<W: Watch>(lease: &mut Lease, watch: &mut W) -> Option<(Packed, Row)>
+    requires can { W.can watch.old }
+    requires own { IsSome (content_in lease.old.parts lease.old.block) }
+    requires weights { HasWeights lease.old }
+    ensures can { W.can watch.new }
+    ensures stays { W.stays watch.old watch.new }
+    ensures turned { (space : Space) (guide : Guide) → IsWatched space guide (W.seen watch.old) 0 lease.old
+        → HasTurnedWatched space guide 0 0 lease.old (W.seen watch.old) lease.new (W.seen watch.new) }
+    ensures copy { (space : Space) (guide : Guide) → IsWatched space guide (W.seen watch.old) 0 lease.old → lease.new.incumbent ≡ (W.seen watch.new).least }
+    ensures opened { own_opened lease.new ≡ own_opened lease.old }
+    ensures some { IfSome result (λ found. IsFirstRow lease.new.weight (own_rows lease.new) found.0 found.1) }
+    ensures none { IfNone result (HasOpened (own_rows lease.new) → ⊥) }
+{
+    let found = watch.read();
+    take_read(lease, found);
+    first(lease)
+}
+
+// Cuts the first Opened row where it may be cut, or takes it where it is a goal's, after its cost was told. Answers whether it did either.
+fn settle_row_watched<W: Watch>(
+    task: &Task,
+    lease: &mut Lease,
+    watch: &mut W,
+    state: &Packed,
+    row: &Row,
+) -> bool
+    requires can { W.can watch.old }
+    requires at { (graph : AbstractGraph) × IsAtWatch task.now graph (W.seen watch.old) lease.old }
+    requires first { IsFirstRow lease.old.weight (own_rows lease.old) state.now row.now }
+    ensures can { W.can watch.new }
+    ensures stays { W.stays watch.old watch.new }
+    ensures turned { (graph : AbstractGraph) → IsAtWatch task.now graph (W.seen watch.old) lease.old
+        → HasTurnedWatched (space_of task.now) (guide_of task.now graph) 0 0 lease.old (W.seen watch.old) lease.new (W.seen watch.new) }
+    ensures fewer { result ≡ true → own_opened lease.new < own_opened lease.old }
+    ensures next { result ≡ false → IsNext (space_of task.now) lease.new state.now row.now }
+{
+    if may_be_cut(lease.weight(), lease.incumbent(), row.g, row.estimate) {
+        cut(lease, state);
+        true
+    } else if task.is_goal(state) {
+        watch.tell(lease, row.g);
+        lease.take_bound(row.g);
+        cut(lease, state);
+        true
+    } else {
+        false
+    }
+}
+
+// Cuts and takes rows of the lease's block until the first Opened one is to be expanded, and answers that row and its state.
+fn settle_watched<W: Watch>(task: &Task, lease: &mut Lease, watch: &mut W) -> Option<(Packed, Row)>
+    requires can { W.can watch.old }
+    requires at { (graph : AbstractGraph) × IsAtWatch task.now graph (W.seen watch.old) lease.old }
+    ensures can { W.can watch.new }
+    ensures stays { W.stays watch.old watch.new }
+    ensures turned { (graph : AbstractGraph) → IsAtWatch task.now graph (W.seen watch.old) lease.old
+        → HasTurnedWatched (space_of task.now) (guide_of task.now graph) 0 0 lease.old (W.seen watch.old) lease.new (W.seen watch.new) }
+    ensures same { IsSameLease lease.old lease.new }
+    ensures used { lease.new.used ≡ lease.old.used }
+    ensures copy { lease.new.incumbent ≡ (W.seen watch.new).least }
+    ensures next { IfSome result (λ found. IsNext (space_of task.now) lease.new found.0 found.1) }
+    ensures none { IfNone result (HasOpened (own_rows lease.new) → ⊥) }
+{
+    while let Some((state, row)) = next_row(lease, watch) {
+        if !settle_row_watched(task, lease, watch, &state, &row) {
+            return Some((state, row));
+        }
+    }
+    None
+}
+
+/// Works on a lease as `work` does, under a watch of the incumbent. Before each turn the incumbent is read and taken into the lease. Where
+/// the first Opened row is a goal's its cost is told before the lease has it. The list is for successors alone. Only bundles take memory.
+pub fn work_watched<W: Watch>(
+    task: &Task,
+    estimator: &mut Estimator,
+    graph: &AbsGraph,
+    lease: &mut Lease,
+    succs: &mut Vec<Succ>,
+    watch: &mut W,
+) -> Worked
+    requires tables { IsOfTask estimator.old task.now }
+    requires graph { IsGraphOf task.now graph.now }
+    requires room { max_degree_of task.now ≤ vec_capacity succs.old }
+    requires at_work { IsAtWork task.now graph.now lease.old }
+    requires can { W.can watch.old }
+    requires task_is { (W.seen watch.old).task ≡ task.now }
+    requires graph_is { (W.seen watch.old).graph ≡ graph.now }
+    requires watched { IsWatched (space_of task.now) (guide_of task.now graph.now) (W.seen watch.old) 0 lease.old }
+
+    // What was done: as many expansions as are counted, one that was broken off where memory was wanted, and what was read.
+    ensures turned { HasTurned (space_of task.now) (guide_of task.now graph.now) (W.seen watch.new).read lease.old.block (lease.new.used - lease.old.used) (broken_by result)
+        (leased_store lease.old) (leased_store lease.new) }
+    ensures counted { lease.old.used ≤ lease.new.used }
+    ensures within { lease.new.used ≤ lease.new.quota }
+
+    // The lease has the least cost that was read or told, and shows what was told.
+    ensures copy { lease.new.incumbent ≡ (W.seen watch.new).least }
+    ensures watched { IsWatched (space_of task.now) (guide_of task.now graph.now) (W.seen watch.new) (broken_by result) lease.new }
+    ensures kept { KeepsWatch (W.seen watch.old) (W.seen watch.new) }
+
+    // Why it stopped.
+    ensures spent { (result ≡ Spent) ↔ (HasOpened (own_rows lease.new) × (lease.new.used ≡ lease.new.quota)) }
+    ensures empty { (result ≡ Empty) ↔ (HasOpened (own_rows lease.new) → ⊥) }
+    ensures memory { (result ≡ Memory) ↔ (HasOpened (own_rows lease.new) × (lease.new.used < lease.new.quota)) }
+    ensures next { result ≡ Spent → (state : ℕ) × (row : Row) × IsNext (space_of task.now) lease.new state row }
+
+    // What stays.
+    ensures same { IsSameLease lease.old lease.new }
+    ensures scope { HasScope graph.now lease.new }
+    ensures can { W.can watch.new }
+    ensures stays { W.stays watch.old watch.new }
+    ensures tables { IsOfTask estimator.new task.now }
+    ensures room { vec_capacity succs.old ≤ vec_capacity succs.new }
+{
+    let quota = lease.quota();
+    while let Some((state, row)) = settle_watched(task, lease, watch) {
+        if lease.used() == quota {
+            return Worked::Spent;
+        }
+        match expand(task, estimator, graph, lease, succs, &state, &row) {
+            Ok(()) => {}
+            Err(_) => return Worked::Memory,
+        }
+    }
+    Worked::Empty
+}
