@@ -1,9 +1,9 @@
-//! Tests of whole runs by several workers, with weights, and with journals.
+//! Tests of whole runs that a gate watches or holds, and of words that can't be read.
 #![tactic(auto)]
 
 #[cfg(test)]
 mod held;
 #[cfg(test)]
-mod journals;
+mod leased;
 #[cfg(test)]
-mod workers;
+mod unread;

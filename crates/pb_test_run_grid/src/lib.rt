@@ -1,5 +1,0 @@
-//! Tests of whole runs on maps, and of words, files and output that fail.
-#![tactic(auto)]
-
-#[cfg(test)]
-mod maps;

@@ -1,0 +1,94 @@
+//! Whole runs whose gate sees which blocks are leased, or holds a lease.
+use pb_outside::{Gate, MemShelf, MemSink};
+use pb_test_run::{OPEN_MAP, SCENARIO, gated_outcome, grid_shelf};
+use std::sync::atomic::{AtomicBool, AtomicU64, Ordering};
+use std::test::Fail;
+
+// Which blocks were leased, as the digits behind a first 1, and how often a lease was to go on or to come back.
+#[derive(Drop)]
+struct CountingGate {
+    leased: AtomicU64,
+    giving: AtomicU64,
+}
+
+impl Gate for CountingGate {
+    fn leased(&self, _worker: u32, block: u32) {
+        let before = self.leased.load(Ordering::SeqCst);
+        let after = before.wrapping_mul(10).wrapping_add(u64::from(block));
+        self.leased.store(after, Ordering::SeqCst);
+    }
+
+    fn giving(&self, _worker: u32, _block: u32) {
+        self.giving.fetch_add(1, Ordering::SeqCst);
+    }
+}
+
+// The map has nine blocks of one cell each. The way leads along the upper and the right side, and then the rows of the two blocks that are
+// left are cut.
+#[test]
+fn the_gate_is_told_of_each_lease(rt: HostRuntime) -> Result<(), Fail> {
+    let gate = CountingGate {
+        leased: AtomicU64::new(1),
+        giving: AtomicU64::new(0),
+    };
+    let line = "solve grid map scenario";
+    let mut files = grid_shelf(rt.alloc(), OPEN_MAP, SCENARIO)?;
+    let mut sink = MemSink::new(rt.alloc(), 4096)?;
+    let status = gated_outcome(&rt, rt.alloc(), line, &mut files, &mut sink, &gate)?;
+    assert_eq!(rt; status, 0);
+    assert_eq!(rt; gate.leased.load(Ordering::SeqCst), 10_125_843);
+    assert_eq!(rt; gate.giving.load(Ordering::SeqCst), 7);
+    Ok(())
+}
+
+// A gate that keeps the first lease of block 20 or 24 until the other one is leased too.
+#[derive(Drop)]
+struct HoldingGate {
+    first: AtomicU64,
+    both: AtomicBool,
+}
+
+impl Gate for HoldingGate {
+    fn leased(&self, _worker: u32, block: u32) {
+        if block != 20 && block != 24 {
+            return;
+        }
+        let block = u64::from(block);
+        let found = self
+            .first
+            .compare_exchange(0, block, Ordering::SeqCst, Ordering::SeqCst);
+        if let Err(other) = found {
+            if other != block {
+                self.both.store(true, Ordering::SeqCst);
+            }
+            return;
+        }
+        for _ in 0..1_000_000_000 {
+            if self.both.load(Ordering::SeqCst) {
+                return;
+            }
+        }
+    }
+
+    fn giving(&self, _worker: u32, _block: u32) {}
+}
+
+// The start lies in the middle of the lower row. Its ends have scopes that have no block in common.
+#[test]
+fn two_blocks_are_leased_at_once(rt: HostRuntime) -> Result<(), Fail> {
+    let map = "type octile\nheight 3\nwidth 9\nmap\n@@@@.@@@@\n@@@@@@@@@\n.........\n";
+    let mut files = MemShelf::new(rt.alloc())?;
+    files.add("map", map.as_bytes())?;
+    files.add("scenario", b"version 1\n0\tm\t9\t3\t4\t2\t4\t0\t0\n")?;
+    let mut sink = MemSink::new(rt.alloc(), 4096)?;
+    let gate = HoldingGate {
+        first: AtomicU64::new(0),
+        both: AtomicBool::new(false),
+    };
+    let line = "solve grid map scenario --workers 2";
+    let status = gated_outcome(&rt, rt.alloc(), line, &mut files, &mut sink, &gate)?;
+    assert_eq!(rt; status, 1);
+    assert_eq!(rt; sink.bytes(), b"none\n".as_slice());
+    assert!(rt; gate.both.load(Ordering::SeqCst));
+    Ok(())
+}
