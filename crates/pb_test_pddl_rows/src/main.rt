@@ -1,0 +1,116 @@
+//! Does the rows of the files that the words name, over the readers of PDDL and the grounding, and prints how many each has and what
+//! differs.
+//!
+//! The words of a row are `domain FILE`, `problem FILE`, `domain-prefixes FILE`, `problem-prefixes FILE`,
+//! `facts FILE`, `lifted DOMAIN PROBLEM` or `ground DOMAIN PROBLEM`.
+#![tactic(auto)]
+
+mod ground;
+mod lifted;
+mod lines;
+mod prefixes;
+mod tree;
+
+use crate::lines::Lines;
+use pb_outside::{MemShelf, MemSink, Memory, Sink};
+use pb_test_rows::{Command, do_rows};
+use std::alloc::Global;
+use std::io::{self, ErrorKind};
+use std::process::ExitCode;
+use std::rt::Files;
+use std::sync::Wait;
+use std::thread::Threads;
+use std::{env, fs};
+
+// The readers of PDDL, and the grounding.
+#[derive(Drop)]
+struct Readers;
+
+// The bytes of a file, or none.
+fn file_of<'a>(shelf: &'a MemShelf, words: &[String], i: usize) -> &'a [u8] {
+    let Some(name) = words.get(i) else {
+        return b"";
+    };
+    if shelf.has(name.as_str()) {
+        shelf.file(name.as_str())
+    } else {
+        b""
+    }
+}
+
+// What is printed of these words. None is printed where something is refused.
+fn answer(alloc: Global, words: &[String], shelf: &MemShelf) -> Result<Option<Lines>, Memory> {
+    let Some(word) = words.first() else {
+        return Ok(None);
+    };
+    let first = file_of(shelf, words, 1);
+    let second = file_of(shelf, words, 2);
+    match word.as_str() {
+        "domain" => tree::domain_line(alloc, first),
+        "problem" => tree::problem_line(alloc, first),
+        "domain-prefixes" => prefixes::prefixes(alloc, true, first),
+        "problem-prefixes" => prefixes::prefixes(alloc, false, first),
+        "facts" => tree::facts(alloc, first),
+        "lifted" => lifted::lifted_lines(alloc, first, second),
+        "ground" => ground::ground_lines(alloc, first, second),
+        _ => Ok(None),
+    }
+}
+
+impl Command for Readers {
+    fn run<R: Threads + Wait + Sync>(
+        &self,
+        _rt: &R,
+        alloc: Global,
+        words: &[String],
+        shelf: &mut MemShelf,
+        sink: &mut MemSink,
+    ) -> u8 {
+        match answer(alloc, words, shelf) {
+            Err(Memory) => 71,
+            Ok(None) => 65,
+            Ok(Some(lines)) => match sink.put(lines.text.as_bytes()) {
+                Ok(()) => 0,
+                Err(_) => 74,
+            },
+        }
+    }
+}
+
+// Does the rows of a file. Gives whether all is as they say.
+fn do_file<R: Threads + Wait + Sync + Alloc + Print + Files>(
+    rt: &R,
+    alloc: Global,
+    name: &str,
+) -> io::Result<bool> {
+    let text = fs::read_to_string(rt, name)?;
+    let Ok(tally) = do_rows(rt, alloc, &Readers, &text) else {
+        return Err(io::Error::from(ErrorKind::OutOfMemory));
+    };
+    println!(rt; "{name}: {} rows", tally.rows)?;
+    print!(rt; "{}", tally.differences)?;
+    Ok(tally.differences.is_empty())
+}
+
+fn do_files<R: Threads + Wait + Sync + Alloc + Print + Files>(
+    rt: &R,
+    alloc: Global,
+    names: env::Args,
+) -> io::Result<bool> {
+    let mut all = true;
+    for name in names.skip(1) {
+        let same = do_file(rt, alloc, name.as_str())?;
+        all = all && same;
+    }
+    Ok(all)
+}
+
+fn main(rt: HostRuntime) -> ExitCode {
+    let Ok(names) = env::args(&rt) else {
+        return ExitCode::FAILURE;
+    };
+    match do_files(&rt, rt.alloc(), names) {
+        Ok(true) => ExitCode::SUCCESS,
+        _ => ExitCode::FAILURE,
+    }
+}

@@ -1,0 +1,126 @@
+//! Trees of PDDL texts as a line: each name with its place.
+use crate::lines::Lines;
+use pb_outside::Memory;
+use pb_syntax::{Action, Atom, Literal, Name, SyntaxError, Term, Typed, read_domain, read_problem};
+use std::alloc::Global;
+
+fn add_name(lines: &mut Lines, name: &Name) -> Result<(), Memory> {
+    lines.name(name.text.as_slice(), name.at)
+}
+
+fn add_typed(lines: &mut Lines, typed: &Typed) -> Result<(), Memory> {
+    add_name(lines, &typed.name)?;
+    if let Some(kind) = &typed.kind {
+        lines.word("-")?;
+        add_name(lines, kind)?;
+    }
+    Ok(())
+}
+
+fn add_all_typed(lines: &mut Lines, list: &[Typed]) -> Result<(), Memory> {
+    for typed in list {
+        add_typed(lines, typed)?;
+    }
+    Ok(())
+}
+
+fn add_term(lines: &mut Lines, term: &Term) -> Result<(), Memory> {
+    match term {
+        Term::Object(name) => add_name(lines, name),
+        Term::Variable(name) => add_name(lines, name),
+    }
+}
+
+fn add_atom(lines: &mut Lines, atom: &Atom) -> Result<(), Memory> {
+    lines.word("(")?;
+    add_name(lines, &atom.predicate)?;
+    for term in atom.terms.as_slice() {
+        add_term(lines, term)?;
+    }
+    lines.word(")")
+}
+
+fn add_atoms(lines: &mut Lines, atoms: &[Atom]) -> Result<(), Memory> {
+    for atom in atoms {
+        add_atom(lines, atom)?;
+    }
+    Ok(())
+}
+
+fn add_literals(lines: &mut Lines, literals: &[Literal]) -> Result<(), Memory> {
+    for literal in literals {
+        if literal.negated {
+            lines.word("not")?;
+        }
+        add_atom(lines, &literal.atom)?;
+    }
+    Ok(())
+}
+
+fn add_action(lines: &mut Lines, action: &Action) -> Result<(), Memory> {
+    lines.word("action")?;
+    add_name(lines, &action.name)?;
+    add_all_typed(lines, action.params.as_slice())?;
+    lines.word("if")?;
+    add_atoms(lines, action.pre.as_slice())?;
+    lines.word("then")?;
+    add_literals(lines, action.effect.as_slice())
+}
+
+pub(crate) fn domain_line(alloc: Global, text: &[u8]) -> Result<Option<Lines>, Memory> {
+    let domain = match read_domain(alloc, text) {
+        Ok(domain) => domain,
+        Err(SyntaxError::Memory) => return Err(Memory),
+        Err(_) => return Ok(None),
+    };
+    let mut lines = Lines::new(alloc);
+    add_name(&mut lines, &domain.name)?;
+    lines.word("types")?;
+    add_all_typed(&mut lines, domain.types.as_slice())?;
+    lines.word("constants")?;
+    add_all_typed(&mut lines, domain.constants.as_slice())?;
+    for predicate in domain.predicates.as_slice() {
+        lines.word("predicate")?;
+        add_name(&mut lines, &predicate.name)?;
+        add_all_typed(&mut lines, predicate.params.as_slice())?;
+    }
+    for action in domain.actions.as_slice() {
+        add_action(&mut lines, action)?;
+    }
+    lines.end()?;
+    Ok(Some(lines))
+}
+
+pub(crate) fn problem_line(alloc: Global, text: &[u8]) -> Result<Option<Lines>, Memory> {
+    let problem = match read_problem(alloc, text) {
+        Ok(problem) => problem,
+        Err(SyntaxError::Memory) => return Err(Memory),
+        Err(_) => return Ok(None),
+    };
+    let mut lines = Lines::new(alloc);
+    add_name(&mut lines, &problem.name)?;
+    lines.word("of")?;
+    add_name(&mut lines, &problem.domain)?;
+    lines.word("objects")?;
+    add_all_typed(&mut lines, problem.objects.as_slice())?;
+    lines.word("init")?;
+    add_atoms(&mut lines, problem.init.as_slice())?;
+    lines.word("goal")?;
+    add_atoms(&mut lines, problem.goal.as_slice())?;
+    lines.end()?;
+    Ok(Some(lines))
+}
+
+// How many facts a problem begins with.
+pub(crate) fn facts(alloc: Global, text: &[u8]) -> Result<Option<Lines>, Memory> {
+    let problem = match read_problem(alloc, text) {
+        Ok(problem) => problem,
+        Err(SyntaxError::Memory) => return Err(Memory),
+        Err(_) => return Ok(None),
+    };
+    let mut lines = Lines::new(alloc);
+    lines.first("facts")?;
+    lines.marked("", problem.init.as_slice().len())?;
+    lines.end()?;
+    Ok(Some(lines))
+}
