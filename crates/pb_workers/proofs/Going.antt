@@ -37,7 +37,7 @@ events_of (event ∷ events) = ap (λ rest. event ∷ rest) (events_of events)
 
 -- nothing happened
 pub run_none : (g : GraphValue) (recorded : (worker : ℕ) → Rows) (machine : Machine) → IsMoment g recorded machine → RunsTo g machine g recorded machine
-run_none g recorded machine m = record { moves = []; run = refl; events = sym (append-nil g.table.journal); moment = m }
+run_none g recorded machine m = record { moves = []; run = (machine.store.incumbent, (refl, refl)); events = sym (append-nil g.table.journal); moment = m }
 
 -- what follows by events is a run
 pub run_one : (old : GraphValue) (machine : Machine) (events : List Event) (new : GraphValue) (recorded : (worker : ℕ) → Rows) (next : Machine)

@@ -8,5 +8,6 @@ pub mod GoingOn
 pub mod Searching
 pub mod Closed
 pub mod Ended
+pub mod Watches
 pub mod Sharing
 pub mod Teaming

@@ -1,15 +1,17 @@
 -- A worker that shares a yard: what its pass knows after each of its calls.
-use Rattle.std.proofs.Common.{◌≡◌, ℕ, ◌-◌, ◌<◌, ◌||◌, Bool, true, false, cond, is_some, List, [], ◌∷◌, Option, Some, None, refl, sym, ap, ◌∙◌, arith, subst, inl, inr, true≢false}
+use Rattle.std.proofs.Common.{◌≡◌, ℕ, ◌<◌, ◌||◌, Bool, true, false, cond, is_some, List, [], ◌∷◌, Option, Some, None, refl, sym, ap, ◌∙◌, arith, subst, inl, inr, true≢false}
 use Rattle.std.specs.List.{list_any}
 use Rattle.std.proofs.lemmas.List.Folds.{list_any-append}
 use Rattle.pb_model.specs.Work.{Work}
+use Rattle.pb_model.proofs.Incumbents.{at_most_self}
 use Rattle.pb_model.proofs.Tests.{by_cases, equal_self}
 use Rattle.pb_machine.specs.declared.event.End.{End}
 use Rattle.pb_machine.specs.declared.event.Event.{Event}
 use Rattle.pb_machine.specs.declared.event.Event.TheVariants.{Hot, Off}
 use Rattle.pb_machine.specs.Counts.{Counts}
 use Rattle.pb_machine.specs.History.{events_of, is_event_of, is_off, end_in}
-use Rattle.pb_machine.specs.Machine.{IsWorked, lent_store}
+use Rattle.pb_machine.specs.Views as of_machine
+use Rattle.pb_machine.specs.Machine.{lent_store}
 use Rattle.pb_machine.specs.Turns.{AreLeaseTurns}
 use Rattle.pb_machine.proofs.EndsTold.{ends_are_told}
 use Rattle.pb_machine.proofs.LeaseWork.{lease_work_stays}
@@ -25,15 +27,17 @@ use Rattle.pb_lease.specs.Leased.{guide_of, HasScope}
 use Rattle.pb_lease.specs.GraphValue.{GraphValue, setup_in, counts_in}
 use Rattle.pb_lease.specs.Choices.{IsOver}
 use Rattle.pb_lease.specs.Steps.{end_events}
-use Rattle.pb_expand.specs.Turned.{IsAtWork, HasTurned, reads_none}
+use Rattle.pb_expand.specs.Turned.{IsAtWork}
+use Rattle.pb_expand.specs.Watching.{IsWatched}
 use Rattle.pb_yard.specs.declared.view.View.{View}
 use Rattle.pb_yard.specs.Views.{view_then}
 use Rattle.pb_yard.specs.Rule.{rows_of, was_read, grant_in, IsViewOf}
 use Rattle.pb_yard.specs.Replies.{LeasesAs, lease_events, ReleasesAs, release_events, RenewsAs, renewal_events, RivalsAs, MarksAs, mark_events, off_events}
 use Rattle.pb_yard.specs.Returning.{IsLeaseOf, IsBrought}
-use Rattle.pb_yard.specs.Calls.{Holds, Looks, Leases, Renews, Releases, AsksRival, Marks, SignsOff, IsActive}
+use Rattle.pb_yard.specs.Calls.{Holds, HasRead, ReadsAndHolds, Looks, Leases, Renews, Releases, AsksRival, Marks, SignsOff, IsActive}
 use Rattle.pb_yard.proofs.Meaning.{history, leased, begins}
 use Rattle.pb_workers.specs.Shared.{IsSameHolder, IsIdle, IsLeased}
+use Rattle.pb_workers.specs.Watching.{watch_view, KeepsLease}
 
 -- ---- which events sign off
 
@@ -69,6 +73,21 @@ end_no_off : (standing : Option End) (end : End) → HasNoOff (end_events standi
 end_no_off None end = refl
 end_no_off (Some standing) end = refl
 
+-- ---- the same holder
+
+pub holder_self : (v : View) → IsSameHolder v v
+holder_self v = record { worker = refl; taken_in = refl; made = refl; task = refl; graph = refl; settings = refl }
+
+pub holder_then : (old mid new : View) → IsSameHolder old mid → IsSameHolder mid new → IsSameHolder old new
+holder_then old mid new one two = record {
+  worker = two.worker ∙ one.worker;
+  taken_in = two.taken_in ∙ one.taken_in;
+  made = two.made ∙ one.made;
+  task = two.task ∙ one.task;
+  graph = two.graph ∙ one.graph;
+  settings = two.settings ∙ one.settings;
+}
+
 -- ---- a pass that held the graph
 
 module _ (step : GraphValue → GraphValue → Type 0) (list : GraphValue → List Event) (old : View) (lent : Option LeaseValue) (told : Option ℕ) (new : View) (h : Holds step list old lent told new) where
@@ -90,27 +109,46 @@ module _ (step : GraphValue → GraphValue → Type 0) (list : GraphValue → Li
     idle_then : IsIdle task graph old → lent ≡ None → HasNoOff (list h.found) → IsIdle task graph new
     idle_then i free none = record { of_task = i.of_task; task_is = holder.task ∙ i.task_is; graph_is = holder.graph ∙ i.graph_is; vacant = lent_is ∙ free; stays = still_active i.stays none }
 
+-- ---- a pass that read the incumbent under the turn
+
+module _ (old between : View) (r : HasRead old between) where
+  pub read_holder : IsSameHolder old between
+  read_holder = subst (λ (v : View). IsSameHolder old v) (sym r.view) record { worker = refl; taken_in = refl; made = refl; task = refl; graph = refl; settings = refl }
+
+  read_active : IsActive old → IsActive between
+  read_active stays = subst (λ (v : View). IsActive v) (sym r.view) stays
+
+  read_idle : (task : TaskParts) (graph : AbstractGraph) → IsIdle task graph old → IsIdle task graph between
+  read_idle task graph i = subst (λ (v : View). IsIdle task graph v) (sym r.view) record { of_task = i.of_task; task_is = i.task_is; graph_is = i.graph_is; vacant = i.vacant; stays = i.stays }
+
+pub reader_holds : (step : GraphValue → GraphValue → Type 0) (list : GraphValue → List Event) (old : View) (lent : Option LeaseValue) (told : Option ℕ) (new : View) → ReadsAndHolds step list old lent told new → IsSameHolder old new
+reader_holds step list old lent told new (between, r, h) = holder_then old between new (read_holder old between r) (holder step list between lent told new h)
+
 -- ---- a lease that is asked for
 
-module _ (task : TaskParts) (graph : AbstractGraph) (worker : ℕ) (old new : View) (i : IsIdle task graph old) where
+module _ (task : TaskParts) (graph : AbstractGraph) (worker : ℕ) (old new : View) (first : IsIdle task graph old) where
   pub leased_then : (lease : LeaseValue) → Leases worker old (Leased lease) new → IsLeased task graph new lease
-  leased_then lease h =
-      let same = holder (LeasesAs worker (Leased lease)) (lease_events worker (Leased lease)) old (Some lease) None new h in
+  leased_then lease (between, r, h) =
+      let i = read_idle old between r task graph first in
+      let same = holder (LeasesAs worker (Leased lease)) (lease_events worker (Leased lease)) between (Some lease) None new h in
       record {
         of_task = i.of_task;
         task_is = same.task ∙ i.task_is;
         graph_is = same.graph ∙ i.graph_is;
         lent = ap (λ (v : View). v.lent) h.view;
         untold = ap (λ (v : View). v.told) h.view;
-        stays = still_active (LeasesAs worker (Leased lease)) (lease_events worker (Leased lease)) old (Some lease) None new h i.stays refl;
+        stays = still_active (LeasesAs worker (Leased lease)) (lease_events worker (Leased lease)) between (Some lease) None new h i.stays refl;
         yard = h.left;
         at = h.after;
       }
 
+  pub wait_then : (list : GraphValue → List Event) (step : GraphValue → GraphValue → Type 0) → ReadsAndHolds step list old old.lent old.told new → ((g : GraphValue) → HasNoOff (list g)) → IsIdle task graph new
+  wait_then list step (between, r, h) none = idle_then step list between old.lent old.told new h task graph (read_idle old between r task graph first) first.vacant (none h.found)
+
   -- the search is over, as the journal that the pass has seen tells
   pub over_then : (end : End) → Leases worker old (Over end) new → IsIdle task graph new × (is_some (end_in new.journal.seen) ≡ true)
-  over_then end h = (
-    idle_then (LeasesAs worker (Over end)) (lease_events worker (Over end)) old old.lent old.told new h task graph i i.vacant (end_no_off h.found.table.end end),
+  over_then end (between, r, h) = (
+    idle_then (LeasesAs worker (Over end)) (lease_events worker (Over end)) between old.lent old.told new h task graph (read_idle old between r task graph first) first.vacant (end_no_off h.found.table.end end),
     ap (λ (v : View). is_some (end_in v.journal.seen)) h.view ∙ ap (λ j. is_some (end_in j)) (sym h.added)
         ∙ ap is_some (sym (ends_are_told (blocks h.left.table) h.left.table.settings 0 h.left.table.journal (counts_in h.left) (history h.left h.after.shared h.after.views h.after.yard)))
         ∙ ap is_some stands,
@@ -154,7 +192,7 @@ module _ (task : TaskParts) (graph : AbstractGraph) (view : View) (live : view.j
         in_range = y.in_range;
         lawful = y.moment.lawful;
         leased = ap y.machine.counts.leases worker_is ∙ leased l.yard l.at.shared l.at.views y view.journal.own.worker lease lent_to;
-        known = reads_none;
+        known = was_read view;
         work = record {
           works = [];
           on = tt;
@@ -166,40 +204,66 @@ module _ (task : TaskParts) (graph : AbstractGraph) (view : View) (live : view.j
         scope = is.of_graph.scope;
       }))
 
-  module _ (worked : LeaseValue) (broken : ℕ) (turned : HasTurned (space_of task) (guide_of task graph) reads_none lease.block (worked.used - lease.used) broken (leased_store lease) (leased_store worked))
-      (same : IsSameLease lease worked) (scope : HasScope graph worked) where
-    used_is : worked.used - lease.used ≡ worked.used
-    used_is = omega (arith, unused)
+  told_none : (cost : ℕ) → view.told ≡ Some cost → {A : Type 0} → A
+  told_none cost is = let bad : ◌≡◌ {A = Option ℕ} None (Some cost) = sym l.untold ∙ is in absurd cc
 
-    told_none : (cost : ℕ) → view.told ≡ Some cost → {A : Type 0} → A
-    told_none cost is = let bad : ◌≡◌ {A = Option ℕ} None (Some cost) = sym l.untold ∙ is in absurd cc
-
-    pub lease_of : IsLeaseOf view worked
-    lease_of = (same.worker ∙ worker_is, ap grant_in l.lent ∙ (λ i. Some (record { block = sym same.block i; quota = sym same.quota i })))
-
-    -- so many expansions in turns
-    abbrev InTurns : TaskParts → AbstractGraph → ℕ → Type 0
-    InTurns p a used = (work : IsWorked (space_of p) (guide_of p a) lease.block used broken (was_read view) (leased_store lease) (leased_store worked))
-        × AreLeaseTurns (space_of p) (guide_of p a) work.works (leased_store lease)
-
-    in_turns : InTurns view.task view.graph worked.used
-    in_turns =
-        let stays = lease_work_stays (space_of task) (guide_of task graph) lease.block (worked.used - lease.used) broken broken reads_none (was_read view) (leased_store lease) (leased_store worked) turned.work (omega arith)
-        (λ incumbent bad. absurd (true≢false (sym bad))) in
-        subst (λ (p : TaskParts). InTurns p view.graph worked.used) (sym l.task_is) (subst (λ (a : AbstractGraph). InTurns task a worked.used) (sym l.graph_is)
-        (subst (λ used. InTurns task graph used) used_is
-        (stays.0, subst (λ (works : List Work). AreLeaseTurns (space_of task) (guide_of task graph) works (leased_store lease)) (sym stays.1) turned.turns)))
-
-    pub brought : IsBrought view broken worked
-    brought = record {
+  -- nothing has been done
+  pub watched : IsWatched (space_of task) (guide_of task graph) (watch_view view) 0 lease
+  watched = record {
+    from = record {
       lent = lease;
       lent_is = l.lent;
-      same = same;
-      weights = scope.weights;
-      work = in_turns.0;
-      turns = in_turns.1;
-      told = λ cost is. told_none cost is;
+      same = record { worker = refl; block = refl; quota = refl; weight = refl; places = refl; incumbent = at_most_self lease.incumbent };
+      work = record { works = []; on = tt; comes = refl; used_is = sym unused; few_broken = omega arith; stops = tt };
+      turns = tt;
+    };
+    copy = of_view.copy lease l.lent;
+    shown = λ cost is. told_none cost is;
+  }
+
+  -- after work on the lease under a watch
+  module _ (new : View) (still : KeepsLease view new) (worked : LeaseValue) (same : IsSameLease lease worked) where
+    pub work_holder : IsSameHolder view new
+    work_holder = record {
+      worker = ap (λ (j : of_machine.View). j.own.worker) still.journal;
+      taken_in = ap (λ (j : of_machine.View). j.taken_in) still.journal;
+      made = ap (λ (j : of_machine.View). j.made) still.journal;
+      task = still.task;
+      graph = still.graph;
+      settings = still.settings;
     }
+
+    pub work_active : IsActive new
+    work_active = ap (λ (j : of_machine.View). list_any is_off j.own.events) still.journal ∙ l.stays
+
+    pub work_task : new.task ≡ task
+    work_task = still.task ∙ l.task_is
+
+    pub work_graph : new.graph ≡ graph
+    work_graph = still.graph ∙ l.graph_is
+
+    pub lease_of : IsLeaseOf new worked
+    lease_of = (
+      same.worker ∙ worker_is ∙ sym (ap (λ (j : of_machine.View). j.own.worker) still.journal),
+      ap grant_in (still.lent ∙ l.lent) ∙ (λ i. Some (record { block = sym same.block i; quota = sym same.quota i })),
+    )
+
+    module _ (broken : ℕ) (w : IsWatched (space_of task) (guide_of task graph) (watch_view new) broken worked) (scope : HasScope graph worked) where
+      of_new : IsWatched (space_of new.task) (guide_of new.task new.graph) (watch_view new) broken worked
+      of_new = subst (λ (p : TaskParts). IsWatched (space_of p) (guide_of p new.graph) (watch_view new) broken worked) (sym work_task)
+          (subst (λ (a : AbstractGraph). IsWatched (space_of task) (guide_of task a) (watch_view new) broken worked) (sym work_graph) w)
+
+      pub brought : IsBrought new broken worked
+      brought = record {
+        lent = of_new.from.lent;
+        lent_is = of_new.from.lent_is;
+        same = of_new.from.same;
+        weights = scope.weights;
+        work = of_new.from.work;
+        turns = of_new.from.turns;
+        copy = of_new.copy;
+        told = of_new.shown;
+      }
 
 -- ---- marks
 
@@ -221,6 +285,7 @@ module _ (old : View) (most_broken : ℕ) (lease : LeaseValue) (b : IsBrought ol
         weights = b.weights;
         work = stays.0;
         turns = subst (λ (works : List Work). AreLeaseTurns (space_of old.task) (guide_of old.task old.graph) works (leased_store b.lent)) (sym stays.1) b.turns;
+        copy = b.copy;
         told = b.told;
       }
 
@@ -246,36 +311,36 @@ mark_stays worker block done old new h stays =
 
 module _ (task : TaskParts) (graph : AbstractGraph) (old new : View) (of_task : IsGraphOf task graph) (task_is : old.task ≡ task) (graph_is : old.graph ≡ graph) (stays : IsActive old) (worked : LeaseValue) where
   pub kept_then : (kept : LeaseValue) → Renews worked old (Kept kept) new → IsLeased task graph new kept
-  kept_then kept h =
+  kept_then kept (between, r, h) =
       let list : GraphValue → List Event = λ found. renewal_events worked (Kept kept) in
-      let same = holder (RenewsAs worked (Kept kept)) list old (Some kept) None new h in
+      let same = reader_holds (RenewsAs worked (Kept kept)) list old (Some kept) None new (between, r, h) in
       record {
         of_task = of_task;
         task_is = same.task ∙ task_is;
         graph_is = same.graph ∙ graph_is;
         lent = ap (λ (v : View). v.lent) h.view;
         untold = ap (λ (v : View). v.told) h.view;
-        stays = still_active (RenewsAs worked (Kept kept)) list old (Some kept) None new h stays refl;
+        stays = still_active (RenewsAs worked (Kept kept)) list between (Some kept) None new h (read_active old between r stays) refl;
         yard = h.left;
         at = h.after;
       }
 
-  gone : (step : GraphValue → GraphValue → Type 0) (list : GraphValue → List Event) (h : Holds step list old None None new) → HasNoOff (list h.found) → IsIdle task graph new
-  gone step list h none =
-      let same = holder step list old None None new h in
+  gone : (step : GraphValue → GraphValue → Type 0) (list : GraphValue → List Event) → ReadsAndHolds step list old None None new → ((g : GraphValue) → HasNoOff (list g)) → IsIdle task graph new
+  gone step list (between, r, h) none =
+      let same = reader_holds step list old None None new (between, r, h) in
       record {
         of_task = of_task;
         task_is = same.task ∙ task_is;
         graph_is = same.graph ∙ graph_is;
         vacant = ap (λ (v : View). v.lent) h.view;
-        stays = still_active step list old None None new h stays none;
+        stays = still_active step list between None None new h (read_active old between r stays) (none h.found);
       }
 
   pub given_then : Renews worked old Given new → IsIdle task graph new
-  given_then h = gone (RenewsAs worked Given) (λ found. renewal_events worked Given) h refl
+  given_then h = gone (RenewsAs worked Given) (λ found. renewal_events worked Given) h (λ g. refl)
 
   pub released_then : (trouble : Bool) → Releases worked trouble old new → IsIdle task graph new
-  released_then trouble h = gone (ReleasesAs worked trouble) (release_events worked trouble) h (ending_no_off trouble h.found.table.end)
+  released_then trouble h = gone (ReleasesAs worked trouble) (release_events worked trouble) h (λ g. ending_no_off trouble g.table.end)
 
 -- ---- signing off
 
@@ -301,18 +366,3 @@ module _ (task same_task : TaskParts) (graph same_graph : AbstractGraph) (task_i
 
   pub idle_with : (view : View) → IsIdle task graph view → IsIdle same_task same_graph view
   idle_with view i = subst (λ (p : TaskParts). IsIdle p same_graph view) (sym task_is) (subst (λ (a : AbstractGraph). IsIdle task a view) (sym graph_is) i)
-
--- ---- the same holder
-
-pub holder_self : (v : View) → IsSameHolder v v
-holder_self v = record { worker = refl; taken_in = refl; made = refl; task = refl; graph = refl; settings = refl }
-
-pub holder_then : (old mid new : View) → IsSameHolder old mid → IsSameHolder mid new → IsSameHolder old new
-holder_then old mid new one two = record {
-  worker = two.worker ∙ one.worker;
-  taken_in = two.taken_in ∙ one.taken_in;
-  made = two.made ∙ one.made;
-  task = two.task ∙ one.task;
-  graph = two.graph ∙ one.graph;
-  settings = two.settings ∙ one.settings;
-}

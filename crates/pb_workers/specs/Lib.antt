@@ -5,3 +5,4 @@ pub mod Shared
 pub mod Teams
 pub mod Tools
 pub mod Serving
+pub mod Watching

@@ -13,6 +13,8 @@ mod worker;
 mod workers;
 mod yard_search;
 mod yard_turns;
+mod yard_watch;
 
 pub use alone::run_alone;
 pub use workers::run_workers;
+pub use yard_watch::YardWatch;

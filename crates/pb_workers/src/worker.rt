@@ -8,13 +8,14 @@ ghost use Rattle.pb_lease.specs.LeaseValue.{leased_store, IsSameLease};
 ghost use Rattle.pb_lease.specs.Leased.{guide_of, HasScope};
 ghost use Rattle.pb_expand.specs.Turned.{own_rows, IsAtWork, HasTurned, reads_none};
 ghost use Rattle.pb_expand.specs.Worked.{broken_by};
+ghost use Rattle.pb_expand.specs.Watching.{IsWatched};
 ghost use Rattle.pb_expand.specs.declared.working.Worked.TheVariants.{Spent, Empty};
 ghost use Rattle.pb_workers.specs.Tools.{AreFor};
 ghost use Rattle.pb_workers.specs.Holding.{Works};
 
 use pb_abstract::AbsGraph;
 use pb_estimate::Estimator;
-use pb_expand::{Worked, work};
+use pb_expand::{Watch, Worked, work, work_watched};
 use pb_lease::Lease;
 use pb_model::Succ;
 use pb_task::Task;
@@ -95,6 +96,40 @@ impl<'a> Worker<'a> {
             self.abstraction,
             lease,
             &mut self.succs,
+        )
+    }
+
+    /// Works on a lease as `work` does, under a watch of the incumbent.
+    pub fn work_watched<W: Watch>(&mut self, lease: &mut Lease, watch: &mut W) -> Worked
+        requires graph { IsGraphOf self.old.task.now self.old.abstraction.now }
+        requires at_work { IsAtWork self.old.task.now self.old.abstraction.now lease.old }
+        requires tools { IsOfTask self.old.estimator self.old.task.now }
+        requires can { W.can watch.old }
+        requires task_is { (W.seen watch.old).task ≡ self.old.task.now }
+        requires graph_is { (W.seen watch.old).graph ≡ self.old.abstraction.now }
+        requires watched { IsWatched (space_of self.old.task.now)
+            (guide_of self.old.task.now self.old.abstraction.now) (W.seen watch.old) 0 lease.old }
+        ensures watched { IsWatched (space_of self.old.task.now)
+            (guide_of self.old.task.now self.old.abstraction.now) (W.seen watch.new)
+            (broken_by result) lease.new }
+        ensures can { W.can watch.new }
+        ensures stays { W.stays watch.old watch.new }
+        ensures spent { (result ≡ Spent)
+            ↔ (HasOpened (own_rows lease.new) × (lease.new.used ≡ lease.new.quota)) }
+        ensures empty { (result ≡ Empty) ↔ (HasOpened (own_rows lease.new) → ⊥) }
+        ensures same { IsSameLease lease.old lease.new }
+        ensures scope { HasScope self.old.abstraction.now lease.new }
+        ensures task { self.new.task.now ≡ self.old.task.now }
+        ensures abstraction { self.new.abstraction.now ≡ self.old.abstraction.now }
+        ensures tools { IsOfTask self.new.estimator self.new.task.now }
+    {
+        work_watched(
+            self.task,
+            &mut self.estimator,
+            self.abstraction,
+            lease,
+            &mut self.succs,
+            watch,
         )
     }
 }

@@ -3,13 +3,15 @@ ghost use Rattle.std.specs.Prelude.{◌≡◌, ◌||◌, None, IsTrue, is_some};
 ghost use Rattle.std.specs.List.{list_any};
 ghost use Rattle.pb_machine.specs.History.{is_off, end_in};
 ghost use Rattle.pb_estimate.specs.Tables.{IsOfTask};
-ghost use Rattle.pb_yard.specs.Passes.{view_of, parts_of, IsOf, IsSamePass};
+ghost use Rattle.pb_yard.specs.Passes.{view_of, parts_of, IsOf, IsSamePass, KeepsPass};
+ghost use Rattle.pb_workers.specs.Watching.{IsWatchOf};
 ghost use Rattle.pb_workers.specs.Shared.{IsSameHolder, IsIdle};
 ghost use Rattle.pb_workers.specs.Tools.{AreFor};
 
 use crate::event_count::EventCount;
 use crate::worker::{Tools, Worker};
 use crate::yard_turns::yard_hold;
+use crate::yard_watch::YardWatch;
 use pb_abstract::AbsGraph;
 use pb_lease::LeaseReply;
 use pb_outside::Gate;
@@ -21,26 +23,28 @@ use std::sync::Wait;
 // whether it is.
 fn take_leases<W: Wait, G: Gate>(
     rt: &W,
-    yard: &Yard,
     count: &EventCount,
     gate: &G,
     worker: &mut Worker,
-    pass: &mut Pass,
+    watch: &mut YardWatch,
 ) -> bool
-    requires own { IsOf yard.now pass.old }
-    requires idle { IsIdle worker.old.task.now worker.old.abstraction.now (view_of pass.old) }
+    requires own { IsWatchOf watch.old }
+    requires idle { IsIdle worker.old.task.now worker.old.abstraction.now
+        (view_of watch.old.pass) }
     requires tools { IsOfTask worker.old.estimator worker.old.task.now }
-    ensures same { IsSamePass pass.old pass.new × (parts_of pass.new ≡ parts_of pass.old) }
-    ensures holder { IsSameHolder (view_of pass.old) (view_of pass.new) }
-    ensures idle { IsIdle worker.old.task.now worker.old.abstraction.now (view_of pass.new) }
-    ensures cause { IsTrue (result || is_some (end_in (view_of pass.new).journal.seen)) }
+    ensures same { KeepsPass watch.old.pass watch.new.pass }
+    ensures yard { watch.new.yard.now ≡ watch.old.yard.now }
+    ensures holder { IsSameHolder (view_of watch.old.pass) (view_of watch.new.pass) }
+    ensures idle { IsIdle worker.old.task.now worker.old.abstraction.now
+        (view_of watch.new.pass) }
+    ensures cause { IsTrue (result || is_some (end_in (view_of watch.new.pass).journal.seen)) }
 {
     for _ in rt.forever() {
         let noted = count.note(rt);
-        match yard.lease(rt, pass) {
+        match watch.yard.lease(rt, &mut watch.pass) {
             LeaseReply::Leased(lease) => {
-                gate.leased(pass.worker(), lease.block());
-                yard_hold(rt, yard, count, gate, worker, pass, lease);
+                gate.leased(watch.pass.worker(), lease.block());
+                yard_hold(rt, count, gate, worker, watch, lease);
             }
             LeaseReply::NotYet => count.sleep_past(rt, noted),
             LeaseReply::Over(_) => return false,
@@ -59,7 +63,7 @@ pub fn run_worker<W: Wait, G: Gate>(
     task: &Task,
     abstraction: &AbsGraph,
     tools: Tools,
-    mut pass: Pass,
+    pass: Pass,
 ) -> Pass
     requires own { IsOf yard.now pass }
     requires tools { AreFor task.now tools }
@@ -70,7 +74,9 @@ pub fn run_worker<W: Wait, G: Gate>(
     ensures signed_off { IsTrue (list_any is_off (view_of result).journal.own.events) }
 {
     let mut worker = Worker::new(task, abstraction, tools);
-    let trouble = take_leases(rt, yard, count, gate, &mut worker, &mut pass);
+    let mut watch = YardWatch { yard, pass };
+    let trouble = take_leases(rt, count, gate, &mut worker, &mut watch);
+    let YardWatch { yard: _, mut pass } = watch;
     yard.sign_off(rt, &mut pass, trouble);
     count.advance(rt);
     pass

@@ -22,9 +22,9 @@ use Rattle.pb_lease.specs.GraphValue.{GraphValue}
 use Rattle.pb_lease.specs.Choices.{IsOver, IsToWait}
 use Rattle.pb_lease.specs.Steps.{IsLeased, LeasesNext, IsEnded, end_events, KeepsLeases, IsMarked, GoesOn, ChoosesByRows, IsRenewed, RenewsNext, IsReleased, ReleasesNext}
 use Rattle.pb_yard.specs.declared.view.View.{View}
-use Rattle.pb_yard.specs.Views.{view_then, view_left}
+use Rattle.pb_yard.specs.Views.{cost_of, view_then, view_left}
 use Rattle.pb_yard.specs.Order.{HasCause}
-use Rattle.pb_yard.specs.Rule.{IsYard}
+use Rattle.pb_yard.specs.Rule.{YardFact, IsYard}
 use Rattle.pb_yard.specs.Replies.{NoneMayBeLeased, LeasesAs, lease_events, lent_by, told_by, RenewsAs, renewal_events, kept_by, ReleasesAs, release_events, ChangesMarkAs, mark_events, SignsOffAs, off_events}
 use Rattle.pb_yard.specs.Returning.{IsBrought}
 use Rattle.pb_yard.specs.Calls.{Holds}
@@ -34,34 +34,44 @@ use Rattle.pb_yard.proofs.Steps.{Steps, keeps_step, lease_step, release_step, re
 use Rattle.pb_yard.proofs.Asks.{begins}
 
 abbrev pub Fact : GraphValue → ℕ → List View → Type 0
-Fact g number views = IsYard g g.incumbent views
+Fact = YardFact
 
 -- whatever the others know, the graph may go from x to y so, by these events, and the pass then has
 -- this lease and has told this cost
 abbrev pub MayGo : (x y : GraphValue) → (v : View) → v.journal.is_live ≡ true → List Event → Option LeaseValue → Option ℕ → Type 0
 MayGo x y v live events lent told =
-    (views : List View) (seat : ℕ) (h : IsYard x x.incumbent views) (at : get_elem? views seat ≡ some v) → Steps x y x.incumbent views seat v h at live events lent told y.incumbent
+    (number : ℕ) (views : List View) (seat : ℕ) (h : Fact x number views) (at : get_elem? views seat ≡ some v) → Steps x y (cost_of number) views seat v h at live events lent told (cost_of number)
 
-module _ (x y : GraphValue) (v : View) (live : v.journal.is_live ≡ true) (list : GraphValue → List Event) (lent : Option LeaseValue) (told : Option ℕ) (may : MayGo x y v live (list x) lent told) where
-  left_is : y.table.journal ≡ x.table.journal ++ list x → view_left x y lent told v ≡ view_then x.table.journal (list x) lent told v
-  left_is added = ap (λ events. view_then x.table.journal events lent told v) (ap (drop (length x.table.journal)) added ∙ drop-append_seam x.table.journal (list x))
+-- the rule holds of x where it holds of the graph f that was found, and both have the same journal
+abbrev pub MayTake : (f x : GraphValue) → (v : View) → Type 0
+MayTake f x v = (x.table.journal ≡ f.table.journal) × ((number : ℕ) (views : List View) (seat : ℕ) → Fact f number views → get_elem? views seat ≡ some v → Fact x number views)
 
-  pub leave_keeps : (seat : ℕ) → LeaveKeeps Fact seat v x y (view_left x y lent told v)
-  leave_keeps seat number views h at =
-      let t = may views seat h at in
-      subst (λ (u : View). IsYard y y.incumbent (set views seat u)) (sym (left_is t.1.added))
-      (holding_keeps x y x.incumbent y.incumbent views seat v (list x) lent told h at live t.0 t.1 t.2).0
+-- where the graph is as it was found
+pub takes_none : (x : GraphValue) (v : View) → MayTake x x v
+takes_none x v = (refl, λ number views seat h at. h)
 
-  pub holds : (seat : ℕ) → Stands Fact seat v x → (step : GraphValue → GraphValue → Type 0) → step x y → Holds step list v lent told (view_left x y lent told v)
-  holds seat (number, (views, h, at)) step is =
-      let t = may views seat h at in
-      let after = holding_keeps x y x.incumbent y.incumbent views seat v (list x) lent told h at live t.0 t.1 t.2 in
+module _ (f x y : GraphValue) (v : View) (live : v.journal.is_live ≡ true) (take : MayTake f x v) (list : GraphValue → List Event) (lent : Option LeaseValue) (told : Option ℕ) (may : MayGo x y v live (list x) lent told) where
+  left_is : y.table.journal ≡ x.table.journal ++ list x → view_left f y lent told v ≡ view_then x.table.journal (list x) lent told v
+  left_is added = ap (λ (j : List Event). view_then j (drop (length j) y.table.journal) lent told v) (sym take.0) ∙ ap (λ events. view_then x.table.journal events lent told v) (ap (drop (length x.table.journal)) added ∙ drop-append_seam x.table.journal (list x))
+
+  pub leave_keeps : (seat : ℕ) → LeaveKeeps Fact seat v f y (view_left f y lent told v)
+  leave_keeps seat number views found at =
+      let h = take.1 number views seat found at in
+      let t = may number views seat h at in
+      subst (λ (u : View). IsYard y (cost_of number) (set views seat u)) (sym (left_is t.1.added))
+      (holding_keeps x y (cost_of number) (cost_of number) views seat v (list x) lent told h at live t.0 t.1 t.2).0
+
+  pub holds : (seat : ℕ) → Stands Fact seat v f → (step : GraphValue → GraphValue → Type 0) → step x y → Holds step list v lent told (view_left f y lent told v)
+  holds seat (number, (views, found, at)) step is =
+      let h = take.1 number views seat found at in
+      let t = may number views seat h at in
+      let after = holding_keeps x y (cost_of number) (cost_of number) views seat v (list x) lent told h at live t.0 t.1 t.2 in
       subst (λ (u : View). Holds step list v lent told u) (sym (left_is t.1.added)) record {
         found = x;
         left = y;
-        before = record { shared = x.incumbent; seat = seat; views = views; yard = h; mine = at };
-        after = record { shared = y.incumbent; seat = seat; views = set views seat (view_then x.table.journal (list x) lent told v); yard = after.0; mine = put_there views seat v (view_then x.table.journal (list x) lent told v) at };
-        seen = begins x x.incumbent views seat v h at live;
+        before = record { shared = cost_of number; seat = seat; views = views; yard = h; mine = at };
+        after = record { shared = cost_of number; seat = seat; views = set views seat (view_then x.table.journal (list x) lent told v); yard = after.0; mine = put_there views seat v (view_then x.table.journal (list x) lent told v) at };
+        seen = begins x (cost_of number) views seat v h at live;
         step_is = is;
         added = t.1.added;
         moves = after.1;
@@ -69,8 +79,8 @@ module _ (x y : GraphValue) (v : View) (live : v.journal.is_live ≡ true) (list
       }
 
   -- the pass has seen the whole journal then
-  pub seen_is : (seat : ℕ) → Stands Fact seat v x → (view_left x y lent told v).journal.seen ≡ y.table.journal
-  seen_is seat (number, (views, h, at)) = let t = may views seat h at in ap (λ (u : View). u.journal.seen) (left_is t.1.added) ∙ sym t.1.added
+  pub seen_is : (seat : ℕ) → Stands Fact seat v f → (view_left f y lent told v).journal.seen ≡ y.table.journal
+  seen_is seat (number, (views, found, at)) = let t = may number views seat (take.1 number views seat found at) at in ap (λ (u : View). u.journal.seen) (left_is t.1.added) ∙ sym t.1.added
 
 -- ---- the calls, by what the graph does
 
@@ -83,27 +93,25 @@ module _ (x y : GraphValue) (v : View) (live : v.journal.is_live ≡ true) where
   Own = v.journal.own.worker
 
   pub stays : y ≡ x → MayGo x y v live [] v.lent v.told
-  stays is views seat h at = subst (λ (z : GraphValue). Steps x z x.incumbent views seat v h at live [] v.lent v.told z.incumbent) (sym is)
-      (keeps_step x x x.incumbent views seat v h at live [] tt (nothing x) record { task = refl; graph = refl; settings = refl } (sym (append-nil x.table.journal)) (λ other else. refl))
+  stays is number views seat h at = subst (λ (z : GraphValue). Steps x z (cost_of number) views seat v h at live [] v.lent v.told (cost_of number)) (sym is)
+      (keeps_step x x (cost_of number) views seat v h at live [] tt (nothing x) record { task = refl; graph = refl; settings = refl } (sym (append-nil x.table.journal)) (λ other else. refl))
 
   -- all but the tables stay
   pub keeps : (events : List Event) → GrantsNone events → Adds x.table y.table events → y ≡ record x { table = y.table } → KeepsLeases x events y → AreBy Own events → MayGo x y v live events v.lent v.told
-  keeps events none adds rest k by views seat h at = subst (λ o. Steps x y x.incumbent views seat v h at live events v.lent v.told o) (sym (ap (λ (g : GraphValue). g.incumbent) rest))
-      (keeps_step x y x.incumbent views seat v h at live events none k (same_rest x y events adds rest) adds.journal by)
+  keeps events none adds rest k by number views seat h at = keeps_step x y (cost_of number) views seat v h at live events none k (same_rest x y events adds rest) adds.journal by
 
-  pub may_lease : (reply : LeaseReply) → LeasesAs Own reply x y → MayGo x y v live (lease_events Own reply x) (lent_by reply v.lent) (told_by reply v.told)
-  may_lease (Leased lease) is = λ views seat h at. subst (λ o. Steps x y x.incumbent views seat v h at live (lease_events Own (Leased lease) x) (Some lease) None o) (sym is.0.incumbent)
-      (lease_step x y x.incumbent views seat v h at live lease refl is.0 is.1)
-  may_lease NotYet is = stays is.2
-  may_lease (Over end) is = keeps (end_events x.table.end end) (end_grants_none x.table.end end) is.1.events is.1.rest is.2 (end_by Own x.table.end end)
-  may_lease Memory is = stays is.2
+  pub may_lease : x.incumbent ≡ v.last → v.read_at ≡ Some (length x.table.journal) → (reply : LeaseReply) → LeasesAs Own reply x y → MayGo x y v live (lease_events Own reply x) (lent_by reply v.lent) (told_by reply v.told)
+  may_lease is_last read_at (Leased lease) is = λ number views seat h at. lease_step x y (cost_of number) views seat v h at live lease is_last read_at is.0 is.1
+  may_lease is_last read_at NotYet is = stays is.2
+  may_lease is_last read_at (Over end) is = keeps (end_events x.table.end end) (end_grants_none x.table.end end) is.1.events is.1.rest is.2 (end_by Own x.table.end end)
+  may_lease is_last read_at Memory is = stays is.2
 
-  pub may_renew : (lease : LeaseValue) (reply : Renewed) → lease.used ≡ lease.quota → length x.homes.keys ≡ (blocks x.table).count → IsBrought v 0 lease → RenewsAs lease reply x y → MayGo x y v live (renewal_events lease reply) (kept_by reply) None
-  may_renew lease (Kept kept) spent places b is views seat h at = renew_step x y x.incumbent views seat v h at live lease kept spent places b refl is.1 is.0 is.3
-  may_renew lease Given spent places b is views seat h at = release_step x y x.incumbent views seat v h at live lease false (inl spent) b refl is.1 is.3
+  pub may_renew : x.incumbent ≡ v.last → v.read_at ≡ Some (length x.table.journal) → (lease : LeaseValue) (reply : Renewed) → lease.used ≡ lease.quota → length x.homes.keys ≡ (blocks x.table).count → IsBrought v 0 lease → RenewsAs lease reply x y → MayGo x y v live (renewal_events lease reply) (kept_by reply) None
+  may_renew is_last read_at lease (Kept kept) spent places b is number views seat h at = renew_step x y (cost_of number) views seat v h at live lease kept spent places b is_last read_at is.1 is.0 is.3
+  may_renew is_last read_at lease Given spent places b is number views seat h at = release_step x y (cost_of number) views seat v h at live lease false (inl spent) b is_last is.1 is.3
 
-  pub may_release : (lease : LeaseValue) (trouble : Bool) → HasCause lease trouble → IsBrought v (one_if trouble) lease → ReleasesAs lease trouble x y → MayGo x y v live (release_events lease trouble x) None None
-  may_release lease trouble cause b is views seat h at = release_step x y x.incumbent views seat v h at live lease trouble cause b refl is.0 is.1
+  pub may_release : x.incumbent ≡ v.last → (lease : LeaseValue) (trouble : Bool) → HasCause lease trouble → IsBrought v (one_if trouble) lease → ReleasesAs lease trouble x y → MayGo x y v live (release_events lease trouble x) None None
+  may_release is_last lease trouble cause b is number views seat h at = release_step x y (cost_of number) views seat v h at live lease trouble cause b is_last is.0 is.1
 
   pub may_mark : (may : Type 0) (event : Event) (done : Bool) → GrantsNone (event ∷ []) → AreBy Own (event ∷ []) → ChangesMarkAs may Own event done x y → MayGo x y v live (mark_events event done) v.lent v.told
   may_mark may event true none by is = keeps (event ∷ []) none is.1.events is.1.rest is.2 by

@@ -58,7 +58,7 @@ module _ (x : GraphValue) (seat : ℕ) (v : View) (live : v.journal.is_live ≡ 
         home = home;
         moves = h.moves;
         machine = h.machine;
-        run = h.run;
+        run = (h.settled, h.run);
         journal = h.journal;
         moment = λ recorded. none_out_is_moment x recorded h.machine
             (moment_where_leased x (λ worker. rows_of (h.lent worker)) recorded h.machine

@@ -3,7 +3,7 @@ use Rattle.std.proofs.Common.{◌≡◌, ◌≢◌, ℕ, ◌==◌, true, false, 
 use mathlib.Core.Option.{some}
 use lib.ListN.{get_elem?}
 use Rattle.pb_turn.proofs.PassLists.{each_set, put_there, map_set}
-use Rattle.pb_model.specs.Store.{Rows}
+use Rattle.pb_model.specs.Store.{Rows, AtMost}
 use Rattle.pb_model.proofs.Tests.{by_cases, equal, equal_self, equal_swap}
 use Rattle.pb_task.specs.Parts.{greatest_cost}
 use Rattle.pb_machine.specs.declared.event.Event.{Event}
@@ -26,28 +26,30 @@ use Rattle.pb_lease.specs.Moments.{moves_of, Follows}
 use Rattle.pb_lease.proofs.MomentsStay.{events_leave_others}
 use Rattle.pb_yard.specs.declared.view.View.{View}
 use Rattle.pb_yard.specs.Views.{view_then}
-use Rattle.pb_yard.specs.Order.{RunsInTime}
-use Rattle.pb_yard.specs.Rule.{rows_of, grant_in, journal_view, IsLent, IsKnownTo, IsViewOf, HasNoPass, IsYard}
-use Rattle.pb_yard.proofs.InTime.{in_time_on}
-use Rattle.pb_yard.proofs.Parts.{events_of_moves, GoesOnAs, setup_same, search_same, still_of_graph, moment_where_leased, at_journal, workers_differ, no_pass_before}
+use Rattle.pb_yard.specs.Order.{RunsSettled}
+use Rattle.pb_yard.specs.Rule.{rows_of, grant_in, journal_view, IsLent, IsKnownTo, IsViewOf, IsRecent, HasNoPass, IsYard}
+use Rattle.pb_yard.proofs.InTime.{settled_on, settled_same}
+use Rattle.pb_yard.proofs.Parts.{events_of_moves, GoesOnAs, setup_same, search_same, still_of_graph, moment_where_leased, at_journal, workers_differ, no_pass_before, unread_recent, recent_stays}
 
 -- From the graph x at a moment of the rule these events of one pass's worker, or of nobody, lead to
 -- y.
-pub record IsStep (x y : GraphValue) (machine next : Machine) (worker : ℕ) (events : List Event) (lent_to : ℕ → Option LeaseValue) (lent : Option LeaseValue) (told : Option ℕ) : Type 0 where
+pub record IsStep (x y : GraphValue) (machine next : Machine) (settled last : Option ℕ) (worker : ℕ) (events : List Event) (lent_to : ℕ → Option LeaseValue) (lent : Option LeaseValue) (told : Option ℕ) : Type 0 where
   pub recorded : ℕ → Rows
   pub follows : Follows x machine events y recorded next
-  pub in_time : RunsInTime (setup_in x) machine (moves_of events) next
+  pub later : Option ℕ
+  pub in_time : RunsSettled (setup_in x) machine settled (moves_of events) next later
   pub same : GoesOnAs x y
   pub added : y.table.journal ≡ x.table.journal ++ events
   pub by : AreBy worker events
   pub records : (other : ℕ) (grant : Grant) → next.counts.leases other ≡ Some grant → rows_of (with_entry lent_to worker lent other) ≡ recorded other
   pub leases : next.counts.leases worker ≡ grant_in lent
   pub lent_is : (lease : LeaseValue) → lent ≡ Some lease → IsLent y next worker lease
+  pub copy : (lease : LeaseValue) → lent ≡ Some lease → AtMost last lease.incumbent
   pub told_is : next.told worker ≡ told
 
 module _ (x y : GraphValue) (shared later : Option ℕ) (views : List View) (seat : ℕ) (v : View) (events : List Event) (lent : Option LeaseValue) (told : Option ℕ)
     (h : IsYard x shared views) (at : get_elem? views seat ≡ some v) (live : v.journal.is_live ≡ true)
-    (next : Machine) (s : IsStep x y h.machine next v.journal.own.worker events h.lent lent told) (shared_is : next.store.incumbent ≡ later) where
+    (next : Machine) (s : IsStep x y h.machine next h.settled v.last v.journal.own.worker events h.lent lent told) (shared_is : next.store.incumbent ≡ later) where
   abbrev Own : ℕ
   Own = v.journal.own.worker
 
@@ -67,8 +69,8 @@ module _ (x y : GraphValue) (shared later : Option ℕ) (views : List View) (sea
       → (next.counts.leases other ≡ h.machine.counts.leases other) × (next.given other ≡ h.machine.given other) × (next.told other ≡ h.machine.told other)
   left other else = others_are_left (setup_in x) (moves_of events) h.machine next other s.follows.moves (events_leave_others Own other events s.by else)
 
-  run : RunsInTime (setup_in x) (opening_machine (setup_in x)) (h.moves ++ moves_of events) next
-  run = in_time_on (setup_in x) h.moves (moves_of events) (opening_machine (setup_in x)) h.machine next h.run s.in_time
+  run : RunsSettled (setup_in x) (opening_machine (setup_in x)) (opening_machine (setup_in x)).store.incumbent (h.moves ++ moves_of events) next s.later
+  run = settled_on (setup_in x) h.moves (moves_of events) (opening_machine (setup_in x)) h.machine next (opening_machine (setup_in x)).store.incumbent h.settled s.later h.run s.in_time
 
   journal : journal_of (h.moves ++ moves_of events) ≡ y.table.journal
   journal = (runs_go_on (setup_in x) h.moves (moves_of events) (opening_machine (setup_in x)) h.machine next).2
@@ -112,6 +114,7 @@ module _ (x y : GraphValue) (shared later : Option ℕ) (views : List View) (sea
     told = s.told_is;
     search = let q = search_same x y s.same v (h.each seat v at live).search in record { task = q.task; graph = q.graph; settings = q.settings };
     known = record { read = k.read; last = k.last };
+    copy = s.copy;
   }
 
   theirs : (other : ℕ) (u : View) → other ≢ seat → get_elem? views other ≡ some u → u.journal.is_live ≡ true → IsViewOf y next Lent u
@@ -123,6 +126,7 @@ module _ (x y : GraphValue) (shared later : Option ℕ) (views : List View) (sea
         told = (left u.journal.own.worker e).2 ∙ is.told;
         search = search_same x y s.same u is.search;
         known = known u is.known;
+        copy = is.copy;
       }
 
   others : (other : ℕ) → HasNoPass other (set views seat New) → Lent other ≡ None
@@ -136,7 +140,8 @@ module _ (x y : GraphValue) (shared later : Option ℕ) (views : List View) (sea
     moves = h.moves ++ moves_of events;
     machine = next;
     lent = Lent;
-    run = subst (λ (t : Setup). RunsInTime t (opening_machine t) (h.moves ++ moves_of events) next) (sym setup) run;
+    settled = s.later;
+    run = subst (λ (t : Setup). RunsSettled t (opening_machine t) (opening_machine t).store.incumbent (h.moves ++ moves_of events) next s.later) (sym setup) run;
     journal = journal;
     moment = moment_where_leased y s.recorded (λ other. rows_of (Lent other)) next s.records s.follows.moment;
     shared_is = shared_is;
@@ -144,9 +149,11 @@ module _ (x y : GraphValue) (shared later : Option ℕ) (views : List View) (sea
     lent_is = lent_is;
     journals = journals;
     each = each_set (λ j u. u.journal.is_live ≡ true → IsViewOf y next Lent u) views seat New (λ _. mine) theirs;
+    recent = each_set (λ j u. u.journal.is_live ≡ true → IsRecent y s.later u) views seat New (λ _. unread_recent y s.later New refl)
+        (λ other u apart there up. recent_stays x y events h.settled s.later u s.added (settled_same (setup_in x) events h.machine h.settled next s.later s.in_time) (h.recent other u there up));
     others = others;
   }
 
-  pub holding_keeps : (after : IsYard y later (set views seat New)) × RunsInTime (setup_in x) h.machine (moves_of events) after.machine
+  pub holding_keeps : (after : IsYard y later (set views seat New)) × RunsSettled (setup_in x) h.machine h.settled (moves_of events) after.machine after.settled
   unfolding held
   holding_keeps = (held, s.in_time)

@@ -1,44 +1,110 @@
 -- Runs in order and in time: one after another, and of single events.
-use Rattle.std.proofs.Common.{Bool, true, false, cond, ◌&&◌, is_none, Option, None, Some, List, [], ◌∷◌, ◌++◌, subst}
+use Rattle.std.proofs.Common.{◌≡◌, ℕ, Bool, true, false, cond, ◌&&◌, is_none, Option, None, Some, List, [], ◌∷◌, ◌++◌, refl, sym, ap, ◌∙◌, subst}
+use Rattle.pb_model.specs.Store.{Store, lesser, AtMost}
+use Rattle.pb_model.proofs.Incumbents.{at_most_self, at_most_trans, lesser_at_most}
 use Rattle.pb_machine.specs.declared.event.End.{End}
 use Rattle.pb_machine.specs.declared.event.End.TheVariants.{Memory}
 use Rattle.pb_machine.specs.declared.event.Event.{Event}
 use Rattle.pb_machine.specs.declared.event.Event.TheVariants.{Lease, Renew, Hot, Cold, Release, Off, Ended}
-use Rattle.pb_machine.specs.Machine.{Setup, Machine, Move, event_move, Runs}
+use Rattle.pb_machine.specs.Machine.{Setup, Machine, Move, event_move, tell_move, Runs}
 use Rattle.pb_machine.specs.Turns.{RunsInOrder}
 use Rattle.pb_lease.specs.Events.{ending}
 use Rattle.pb_lease.specs.Moments.{moves_of}
 use Rattle.pb_lease.specs.Steps.{end_events}
-use Rattle.pb_yard.specs.Order.{GivesWholeIncumbent, IsTimely, RunsInTime}
+use Rattle.pb_yard.specs.Order.{GivesWholeIncumbent, settled_after, IsTimely, RunsSettled, RunsInTime}
 use Rattle.pb_yard.specs.Laws.{RunsInTimeAreInOrder}
 
 module _ (setup : Setup) where
-  in_time_is_in_order : (moves : List Move) (old new : Machine) → RunsInTime setup old moves new → RunsInOrder setup old moves new
-  in_time_is_in_order [] old new runs = runs
-  in_time_is_in_order (move ∷ moves) old new runs = (runs.0, runs.1, runs.2, in_time_is_in_order moves runs.0 new runs.5)
+  settled_is_in_order : (moves : List Move) (old : Machine) (settled : Option ℕ) (new : Machine) (later : Option ℕ) → RunsSettled setup old settled moves new later → RunsInOrder setup old moves new
+  settled_is_in_order [] old settled new later runs = runs.0
+  settled_is_in_order (move ∷ moves) old settled new later runs = (runs.0, runs.1, runs.2, settled_is_in_order moves runs.0 (settled_after move settled runs.0) new later runs.5)
+
+  pub settled_is_run : (moves : List Move) (old : Machine) (settled : Option ℕ) (new : Machine) (later : Option ℕ) → RunsSettled setup old settled moves new later → Runs setup old moves new
+  settled_is_run [] old settled new later runs = runs.0
+  settled_is_run (move ∷ moves) old settled new later runs = (runs.0, runs.1, settled_is_run moves runs.0 (settled_after move settled runs.0) new later runs.5)
+
+  pub settled_on : (moves more : List Move) (old between new : Machine) (first second third : Option ℕ) → RunsSettled setup old first moves between second → RunsSettled setup between second more new third
+      → RunsSettled setup old first (moves ++ more) new third
+  settled_on [] more old between new first second third run rest =
+      subst (λ (q : Machine). RunsSettled setup q first more new third) run.0 (subst (λ o. RunsSettled setup between o more new third) run.1 rest)
+  settled_on (move ∷ moves) more old between new first second third run rest =
+      (run.0, run.1, run.2, run.3, run.4, settled_on moves more run.0 between new (settled_after move first run.0) second third run.5 rest)
+
+  -- a run from a lesser incumbent of the last event is one from a greater
+  raised : (moves : List Move) (old : Machine) (settled other : Option ℕ) (new : Machine) (later : Option ℕ) → AtMost settled other → RunsSettled setup old settled moves new later
+      → (then : Option ℕ) × RunsSettled setup old other moves new then
+  raised [] old settled other new later most runs = (other, (runs.0, refl))
+  raised (event_move event ∷ moves) old settled other new later most runs = (later, (runs.0, runs.1, runs.2, gives event runs.0 runs.3, runs.4, runs.5))
+    where
+      gives : (event : Event) (between : Machine) → GivesWholeIncumbent (event_move event) settled between → GivesWholeIncumbent (event_move event) other between
+      gives (Lease worker block quota) between h = at_most_trans (between.given worker) settled other h most
+      gives (Renew worker used quota) between h = at_most_trans (between.given worker) settled other h most
+      gives (Hot worker block) between h = tt
+      gives (Cold worker block) between h = tt
+      gives (Release worker used trouble) between h = tt
+      gives (Off worker trouble) between h = tt
+      gives (Ended end) between h = tt
+  raised (tell_move worker cost ∷ moves) old settled other new later most runs =
+      let rest = raised moves runs.0 settled other new later most runs.5 in (rest.0, (runs.0, runs.1, runs.2, tt, runs.4, rest.1))
+
+  -- the incumbent falls from that of the last event
+  pub settled_falls : (moves : List Move) (old : Machine) (settled : Option ℕ) (new : Machine) (later : Option ℕ) → AtMost old.store.incumbent settled → RunsSettled setup old settled moves new later
+      → AtMost new.store.incumbent later
+  settled_falls [] old settled new later most runs = subst (λ (q : Machine). AtMost q.store.incumbent later) (sym runs.0) (subst (λ o. AtMost old.store.incumbent o) (sym runs.1) most)
+  settled_falls (event_move event ∷ moves) old settled new later most runs = settled_falls moves runs.0 runs.0.store.incumbent new later (at_most_self runs.0.store.incumbent) runs.5
+  settled_falls (tell_move worker cost ∷ moves) old settled new later most runs =
+      settled_falls moves runs.0 settled new later
+      (subst (λ (s : Store). AtMost s.incumbent settled) (sym runs.1.store) (at_most_trans (lesser old.store.incumbent (Some cost)) old.store.incumbent settled (lesser_at_most old.store.incumbent (Some cost)) most)) runs.5
 
   pub in_time_is_run : (moves : List Move) (old new : Machine) → RunsInTime setup old moves new → Runs setup old moves new
-  in_time_is_run [] old new runs = runs
-  in_time_is_run (move ∷ moves) old new runs = (runs.0, runs.1, in_time_is_run moves runs.0 new runs.5)
+  in_time_is_run moves old new runs = settled_is_run moves old old.store.incumbent new runs.0 runs.1
 
   pub in_time_on : (moves more : List Move) (old between new : Machine) → RunsInTime setup old moves between → RunsInTime setup between more new → RunsInTime setup old (moves ++ more) new
-  in_time_on [] more old between new first later = subst (λ (q : Machine). RunsInTime setup q more new) first later
-  in_time_on (move ∷ moves) more old between new first later = (first.0, first.1, first.2, first.3, first.4, in_time_on moves more first.0 between new first.5 later)
+  in_time_on moves more old between new first later =
+      let fall = settled_falls moves old old.store.incumbent between first.0 (at_most_self old.store.incumbent) first.1 in
+      let rest = raised more between between.store.incumbent first.0 new later.0 fall later.1 in
+      (rest.0, settled_on moves more old between new old.store.incumbent first.0 rest.0 first.1 rest.1)
 
-  -- one event
-  pub in_time_one : (event : Event) (old new : Machine) → GivesWholeIncumbent (event_move event) new → IsTimely setup old (event_move event) new
-      → RunsInOrder setup old (event_move event ∷ []) new → RunsInTime setup old (event_move event ∷ []) new
-  in_time_one event old new gives timely runs = (
+  -- one event, from any incumbent of the last one
+  pub settled_one : (event : Event) (old : Machine) (settled : Option ℕ) (new : Machine) → GivesWholeIncumbent (event_move event) settled new → IsTimely setup old (event_move event) new
+      → RunsInOrder setup old (event_move event ∷ []) new → RunsSettled setup old settled (event_move event ∷ []) new new.store.incumbent
+  settled_one event old settled new gives timely runs = (
     runs.0,
     runs.1,
     runs.2,
-    subst (λ (m : Machine). GivesWholeIncumbent (event_move event) m) runs.3 gives,
+    subst (λ (m : Machine). GivesWholeIncumbent (event_move event) settled m) runs.3 gives,
     subst (λ (m : Machine). IsTimely setup old (event_move event) m) runs.3 timely,
-    runs.3,
+    (runs.3, ap (λ (m : Machine). m.store.incumbent) runs.3),
   )
 
+  -- a lease that is given, or goes on, is given the incumbent that the whole store has
+  abbrev pub GivesNow : Event → (new : Machine) → Type 0
+  GivesNow (Lease worker block quota) new = new.given worker ≡ new.store.incumbent
+  GivesNow (Renew worker used quota) new = new.given worker ≡ new.store.incumbent
+  GivesNow event new = Unit {0}
+
+  -- so it is given at most the one that the store had before
+  gives_settled : (event : Event) (old new : Machine) → RunsInOrder setup old (event_move event ∷ []) new → GivesNow event new → GivesWholeIncumbent (event_move event) old.store.incumbent new
+  gives_settled (Lease worker block quota) old new runs now =
+      let same : new.store ≡ old.store = ap (λ (m : Machine). m.store) runs.3 ∙ runs.1.rows.1 in
+      subst (λ o. AtMost o old.store.incumbent) (sym (now ∙ ap (λ (s : Store). s.incumbent) same)) (at_most_self old.store.incumbent)
+  gives_settled (Renew worker used quota) old new runs now =
+      let back = runs.1.rows.0 in
+      let same : new.store.incumbent ≡ lesser old.store.incumbent back.worked.incumbent = ap (λ (m : Machine). m.store.incumbent) runs.3 ∙ ap (λ (s : Store). s.incumbent) back.back in
+      subst (λ o. AtMost o old.store.incumbent) (sym (now ∙ same)) (lesser_at_most old.store.incumbent back.worked.incumbent)
+  gives_settled (Hot worker block) old new runs now = tt
+  gives_settled (Cold worker block) old new runs now = tt
+  gives_settled (Release worker used trouble) old new runs now = tt
+  gives_settled (Off worker trouble) old new runs now = tt
+  gives_settled (Ended end) old new runs now = tt
+
+  -- one event
+  pub in_time_one : (event : Event) (old new : Machine) → GivesNow event new → IsTimely setup old (event_move event) new
+      → RunsInOrder setup old (event_move event ∷ []) new → RunsInTime setup old (event_move event ∷ []) new
+  in_time_one event old new gives timely runs = (new.store.incumbent, settled_one event old old.store.incumbent new (gives_settled event old new runs gives) timely runs)
+
 pub runs_in_time_are_in_order : RunsInTimeAreInOrder
-runs_in_time_are_in_order setup moves old new runs = (in_time_is_in_order setup moves old new runs, in_time_is_run setup moves old new runs)
+runs_in_time_are_in_order setup moves old new runs = (settled_is_in_order setup moves old old.store.incumbent new runs.0 runs.1, in_time_is_run setup moves old new runs)
 
 -- among these events no lease is given, none goes on, and none comes back but for want of memory
 abbrev pub GrantsNone : List Event → Type 0
@@ -48,16 +114,20 @@ GrantsNone (Renew worker used quota ∷ events) = ⊥
 GrantsNone (Release worker used false ∷ events) = ⊥
 GrantsNone (event ∷ events) = GrantsNone events
 
+pub settled_events : (setup : Setup) (events : List Event) (old : Machine) (settled : Option ℕ) (new : Machine) → GrantsNone events → RunsInOrder setup old (moves_of events) new
+    → (later : Option ℕ) × RunsSettled setup old settled (moves_of events) new later
+settled_events setup [] old settled new none runs = (settled, (runs, refl))
+settled_events setup (Lease worker block quota ∷ events) old settled new none runs = absurd none
+settled_events setup (Renew worker used quota ∷ events) old settled new none runs = absurd none
+settled_events setup (Hot worker block ∷ events) old settled new none runs = let rest = settled_events setup events runs.0 runs.0.store.incumbent new none runs.3 in (rest.0, (runs.0, runs.1, runs.2, tt, tt, rest.1))
+settled_events setup (Cold worker block ∷ events) old settled new none runs = let rest = settled_events setup events runs.0 runs.0.store.incumbent new none runs.3 in (rest.0, (runs.0, runs.1, runs.2, tt, tt, rest.1))
+settled_events setup (Release worker used false ∷ events) old settled new none runs = absurd none
+settled_events setup (Release worker used true ∷ events) old settled new none runs = let rest = settled_events setup events runs.0 runs.0.store.incumbent new none runs.3 in (rest.0, (runs.0, runs.1, runs.2, tt, tt, rest.1))
+settled_events setup (Off worker trouble ∷ events) old settled new none runs = let rest = settled_events setup events runs.0 runs.0.store.incumbent new none runs.3 in (rest.0, (runs.0, runs.1, runs.2, tt, tt, rest.1))
+settled_events setup (Ended end ∷ events) old settled new none runs = let rest = settled_events setup events runs.0 runs.0.store.incumbent new none runs.3 in (rest.0, (runs.0, runs.1, runs.2, tt, tt, rest.1))
+
 pub in_time_events : (setup : Setup) (events : List Event) (old new : Machine) → GrantsNone events → RunsInOrder setup old (moves_of events) new → RunsInTime setup old (moves_of events) new
-in_time_events setup [] old new none runs = runs
-in_time_events setup (Lease worker block quota ∷ events) old new none runs = absurd none
-in_time_events setup (Renew worker used quota ∷ events) old new none runs = absurd none
-in_time_events setup (Hot worker block ∷ events) old new none runs = (runs.0, runs.1, runs.2, tt, tt, in_time_events setup events runs.0 new none runs.3)
-in_time_events setup (Cold worker block ∷ events) old new none runs = (runs.0, runs.1, runs.2, tt, tt, in_time_events setup events runs.0 new none runs.3)
-in_time_events setup (Release worker used false ∷ events) old new none runs = absurd none
-in_time_events setup (Release worker used true ∷ events) old new none runs = (runs.0, runs.1, runs.2, tt, tt, in_time_events setup events runs.0 new none runs.3)
-in_time_events setup (Off worker trouble ∷ events) old new none runs = (runs.0, runs.1, runs.2, tt, tt, in_time_events setup events runs.0 new none runs.3)
-in_time_events setup (Ended end ∷ events) old new none runs = (runs.0, runs.1, runs.2, tt, tt, in_time_events setup events runs.0 new none runs.3)
+in_time_events setup events old new none runs = settled_events setup events old old.store.incumbent new none runs
 
 pub ending_grants_none : (memory : Bool) (end : Option End) → GrantsNone (ending memory end)
 ending_grants_none memory end = go (memory && is_none end)
@@ -69,3 +139,11 @@ ending_grants_none memory end = go (memory && is_none end)
 pub end_grants_none : (standing : Option End) (end : End) → GrantsNone (end_events standing end)
 end_grants_none None end = tt
 end_grants_none (Some standing) end = tt
+
+-- without an event the incumbent of the last one stays
+pub settled_same : (setup : Setup) (events : List Event) (old : Machine) (settled : Option ℕ) (new : Machine) (later : Option ℕ) → RunsSettled setup old settled (moves_of events) new later → events ≡ [] → later ≡ settled
+settled_same setup [] old settled new later runs none = runs.1
+settled_same setup (event ∷ events) old settled new later runs none = absurd (cons_nil event events none)
+  where
+    cons_nil : (event : Event) (events : List Event) → event ∷ events ≡ [] → ⊥
+    cons_nil event events e = cc

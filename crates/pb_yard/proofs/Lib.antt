@@ -6,6 +6,8 @@ pub mod Meaning
 pub mod Steps
 pub mod Asks
 pub mod Clauses
+pub mod Reading
+pub mod Wording
 pub mod Passing
 pub mod Closing
 pub mod Told

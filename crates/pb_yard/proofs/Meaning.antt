@@ -1,11 +1,16 @@
 -- What the rule of a yard means.
-use Rattle.std.proofs.Common.{◌≡◌, ℕ, List, Option, Some, refl, sym, ap, ◌∙◌, subst, arith}
-use Rattle.pb_task.specs.Parts.{greatest_cost}
+use Rattle.std.proofs.Common.{◌≡◌, ◌≤◌, ℕ, true, IsTrue, List, Option, Some, refl, sym, ap, ◌∙◌, subst, arith}
+use mathlib.Core.Option.{some}
+use lib.ListN.{get_elem?}
+use Rattle.pb_model.specs.Plan.{Plan, IsPlan}
+use Rattle.pb_model.specs.Store.{AtMost}
+use Rattle.pb_task.specs.declared.parts.TaskParts.{TaskParts}
+use Rattle.pb_task.specs.Parts.{greatest_cost, space_of}
 use Rattle.pb_machine.specs.declared.event.Event.{Event}
 use Rattle.pb_machine.specs.Counts.{Counts}
 use Rattle.pb_machine.specs.History.{IsHistory}
 use Rattle.pb_machine.specs.Machine.{opening_machine, Runs, lent_store}
-use Rattle.pb_machine.proofs.MomentLaws.{journals_are_histories, scopes_are_apart}
+use Rattle.pb_machine.proofs.MomentLaws.{incumbents_are_plans, journals_are_histories, scopes_are_apart}
 use Rattle.pb_machine.proofs.WholeStore.{recorded_rows_are_lent}
 use Rattle.pb_bundles.specs.Homes.{home_rows}
 use Rattle.pb_lease.specs.Tables.{blocks}
@@ -14,13 +19,23 @@ use Rattle.pb_lease.specs.Leased.{grant_of}
 use Rattle.pb_lease.specs.GraphValue.{GraphValue, setup_in, counts_in}
 use Rattle.pb_yard.specs.declared.view.View.{View}
 use Rattle.pb_yard.specs.Rule.{rows_of, grant_in, IsYard}
+use Rattle.pb_yard.specs.Calls.{HasPlanWithin}
 use Rattle.pb_yard.specs.Laws.{YardsAreLawful, LentLeasesAreOut, ViewsBeginTheHistory}
 use Rattle.pb_yard.proofs.Parts.{at_journal}
-use Rattle.pb_yard.proofs.InTime.{in_time_is_run}
+use Rattle.pb_yard.proofs.InTime.{settled_is_run}
 
 module _ (g : GraphValue) (shared : Option ℕ) (views : List View) (yard : IsYard g shared views) where
   pub runs : Runs (setup_in g) (opening_machine (setup_in g)) yard.moves yard.machine
-  runs = in_time_is_run (setup_in g) yard.moves (opening_machine (setup_in g)) yard.machine yard.run
+  runs = settled_is_run (setup_in g) yard.moves (opening_machine (setup_in g)) (opening_machine (setup_in g)).store.incumbent yard.machine yard.settled yard.run
+
+  -- what any worker can have read is at least the shared number
+  pub known_above : (worker : ℕ) (incumbent : Option ℕ) → IsTrue (yard.machine.known worker incumbent) → AtMost shared incumbent
+  known_above worker incumbent known = subst (λ o. AtMost o incumbent) yard.shared_is (yard.moment.lawful.least worker incumbent known)
+
+  -- where the shared number is a cost, some plan costs at most that
+  pub shared_is_plan : (seat : ℕ) (view : View) → get_elem? views seat ≡ some view → view.journal.is_live ≡ true → (cost : ℕ) → shared ≡ Some cost → HasPlanWithin view cost
+  shared_is_plan seat view at live cost is = subst (λ (t : TaskParts). (plan : Plan) × IsPlan (space_of t) plan × (plan.cost ≤ cost)) (sym (yard.each seat view at live).search.task)
+      (incumbents_are_plans (setup_in g) greatest_cost yard.machine yard.is_setup yard.moment.lawful cost (yard.shared_is ∙ is))
 
   pub history : IsHistory (blocks g.table) g.table.settings 0 g.table.journal (counts_in g)
   history = subst (λ (c : Counts). IsHistory (blocks g.table) g.table.settings 0 g.table.journal c) yard.moment.counts

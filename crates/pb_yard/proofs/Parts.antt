@@ -1,9 +1,10 @@
 -- The parts of the rule, as the graph goes on.
-use Rattle.std.proofs.Common.{◌≡◌, ◌≢◌, ℕ, ◌==◌, ◌<◌, true, false, List, [], ◌∷◌, map, set, Some, refl, sym, ap, ◌∙◌}
+use Rattle.std.proofs.Common.{◌≡◌, ◌≢◌, ℕ, suc, ◌+◌, ◌==◌, ◌<◌, ◌≤◌, true, false, List, [], ◌∷◌, ◌++◌, length, map, set, Option, Some, None, refl, sym, ap, ◌∙◌, subst, arith}
+use Rattle.std.proofs.lemmas.List.{append-nil, length-append}
 use mathlib.Core.Option.{some, some-injective}
 use lib.ListN.{get_elem?}
 use Rattle.atomic_table.proofs.Lists.{set_else, at_map}
-use Rattle.pb_model.specs.Store.{Rows}
+use Rattle.pb_model.specs.Store.{Rows, AtMost}
 use Rattle.pb_model.proofs.Tests.{by_cases, equal, equal_self, not_both}
 use Rattle.pb_machine.specs.declared.event.Event.{Event}
 use Rattle.pb_machine.specs.declared.event.Grant.{Grant}
@@ -18,7 +19,7 @@ use Rattle.pb_lease.specs.Leased.{setup_of}
 use Rattle.pb_lease.specs.GraphValue.{GraphValue, setup_in, counts_in, IsOfGraph}
 use Rattle.pb_lease.specs.Moments.{IsMomentAt, moves_of}
 use Rattle.pb_yard.specs.declared.view.View.{View}
-use Rattle.pb_yard.specs.Rule.{journal_view, IsSearchOf, HasNoPass}
+use Rattle.pb_yard.specs.Rule.{journal_view, IsSearchOf, IsRecent, HasNoPass}
 
 -- the events of moves that are events
 pub events_of_moves : (events : List Event) → journal_of (moves_of events) ≡ events
@@ -56,6 +57,33 @@ moment_where_leased g recorded other machine same m = record {
   keys = m.keys;
   incumbent = m.incumbent;
 }
+
+-- ---- what was read while the graph was held
+
+none_some : (n : ℕ) → None ≡ Some n → ⊥
+none_some n e = cc
+
+pub unread_recent : (g : GraphValue) (settled : Option ℕ) (view : View) → view.read_at ≡ None → IsRecent g settled view
+unread_recent g settled view none = record {
+  read_by = λ events is. absurd (none_some events (sym none ∙ is));
+  fresh = λ is. absurd (none_some (length g.table.journal) (sym none ∙ is));
+}
+
+-- it is as recent where no event came, and else nothing is said of it
+pub recent_stays : (x y : GraphValue) (events : List Event) (settled later : Option ℕ) (view : View) → y.table.journal ≡ x.table.journal ++ events → (events ≡ [] → later ≡ settled)
+    → IsRecent x settled view → IsRecent y later view
+recent_stays x y [] settled later view added same is =
+    let j : y.table.journal ≡ x.table.journal = added ∙ append-nil x.table.journal in
+    record {
+      read_by = λ n at. subst (λ (l : List Event). n ≤ length l) (sym j) (is.read_by n at);
+      fresh = λ at. subst (λ o. AtMost view.last o) (sym (same refl)) (is.fresh (at ∙ ap (λ (l : List Event). Some (length l)) j));
+    }
+recent_stays x y (event ∷ events) settled later view added same is =
+    let long : length y.table.journal ≡ length x.table.journal + suc (length events) = ap length added ∙ length-append x.table.journal (event ∷ events) in
+    record {
+      read_by = λ n at. let k = is.read_by n at in omega (arith, long, k);
+      fresh = λ at. let k = is.read_by (length y.table.journal) at in absurd (omega (arith, long, k));
+    }
 
 -- ---- the views of live passes are of workers that differ
 

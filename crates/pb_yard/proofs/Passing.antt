@@ -19,29 +19,31 @@ use Rattle.pb_lease.specs.LeaseValue.{LeaseValue}
 use Rattle.pb_lease.specs.GraphValue.{GraphValue, setup_in, IsLeaseGraph}
 use Rattle.pb_lease.proofs.GraphBasics.{setup_is}
 use Rattle.pb_yard.specs.declared.view.View.{View}
-use Rattle.pb_yard.specs.Views.{opening_view, split_view, next_pass_view, met_pass_view, spent_pass_view}
-use Rattle.pb_yard.specs.Rule.{rows_of, grant_in, journal_view, was_read, IsViewOf, HasNoPass, IsYard}
+use Rattle.pb_yard.specs.Views.{cost_of, opening_view, split_view, next_pass_view, met_pass_view, spent_pass_view}
+use Rattle.pb_yard.specs.Rule.{rows_of, grant_in, journal_view, was_read, IsViewOf, IsRecent, HasNoPass, IsYard}
 use Rattle.pb_yard.specs.Calls.{IsOpening}
-use Rattle.pb_yard.proofs.Parts.{at_journal, below_made, no_pass_before}
+use Rattle.pb_yard.proofs.Parts.{at_journal, below_made, no_pass_before, unread_recent}
 use Rattle.pb_yard.proofs.Meaning.{runs}
 
 -- ---- the first pass
 
-pub opens : (g : GraphValue) → IsLeaseGraph g → IsOpening g → IsYard g g.incumbent (opening_view g ∷ [])
+pub opens : (g : GraphValue) → IsLeaseGraph g → IsOpening g → IsYard g None (opening_view g ∷ [])
 opens g k o = record {
   is_setup = setup_is g k;
   in_range = k.legal.range;
   moves = [];
   machine = opening_machine (setup_in g);
   lent = λ worker. None;
-  run = refl;
+  settled = (opening_machine (setup_in g)).store.incumbent;
+  run = (refl, refl);
   journal = sym o.empty;
   moment = (o.moment (λ worker. rows_of None)).at;
-  shared_is = (o.moment (λ worker. rows_of None)).incumbent;
+  shared_is = refl;
   leases = λ worker. refl;
   lent_is = λ worker lease is. none_lease lease is;
   journals = subst (λ (j : List Event). AreTrueOf g.table.settings.workers j (first_view ∷ [])) (sym o.empty) (first_views_are_true g.table.settings.workers k.legal.range.workers.0);
   each = one;
+  recent = recent;
   others = λ worker none. refl;
 }
   where
@@ -54,12 +56,17 @@ opens g k o = record {
       told = refl;
       search = record { task = refl; graph = refl; settings = refl };
       known = record { read = λ incumbent has. unread incumbent has; last = refl };
+      copy = λ lease is. none_lease lease is;
     }
       where
         unread : (incumbent : Option ℕ) → was_read (opening_view g) incumbent ≡ true → (worker : ℕ) → (opening_machine (setup_in g)).known worker incumbent ≡ true
         unread None has worker = refl
         unread (Some cost) has worker = absurd (true≢false (sym has))
     one (suc seat) view e up = absurd (some-ne-none view (sym e))
+
+    recent : (seat : ℕ) (view : View) → get_elem? (opening_view g ∷ []) seat ≡ some view → view.journal.is_live ≡ true → IsRecent g (opening_machine (setup_in g)).store.incumbent view
+    recent zero view e up = subst (IsRecent g (opening_machine (setup_in g)).store.incumbent) (some-injective (opening_view g) view e) (unread_recent g (opening_machine (setup_in g)).store.incumbent (opening_view g) refl)
+    recent (suc seat) view e up = absurd (some-ne-none view (sym e))
 
 -- ---- a pass that is split
 
@@ -113,7 +120,11 @@ module _ (x : GraphValue) (shared : Option ℕ) (views : List View) (seat : ℕ)
     told = m.told;
     search = record { task = m.search.task; graph = m.search.graph; settings = m.search.settings };
     known = record { read = m.known.read; last = m.known.last };
+    copy = m.copy;
   }
+
+  kept_recent : IsRecent x h.settled Kept
+  kept_recent = let r = h.recent seat v at live in record { read_by = r.read_by; fresh = r.fresh }
 
   given : IsViewOf x h.machine h.lent New
   given = let m = h.each seat v at live in record {
@@ -121,8 +132,12 @@ module _ (x : GraphValue) (shared : Option ℕ) (views : List View) (seat : ℕ)
     told = untold;
     search = record { task = m.search.task; graph = m.search.graph; settings = m.search.settings };
     known = record { read = λ incumbent has. unread incumbent has; last = known_none v.journal.made };
+    copy = λ lease is. none_lease lease is;
   }
     where
+      none_lease : {A : Type 0} (a : LeaseValue) → None ≡ Some a → A
+      none_lease a e = absurd cc
+
       unread : (incumbent : Option ℕ) → was_read New incumbent ≡ true → (worker : ℕ) → h.machine.known worker incumbent ≡ true
       unread None has worker = known_none worker
       unread (Some cost) has worker = absurd (true≢false (sym has))
@@ -134,6 +149,7 @@ module _ (x : GraphValue) (shared : Option ℕ) (views : List View) (seat : ℕ)
     moves = h.moves;
     machine = h.machine;
     lent = h.lent;
+    settled = h.settled;
     run = h.run;
     journal = h.journal;
     moment = h.moment;
@@ -143,13 +159,15 @@ module _ (x : GraphValue) (shared : Option ℕ) (views : List View) (seat : ℕ)
     journals = journals;
     each = each_snoc (λ j u. u.journal.is_live ≡ true → IsViewOf x h.machine h.lent u) (set views seat Kept) New (λ _ _. given)
         (each_set (λ j u. u.journal.is_live ≡ true → IsViewOf x h.machine h.lent u) views seat Kept (λ _. kept) (λ j u apart e up. h.each j u e up));
+    recent = each_snoc (λ j u. u.journal.is_live ≡ true → IsRecent x h.settled u) (set views seat Kept) New (λ _ _. unread_recent x h.settled New refl)
+        (each_set (λ j u. u.journal.is_live ≡ true → IsRecent x h.settled u) views seat Kept (λ _. kept_recent) (λ j u apart e up. h.recent j u e up));
     others = λ worker none. h.others worker (no_pass_before worker views seat v Kept at live live refl here
         (λ j u e up. none j u (at_longer (set views seat Kept) (New ∷ []) j u e) up));
   }
 
 pub split_keeps : (seat : ℕ) (v : View) → v.journal.is_live ≡ true → v.journal.own.worker ≡ 0 → v.journal.made < v.settings.workers
-    → SplitKeeps (λ (g : GraphValue) (number : ℕ) (views : List View). IsYard g g.incumbent views) seat v (split_view v) (next_pass_view v)
-split_keeps seat v live first more x number views h at = split_yard x x.incumbent views seat v h at live first
+    → SplitKeeps (λ (g : GraphValue) (number : ℕ) (views : List View). IsYard g (cost_of number) views) seat v (split_view v) (next_pass_view v)
+split_keeps seat v live first more x number views h at = split_yard x (cost_of number) views seat v h at live first
     (subst (λ (t : Settings). v.journal.made < t.workers) (h.each seat v at live).search.settings more)
 
 -- ---- passes that meet
@@ -184,7 +202,11 @@ module _ (x : GraphValue) (shared : Option ℕ) (views : List View) (seat : ℕ)
     told = m.told;
     search = record { task = m.search.task; graph = m.search.graph; settings = m.search.settings };
     known = record { read = m.known.read; last = m.known.last };
+    copy = m.copy;
   }
+
+  met_recent : IsRecent x h.settled Met
+  met_recent = let r = h.recent seat v at live in record { read_by = r.read_by; fresh = r.fresh }
 
   differ : (i j : ℕ) → (i == j) ≡ false → i ≢ j
   differ i j e p = not_both (i == j) (ap (λ k. k == j) p ∙ equal_self j) e
@@ -205,6 +227,7 @@ module _ (x : GraphValue) (shared : Option ℕ) (views : List View) (seat : ℕ)
     moves = h.moves;
     machine = h.machine;
     lent = h.lent;
+    settled = h.settled;
     run = h.run;
     journal = h.journal;
     moment = h.moment;
@@ -214,10 +237,12 @@ module _ (x : GraphValue) (shared : Option ℕ) (views : List View) (seat : ℕ)
     journals = met_journals;
     each = each_set (λ j u. u.journal.is_live ≡ true → IsViewOf x h.machine h.lent u) Taken other spent_pass_view (λ on. absurd (true≢false (sym on)))
         (λ j u far e on. each_set (λ k z. z.journal.is_live ≡ true → IsViewOf x h.machine h.lent z) views seat Met (λ _. met) (λ k z off q. h.each k z q) j u e on);
+    recent = each_set (λ j u. u.journal.is_live ≡ true → IsRecent x h.settled u) Taken other spent_pass_view (λ on. absurd (true≢false (sym on)))
+        (λ j u far e on. each_set (λ k z. z.journal.is_live ≡ true → IsRecent x h.settled z) views seat Met (λ _. met_recent) (λ k z off q. h.recent k z q) j u e on);
     others = none_left;
   }
 
 pub meet_keeps : (seat : ℕ) (v : View) (other : ℕ) (w : View) → v.journal.is_live ≡ true → w.journal.is_live ≡ true → w.lent ≡ None
-    → MeetKeeps (λ (g : GraphValue) (number : ℕ) (views : List View). IsYard g g.incumbent views) seat v other w (met_pass_view v w) spent_pass_view
+    → MeetKeeps (λ (g : GraphValue) (number : ℕ) (views : List View). IsYard g (cost_of number) views) seat v other w (met_pass_view v w) spent_pass_view
 meet_keeps seat v other w live up free x number views h at apart there =
-    met_yard x x.incumbent views seat v other w h at live apart (sym (set_else views seat other (met_pass_view v w) apart) ∙ there) up free
+    met_yard x (cost_of number) views seat v other w h at live apart (sym (set_else views seat other (met_pass_view v w) apart) ∙ there) up free

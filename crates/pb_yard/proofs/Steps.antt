@@ -2,7 +2,8 @@
 use Rattle.std.proofs.Common.{◌≡◌, ℕ, ◌==◌, inl, inr, length, Bool, true, false, cond, nat_eq, is_some, List, [], ◌∷◌, ◌++◌, Option, Some, None, refl, sym, ap, ◌∙◌, subst}
 use mathlib.Core.Option.{some}
 use lib.ListN.{get_elem?}
-use Rattle.pb_model.specs.Store.{Rows, Store, HasGoalWithin, lesser}
+use Rattle.pb_model.specs.Store.{Rows, Store, HasGoalWithin, lesser, AtMost}
+use Rattle.pb_model.proofs.Incumbents.{at_most_self, at_most_trans, lesser_same}
 use Rattle.pb_model.proofs.Tests.{by_cases, equal, equal_self, equal_swap}
 use Rattle.pb_task.specs.declared.parts.TaskParts.{TaskParts}
 use Rattle.pb_task.specs.Parts.{space_of}
@@ -14,9 +15,9 @@ use Rattle.pb_machine.specs.Tables.{with_entry, one_if}
 use Rattle.pb_machine.specs.Counts.{Counts, counts_after}
 use Rattle.pb_machine.specs.History.{is_event_of, events_of}
 use Rattle.pb_machine.specs.Views.{AreBy}
-use Rattle.pb_machine.specs.Machine.{Machine, IsWorked, with_incumbent, KeepsRows}
+use Rattle.pb_machine.specs.Machine.{Machine, IsWorked, KeepsRows}
 use Rattle.pb_machine.specs.Turns.{AreLeaseTurns, RunsInOrder}
-use Rattle.pb_machine.proofs.Known.{known_new}
+use Rattle.pb_machine.proofs.Known.{known_more}
 use Rattle.pb_machine.proofs.TableLaws.{entry_here, entry_else}
 use Rattle.pb_bundles.specs.Parts.{content_in}
 use Rattle.pb_lists.specs.Bundle.{Content}
@@ -34,12 +35,13 @@ use Rattle.pb_lease.specs.Steps.{IsLeased, LeasesNext, end_events, KeepsLeases, 
 use Rattle.pb_lease.proofs.MomentReturns.{ending_leases}
 use Rattle.pb_lease.proofs.WorkedOut.{worked_leases_are_out}
 use Rattle.pb_yard.specs.declared.view.View.{View}
-use Rattle.pb_yard.specs.Order.{HasCause, RunsInTime}
+use Rattle.pb_yard.specs.Order.{HasCause, RunsSettled}
 use Rattle.pb_yard.specs.Rule.{rows_of, grant_in, was_read, IsLent, IsViewOf, IsYard}
 use Rattle.pb_yard.specs.Returning.{IsBrought}
-use Rattle.pb_yard.proofs.InTime.{GrantsNone, ending_grants_none, in_time_one, in_time_events}
+use Rattle.pb_yard.proofs.InTime.{GrantsNone, ending_grants_none, settled_one, settled_events}
 use Rattle.pb_yard.proofs.Causes.{none_left, still_first}
 use Rattle.pb_yard.proofs.Parts.{GoesOnAs, still_of_graph}
+use Rattle.pb_yard.proofs.Meaning.{known_above}
 use Rattle.pb_yard.proofs.Holding.{IsStep}
 
 -- ---- small facts
@@ -115,7 +117,7 @@ module _ (x y : GraphValue) (shared : Option ℕ) (views : List View) (seat : �
 
   -- a step, and the incumbent that the machine has then
   abbrev pub Steps : List Event → Option LeaseValue → Option ℕ → Option ℕ → Type 0
-  Steps events lent told incumbent = (next : Machine) × IsStep x y h.machine next Own events h.lent lent told × (next.store.incumbent ≡ incumbent)
+  Steps events lent told incumbent = (next : Machine) × IsStep x y h.machine next h.settled v.last Own events h.lent lent told × (next.store.incumbent ≡ incumbent)
 
   -- what leaves all leases as they are
   pub keeps_step : (events : List Event) → GrantsNone events → KeepsLeases x events y → GoesOnAs x y → y.table.journal ≡ x.table.journal ++ events → AreBy Own events → Steps events v.lent v.told shared
@@ -124,13 +126,15 @@ module _ (x y : GraphValue) (shared : Option ℕ) (views : List View) (seat : �
     record {
       recorded = Recorded;
       follows = k.1;
-      in_time = in_time_events (setup_in x) events h.machine next none k.4;
+      later = (settled_events (setup_in x) events h.machine h.settled next none k.4).0;
+      in_time = (settled_events (setup_in x) events h.machine h.settled next none k.4).1;
       same = same;
       added = added;
       by = by;
       records = λ other grant leased. ap rows_of (entry_same h.lent Own v.lent other mine.lent);
       leases = leases Own ∙ h.leases Own ∙ ap grant_in mine.lent;
       lent_is = λ lease is. lent_is lease (h.lent_is Own lease (mine.lent ∙ is));
+      copy = mine.copy;
       told_is = (λ i. k.2.2 i Own) ∙ mine.told;
     },
     ap (λ (s : Store). s.incumbent) k.2.0 ∙ h.shared_is,
@@ -155,9 +159,18 @@ module _ (x y : GraphValue) (shared : Option ℕ) (views : List View) (seat : �
         given = (λ i. k.2.1 i Own) ∙ is.given;
       }
 
+  -- ---- what the pass has read, while it holds the graph: the graph's incumbent
+
+  module _ (is_last : x.incumbent ≡ v.last) (read_at : v.read_at ≡ Some (length x.table.journal)) where
+    last_settled : AtMost x.incumbent h.settled
+    last_settled = subst (λ o. AtMost o h.settled) (sym is_last) ((h.recent seat v at live).fresh read_at)
+
+  shared_last : AtMost shared v.last
+  shared_last = known_above x shared views h Own v.last mine.known.last
+
   -- ---- a lease
 
-  module _ (lease : LeaseValue) (is_shared : shared ≡ x.incumbent) (l : IsLeased x Own lease y) (n : LeasesNext x lease y) where
+  module _ (lease : LeaseValue) (is_last : x.incumbent ≡ v.last) (read_at : v.read_at ≡ Some (length x.table.journal)) (l : IsLeased x Own lease y) (n : LeasesNext x lease y) where
     leased_next : (next : Machine) × Follows x h.machine (Lease Own lease.block lease.quota ∷ []) y (with_entry Recorded Own (away_rows lease.parts)) next
         × (next.given Own ≡ lease.incumbent) × (next.counts.leases Own ≡ Some (grant_of lease)) × (next.store ≡ h.machine.store) × (next.told ≡ with_entry h.machine.told Own None)
         × RunsInOrder (setup_in x) h.machine (moves_of (Lease Own lease.block lease.quota ∷ [])) next
@@ -171,9 +184,9 @@ module _ (x y : GraphValue) (shared : Option ℕ) (views : List View) (seat : �
       subst (λ w. RunsInOrder (setup_in x) h.machine (moves_of (Lease w lease.block lease.quota ∷ [])) t.0) l.worker_is t.6,
     )
 
-    -- the lease has the incumbent of the whole store
-    gives_whole : leased_next.0.given Own ≡ leased_next.0.store.incumbent
-    gives_whole = let t = leased_next in t.2 ∙ l.lent_incumbent ∙ sym is_shared ∙ sym h.shared_is ∙ sym (ap (λ (s : Store). s.incumbent) t.4)
+    -- the lease has at most the incumbent of the last event
+    gives_whole : AtMost (leased_next.0.given Own) h.settled
+    gives_whole = subst (λ o. AtMost o h.settled) (sym (leased_next.2 ∙ l.lent_incumbent)) (last_settled is_last read_at)
 
     pub lease_step : Steps (Lease Own lease.block lease.quota ∷ []) (Some lease) None shared
     lease_step = let t = leased_next in (
@@ -181,7 +194,8 @@ module _ (x y : GraphValue) (shared : Option ℕ) (views : List View) (seat : �
       record {
         recorded = with_entry Recorded Own (away_rows lease.parts);
         follows = t.1;
-        in_time = in_time_one (setup_in x) (Lease Own lease.block lease.quota) h.machine t.0 gives_whole tt t.6;
+        later = t.0.store.incumbent;
+        in_time = settled_one (setup_in x) (Lease Own lease.block lease.quota) h.machine h.settled t.0 gives_whole tt t.6;
         same = same_adds x y (Lease Own lease.block lease.quota ∷ []) l.events l.task;
         added = l.events.journal;
         by = first_by Own (Lease Own lease.block lease.quota) [] (λ other. refl) (λ other else. refl);
@@ -189,6 +203,7 @@ module _ (x y : GraphValue) (shared : Option ℕ) (views : List View) (seat : �
         leases = t.3;
         lent_is = λ other is. subst (λ (k : LeaseValue). IsLent y t.0 Own k) (some_lease lease other is)
             record { worker_is = l.worker_is; of_graph = l.of_graph; unused = l.used; given = t.2 };
+        copy = λ other is. subst (λ (k : LeaseValue). AtMost v.last k.incumbent) (some_lease lease other is) (subst (λ o. AtMost v.last o) (sym (l.lent_incumbent ∙ is_last)) (at_most_self v.last));
         told_is = (λ i. t.5 i Own) ∙ entry_here h.machine.told Own Own None (equal_self Own);
       },
       ap (λ (s : Store). s.incumbent) t.4 ∙ h.shared_is,
@@ -226,11 +241,18 @@ module _ (x y : GraphValue) (shared : Option ℕ) (views : List View) (seat : �
         subst (λ (p : TaskParts). HasGoalWithin (space_of p) (guide_of p x.table.graph) (leased_store lease) cost) mine.search.task
         (subst (λ (a : AbstractGraph). HasGoalWithin (space_of v.task) (guide_of v.task a) (leased_store lease) cost) mine.search.graph t)
 
-    brought : shared ≡ x.incumbent → y.incumbent ≡ lesser x.incumbent lease.incumbent → lesser h.machine.store.incumbent lease.incumbent ≡ y.incumbent
-    brought is incumbent = ap (λ o. lesser o lease.incumbent) (h.shared_is ∙ is) ∙ sym incumbent
+    -- the lease brings no lesser incumbent than the shared one
+    brought : lesser h.machine.store.incumbent lease.incumbent ≡ shared
+    brought = ap (λ o. lesser o lease.incumbent) h.shared_is ∙ lesser_same shared lease.incumbent (at_most_trans shared v.last lease.incumbent shared_last b.copy)
 
-    known_then : shared ≡ x.incumbent → y.incumbent ≡ lesser x.incumbent lease.incumbent → IsKnownThen h.machine lease y.incumbent
-    known_then is incumbent worker = subst (λ o. with_incumbent h.machine.known o worker y.incumbent ≡ true) (sym (brought is incumbent)) (known_new (h.machine.known worker) y.incumbent)
+    -- nor than the graph's
+    pub stays_bound : x.incumbent ≡ v.last → lesser x.incumbent lease.incumbent ≡ x.incumbent
+    stays_bound is_last = lesser_same x.incumbent lease.incumbent (subst (λ o. AtMost o lease.incumbent) (sym is_last) b.copy)
+
+    known_then : x.incumbent ≡ v.last → y.incumbent ≡ lesser x.incumbent lease.incumbent → IsKnownThen h.machine lease y.incumbent
+    known_then is_last incumbent worker =
+        known_more (h.machine.known worker) (lesser h.machine.store.incumbent lease.incumbent) y.incumbent
+        (subst (λ o. h.machine.known worker o ≡ true) (sym (incumbent ∙ stays_bound is_last)) (h.moment.incumbent worker))
 
     pub brought_of_graph : IsOfGraph x lease
     brought_of_graph = record {
@@ -242,23 +264,26 @@ module _ (x y : GraphValue) (shared : Option ℕ) (views : List View) (seat : �
       };
     }
 
-  module _ (lease : LeaseValue) (trouble : Bool) (cause : HasCause lease trouble) (b : IsBrought v (one_if trouble) lease) (is_shared : shared ≡ x.incumbent) (r : IsReleased x lease trouble y) (n : ReleasesNext x lease trouble y) where
+  module _ (lease : LeaseValue) (trouble : Bool) (cause : HasCause lease trouble) (b : IsBrought v (one_if trouble) lease) (is_last : x.incumbent ≡ v.last) (r : IsReleased x lease trouble y) (n : ReleasesNext x lease trouble y) where
     abbrev Returns : Bool → Machine → Type 0
     Returns trouble next = RunsInOrder (setup_in x) h.machine (moves_of (Release lease.worker lease.used trouble ∷ ending trouble x.table.end)) next
-        → RunsInTime (setup_in x) h.machine (moves_of (Release lease.worker lease.used trouble ∷ ending trouble x.table.end)) next
+        → (later : Option ℕ) × RunsSettled (setup_in x) h.machine h.settled (moves_of (Release lease.worker lease.used trouble ∷ ending trouble x.table.end)) next later
 
     returns_in_time : (next : Machine) → IsMomentAt y Recorded next → Returns trouble next
     returns_in_time next m = go trouble cause (r.noted) (out (one_if trouble) lease b).0.leased
       where
         go : (trouble : Bool) → HasCause lease trouble → NotesKeys lease.parts x.homes.keys y.homes.keys → h.machine.counts.leases lease.worker ≡ Some (grant_of lease) → Returns trouble next
-        go true why noted leased = in_time_events (setup_in x) (Release lease.worker lease.used true ∷ ending true x.table.end) h.machine next (ending_grants_none true x.table.end)
-        go false (inl spent) noted leased = in_time_one (setup_in x) (Release lease.worker lease.used false) h.machine next tt (grant_of lease, leased, inl spent)
-        go false (inr none) noted leased = in_time_one (setup_in x) (Release lease.worker lease.used false) h.machine next tt
-            (grant_of lease, leased, inr (none_left x lease y noted h.is_setup (brought_of_graph (one_if trouble) lease b) Recorded h.machine h.moment none Recorded next m))
+        go true why noted leased runs = settled_events (setup_in x) (Release lease.worker lease.used true ∷ ending true x.table.end) h.machine h.settled next (ending_grants_none true x.table.end) runs
+        go false (inl spent) noted leased runs = (next.store.incumbent, settled_one (setup_in x) (Release lease.worker lease.used false) h.machine h.settled next tt (grant_of lease, leased, inl spent) runs)
+        go false (inr none) noted leased runs = (
+          next.store.incumbent,
+          settled_one (setup_in x) (Release lease.worker lease.used false) h.machine h.settled next tt
+              (grant_of lease, leased, inr (none_left x lease y noted h.is_setup (brought_of_graph (one_if trouble) lease b) Recorded h.machine h.moment none Recorded next m)) runs,
+        )
 
-    pub release_step : Steps (Release lease.worker lease.used trouble ∷ ending trouble x.table.end) None None y.incumbent
+    pub release_step : Steps (Release lease.worker lease.used trouble ∷ ending trouble x.table.end) None None shared
     release_step =
-        let t = n Recorded h.machine h.moment (out (one_if trouble) lease b).0 (shows (one_if trouble) lease b) (known_then (one_if trouble) lease b is_shared r.incumbent) in
+        let t = n Recorded h.machine h.moment (out (one_if trouble) lease b).0 (shows (one_if trouble) lease b) (known_then (one_if trouble) lease b is_last r.incumbent) in
         let own : lease.worker ≡ Own = is_own (one_if trouble) lease b in
         let gone : t.0.counts.leases Own ≡ None =
         ap t.0.counts.leases (sym own) ∙ ap (λ (c : Counts). c.leases lease.worker) t.1.moment.counts ∙ ap (λ (c : Counts). c.leases lease.worker) r.events.counts
@@ -268,7 +293,8 @@ module _ (x y : GraphValue) (shared : Option ℕ) (views : List View) (seat : �
           record {
             recorded = Recorded;
             follows = t.1;
-            in_time = returns_in_time t.0 t.1.moment (t.4 (out (one_if trouble) lease b).1);
+            later = (returns_in_time t.0 t.1.moment (t.4 (out (one_if trouble) lease b).1)).0;
+            in_time = (returns_in_time t.0 t.1.moment (t.4 (out (one_if trouble) lease b).1)).1;
             same = same_adds x y (Release lease.worker lease.used trouble ∷ ending trouble x.table.end) r.events r.task;
             added = r.events.journal;
             by = first_by Own (Release lease.worker lease.used trouble) (ending trouble x.table.end) (λ other. ap (λ w. w == other) own) (ending_by Own trouble x.table.end);
@@ -277,20 +303,23 @@ module _ (x y : GraphValue) (shared : Option ℕ) (views : List View) (seat : �
                 (λ e. ap rows_of (entry_else h.lent Own other None e));
             leases = gone;
             lent_is = λ other is. none_lease other is;
+            copy = λ other is. none_lease other is;
             told_is = (λ i. t.3 i Own) ∙ ap (λ w. with_entry h.machine.told w None Own) own ∙ entry_here h.machine.told Own Own None (equal_self Own);
           },
-          t.2 ∙ brought (one_if trouble) lease b is_shared r.incumbent,
+          t.2 ∙ brought (one_if trouble) lease b,
         )
 
-  module _ (lease kept : LeaseValue) (spent : lease.used ≡ lease.quota) (places : length x.homes.keys ≡ (blocks x.table).count) (b : IsBrought v 0 lease) (is_shared : shared ≡ x.incumbent)
+  module _ (lease kept : LeaseValue) (spent : lease.used ≡ lease.quota) (places : length x.homes.keys ≡ (blocks x.table).count) (b : IsBrought v 0 lease) (is_last : x.incumbent ≡ v.last)
+      (read_at : v.read_at ≡ Some (length x.table.journal))
       (r : IsRenewed x lease kept y) (goes : GoesOn x lease y) (n : RenewsNext x lease kept y) where
-    pub renew_step : Steps (Renew lease.worker lease.used kept.quota ∷ []) (Some kept) None y.incumbent
+    pub renew_step : Steps (Renew lease.worker lease.used kept.quota ∷ []) (Some kept) None shared
     renew_step =
-        let t = n Recorded h.machine h.moment (out 0 lease b).0 (shows 0 lease b) (known_then 0 lease b is_shared r.incumbent) in
+        let t = n Recorded h.machine h.moment (out 0 lease b).0 (shows 0 lease b) (known_then 0 lease b is_last r.incumbent) in
         let own : lease.worker ≡ Own = is_own 0 lease b in
         let after = with_entry Recorded lease.worker (away_rows kept.parts) in
-        let whole : t.0.given lease.worker ≡ t.0.store.incumbent =
-        ap t.0.given (ap (λ (k : LeaseValue). k.worker) (sym r.kept_is)) ∙ t.2 ∙ ap (λ (k : LeaseValue). k.incumbent) r.kept_is ∙ ap (λ o. lesser o lease.incumbent) (sym is_shared ∙ sym h.shared_is) ∙ sym t.4 in
+        let kept_incumbent : kept.incumbent ≡ x.incumbent = ap (λ (k : LeaseValue). k.incumbent) r.kept_is ∙ stays_bound 0 lease b is_last in
+        let whole : AtMost (t.0.given lease.worker) h.settled =
+        subst (λ o. AtMost o h.settled) (sym (ap t.0.given (ap (λ (k : LeaseValue). k.worker) (sym r.kept_is)) ∙ t.2 ∙ kept_incumbent)) (last_settled is_last read_at) in
         let kept_own : kept.worker ≡ Own = ap (λ (k : LeaseValue). k.worker) r.kept_is ∙ own in
         let same : y.table.journal ≡ x.table.journal ++ Renew lease.worker lease.used kept.quota ∷ [] =
         r.events.journal ∙ ap (λ (k : LeaseValue). x.table.journal ++ Renew lease.worker lease.used k.quota ∷ []) (sym r.kept_is) in (
@@ -298,7 +327,8 @@ module _ (x y : GraphValue) (shared : Option ℕ) (views : List View) (seat : �
           record {
             recorded = with_entry Recorded lease.worker (away_rows kept.parts);
             follows = t.1;
-            in_time = in_time_one (setup_in x) (Renew lease.worker lease.used kept.quota) h.machine t.0 whole
+            later = t.0.store.incumbent;
+            in_time = settled_one (setup_in x) (Renew lease.worker lease.used kept.quota) h.machine h.settled t.0 whole
                 (grant_of lease, (out 0 lease b).0.leased, spent, still_first x lease y r.noted places Recorded after h.machine t.0 h.moment t.1.moment goes.0) (t.6 (out 0 lease b).1);
             same = record { task = r.task; graph = r.events.graph; settings = r.events.settings };
             added = same;
@@ -307,7 +337,8 @@ module _ (x y : GraphValue) (shared : Option ℕ) (views : List View) (seat : �
             leases = ap t.0.counts.leases (sym kept_own) ∙ t.3.0.leased;
             lent_is = λ other is. subst (λ (k : LeaseValue). IsLent y t.0 Own k) (some_lease kept other is)
                 record { worker_is = kept_own; of_graph = r.of_graph; unused = ap (λ (k : LeaseValue). k.used) r.kept_is; given = ap t.0.given (sym kept_own) ∙ t.2 };
+            copy = λ other is. subst (λ (k : LeaseValue). AtMost v.last k.incumbent) (some_lease kept other is) (subst (λ o. AtMost v.last o) (sym (kept_incumbent ∙ is_last)) (at_most_self v.last));
             told_is = (λ i. t.5 i Own) ∙ ap (λ w. with_entry h.machine.told w None Own) own ∙ entry_here h.machine.told Own Own None (equal_self Own);
           },
-          t.4 ∙ brought 0 lease b is_shared r.incumbent,
+          t.4 ∙ brought 0 lease b,
         )

@@ -1,5 +1,5 @@
 -- What a worker knows after a call.
-use Rattle.std.proofs.Common.{◌≡◌, ℕ, ◌==◌, ◌||◌, Bool, true, false, cond, List, [], ◌∷◌, ◌++◌, Option, Some, None, ⊎_elim, refl, sym, ap, ◌∙◌, arith}
+use Rattle.std.proofs.Common.{◌≡◌, ℕ, ◌==◌, ◌||◌, Bool, true, false, cond, List, [], ◌∷◌, ◌++◌, Option, Some, None, ⊎_elim, refl, sym, ap, ◌∙◌, subst, arith}
 use Rattle.std.specs.List.{list_any}
 use Rattle.pb_model.proofs.Incumbents.{at_most_self}
 use Rattle.pb_model.proofs.Tests.{by_cases, equal_self, or_false}
@@ -20,7 +20,7 @@ use Rattle.pb_lease.specs.Steps.{IsEnded, end_events}
 use Rattle.pb_yard.specs.declared.view.View.{View}
 use Rattle.pb_yard.specs.Replies.{lease_events, lent_by, told_by}
 use Rattle.pb_yard.specs.Returning.{IsBrought}
-use Rattle.pb_yard.specs.Calls.{Holds, Leases, Releases, SignsOff, IsActive, IsReady, KeepsWorkers}
+use Rattle.pb_yard.specs.Calls.{Holds, Leases, Releases, SignsOff, HasRead, IsActive, IsReady, KeepsWorkers}
 use Rattle.pb_yard.specs.Laws.{LentLeasesMayComeBack, EndsAreSeen, ActiveStay, SigningOffIsSeen}
 use Rattle.pb_yard.proofs.Meaning.{history}
 
@@ -36,6 +36,7 @@ lent_leases_may_come_back g view at live lease is untold most_broken =
       weights = it.of_graph.scope.weights;
       work = record { works = []; on = tt; comes = refl; used_is = sym it.unused; few_broken = omega arith; stops = tt };
       turns = tt;
+      copy = (at.yard.each at.seat view at.mine live).copy lease is;
       told = λ cost told. let bad : None ≡ Some cost = sym untold ∙ told in absurd cc;
     }
 
@@ -130,38 +131,12 @@ ended_end x y end over is = ⊎_elim (λ (stands : x.table.end ≡ Some end). ap
 
 pub ends_are_seen : EndsAreSeen
 ends_are_seen worker old new end h =
-    let y = h.left in
-    let at = h.after in
-    ap end_in (seen_then _ (lease_events worker (Over end)) old new (lent_by (Over end) old.lent) (told_by (Over end) old.told) h)
-    ∙ sym (ends_are_told (blocks y.table) y.table.settings 0 y.table.journal (counts_in y) (history y at.shared at.views at.yard)) ∙ ended_end h.found y end h.step_is.0 h.step_is.1
+    let y = h.2.left in
+    let at = h.2.after in
+    ap end_in (seen_then _ (lease_events worker (Over end)) h.0 new (lent_by (Over end) old.lent) (told_by (Over end) old.told) h.2)
+    ∙ sym (ends_are_told (blocks y.table) y.table.settings 0 y.table.journal (counts_in y) (history y at.shared at.views at.yard)) ∙ ended_end h.2.found y end h.2.step_is.0 h.2.step_is.1
 
 -- ---- what a worker knows by the reply
-
-module _ (worker : ℕ) (old new : View) where
-  pub leased_active : (reply : LeaseReply) → Leases worker old reply new → IsActive old → IsActive new
-  leased_active reply h active = active_stay h.found.table.journal (lease_events worker reply h.found) (lent_by reply old.lent) (told_by reply old.told) old new h.view (lease_none_off worker reply h.found) active
-
-  pub may_bring : (lease : LeaseValue) → Leases worker old (Leased lease) new → new.journal.is_live ≡ true → (most_broken : ℕ) → IsBrought new most_broken lease
-  may_bring lease h live most_broken = lent_leases_may_come_back h.left new h.after live lease
-      (ap (λ (u : View). u.lent) h.view) (ap (λ (u : View). u.told) h.view) most_broken
-
-  pub not_leased_ready : (reply : LeaseReply) → lent_by reply old.lent ≡ old.lent → Leases worker old reply new → IsReady old → IsReady new
-  not_leased_ready reply same h ready = (ap (λ (u : View). u.lent) h.view ∙ same ∙ ready.0, leased_active reply h ready.1)
-
-  pub leased_keeps : (reply : LeaseReply) → Leases worker old reply new → KeepsWorkers old new
-  leased_keeps reply h = keeps_workers _ _ old new _ _ h
-
-pub released_ready : (lease : LeaseValue) (trouble : Bool) (old new : View) → Releases lease trouble old new → IsActive old → IsReady new
-released_ready lease trouble old new h active = (
-  ap (λ (u : View). u.lent) h.view,
-  active_stay h.found.table.journal (Release lease.worker lease.used trouble ∷ ending trouble h.found.table.end) None None old new h.view (release_none_off lease trouble h.found) active,
-)
-
-pub released_keeps : (lease : LeaseValue) (trouble : Bool) (old new : View) → Releases lease trouble old new → KeepsWorkers old new
-released_keeps lease trouble old new h = keeps_workers _ _ old new _ _ h
-
-pub signed_keeps : (worker : ℕ) (trouble : Bool) (old new : View) → SignsOff worker trouble old new → KeepsWorkers old new
-signed_keeps worker trouble old new h = keeps_workers _ _ old new _ _ h
 
 pub keeps_on : (old between new : View) → KeepsWorkers old between → KeepsWorkers between new → KeepsWorkers old new
 keeps_on old between new first later = record {
@@ -172,3 +147,43 @@ keeps_on old between new first later = record {
   graph = later.graph ∙ first.graph;
   task = later.task ∙ first.task;
 }
+
+-- a reading changes nothing of the worker
+read_keeps : (old between : View) → HasRead old between → KeepsWorkers old between
+read_keeps old between r = record {
+  worker = ap (λ (u : View). u.journal.own.worker) r.view;
+  taken_in = ap (λ (u : View). u.journal.taken_in) r.view;
+  made = ap (λ (u : View). u.journal.made) r.view;
+  settings = ap (λ (u : View). u.settings) r.view;
+  graph = ap (λ (u : View). u.graph) r.view;
+  task = ap (λ (u : View). u.task) r.view;
+}
+
+read_active : (old between : View) → HasRead old between → IsActive old → IsActive between
+read_active old between r active = subst IsActive (sym r.view) active
+
+module _ (worker : ℕ) (old new : View) where
+  pub leased_active : (reply : LeaseReply) → Leases worker old reply new → IsActive old → IsActive new
+  leased_active reply h active = active_stay h.2.found.table.journal (lease_events worker reply h.2.found) (lent_by reply old.lent) (told_by reply old.told) h.0 new h.2.view (lease_none_off worker reply h.2.found) (read_active old h.0 h.1 active)
+
+  pub may_bring : (lease : LeaseValue) → Leases worker old (Leased lease) new → new.journal.is_live ≡ true → (most_broken : ℕ) → IsBrought new most_broken lease
+  may_bring lease h live most_broken = lent_leases_may_come_back h.2.left new h.2.after live lease
+      (ap (λ (u : View). u.lent) h.2.view) (ap (λ (u : View). u.told) h.2.view) most_broken
+
+  pub not_leased_ready : (reply : LeaseReply) → lent_by reply old.lent ≡ old.lent → Leases worker old reply new → IsReady old → IsReady new
+  not_leased_ready reply same h ready = (ap (λ (u : View). u.lent) h.2.view ∙ same ∙ ready.0, leased_active reply h ready.1)
+
+  pub leased_keeps : (reply : LeaseReply) → Leases worker old reply new → KeepsWorkers old new
+  leased_keeps reply h = keeps_on old h.0 new (read_keeps old h.0 h.1) (keeps_workers _ _ h.0 new _ _ h.2)
+
+pub released_ready : (lease : LeaseValue) (trouble : Bool) (old new : View) → Releases lease trouble old new → IsActive old → IsReady new
+released_ready lease trouble old new h active = (
+  ap (λ (u : View). u.lent) h.2.view,
+  active_stay h.2.found.table.journal (Release lease.worker lease.used trouble ∷ ending trouble h.2.found.table.end) None None h.0 new h.2.view (release_none_off lease trouble h.2.found) (read_active old h.0 h.1 active),
+)
+
+pub released_keeps : (lease : LeaseValue) (trouble : Bool) (old new : View) → Releases lease trouble old new → KeepsWorkers old new
+released_keeps lease trouble old new h = keeps_on old h.0 new (read_keeps old h.0 h.1) (keeps_workers _ _ h.0 new _ _ h.2)
+
+pub signed_keeps : (worker : ℕ) (trouble : Bool) (old new : View) → SignsOff worker trouble old new → KeepsWorkers old new
+signed_keeps worker trouble old new h = keeps_workers _ _ old new _ _ h

@@ -1,7 +1,9 @@
 -- What the calls of a yard tell.
-use Rattle.std.specs.Prelude.{◌≡◌, ℕ, Bool, IsTrue, IsFalse, List, [], ◌∷◌, ◌++◌, Option, None}
+use Rattle.std.specs.Prelude.{◌≡◌, ◌≤◌, ℕ, Bool, IsTrue, IsFalse, List, [], ◌∷◌, ◌++◌, Option, Some, None}
 use Rattle.std.specs.List.{list_any, AllByRecursion}
-use Rattle.pb_model.specs.Store.{Rows}
+use Rattle.pb_model.specs.Plan.{Plan, IsPlan}
+use Rattle.pb_model.specs.Store.{Rows, AtMost}
+use Rattle.pb_task.specs.Parts.{space_of}
 use Rattle.pb_machine.specs.declared.event.Event.{Event}
 use Rattle.pb_machine.specs.declared.event.Event.TheVariants.{Hot, Cold}
 use Rattle.pb_machine.specs.History.{StartsWith, is_off, AreFinished, IsHistory}
@@ -15,8 +17,8 @@ use Rattle.pb_lease.specs.GraphValue.{GraphValue, setup_in, counts_in}
 use Rattle.pb_lease.specs.Choices.{is_out_in}
 use Rattle.pb_lease.specs.Moments.{IsMoment, moves_of}
 use Rattle.pb_yard.specs.declared.view.View.{View}
-use Rattle.pb_yard.specs.Views.{view_then}
-use Rattle.pb_yard.specs.Order.{RunsInTime}
+use Rattle.pb_yard.specs.Views.{view_read, view_then}
+use Rattle.pb_yard.specs.Order.{RunsSettled, RunsInTime}
 use Rattle.pb_yard.specs.Rule.{IsAt, IsSearchOf}
 use Rattle.pb_yard.specs.Replies.{LeasesAs, lease_events, lent_by, told_by, RenewsAs, renewal_events, kept_by, ReleasesAs, release_events, RivalsAs, MarksAs, CoolsAs, mark_events, SignsOffAs, off_events}
 
@@ -27,6 +29,12 @@ use Rattle.pb_yard.specs.Replies.{LeasesAs, lease_events, lent_by, told_by, Rene
 pub record IsOpening (g : GraphValue) : Type 0 where
   pub empty : g.table.journal ≡ []
   pub moment : (recorded : (worker : ℕ) → Rows) → IsMoment g recorded (opening_machine (setup_in g))
+
+-- ---- a reading
+
+-- some plan of what is searched costs at most this
+abbrev pub HasPlanWithin : View → (cost : ℕ) → Type 0
+HasPlanWithin view cost = (plan : Plan) × IsPlan (space_of view.task) plan × (plan.cost ≤ cost)
 
 -- ---- a call that holds the graph
 
@@ -44,20 +52,32 @@ pub record Holds (step : (found left : GraphValue) → Type 0) (events : (found 
   pub seen : StartsWith found.table.journal old.journal.seen
   pub step_is : step found left
   pub added : left.table.journal ≡ found.table.journal ++ events found
-  pub moves : RunsInTime (setup_in found) before.yard.machine (moves_of (events found)) after.yard.machine
+  pub moves : RunsSettled (setup_in found) before.yard.machine before.yard.settled (moves_of (events found)) after.yard.machine after.yard.settled
   pub view : new ≡ view_then found.table.journal (events found) lent told old
+
+-- The pass first read the incumbent, under the turn: what it read is at most what it had read or told
+-- before. `between` is its view then.
+pub record HasRead (old between : View) : Type 0 where
+  pub held : GraphValue
+  pub incumbent : Option ℕ
+  pub falls : AtMost incumbent old.last
+  pub view : between ≡ view_read (Some held) old incumbent
+
+-- the same, and then it held the graph so
+abbrev pub ReadsAndHolds : (step : (found left : GraphValue) → Type 0) → (events : (found : GraphValue) → List Event) → (old : View) → (lent : Option LeaseValue) → (told : Option ℕ) → (new : View) → Type 0
+ReadsAndHolds step events old lent told new = (between : View) × HasRead old between × Holds step events between lent told new
 
 -- the pass asked for a lease, with this answer
 abbrev pub Leases : (worker : ℕ) → (old : View) → LeaseReply → (new : View) → Type 0
-Leases worker old reply new = Holds (LeasesAs worker reply) (lease_events worker reply) old (lent_by reply old.lent) (told_by reply old.told) new
+Leases worker old reply new = ReadsAndHolds (LeasesAs worker reply) (lease_events worker reply) old (lent_by reply old.lent) (told_by reply old.told) new
 
 -- the pass asked to go on with its lease, with this answer
 abbrev pub Renews : LeaseValue → (old : View) → Renewed → (new : View) → Type 0
-Renews lease old reply new = Holds (RenewsAs lease reply) (λ found. renewal_events lease reply) old (kept_by reply) None new
+Renews lease old reply new = ReadsAndHolds (RenewsAs lease reply) (λ found. renewal_events lease reply) old (kept_by reply) None new
 
 -- the pass brought its lease back
 abbrev pub Releases : LeaseValue → (trouble : Bool) → (old new : View) → Type 0
-Releases lease trouble old new = Holds (ReleasesAs lease trouble) (release_events lease trouble) old None None new
+Releases lease trouble old new = ReadsAndHolds (ReleasesAs lease trouble) (release_events lease trouble) old None None new
 
 -- The pass has the lease that it had.
 abbrev pub Looks : (step : (found left : GraphValue) → Type 0) → (events : (found : GraphValue) → List Event) → (old new : View) → Type 0

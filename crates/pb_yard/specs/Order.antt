@@ -1,10 +1,10 @@
 -- The order of a search by leases, whatever the number of its workers.
-use Rattle.std.specs.Prelude.{◌≡◌, ◌⊎◌, Bool, true, false, List, [], ◌∷◌, Some, ⊤}
-use Rattle.pb_model.specs.Store.{HasOpened}
+use Rattle.std.specs.Prelude.{◌≡◌, ◌⊎◌, ℕ, Bool, true, false, List, [], ◌∷◌, Option, Some, ⊤}
+use Rattle.pb_model.specs.Store.{HasOpened, AtMost}
 use Rattle.pb_machine.specs.declared.event.Event.TheVariants.{Lease, Renew, Release}
 use Rattle.pb_machine.specs.declared.event.Grant.{Grant}
 use Rattle.pb_machine.specs.Choice.{IsFirstChoice, counts_with_lease_home}
-use Rattle.pb_machine.specs.Machine.{Setup, Machine, Move, event_move, Moves}
+use Rattle.pb_machine.specs.Machine.{Setup, Machine, Move, event_move, tell_move, Moves}
 use Rattle.pb_machine.specs.Turns.{IsInOrder}
 use Rattle.pb_lease.specs.LeaseValue.{LeaseValue, leased_store}
 
@@ -19,13 +19,19 @@ HasCause lease false =
 
 -- ---- a run
 
--- a lease that is given, or goes on, is given the incumbent that the whole store has
-abbrev pub GivesWholeIncumbent : Move → (new : Machine) → Type 0
-GivesWholeIncumbent (event_move (Lease worker block quota)) new =
-    new.given worker ≡ new.store.incumbent
-GivesWholeIncumbent (event_move (Renew worker used quota)) new =
-    new.given worker ≡ new.store.incumbent
-GivesWholeIncumbent move new = ⊤
+-- A lease that is given, or goes on, is given at most the incumbent that the whole store had at the
+-- last event before: a cost that another worker told since then it may have or not.
+abbrev pub GivesWholeIncumbent : Move → (settled : Option ℕ) → (new : Machine) → Type 0
+GivesWholeIncumbent (event_move (Lease worker block quota)) settled new =
+    AtMost (new.given worker) settled
+GivesWholeIncumbent (event_move (Renew worker used quota)) settled new =
+    AtMost (new.given worker) settled
+GivesWholeIncumbent move settled new = ⊤
+
+-- the incumbent that the whole store had at the last event, after this move
+abbrev pub settled_after : Move → (settled : Option ℕ) → (new : Machine) → Option ℕ
+settled_after (event_move event) settled new = new.store.incumbent
+settled_after (tell_move worker cost) settled new = settled
 
 -- A lease goes on if its quota is used up and its block, with the lease home, is the first choice at
 -- that moment, whatever other workers did meanwhile. A lease comes back, without want of memory, if
@@ -42,11 +48,16 @@ IsTimely setup old move new = ⊤
 
 -- A run of any number of workers, in order and in time: these moves, one after another. So each
 -- block that was leased was the first choice of those that might be leased at that moment, each row
--- that was taken the first of its block, and no lease was given another incumbent than that of the
--- whole store. Each lease used up its quota before it went on, and had a cause to come back.
-abbrev pub RunsInTime : Setup → (old : Machine) → List Move → (new : Machine) → Type 0
-RunsInTime setup old [] new = new ≡ old
-RunsInTime setup old (move ∷ moves) new =
+-- that was taken the first of its block, and no lease was given a greater incumbent than that of the
+-- whole store at the last event. Each lease used up its quota before it went on, and had a cause to
+-- come back. The incumbent of the last event stands at both ends.
+abbrev pub RunsSettled : Setup → (old : Machine) → (settled : Option ℕ) → List Move → (new : Machine) → (later : Option ℕ) → Type 0
+RunsSettled setup old settled [] new later = (new ≡ old) × (later ≡ settled)
+RunsSettled setup old settled (move ∷ moves) new later =
     (between : Machine) × Moves setup old move between × IsInOrder setup old move between
-    × GivesWholeIncumbent move between × IsTimely setup old move between
-    × RunsInTime setup between moves new
+    × GivesWholeIncumbent move settled between × IsTimely setup old move between
+    × RunsSettled setup between (settled_after move settled between) moves new later
+
+-- the same, where the run begins as after an event
+abbrev pub RunsInTime : Setup → (old : Machine) → List Move → (new : Machine) → Type 0
+RunsInTime setup old moves new = (later : Option ℕ) × RunsSettled setup old old.store.incumbent moves new later

@@ -1,7 +1,7 @@
 -- What a worker shows of a lease that it brings back, or goes on with: by its pass's view alone,
 -- since it doesn't hold the graph.
 use Rattle.std.specs.Prelude.{◌≡◌, ℕ, Some}
-use Rattle.pb_model.specs.Store.{HasGoalWithin}
+use Rattle.pb_model.specs.Store.{HasGoalWithin, AtMost}
 use Rattle.pb_task.specs.Parts.{space_of}
 use Rattle.pb_machine.specs.Machine.{IsWorked}
 use Rattle.pb_machine.specs.Turns.{AreLeaseTurns}
@@ -17,7 +17,7 @@ IsLeaseOf view lease = (lease.worker ≡ view.journal.own.worker) × (grant_in v
 -- The lease came from the one that the pass was lent by the work of its worker: by exactly the
 -- expansions that it counts, and by at most this many that were broken off. It was done in turns,
 -- each on the first Opened row of the block. What its worker told is shown by a goal's row of the
--- lease.
+-- lease, and the lease's incumbent is at least what the pass has read or told.
 pub record IsBrought (view : View) (most_broken : ℕ) (lease : LeaseValue) : Type 0 where
   pub lent : LeaseValue
   pub lent_is : view.lent ≡ Some lent
@@ -25,4 +25,14 @@ pub record IsBrought (view : View) (most_broken : ℕ) (lease : LeaseValue) : Ty
   pub weights : HasWeights lease
   pub work : IsWorked (space_of view.task) (guide_of view.task view.graph) lent.block lease.used most_broken (was_read view) (leased_store lent) (leased_store lease)
   pub turns : AreLeaseTurns (space_of view.task) (guide_of view.task view.graph) work.works (leased_store lent)
+  pub copy : AtMost view.last lease.incumbent
   pub told : (cost : ℕ) → view.told ≡ Some cost → HasGoalWithin (space_of view.task) (guide_of view.task view.graph) (leased_store lease) cost
+
+-- The lease came from the one that the pass was lent by the work of its worker, and has a goal's row
+-- that costs at most this.
+pub record IsFound (view : View) (lease : LeaseValue) (cost : ℕ) : Type 0 where
+  pub lent : LeaseValue
+  pub lent_is : view.lent ≡ Some lent
+  pub same : IsSameLease lent lease
+  pub work : IsWorked (space_of view.task) (guide_of view.task view.graph) lent.block lease.used 1 (was_read view) (leased_store lent) (leased_store lease)
+  pub shown : HasGoalWithin (space_of view.task) (guide_of view.task view.graph) (leased_store lease) cost

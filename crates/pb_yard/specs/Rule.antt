@@ -1,10 +1,10 @@
 -- The rule of the yard: what holds of the graph and of the views of all passes between any two
 -- steps.
-use Rattle.std.specs.Prelude.{◌≡◌, ℕ, ◌==◌, Bool, false, IsTrue, IsFalse, List, map, Option, Some, None}
+use Rattle.std.specs.Prelude.{◌≡◌, ℕ, ◌≤◌, ◌==◌, Bool, false, IsTrue, IsFalse, List, map, length, Option, Some, None}
 use Rattle.std.specs.List.{list_any}
 use mathlib.Core.Option.{some}
 use lib.ListN.{get_elem?}
-use Rattle.pb_model.specs.Store.{Rows}
+use Rattle.pb_model.specs.Store.{Rows, AtMost}
 use Rattle.pb_task.specs.Parts.{greatest_cost}
 use Rattle.pb_machine.specs.declared.event.Grant.{Grant}
 use Rattle.pb_machine.specs.Settings.{AreInRange}
@@ -17,7 +17,8 @@ use Rattle.pb_lease.specs.Leased.{grant_of}
 use Rattle.pb_lease.specs.GraphValue.{GraphValue, setup_in, IsOfGraph}
 use Rattle.pb_lease.specs.Moments.{IsMomentAt}
 use Rattle.pb_yard.specs.declared.view.View.{View}
-use Rattle.pb_yard.specs.Order.{RunsInTime}
+use Rattle.pb_yard.specs.Views.{cost_of}
+use Rattle.pb_yard.specs.Order.{RunsSettled}
 
 -- the rows that a lease was given or last renewed with
 abbrev pub rows_of : Option LeaseValue → Rows
@@ -58,12 +59,19 @@ pub record IsKnownTo (machine : Machine) (view : View) : Type 0 where
   pub last : IsTrue (machine.known view.journal.own.worker view.last)
 
 -- What a live view says is so: its pass has the lease that its worker was lent, and its worker told
--- what it says.
+-- what it says. What the pass has read or told is at most the incumbent that its lease was lent with.
 pub record IsViewOf (g : GraphValue) (machine : Machine) (lent_to : (worker : ℕ) → Option LeaseValue) (view : View) : Type 0 where
   pub lent : lent_to view.journal.own.worker ≡ view.lent
   pub told : machine.told view.journal.own.worker ≡ view.told
   pub search : IsSearchOf g view
   pub known : IsKnownTo machine view
+  pub copy : (lease : LeaseValue) → view.lent ≡ Some lease → AtMost view.last lease.incumbent
+
+-- If the pass read the incumbent last while it held the graph, and no event came since, then it read
+-- at most the incumbent of the last event.
+pub record IsRecent (g : GraphValue) (settled : Option ℕ) (view : View) : Type 0 where
+  pub read_by : (events : ℕ) → view.read_at ≡ Some events → events ≤ length g.table.journal
+  pub fresh : view.read_at ≡ Some (length g.table.journal) → AtMost view.last settled
 
 -- no live pass is the worker's: it has none yet, or it was taken in
 abbrev pub HasNoPass : (worker : ℕ) → List View → Type 0
@@ -71,8 +79,8 @@ HasNoPass worker views = (seat : ℕ) (view : View) → get_elem? views seat ≡
     → IsFalse (view.journal.own.worker == worker)
 
 -- The graph, with what its workers were lent, is a lawful moment of the lease machine, to which
--- moves from the opening lead, in order and in time, whose events are the journal. This is the
--- least cost that was found or told. The views of all passes are true of the journal and of what is
+-- moves from the opening lead, in order and in time, whose events are the journal. The shared number
+-- is the least cost that was found or told: the incumbent of the whole store. The views of all passes are true of the journal and of what is
 -- lent, and who has no live pass has no lease.
 pub record IsYard (g : GraphValue) (shared : Option ℕ) (views : List View) : Type 0 where
   pub is_setup : IsSetup (setup_in g) greatest_cost
@@ -80,7 +88,8 @@ pub record IsYard (g : GraphValue) (shared : Option ℕ) (views : List View) : T
   pub moves : List Move
   pub machine : Machine
   pub lent : (worker : ℕ) → Option LeaseValue
-  pub run : RunsInTime (setup_in g) (opening_machine (setup_in g)) moves machine
+  pub settled : Option ℕ
+  pub run : RunsSettled (setup_in g) (opening_machine (setup_in g)) (opening_machine (setup_in g)).store.incumbent moves machine settled
   pub journal : journal_of moves ≡ g.table.journal
   pub moment : IsMomentAt g (λ worker. rows_of (lent worker)) machine
   pub shared_is : machine.store.incumbent ≡ shared
@@ -88,7 +97,12 @@ pub record IsYard (g : GraphValue) (shared : Option ℕ) (views : List View) : T
   pub lent_is : (worker : ℕ) (lease : LeaseValue) → lent worker ≡ Some lease → IsLent g machine worker lease
   pub journals : AreTrueOf g.table.settings.workers g.table.journal (map journal_view views)
   pub each : (seat : ℕ) (view : View) → get_elem? views seat ≡ some view → IsTrue view.journal.is_live → IsViewOf g machine lent view
+  pub recent : (seat : ℕ) (view : View) → get_elem? views seat ≡ some view → IsTrue view.journal.is_live → IsRecent g settled view
   pub others : (worker : ℕ) → HasNoPass worker views → lent worker ≡ None
+
+-- what the lock keeps: the yard's rule, where the number says the shared one
+abbrev pub YardFact : GraphValue → ℕ → List View → Type 0
+YardFact g number views = IsYard g (cost_of number) views
 
 -- the yard has this graph, and one of its passes has this view
 pub record IsAt (g : GraphValue) (view : View) : Type 0 where

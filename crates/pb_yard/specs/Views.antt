@@ -1,5 +1,6 @@
 -- How what a pass knows changes.
-use Rattle.std.specs.Prelude.{ℕ, false, List, [], Option, None, length, drop}
+use Rattle.std.specs.Prelude.{ℕ, ◌==◌, if◌then◌else◌, false, List, [], ◌∷◌, Option, Some, None, length, drop}
+use Rattle.pb_model.specs.Store.{lesser}
 use Rattle.pb_task.specs.declared.parts.TaskParts.TheVariants.{Tiles}
 use Rattle.pb_abstract.specs.declared.projection.Projection.TheVariants.{Blank}
 use Rattle.pb_machine.specs.declared.event.Event.{Event}
@@ -8,9 +9,18 @@ use Rattle.pb_lease.specs.LeaseValue.{LeaseValue}
 use Rattle.pb_lease.specs.GraphValue.{GraphValue}
 use Rattle.pb_yard.specs.declared.view.View.{View}
 
+-- the incumbent that the word says: its greatest number says that there is none
+abbrev pub cost_of : ℕ → Option ℕ
+cost_of number = if number == 18446744073709551615 then None else Some number
+
+-- the graph with the lesser of its incumbent and this one
+abbrev pub bounded : GraphValue → Option ℕ → GraphValue
+bounded g None = g
+bounded g (Some cost) = record g { incumbent = lesser g.incumbent (Some cost) }
+
 -- the first pass's
 abbrev pub opening_view : GraphValue → View
-opening_view g = record { journal = first_view; lent = None; task = g.task; graph = g.table.graph; settings = g.table.settings; told = None; last = None; read = [] }
+opening_view g = record { journal = first_view; lent = None; task = g.task; graph = g.table.graph; settings = g.table.settings; told = None; last = None; read = []; read_at = None }
 
 -- after a pass was split from it, and that pass's: it has the next worker's number, no lease and no
 -- events, and has seen what the first has
@@ -18,7 +28,7 @@ abbrev pub split_view : View → View
 split_view view = record view { journal = with_one_more view.journal }
 
 abbrev pub next_pass_view : View → View
-next_pass_view view = record view { journal = next_view view.journal; lent = None; told = None; last = None; read = [] }
+next_pass_view view = record view { journal = next_view view.journal; lent = None; told = None; last = None; read = []; read_at = None }
 
 -- after its pass took in another's; and what is left at that one's number, which says nothing
 abbrev pub met_pass_view : (view other : View) → View
@@ -35,13 +45,32 @@ spent_pass_view =
       told = None;
       last = None;
       read = [];
+      read_at = None;
     }
+
+-- the costs that were read, with this incumbent
+abbrev pub with_read : Option ℕ → List ℕ → List ℕ
+with_read None read = read
+with_read (Some cost) read = cost ∷ read
+
+-- how many events the journal of the graph has that the pass holds, if it holds one
+abbrev pub events_held : Option GraphValue → Option ℕ
+events_held None = None
+events_held (Some g) = Some (length g.table.journal)
+
+-- after its pass read this as the incumbent
+abbrev pub view_read : (held : Option GraphValue) → View → Option ℕ → View
+view_read held view incumbent = record view { last = incumbent; read = with_read incumbent view.read; read_at = events_held held }
+
+-- after its pass told this cost
+abbrev pub view_told : View → (cost : ℕ) → View
+view_told view cost = record view { told = lesser view.told (Some cost); last = lesser view.last (Some cost); read_at = None }
 
 -- After its pass held the graph, where these events were added to the journal: it has seen the
 -- whole journal, and has the events that are its own worker's; it has this lease, and has told this
 -- cost.
 abbrev pub view_then : (journal added : List Event) → (lent : Option LeaseValue) → (told : Option ℕ) → View → View
-view_then journal added lent told view = record view { journal = view_after journal added view.journal; lent = lent; told = told }
+view_then journal added lent told view = record view { journal = view_after journal added view.journal; lent = lent; told = told; read_at = None }
 
 -- the events that the second graph's journal has and the first one's hasn't
 abbrev pub events_between : (old new : GraphValue) → List Event

@@ -1,6 +1,9 @@
 //! Leases that a worker takes, goes on with, and brings back.
 ghost use Rattle.std.specs.Prelude.{◌≡◌, None};
 ghost use Rattle.pb_machine.specs.Tables.{one_if};
+ghost use Rattle.pb_lease.specs.declared.answer.LeaseReply.TheVariants.{Leased};
+ghost use Rattle.pb_lease.specs.declared.answer.Renewed.TheVariants.{Kept};
+ghost use Rattle.pb_lease.specs.LeaseValue.{LeaseValue};
 ghost use Rattle.pb_yard.specs.Passes.{view_of, worker_of, IsOf, KeepsPass};
 ghost use Rattle.pb_yard.specs.Order.{HasCause};
 ghost use Rattle.pb_yard.specs.Returning.{IsBrought};
@@ -21,8 +24,10 @@ impl Yard {
         requires stays { IsActive (view_of pass.old) }
         ensures same { KeepsPass pass.old pass.new }
         ensures leased { Leases (worker_of pass.old) (view_of pass.old) result (view_of pass.new) }
+        ensures copy { (given : LeaseValue) → result ≡ Leased given → given.incumbent ≡ (view_of pass.new).last }
     {
-        let mut held = self.lock.enter(rt, &mut pass.turn);
+        let (mut held, incumbent) = self.enter_reading(rt, &mut pass.turn);
+        pass.last = incumbent;
         let reply = held.state_mut().lease(pass.worker);
         pass.seen = held.state().journal().len() as u64;
         self.lock.leave::<AfterLease>(&mut pass.turn, held, &reply);
@@ -37,8 +42,10 @@ impl Yard {
         requires spent { lease.used ≡ lease.quota }
         ensures same { KeepsPass pass.old pass.new }
         ensures renewed { Renews lease (view_of pass.old) result (view_of pass.new) }
+        ensures copy { (kept : LeaseValue) → result ≡ Kept kept → kept.incumbent ≡ (view_of pass.new).last }
     {
-        let mut held = self.lock.enter(rt, &mut pass.turn);
+        let (mut held, incumbent) = self.enter_reading(rt, &mut pass.turn);
+        pass.last = incumbent;
         let graph = held.state_mut();
         let _ = graph.abstraction();
         let reply = graph.renew(lease);
@@ -58,7 +65,8 @@ impl Yard {
         ensures same { KeepsPass pass.old pass.new }
         ensures released { Releases lease trouble (view_of pass.old) (view_of pass.new) }
     {
-        let mut held = self.lock.enter(rt, &mut pass.turn);
+        let (mut held, incumbent) = self.enter_reading(rt, &mut pass.turn);
+        pass.last = incumbent;
         held.state_mut().release(lease, trouble);
         pass.seen = held.state().journal().len() as u64;
         self.lock.leave::<AfterRelease>(&mut pass.turn, held, &());

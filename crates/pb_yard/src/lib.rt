@@ -18,6 +18,7 @@ mod pass;
 mod passes;
 mod rule;
 mod view;
+mod word;
 mod yard;
 
 pub use laws::{

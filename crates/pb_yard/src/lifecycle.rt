@@ -5,6 +5,7 @@ ghost use Rattle.pb_yard.specs.Passes.{view_of, worker_of, parts_of, all_parts, 
 ghost use Rattle.pb_yard.specs.Calls.{IsOpening, AllSignedOff, IsClosed};
 
 use crate::pass::Pass;
+use crate::word::cost;
 use crate::yard::Yard;
 use pb_lease::LeaseGraph;
 use pb_turn::TurnLock;
@@ -28,6 +29,7 @@ impl Yard {
                 worker: 0,
                 made: 1,
                 seen: 0,
+                last: None,
             },
         ))
     }
@@ -52,6 +54,7 @@ impl Yard {
             worker,
             made: 0,
             seen: pass.seen,
+            last: None,
         }
     }
 
@@ -69,6 +72,7 @@ impl Yard {
             worker: _,
             made,
             seen,
+            last: _,
         } = other;
         self.lock.meet(&mut pass.turn, turn);
         pass.made = pass.made.wrapping_add(made);
@@ -88,8 +92,12 @@ impl Yard {
             worker: _,
             made: _,
             seen: _,
+            last: _,
         } = pass;
-        let (graph, _) = lock.close_with(turn);
+        let (mut graph, number) = lock.close_with(turn);
+        if let Some(known) = cost(number) {
+            graph.take_bound(known);
+        }
         graph
     }
 }

@@ -15,10 +15,13 @@ pub struct Pass {
     // how many passes were made, as far as this pass counts them, modulo 2^32: there are 64 at most
     pub(crate) made: u32,
     pub(crate) seen: u64,
+    // the least cost that it has read or told
+    pub(crate) last: Option<u64>,
     ghost is_live: { IsTrue (view turn).journal.is_live },
     ghost worker_is: { (view turn).journal.own.worker ≡ worker },
     ghost made_is: { made ≡ (view turn).journal.made % 2 ^ 32 },
     ghost seen_is: { length (view turn).journal.seen ≡ seen },
+    ghost last_is: { (view turn).last ≡ last },
     ghost in_range: { AreInRange (view turn).settings },
     ghost counts: { worker ≡ 0 → 0 < (view turn).journal.made },
     ghost has_parts: { worker ≡ 0 → whole < parts turn + (view turn).journal.made },

@@ -8,14 +8,14 @@ use pb_turn::{Leaving, TurnRule};
 pub struct YardRule;
 
 impl TurnRule for YardRule {
-    ghost use Rattle.pb_yard.specs.Views.{opening_view, split_view, next_pass_view, met_pass_view, spent_pass_view};
+    ghost use Rattle.pb_yard.specs.Views.{cost_of, view_read, view_told, opening_view, split_view, next_pass_view, met_pass_view, spent_pass_view};
     ghost use Rattle.pb_yard.specs.Rule.{IsYard};
 
     type State = LeaseGraph;
 
     type View = View;
 
-    ghost fact = { λ g number views. IsYard g g.incumbent views };
+    ghost fact = { λ g number views. IsYard g (cost_of number) views };
 
     ghost first = { opening_view };
 
@@ -27,9 +27,9 @@ impl TurnRule for YardRule {
 
     ghost spent = { spent_pass_view };
 
-    ghost loaded = { λ _ v number. v };
+    ghost loaded = { λ held v number. view_read held v (cost_of number) };
 
-    ghost lowered = { λ v number. v };
+    ghost lowered = { view_told };
 }
 
 /// Leaving after a lease was asked for.

@@ -49,11 +49,13 @@ pub struct View {
     pub graph: AbsGraph,
     /// With what.
     pub settings: Settings,
-    /// The least cost that it told since its lease was given or last renewed. Nothing is told yet,
-    /// so it is None.
+    /// The least cost that it told since its lease was given or last renewed.
     pub told: Option<u64>,
-    /// The least cost that it has read or told. Nothing is read yet, so it is None.
+    /// The least cost that it has read or told.
     pub last: Option<u64>,
-    /// The costs that it has read. Nothing is read yet, so there are none.
+    /// The costs that it has read.
     pub read: LinkedList<u64>,
+    /// How many events the journal had when it last read, if it held the graph then and did nothing
+    /// since.
+    pub read_at: Option<u64>,
 }

@@ -6,8 +6,8 @@ pub yard_hold-requires-clause-leased : goal.yard_hold-requires-clause-leased
 yard_hold-requires-clause-leased g c _ _ =
     let i = c.loop.invariant in
     leased_with c.args.worker.now.task.now c.loop.worker.task.now c.args.worker.now.abstraction.now c.loop.worker.abstraction.now i.6 i.7 (view_of c.lease.new.pass) c.in-Leased.lease
-    (leased_then c.args.worker.now.task.now c.args.worker.now.abstraction.now (worker_of c.loop.pass) (view_of c.loop.pass) (view_of c.lease.new.pass) i.5 c.in-Leased.lease c.in-Leased.ensures.leased)
+    (leased_then c.args.worker.now.task.now c.args.worker.now.abstraction.now (worker_of c.loop.watch.pass) (view_of c.loop.watch.pass) (view_of c.lease.new.pass) i.5 c.in-Leased.lease c.in-Leased.ensures.leased)
 
 pub returns-in-Over-clause-cause : goal.returns-in-Over-clause-cause
 returns-in-Over-clause-cause g c =
-    (over_then c.args.worker.now.task.now c.args.worker.now.abstraction.now (worker_of c.loop.pass) (view_of c.loop.pass) (view_of c.lease.new.pass) c.loop.invariant.5 c.in-Over.field-0 c.in-Over.ensures.leased).1
+    (over_then c.args.worker.now.task.now c.args.worker.now.abstraction.now (worker_of c.loop.watch.pass) (view_of c.loop.watch.pass) (view_of c.lease.new.pass) c.loop.invariant.5 c.in-Over.field-0 c.in-Over.ensures.leased).1

@@ -4,11 +4,11 @@ use Rattle.pb_turn.specs.Passes.{view, number, found, state}
 use Rattle.pb_lease.specs.Leased.{grant_of}
 use Rattle.pb_lease.specs.GraphValue.{GraphValue, counts_in}
 use Rattle.pb_yard.specs.declared.view.View.{View}
-use Rattle.pb_yard.specs.Views.{view_left}
+use Rattle.pb_yard.specs.Views.{cost_of, view_left}
 use Rattle.pb_yard.specs.Replies.{RivalsAs}
 use Rattle.pb_yard.specs.Calls.{AsksRival}
 use Rattle.pb_yard.proofs.Asks.{leased_as}
-use Rattle.pb_yard.proofs.Clauses.{Fact, leave_keeps, holds, seen_is, stays}
+use Rattle.pb_yard.proofs.Clauses.{Fact, takes_none, leave_keeps, holds, seen_is, stays}
 use Rattle.pb_yard.proofs.yard.Yard.rival.Goals as goal
 
 pub rival-rival-requires : goal.rival-rival-requires
@@ -16,7 +16,7 @@ rival-rival-requires g c =
     let p = c.args.pass.now in
     let r = c.enter-held.ensures.rule.1 in
     subst (λ (z : GraphValue). (counts_in z).leases c.args.lease.now.worker ≡ Some (grant_of c.args.lease.now)) (sym (c.state.ensures ∙ c.enter-held.ensures.won.1))
-    (leased_as (found c.enter-held.result) (found c.enter-held.result).incumbent r.0 (number p.turn) (view p.turn) r.1 r.2 p.is_live c.args.lease.now c.requires.leased)
+    (leased_as (found c.enter-held.result) (cost_of c.enter-held.ensures.rule.0) r.0 (number p.turn) (view p.turn) r.1 r.2 p.is_live c.args.lease.now c.requires.leased)
 
 pub leave-requires-clause-rule : goal.leave-requires-clause-rule
 leave-requires-clause-rule g c =
@@ -31,7 +31,7 @@ leave-requires-clause-rule g c =
     let found_is : c.state.result.now ≡ x = c.state.ensures ∙ e.won.1 in
     let r : RivalsAs l q x y = subst (λ (z : GraphValue). RivalsAs l q z y) found_is (f.rival, f.moment, sym c.state.ensures) in
     subst (λ (u : View). LeaveKeeps Fact (number c.enter-held.new.pass) u x y (view_left x y (u.lent) (u.told) u)) (sym e.same.1)
-    (leave_keeps x y v p.is_live (λ _. []) (v.lent) (v.told) (stays x y v p.is_live e.won.1) (number c.enter-held.new.pass))
+    (leave_keeps x x y v p.is_live (takes_none x v) (λ _. []) (v.lent) (v.told) (stays x y v p.is_live e.won.1) (number c.enter-held.new.pass))
 
 pub returns-clause-rival : goal.returns-clause-rival
 returns-clause-rival g c =
@@ -48,7 +48,7 @@ returns-clause-rival g c =
     let is : view c.leave.new.pass ≡ view_left x y (v.lent) (v.told) v =
     c.leave.ensures.view ∙ ap (λ (u : View). view_left x y (u.lent) (u.told) u) e.same.1 in
     (subst (λ (u : View). AsksRival l v q u) (sym is)
-    (holds x y v p.is_live (λ _. []) (v.lent) (v.told) (stays x y v p.is_live e.won.1) (number p.turn) e.rule (RivalsAs l q) r))
+    (holds x x y v p.is_live (takes_none x v) (λ _. []) (v.lent) (v.told) (stays x y v p.is_live e.won.1) (number p.turn) e.rule (RivalsAs l q) r))
 
 pub invariant_of-pass-clause-seen_is : goal.invariant_of-pass-clause-seen_is
 invariant_of-pass-clause-seen_is g c =
@@ -65,5 +65,5 @@ invariant_of-pass-clause-seen_is g c =
     let is : view c.leave.new.pass ≡ view_left x y (v.lent) (v.told) v =
     c.leave.ensures.view ∙ ap (λ (u : View). view_left x y (u.lent) (u.told) u) e.same.1 in
     ap (λ (u : View). length u.journal.seen) is
-    ∙ ap length (seen_is x y v p.is_live (λ _. []) (v.lent) (v.told) (stays x y v p.is_live e.won.1) (number p.turn) e.rule)
+    ∙ ap length (seen_is x x y v p.is_live (takes_none x v) (λ _. []) (v.lent) (v.told) (stays x y v p.is_live e.won.1) (number p.turn) e.rule)
     ∙ ap length (ap (λ (z : GraphValue). z.table.journal) (sym c.state-2.ensures) ∙ sym c.journal.ensures.events)

@@ -3,11 +3,11 @@ use Rattle.pb_turn.specs.Obligations.{LeaveKeeps}
 use Rattle.pb_turn.specs.Passes.{view, number, found}
 use Rattle.pb_lease.specs.GraphValue.{GraphValue, counts_in}
 use Rattle.pb_yard.specs.declared.view.View.{View}
-use Rattle.pb_yard.specs.Views.{view_left}
+use Rattle.pb_yard.specs.Views.{cost_of, view_left}
 use Rattle.pb_yard.specs.Replies.{SignsOffAs, off_events}
 use Rattle.pb_yard.specs.Calls.{SignsOff}
 use Rattle.pb_yard.proofs.Asks.{worker_known, vacant, active, cause}
-use Rattle.pb_yard.proofs.Clauses.{Fact, leave_keeps, holds, seen_is, may_sign_off}
+use Rattle.pb_yard.proofs.Clauses.{Fact, takes_none, leave_keeps, holds, seen_is, may_sign_off}
 use Rattle.pb_yard.proofs.yard.Yard.sign_off.Goals as goal
 
 pub sign_off-requires-clause-worker : goal.sign_off-requires-clause-worker
@@ -16,7 +16,7 @@ sign_off-requires-clause-worker g c =
     let r = c.enter-held.ensures.rule.1 in
     subst (λ (z : GraphValue). p.worker < z.table.settings.workers) (sym (c.state_mut.ensures.value ∙ c.enter-held.ensures.won.1))
     (subst (λ w. w < (found c.enter-held.result).table.settings.workers) p.worker_is
-    (worker_known (found c.enter-held.result) (found c.enter-held.result).incumbent r.0 (number p.turn) (view p.turn) r.1 r.2 p.is_live))
+    (worker_known (found c.enter-held.result) (cost_of c.enter-held.ensures.rule.0) r.0 (number p.turn) (view p.turn) r.1 r.2 p.is_live))
 
 pub sign_off-requires-clause-vacant : goal.sign_off-requires-clause-vacant
 sign_off-requires-clause-vacant g c =
@@ -24,7 +24,7 @@ sign_off-requires-clause-vacant g c =
     let r = c.enter-held.ensures.rule.1 in
     subst (λ (z : GraphValue). (counts_in z).leases p.worker ≡ None) (sym (c.state_mut.ensures.value ∙ c.enter-held.ensures.won.1))
     (subst (λ w. (counts_in (found c.enter-held.result)).leases w ≡ None) p.worker_is
-    (vacant (found c.enter-held.result) (found c.enter-held.result).incumbent r.0 (number p.turn) (view p.turn) r.1 r.2 p.is_live c.requires.vacant))
+    (vacant (found c.enter-held.result) (cost_of c.enter-held.ensures.rule.0) r.0 (number p.turn) (view p.turn) r.1 r.2 p.is_live c.requires.vacant))
 
 pub sign_off-requires-clause-stays : goal.sign_off-requires-clause-stays
 sign_off-requires-clause-stays g c =
@@ -32,14 +32,14 @@ sign_off-requires-clause-stays g c =
     let r = c.enter-held.ensures.rule.1 in
     subst (λ (z : GraphValue). (counts_in z).signed_off p.worker ≡ false) (sym (c.state_mut.ensures.value ∙ c.enter-held.ensures.won.1))
     (subst (λ w. (counts_in (found c.enter-held.result)).signed_off w ≡ false) p.worker_is
-    (active (found c.enter-held.result) (found c.enter-held.result).incumbent r.0 (number p.turn) (view p.turn) r.1 r.2 p.is_live c.requires.stays))
+    (active (found c.enter-held.result) (cost_of c.enter-held.ensures.rule.0) r.0 (number p.turn) (view p.turn) r.1 r.2 p.is_live c.requires.stays))
 
 pub sign_off-requires-clause-cause : goal.sign_off-requires-clause-cause
 sign_off-requires-clause-cause g c =
     let p = c.args.pass.now in
     let r = c.enter-held.ensures.rule.1 in
     subst (λ (z : GraphValue). (c.args.trouble || is_some z.table.end) ≡ true) (sym (c.state_mut.ensures.value ∙ c.enter-held.ensures.won.1))
-    (cause (found c.enter-held.result) (found c.enter-held.result).incumbent r.0 (number p.turn) (view p.turn) r.1 r.2 p.is_live c.args.trouble c.requires.cause)
+    (cause (found c.enter-held.result) (cost_of c.enter-held.ensures.rule.0) r.0 (number p.turn) (view p.turn) r.1 r.2 p.is_live c.args.trouble c.requires.cause)
 
 pub leave-requires-clause-rule : goal.leave-requires-clause-rule
 leave-requires-clause-rule g c =
@@ -53,7 +53,7 @@ leave-requires-clause-rule g c =
     let found_is : c.state_mut.result.now ≡ x = c.state_mut.ensures.value ∙ e.won.1 in
     let r : SignsOffAs v.journal.own.worker t x y = subst (λ w. SignsOffAs w t x y) (sym p.worker_is) (subst (λ (z : GraphValue). SignsOffAs p.worker t z y) found_is (f.signed_off, f.moment)) in
     subst (λ (u : View). LeaveKeeps Fact (number c.enter-held.new.pass) u x y (view_left x y (u.lent) (u.told) u)) (sym e.same.1)
-    (leave_keeps x y v p.is_live (off_events v.journal.own.worker t) (v.lent) (v.told) (may_sign_off x y v p.is_live t r) (number c.enter-held.new.pass))
+    (leave_keeps x x y v p.is_live (takes_none x v) (off_events v.journal.own.worker t) (v.lent) (v.told) (may_sign_off x y v p.is_live t r) (number c.enter-held.new.pass))
 
 pub returns-clause-signed_off : goal.returns-clause-signed_off
 returns-clause-signed_off g c =
@@ -70,7 +70,7 @@ returns-clause-signed_off g c =
     c.leave.ensures.view ∙ ap (λ (u : View). view_left x y (u.lent) (u.told) u) e.same.1 in
     subst (λ w. SignsOff w t v (view c.leave.new.pass)) p.worker_is
     (subst (λ (u : View). SignsOff v.journal.own.worker t v u) (sym is)
-    (holds x y v p.is_live (off_events v.journal.own.worker t) (v.lent) (v.told) (may_sign_off x y v p.is_live t r) (number p.turn) e.rule (SignsOffAs v.journal.own.worker t) r))
+    (holds x x y v p.is_live (takes_none x v) (off_events v.journal.own.worker t) (v.lent) (v.told) (may_sign_off x y v p.is_live t r) (number p.turn) e.rule (SignsOffAs v.journal.own.worker t) r))
 
 pub invariant_of-pass-clause-seen_is : goal.invariant_of-pass-clause-seen_is
 invariant_of-pass-clause-seen_is g c =
@@ -86,5 +86,5 @@ invariant_of-pass-clause-seen_is g c =
     let is : view c.leave.new.pass ≡ view_left x y (v.lent) (v.told) v =
     c.leave.ensures.view ∙ ap (λ (u : View). view_left x y (u.lent) (u.told) u) e.same.1 in
     ap (λ (u : View). length u.journal.seen) is
-    ∙ ap length (seen_is x y v p.is_live (off_events v.journal.own.worker t) (v.lent) (v.told) (may_sign_off x y v p.is_live t r) (number p.turn) e.rule)
+    ∙ ap length (seen_is x x y v p.is_live (takes_none x v) (off_events v.journal.own.worker t) (v.lent) (v.told) (may_sign_off x y v p.is_live t r) (number p.turn) e.rule)
     ∙ ap length (ap (λ (z : GraphValue). z.table.journal) (sym c.state.ensures) ∙ sym c.journal.ensures.events)

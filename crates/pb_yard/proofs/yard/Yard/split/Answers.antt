@@ -23,6 +23,7 @@ invariant_of-result c =
       worker_is = ap (λ (u : View). u.journal.own.worker) is ∙ made;
       made_is = ap (λ (u : View). u.journal.made % 4294967296) (sym is);
       seen_is = ap (λ (u : View). length u.journal.seen) is ∙ p.seen_is;
+      last_is = ap (λ (u : View). u.last) is;
       in_range = subst (λ (u : View). AreInRange u.settings) (sym is) p.in_range;
       counts = λ none. absurd (omega arith);
       has_parts = λ none. absurd (omega arith);

@@ -1,0 +1,125 @@
+-- What a pass reads as the incumbent, and what the graph takes of it.
+use Rattle.std.proofs.Common.{◌≡◌, ℕ, ◌==◌, ◌||◌, Bool, true, false, IsTrue, List, Option, Some, None, refl, sym, ap, ◌∙◌, subst, arith}
+use Rattle.std.specs.List.{list_any}
+use mathlib.Core.Option.{some}
+use lib.ListN.{get_elem?}
+use Rattle.pb_turn.specs.Obligations.{Stands}
+use Rattle.pb_model.specs.Store.{lesser, AtMost}
+use Rattle.pb_model.proofs.Incumbents.{at_most_trans}
+use Rattle.pb_model.proofs.Tests.{equal_self}
+use Rattle.pb_lease.specs.LeaseValue.{LeaseValue}
+use Rattle.pb_lease.specs.GraphValue.{GraphValue}
+use Rattle.pb_lease.proofs.MomentsStay.{bound_taken}
+use Rattle.pb_task.specs.Parts.{space_of}
+use Rattle.pb_model.specs.Work.{Work}
+use Rattle.pb_machine.specs.Turns.{AreLeaseTurns}
+use Rattle.pb_machine.proofs.LeaseWork.{lease_work_stays}
+use Rattle.pb_lease.specs.LeaseValue.{leased_store}
+use Rattle.pb_lease.specs.Leased.{guide_of}
+use Rattle.pb_yard.specs.Returning.{IsBrought}
+use Rattle.pb_yard.specs.declared.view.View.{View}
+use Rattle.pb_yard.specs.Views.{cost_of, bounded, with_read, view_read}
+use Rattle.pb_yard.specs.Rule.{rows_of, was_read, IsYard}
+use Rattle.pb_yard.proofs.Parts.{GoesOnAs, still_of_graph, search_same}
+use Rattle.pb_yard.proofs.Meaning.{known_above}
+use Rattle.pb_yard.proofs.Clauses.{Fact, MayTake}
+
+-- what was read is among the costs that were read
+pub reads_it : (held : Option GraphValue) (v : View) (incumbent : Option ℕ) (cost : ℕ) → incumbent ≡ Some cost → IsTrue (was_read (view_read held v incumbent) (Some cost))
+reads_it held v incumbent cost is = subst (λ o. IsTrue (list_any (λ number. number == cost) (with_read o v.read))) (sym is) (ap (λ r. r || list_any (λ number. number == cost) v.read) (equal_self cost))
+
+-- the graph that takes what the pass has read is a moment as before
+pub bounded_yard : (f : GraphValue) (bound shared : Option ℕ) (views : List View) → (h : IsYard f shared views)
+    → ((cost : ℕ) → bound ≡ Some cost → (worker : ℕ) → h.machine.known worker (Some cost) ≡ true) → IsYard (bounded f bound) shared views
+bounded_yard f None shared views h known = h
+bounded_yard f (Some cost) shared views h known =
+    let y = bounded f (Some cost) in
+    let same : GoesOnAs f y = record { task = refl; graph = refl; settings = refl } in
+    record {
+      is_setup = h.is_setup;
+      in_range = h.in_range;
+      moves = h.moves;
+      machine = h.machine;
+      lent = h.lent;
+      settled = h.settled;
+      run = h.run;
+      journal = h.journal;
+      moment = bound_taken f cost (λ worker. rows_of (h.lent worker)) h.machine h.moment (λ worker. known cost refl worker);
+      shared_is = h.shared_is;
+      leases = h.leases;
+      lent_is = λ worker lease is. let k = h.lent_is worker lease is in record { worker_is = k.worker_is; of_graph = still_of_graph f y same lease refl k.of_graph; unused = k.unused; given = k.given };
+      journals = h.journals;
+      each = λ other u there up. let k = h.each other u there up in record { lent = k.lent; told = k.told; search = search_same f y same u k.search; known = k.known; copy = k.copy };
+      recent = λ other u there up. let k = h.recent other u there up in record { read_by = k.read_by; fresh = k.fresh };
+      others = h.others;
+    }
+
+pub bounded_journal : (f : GraphValue) (bound : Option ℕ) → (bounded f bound).table.journal ≡ f.table.journal
+bounded_journal f None = refl
+bounded_journal f (Some cost) = refl
+
+pub takes_read : (f : GraphValue) (v : View) (held : Option GraphValue) (incumbent : Option ℕ) → v.journal.is_live ≡ true → MayTake f (bounded f incumbent) (view_read held v incumbent)
+takes_read f v held incumbent live = (
+  bounded_journal f incumbent,
+  λ number views seat h at. bounded_yard f incumbent (cost_of number) views h
+      (λ cost is worker. (h.each seat (view_read held v incumbent) at live).known.read (Some cost) (reads_it held v incumbent cost is) worker),
+)
+
+-- the graph's incumbent is then what was read
+pub bounded_is : (f : GraphValue) (incumbent : Option ℕ) → AtMost incumbent f.incumbent → (bounded f incumbent).incumbent ≡ incumbent
+bounded_is f None most = go f.incumbent most
+  where
+    go : (o : Option ℕ) → AtMost None o → o ≡ None
+    go None h = refl
+    go (Some cost) h = absurd h
+bounded_is f (Some cost) most = go f.incumbent most
+  where
+    go : (o : Option ℕ) → AtMost (Some cost) o → lesser o (Some cost) ≡ Some cost
+    go None h = refl
+    go (Some other) h = ap (λ n. Some n) (omega (arith, h))
+
+-- what is read is at most the graph's incumbent, and what the pass has read or told
+pub read_falls : (x : GraphValue) (number : ℕ) (views : List View) (seat : ℕ) (v : View) → Fact x number views → get_elem? views seat ≡ some v → v.journal.is_live ≡ true
+    → AtMost (cost_of number) x.incumbent × AtMost (cost_of number) v.last
+read_falls x number views seat v h at live = (
+  known_above x (cost_of number) views h v.journal.own.worker x.incumbent (h.moment.incumbent v.journal.own.worker),
+  known_above x (cost_of number) views h v.journal.own.worker v.last (h.each seat v at live).known.last,
+)
+
+-- the graph of a yard that is closed, with the last number as its incumbent
+pub closing_yard : (f : GraphValue) (number : ℕ) (views : List View) → Fact f number views → IsYard (bounded f (cost_of number)) (bounded f (cost_of number)).incumbent views
+closing_yard f number views h =
+    let y = bounded_yard f (cost_of number) (cost_of number) views h (λ cost is worker. subst (λ o. h.machine.known worker o ≡ true) (h.shared_is ∙ is) (h.moment.lawful.is_known worker)) in
+    subst (λ o. IsYard (bounded f (cost_of number)) o views) (sym (bounded_is f (cost_of number) (known_above f (cost_of number) views h 0 f.incumbent (h.moment.incumbent 0)))) y
+
+-- what a holder that has read finds
+pub entered : (f : GraphValue) (v : View) (o : Option ℕ) (seat : ℕ) (u : View) → u ≡ view_read (Some f) v o → v.journal.is_live ≡ true → Stands Fact seat u f
+    → (number : ℕ) × (views : List View) × IsYard (bounded f o) (cost_of number) views × (get_elem? views seat ≡ some (view_read (Some f) v o))
+entered f v o seat u is live (number, (views, h, at)) = let here = at ∙ ap (λ (z : View). some z) is in (number, views, (takes_read f v (Some f) o live).1 number views seat h here, here)
+
+-- what was brought before the pass read is brought after
+pub brought_on : (v : View) (held : Option GraphValue) (o : Option ℕ) (most_broken : ℕ) (lease : LeaseValue) → AtMost o v.last → IsBrought v most_broken lease → IsBrought (view_read held v o) most_broken lease
+brought_on v held o most_broken lease falls b =
+    let stays = lease_work_stays (space_of v.task) (guide_of v.task v.graph) b.lent.block lease.used most_broken most_broken (was_read v) (was_read (view_read held v o)) (leased_store b.lent) (leased_store lease) b.work (omega arith) more in
+    record {
+      lent = b.lent;
+      lent_is = b.lent_is;
+      same = b.same;
+      weights = b.weights;
+      work = stays.0;
+      turns = subst (λ (works : List Work). AreLeaseTurns (space_of v.task) (guide_of v.task v.graph) works (leased_store b.lent)) (sym stays.1) b.turns;
+      copy = at_most_trans o v.last lease.incumbent falls b.copy;
+      told = b.told;
+    }
+  where
+    more : (incumbent : Option ℕ) → was_read v incumbent ≡ true → was_read (view_read held v o) incumbent ≡ true
+    more None has = has
+    more (Some cost) has = go o
+      where
+        or_yes : (a : Bool) → (a || true) ≡ true
+        or_yes true = refl
+        or_yes false = refl
+
+        go : (o : Option ℕ) → list_any (λ number. number == cost) (with_read o v.read) ≡ true
+        go None = has
+        go (Some new) = ap (λ r. (new == cost) || r) has ∙ or_yes (new == cost)

@@ -1,0 +1,93 @@
+//! The incumbent of the whole search, which stands in a word beside the graph.
+ghost use Rattle.std.specs.Prelude.{◌≡◌, ◌<◌, ℕ, true, Some, None};
+ghost use Rattle.pb_turn.specs.Obligations.{Stands};
+ghost use Rattle.pb_turn.specs.Passes.{view, number, found, state, HoldsTurn, IsResting, IsPassOf};
+ghost use Rattle.pb_turn.specs.Passes as turns;
+ghost use Rattle.pb_model.specs.Store.{lesser, AtMost};
+ghost use Rattle.pb_lease.specs.GraphValue.{GraphValue};
+ghost use Rattle.pb_yard.specs.Views.{cost_of, bounded, view_read, view_told};
+ghost use Rattle.pb_yard.specs.Rule.{IsAt, YardFact};
+ghost use Rattle.pb_yard.specs.Returning.{IsFound};
+ghost use Rattle.pb_yard.specs.Passes.{view_of, IsOf, KeepsPass};
+ghost use Rattle.pb_yard.specs.Calls.{HasPlanWithin};
+
+use crate::pass::Pass;
+use crate::rule::YardRule;
+use crate::yard::Yard;
+use pb_lease::Lease;
+use pb_turn::Held;
+use std::sync::Wait;
+
+// The incumbent that the word says.
+pub(crate) fn cost(number: u64) -> Option<u64>
+    ensures { result ≡ cost_of number }
+{
+    if number == u64::MAX {
+        None
+    } else {
+        Some(number)
+    }
+}
+
+// The lesser of two costs, of which the first may be unknown.
+fn lesser_of(first: Option<u64>, cost: u64) -> u64
+    ensures { Some result ≡ lesser first (Some cost) }
+{
+    match first {
+        Some(other) => other.min(cost),
+        None => cost,
+    }
+}
+
+impl Yard {
+    /// Reads the incumbent: the least cost that any worker has found or told. It never waits. A pass never sees it rise.
+    pub fn glance(&self, pass: &mut Pass) -> Option<u64>
+        requires own { IsOf self.now pass.old }
+        ensures same { KeepsPass pass.old pass.new }
+        ensures falls { AtMost result (view_of pass.old).last }
+        ensures shared { (g : GraphValue) × (at : IsAt g (view_of pass.old)) × (at.shared ≡ result) }
+        ensures view { view_of pass.new ≡ view_read None (view_of pass.old) result }
+        ensures plan { (cost : ℕ) → result ≡ Some cost → HasPlanWithin (view_of pass.old) cost }
+    {
+        let incumbent = cost(self.lock.word(&mut pass.turn));
+        pass.last = incumbent;
+        incumbent
+    }
+
+    /// Tells a cost at which the pass's lease reaches a goal: the incumbent becomes the lesser of both. It never waits.
+    pub fn lower(&self, pass: &mut Pass, lease: &Lease, cost: u64)
+        requires own { IsOf self.now pass.old }
+        requires fits { cost < 18446744073709551615 }
+        requires found { IsFound (view_of pass.old) lease.now cost }
+        ensures same { KeepsPass pass.old pass.new }
+        ensures view { view_of pass.new ≡ view_told (view_of pass.old) cost }
+    {
+        let _ = lease;
+        self.lock.lower_word(&mut pass.turn, cost);
+        pass.last = Some(lesser_of(pass.last, cost));
+    }
+
+    // Takes the turn and reads the incumbent, which the graph takes.
+    pub(crate) fn enter_reading<W: Wait>(
+        &self,
+        rt: &W,
+        turn: &mut pb_turn::Pass<YardRule>,
+    ) -> (Held<YardRule>, Option<u64>)
+        requires own { IsPassOf self.now.lock turn.old }
+        requires rests { IsResting turn.old }
+        requires live { (view turn.old).journal.is_live ≡ true }
+        ensures same { turns.IsSamePass turn.old turn.new }
+        ensures won { HoldsTurn turn.new (found result.0) }
+        ensures graph { state result.0 ≡ bounded (found result.0) result.1 }
+        ensures view { view turn.new ≡ view_read (Some (found result.0)) (view turn.old) result.1 }
+        ensures rule { Stands YardFact (number turn.old) (view turn.new) (found result.0) }
+        ensures falls { AtMost result.1 (view turn.old).last × AtMost result.1 (found result.0).incumbent }
+    {
+        let mut held = self.lock.enter(rt, turn);
+        let incumbent = cost(self.lock.word(turn));
+        if let Some(known) = incumbent {
+            held.state_mut().take_bound(known);
+        }
+        (held, incumbent)
+    }
+}
