@@ -1,9 +1,7 @@
-//! Tests of plans and certificates: what is saved, and what the checker says of it.
+//! Tests of plans and certificates: what is saved.
 #![tactic(auto)]
 
 #[cfg(test)]
 mod halves;
-#[cfg(test)]
-mod judged;
 #[cfg(test)]
 mod saved;

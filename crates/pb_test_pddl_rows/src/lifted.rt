@@ -1,8 +1,8 @@
 //! Lifted tasks as lines of numbers.
 use crate::lines::Lines;
+use crate::trees::trees_of;
 use pb_lifted::{Argument, Lifted, LiftedAtom, LiftedError, Schema, resolve};
 use pb_outside::Memory;
-use pb_syntax::{SyntaxError, read_domain, read_problem};
 use std::alloc::Global;
 
 fn add_atom(lines: &mut Lines, atom: &LiftedAtom) -> Result<(), Memory> {
@@ -41,15 +41,8 @@ pub(crate) fn lifted_of(
     domain: &[u8],
     problem: &[u8],
 ) -> Result<Option<Lifted>, Memory> {
-    let domain = match read_domain(alloc, domain) {
-        Ok(domain) => domain,
-        Err(SyntaxError::Memory) => return Err(Memory),
-        Err(_) => return Ok(None),
-    };
-    let problem = match read_problem(alloc, problem) {
-        Ok(problem) => problem,
-        Err(SyntaxError::Memory) => return Err(Memory),
-        Err(_) => return Ok(None),
+    let Some((domain, problem)) = trees_of(alloc, domain, problem)? else {
+        return Ok(None);
     };
     match resolve(alloc, &domain, &problem) {
         Ok(lifted) => Ok(Some(lifted)),

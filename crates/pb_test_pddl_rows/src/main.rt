@@ -2,14 +2,16 @@
 //! differs.
 //!
 //! The words of a row are `domain FILE`, `problem FILE`, `domain-prefixes FILE`, `problem-prefixes FILE`,
-//! `facts FILE`, `lifted DOMAIN PROBLEM` or `ground DOMAIN PROBLEM`.
+//! `facts FILE`, `lifted DOMAIN PROBLEM`, `ground DOMAIN PROBLEM`, `task DOMAIN PROBLEM` or `plan DOMAIN PROBLEM NUMBER..`.
 #![tactic(auto)]
 
 mod ground;
 mod lifted;
 mod lines;
 mod prefixes;
+mod task;
 mod tree;
+mod trees;
 
 use crate::lines::Lines;
 use pb_outside::{MemShelf, MemSink, Memory, Sink};
@@ -53,6 +55,8 @@ fn answer(alloc: Global, words: &[String], shelf: &MemShelf) -> Result<Option<Li
         "facts" => tree::facts(alloc, first),
         "lifted" => lifted::lifted_lines(alloc, first, second),
         "ground" => ground::ground_lines(alloc, first, second),
+        "task" => task::task_lines(alloc, first, second),
+        "plan" => task::plan_line(alloc, first, second, words.get(3..).unwrap_or(&[])),
         _ => Ok(None),
     }
 }

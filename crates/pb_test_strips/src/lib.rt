@@ -1,5 +1,5 @@
-//! Tests of tasks in PDDL: the ground actions by their names, plans, and refusals.
+//! Tests of tasks in PDDL: names that no text spells.
 #![tactic(auto)]
 
 #[cfg(test)]
-mod small_tasks;
+mod printed;
