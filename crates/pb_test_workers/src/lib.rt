@@ -7,3 +7,5 @@ mod alone;
 mod searches;
 #[cfg(test)]
 mod several;
+#[cfg(test)]
+mod watched;
