@@ -1,14 +1,15 @@
 -- Turns under a watch of the incumbent.
-use Rattle.std.proofs.Common.{◌≡◌, ℕ, ◌+◌, ◌-◌, ◌<◌, ◌≤◌, ◌^◌, Bool, true, false, ◌||◌, Option, Some, None, IsTrue, refl, sym, ap, ◌∙◌, subst, arith, ◌⊎◌, inl, inr, true≢false}
+use Rattle.std.proofs.Common.{◌≡◌, ℕ, ◌+◌, ◌-◌, ◌<◌, ◌≤◌, ◌^◌, Bool, true, false, ◌||◌, List, [], ◌∷◌, ◌++◌, Option, Some, None, IsTrue, refl, sym, ap, ◌∙◌, subst, arith, ◌⊎◌, inl, inr, true≢false}
 use Rattle.pb_model.specs.declared.row.Row.{Row}
 use Rattle.pb_model.specs.Key.{IsFirstRow}
 use Rattle.pb_model.specs.Space.{Space}
 use Rattle.pb_model.specs.Guide.{Guide}
 use Rattle.pb_model.specs.Store.{Store, HasGoalWithin, AtMost, lesser}
-use Rattle.pb_model.specs.Work.{broken_expansions}
+use Rattle.std.specs.List.{AllByRecursion}
+use Rattle.pb_model.specs.Work.{Work, store_after, Comes, broken_expansions}
 use Rattle.pb_model.proofs.Backing.{goal_still, goal_within}
 use Rattle.pb_model.proofs.Incumbents.{at_most_self, at_most_trans, lesser_at_most, lesser_falls, lesser_cases}
-use Rattle.pb_machine.specs.Machine.{IsWorked, lent_store}
+use Rattle.pb_machine.specs.Machine.{IsOn, IsWorked, lent_store}
 use Rattle.pb_machine.specs.Turns.{AreLeaseTurns}
 use Rattle.pb_machine.proofs.LeaseWork.{lease_work_goes_on, lease_work_stays}
 use Rattle.pb_machine.proofs.LeaseTurns.{lease_turns_go_on}
@@ -17,12 +18,12 @@ use Rattle.pb_task.specs.Parts.{space_of}
 use Rattle.pb_abstract.specs.Graph.{AbstractGraph}
 use Rattle.pb_lease.specs.LeaseValue.{LeaseValue, leased_store, HasWeights, IsSameLease}
 use Rattle.pb_lease.specs.Leased.{guide_of, setup_of, HasScope}
-use Rattle.pb_expand.specs.Turned.{own_rows, IsAtWork, HasTurned, reads_none}
-use Rattle.pb_expand.specs.Watching.{WatchView, IsFromLent, IsWatched, MayTell, KeepsWatch, HasRead, HasTold, IsAtWatch, HasTurnedWatched}
+use Rattle.pb_expand.specs.Turned.{own_rows, IsAtWork, HasTurned, with_copy, copies_of, HasTurnedOnce, reads_none}
+use Rattle.pb_expand.specs.Watching.{WatchView, IsFromLent, IsWatched, MayTell, KeepsWatch, HasRead, HasTold, IsAtWatch, with_read, HasTurnedReading, HasTurnedWatched}
 use Rattle.pb_expand.specs.Rows.{ChangesRows}
 use Rattle.pb_expand.proofs.Same.{same_none, same_on, same_changed}
 use Rattle.pb_expand.proofs.Known.{scope_on, row_is_home, row_is_cheap}
-use Rattle.pb_expand.proofs.Turned.{turned_none, turned_on, lowered_turned}
+use Rattle.pb_expand.proofs.Turned.{turned_none, turned_on, turned_on_works, lowered_turned}
 
 -- ---- costs
 
@@ -59,10 +60,20 @@ keeps_none view = record { others = refl; knows = λ incumbent k. k; falls = at_
 
 pub keeps_on : (old mid new : WatchView) → KeepsWatch old mid → KeepsWatch mid new → KeepsWatch old new
 keeps_on old mid new first second = record {
-  others = second.others ∙ ap (λ (view : WatchView). record view { read = new.read; least = new.least; told = new.told }) first.others;
+  others = second.others ∙ ap (λ (view : WatchView). record view { read = new.read; answers = new.answers; least = new.least; told = new.told }) first.others;
   knows = λ incumbent k. second.knows incumbent (first.knows incumbent k);
   falls = at_most_trans new.least mid.least old.least second.falls first.falls;
 }
+
+-- ---- what the turns were done with
+
+module _ (space : Space) (guide : Guide) where
+  -- first those of the one list, and then those of the other
+  copies_append : (first second : List Work) (old mid : Store) (before : List (Option ℕ)) → Comes space guide first old mid
+      → copies_of space guide (first ++ second) old before ≡ copies_of space guide second mid (copies_of space guide first old before)
+  copies_append [] second old mid before comes = ap (λ (store : Store). copies_of space guide second store before) (sym comes)
+  copies_append (work ∷ works) second old mid before comes =
+      copies_append works second (store_after space guide work old) mid (with_copy work old.incumbent before) comes.1
 
 module _ (space : Space) (guide : Guide) where
   -- turns are that also where more is known
@@ -75,6 +86,12 @@ module _ (space : Space) (guide : Guide) where
         broken_is = ap broken_expansions same.1 ∙ turned.broken_is;
         turns = subst (λ works. AreLeaseTurns space guide works old) (sym same.1) turned.turns;
       }
+
+  turned_known_works : (known later : Option ℕ → Bool) (block used broken : ℕ) (old new : Store) (more : (incumbent : Option ℕ) → IsTrue (known incumbent) → IsTrue (later incumbent))
+      (turned : HasTurned space guide known block used broken old new) → IsWorked.works (HasTurned.work (turned_known known later block used broken old new more turned)) ≡ turned.work.works
+  unfolding turned_known
+  turned_known_works known later block used broken old new more turned =
+      (lease_work_stays space guide block used broken broken known later old new turned.work (omega arith) more).1
 
   -- a lease that came from the lent one and did more turns came from it
   module _ (was now : WatchView) (kept : KeepsWatch was now) (old new : LeaseValue) (more broken : ℕ)
@@ -107,7 +124,24 @@ module _ (space : Space) (guide : Guide) where
       shown = λ cost is. goal_still space guide turned.work.works (leased_store old) (leased_store new) cost turned.work.comes (shown cost is);
     }
 
-  pub none_watched : (lease : LeaseValue) (view : WatchView) → IsWatched space guide view 0 lease → HasTurnedWatched space guide 0 0 lease view lease view
+  -- turns on a block are that also by another name of it
+  at_block : (known : Option ℕ → Bool) (block same used broken : ℕ) (old new : Store) → block ≡ same → HasTurned space guide known block used broken old new
+      → HasTurned space guide known same used broken old new
+  at_block known block same used broken old new is turned = record {
+    work = record {
+      works = turned.work.works;
+      on = subst (λ b. AllByRecursion (IsOn guide b known) turned.work.works) is turned.work.on;
+      comes = turned.work.comes;
+      used_is = turned.work.used_is;
+      few_broken = turned.work.few_broken;
+      stops = turned.work.stops;
+    };
+    broken_is = turned.broken_is;
+    turns = turned.turns;
+  }
+
+  pub none_watched : {is_read : Bool} → (lease : LeaseValue) (view : WatchView) → IsWatched space guide view 0 lease → HasTurnedWatched space guide 0 0 is_read is_read lease view lease view
+  unfolding turned_none
   none_watched lease view watched = record {
     turned = turned_none space guide lease.block (leased_store lease);
     same = same_none lease;
@@ -116,54 +150,74 @@ module _ (space : Space) (guide : Guide) where
     kept = keeps_none view;
     watched = watched;
     level = λ same. same;
+    reads = λ before is. is;
   }
 
   -- turns go on where others stopped
-  pub watched_then : (first_more more broken : ℕ) (old : LeaseValue) (was : WatchView) (mid : LeaseValue) (between : WatchView) (new : LeaseValue) (now : WatchView)
-      → HasTurnedWatched space guide first_more 0 old was mid between → HasTurnedWatched space guide more broken mid between new now
-      → HasTurnedWatched space guide (first_more + more) broken old was new now
-  watched_then first_more more broken old was mid between new now first second = record {
+  pub watched_then : {read_before read_between read_after : Bool} → (first_more more broken : ℕ) (old : LeaseValue) (was : WatchView) (mid : LeaseValue) (between : WatchView) (new : LeaseValue) (now : WatchView)
+      → HasTurnedWatched space guide first_more 0 read_before read_between old was mid between → HasTurnedWatched space guide more broken read_between read_after mid between new now
+      → HasTurnedWatched space guide (first_more + more) broken read_before read_after old was new now
+  unfolding at_block turned_known
+  watched_then {read_before} {read_between} {read_after} first_more more broken old was mid between new now first second = record {
     turned = turned_on space guide {known = now.read} old.block first_more more broken (leased_store old) (leased_store mid) (leased_store new)
-        (turned_known between.read now.read old.block first_more 0 (leased_store old) (leased_store mid) second.kept.knows first.turned)
-        (subst (λ block. HasTurned space guide now.read block more broken (leased_store mid) (leased_store new)) first.same.block second.turned);
+        known_first second_here;
     same = same_on old mid new first.same second.same;
     used = omega (arith, second.used, first.used);
     weights = λ has. second.weights (first.weights has);
     kept = keeps_on was between now first.kept second.kept;
     watched = second.watched;
     level = λ same. second.level (first.level same);
+    reads = λ before is. second.reads (copies_of space guide first.turned.work.works (leased_store old) before) (first.reads before is) ∙ ap (with_read read_after new.incumbent) (sym (copies before));
   }
+    where
+      known_first : HasTurned space guide now.read old.block first_more 0 (leased_store old) (leased_store mid)
+      known_first = turned_known between.read now.read old.block first_more 0 (leased_store old) (leased_store mid) second.kept.knows first.turned
+
+      second_here : HasTurned space guide now.read old.block more broken (leased_store mid) (leased_store new)
+      second_here = at_block now.read mid.block old.block more broken (leased_store mid) (leased_store new) first.same.block second.turned
+
+      copies : (before : List (Option ℕ))
+          → copies_of space guide (IsWorked.works (HasTurned.work (turned_on space guide {known = now.read} old.block first_more more broken (leased_store old) (leased_store mid) (leased_store new) known_first second_here))) (leased_store old) before
+          ≡ copies_of space guide second.turned.work.works (leased_store mid) (copies_of space guide first.turned.work.works (leased_store old) before)
+      copies before =
+          ap (λ works. copies_of space guide works (leased_store old) before)
+          (turned_on_works space guide {known = now.read} old.block first_more more broken (leased_store old) (leased_store mid) (leased_store new) known_first second_here)
+          ∙ ap (λ works. copies_of space guide (works ++ second.turned.work.works) (leased_store old) before)
+          (turned_known_works between.read now.read old.block first_more 0 (leased_store old) (leased_store mid) second.kept.knows first.turned)
+          ∙ copies_append space guide first.turned.work.works second.turned.work.works (leased_store old) (leased_store mid) before first.turned.work.comes
 
   -- ---- one turn
 
-  -- turns that leave the lease's incumbent, while the watch does nothing
+  -- one turn that leaves the lease's incumbent, while the watch does nothing
   pub unread_turned : (old new : LeaseValue) (view : WatchView) (more broken : ℕ) → IsWatched space guide view 0 old
-      → HasTurned space guide view.read old.block more broken (leased_store old) (leased_store new) → IsSameLease old new → new.used ≡ old.used + more → (HasWeights old → HasWeights new)
-      → new.incumbent ≡ old.incumbent → HasTurnedWatched space guide more broken old view new view
-  unread_turned old new view more broken watched turned same used weights incumbent = record {
-    turned = turned;
+      → HasTurnedOnce space guide view.read old.block more broken (leased_store old) (leased_store new) → IsSameLease old new → new.used ≡ old.used + more → (HasWeights old → HasWeights new)
+      → new.incumbent ≡ old.incumbent → HasTurnedWatched space guide more broken true false old view new view
+  unread_turned old new view more broken watched once same used weights incumbent = record {
+    turned = once.turned;
     same = same;
     used = used;
     weights = weights;
     kept = keeps_none view;
-    watched = watched_on view view (keeps_none view) old new more broken turned same used watched.from (subst (λ u. AtMost view.least u) (sym incumbent) watched.copy) watched.shown;
+    watched = watched_on view view (keeps_none view) old new more broken once.turned same used watched.from (subst (λ u. AtMost view.least u) (sym incumbent) watched.copy) watched.shown;
     level = λ level. incumbent ∙ level;
+    reads = λ before is. is ∙ sym (once.once before);
   }
 
   -- a goal's row was taken after its cost was told
   pub told_turned : (old new : LeaseValue) (was now : WatchView) (cost : ℕ) → IsWatched space guide was 0 old → HasTold was cost now → HasGoalWithin space guide (leased_store old) cost
-      → HasTurned space guide now.read old.block 0 0 (leased_store old) (leased_store new) → IsSameLease old new → new.used ≡ old.used → (HasWeights old → HasWeights new)
-      → new.incumbent ≡ lesser old.incumbent (Some cost) → HasTurnedWatched space guide 0 0 old was new now
-  told_turned old new was now cost watched told goal turned same used weights incumbent = record {
-    turned = turned;
+      → HasTurnedOnce space guide now.read old.block 0 0 (leased_store old) (leased_store new) → IsSameLease old new → new.used ≡ old.used
+      → (HasWeights old → HasWeights new) → new.incumbent ≡ lesser old.incumbent (Some cost) → HasTurnedWatched space guide 0 0 true false old was new now
+  told_turned old new was now cost watched told goal once same used weights incumbent = record {
+    turned = once.turned;
     same = same;
     used = omega (arith, used);
     weights = weights;
     kept = told.kept;
-    watched = watched_on was now told.kept old new 0 0 turned same (omega (arith, used)) watched.from
+    watched = watched_on was now told.kept old new 0 0 once.turned same (omega (arith, used)) watched.from
         (subst (λ u. AtMost now.least u) (sym incumbent) (subst (λ u. AtMost u (lesser old.incumbent (Some cost))) (sym told.least) (lesser_falls was.least old.incumbent cost watched.copy)))
         (λ most is. which most (lesser_cases was.told cost most (sym told.told ∙ is)));
     level = λ level. incumbent ∙ ap (λ u. lesser u (Some cost)) level ∙ sym told.least;
+    reads = λ before is. told.answers ∙ is ∙ sym (once.once before);
   }
     where
       which : (most : ℕ) → ((cost ≤ most) ⊎ ((before : ℕ) × (was.told ≡ Some before) × (before ≤ most))) → HasGoalWithin space guide (leased_store old) most
@@ -182,9 +236,10 @@ module _ (space : Space) (guide : Guide) where
         let low : AtMost None was.least = subst (λ u. AtMost u was.least) (sym read.least) read.kept.falls in
         incumbent ∙ none_below old.incumbent (at_most_trans None was.least old.incumbent low watched.copy) ∙ read.least
 
-    read_turned : (found : Option ℕ) → HasRead was found now → HasTurned space guide now.read old.block 0 0 (leased_store old) (leased_store new) → IsSameLease old new → new.used ≡ old.used
-        → (HasWeights old → HasWeights new) → new.incumbent ≡ now.least → HasTurnedWatched space guide 0 0 old was new now
-    read_turned found read turned same used weights copy = record {
+    read_turned : (found : Option ℕ) → HasRead was found now → (turned : HasTurned space guide now.read old.block 0 0 (leased_store old) (leased_store new))
+        → ((before : List (Option ℕ)) → copies_of space guide turned.work.works (leased_store old) before ≡ before) → IsSameLease old new → new.used ≡ old.used
+        → (HasWeights old → HasWeights new) → new.incumbent ≡ now.least → HasTurnedWatched space guide 0 0 false true old was new now
+    read_turned found read turned none same used weights copy = record {
       turned = turned;
       same = same;
       used = omega (arith, used);
@@ -193,27 +248,26 @@ module _ (space : Space) (guide : Guide) where
       watched = watched_on was now read.kept old new 0 0 turned same (omega (arith, used)) watched.from (subst (λ u. AtMost now.least u) (sym copy) (at_most_self now.least))
           (λ cost is. watched.shown cost (sym read.told ∙ is));
       level = λ level. copy;
+      reads = λ before is. read.answers ∙ (λ i. (read.least ∙ sym copy) i ∷ (is ∙ sym (none before)) i);
     }
 
   -- what was read was taken, if it was a cost
   taken : (old : LeaseValue) (was now : WatchView) (found : Option ℕ) → HasRead was found now → IsWatched space guide was 0 old
-      → HasTurnedWatched space guide 0 0 old was (record old { incumbent = lesser old.incumbent found }) now
+      → HasTurnedWatched space guide 0 0 false true old was (record old { incumbent = lesser old.incumbent found }) now
+  unfolding turned_none lowered_turned
   taken old was now None read watched =
-      let new : LeaseValue = record old { incumbent = lesser old.incumbent None } in
-      let same : lesser old.incumbent None ≡ old.incumbent = lesser_none old.incumbent in
-      read_turned old new was now watched None read
-      (subst (λ u. HasTurned space guide now.read old.block 0 0 (leased_store old) (leased_store (record old { incumbent = u }))) (sym same) (turned_none space guide old.block (leased_store old)))
-      (same_lowered old None) refl (λ has. has) (none_copy old new was now watched read same)
+      subst (λ u. HasTurnedWatched space guide 0 0 false true old was (record old { incumbent = u }) now) (sym (lesser_none old.incumbent))
+      (read_turned old old was now watched None read (turned_none space guide old.block (leased_store old)) (λ before. refl) (same_none old) refl (λ has. has) (none_copy old old was now watched read refl))
   taken old was now (Some cost) read watched =
       let new : LeaseValue = record old { incumbent = lesser old.incumbent (Some cost) } in
       read_turned old new was now watched (Some cost) read
-      (lowered_turned space guide now.read old.block old new cost (read.read cost refl) refl)
+      (lowered_turned space guide now.read old.block old new cost (read.read cost refl) refl) (λ before. refl)
       (same_lowered old (Some cost)) refl (λ has. has) (read_copy old new was now watched cost read refl)
 
   pub read_taken : (old : LeaseValue) (was : WatchView) (found : Option ℕ) (new : LeaseValue) (now : WatchView) → HasRead was found now
-      → new ≡ record old { incumbent = lesser old.incumbent found } → IsWatched space guide was 0 old → HasTurnedWatched space guide 0 0 old was new now
+      → new ≡ record old { incumbent = lesser old.incumbent found } → IsWatched space guide was 0 old → HasTurnedWatched space guide 0 0 false true old was new now
   read_taken old was found new now read is watched =
-      subst (λ (lease : LeaseValue). HasTurnedWatched space guide 0 0 old was lease now) (sym is) (taken old was now found read watched)
+      subst (λ (lease : LeaseValue). HasTurnedWatched space guide 0 0 false true old was lease now) (sym is) (taken old was now found read watched)
 
   -- so the lease has what is known
   pub taken_copy : (old : LeaseValue) (was : WatchView) (found : Option ℕ) (new : LeaseValue) (now : WatchView) → HasRead was found now
@@ -222,35 +276,35 @@ module _ (space : Space) (guide : Guide) where
   taken_copy old was (Some cost) new now read is watched = read_copy old new was now watched cost read (ap (λ (lease : LeaseValue). lease.incumbent) is)
 
   -- a row was cut that may be cut
-  pub cut_watched : (old new : LeaseValue) (view : WatchView) → IsWatched space guide view 0 old → HasTurned space guide view.read old.block 0 0 (leased_store old) (leased_store new)
-      → ChangesRows old new → HasTurnedWatched space guide 0 0 old view new view
-  cut_watched old new view watched turned changes =
+  pub cut_watched : (old new : LeaseValue) (view : WatchView) → IsWatched space guide view 0 old → HasTurnedOnce space guide view.read old.block 0 0 (leased_store old) (leased_store new)
+      → ChangesRows old new → HasTurnedWatched space guide 0 0 true false old view new view
+  cut_watched old new view watched once changes =
       let used : new.used ≡ old.used = ap (λ (lease : LeaseValue). lease.used) changes.others in
-      unread_turned old new view 0 0 watched turned (same_changed old new changes) (omega (arith, used)) changes.weights
+      unread_turned old new view 0 0 watched once (same_changed old new changes) (omega (arith, used)) changes.weights
       (ap (λ (lease : LeaseValue). lease.incumbent) changes.others)
 
   -- a goal's row was taken
   pub take_watched : (old new : LeaseValue) (was now : WatchView) (cost : ℕ) → IsWatched space guide was 0 old → HasTold was cost now → HasGoalWithin space guide (leased_store old) cost
-      → HasTurned space guide now.read old.block 0 0 (leased_store old) (leased_store new) → ChangesRows (record old { incumbent = lesser old.incumbent (Some cost) }) new
-      → HasTurnedWatched space guide 0 0 old was new now
-  take_watched old new was now cost watched told goal turned changes =
-      told_turned old new was now cost watched told goal turned
+      → HasTurnedOnce space guide now.read old.block 0 0 (leased_store old) (leased_store new)
+      → ChangesRows (record old { incumbent = lesser old.incumbent (Some cost) }) new → HasTurnedWatched space guide 0 0 true false old was new now
+  take_watched old new was now cost watched told goal once changes =
+      told_turned old new was now cost watched told goal once
       (same_on old (record old { incumbent = lesser old.incumbent (Some cost) }) new (same_lowered old (Some cost)) (same_changed (record old { incumbent = lesser old.incumbent (Some cost) }) new changes))
       (ap (λ (lease : LeaseValue). lease.used) changes.others) changes.weights (ap (λ (lease : LeaseValue). lease.incumbent) changes.others)
 
   -- so the count of expansions tells how many there were
-  pub watched_far : (more broken : ℕ) (first : LeaseValue) (start : WatchView) (old : LeaseValue) (was : WatchView) (new : LeaseValue) (now : WatchView) → first.used ≤ old.used
-      → HasTurnedWatched space guide (old.used - first.used) 0 first start old was → HasTurnedWatched space guide more broken old was new now
-      → HasTurnedWatched space guide (new.used - first.used) broken first start new now
-  watched_far more broken first start old was new now counted before turned =
+  pub watched_far : {read_before read_between read_after : Bool} → (more broken : ℕ) (first : LeaseValue) (start : WatchView) (old : LeaseValue) (was : WatchView) (new : LeaseValue) (now : WatchView) → first.used ≤ old.used
+      → HasTurnedWatched space guide (old.used - first.used) 0 read_before read_between first start old was → HasTurnedWatched space guide more broken read_between read_after old was new now
+      → HasTurnedWatched space guide (new.used - first.used) broken read_before read_after first start new now
+  watched_far {read_before} {read_between} {read_after} more broken first start old was new now counted before turned =
       let used : new.used ≡ old.used + more = turned.used in
       let sum : (old.used - first.used) + more ≡ new.used - first.used = omega (arith, used, counted) in
-      subst (λ n. HasTurnedWatched space guide n broken first start new now) sum (watched_then (old.used - first.used) more broken first start old was new now before turned)
+      subst (λ n. HasTurnedWatched space guide n broken read_before read_after first start new now) sum (watched_then (old.used - first.used) more broken first start old was new now before turned)
 
 -- ---- a lease at work under a watch
 
-module _ (task : TaskParts) (graph : AbstractGraph) (old new : LeaseValue) (was now : WatchView) (more : ℕ)
-    (turned : HasTurnedWatched (space_of task) (guide_of task graph) more 0 old was new now) where
+module _ (task : TaskParts) (graph : AbstractGraph) {read_before read_after : Bool} (old new : LeaseValue) (was now : WatchView) (more : ℕ)
+    (turned : HasTurnedWatched (space_of task) (guide_of task graph) more 0 read_before read_after old was new now) where
   at_work_after : IsAtWork task graph old → IsAtWork task graph new
   at_work_after at =
       let known : Option ℕ → Bool = λ incumbent. at.known incumbent || now.read incumbent in
@@ -285,41 +339,62 @@ module _ (task : TaskParts) (graph : AbstractGraph) (old new : LeaseValue) (was 
   }
 
 -- turns without an expansion leave it at work under the watch
-module _ (task : TaskParts) (graph : AbstractGraph) (old new : LeaseValue) (was now : WatchView) (turned : HasTurnedWatched (space_of task) (guide_of task graph) 0 0 old was new now) where
+module _ (task : TaskParts) (graph : AbstractGraph) {read_before read_after : Bool} (old new : LeaseValue) (was now : WatchView)
+    (turned : HasTurnedWatched (space_of task) (guide_of task graph) 0 0 read_before read_after old was new now) where
   pub at_watch_still : IsAtWatch task graph was old → IsAtWatch task graph now new
   at_watch_still at = at_watch_on task graph old new was now 0 turned at (omega (arith, turned.used, turned.same.quota, at.within))
 
 module _ (task : TaskParts) (graph : AbstractGraph) (first : LeaseValue) (start : WatchView) (old : LeaseValue) (was : WatchView) (new : LeaseValue) (now : WatchView) where
   -- and others may follow
-  pub then_still : IsAtWatch task graph start first → HasTurnedWatched (space_of task) (guide_of task graph) 0 0 first start old was
-      → (IsAtWatch task graph was old → HasTurnedWatched (space_of task) (guide_of task graph) 0 0 old was new now) → HasTurnedWatched (space_of task) (guide_of task graph) 0 0 first start new now
+  pub then_still : {read_before read_between read_after : Bool} → IsAtWatch task graph start first
+      → HasTurnedWatched (space_of task) (guide_of task graph) 0 0 read_before read_between first start old was
+      → (IsAtWatch task graph was old → HasTurnedWatched (space_of task) (guide_of task graph) 0 0 read_between read_after old was new now)
+      → HasTurnedWatched (space_of task) (guide_of task graph) 0 0 read_before read_after first start new now
   then_still at before next =
       watched_then (space_of task) (guide_of task graph) 0 0 0 first start old was new now before (next (at_watch_still task graph first old start was before at))
 
   -- how far the work has come
-  pub record IsFarWatched (broken : ℕ) : Type 0 where
-    pub turned : HasTurnedWatched (space_of task) (guide_of task graph) (new.used - first.used) broken first start new now
+  pub record IsFarWatched (broken : ℕ) (read_after : Bool) : Type 0 where
+    pub turned : HasTurnedWatched (space_of task) (guide_of task graph) (new.used - first.used) broken false read_after first start new now
     pub counted : first.used ≤ new.used
     pub scope : HasScope graph new
 
-  pub far_on : (more broken : ℕ) → IsAtWatch task graph was old → first.used ≤ old.used → HasTurnedWatched (space_of task) (guide_of task graph) (old.used - first.used) 0 first start old was
-      → HasTurnedWatched (space_of task) (guide_of task graph) more broken old was new now → IsFarWatched broken
+  pub far_on : {read_after : Bool} → (more broken : ℕ) → IsAtWatch task graph was old → first.used ≤ old.used
+      → HasTurnedWatched (space_of task) (guide_of task graph) (old.used - first.used) 0 false false first start old was
+      → HasTurnedWatched (space_of task) (guide_of task graph) more broken false read_after old was new now → IsFarWatched broken read_after
   far_on more broken at counted before turned = record {
     turned = watched_far (space_of task) (guide_of task graph) more broken first start old was new now counted before turned;
     counted = omega (arith, turned.used, counted);
     scope = scope_on task graph old new 0 at.at_work turned.same (turned.weights at.at_work.scope.weights);
   }
 
+-- what work under a watch has done, which began with no read
+pub as_read : (space : Space) (guide : Guide) {read_after : Bool} (more broken : ℕ) (old : LeaseValue) (was : WatchView) (new : LeaseValue) (now : WatchView)
+    → HasTurnedWatched space guide more broken false read_after old was new now
+    → HasTurnedReading space guide now.read old.block more broken read_after (leased_store old) (leased_store new) was.answers now.answers
+as_read space guide more broken old was new now turned = record { turned = turned.turned; reads = turned.reads was.answers refl }
+
 -- ---- what a turn needs
 
--- turns that read nothing, under a watch that does nothing meanwhile
+-- one turn that reads nothing, under a watch that does nothing meanwhile
 pub expanded : (task : TaskParts) (graph : AbstractGraph) (old new : LeaseValue) (view : WatchView) (more broken : ℕ) → IsAtWatch task graph view old
-    → HasTurned (space_of task) (guide_of task graph) reads_none old.block more broken (leased_store old) (leased_store new) → IsSameLease old new → new.used ≡ old.used + more → HasWeights new
-    → new.incumbent ≡ old.incumbent → HasTurnedWatched (space_of task) (guide_of task graph) more broken old view new view
-expanded task graph old new view more broken at turned same used weights incumbent =
+    → HasTurnedOnce (space_of task) (guide_of task graph) reads_none old.block more broken (leased_store old) (leased_store new) → IsSameLease old new → new.used ≡ old.used + more → HasWeights new
+    → new.incumbent ≡ old.incumbent → HasTurnedWatched (space_of task) (guide_of task graph) more broken true false old view new view
+expanded task graph old new view more broken at once same used weights incumbent =
     unread_turned (space_of task) (guide_of task graph) old new view more broken at.watched
-    (turned_known (space_of task) (guide_of task graph) reads_none view.read old.block more broken (leased_store old) (leased_store new) (λ incumbent k. absurd (true≢false (sym k))) turned)
+    (record { turned = turned_known (space_of task) (guide_of task graph) reads_none view.read old.block more broken (leased_store old) (leased_store new) unread once.turned; once = one })
     same used (λ has. weights) incumbent
+  where
+    unread : (incumbent : Option ℕ) → IsTrue (reads_none incumbent) → IsTrue (view.read incumbent)
+    unread incumbent k = absurd (true≢false (sym k))
+
+    one : (before : List (Option ℕ))
+        → copies_of (space_of task) (guide_of task graph) (IsWorked.works (HasTurned.work (turned_known (space_of task) (guide_of task graph) reads_none view.read old.block more broken (leased_store old) (leased_store new) unread once.turned))) (leased_store old) before
+        ≡ old.incumbent ∷ before
+    one before =
+        ap (λ works. copies_of (space_of task) (guide_of task graph) works (leased_store old) before)
+        (turned_known_works (space_of task) (guide_of task graph) reads_none view.read old.block more broken (leased_store old) (leased_store new) unread once.turned)
+        ∙ once.once before
 
 module _ (task : TaskParts) (graph : AbstractGraph) (view : WatchView) (lease : LeaseValue) (at : IsAtWatch task graph view lease) (state : ℕ) (row : Row)
     (first : IsFirstRow lease.weight (own_rows lease) state row) (goal : IsTrue ((space_of task).is_goal state)) where

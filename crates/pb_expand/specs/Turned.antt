@@ -1,11 +1,11 @@
 -- What a worker may do with a lease, and what it has done.
-use Rattle.std.specs.Prelude.{◌≡◌, ℕ, Bool, false, Option, Some, IsFalse}
+use Rattle.std.specs.Prelude.{◌≡◌, ℕ, Bool, false, List, [], ◌∷◌, Option, Some, IsFalse}
 use Rattle.pb_model.specs.declared.row.Row.{Row}
 use Rattle.pb_model.specs.Space.{Space}
 use Rattle.pb_model.specs.Guide.{Guide}
 use Rattle.pb_model.specs.Store.{Part, Store, MayBeCut}
 use Rattle.pb_model.specs.Key.{IsFirstRow}
-use Rattle.pb_model.specs.Work.{broken_expansions}
+use Rattle.pb_model.specs.Work.{Work, lower, store_after, broken_expansions}
 use Rattle.pb_machine.specs.declared.settings.Settings.{Settings}
 use Rattle.pb_machine.specs.Settings.{AreInRange}
 use Rattle.pb_machine.specs.Machine.{IsSetup, Machine, IsWorked, lent_store}
@@ -46,6 +46,21 @@ pub record HasTurned (space : Space) (guide : Guide) (known : Option ℕ → Boo
   pub work : IsWorked space guide block used broken known old new
   pub broken_is : broken_expansions work.works ≡ broken
   pub turns : AreLeaseTurns space guide work.works old
+
+-- the incumbent that the work was done with, unless it is itself the taking of one that was read
+abbrev pub with_copy : Work → (incumbent : Option ℕ) → (before : List (Option ℕ)) → List (Option ℕ)
+with_copy (lower cost) incumbent before = before
+with_copy work incumbent before = incumbent ∷ before
+
+-- the incumbent that each turn was done with, the last one first, and then these
+abbrev pub copies_of : Space → Guide → List Work → (old : Store) → (before : List (Option ℕ)) → List (Option ℕ)
+copies_of space guide [] old before = before
+copies_of space guide (work ∷ works) old before = copies_of space guide works (store_after space guide work old) (with_copy work old.incumbent before)
+
+-- the same by one turn
+pub record HasTurnedOnce (space : Space) (guide : Guide) (known : Option ℕ → Bool) (block used broken : ℕ) (old new : Store) : Type 0 where
+  pub turned : HasTurned space guide known block used broken old new
+  pub once : (before : List (Option ℕ)) → copies_of space guide turned.work.works old before ≡ old.incumbent ∷ before
 
 -- the state has this row, which is the first Opened one of the lease's block, and the next turn is its expansion
 pub record IsNext (space : Space) (lease : LeaseValue) (state : ℕ) (row : Row) : Type 0 where

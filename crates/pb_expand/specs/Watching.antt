@@ -1,8 +1,8 @@
 -- What a worker that watches the incumbent knows, and what it shows of its lease.
-use Rattle.std.specs.Prelude.{◌≡◌, ℕ, ◌+◌, ◌-◌, ◌<◌, ◌≤◌, ◌^◌, Bool, Option, Some, IsTrue}
+use Rattle.std.specs.Prelude.{◌≡◌, ℕ, ◌+◌, ◌-◌, ◌<◌, ◌≤◌, ◌^◌, Bool, true, false, List, ◌∷◌, Option, Some, IsTrue}
 use Rattle.pb_model.specs.Space.{Space}
 use Rattle.pb_model.specs.Guide.{Guide}
-use Rattle.pb_model.specs.Store.{HasGoalWithin, AtMost, lesser}
+use Rattle.pb_model.specs.Store.{Store, HasGoalWithin, AtMost, lesser}
 use Rattle.pb_machine.specs.Machine.{IsWorked}
 use Rattle.pb_machine.specs.Turns.{AreLeaseTurns}
 use Rattle.pb_task.specs.declared.parts.TaskParts.{TaskParts}
@@ -10,15 +10,17 @@ use Rattle.pb_task.specs.Parts.{space_of}
 use Rattle.pb_abstract.specs.Graph.{AbstractGraph}
 use Rattle.pb_lease.specs.LeaseValue.{LeaseValue, leased_store, HasWeights, IsSameLease}
 use Rattle.pb_lease.specs.Leased.{guide_of}
-use Rattle.pb_expand.specs.Turned.{IsAtWork, HasTurned}
+use Rattle.pb_expand.specs.Turned.{IsAtWork, HasTurned, copies_of}
 
 -- What a watch knows: what is searched and by which blocks, the lease as it was given or last renewed, what it has read as the
--- incumbent, the least cost that it has read or told, and the least one that it has told since the lease was given or last renewed.
+-- incumbent, what each of its reads has found, the last one first, the least cost that it has read or told, and the least one that it
+-- has told since the lease was given or last renewed.
 pub record WatchView : Type 0 where
   pub task : TaskParts
   pub graph : AbstractGraph
   pub lent : Option LeaseValue
   pub read : Option ℕ → Bool
+  pub answers : List (Option ℕ)
   pub least : Option ℕ
   pub told : Option ℕ
 
@@ -47,22 +49,24 @@ pub record MayTell (view : WatchView) (lease : LeaseValue) (cost : ℕ) : Type 0
 
 -- It is the same search and the same lent lease, what was read stays read, and the least cost doesn't rise.
 pub record KeepsWatch (old new : WatchView) : Type 0 where
-  pub others : new ≡ record old { read = new.read; least = new.least; told = new.told }
+  pub others : new ≡ record old { read = new.read; answers = new.answers; least = new.least; told = new.told }
   pub knows : (incumbent : Option ℕ) → IsTrue (old.read incumbent) → IsTrue (new.read incumbent)
   pub falls : AtMost new.least old.least
 
--- The watch has read this as the incumbent, which is the least cost that it knows now.
+-- The watch has read once, and found this as the incumbent, which is the least cost that it knows now.
 pub record HasRead (old : WatchView) (found : Option ℕ) (new : WatchView) : Type 0 where
   pub kept : KeepsWatch old new
   pub told : new.told ≡ old.told
   pub read : (cost : ℕ) → found ≡ Some cost → IsTrue (new.read (Some cost))
   pub least : found ≡ new.least
+  pub answers : new.answers ≡ found ∷ old.answers
 
--- The watch has told the cost.
+-- The watch has told the cost, and read nothing.
 pub record HasTold (old : WatchView) (cost : ℕ) (new : WatchView) : Type 0 where
   pub kept : KeepsWatch old new
   pub told : new.told ≡ lesser old.told (Some cost)
   pub least : new.least ≡ lesser old.least (Some cost)
+  pub answers : new.answers ≡ old.answers
 
 -- The lease may be worked on under this watch.
 pub record IsAtWatch (task : TaskParts) (graph : AbstractGraph) (view : WatchView) (lease : LeaseValue) : Type 0 where
@@ -72,9 +76,23 @@ pub record IsAtWatch (task : TaskParts) (graph : AbstractGraph) (view : WatchVie
   pub watched : IsWatched (space_of task) (guide_of task graph) view 0 lease
   pub within : lease.used ≤ lease.quota
 
+-- ---- a read before each turn
+
+-- these, and before them this one, if it was read and no turn came after that
+abbrev pub with_read : (is_read : Bool) → (incumbent : Option ℕ) → (before : List (Option ℕ)) → List (Option ℕ)
+with_read true incumbent before = incumbent ∷ before
+with_read false incumbent before = before
+
+-- These turns, with a read before each: what was read, one after another, is what the turns were done with, one after another. Each
+-- turn has a read of its own, and there is no other read but the last, where it came after the last turn: it found what the store has.
+pub record HasTurnedReading (space : Space) (guide : Guide) (known : Option ℕ → Bool) (block used broken : ℕ) (read_after : Bool) (old new : Store) (was now : List (Option ℕ)) : Type 0 where
+  pub turned : HasTurned space guide known block used broken old new
+  pub reads : now ≡ with_read read_after new.incumbent (copies_of space guide turned.work.works old was)
+
 -- From the one lease to the other its worker did turns under the watch, with exactly this many expansions more, and exactly this many
--- that were broken off. If the lease's incumbent was what the watch had read or told, it still is.
-pub record HasTurnedWatched (space : Space) (guide : Guide) (more broken : ℕ) (old : LeaseValue) (was : WatchView) (new : LeaseValue) (now : WatchView) : Type 0 where
+-- that were broken off. If the lease's incumbent was what the watch had read or told, it still is. Each turn has a read of its own
+-- before it, where `read_before` says whether one was made before the first, and `read_after` whether one was made after the last.
+pub record HasTurnedWatched (space : Space) (guide : Guide) (more broken : ℕ) (read_before read_after : Bool) (old : LeaseValue) (was : WatchView) (new : LeaseValue) (now : WatchView) : Type 0 where
   pub turned : HasTurned space guide now.read old.block more broken (leased_store old) (leased_store new)
   pub same : IsSameLease old new
   pub used : new.used ≡ old.used + more
@@ -82,3 +100,5 @@ pub record HasTurnedWatched (space : Space) (guide : Guide) (more broken : ℕ) 
   pub kept : KeepsWatch was now
   pub watched : IsWatched space guide now broken new
   pub level : old.incumbent ≡ was.least → new.incumbent ≡ now.least
+  pub reads : (before : List (Option ℕ)) → was.answers ≡ with_read read_before old.incumbent before
+      → now.answers ≡ with_read read_after new.incumbent (copies_of space guide turned.work.works (leased_store old) before)

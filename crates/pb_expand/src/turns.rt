@@ -8,7 +8,7 @@ ghost use Rattle.pb_abstract.specs.Graph.{AbstractGraph, IsGraphOf};
 ghost use Rattle.pb_bundles.specs.Parts.{content_in};
 ghost use Rattle.pb_lease.specs.LeaseValue.{leased_store, HasWeights, IsSameLease};
 ghost use Rattle.pb_lease.specs.Leased.{guide_of};
-ghost use Rattle.pb_expand.specs.Turned.{own_rows, IsAtWork, HasTurned, IsNext, reads_none};
+ghost use Rattle.pb_expand.specs.Turned.{own_rows, IsAtWork, HasTurned, IsNext, reads_none, HasTurnedOnce};
 ghost use Rattle.pb_expand.specs.Rows.{own_opened};
 
 use crate::bundles::{close, cut, first};
@@ -82,9 +82,9 @@ pub fn expand(
     requires at_work { IsAtWork task.now graph.now lease.old }
     requires next { IsNext (space_of task.now) lease.old state.now row.now }
     requires left { lease.old.used < lease.old.quota }
-    ensures turned { OnOk result (HasTurned (space_of task.now) (guide_of task.now graph.now) reads_none lease.old.block 1 0 (leased_store lease.old) (leased_store lease.new)) }
+    ensures turned { OnOk result (HasTurnedOnce (space_of task.now) (guide_of task.now graph.now) reads_none lease.old.block 1 0 (leased_store lease.old) (leased_store lease.new)) }
     ensures used { OnOk result (lease.new.used ≡ lease.old.used + 1) }
-    ensures broken { OnErr result (HasTurned (space_of task.now) (guide_of task.now graph.now) reads_none lease.old.block 0 1 (leased_store lease.old) (leased_store lease.new)) }
+    ensures broken { OnErr result (HasTurnedOnce (space_of task.now) (guide_of task.now graph.now) reads_none lease.old.block 0 1 (leased_store lease.old) (leased_store lease.new)) }
     ensures unused { OnErr result (lease.new.used ≡ lease.old.used) }
     ensures opened { OnErr result (HasOpened (own_rows lease.new)) }
     ensures incumbent { lease.new.incumbent ≡ lease.old.incumbent }

@@ -1,5 +1,5 @@
 //! The turns of a worker that reads the incumbent before each, and tells each better cost before it has it.
-ghost use Rattle.std.specs.Prelude.{◌≡◌, ◌-◌, ◌<◌, ◌≤◌, ◌↔◌, ℕ, true, false, IsSome, IfSome, IfNone, vec_capacity};
+ghost use Rattle.std.specs.Prelude.{◌≡◌, ◌-◌, ◌<◌, ◌≤◌, ◌↔◌, ◌∷◌, ℕ, true, false, not, IsSome, IfSome, IfNone, vec_capacity};
 ghost use Rattle.pb_model.specs.Space.{Space};
 ghost use Rattle.pb_model.specs.Guide.{Guide};
 ghost use Rattle.pb_model.specs.Store.{HasOpened, lesser};
@@ -11,10 +11,10 @@ ghost use Rattle.pb_abstract.specs.Graph.{AbstractGraph, IsGraphOf};
 ghost use Rattle.pb_bundles.specs.Parts.{content_in};
 ghost use Rattle.pb_lease.specs.LeaseValue.{leased_store, HasWeights, IsSameLease};
 ghost use Rattle.pb_lease.specs.Leased.{guide_of, HasScope};
-ghost use Rattle.pb_expand.specs.Turned.{own_rows, IsAtWork, HasTurned, IsNext};
+ghost use Rattle.pb_expand.specs.Turned.{own_rows, IsAtWork, IsNext};
 ghost use Rattle.pb_expand.specs.Rows.{own_opened};
-ghost use Rattle.pb_expand.specs.Worked.{broken_by};
-ghost use Rattle.pb_expand.specs.Watching.{IsWatched, KeepsWatch, IsAtWatch, HasTurnedWatched};
+ghost use Rattle.pb_expand.specs.Worked.{broken_by, ends_with_read};
+ghost use Rattle.pb_expand.specs.Watching.{IsWatched, KeepsWatch, IsAtWatch, HasTurnedReading, HasTurnedWatched};
 ghost use Rattle.pb_expand.specs.declared.working.Worked.TheVariants.{Spent, Empty, Memory};
 
 use crate::bundles::{cut, first};
@@ -46,8 +46,9 @@ fn next_row<W: Watch>(lease: &mut Lease, watch: &mut W) -> Option<(Packed, Row)>
     ensures can { W.can watch.new }
     ensures stays { W.stays watch.old watch.new }
     ensures turned { (space : Space) (guide : Guide) → IsWatched space guide (W.seen watch.old) 0 lease.old
-        → HasTurnedWatched space guide 0 0 lease.old (W.seen watch.old) lease.new (W.seen watch.new) }
+        → HasTurnedWatched space guide 0 0 false true lease.old (W.seen watch.old) lease.new (W.seen watch.new) }
     ensures copy { (space : Space) (guide : Guide) → IsWatched space guide (W.seen watch.old) 0 lease.old → lease.new.incumbent ≡ (W.seen watch.new).least }
+    ensures one { (space : Space) (guide : Guide) → IsWatched space guide (W.seen watch.old) 0 lease.old → (W.seen watch.new).answers ≡ lease.new.incumbent ∷ (W.seen watch.old).answers }
     ensures opened { own_opened lease.new ≡ own_opened lease.old }
     ensures some { IfSome result (λ found. IsFirstRow lease.new.weight (own_rows lease.new) found.0 found.1) }
     ensures none { IfNone result (HasOpened (own_rows lease.new) → ⊥) }
@@ -71,7 +72,8 @@ fn settle_row_watched<W: Watch>(
     ensures can { W.can watch.new }
     ensures stays { W.stays watch.old watch.new }
     ensures turned { (graph : AbstractGraph) → IsAtWatch task.now graph (W.seen watch.old) lease.old
-        → HasTurnedWatched (space_of task.now) (guide_of task.now graph) 0 0 lease.old (W.seen watch.old) lease.new (W.seen watch.new) }
+        → HasTurnedWatched (space_of task.now) (guide_of task.now graph) 0 0 true (not result) lease.old (W.seen watch.old) lease.new (W.seen watch.new) }
+    ensures none { (W.seen watch.new).answers ≡ (W.seen watch.old).answers }
     ensures fewer { result ≡ true → own_opened lease.new < own_opened lease.old }
     ensures next { result ≡ false → IsNext (space_of task.now) lease.new state.now row.now }
 {
@@ -95,7 +97,7 @@ fn settle_watched<W: Watch>(task: &Task, lease: &mut Lease, watch: &mut W) -> Op
     ensures can { W.can watch.new }
     ensures stays { W.stays watch.old watch.new }
     ensures turned { (graph : AbstractGraph) → IsAtWatch task.now graph (W.seen watch.old) lease.old
-        → HasTurnedWatched (space_of task.now) (guide_of task.now graph) 0 0 lease.old (W.seen watch.old) lease.new (W.seen watch.new) }
+        → HasTurnedWatched (space_of task.now) (guide_of task.now graph) 0 0 false true lease.old (W.seen watch.old) lease.new (W.seen watch.new) }
     ensures same { IsSameLease lease.old lease.new }
     ensures used { lease.new.used ≡ lease.old.used }
     ensures copy { lease.new.incumbent ≡ (W.seen watch.new).least }
@@ -129,9 +131,9 @@ pub fn work_watched<W: Watch>(
     requires graph_is { (W.seen watch.old).graph ≡ graph.now }
     requires watched { IsWatched (space_of task.now) (guide_of task.now graph.now) (W.seen watch.old) 0 lease.old }
 
-    // What was done: as many expansions as are counted, one that was broken off where memory was wanted, and what was read.
-    ensures turned { HasTurned (space_of task.now) (guide_of task.now graph.now) (W.seen watch.new).read lease.old.block (lease.new.used - lease.old.used) (broken_by result)
-        (leased_store lease.old) (leased_store lease.new) }
+    // What was done: as many expansions as are counted, one that was broken off if it ran out of memory, and a read before each turn.
+    ensures turned { HasTurnedReading (space_of task.now) (guide_of task.now graph.now) (W.seen watch.new).read lease.old.block (lease.new.used - lease.old.used) (broken_by result)
+        (ends_with_read result) (leased_store lease.old) (leased_store lease.new) (W.seen watch.old).answers (W.seen watch.new).answers }
     ensures counted { lease.old.used ≤ lease.new.used }
     ensures within { lease.new.used ≤ lease.new.quota }
 

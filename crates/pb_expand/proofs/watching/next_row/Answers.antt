@@ -1,4 +1,4 @@
-use Rattle.std.proofs.Common.{IsSome, sym, ap, subst}
+use Rattle.std.proofs.Common.{◌∷◌, ◌∙◌, Option, ℕ, IsSome, sym, ap, subst}
 use Rattle.pb_bundles.specs.Parts.{content_in}
 use Rattle.pb_lease.specs.LeaseValue.{LeaseValue, HasWeights}
 use Rattle.pb_expand.specs.Rows.{own_opened}
@@ -21,3 +21,10 @@ returns-clause-opened g c = ap own_opened c.take_read.ensures
 pub returns-clause-copy : goal.returns-clause-copy
 returns-clause-copy g c = λ space guide watched.
     taken_copy space guide c.args.lease.now (g.W.Watch.seen c.args.watch.now) c.read-found.result c.take_read.new.lease (g.W.Watch.seen c.read-found.new.self) c.read-found.ensures.read c.take_read.ensures watched
+
+pub returns-clause-one : goal.returns-clause-one
+returns-clause-one g c = λ space guide watched.
+    c.read-found.ensures.read.answers
+    ∙ ap (λ (found : Option ℕ). found ∷ (g.W.Watch.seen c.args.watch.now).answers)
+    (c.read-found.ensures.read.least
+    ∙ sym (taken_copy space guide c.args.lease.now (g.W.Watch.seen c.args.watch.now) c.read-found.result c.take_read.new.lease (g.W.Watch.seen c.read-found.new.self) c.read-found.ensures.read c.take_read.ensures watched))

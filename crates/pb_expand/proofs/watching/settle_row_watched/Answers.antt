@@ -38,3 +38,6 @@ returns-then-may_be_cut-clause-stays g c = g.W.Watch.stays_none c.args.watch.now
 
 pub returns-else-is_goal-clause-stays : goal.returns-else-is_goal-clause-stays
 returns-else-is_goal-clause-stays g c = g.W.Watch.stays_none c.args.watch.now
+
+pub returns-then-is_goal-clause-none : goal.returns-then-is_goal-clause-none
+returns-then-is_goal-clause-none g c = c.tell.ensures.told.answers

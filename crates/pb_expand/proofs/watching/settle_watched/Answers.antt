@@ -1,4 +1,4 @@
-use Rattle.std.proofs.Common.{arith}
+use Rattle.std.proofs.Common.{true, not, subst, arith}
 use Rattle.pb_task.specs.Parts.{space_of}
 use Rattle.pb_lease.specs.Leased.{guide_of}
 use Rattle.pb_expand.specs.Watching.{IsAtWatch, HasTurnedWatched}
@@ -34,7 +34,7 @@ pub returns-then-not-settle_row_watched-clause-turned : goal.returns-then-not-se
 returns-then-not-settle_row_watched-clause-turned g c = λ graph at.
     then_still c.args.task.now graph c.args.lease.now (g.W.Watch.seen c.args.watch.now) c.next_row.new.lease (g.W.Watch.seen c.next_row.new.watch) c.settle_row_watched.new.lease (g.W.Watch.seen c.settle_row_watched.new.watch) at
     (then_still c.args.task.now graph c.args.lease.now (g.W.Watch.seen c.args.watch.now) c.loop-state.lease (g.W.Watch.seen c.loop-state.watch) c.next_row.new.lease (g.W.Watch.seen c.next_row.new.watch) at (c.loop-state.invariant.turned graph at) (λ here. c.next_row.ensures.turned (space_of c.args.task.now) (guide_of c.args.task.now graph) here.watched))
-    (λ here. c.settle_row_watched.ensures.turned graph here)
+    (λ here. subst (λ settled. HasTurnedWatched (space_of c.args.task.now) (guide_of c.args.task.now graph) 0 0 true (not settled) c.next_row.new.lease (g.W.Watch.seen c.next_row.new.watch) c.settle_row_watched.new.lease (g.W.Watch.seen c.settle_row_watched.new.watch)) c.if-not-settle_row_watched.true (c.settle_row_watched.ensures.turned graph here))
 
 pub returns-then-not-settle_row_watched-clause-same : goal.returns-then-not-settle_row_watched-clause-same
 returns-then-not-settle_row_watched-clause-same g c = HasTurnedWatched.same
@@ -55,7 +55,7 @@ loop-state-preserved g c = record {
   turned = λ graph at.
       then_still c.args.task.now graph c.args.lease.now (g.W.Watch.seen c.args.watch.now) c.next_row.new.lease (g.W.Watch.seen c.next_row.new.watch) c.settle_row_watched.new.lease (g.W.Watch.seen c.settle_row_watched.new.watch) at
       (then_still c.args.task.now graph c.args.lease.now (g.W.Watch.seen c.args.watch.now) c.loop-state.lease (g.W.Watch.seen c.loop-state.watch) c.next_row.new.lease (g.W.Watch.seen c.next_row.new.watch) at (c.loop-state.invariant.turned graph at) (λ here. c.next_row.ensures.turned (space_of c.args.task.now) (guide_of c.args.task.now graph) here.watched))
-      (λ here. c.settle_row_watched.ensures.turned graph here);
+      (λ here. subst (λ settled. HasTurnedWatched (space_of c.args.task.now) (guide_of c.args.task.now graph) 0 0 true (not settled) c.next_row.new.lease (g.W.Watch.seen c.next_row.new.watch) c.settle_row_watched.new.lease (g.W.Watch.seen c.settle_row_watched.new.watch)) c.if-not-settle_row_watched.false (c.settle_row_watched.ensures.turned graph here));
 }
 
 pub returns-clause-turned : goal.returns-clause-turned

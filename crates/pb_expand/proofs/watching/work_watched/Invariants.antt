@@ -1,4 +1,4 @@
-use Rattle.std.proofs.Common.{◌-◌, ◌≤◌, vec_capacity}
+use Rattle.std.proofs.Common.{false, ◌-◌, ◌≤◌, vec_capacity}
 use Rattle.pb_task.specs.Parts.{space_of}
 use Rattle.pb_estimate.specs.Tables.{IsOfTask}
 use Rattle.pb_lease.specs.Leased.{guide_of}
@@ -8,7 +8,7 @@ use Rattle.pb_expand.proofs.watching.work_watched.Given as goal
 abbrev pub invariant-loop-state : goal.invariant-loop-state
 invariant-loop-state g l = record {
   at : IsAtWatch l.task l.graph (g.W.Watch.seen l.watch) l.lease;
-  turned : HasTurnedWatched (space_of l.task) (guide_of l.task l.graph) (l.lease.used - l.initial.lease.used) 0 l.initial.lease (g.W.Watch.seen l.initial.watch) l.lease (g.W.Watch.seen l.watch);
+  turned : HasTurnedWatched (space_of l.task) (guide_of l.task l.graph) (l.lease.used - l.initial.lease.used) 0 false false l.initial.lease (g.W.Watch.seen l.initial.watch) l.lease (g.W.Watch.seen l.watch);
   counted : l.initial.lease.used ≤ l.lease.used;
   can : g.W.Watch.can l.watch;
   stays : g.W.Watch.stays l.initial.watch l.watch;

@@ -60,7 +60,7 @@ loop-state-preserved c =
     (farther c.args.task.now c.args.graph.now c.args.lease.now c.loop-state.lease c.settle.new.lease
     (record { turned = c.loop-state.invariant.turned; counted = c.loop-state.invariant.counted; at_work = c.loop-state.invariant.at_work; same = c.loop-state.invariant.same }) 0 (c.settle.ensures.turned c.args.graph.now c.loop-state.invariant.at_work)
     c.settle.ensures.same (omega (arith, c.settle.ensures.used)) c.settle.ensures.weights)
-    1 c.in-Ok.ensures.turned c.expand.ensures.same c.in-Ok.ensures.used c.expand.ensures.weights in
+    1 c.in-Ok.ensures.turned.turned c.expand.ensures.same c.in-Ok.ensures.used c.expand.ensures.weights in
     record {
       turned = far.turned;
       counted = far.counted;
@@ -77,7 +77,7 @@ returns-in-Err-clause-turned c =
     (farther c.args.task.now c.args.graph.now c.args.lease.now c.loop-state.lease c.settle.new.lease
     (record { turned = c.loop-state.invariant.turned; counted = c.loop-state.invariant.counted; at_work = c.loop-state.invariant.at_work; same = c.loop-state.invariant.same }) 0 (c.settle.ensures.turned c.args.graph.now c.loop-state.invariant.at_work)
     c.settle.ensures.same (omega (arith, c.settle.ensures.used)) c.settle.ensures.weights)
-    0 1 c.in-Err.ensures.broken c.expand.ensures.same (omega (arith, c.in-Err.ensures.unused)) c.expand.ensures.weights
+    0 1 c.in-Err.ensures.broken.turned c.expand.ensures.same (omega (arith, c.in-Err.ensures.unused)) c.expand.ensures.weights
 
 pub returns-in-Err-clause-out : goal.returns-in-Err-clause-out
 returns-in-Err-clause-out c =
@@ -85,7 +85,7 @@ returns-in-Err-clause-out c =
     (farther c.args.task.now c.args.graph.now c.args.lease.now c.loop-state.lease c.settle.new.lease
     (record { turned = c.loop-state.invariant.turned; counted = c.loop-state.invariant.counted; at_work = c.loop-state.invariant.at_work; same = c.loop-state.invariant.same }) 0 (c.settle.ensures.turned c.args.graph.now c.loop-state.invariant.at_work)
     c.settle.ensures.same (omega (arith, c.settle.ensures.used)) c.settle.ensures.weights)
-    0 1 c.in-Err.ensures.broken c.expand.ensures.same (omega (arith, c.in-Err.ensures.unused)) c.expand.ensures.weights
+    0 1 c.in-Err.ensures.broken.turned c.expand.ensures.same (omega (arith, c.in-Err.ensures.unused)) c.expand.ensures.weights
 
 pub returns-in-Err-clause-scope : goal.returns-in-Err-clause-scope
 returns-in-Err-clause-scope c =
@@ -93,7 +93,7 @@ returns-in-Err-clause-scope c =
     (farther c.args.task.now c.args.graph.now c.args.lease.now c.loop-state.lease c.settle.new.lease
     (record { turned = c.loop-state.invariant.turned; counted = c.loop-state.invariant.counted; at_work = c.loop-state.invariant.at_work; same = c.loop-state.invariant.same }) 0 (c.settle.ensures.turned c.args.graph.now c.loop-state.invariant.at_work)
     c.settle.ensures.same (omega (arith, c.settle.ensures.used)) c.settle.ensures.weights)
-    0 1 c.in-Err.ensures.broken c.expand.ensures.same (omega (arith, c.in-Err.ensures.unused)) c.expand.ensures.weights
+    0 1 c.in-Err.ensures.broken.turned c.expand.ensures.same (omega (arith, c.in-Err.ensures.unused)) c.expand.ensures.weights
 
 pub returns-clause-turned : goal.returns-clause-turned
 returns-clause-turned c =
