@@ -1,5 +1,5 @@
 -- What a pass reads as the incumbent, and what the graph takes of it.
-use Rattle.std.proofs.Common.{◌≡◌, ℕ, ◌==◌, ◌||◌, Bool, true, false, IsTrue, List, Option, Some, None, refl, sym, ap, ◌∙◌, subst, arith}
+use Rattle.std.proofs.Common.{◌≡◌, ℕ, ◌==◌, ◌||◌, Bool, true, false, IsTrue, List, ◌∷◌, Option, Some, None, refl, sym, ap, ◌∙◌, subst, arith}
 use Rattle.std.specs.List.{list_any}
 use mathlib.Core.Option.{some}
 use lib.ListN.{get_elem?}
@@ -18,15 +18,15 @@ use Rattle.pb_lease.specs.LeaseValue.{leased_store}
 use Rattle.pb_lease.specs.Leased.{guide_of}
 use Rattle.pb_yard.specs.Returning.{IsBrought}
 use Rattle.pb_yard.specs.declared.view.View.{View}
-use Rattle.pb_yard.specs.Views.{cost_of, bounded, with_read, view_read}
-use Rattle.pb_yard.specs.Rule.{rows_of, was_read, IsYard}
+use Rattle.pb_yard.specs.Views.{cost_of, bounded, view_read}
+use Rattle.pb_yard.specs.Rule.{rows_of, is_cost, was_read, IsYard}
 use Rattle.pb_yard.proofs.Parts.{GoesOnAs, still_of_graph, search_same}
 use Rattle.pb_yard.proofs.Meaning.{known_above}
 use Rattle.pb_yard.proofs.Clauses.{Fact, MayTake}
 
--- what was read is among the costs that were read
+-- what was read is among what the reads found
 pub reads_it : (held : Option GraphValue) (v : View) (incumbent : Option ℕ) (cost : ℕ) → incumbent ≡ Some cost → IsTrue (was_read (view_read held v incumbent) (Some cost))
-reads_it held v incumbent cost is = subst (λ o. IsTrue (list_any (λ number. number == cost) (with_read o v.read))) (sym is) (ap (λ r. r || list_any (λ number. number == cost) v.read) (equal_self cost))
+reads_it held v incumbent cost is = subst (λ o. IsTrue (list_any (is_cost cost) (o ∷ v.read))) (sym is) (ap (λ r. r || list_any (is_cost cost) v.read) (equal_self cost))
 
 -- the graph that takes what the pass has read is a moment as before
 pub bounded_yard : (f : GraphValue) (bound shared : Option ℕ) (views : List View) → (h : IsYard f shared views)
@@ -120,6 +120,6 @@ brought_on v held o most_broken lease falls b =
         or_yes true = refl
         or_yes false = refl
 
-        go : (o : Option ℕ) → list_any (λ number. number == cost) (with_read o v.read) ≡ true
+        go : (o : Option ℕ) → list_any (is_cost cost) (o ∷ v.read) ≡ true
         go None = has
         go (Some new) = ap (λ r. (new == cost) || r) has ∙ or_yes (new == cost)

@@ -30,8 +30,8 @@ use Rattle.pb_lease.specs.GraphValue.{GraphValue, setup_in}
 use Rattle.pb_lease.specs.Moments.{IsMomentAt}
 use Rattle.pb_lease.proofs.WorkedOut.{worked_leases_are_out}
 use Rattle.pb_yard.specs.declared.view.View.{View}
-use Rattle.pb_yard.specs.Views.{cost_of, with_read, view_read, view_told}
-use Rattle.pb_yard.specs.Rule.{rows_of, journal_view, was_read, IsLent, IsViewOf, IsRecent, IsYard}
+use Rattle.pb_yard.specs.Views.{cost_of, view_read, view_told}
+use Rattle.pb_yard.specs.Rule.{rows_of, journal_view, is_cost, was_read, IsLent, IsViewOf, IsRecent, IsYard}
 use Rattle.pb_yard.specs.Returning.{IsFound}
 use Rattle.pb_yard.proofs.InTime.{settled_on, settled_falls}
 use Rattle.pb_yard.proofs.Parts.{at_journal, workers_differ, no_pass_before, unread_recent}
@@ -58,11 +58,11 @@ module _ (seat : ℕ) (v : View) (held : Option GraphValue) (live : v.journal.is
   known_all : (worker : ℕ) → h.machine.known worker (cost_of number) ≡ true
   known_all worker = subst (λ o. h.machine.known worker o ≡ true) h.shared_is (h.moment.lawful.is_known worker)
 
-  now_read : (o : Option ℕ) → ((worker : ℕ) → h.machine.known worker o ≡ true) → (cost : ℕ) → list_any (λ number. number == cost) (with_read o v.read) ≡ true → (worker : ℕ) → h.machine.known worker (Some cost) ≡ true
+  now_read : (o : Option ℕ) → ((worker : ℕ) → h.machine.known worker o ≡ true) → (cost : ℕ) → list_any (is_cost cost) (o ∷ v.read) ≡ true → (worker : ℕ) → h.machine.known worker (Some cost) ≡ true
   now_read None all cost has worker = mine.known.read (Some cost) has worker
   now_read (Some new) all cost has worker = by_cases (new == cost)
       (λ e. subst (λ n. h.machine.known worker (Some n) ≡ true) (equal new cost e) (all worker))
-      (λ e. mine.known.read (Some cost) (sym (ap (λ r. r || list_any (λ number. number == cost) v.read) e) ∙ has) worker)
+      (λ e. mine.known.read (Some cost) (sym (ap (λ r. r || list_any (is_cost cost) v.read) e) ∙ has) worker)
 
   read_known : (incumbent : Option ℕ) → was_read Read incumbent ≡ true → (worker : ℕ) → h.machine.known worker incumbent ≡ true
   read_known None has worker = absurd (true≢false (sym has))

@@ -33,10 +33,15 @@ grant_in (Some lease) = Some (grant_of lease)
 abbrev pub journal_view : View → of_machine.View
 journal_view view = view.journal
 
+-- whether a read found this cost
+abbrev pub is_cost : (cost : ℕ) → (found : Option ℕ) → Bool
+is_cost cost None = false
+is_cost cost (Some number) = number == cost
+
 -- whether the pass has read this as the incumbent
 abbrev pub was_read : View → Option ℕ → Bool
 was_read view None = false
-was_read view (Some cost) = list_any (λ number. number == cost) view.read
+was_read view (Some cost) = list_any (is_cost cost) view.read
 
 -- The lease is the one that the graph gave to this worker, as it was given or last renewed: no
 -- expansion is made, and the incumbent is the one that the machine gave.

@@ -48,11 +48,6 @@ spent_pass_view =
       read_at = None;
     }
 
--- the costs that were read, with this incumbent
-abbrev pub with_read : Option ℕ → List ℕ → List ℕ
-with_read None read = read
-with_read (Some cost) read = cost ∷ read
-
 -- how many events the journal of the graph has that the pass holds, if it holds one
 abbrev pub events_held : Option GraphValue → Option ℕ
 events_held None = None
@@ -60,7 +55,7 @@ events_held (Some g) = Some (length g.table.journal)
 
 -- after its pass read this as the incumbent
 abbrev pub view_read : (held : Option GraphValue) → View → Option ℕ → View
-view_read held view incumbent = record view { last = incumbent; read = with_read incumbent view.read; read_at = events_held held }
+view_read held view incumbent = record view { last = incumbent; read = incumbent ∷ view.read; read_at = events_held held }
 
 -- after its pass told this cost
 abbrev pub view_told : View → (cost : ℕ) → View

@@ -53,8 +53,8 @@ pub struct View {
     pub told: Option<u64>,
     /// The least cost that it has read or told.
     pub last: Option<u64>,
-    /// The costs that it has read.
-    pub read: LinkedList<u64>,
+    /// What each of its reads of the incumbent found, the last one first.
+    pub read: LinkedList<Option<u64>>,
     /// How many events the journal had when it last read, if it held the graph then and did nothing
     /// since.
     pub read_at: Option<u64>,
