@@ -1,5 +1,5 @@
 -- The incumbent of a yard, as a worker watches it while it works.
-use Rattle.std.proofs.Common.{◌≡◌, ℕ, ◌==◌, ◌||◌, Bool, true, false, Option, Some, None, refl, sym, ap, ◌∙◌, arith, subst}
+use Rattle.std.proofs.Common.{◌≡◌, ℕ, ◌==◌, ◌||◌, Bool, true, false, ◌∷◌, Option, Some, None, refl, sym, ap, ◌∙◌, arith, subst}
 use Rattle.std.specs.List.{list_any}
 use Rattle.pb_model.specs.Store.{AtMost}
 use Rattle.pb_model.proofs.Incumbents.{lesser_at_most}
@@ -9,8 +9,8 @@ use Rattle.pb_lease.specs.LeaseValue.{LeaseValue, leased_store}
 use Rattle.pb_lease.specs.Leased.{guide_of}
 use Rattle.pb_expand.specs.Watching.{MayTell, HasRead, HasTold}
 use Rattle.pb_yard.specs.declared.view.View.{View}
-use Rattle.pb_yard.specs.Views.{with_read, view_read, view_told}
-use Rattle.pb_yard.specs.Rule.{was_read}
+use Rattle.pb_yard.specs.Views.{view_read, view_told}
+use Rattle.pb_yard.specs.Rule.{is_cost, was_read}
 use Rattle.pb_yard.specs.Returning.{IsFound}
 use Rattle.pb_yard.proofs.Reading.{reads_it}
 use Rattle.pb_workers.specs.Watching.{watch_view, KeepsLease}
@@ -26,7 +26,7 @@ more_read : (v : View) (read incumbent : Option ℕ) → was_read v incumbent �
 more_read v read None has = has
 more_read v read (Some cost) has = go read
   where
-    go : (o : Option ℕ) → list_any (λ number. number == cost) (with_read o v.read) ≡ true
+    go : (o : Option ℕ) → list_any (is_cost cost) (o ∷ v.read) ≡ true
     go None = has
     go (Some new) = ap (λ r. (new == cost) || r) has ∙ or_yes (new == cost)
 
@@ -36,6 +36,7 @@ reads v new read falls is = subst (λ (u : View). HasRead (watch_view v) read (w
   told = refl;
   read = λ cost read_is. reads_it None v read cost read_is;
   least = refl;
+  answers = refl;
 }
 
 pub still_after_read : (v new : View) (read : Option ℕ) → new ≡ view_read None v read → KeepsLease v new
@@ -63,6 +64,7 @@ tells v new cost is = subst (λ (u : View). HasTold (watch_view v) cost (watch_v
   kept = record { others = refl; knows = λ incumbent has. read_still v cost incumbent has; falls = lesser_at_most v.last (Some cost) };
   told = refl;
   least = refl;
+  answers = refl;
 }
 
 pub still_after_telling : (v new : View) (cost : ℕ) → new ≡ view_told v cost → KeepsLease v new

@@ -9,7 +9,7 @@ use Rattle.pb_workers.specs.declared.yard_watch.YardWatch.{YardWatch}
 
 -- what a watch knows whose pass has this view
 abbrev pub watch_view : View → WatchView
-watch_view view = record { task = view.task; graph = view.graph; lent = view.lent; read = was_read view; least = view.last; told = view.told }
+watch_view view = record { task = view.task; graph = view.graph; lent = view.lent; read = was_read view; answers = view.read; least = view.last; told = view.told }
 
 -- the pass is one of the yard
 abbrev pub IsWatchOf : YardWatch → Type 0

@@ -7,8 +7,8 @@ ghost use Rattle.pb_abstract.specs.Graph.{IsGraphOf};
 ghost use Rattle.pb_lease.specs.LeaseValue.{leased_store, IsSameLease};
 ghost use Rattle.pb_lease.specs.Leased.{guide_of, HasScope};
 ghost use Rattle.pb_expand.specs.Turned.{own_rows, IsAtWork, HasTurned, reads_none};
-ghost use Rattle.pb_expand.specs.Worked.{broken_by};
-ghost use Rattle.pb_expand.specs.Watching.{IsWatched};
+ghost use Rattle.pb_expand.specs.Worked.{broken_by, ends_with_read};
+ghost use Rattle.pb_expand.specs.Watching.{IsWatched, HasTurnedReading};
 ghost use Rattle.pb_expand.specs.declared.working.Worked.TheVariants.{Spent, Empty};
 ghost use Rattle.pb_workers.specs.Tools.{AreFor};
 ghost use Rattle.pb_workers.specs.Holding.{Works};
@@ -109,6 +109,11 @@ impl<'a> Worker<'a> {
         requires graph_is { (W.seen watch.old).graph ≡ self.old.abstraction.now }
         requires watched { IsWatched (space_of self.old.task.now)
             (guide_of self.old.task.now self.old.abstraction.now) (W.seen watch.old) 0 lease.old }
+        ensures turned { HasTurnedReading (space_of self.old.task.now)
+            (guide_of self.old.task.now self.old.abstraction.now) (W.seen watch.new).read
+            lease.old.block (lease.new.used - lease.old.used) (broken_by result)
+            (ends_with_read result) (leased_store lease.old) (leased_store lease.new)
+            (W.seen watch.old).answers (W.seen watch.new).answers }
         ensures watched { IsWatched (space_of self.old.task.now)
             (guide_of self.old.task.now self.old.abstraction.now) (W.seen watch.new)
             (broken_by result) lease.new }
