@@ -21,6 +21,7 @@ pub mod GraphOpening
 pub mod Rivals
 pub mod Renewals
 pub mod Holders
+pub mod Switches
 pub mod StaysOut
 pub mod InOrder
 pub mod WorkedOut

@@ -1,5 +1,5 @@
 -- What each call of a graph leaves.
-use Rattle.std.specs.Prelude.{◌≡◌, ℕ, ◌+◌, ◌-◌, ◌<◌, ◌↔◌, min, Bool, IsTrue, if◌then◌else◌, List, [], ◌∷◌, Option, Some, None}
+use Rattle.std.specs.Prelude.{◌≡◌, ℕ, ◌+◌, ◌-◌, ◌<◌, ◌↔◌, min, Bool, false, IsTrue, if◌then◌else◌, List, [], ◌∷◌, Option, Some, None}
 use Rattle.std.specs.Option.{option_or}
 use Rattle.pb_model.specs.Store.{Rows, lesser}
 use Rattle.pb_model.specs.Local.{merged_store}
@@ -153,6 +153,19 @@ ChoosesByRows old lease new =
     → IsChoiceWithHome old lease new (Some lease.block)
     ↔ IsFirstChoice (blocks old.table) old.table.settings (counts_with_lease_home machine.counts lease.worker lease.used)
     (merged_store ((blocks old.table).scope lease.block) (leased_store lease) machine.store) lease.block
+
+-- ---- a lease that comes back, and another one at once
+
+-- The lease doesn't go on: with it home its block isn't the first choice, or its room is used up. So it comes back, which leaves the graph between,
+-- and from there the worker has the next lease, of the first choice. The release and the lease are the two events, each by its own law.
+pub record IsSwitched (old : GraphValue) (lease next : LeaseValue) (new : GraphValue) : Type 0 where
+  pub between : GraphValue
+  pub stays_not : GoesOn old lease between → ⊥
+  pub first : ChoosesByRows old lease between
+  pub released : IsReleased old lease false between
+  pub released_moment : ReleasesNext old lease false between
+  pub leased : IsLeased between lease.worker next new
+  pub leased_moment : LeasesNext between next new
 
 -- ---- a cost that is known before its lease comes back
 

@@ -21,3 +21,15 @@ pub enum Renewed {
     /// The lease came back.
     Given,
 }
+
+/// What a worker is answered that asks to go on with its lease, or else with another one.
+pub enum SwitchReply {
+    /// The lease came back, and the worker has this one, of the first choice then.
+    Switched(Lease),
+    /// The lease goes on: with it home its block would be the first choice.
+    Kept(Lease),
+    /// The lease came back, and its room was used up, or no block may be leased.
+    Given,
+    /// The lease came back, and want of memory: no other one was leased.
+    Memory,
+}

@@ -55,7 +55,7 @@ impl LeaseGraph {
     }
 
     // The first choice, or None where no block may be leased.
-    fn choice(&self) -> Option<u32>
+    pub(crate) fn choice(&self) -> Option<u32>
         ensures { IsChoice self.now result }
     {
         self.homes
@@ -63,7 +63,7 @@ impl LeaseGraph {
     }
 
     // Leases the first choice to the worker.
-    fn lease_block(&mut self, worker: u32, block: u32) -> Result<Lease, AllocError>
+    pub(crate) fn lease_block(&mut self, worker: u32, block: u32) -> Result<Lease, AllocError>
         requires worker { worker < self.old.table.settings.workers }
         requires vacant { (counts_in self.old).leases worker ≡ None }
         requires stays { IsFalse ((counts_in self.old).signed_off worker) }

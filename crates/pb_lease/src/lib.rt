@@ -19,9 +19,10 @@ mod marks;
 mod returning;
 mod seat;
 mod seats;
+mod switching;
 mod tables;
 
-pub use answer::{LeaseReply, Renewed};
+pub use answer::{LeaseReply, Renewed, SwitchReply};
 pub use graph::LeaseGraph;
 pub use laws::{
     events_leave_others, leases_stay_out, none_out_can_be_leased, none_out_is_moment,
