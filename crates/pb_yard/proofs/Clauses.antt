@@ -1,5 +1,5 @@
 -- The clauses of the calls that hold the graph.
-use Rattle.std.proofs.Common.{◌≡◌, ℕ, ◌↔◌, ◌⊎◌, inl, inr, Bool, true, false, IsTrue, IsFalse, List, [], ◌∷◌, ◌++◌, length, drop, set, Option, Some, None, refl, sym, ap, ◌∙◌, subst}
+use Rattle.std.proofs.Common.{◌≡◌, ℕ, ◌↔◌, ◌⊎◌, inl, inr, Bool, true, false, IsTrue, IsFalse, List, [], ◌∷◌, ◌++◌, length, drop, set, Option, Some, None, refl, sym, ap, ◌∙◌, subst, true≢false}
 use Rattle.std.proofs.lemmas.List.{append-nil}
 use lib.Seq.{drop-append_seam}
 use mathlib.Core.Option.{some}
@@ -24,14 +24,15 @@ use Rattle.pb_lease.specs.Steps.{IsLeased, LeasesNext, IsEnded, end_events, Keep
 use Rattle.pb_yard.specs.declared.view.View.{View}
 use Rattle.pb_yard.specs.Views.{cost_of, view_then, view_left}
 use Rattle.pb_yard.specs.Order.{HasCause}
-use Rattle.pb_yard.specs.Rule.{YardFact, IsYard}
+use Rattle.pb_yard.specs.Rule.{rows_of, YardFact, IsYard}
 use Rattle.pb_yard.specs.Replies.{NoneMayBeLeased, LeasesAs, lease_events, lent_by, told_by, RenewsAs, renewal_events, kept_by, ReleasesAs, release_events, ChangesMarkAs, mark_events, SignsOffAs, off_events}
 use Rattle.pb_yard.specs.Returning.{IsBrought}
 use Rattle.pb_yard.specs.Calls.{Holds}
 use Rattle.pb_yard.proofs.InTime.{GrantsNone, ending_grants_none, end_grants_none}
 use Rattle.pb_yard.proofs.Holding.{holding_keeps}
-use Rattle.pb_yard.proofs.Steps.{Steps, keeps_step, lease_step, release_step, renew_step, same_rest, first_by, end_by, ending_by}
+use Rattle.pb_yard.proofs.Steps.{Steps, keeps_step, lease_step, release_step, renew_step, brought_of_graph, same_rest, first_by, end_by, ending_by}
 use Rattle.pb_yard.proofs.Asks.{begins}
+use Rattle.pb_yard.proofs.Causes.{none_here}
 
 abbrev pub Fact : GraphValue → ℕ → List View → Type 0
 Fact = YardFact
@@ -109,6 +110,17 @@ module _ (x y : GraphValue) (v : View) (live : v.journal.is_live ≡ true) where
   pub may_renew : x.incumbent ≡ v.last → v.read_at ≡ Some (length x.table.journal) → (lease : LeaseValue) (reply : Renewed) → lease.used ≡ lease.quota → length x.homes.keys ≡ (blocks x.table).count → IsBrought v 0 lease → RenewsAs lease reply x y → MayGo x y v live (renewal_events lease reply) (kept_by reply) None
   may_renew is_last read_at lease (Kept kept) spent places b is number views seat h at = renew_step x y (cost_of number) views seat v h at live lease kept spent places b is_last read_at is.1 is.0 is.3
   may_renew is_last read_at lease Given spent places b is number views seat h at = release_step x y (cost_of number) views seat v h at live lease false (inl spent) b is_last is.1 is.3
+
+  -- a lease that goes on has a row of its block that is Opened, so its quota is used up
+  pub may_switch : x.incumbent ≡ v.last → v.read_at ≡ Some (length x.table.journal) → (lease : LeaseValue) (reply : Renewed) → HasCause lease false → length x.homes.keys ≡ (blocks x.table).count → IsBrought v 0 lease → RenewsAs lease reply x y → MayGo x y v live (renewal_events lease reply) (kept_by reply) None
+  may_switch is_last read_at lease (Kept kept) cause places b is number views seat h at =
+      renew_step x y (cost_of number) views seat v h at live lease kept (spent cause) places b is_last read_at is.1 is.0 is.3
+    where
+      spent : HasCause lease false → lease.used ≡ lease.quota
+      spent (inl used) = used
+      spent (inr none) = absurd (true≢false (sym is.0.0.0.1 ∙ none_here x lease y is.1.noted h.is_setup
+          (brought_of_graph x x (cost_of number) views seat v h at live 0 lease b) (λ w. rows_of (h.lent w)) h.machine h.moment none))
+  may_switch is_last read_at lease Given cause places b is number views seat h at = release_step x y (cost_of number) views seat v h at live lease false cause b is_last is.1 is.3
 
   pub may_release : x.incumbent ≡ v.last → (lease : LeaseValue) (trouble : Bool) → HasCause lease trouble → IsBrought v (one_if trouble) lease → ReleasesAs lease trouble x y → MayGo x y v live (release_events lease trouble x) None None
   may_release is_last lease trouble cause b is number views seat h at = release_step x y (cost_of number) views seat v h at live lease trouble cause b is_last is.0 is.1

@@ -11,6 +11,7 @@ use Rattle.pb_machine.specs.Views.{IsShareOf}
 use Rattle.pb_machine.specs.Machine.{Machine, opening_machine, Move, journal_of}
 use Rattle.pb_lease.specs.declared.answer.LeaseReply.{LeaseReply}
 use Rattle.pb_lease.specs.declared.answer.Renewed.{Renewed}
+use Rattle.pb_lease.specs.declared.answer.Renewed.TheVariants.{Given}
 use Rattle.pb_lease.specs.Tables.{blocks}
 use Rattle.pb_lease.specs.LeaseValue.{LeaseValue}
 use Rattle.pb_lease.specs.GraphValue.{GraphValue, setup_in, counts_in}
@@ -74,6 +75,10 @@ Leases worker old reply new = ReadsAndHolds (LeasesAs worker reply) (lease_event
 -- the pass asked to go on with its lease, with this answer
 abbrev pub Renews : LeaseValue → (old : View) → Renewed → (new : View) → Type 0
 Renews lease old reply new = ReadsAndHolds (RenewsAs lease reply) (λ found. renewal_events lease reply) old (kept_by reply) None new
+
+-- The lease came back, since it might not go on, and in the same holding the pass asked for another, with this answer.
+abbrev pub GivesAndLeases : LeaseValue → (worker : ℕ) → (old : View) → LeaseReply → (new : View) → Type 0
+GivesAndLeases lease worker old reply new = (between : View) × Renews lease old Given between × Leases worker between reply new
 
 -- the pass brought its lease back
 abbrev pub Releases : LeaseValue → (trouble : Bool) → (old new : View) → Type 0

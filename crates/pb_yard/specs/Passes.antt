@@ -1,6 +1,6 @@
 -- What clauses say of a pass.
 use Rattle.std.specs.Prelude.{◌≡◌, ℕ}
-use Rattle.pb_turn.specs.Passes.{view, parts, whole, IsPassOf, IsSamePlace}
+use Rattle.pb_turn.specs.Passes.{view, parts, misses, whole, IsPassOf, IsSamePlace}
 use Rattle.pb_yard.specs.declared.view.View.{View}
 use Rattle.pb_yard.specs.declared.pass.Pass.{Pass}
 use Rattle.pb_yard.specs.declared.yard.Yard.{Yard}
@@ -36,3 +36,7 @@ IsSamePass old new = IsSamePlace old.turn new.turn × (new.worker ≡ old.worker
 -- the same, with as many parts
 abbrev pub KeepsPass : Pass → Pass → Type 0
 KeepsPass old new = IsSamePass old new × (parts_of new ≡ parts_of old)
+
+-- how often a step of its own found the turn held
+abbrev pub misses_of : Pass → ℕ
+misses_of pass = misses pass.turn

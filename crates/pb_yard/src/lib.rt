@@ -17,6 +17,8 @@ mod marks;
 mod pass;
 mod passes;
 mod rule;
+mod switch;
+mod switching;
 mod view;
 mod word;
 mod yard;
@@ -27,5 +29,6 @@ pub use laws::{
 };
 pub use pass::Pass;
 pub use rule::YardRule;
+pub use switch::Switch;
 pub use view::{JournalView, View};
 pub use yard::Yard;

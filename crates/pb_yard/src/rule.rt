@@ -1,6 +1,6 @@
 //! The rule that ties the graph to what the passes know.
 use crate::view::View;
-use pb_lease::{LeaseGraph, LeaseReply, Renewed};
+use pb_lease::{Lease, LeaseGraph, LeaseReply, Renewed};
 use pb_turn::{Leaving, TurnRule};
 
 /// The rule of the yard: the graph is a lawful moment of the lease machine, and the views of all
@@ -55,6 +55,18 @@ impl Leaving<YardRule> for AfterRenewal {
     type Said = Renewed;
 
     ghost after = { λ reply x y v. view_left x y (kept_by reply) None v };
+}
+
+/// Leaving after a lease went on.
+pub(crate) struct AfterKept;
+
+impl Leaving<YardRule> for AfterKept {
+    ghost use Rattle.std.specs.Prelude.{None, Some};
+    ghost use Rattle.pb_yard.specs.Views.{view_left};
+
+    type Said = Lease;
+
+    ghost after = { λ kept x y v. view_left x y (Some kept) None v };
 }
 
 /// Leaving after a lease came back.

@@ -1,7 +1,7 @@
 //! The incumbent of the whole search, which stands in a word beside the graph.
-ghost use Rattle.std.specs.Prelude.{◌≡◌, ◌<◌, ℕ, true, Some, None};
+ghost use Rattle.std.specs.Prelude.{◌≡◌, ◌≢◌, ◌<◌, ◌+◌, ℕ, true, Some, None, IfSome, IfNone};
 ghost use Rattle.pb_turn.specs.Obligations.{Stands};
-ghost use Rattle.pb_turn.specs.Passes.{view, number, found, state, HoldsTurn, IsResting, IsPassOf};
+ghost use Rattle.pb_turn.specs.Passes.{view, number, parts, misses, whole, found, state, HoldsTurn, IsResting, IsPassOf};
 ghost use Rattle.pb_turn.specs.Passes as turns;
 ghost use Rattle.pb_model.specs.Store.{lesser, AtMost};
 ghost use Rattle.pb_lease.specs.GraphValue.{GraphValue};
@@ -83,7 +83,52 @@ impl Yard {
         ensures rule { Stands YardFact (number turn.old) (view turn.new) (found result.0) }
         ensures falls { AtMost result.1 (view turn.old).last × AtMost result.1 (found result.0).incumbent }
     {
-        let mut held = self.lock.enter(rt, turn);
+        let held = self.lock.enter(rt, turn);
+        self.read_on(turn, held)
+    }
+
+    // The same in one try, which never waits: None where this call's own step found the turn held.
+    pub(crate) fn try_enter_reading(
+        &self,
+        turn: &mut pb_turn::Pass<YardRule>,
+    ) -> Option<(Held<YardRule>, Option<u64>)>
+        requires own { IsPassOf self.now.lock turn.old }
+        requires rests { IsResting turn.old }
+        requires live { (view turn.old).journal.is_live ≡ true }
+        ensures same { turns.IsSamePass turn.old turn.new }
+        ensures won { IfSome result (λ r. HoldsTurn turn.new (found r.0)) }
+        ensures graph { IfSome result (λ r. state r.0 ≡ bounded (found r.0) r.1) }
+        ensures view { IfSome result (λ r. view turn.new ≡ view_read (Some (found r.0)) (view turn.old) r.1) }
+        ensures rule { IfSome result (λ r. Stands YardFact (number turn.old) (view turn.new) (found r.0)) }
+        ensures falls { IfSome result (λ r. AtMost r.1 (view turn.old).last × AtMost r.1 (found r.0).incumbent) }
+        ensures rests { IfNone result (IsResting turn.new × (view turn.new ≡ view turn.old)) }
+        ensures lost { IfNone result ((misses turn.new ≡ misses turn.old + 1) × (parts turn.old ≢ whole)) }
+    {
+        match self.lock.try_enter(turn) {
+            Some(held) => Some(self.read_on(turn, held)),
+            None => None,
+        }
+    }
+
+    // Reads the incumbent while the pass holds the graph, which takes it.
+    pub(crate) fn read_on(
+        &self,
+        turn: &mut pb_turn::Pass<YardRule>,
+        held: Held<YardRule>,
+    ) -> (Held<YardRule>, Option<u64>)
+        requires own { IsPassOf self.now.lock turn.old }
+        requires holds { HoldsTurn turn.old (found held) }
+        requires fresh { state held ≡ found held }
+        requires live { (view turn.old).journal.is_live ≡ true }
+        ensures same { turns.IsSamePass turn.old turn.new }
+        ensures found { found result.0 ≡ found held }
+        ensures won { HoldsTurn turn.new (found result.0) }
+        ensures graph { state result.0 ≡ bounded (found result.0) result.1 }
+        ensures view { view turn.new ≡ view_read (Some (found result.0)) (view turn.old) result.1 }
+        ensures rule { Stands YardFact (number turn.old) (view turn.new) (found result.0) }
+        ensures falls { AtMost result.1 (view turn.old).last × AtMost result.1 (found result.0).incumbent }
+    {
+        let mut held = held;
         let incumbent = cost(self.lock.word(turn));
         if let Some(known) = incumbent {
             held.state_mut().take_bound(known);

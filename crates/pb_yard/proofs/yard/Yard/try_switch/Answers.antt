@@ -1,0 +1,418 @@
+use Rattle.std.proofs.Common.{◌≡◌, ℕ, ◌<◌, List, Option, Some, None, length, false, refl, sym, ap, ◌∙◌, subst}
+use Rattle.pb_machine.specs.declared.event.Event.{Event}
+use Rattle.pb_turn.specs.Obligations.{LeaveKeeps, Stands}
+use Rattle.pb_turn.specs.Passes.{view, number, found}
+use Rattle.pb_model.specs.Store.{AtMost}
+use Rattle.pb_lease.specs.declared.answer.LeaseReply.{LeaseReply}
+use Rattle.pb_lease.specs.declared.answer.Renewed.{Renewed}
+use Rattle.pb_lease.specs.declared.answer.Renewed.TheVariants.{Kept, Given}
+use Rattle.pb_lease.specs.LeaseValue.{LeaseValue}
+use Rattle.pb_lease.specs.Tables.{Table, blocks, counts_of}
+use Rattle.pb_lease.specs.GraphValue.{GraphValue, IsLeaseGraph, IsOfGraph}
+use Rattle.pb_lease.proofs.Switches.{worker_known, worker_vacant, worker_stays}
+use Rattle.pb_yard.specs.declared.switch.Switch.{Switch}
+use Rattle.pb_yard.specs.declared.switch.Switch.TheVariants.{Gave}
+use Rattle.pb_yard.specs.declared.switch.Switch.TheVariants.{Kept as Keeps}
+use Rattle.pb_yard.specs.declared.view.View.{View}
+use Rattle.pb_yard.specs.Views.{cost_of, bounded, view_read, view_left}
+use Rattle.pb_yard.specs.Replies.{LeasesAs, lease_events, lent_by, told_by, RenewsAs, renewal_events, kept_by}
+use Rattle.pb_yard.specs.Calls.{Leases, Renews, GivesAndLeases}
+use Rattle.pb_yard.proofs.Steps.{is_own, brought_of_graph}
+use Rattle.pb_yard.proofs.Reading.{entered, brought_on, takes_read, bounded_is, bounded_journal}
+use Rattle.pb_yard.proofs.Clauses.{Fact, leave_keeps, holds, seen_is, may_lease, leases_as, may_switch, renews_as}
+use Rattle.pb_yard.proofs.yard.Yard.try_switch.Goals as goal
+
+kept_same : (a b : LeaseValue) → ◌≡◌ {A = Switch} (Keeps a) (Keeps b) → a ≡ b
+kept_same a b e = cc
+
+gave_same : (a b : LeaseReply) → ◌≡◌ {A = Switch} (Gave a) (Gave b) → a ≡ b
+gave_same a b e = cc
+
+bounded_table : (g : GraphValue) (bound : Option ℕ) → (bounded g bound).table ≡ g.table
+bounded_table g None = refl
+bounded_table g (Some cost) = refl
+
+pub renew-requires : goal.renew-requires
+renew-requires c =
+    let p = c.args.pass.now in
+    let e = c.in-Some.ensures in
+    let f = found c.in-Some.held in
+    let o = c.in-Some.incumbent in
+    let v = view p.turn in
+    let k = entered f v o (number p.turn) _ e.view p.is_live e.rule in
+    subst (λ (z : GraphValue). IsOfGraph z c.args.lease) (sym (c.state_mut-graph.ensures.value ∙ e.graph))
+    (brought_of_graph (bounded f o) (bounded f o) (cost_of k.0) k.1 (number p.turn) (view_read (Some f) v o) k.2 k.3 p.is_live 0 c.args.lease (brought_on v (Some f) o _ c.args.lease e.falls.0 c.requires.brought))
+
+pub leave-requires-clause-rule : goal.leave-requires-clause-rule
+leave-requires-clause-rule c =
+    let p = c.args.pass.now in
+    let e = c.in-Some.ensures in
+    let f = found c.in-Some.held in
+    let o = c.in-Some.incumbent in
+    let x = bounded f o in
+    let y = c.renew.new.self in
+    let l = c.args.lease in
+    let v = view p.turn in
+    let w = view_read (Some f) v o in
+    let b = brought_on v (Some f) o _ l e.falls.0 c.requires.brought in
+    let is_last : x.incumbent ≡ w.last = bounded_is f o e.falls.1 in
+    let read_at : w.read_at ≡ Some (length x.table.journal) = ap (λ (l : List Event). Some (length l)) (sym (bounded_journal f o)) in
+    let take = takes_read f v (Some f) o p.is_live in
+    let found_is : c.state_mut-graph.result.now ≡ x = c.state_mut-graph.ensures.value ∙ e.graph in
+    let places : length x.homes.keys ≡ (blocks x.table).count = (subst IsLeaseGraph found_is c.abstraction.ensures.lawful).key_places in
+    let stands : Stands Fact (number p.turn) w f = subst (λ (u : View). Stands Fact (number p.turn) u f) e.view e.rule in
+    let k = c.in-Kept.kept in
+    let q : Renewed = Kept k in
+    let s = c.in-Kept.ensures in
+    let r : RenewsAs l q x y = subst (λ (z : GraphValue). RenewsAs l q z y) found_is
+    (renews_as c.state_mut-graph.result.now y l q s.kept s.given s.first s.kept_moment s.given_moment) in
+    let may = may_switch x y w p.is_live is_last read_at l q c.requires.cause places b r in
+    subst (λ (u : View). LeaveKeeps Fact (number c.try_enter_reading.new.turn) u f y (view_left f y (Some k) None u)) (sym e.view)
+    (leave_keeps f x y w p.is_live take (λ _. renewal_events l q) (kept_by q) None may (number c.try_enter_reading.new.turn))
+
+pub invariant_of-pass-in-Kept-clause-seen_is : goal.invariant_of-pass-in-Kept-clause-seen_is
+invariant_of-pass-in-Kept-clause-seen_is c =
+    let p = c.args.pass.now in
+    let e = c.in-Some.ensures in
+    let f = found c.in-Some.held in
+    let o = c.in-Some.incumbent in
+    let x = bounded f o in
+    let y = c.renew.new.self in
+    let l = c.args.lease in
+    let v = view p.turn in
+    let w = view_read (Some f) v o in
+    let b = brought_on v (Some f) o _ l e.falls.0 c.requires.brought in
+    let is_last : x.incumbent ≡ w.last = bounded_is f o e.falls.1 in
+    let read_at : w.read_at ≡ Some (length x.table.journal) = ap (λ (l : List Event). Some (length l)) (sym (bounded_journal f o)) in
+    let take = takes_read f v (Some f) o p.is_live in
+    let found_is : c.state_mut-graph.result.now ≡ x = c.state_mut-graph.ensures.value ∙ e.graph in
+    let places : length x.homes.keys ≡ (blocks x.table).count = (subst IsLeaseGraph found_is c.abstraction.ensures.lawful).key_places in
+    let stands : Stands Fact (number p.turn) w f = subst (λ (u : View). Stands Fact (number p.turn) u f) e.view e.rule in
+    let k = c.in-Kept.kept in
+    let q : Renewed = Kept k in
+    let s = c.in-Kept.ensures in
+    let r : RenewsAs l q x y = subst (λ (z : GraphValue). RenewsAs l q z y) found_is
+    (renews_as c.state_mut-graph.result.now y l q s.kept s.given s.first s.kept_moment s.given_moment) in
+    let may = may_switch x y w p.is_live is_last read_at l q c.requires.cause places b r in
+    let is : view c.leave.new.pass ≡ view_left f y (Some k) None w =
+    c.leave.ensures.view ∙ ap (λ (u : View). view_left f y (Some k) None u) e.view in
+    ap (λ (u : View). length u.journal.seen) is
+    ∙ ap length (seen_is f x y w p.is_live take (λ _. renewal_events l q) (kept_by q) None may (number p.turn) stands)
+    ∙ ap length (ap (λ (z : GraphValue). z.table.journal) (sym c.state.ensures) ∙ sym c.journal.ensures.events)
+
+pub returns-in-Kept-clause-kept : goal.returns-in-Kept-clause-kept
+returns-in-Kept-clause-kept c kept same =
+    let p = c.args.pass.now in
+    let e = c.in-Some.ensures in
+    let f = found c.in-Some.held in
+    let o = c.in-Some.incumbent in
+    let x = bounded f o in
+    let y = c.renew.new.self in
+    let l = c.args.lease in
+    let v = view p.turn in
+    let w = view_read (Some f) v o in
+    let b = brought_on v (Some f) o _ l e.falls.0 c.requires.brought in
+    let is_last : x.incumbent ≡ w.last = bounded_is f o e.falls.1 in
+    let read_at : w.read_at ≡ Some (length x.table.journal) = ap (λ (l : List Event). Some (length l)) (sym (bounded_journal f o)) in
+    let take = takes_read f v (Some f) o p.is_live in
+    let found_is : c.state_mut-graph.result.now ≡ x = c.state_mut-graph.ensures.value ∙ e.graph in
+    let places : length x.homes.keys ≡ (blocks x.table).count = (subst IsLeaseGraph found_is c.abstraction.ensures.lawful).key_places in
+    let stands : Stands Fact (number p.turn) w f = subst (λ (u : View). Stands Fact (number p.turn) u f) e.view e.rule in
+    let k = c.in-Kept.kept in
+    let q : Renewed = Kept k in
+    let s = c.in-Kept.ensures in
+    let r : RenewsAs l q x y = subst (λ (z : GraphValue). RenewsAs l q z y) found_is
+    (renews_as c.state_mut-graph.result.now y l q s.kept s.given s.first s.kept_moment s.given_moment) in
+    let may = may_switch x y w p.is_live is_last read_at l q c.requires.cause places b r in
+    let is : view c.leave.new.pass ≡ view_left f y (Some k) None w =
+    c.leave.ensures.view ∙ ap (λ (u : View). view_left f y (Some k) None u) e.view in
+    subst (λ (h : LeaseValue). Renews l v (Kept h) (view c.leave.new.pass)) (kept_same k kept same)
+    (subst (λ (u : View). Renews l v q u) (sym is)
+    (w, record { held = f; incumbent = o; falls = e.falls.0; view = refl }, holds f x y w p.is_live take (λ _. renewal_events l q) (kept_by q) None may (number p.turn) stands (RenewsAs l q) r))
+
+pub commit-held-requires-clause-rule : goal.commit-held-requires-clause-rule
+commit-held-requires-clause-rule c =
+    let p = c.args.pass.now in
+    let e = c.in-Some.ensures in
+    let f = found c.in-Some.held in
+    let o = c.in-Some.incumbent in
+    let x = bounded f o in
+    let y = c.renew.new.self in
+    let l = c.args.lease in
+    let v = view p.turn in
+    let w = view_read (Some f) v o in
+    let b = brought_on v (Some f) o _ l e.falls.0 c.requires.brought in
+    let is_last : x.incumbent ≡ w.last = bounded_is f o e.falls.1 in
+    let read_at : w.read_at ≡ Some (length x.table.journal) = ap (λ (l : List Event). Some (length l)) (sym (bounded_journal f o)) in
+    let take = takes_read f v (Some f) o p.is_live in
+    let found_is : c.state_mut-graph.result.now ≡ x = c.state_mut-graph.ensures.value ∙ e.graph in
+    let places : length x.homes.keys ≡ (blocks x.table).count = (subst IsLeaseGraph found_is c.abstraction.ensures.lawful).key_places in
+    let stands : Stands Fact (number p.turn) w f = subst (λ (u : View). Stands Fact (number p.turn) u f) e.view e.rule in
+    let s = c.in-Given.ensures in
+    let r : RenewsAs l Given x y = subst (λ (z : GraphValue). RenewsAs l Given z y) found_is
+    (renews_as c.state_mut-graph.result.now y l Given s.kept s.given s.first s.kept_moment s.given_moment) in
+    let may = may_switch x y w p.is_live is_last read_at l Given c.requires.cause places b r in
+    subst (λ (u : View). LeaveKeeps Fact (number c.try_enter_reading.new.turn) u f y (view_left f y None None u)) (sym e.view)
+    (leave_keeps f x y w p.is_live take (λ _. renewal_events l Given) None None may (number c.try_enter_reading.new.turn))
+
+pub lease-reply-requires-clause-worker : goal.lease-reply-requires-clause-worker
+lease-reply-requires-clause-worker c =
+    let p = c.args.pass.now in
+    let e = c.in-Some.ensures in
+    let f = found c.in-Some.held in
+    let o = c.in-Some.incumbent in
+    let x = bounded f o in
+    let y = c.renew.new.self in
+    let l = c.args.lease in
+    let v = view p.turn in
+    let w = view_read (Some f) v o in
+    let b = brought_on v (Some f) o _ l e.falls.0 c.requires.brought in
+    let is_last : x.incumbent ≡ w.last = bounded_is f o e.falls.1 in
+    let read_at : w.read_at ≡ Some (length x.table.journal) = ap (λ (l : List Event). Some (length l)) (sym (bounded_journal f o)) in
+    let take = takes_read f v (Some f) o p.is_live in
+    let found_is : c.state_mut-graph.result.now ≡ x = c.state_mut-graph.ensures.value ∙ e.graph in
+    let places : length x.homes.keys ≡ (blocks x.table).count = (subst IsLeaseGraph found_is c.abstraction.ensures.lawful).key_places in
+    let stands : Stands Fact (number p.turn) w f = subst (λ (u : View). Stands Fact (number p.turn) u f) e.view e.rule in
+    let s = c.in-Given.ensures in
+    let r : RenewsAs l Given x y = subst (λ (z : GraphValue). RenewsAs l Given z y) found_is
+    (renews_as c.state_mut-graph.result.now y l Given s.kept s.given s.first s.kept_moment s.given_moment) in
+    let may = may_switch x y w p.is_live is_last read_at l Given c.requires.cause places b r in
+    let mid = view_left f y None None w in
+    let committed : view c.commit-held.new.pass ≡ mid = c.commit-held.ensures.view ∙ ap (λ (u : View). view_left f y None None u) e.view in
+    let i = c.read_on-held.ensures in
+    let g = found c.read_on-held.result.0 in
+    let n = c.read_on-held.result.1 in
+    let g_is : g ≡ y = i.found ∙ c.commit-held.ensures.state.0 in
+    let z = bounded g n in
+    let a = view_read (Some g) mid n in
+    let view_is : view c.read_on-held.new.turn ≡ a = i.view ∙ ap (λ (u : View). view_read (Some g) u n) committed in
+    let found_then : c.state_mut.result.now ≡ z = c.state_mut.ensures.value ∙ i.graph in
+    let table_is : c.state_mut.result.now.table ≡ y.table = ap (λ (t : GraphValue). t.table) found_then ∙ bounded_table g n ∙ ap (λ (t : GraphValue). t.table) g_is in
+    let t = entered f v o (number p.turn) _ e.view p.is_live e.rule in
+    let own : l.worker ≡ p.worker = is_own x x (cost_of t.0) t.1 (number p.turn) w t.2 t.3 p.is_live 0 l b ∙ p.worker_is in
+    let of : IsOfGraph x l = brought_of_graph x x (cost_of t.0) t.1 (number p.turn) w t.2 t.3 p.is_live 0 l b in
+    let lawful : IsLeaseGraph x = subst IsLeaseGraph found_is c.abstraction.ensures.lawful in
+    subst (λ (t : Table). p.worker < t.settings.workers) (sym table_is) (subst (λ h. h < y.table.settings.workers) own (worker_known x lawful l of y r.1))
+
+pub lease-reply-requires-clause-vacant : goal.lease-reply-requires-clause-vacant
+lease-reply-requires-clause-vacant c =
+    let p = c.args.pass.now in
+    let e = c.in-Some.ensures in
+    let f = found c.in-Some.held in
+    let o = c.in-Some.incumbent in
+    let x = bounded f o in
+    let y = c.renew.new.self in
+    let l = c.args.lease in
+    let v = view p.turn in
+    let w = view_read (Some f) v o in
+    let b = brought_on v (Some f) o _ l e.falls.0 c.requires.brought in
+    let is_last : x.incumbent ≡ w.last = bounded_is f o e.falls.1 in
+    let read_at : w.read_at ≡ Some (length x.table.journal) = ap (λ (l : List Event). Some (length l)) (sym (bounded_journal f o)) in
+    let take = takes_read f v (Some f) o p.is_live in
+    let found_is : c.state_mut-graph.result.now ≡ x = c.state_mut-graph.ensures.value ∙ e.graph in
+    let places : length x.homes.keys ≡ (blocks x.table).count = (subst IsLeaseGraph found_is c.abstraction.ensures.lawful).key_places in
+    let stands : Stands Fact (number p.turn) w f = subst (λ (u : View). Stands Fact (number p.turn) u f) e.view e.rule in
+    let s = c.in-Given.ensures in
+    let r : RenewsAs l Given x y = subst (λ (z : GraphValue). RenewsAs l Given z y) found_is
+    (renews_as c.state_mut-graph.result.now y l Given s.kept s.given s.first s.kept_moment s.given_moment) in
+    let may = may_switch x y w p.is_live is_last read_at l Given c.requires.cause places b r in
+    let mid = view_left f y None None w in
+    let committed : view c.commit-held.new.pass ≡ mid = c.commit-held.ensures.view ∙ ap (λ (u : View). view_left f y None None u) e.view in
+    let i = c.read_on-held.ensures in
+    let g = found c.read_on-held.result.0 in
+    let n = c.read_on-held.result.1 in
+    let g_is : g ≡ y = i.found ∙ c.commit-held.ensures.state.0 in
+    let z = bounded g n in
+    let a = view_read (Some g) mid n in
+    let view_is : view c.read_on-held.new.turn ≡ a = i.view ∙ ap (λ (u : View). view_read (Some g) u n) committed in
+    let found_then : c.state_mut.result.now ≡ z = c.state_mut.ensures.value ∙ i.graph in
+    let table_is : c.state_mut.result.now.table ≡ y.table = ap (λ (t : GraphValue). t.table) found_then ∙ bounded_table g n ∙ ap (λ (t : GraphValue). t.table) g_is in
+    let t = entered f v o (number p.turn) _ e.view p.is_live e.rule in
+    let own : l.worker ≡ p.worker = is_own x x (cost_of t.0) t.1 (number p.turn) w t.2 t.3 p.is_live 0 l b ∙ p.worker_is in
+    let of : IsOfGraph x l = brought_of_graph x x (cost_of t.0) t.1 (number p.turn) w t.2 t.3 p.is_live 0 l b in
+    let lawful : IsLeaseGraph x = subst IsLeaseGraph found_is c.abstraction.ensures.lawful in
+    subst (λ (t : Table). (counts_of t).leases p.worker ≡ None) (sym table_is) (subst (λ h. (counts_of y.table).leases h ≡ None) own (worker_vacant x lawful l of y r.1))
+
+pub lease-reply-requires-clause-stays : goal.lease-reply-requires-clause-stays
+lease-reply-requires-clause-stays c =
+    let p = c.args.pass.now in
+    let e = c.in-Some.ensures in
+    let f = found c.in-Some.held in
+    let o = c.in-Some.incumbent in
+    let x = bounded f o in
+    let y = c.renew.new.self in
+    let l = c.args.lease in
+    let v = view p.turn in
+    let w = view_read (Some f) v o in
+    let b = brought_on v (Some f) o _ l e.falls.0 c.requires.brought in
+    let is_last : x.incumbent ≡ w.last = bounded_is f o e.falls.1 in
+    let read_at : w.read_at ≡ Some (length x.table.journal) = ap (λ (l : List Event). Some (length l)) (sym (bounded_journal f o)) in
+    let take = takes_read f v (Some f) o p.is_live in
+    let found_is : c.state_mut-graph.result.now ≡ x = c.state_mut-graph.ensures.value ∙ e.graph in
+    let places : length x.homes.keys ≡ (blocks x.table).count = (subst IsLeaseGraph found_is c.abstraction.ensures.lawful).key_places in
+    let stands : Stands Fact (number p.turn) w f = subst (λ (u : View). Stands Fact (number p.turn) u f) e.view e.rule in
+    let s = c.in-Given.ensures in
+    let r : RenewsAs l Given x y = subst (λ (z : GraphValue). RenewsAs l Given z y) found_is
+    (renews_as c.state_mut-graph.result.now y l Given s.kept s.given s.first s.kept_moment s.given_moment) in
+    let may = may_switch x y w p.is_live is_last read_at l Given c.requires.cause places b r in
+    let mid = view_left f y None None w in
+    let committed : view c.commit-held.new.pass ≡ mid = c.commit-held.ensures.view ∙ ap (λ (u : View). view_left f y None None u) e.view in
+    let i = c.read_on-held.ensures in
+    let g = found c.read_on-held.result.0 in
+    let n = c.read_on-held.result.1 in
+    let g_is : g ≡ y = i.found ∙ c.commit-held.ensures.state.0 in
+    let z = bounded g n in
+    let a = view_read (Some g) mid n in
+    let view_is : view c.read_on-held.new.turn ≡ a = i.view ∙ ap (λ (u : View). view_read (Some g) u n) committed in
+    let found_then : c.state_mut.result.now ≡ z = c.state_mut.ensures.value ∙ i.graph in
+    let table_is : c.state_mut.result.now.table ≡ y.table = ap (λ (t : GraphValue). t.table) found_then ∙ bounded_table g n ∙ ap (λ (t : GraphValue). t.table) g_is in
+    let t = entered f v o (number p.turn) _ e.view p.is_live e.rule in
+    let own : l.worker ≡ p.worker = is_own x x (cost_of t.0) t.1 (number p.turn) w t.2 t.3 p.is_live 0 l b ∙ p.worker_is in
+    let of : IsOfGraph x l = brought_of_graph x x (cost_of t.0) t.1 (number p.turn) w t.2 t.3 p.is_live 0 l b in
+    let lawful : IsLeaseGraph x = subst IsLeaseGraph found_is c.abstraction.ensures.lawful in
+    subst (λ (t : Table). (counts_of t).signed_off p.worker ≡ false) (sym table_is) (subst (λ h. (counts_of y.table).signed_off h ≡ false) own (worker_stays x lawful l of y r.1))
+
+pub leave-requires-in-Given-clause-rule : goal.leave-requires-in-Given-clause-rule
+leave-requires-in-Given-clause-rule c =
+    let p = c.args.pass.now in
+    let e = c.in-Some.ensures in
+    let f = found c.in-Some.held in
+    let o = c.in-Some.incumbent in
+    let x = bounded f o in
+    let y = c.renew.new.self in
+    let l = c.args.lease in
+    let v = view p.turn in
+    let w = view_read (Some f) v o in
+    let b = brought_on v (Some f) o _ l e.falls.0 c.requires.brought in
+    let is_last : x.incumbent ≡ w.last = bounded_is f o e.falls.1 in
+    let read_at : w.read_at ≡ Some (length x.table.journal) = ap (λ (l : List Event). Some (length l)) (sym (bounded_journal f o)) in
+    let take = takes_read f v (Some f) o p.is_live in
+    let found_is : c.state_mut-graph.result.now ≡ x = c.state_mut-graph.ensures.value ∙ e.graph in
+    let places : length x.homes.keys ≡ (blocks x.table).count = (subst IsLeaseGraph found_is c.abstraction.ensures.lawful).key_places in
+    let stands : Stands Fact (number p.turn) w f = subst (λ (u : View). Stands Fact (number p.turn) u f) e.view e.rule in
+    let s = c.in-Given.ensures in
+    let r : RenewsAs l Given x y = subst (λ (z : GraphValue). RenewsAs l Given z y) found_is
+    (renews_as c.state_mut-graph.result.now y l Given s.kept s.given s.first s.kept_moment s.given_moment) in
+    let may = may_switch x y w p.is_live is_last read_at l Given c.requires.cause places b r in
+    let mid = view_left f y None None w in
+    let committed : view c.commit-held.new.pass ≡ mid = c.commit-held.ensures.view ∙ ap (λ (u : View). view_left f y None None u) e.view in
+    let i = c.read_on-held.ensures in
+    let g = found c.read_on-held.result.0 in
+    let n = c.read_on-held.result.1 in
+    let g_is : g ≡ y = i.found ∙ c.commit-held.ensures.state.0 in
+    let z = bounded g n in
+    let a = view_read (Some g) mid n in
+    let view_is : view c.read_on-held.new.turn ≡ a = i.view ∙ ap (λ (u : View). view_read (Some g) u n) committed in
+    let found_then : c.state_mut.result.now ≡ z = c.state_mut.ensures.value ∙ i.graph in
+    let last_then : z.incumbent ≡ a.last = bounded_is g n i.falls.1 in
+    let read_then : a.read_at ≡ Some (length z.table.journal) = ap (λ (l : List Event). Some (length l)) (sym (bounded_journal g n)) in
+    let take_then = takes_read g mid (Some g) n p.is_live in
+    let d = c.lease-reply.new.self in
+    let m = c.lease-reply.result in
+    let j = c.lease-reply.ensures in
+    let leases : LeasesAs v.journal.own.worker m z d = subst (λ h. LeasesAs h m z d) (sym p.worker_is) (subst (λ (t : GraphValue). LeasesAs p.worker m t d) found_then
+    (leases_as c.state_mut.result.now d p.worker m j.leased j.not_yet j.over j.ended j.same j.leased_moment j.ended_moment j.not_yet_moment)) in
+    let goes = may_lease z d a p.is_live last_then read_then m leases in
+    let stands_then : Stands Fact (number c.commit-held.new.pass) a g = subst (λ (u : View). Stands Fact (number c.commit-held.new.pass) u g) view_is i.rule in
+    subst (λ (u : View). LeaveKeeps Fact (number c.read_on-held.new.turn) u g d (view_left g d (lent_by m u.lent) (told_by m u.told) u)) (sym view_is)
+    (leave_keeps g z d a p.is_live take_then (lease_events v.journal.own.worker m) (lent_by m a.lent) (told_by m a.told) goes (number c.read_on-held.new.turn))
+
+pub invariant_of-pass-in-Given-clause-seen_is : goal.invariant_of-pass-in-Given-clause-seen_is
+invariant_of-pass-in-Given-clause-seen_is c =
+    let p = c.args.pass.now in
+    let e = c.in-Some.ensures in
+    let f = found c.in-Some.held in
+    let o = c.in-Some.incumbent in
+    let x = bounded f o in
+    let y = c.renew.new.self in
+    let l = c.args.lease in
+    let v = view p.turn in
+    let w = view_read (Some f) v o in
+    let b = brought_on v (Some f) o _ l e.falls.0 c.requires.brought in
+    let is_last : x.incumbent ≡ w.last = bounded_is f o e.falls.1 in
+    let read_at : w.read_at ≡ Some (length x.table.journal) = ap (λ (l : List Event). Some (length l)) (sym (bounded_journal f o)) in
+    let take = takes_read f v (Some f) o p.is_live in
+    let found_is : c.state_mut-graph.result.now ≡ x = c.state_mut-graph.ensures.value ∙ e.graph in
+    let places : length x.homes.keys ≡ (blocks x.table).count = (subst IsLeaseGraph found_is c.abstraction.ensures.lawful).key_places in
+    let stands : Stands Fact (number p.turn) w f = subst (λ (u : View). Stands Fact (number p.turn) u f) e.view e.rule in
+    let s = c.in-Given.ensures in
+    let r : RenewsAs l Given x y = subst (λ (z : GraphValue). RenewsAs l Given z y) found_is
+    (renews_as c.state_mut-graph.result.now y l Given s.kept s.given s.first s.kept_moment s.given_moment) in
+    let may = may_switch x y w p.is_live is_last read_at l Given c.requires.cause places b r in
+    let mid = view_left f y None None w in
+    let committed : view c.commit-held.new.pass ≡ mid = c.commit-held.ensures.view ∙ ap (λ (u : View). view_left f y None None u) e.view in
+    let i = c.read_on-held.ensures in
+    let g = found c.read_on-held.result.0 in
+    let n = c.read_on-held.result.1 in
+    let g_is : g ≡ y = i.found ∙ c.commit-held.ensures.state.0 in
+    let z = bounded g n in
+    let a = view_read (Some g) mid n in
+    let view_is : view c.read_on-held.new.turn ≡ a = i.view ∙ ap (λ (u : View). view_read (Some g) u n) committed in
+    let found_then : c.state_mut.result.now ≡ z = c.state_mut.ensures.value ∙ i.graph in
+    let last_then : z.incumbent ≡ a.last = bounded_is g n i.falls.1 in
+    let read_then : a.read_at ≡ Some (length z.table.journal) = ap (λ (l : List Event). Some (length l)) (sym (bounded_journal g n)) in
+    let take_then = takes_read g mid (Some g) n p.is_live in
+    let d = c.lease-reply.new.self in
+    let m = c.lease-reply.result in
+    let j = c.lease-reply.ensures in
+    let leases : LeasesAs v.journal.own.worker m z d = subst (λ h. LeasesAs h m z d) (sym p.worker_is) (subst (λ (t : GraphValue). LeasesAs p.worker m t d) found_then
+    (leases_as c.state_mut.result.now d p.worker m j.leased j.not_yet j.over j.ended j.same j.leased_moment j.ended_moment j.not_yet_moment)) in
+    let goes = may_lease z d a p.is_live last_then read_then m leases in
+    let stands_then : Stands Fact (number c.commit-held.new.pass) a g = subst (λ (u : View). Stands Fact (number c.commit-held.new.pass) u g) view_is i.rule in
+    let left_is : view c.leave-in-Given.new.pass ≡ view_left g d (lent_by m a.lent) (told_by m a.told) a =
+    c.leave-in-Given.ensures.view ∙ ap (λ (u : View). view_left g d (lent_by m u.lent) (told_by m u.told) u) view_is in
+    ap (λ (u : View). length u.journal.seen) left_is
+    ∙ ap length (seen_is g z d a p.is_live take_then (lease_events v.journal.own.worker m) (lent_by m a.lent) (told_by m a.told) goes (number c.commit-held.new.pass) stands_then)
+    ∙ ap length (ap (λ (t : GraphValue). t.table.journal) (sym c.state-in-Given.ensures) ∙ sym c.journal-in-Given.ensures.events)
+
+pub returns-in-Given-clause-gave : goal.returns-in-Given-clause-gave
+returns-in-Given-clause-gave c reply same =
+    let p = c.args.pass.now in
+    let e = c.in-Some.ensures in
+    let f = found c.in-Some.held in
+    let o = c.in-Some.incumbent in
+    let x = bounded f o in
+    let y = c.renew.new.self in
+    let l = c.args.lease in
+    let v = view p.turn in
+    let w = view_read (Some f) v o in
+    let b = brought_on v (Some f) o _ l e.falls.0 c.requires.brought in
+    let is_last : x.incumbent ≡ w.last = bounded_is f o e.falls.1 in
+    let read_at : w.read_at ≡ Some (length x.table.journal) = ap (λ (l : List Event). Some (length l)) (sym (bounded_journal f o)) in
+    let take = takes_read f v (Some f) o p.is_live in
+    let found_is : c.state_mut-graph.result.now ≡ x = c.state_mut-graph.ensures.value ∙ e.graph in
+    let places : length x.homes.keys ≡ (blocks x.table).count = (subst IsLeaseGraph found_is c.abstraction.ensures.lawful).key_places in
+    let stands : Stands Fact (number p.turn) w f = subst (λ (u : View). Stands Fact (number p.turn) u f) e.view e.rule in
+    let s = c.in-Given.ensures in
+    let r : RenewsAs l Given x y = subst (λ (z : GraphValue). RenewsAs l Given z y) found_is
+    (renews_as c.state_mut-graph.result.now y l Given s.kept s.given s.first s.kept_moment s.given_moment) in
+    let may = may_switch x y w p.is_live is_last read_at l Given c.requires.cause places b r in
+    let mid = view_left f y None None w in
+    let committed : view c.commit-held.new.pass ≡ mid = c.commit-held.ensures.view ∙ ap (λ (u : View). view_left f y None None u) e.view in
+    let i = c.read_on-held.ensures in
+    let g = found c.read_on-held.result.0 in
+    let n = c.read_on-held.result.1 in
+    let g_is : g ≡ y = i.found ∙ c.commit-held.ensures.state.0 in
+    let z = bounded g n in
+    let a = view_read (Some g) mid n in
+    let view_is : view c.read_on-held.new.turn ≡ a = i.view ∙ ap (λ (u : View). view_read (Some g) u n) committed in
+    let found_then : c.state_mut.result.now ≡ z = c.state_mut.ensures.value ∙ i.graph in
+    let last_then : z.incumbent ≡ a.last = bounded_is g n i.falls.1 in
+    let read_then : a.read_at ≡ Some (length z.table.journal) = ap (λ (l : List Event). Some (length l)) (sym (bounded_journal g n)) in
+    let take_then = takes_read g mid (Some g) n p.is_live in
+    let d = c.lease-reply.new.self in
+    let m = c.lease-reply.result in
+    let j = c.lease-reply.ensures in
+    let leases : LeasesAs v.journal.own.worker m z d = subst (λ h. LeasesAs h m z d) (sym p.worker_is) (subst (λ (t : GraphValue). LeasesAs p.worker m t d) found_then
+    (leases_as c.state_mut.result.now d p.worker m j.leased j.not_yet j.over j.ended j.same j.leased_moment j.ended_moment j.not_yet_moment)) in
+    let goes = may_lease z d a p.is_live last_then read_then m leases in
+    let stands_then : Stands Fact (number c.commit-held.new.pass) a g = subst (λ (u : View). Stands Fact (number c.commit-held.new.pass) u g) view_is i.rule in
+    let left_is : view c.leave-in-Given.new.pass ≡ view_left g d (lent_by m a.lent) (told_by m a.told) a =
+    c.leave-in-Given.ensures.view ∙ ap (λ (u : View). view_left g d (lent_by m u.lent) (told_by m u.told) u) view_is in
+    subst (λ (h : LeaseReply). GivesAndLeases l p.worker v h (view c.leave-in-Given.new.pass)) (gave_same m reply same) (
+      mid,
+      (w, record { held = f; incumbent = o; falls = e.falls.0; view = refl }, holds f x y w p.is_live take (λ _. renewal_events l Given) None None may (number p.turn) stands (RenewsAs l Given) r),
+      subst (λ h. Leases h mid m (view c.leave-in-Given.new.pass)) p.worker_is
+          (subst (λ (u : View). Leases v.journal.own.worker mid m u) (sym left_is)
+          (a, record { held = g; incumbent = n; falls = subst (λ (u : View). AtMost n u.last) committed i.falls.0; view = refl }, holds g z d a p.is_live take_then (lease_events v.journal.own.worker m) (lent_by m a.lent) (told_by m a.told) goes (number c.commit-held.new.pass) stands_then (LeasesAs v.journal.own.worker m) leases)),
+    )
