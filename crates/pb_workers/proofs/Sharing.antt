@@ -18,7 +18,8 @@ use Rattle.pb_machine.proofs.LeaseWork.{lease_work_stays}
 use Rattle.pb_task.specs.declared.parts.TaskParts.{TaskParts}
 use Rattle.pb_task.specs.Parts.{space_of}
 use Rattle.pb_abstract.specs.Graph.{AbstractGraph, blocks_of, IsGraphOf}
-use Rattle.pb_lease.specs.declared.answer.LeaseReply.TheVariants.{Leased, Over}
+use Rattle.pb_lease.specs.declared.answer.LeaseReply.TheVariants.{Leased, NotYet, Over, Memory}
+use Rattle.pb_lease.specs.declared.answer.LeaseReply.{LeaseReply}
 use Rattle.pb_lease.specs.declared.answer.Renewed.TheVariants.{Kept, Given}
 use Rattle.pb_lease.specs.Tables.{blocks}
 use Rattle.pb_lease.specs.Events.{ending, counts_along}
@@ -32,9 +33,9 @@ use Rattle.pb_expand.specs.Watching.{IsWatched}
 use Rattle.pb_yard.specs.declared.view.View.{View}
 use Rattle.pb_yard.specs.Views.{view_then}
 use Rattle.pb_yard.specs.Rule.{rows_of, was_read, grant_in, IsViewOf}
-use Rattle.pb_yard.specs.Replies.{LeasesAs, lease_events, ReleasesAs, release_events, RenewsAs, renewal_events, RivalsAs, MarksAs, mark_events, off_events}
+use Rattle.pb_yard.specs.Replies.{LeasesAs, lease_events, lent_by, told_by, ReleasesAs, release_events, RenewsAs, renewal_events, RivalsAs, MarksAs, mark_events, off_events}
 use Rattle.pb_yard.specs.Returning.{IsLeaseOf, IsBrought}
-use Rattle.pb_yard.specs.Calls.{Holds, HasRead, ReadsAndHolds, Looks, Leases, Renews, Releases, AsksRival, Marks, SignsOff, IsActive}
+use Rattle.pb_yard.specs.Calls.{Holds, HasRead, ReadsAndHolds, Looks, Leases, Renews, GivesAndLeases, Releases, AsksRival, Marks, SignsOff, IsActive}
 use Rattle.pb_yard.proofs.Meaning.{history, leased, begins}
 use Rattle.pb_workers.specs.Shared.{IsSameHolder, IsIdle, IsLeased}
 use Rattle.pb_workers.specs.Watching.{watch_view, KeepsLease}
@@ -341,6 +342,29 @@ module _ (task : TaskParts) (graph : AbstractGraph) (old new : View) (of_task : 
 
   pub released_then : (trouble : Bool) → Releases worked trouble old new → IsIdle task graph new
   released_then trouble h = gone (ReleasesAs worked trouble) (release_events worked trouble) h (λ g. ending_no_off trouble g.table.end)
+
+-- ---- a lease that comes back, and another that is asked for at once
+
+module _ (task : TaskParts) (graph : AbstractGraph) (old new : View) (of_task : IsGraphOf task graph) (task_is : old.task ≡ task) (graph_is : old.graph ≡ graph) (stays : IsActive old) (worked : LeaseValue) (worker : ℕ) where
+  gave_idle : (between : View) → Renews worked old Given between → IsIdle task graph between
+  gave_idle between gives = given_then task graph old between of_task task_is graph_is stays worked gives
+
+  pub switched_then : (next : LeaseValue) → GivesAndLeases worked worker old (Leased next) new → IsLeased task graph new next
+  switched_then next (between, gives, leases) = leased_then task graph worker between new (gave_idle between gives) next leases
+
+  pub wait_home : GivesAndLeases worked worker old NotYet new → IsIdle task graph new
+  wait_home (between, gives, leases) = wait_then task graph worker between new (gave_idle between gives) (lease_events worker NotYet) (LeasesAs worker NotYet) leases (λ g. refl)
+
+  pub memory_home : GivesAndLeases worked worker old Memory new → IsIdle task graph new
+  memory_home (between, gives, leases) = wait_then task graph worker between new (gave_idle between gives) (lease_events worker Memory) (LeasesAs worker Memory) leases (λ g. refl)
+
+  pub over_home : (end : End) → GivesAndLeases worked worker old (Over end) new → IsIdle task graph new
+  over_home end (between, gives, leases) = (over_then task graph worker between new (gave_idle between gives) end leases).0
+
+  pub gave_holder : (reply : LeaseReply) → GivesAndLeases worked worker old reply new → IsSameHolder old new
+  gave_holder reply (between, gives, leases) = holder_then old between new
+      (reader_holds (RenewsAs worked Given) (λ found. renewal_events worked Given) old None None between gives)
+      (reader_holds (LeasesAs worker reply) (lease_events worker reply) between (lent_by reply between.lent) (told_by reply between.told) new leases)
 
 -- ---- signing off
 

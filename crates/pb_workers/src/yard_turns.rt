@@ -1,7 +1,9 @@
 //! The turns of a worker that shares a yard.
-ghost use Rattle.std.specs.Prelude.{◌≡◌, IfSome, IfNone};
+ghost use Rattle.std.specs.Prelude.{◌≡◌, IfSome, IfNone, IsTrue, false};
 ghost use Rattle.pb_estimate.specs.Tables.{IsOfTask};
+ghost use Rattle.pb_abstract.specs.Graph.{IsGraphOf};
 ghost use Rattle.pb_yard.specs.Passes.{view_of, worker_of, parts_of, IsOf, IsSamePass, KeepsPass};
+ghost use Rattle.pb_yard.specs.Order.{HasCause};
 ghost use Rattle.pb_yard.specs.Returning.{IsLeaseOf, IsBrought};
 ghost use Rattle.pb_yard.specs.Calls.{IsActive};
 ghost use Rattle.pb_workers.specs.Watching.{IsWatchOf};
@@ -10,10 +12,12 @@ ghost use Rattle.pb_workers.specs.Shared.{IsSameHolder, IsIdle, IsLeased, MarksR
 use crate::event_count::EventCount;
 use crate::worker::Worker;
 use crate::yard_watch::YardWatch;
+use pb_abstract::AbsGraph;
 use pb_expand::Worked;
-use pb_lease::{Lease, Renewed};
+use pb_lease::{Lease, LeaseReply, Renewed};
 use pb_outside::Gate;
-use pb_yard::{Pass, Yard};
+use pb_task::Task;
+use pb_yard::{Pass, Switch, Yard};
 use std::sync::Wait;
 
 /// Marks the rival of the lease's block hot, where there is one and it may be marked: in a plain
@@ -34,10 +38,61 @@ fn mark_rival<W: Wait>(rt: &W, yard: &Yard, pass: &mut Pass, lease: &Lease)
     }
 }
 
+// Goes on without waiting, with the lease or with another one, or gives it back. Where another pass
+// holds the graph, the lease is renewed by waiting if its quota is used up, and else comes back.
+fn go_on<W: Wait, G: Gate>(
+    rt: &W,
+    count: &EventCount,
+    gate: &G,
+    task: &Task,
+    abstraction: &AbsGraph,
+    yard: &Yard,
+    pass: &mut Pass,
+    lease: Lease,
+    is_spent: bool,
+) -> Option<Lease>
+    requires own { IsOf yard.now pass.old }
+    requires brought { IsBrought (view_of pass.old) 0 lease }
+    requires spent { IsTrue is_spent → lease.used ≡ lease.quota }
+    requires cause { HasCause lease false }
+    requires graph { IsGraphOf task.now abstraction.now }
+    requires task { (view_of pass.old).task ≡ task.now }
+    requires abstraction { (view_of pass.old).graph ≡ abstraction.now }
+    requires stays { IsActive (view_of pass.old) }
+    ensures same { KeepsPass pass.old pass.new }
+    ensures holder { IsSameHolder (view_of pass.old) (view_of pass.new) }
+    ensures kept { IfSome result (IsLeased task.now abstraction.now (view_of pass.new)) }
+    ensures home { IfNone result (IsIdle task.now abstraction.now (view_of pass.new)) }
+{
+    match yard.try_switch(pass, lease) {
+        Switch::Kept(kept) => Some(kept),
+        Switch::Gave(LeaseReply::Leased(next)) => {
+            count.advance(rt);
+            gate.leased(pass.worker(), next.block());
+            Some(next)
+        }
+        Switch::Gave(LeaseReply::NotYet) => None,
+        Switch::Gave(LeaseReply::Over(_)) => None,
+        Switch::Gave(LeaseReply::Memory) => None,
+        Switch::Busy(lease) => {
+            if is_spent {
+                match yard.renew(rt, pass, lease) {
+                    Renewed::Kept(kept) => Some(kept),
+                    Renewed::Given => None,
+                }
+            } else {
+                yard.release(rt, pass, lease, false);
+                None
+            }
+        }
+    }
+}
+
 /// Works on a lease until its quota is used up, no row of its block is Opened, or memory is out.
-/// Then the lease goes on, where with it home its block would be the first choice, or comes back.
+/// Then the worker goes on, with the lease or with another one, or its lease comes back.
 pub fn yard_turn<W: Wait, G: Gate>(
     rt: &W,
+    count: &EventCount,
     gate: &G,
     worker: &mut Worker,
     watch: &mut YardWatch,
@@ -63,15 +118,29 @@ pub fn yard_turn<W: Wait, G: Gate>(
     match worked {
         Worked::Spent => {
             mark_rival(rt, watch.yard, &mut watch.pass, &lease);
-            match watch.yard.renew(rt, &mut watch.pass, lease) {
-                Renewed::Kept(kept) => Some(kept),
-                Renewed::Given => None,
-            }
+            go_on(
+                rt,
+                count,
+                gate,
+                worker.task,
+                worker.abstraction,
+                watch.yard,
+                &mut watch.pass,
+                lease,
+                true,
+            )
         }
-        Worked::Empty => {
-            watch.yard.release(rt, &mut watch.pass, lease, false);
-            None
-        }
+        Worked::Empty => go_on(
+            rt,
+            count,
+            gate,
+            worker.task,
+            worker.abstraction,
+            watch.yard,
+            &mut watch.pass,
+            lease,
+            false,
+        ),
         Worked::Memory => {
             watch.yard.release(rt, &mut watch.pass, lease, true);
             None
@@ -103,7 +172,7 @@ pub fn yard_hold<W: Wait, G: Gate>(
 {
     let mut held = lease;
     for _ in rt.forever() {
-        match yard_turn(rt, gate, worker, watch, held) {
+        match yard_turn(rt, count, gate, worker, watch, held) {
             Some(kept) => held = kept,
             None => {
                 count.advance(rt);
