@@ -20,6 +20,7 @@ pub mod Reopening
 pub mod WholeStore
 pub mod OwnMoves
 pub mod EndsTold
+pub mod Rooms
 pub mod Example
 pub mod ExampleEnds
 pub mod ExampleTwo

@@ -1,6 +1,6 @@
 -- The laws of journals, of the numbers that are kept beside them, of choice, and of what each worker's pass keeps of a journal.
 -- Each is proved, as the contract of the public function that has its name.
-use Rattle.std.specs.Prelude.{◌≡◌, ◌≢◌, ℕ, ◌+◌, ◌<◌, ◌≤◌, min, nat_lt, is_some, ◌||◌, Bool, true, false, IsTrue, IsFalse, List, [], ◌∷◌, ◌++◌, Option, Some, None, slice_set, ◌⊎◌, ◌↔◌}
+use Rattle.std.specs.Prelude.{◌≡◌, ◌≢◌, ℕ, ◌+◌, ◌*◌, ◌<◌, ◌≤◌, length, filter, min, nat_lt, is_some, ◌||◌, Bool, true, false, IsTrue, IsFalse, List, [], ◌∷◌, ◌++◌, Option, Some, None, slice_set, ◌⊎◌, ◌↔◌}
 use Rattle.std.specs.List.{list_any, AllByRecursion}
 use mathlib.Core.Option.{some}
 use lib.ListN.{get_elem?}
@@ -20,6 +20,7 @@ use Rattle.pb_machine.specs.Counts.{Counts, counts_after, is_any_out, is_busy, i
 use Rattle.pb_machine.specs.Counters.{busy_count, hot_count, ChangesBusy, ChangesHot}
 use Rattle.pb_machine.specs.Legality.{is_stranger, refusal}
 use Rattle.pb_machine.specs.History.{replay, IsHistory, AreFinished, IsFirstRefused, first_refused, StartsWith, events_of, is_off, is_report, end_in, used_in}
+use Rattle.pb_machine.specs.Room.{room_from, room_after, AreWithinRoom, KeepsWithinRoom, leases_in, takes_room}
 use Rattle.pb_machine.specs.Choice.{IsRival, MayBeLeased, IsFirstChoice, counts_with_lease_home}
 use Rattle.pb_machine.specs.Views.{View, IsShareOf, HasWorker, AreTrueOf, AreBy, first_view, spent_view, view_after, with_one_more, next_view, met_view}
 use Rattle.pb_machine.specs.Worked.{IsFinishedHistory, IsUnfinishedHistory, AreRefused, nine_cells, one_worker, nine_cells_journal, with_hot, visit, later_visits, ending, refused_journals, corridor, short_budget, corridor_journal, two_workers, two_workers_journal, both_report, refused_in_corridor, refused_of_two}
@@ -133,6 +134,29 @@ ReportsEndSearches =
     → IsHistory blocks settings before start between → between.end ≡ None → IsTrue (is_report report)
     → IsHistory blocks settings before (start ++ report ∷ rest) counts
     → (rest ≡ []) ⊎ ((later : List Event) × (rest ≡ Ended Memory ∷ later))
+
+-- A legal history that keeps within the room of its leases has at most 65 events a lease, one sign-off a worker, and one end. With its
+-- lease and its return no lease has more than 65.
+abbrev pub JournalsAreShort : Type 0
+JournalsAreShort =
+    (blocks : Blocks) (settings : Settings) (before : ℕ) (journal : List Event) (counts : Counts)
+    → IsHistory blocks settings before journal counts → KeepsWithinRoom journal
+    → length journal ≤ 65 * leases_in journal + settings.workers + 1
+
+-- A worker renews and marks at most 63 times between two of its leases, whatever others do meanwhile. So no lease of a journal that keeps
+-- within room is padded by marks that come and go.
+abbrev pub LeasesTakeTheirRoom : Type 0
+LeasesTakeTheirRoom =
+    (start more : List Event) (worker block quota : ℕ) → KeepsWithinRoom (start ++ Lease worker block quota ∷ more)
+    → leases_in (events_of worker more) ≡ 0 → length (filter (takes_room worker) more) ≤ 63
+
+-- A journal keeps within room with more events exactly if it does so without them, and they have the room that it leaves.
+abbrev pub RoomGoesOn : Type 0
+RoomGoesOn =
+    (journal more : List Event)
+    → (KeepsWithinRoom (journal ++ more) ↔ (KeepsWithinRoom journal × AreWithinRoom (room_after journal) more))
+    × (room_after (journal ++ more) ≡ room_from (room_after journal) more)
+    × (leases_in (journal ++ more) ≡ leases_in journal + leases_in more)
 
 -- With no lease out no block is hot.
 abbrev pub NoneOutNoneHot : Type 0

@@ -5,6 +5,7 @@ pub mod Counts
 pub mod Counters
 pub mod Legality
 pub mod History
+pub mod Room
 pub mod Views
 pub mod Choice
 pub mod Machine

@@ -1,4 +1,4 @@
-ghost use Rattle.pb_machine.specs.JournalLaws.{HistoriesAreLawful, HistoriesGrow, BeginningsAreHistories, SigningOffIsTold, FinishedWorkersSignOff, RefusalsAreFirst, RefusedJournalsFail, NoneOutNoneHot, InterferenceIsMutual, BusyIsCounted, HotIsCounted, CountersFit, EventsChangeBusy, EventsChangeHot, MarksChangeHot, FirstChoicesAreUnique, RivalsAreUnique, ChosenLeasesAreLegal, ChosenRenewalsAreLegal, FirstViewsAreTrue, HoldingKeepsViews, SplittingKeepsViews, MeetingKeepsViews, LastViewsTellAll, WorkedJournalsAreLegal, WorkedJournalsAreRefused, LeasesAreOfWorkers, ReleasesAreLegal, MarksAreLegal, SignOffsAreLegal, EndsAreLegal, MemoryEndsAreReported, ReportsEndSearches, SignedOffIsFinished, LastViewsSignOff, CountersBeginAtNone, LeasedAreNeverHot, SpentIsUsed, UsedFitsBudget, EndsAreTold, EndsStand, AllOffNoneOut, HistoriesHaveAnyWeight, ChoicesOutliveReleases, ReleasesCoolNear};
+ghost use Rattle.pb_machine.specs.JournalLaws.{JournalsAreShort, LeasesTakeTheirRoom, RoomGoesOn, HistoriesAreLawful, HistoriesGrow, BeginningsAreHistories, SigningOffIsTold, FinishedWorkersSignOff, RefusalsAreFirst, RefusedJournalsFail, NoneOutNoneHot, InterferenceIsMutual, BusyIsCounted, HotIsCounted, CountersFit, EventsChangeBusy, EventsChangeHot, MarksChangeHot, FirstChoicesAreUnique, RivalsAreUnique, ChosenLeasesAreLegal, ChosenRenewalsAreLegal, FirstViewsAreTrue, HoldingKeepsViews, SplittingKeepsViews, MeetingKeepsViews, LastViewsTellAll, WorkedJournalsAreLegal, WorkedJournalsAreRefused, LeasesAreOfWorkers, ReleasesAreLegal, MarksAreLegal, SignOffsAreLegal, EndsAreLegal, MemoryEndsAreReported, ReportsEndSearches, SignedOffIsFinished, LastViewsSignOff, CountersBeginAtNone, LeasedAreNeverHot, SpentIsUsed, UsedFitsBudget, EndsAreTold, EndsStand, AllOffNoneOut, HistoriesHaveAnyWeight, ChoicesOutliveReleases, ReleasesCoolNear};
 
 /// A legal history leads to counts that are lawful.
 pub fn histories_are_lawful()
@@ -221,6 +221,21 @@ pub fn reports_end_searches()
 /// A legal history in which every worker has signed off, and where no report waits for its end, is finished.
 pub fn signed_off_is_finished()
     ensures { SignedOffIsFinished }
+{}
+
+/// A legal history that keeps within the room of its leases has at most 65 events a lease, one sign-off a worker, and one end.
+pub fn journals_are_short()
+    ensures { JournalsAreShort }
+{}
+
+/// Where a journal keeps within room, a worker renews and marks at most 63 times between two of its leases.
+pub fn leases_take_their_room()
+    ensures { LeasesTakeTheirRoom }
+{}
+
+/// A longer journal keeps within room exactly where its first part does, and the rest has the room that this leaves.
+pub fn room_goes_on()
+    ensures { RoomGoesOn }
 {}
 
 /// Where one pass is left, its view counts as many passes as there are workers, and all that it knows of have signed off, each worker has.

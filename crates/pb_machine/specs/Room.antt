@@ -1,0 +1,62 @@
+-- How long a journal may grow: each lease has room for so many events, and the room is all that it may add between its lease and its
+-- return.
+use Rattle.std.specs.Prelude.{ℕ, ◌+◌, ◌-◌, ◌<◌, Bool, false, ◌==◌, List, [], ◌∷◌, ⊤}
+use Rattle.pb_machine.specs.declared.event.Event.{Event}
+use Rattle.pb_machine.specs.declared.event.Event.TheVariants.{Lease, Renew, Hot, Cold, Release, Off, Ended}
+use Rattle.pb_machine.specs.Tables.{with_entry}
+
+-- By worker, for how many events its lease has room after this one. A lease begins with room for 63 renewals, hot marks and marks taken
+-- away. Each of these takes one, and the return of the lease takes what is left.
+abbrev pub room_with : (room : ℕ → ℕ) → Event → ℕ → ℕ
+room_with room (Lease worker block quota) = with_entry room worker 63
+room_with room (Renew worker used quota) = with_entry room worker (room worker - 1)
+room_with room (Hot worker block) = with_entry room worker (room worker - 1)
+room_with room (Cold worker block) = with_entry room worker (room worker - 1)
+room_with room (Release worker used memory) = with_entry room worker 0
+room_with room (Off worker memory) = room
+room_with room (Ended end) = room
+
+-- the same after all these events
+abbrev pub room_from : (room : ℕ → ℕ) → List Event → ℕ → ℕ
+room_from room [] = room
+room_from room (event ∷ events) = room_from (room_with room event) events
+
+-- before the first event no worker has a lease
+abbrev pub no_room : (worker : ℕ) → ℕ
+no_room worker = 0
+
+-- for how many events the worker's lease has room after the journal
+abbrev pub room_after : List Event → (worker : ℕ) → ℕ
+room_after journal = room_from no_room journal
+
+-- the event may come in this room: a renewal, a hot mark, or a mark taken away needs room of its worker's lease
+abbrev pub HasRoom : (room : ℕ → ℕ) → Event → Type 0
+HasRoom room (Renew worker used quota) = 0 < room worker
+HasRoom room (Hot worker block) = 0 < room worker
+HasRoom room (Cold worker block) = 0 < room worker
+HasRoom room event = ⊤
+
+-- each event has room after those before it
+abbrev pub AreWithinRoom : (room : ℕ → ℕ) → List Event → Type 0
+AreWithinRoom room [] = ⊤
+AreWithinRoom room (event ∷ events) = HasRoom room event × AreWithinRoom (room_with room event) events
+
+-- each event of the journal stands within the room of its worker's lease
+abbrev pub KeepsWithinRoom : (journal : List Event) → Type 0
+KeepsWithinRoom journal = AreWithinRoom no_room journal
+
+abbrev pub one_if_lease : Event → ℕ
+one_if_lease (Lease worker block quota) = 1
+one_if_lease event = 0
+
+-- how many of the events are leases
+abbrev pub leases_in : List Event → ℕ
+leases_in [] = 0
+leases_in (event ∷ events) = one_if_lease event + leases_in events
+
+-- whether the event takes of the room of this worker's lease
+abbrev pub takes_room : (worker : ℕ) → Event → Bool
+takes_room worker (Renew by used quota) = by == worker
+takes_room worker (Hot by block) = by == worker
+takes_room worker (Cold by block) = by == worker
+takes_room worker event = false
