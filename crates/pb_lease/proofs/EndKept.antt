@@ -13,9 +13,10 @@ use Rattle.pb_machine.specs.Legality.{refusal}
 use Rattle.pb_machine.specs.History.{IsHistory}
 use Rattle.pb_machine.proofs.LegalEvents.{ends_are_legal}
 use Rattle.pb_lease.specs.declared.seat.Seat.{Seat}
-use Rattle.pb_lease.specs.Tables.{Table, blocks, counts_of, seat_of}
+use Rattle.pb_lease.specs.Tables.{Table, blocks, counts_of, seat_of, rooms}
 use Rattle.pb_lease.specs.Events.{counts_along, ending, end_after, Adds}
 use Rattle.pb_lease.specs.Kept.{IsKept, due}
+use Rattle.pb_lease.proofs.RoomKept.{LeavesRoom, event_room, report_room}
 use Rattle.pb_lease.proofs.NextEvents.{counts_same, history_with, sign_off_may}
 use Rattle.pb_lease.proofs.SeatLists.{seat_set, seat_kept, seat_bound, due_set}
 
@@ -67,9 +68,14 @@ module _ (t : Table) (busy near : List ℕ) (promised spare : ℕ) (k : IsKept t
     busy_is = k.busy_is;
     marks = k.marks;
     history = history_with (blocks t) t.settings t.journal after (counts_of t) (counts_of (record t { end = Some e; journal = after })) (Ended e) k.history may refl is;
+    within = (left after is).0;
+    left = (left after is).1;
     promised_is = let was = ap (λ (o : Option End). one_if (is_none o)) none in omega (arith, k.promised_is, was);
     room = let was = ap (λ (o : Option End). one_if (is_none o)) none in omega (arith, k.room, one);
   }
+    where
+      left : (journal : List Event) → journal ≡ t.journal ++ Ended e ∷ [] → LeavesRoom journal (rooms t)
+      left journal grows = event_room t.journal journal (Ended e) (rooms t) (rooms t) (k.within, k.left) tt refl grows
 
   -- ---- a worker that signs off
 
@@ -84,6 +90,9 @@ module _ (t : Table) (busy near : List ℕ) (promised spare : ℕ) (k : IsKept t
     off_counts = counts_same (counts_of off_table) (ended_counts memory (counts_after (blocks t) t.settings (counts_of t) (Off worker memory)))
         (seat_kept t.seats worker Gone there (λ (s : Seat). s.grant) (ap (λ (s : Seat). s.grant) is_was)) (λ block. refl)
         (seat_set t.seats worker Gone there (λ (s : Seat). s.signed_off)) refl refl end_is refl
+
+    off_room : rooms off_table ≡ rooms t
+    off_room = λ i w. seat_kept t.seats worker Gone there (λ (s : Seat). s.room) (ap (λ (s : Seat). s.room) is_was) w i
 
     pub off_adds : after ≡ (t.journal ++ Off worker memory ∷ []) ++ ending memory t.end → Adds t off_table (Off worker memory ∷ ending memory t.end)
     off_adds is = record {
@@ -106,6 +115,9 @@ module _ (t : Table) (busy near : List ℕ) (promised spare : ℕ) (k : IsKept t
         let same_due : (if is_some was.grant then was.room + 1 else 0) ≡ (if is_some (seat_of t.seats worker).grant then (seat_of t.seats worker).room + 1 else 0) = ap (λ (s : Seat). if is_some s.grant then s.room + 1 else 0) is_was in
         let ends = end_due memory t.end in
         let end_same = ap (λ (o : Option End). one_if (is_none o)) end_is in
+        let stay : rooms off_table ≡ rooms t = off_room in
+        let first_left : LeavesRoom (t.journal ++ Off worker memory ∷ []) (rooms off_table) = event_room t.journal (t.journal ++ Off worker memory ∷ []) (Off worker memory) (rooms t) (rooms off_table) (k.within, k.left) tt stay refl in
+        let left : LeavesRoom after (rooms off_table) = report_room memory t.end (t.journal ++ Off worker memory ∷ []) after (rooms off_table) first_left is in
         let now_due : promised ≡ due (slice_set t.seats worker Gone) end + (1 + ended) = omega (arith, k.promised_is, sums, stayed, same_due, ends, end_same, ended_is) in
         record {
           seats = length-set t.seats worker Gone ∙ k.seats;
@@ -118,6 +130,8 @@ module _ (t : Table) (busy near : List ℕ) (promised spare : ℕ) (k : IsKept t
           marks = k.marks;
           history = subst (λ (j : List Event). IsHistory (blocks t) t.settings 0 j (counts_of off_table)) (sym is)
               (subst (IsHistory (blocks t) t.settings 0 ((t.journal ++ Off worker memory ∷ []) ++ ending memory t.end)) (sym off_counts) both);
+          within = left.0;
+          left = left.1;
           promised_is = omega (arith, now_due);
           room = omega (arith, k.room, fewer);
         }

@@ -19,6 +19,7 @@ use Rattle.pb_lease.specs.Events.{Adds}
 use Rattle.pb_lease.specs.Leasing.{can_be_leased}
 use Rattle.pb_lease.specs.Kept.{IsKept, AreBusy}
 use Rattle.pb_lease.proofs.Lists.{past}
+use Rattle.pb_lease.proofs.RoomKept.{LeavesRoom, event_room}
 use Rattle.pb_lease.proofs.NextEvents.{counts_same, history_with, lease_may, renewal_may}
 use Rattle.pb_lease.proofs.SeatLists.{seat_set, seat_kept, seat_bound, due_set}
 
@@ -75,6 +76,7 @@ module _ (t : Table) (busy near : List ℕ) (promised spare : ℕ) (k : IsKept t
         let sums = due_set t.seats worker Leased there in
         let empty = ap (λ (o : Option Grant). if is_some o then (seat_of t.seats worker).room + 1 else 0) vacant in
         let stayed = ap (λ r. one_if (not r)) stays in
+        let left : LeavesRoom after (rooms leased_table) = event_room t.journal after (Lease worker block quota) (rooms t) (rooms leased_table) (k.within, k.left) tt lease_room is in
         record {
           seats = length-set t.seats worker Leased ∙ k.seats;
           rooms = seat_bound t.seats worker Leased there (λ (s : Seat). s.room) 63 (omega arith) k.rooms;
@@ -89,6 +91,8 @@ module _ (t : Table) (busy near : List ℕ) (promised spare : ℕ) (k : IsKept t
           };
           marks = k.marks;
           history = history_with (blocks t) t.settings t.journal after (counts_of t) (counts_of leased_table) (Lease worker block quota) k.history may counts is;
+          within = left.0;
+          left = left.1;
           promised_is = omega (arith, k.promised_is, sums, empty, stayed);
           room = enough;
         }
@@ -135,6 +139,7 @@ module _ (t : Table) (busy near : List ℕ) (promised spare : ℕ) (k : IsKept t
         let same_room = ap (λ (s : Seat). s.room) is_was in
         let out = ap (λ (o : Option Grant). if is_some o then (seat_of t.seats worker).room + 1 else 0) has in
         let stayed = ap (λ (s : Seat). one_if (not s.signed_off)) is_was in
+        let left : LeavesRoom after (rooms renewed_table) = event_room t.journal after (Renew worker used quota) (rooms t) (rooms renewed_table) (k.within, k.left) some renewal_room is in
         record {
           seats = length-set t.seats worker Renewed ∙ k.seats;
           rooms = seat_bound t.seats worker Renewed there (λ (s : Seat). s.room) 63 (omega (arith, same_room, k.rooms worker)) k.rooms;
@@ -143,6 +148,8 @@ module _ (t : Table) (busy near : List ℕ) (promised spare : ℕ) (k : IsKept t
               (λ c. ap (λ (n : Counts). busy_count (blocks t) t.settings.workers n.leases c) counts ∙ events_change_busy (blocks t) t.settings (counts_of t) (Renew worker used quota) c may) k.busy_is;
           marks = k.marks;
           history = history_with (blocks t) t.settings t.journal after (counts_of t) (counts_of renewed_table) (Renew worker used quota) k.history may counts is;
+          within = left.0;
+          left = left.1;
           promised_is = omega (arith, k.promised_is, sums, same_room, out, stayed, some);
           room = omega (arith, k.room, one);
         }

@@ -5,6 +5,7 @@ pub mod NextEvents
 pub mod EndKept
 pub mod LeaseKept
 pub mod MarkKept
+pub mod RoomKept
 pub mod ReleaseKept
 pub mod FreeBlocks
 pub mod Opening

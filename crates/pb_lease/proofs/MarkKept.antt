@@ -1,5 +1,5 @@
 -- What a hot mark, and a mark taken away, keep.
-use Rattle.std.proofs.Common.{◌≡◌, ℕ, ◌+◌, ◌-◌, ◌<◌, Bool, true, false, cond, if◌then◌else◌, not, ◌&&◌, ◌||◌, ◌==◌, is_some, nat_lt, List, [], ◌∷◌, ◌++◌, length, get_or, slice_set, Option, Some, None, refl, ap, ◌∙◌, arith, length-set}
+use Rattle.std.proofs.Common.{◌≡◌, ℕ, ◌+◌, ◌-◌, ◌<◌, Bool, true, false, cond, if◌then◌else◌, not, ◌&&◌, ◌||◌, ◌==◌, is_some, nat_lt, List, [], ◌∷◌, ◌++◌, length, get_or, slice_set, Option, Some, None, refl, sym, ap, ◌∙◌, arith, length-set}
 use Rattle.pb_model.proofs.Tests.{and_true, not_true, below}
 use Rattle.pb_machine.specs.declared.event.Event.{Event}
 use Rattle.pb_machine.specs.declared.event.Event.TheVariants.{Hot, Cold}
@@ -8,11 +8,13 @@ use Rattle.pb_machine.specs.Tables.{with_entry, one_if}
 use Rattle.pb_machine.specs.Counts.{counts_after}
 use Rattle.pb_machine.specs.Counters.{busy_count}
 use Rattle.pb_machine.specs.Legality.{refusal}
+use Rattle.pb_machine.specs.Room.{room_with, HasRoom}
 use Rattle.pb_machine.proofs.CountsLaws.{none_end}
 use Rattle.pb_lease.specs.declared.seat.Seat.{Seat}
 use Rattle.pb_lease.specs.Tables.{Table, blocks, counts_of, seat_of, rooms}
 use Rattle.pb_lease.specs.Marking.{may_be_marked, may_be_cooled}
 use Rattle.pb_lease.specs.Kept.{IsKept, AreMarks}
+use Rattle.pb_lease.proofs.RoomKept.{LeavesRoom, event_room}
 use Rattle.pb_lease.proofs.HotCounts.{table_at}
 use Rattle.pb_lease.proofs.LeaseKept.{lawful, busy_same}
 use Rattle.pb_lease.proofs.NextEvents.{counts_same, history_with, mark_may, cold_may}
@@ -73,13 +75,14 @@ module _ (t : Table) (busy near : List ℕ) (promised spare : ℕ) (k : IsKept t
     mark_room = λ i w. (seat_set t.seats worker Marker there (λ (s : Seat). s.room) w ∙ ap (λ (s : Seat). with_entry (rooms t) worker (s.room - 1) w) is_was) i
 
     pub mark_kept : (event : Event) (near' : List ℕ) (room : ℕ) → refusal (blocks t) t.settings (counts_of t) event ≡ None → counts_of marked_table ≡ counts_after (blocks t) t.settings (counts_of t) event
-        → after ≡ t.journal ++ event ∷ [] → AreMarks (blocks t) hotter near' → 0 < rooms t worker → room + 1 ≡ spare → IsKept marked_table busy near' (promised - 1) room
-    mark_kept event near' room may counts is marks some one =
+        → after ≡ t.journal ++ event ∷ [] → AreMarks (blocks t) hotter near' → 0 < rooms t worker → HasRoom (rooms t) event → room_with (rooms t) event ≡ with_entry (rooms t) worker (rooms t worker - 1) → room + 1 ≡ spare → IsKept marked_table busy near' (promised - 1) room
+    mark_kept event near' room may counts is marks some has_room takes one =
         let sums = due_set t.seats worker Marker there in
         let same_room = ap (λ (s : Seat). s.room) is_was in
         let out = ap (λ (o : Option Grant). if is_some o then (seat_of t.seats worker).room + 1 else 0) has in
         let out_now = ap (λ (o : Option Grant). if is_some o then (was.room - 1) + 1 else 0) (ap (λ (s : Seat). s.grant) is_was ∙ has) in
         let stayed = ap (λ (s : Seat). one_if (not s.signed_off)) is_was in
+        let left : LeavesRoom after (rooms marked_table) = event_room t.journal after event (rooms t) (rooms marked_table) (k.within, k.left) has_room (mark_room ∙ sym takes) is in
         record {
           seats = length-set t.seats worker Marker ∙ k.seats;
           rooms = seat_bound t.seats worker Marker there (λ (s : Seat). s.room) 63 (omega (arith, same_room, k.rooms worker)) k.rooms;
@@ -88,6 +91,8 @@ module _ (t : Table) (busy near : List ℕ) (promised spare : ℕ) (k : IsKept t
               (λ c. ap (λ (leases : ℕ → Option Grant). busy_count (blocks t) t.settings.workers leases c) (λ i w. leases_same w i)) k.busy_is;
           marks = marks;
           history = history_with (blocks t) t.settings t.journal after (counts_of t) (counts_of marked_table) event k.history may counts is;
+          within = left.0;
+          left = left.1;
           promised_is = omega (arith, k.promised_is, sums, same_room, out, out_now, stayed, some);
           room = omega (arith, k.room, one);
         }

@@ -1,5 +1,5 @@
 -- What the tables keep when a search begins.
-use Rattle.std.proofs.Common.{◌≡◌, ℕ, zero, suc, ◌+◌, ◌≤◌, Bool, false, is_some, List, [], length, get_or, replicate, Some, None, refl, sym, ap, ◌∙◌, arith}
+use Rattle.std.proofs.Common.{◌≡◌, ℕ, zero, suc, ◌+◌, ◌≤◌, Bool, false, is_some, List, [], length, get_or, replicate, Some, None, refl, sym, ap, ◌∙◌, subst, arith}
 use Rattle.std.specs.List.{sum_by}
 use Rattle.std.proofs.lemmas.List.Folds.{sum_by-replicate}
 use Rattle.std.proofs.Math.ListN.{length-replicate}
@@ -8,6 +8,7 @@ use Rattle.pb_machine.specs.declared.settings.Settings.{Settings}
 use Rattle.pb_machine.specs.Settings.{AreInRange}
 use Rattle.pb_machine.specs.Counts.{Counts, opening_counts}
 use Rattle.pb_machine.specs.History.{replay}
+use Rattle.pb_machine.specs.Room.{room_after, KeepsWithinRoom}
 use Rattle.pb_machine.proofs.TableLaws.{any_false}
 use Rattle.pb_machine.proofs.Counters.{counters_begin_at_none}
 use Rattle.pb_abstract.specs.Graph.{AbstractGraph, IsGraph, blocks_of}
@@ -58,6 +59,8 @@ module _ (graph : AbstractGraph) (settings : Settings) (seats : List Seat) (hot 
       enough = omega arith;
       replays = ap (λ (j : List Event). replay (blocks_of graph) settings (opening_counts settings 0) j) journal_is ∙ ap (λ (n : Counts). Some n) (sym opening_is);
     };
+    within = subst KeepsWithinRoom (sym journal_is) tt;
+    left = (λ i w. ap (λ (s : Seat). s.room) (seat_at w) i) ∙ ap room_after (sym journal_is);
     promised_is = let sums = ap (λ (s : List Seat). sum_by due_of s) seats_is ∙ sum_by-replicate due_of settings.workers vacant in omega (arith, sums);
     room = enough;
   }

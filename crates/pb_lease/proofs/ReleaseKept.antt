@@ -20,6 +20,7 @@ use Rattle.pb_lease.specs.Events.{ending, end_after, Adds}
 use Rattle.pb_lease.specs.Kept.{IsKept, AreBusy, AreMarks, due}
 use Rattle.pb_lease.proofs.EndKept.{ended_counts, end_due, reported_counts, reported_history}
 use Rattle.pb_lease.proofs.LeaseKept.{lawful}
+use Rattle.pb_lease.proofs.RoomKept.{LeavesRoom, event_room, report_room}
 use Rattle.pb_lease.proofs.NextEvents.{counts_same, history_with, release_may}
 use Rattle.pb_lease.proofs.SeatLists.{seat_set, seat_kept, seat_bound, due_set}
 
@@ -111,6 +112,8 @@ module _ (t : Table) (busy near : List ℕ) (promised spare : ℕ) (k : IsKept t
             let stayed = ap (λ (s : Seat). one_if (not s.signed_off)) is_was in
             let ends = end_due memory t.end in
             let end_same = ap (λ (o : Option End). one_if (is_none o)) end_is in
+            let first_left : LeavesRoom (t.journal ++ Release worker used memory ∷ []) (rooms home_table) = event_room t.journal (t.journal ++ Release worker used memory ∷ []) (Release worker used memory) (rooms t) (rooms home_table) (k.within, k.left) tt release_room refl in
+            let left : LeavesRoom after (rooms home_table) = report_room memory t.end (t.journal ++ Release worker used memory ∷ []) after (rooms home_table) first_left is in
             let now_due : promised ≡ due (slice_set t.seats worker Home) end + (was.room + 1 + ended) = omega (arith, k.promised_is, sums, same_room, out, stayed, ends, end_same, ended_is) in
             record {
               seats = length-set t.seats worker Home ∙ k.seats;
@@ -123,6 +126,8 @@ module _ (t : Table) (busy near : List ℕ) (promised spare : ℕ) (k : IsKept t
               marks = marks;
               history = subst (λ (j : List Event). IsHistory (blocks t) t.settings 0 j (counts_of home_table)) (sym is)
                   (subst (IsHistory (blocks t) t.settings 0 ((t.journal ++ Release worker used memory ∷ []) ++ ending memory t.end)) (sym home_is) both);
+              within = left.0;
+              left = left.1;
               promised_is = omega (arith, now_due);
               room = omega (arith, k.room, less);
             }

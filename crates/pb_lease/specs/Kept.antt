@@ -7,8 +7,9 @@ use Rattle.pb_machine.specs.Blocks.{Blocks}
 use Rattle.pb_machine.specs.Tables.{one_if}
 use Rattle.pb_machine.specs.Counters.{busy_count, hot_count}
 use Rattle.pb_machine.specs.History.{IsHistory}
+use Rattle.pb_machine.specs.Room.{room_after, KeepsWithinRoom}
 use Rattle.pb_lease.specs.declared.seat.Seat.{Seat}
-use Rattle.pb_lease.specs.Tables.{Table, seat_of, blocks, counts_of}
+use Rattle.pb_lease.specs.Tables.{Table, seat_of, blocks, counts_of, rooms}
 
 -- the counters by block are the numbers of leased blocks in each interference
 pub record AreBusy (of : Blocks) (workers : ℕ) (leases : ℕ → Option Grant) (busy : List ℕ) : Type 0 where
@@ -31,7 +32,12 @@ due_of seat = (if is_some seat.grant then seat.room + 1 else 0) + one_if (not se
 abbrev pub due : List Seat → Option End → ℕ
 due seats end = sum_by due_of seats + one_if (is_none end)
 
--- what holds of the tables, of the counters beside them, of the number of events that are due, and of the room in the journal
+-- the seats have the room that the journal leaves
+abbrev pub HasRoomLeft : Table → Type 0
+HasRoomLeft table = rooms table ≡ room_after table.journal
+
+-- What holds of the tables, of the counters beside them, of the number of events that are due, and of the room in the journal. Each event
+-- stood within the room of its worker's lease, and the seats have the room that the journal leaves.
 pub record IsKept (table : Table) (busy near : List ℕ) (promised spare : ℕ) : Type 0 where
   pub seats : length table.seats ≡ table.settings.workers
   pub rooms : (worker : ℕ) → (seat_of table.seats worker).room ≤ 63
@@ -39,5 +45,7 @@ pub record IsKept (table : Table) (busy near : List ℕ) (promised spare : ℕ) 
   pub busy_is : AreBusy (blocks table) table.settings.workers (counts_of table).leases busy
   pub marks : AreMarks (blocks table) table.hot near
   pub history : IsHistory (blocks table) table.settings 0 table.journal (counts_of table)
+  pub within : KeepsWithinRoom table.journal
+  pub left : HasRoomLeft table
   pub promised_is : promised ≡ due table.seats table.end
   pub room : promised ≤ spare

@@ -12,6 +12,7 @@ ghost use Rattle.pb_estimate.specs.Estimates.{estimate_of};
 ghost use Rattle.pb_abstract.specs.Graph.{IsGraphOf};
 ghost use Rattle.pb_lists.specs.Bundle.{row_of};
 ghost use Rattle.pb_bundles.specs.Homes.{content_at, home_rows};
+ghost use Rattle.pb_machine.specs.Room.{KeepsWithinRoom};
 ghost use Rattle.pb_lease.specs.Tables.{blocks, rooms};
 ghost use Rattle.pb_lease.specs.GraphValue.{setup_in, counts_in, IsLeaseGraph};
 ghost use Rattle.pb_lease.specs.Choices.{is_out_in};
@@ -94,10 +95,11 @@ impl LeaseGraph {
         })
     }
 
-    /// The events so far: a legal history.
+    /// The events so far: a legal history, which keeps within the room of its leases.
     pub fn journal(&self) -> &[Event]
         ensures events { result.now ≡ self.now.table.journal }
         ensures legal { IsHistory (blocks self.now.table) self.now.table.settings 0 self.now.table.journal (counts_in self.now) }
+        ensures within { KeepsWithinRoom self.now.table.journal }
     {
         self.tables.journal()
     }

@@ -5,6 +5,7 @@ ghost use Rattle.pb_machine.specs.Settings.{AreInRange};
 ghost use Rattle.pb_machine.specs.Counts.{opening_counts};
 ghost use Rattle.pb_machine.specs.Counters.{busy_count, hot_count};
 ghost use Rattle.pb_machine.specs.History.{IsHistory};
+ghost use Rattle.pb_machine.specs.Room.{KeepsWithinRoom};
 ghost use Rattle.pb_lease.specs.Tables.{blocks, counts_of, seat_of, rooms};
 
 use crate::marks::Marks;
@@ -113,10 +114,11 @@ impl MachineTables {
         &self.settings
     }
 
-    /// The events so far: a legal history, which leads to these counts.
+    /// The events so far: a legal history, which leads to these counts, and which keeps within the room of its leases.
     pub fn journal(&self) -> &[Event]
         ensures events { result.now ≡ self.now.journal }
         ensures legal { IsHistory (blocks self.now) self.now.settings 0 self.now.journal (counts_of self.now) }
+        ensures within { KeepsWithinRoom self.now.journal }
     {
         &self.journal
     }

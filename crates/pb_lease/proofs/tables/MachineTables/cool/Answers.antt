@@ -30,7 +30,7 @@ invariant_of-self c =
     λ other. ap (λ (hot : List Bool). get_or hot other false) c.cool.ensures.hot ∙ colder_is t.hot block (omega (arith, known, c.self.invariant.marks.hot_places)) other in
     let counts = marked_counts t c.self.inside.busy.items c.self.inside.marks.near.items c.self.inside.promised _ c.self.invariant worker was is out.0 out.1 c.push_reserved.new.self.items there c.cool.new.self.hot.items (λ other. get_or t.hot other false && not (other == block)) each in
     mark_kept t c.self.inside.busy.items c.self.inside.marks.near.items c.self.inside.promised _ c.self.invariant worker was is out.0 out.1 c.push_reserved.new.self.items there c.cool.new.self.hot.items (Cold worker block) c.cool.new.self.near.items _ (cool_may t c.self.inside.busy.items c.self.inside.marks.near.items c.self.inside.promised _ c.self.invariant worker block out.0 out.1 known test) counts c.push_reserved.ensures.items
-    (subst (λ (of : Blocks). AreMarks of c.cool.new.self.hot.items c.cool.new.self.near.items) graph c.cool.ensures.marks) some (omega arith)
+    (subst (λ (of : Blocks). AreMarks of c.cool.new.self.hot.items c.cool.new.self.near.items) graph c.cool.ensures.marks) some some refl (omega arith)
 
 pub returns-clause-events : goal.returns-clause-events
 returns-clause-events c marked =

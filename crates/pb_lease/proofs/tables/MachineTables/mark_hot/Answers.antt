@@ -34,7 +34,7 @@ invariant_of-self c =
     λ other. ap (λ (hot : List Bool). get_or hot other false) c.mark.ensures.hot ∙ hotter_is t.hot cooled block (interferes (blocks t) block) places apart other in
     let counts = marked_counts t c.self.inside.busy.items c.self.inside.marks.near.items c.self.inside.promised _ c.self.invariant worker was is out.0 out.1 c.push_reserved.new.self.items there c.mark.new.self.hot.items (λ other. (other == block) || (get_or t.hot other false && not (interferes (blocks t) block other))) each in
     mark_kept t c.self.inside.busy.items c.self.inside.marks.near.items c.self.inside.promised _ c.self.invariant worker was is out.0 out.1 c.push_reserved.new.self.items there c.mark.new.self.hot.items (Hot worker block) c.mark.new.self.near.items _ (hot_may t c.self.inside.busy.items c.self.inside.marks.near.items c.self.inside.promised _ c.self.invariant worker block out.0 c.args.outranked out.1 known test) counts c.push_reserved.ensures.items
-    (subst (λ (of : Blocks). AreMarks of c.mark.new.self.hot.items c.mark.new.self.near.items) graph c.mark.ensures.marks) some (omega arith)
+    (subst (λ (of : Blocks). AreMarks of c.mark.new.self.hot.items c.mark.new.self.near.items) graph c.mark.ensures.marks) some some refl (omega arith)
 
 pub returns-clause-events : goal.returns-clause-events
 returns-clause-events c marked =
