@@ -1,5 +1,7 @@
 pub mod Parts
 pub mod InTime
+pub mod Covered
+pub mod Few
 pub mod Causes
 pub mod Holding
 pub mod Meaning

@@ -6,3 +6,4 @@ pub mod Returning
 pub mod Passes
 pub mod Calls
 pub mod Laws
+pub mod Length
