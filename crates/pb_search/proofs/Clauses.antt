@@ -1,5 +1,5 @@
 -- What a search came to, as its callers learn it.
-use Rattle.std.proofs.Common.{◌≡◌, ◌≤◌, ◌⊎◌, inl, inr, true, Option, None, Some, Result, IfOk, refl, sym, ap, ◌∙◌, subst, arith}
+use Rattle.std.proofs.Common.{◌≡◌, ◌≤◌, ◌^◌, ◌⊎◌, inl, inr, true, Option, None, Some, Result, IfOk, refl, sym, ap, ◌∙◌, subst, arith}
 use Rattle.std.proofs.lemmas.Result.{IfOk-weaker}
 use Rattle.pb_model.specs.Weight.{Weight}
 use Rattle.pb_model.specs.Work.{Comes, expansions, opening_store}
@@ -11,7 +11,8 @@ use Rattle.pb_machine.specs.declared.settings.Settings.{Settings}
 use Rattle.pb_machine.specs.Settings.{AreInRange, weight_of}
 use Rattle.pb_machine.specs.Counts.{Counts}
 use Rattle.pb_machine.specs.History.{IsHistory}
-use Rattle.pb_machine.specs.Machine.{Setup, Machine, journal_of, opening_machine}
+use Rattle.pb_machine.specs.Room.{KeepsWithinRoom}
+use Rattle.pb_machine.specs.Machine.{Setup, IsSetup, Machine, journal_of, opening_machine}
 use Rattle.pb_machine.specs.Lawful.{broken_leases, IsLawful}
 use Rattle.pb_machine.proofs.TableLaws.{none_counted}
 use Rattle.pb_machine.proofs.Histories.{spent_is_used, used_fits_budget}
@@ -21,6 +22,7 @@ use Rattle.pb_abstract.specs.Projection.{IsFinest}
 use Rattle.pb_abstract.specs.Graph.{AbstractGraph, blocks_of, IsGraph, IsGraphOf}
 use Rattle.pb_lease.specs.GraphValue.{GraphValue, setup_in}
 use Rattle.pb_lease.proofs.GraphBasics.{setup_is, all_rows}
+use Rattle.pb_yard.proofs.Few.{runs_are_short}
 use Rattle.pb_workers.proofs.Ended.{store_is, best_end}
 use Rattle.pb_search.specs.Ends.{search_of, HasSmallCosts, IsBestOf, HasEndedSo, EndsBy, StopsWith, EndsQuietly, MarksNothing}
 use Rattle.pb_search.specs.Searched.{HasSearched}
@@ -81,6 +83,16 @@ module _ (parts : TaskParts) (abstraction : AbstractGraph) (settings : Settings)
       sym (weights_stay setup.space setup.guide lawful.reached.works (opening_store setup.space setup.guide lawful.reached.first_weight) h.machine.store lawful.reached.comes lawful.reached.reopened)
       ∙ lawful.weight
 
+  is_setup : IsSetup setup (2 ^ 20)
+  is_setup = subst (λ (s : Setup). IsSetup s (2 ^ 20)) setup_same (setup_is g h.lawful)
+
+  within : KeepsWithinRoom (journal_of h.moves)
+  within = subst KeepsWithinRoom h.journal h.within
+
+  no_memory : (h.machine.counts.end ≡ Some Quiet) ⊎ (h.machine.counts.end ≡ Some Budget) → h.machine.counts.end ≡ Some Memory → ⊥
+  no_memory (inl quiet) memory = let bad : ◌≡◌ {A = Option End} (Some Quiet) (Some Memory) = sym quiet ∙ memory in cc
+  no_memory (inr budget) memory = let bad : ◌≡◌ {A = Option End} (Some Budget) (Some Memory) = sym budget ∙ memory in cc
+
   ends_by : (end : End) → h.machine.counts.end ≡ Some end → HasEndedSo end settings h.machine.store (expansions lawful.reached.works) → EndsBy parts settings end h.moves
   ends_by end is so = record {
     graph = abstraction;
@@ -99,6 +111,8 @@ module _ (parts : TaskParts) (abstraction : AbstractGraph) (settings : Settings)
     none_broken = let none = none_broken_at setup h.machine lawful ended in omega (arith, lawful.reached.broken, none);
     one_run = lawful.reached.reopened;
     ended_so = so;
+    within = within;
+    short = runs_are_short setup (2 ^ 20) h.moves h.machine is_setup refl range h.ordered within h.finished (no_memory ended);
   }
 
   pub quiet_run : g.table.end ≡ Some Quiet → EndsQuietly parts settings g.table.journal g

@@ -6,6 +6,7 @@ use Rattle.pb_machine.specs.declared.event.End.TheVariants.{Quiet, Budget}
 use Rattle.pb_machine.specs.declared.settings.Settings.{Settings}
 use Rattle.pb_machine.specs.Counts.{Counts, opening_counts, is_any_out}
 use Rattle.pb_machine.specs.History.{AreFinished}
+use Rattle.pb_machine.specs.Room.{KeepsWithinRoom}
 use Rattle.pb_machine.specs.Machine.{Setup, journal_of, opening_machine}
 use Rattle.pb_machine.proofs.TableLaws.{any_false}
 use Rattle.pb_task.specs.declared.parts.TaskParts.{TaskParts}
@@ -57,8 +58,8 @@ module _ (parts : TaskParts) (abstraction : AbstractGraph) (settings : Settings)
           subst (λ k. counts.signed_off k ≡ true) (sym first) (ap (λ (c : Counts). c.signed_off 0) is ∙ off);
     }
 
-    pub alone_searched : IsLeaseGraph new → RunsOn old new → is_out_in new ≡ false → (counts_in new).signed_off 0 ≡ true → HasEnded new → HasSearched parts abstraction settings new
-    alone_searched lawful runs home off ended =
+    pub alone_searched : IsLeaseGraph new → KeepsWithinRoom new.table.journal → RunsOn old new → is_out_in new ≡ false → (counts_in new).signed_off 0 ≡ true → HasEnded new → HasSearched parts abstraction settings new
+    alone_searched lawful within runs home off ended =
         let last = runs (λ worker home state. None) (opening_machine (setup_in old)) (opens.opening.moment (λ worker home state. None)) in
         let to = last.1 in
         let run : LeadsInTime setup to.moves last.0 = subst (λ (s : Setup). LeadsInTime s to.moves last.0) old_setup to.run in
@@ -77,6 +78,7 @@ module _ (parts : TaskParts) (abstraction : AbstractGraph) (settings : Settings)
           recorded = λ worker home state. None;
           moment = to.moment;
           finished = all_off last.0.counts to.moment.at.counts off ended;
+          within = within;
         }
 
   -- several workers whose yard was closed
@@ -93,8 +95,8 @@ module _ (parts : TaskParts) (abstraction : AbstractGraph) (settings : Settings)
     new_setup : setup_in new ≡ setup
     new_setup = λ i. search_of (task i) (graph i) (are i)
 
-    pub yard_searched : IsLeaseGraph new → HasEnded new → HasSearched parts abstraction settings new
-    yard_searched lawful ended =
+    pub yard_searched : IsLeaseGraph new → KeepsWithinRoom new.table.journal → HasEnded new → HasSearched parts abstraction settings new
+    yard_searched lawful within ended =
         let moment = closed.moment (λ worker home state. None) in
         let run : LeadsInTime setup closed.moves closed.machine = subst (λ (s : Setup). LeadsInTime s closed.moves closed.machine) new_setup closed.run in
         record {
@@ -113,6 +115,7 @@ module _ (parts : TaskParts) (abstraction : AbstractGraph) (settings : Settings)
           moment = moment;
           finished = subst (λ (c : Counts). AreFinished settings c) (sym moment.at.counts)
               (subst (λ (s : Settings). AreFinished s (counts_in new)) are closed.finished);
+          within = within;
         }
 
 -- ---- the same search, told by other words

@@ -1,5 +1,5 @@
 -- How a search by leases ends, and what it has then.
-use Rattle.std.specs.Prelude.{◌≡◌, ℕ, ◌-◌, ◌^◌, ◌≤◌, Bool, true, false, IsFalse, List, Some}
+use Rattle.std.specs.Prelude.{◌≡◌, ℕ, ◌-◌, ◌^◌, ◌≤◌, Bool, true, false, IsFalse, List, length, Some}
 use Rattle.std.specs.List.{list_any}
 use Rattle.pb_model.specs.Store.{Store, IsQuiet, HasOpened, CostsAtMost}
 use Rattle.pb_model.specs.Work.{Work, Comes, expansions, broken_expansions, reopenings, opening_store}
@@ -10,6 +10,7 @@ use Rattle.pb_machine.specs.declared.event.Event.TheVariants.{Hot}
 use Rattle.pb_machine.specs.declared.settings.Settings.{Settings}
 use Rattle.pb_machine.specs.Settings.{weight_of}
 use Rattle.pb_machine.specs.History.{IsHistory, AreFinished}
+use Rattle.pb_machine.specs.Room.{KeepsWithinRoom}
 use Rattle.pb_machine.specs.Machine.{Setup, Machine, Move, Runs, journal_of, opening_machine}
 use Rattle.pb_machine.specs.Lawful.{IsLawful}
 use Rattle.pb_task.specs.declared.parts.TaskParts.{TaskParts}
@@ -20,6 +21,7 @@ use Rattle.pb_lease.specs.Leased.{guide_of, setup_of}
 use Rattle.pb_lease.specs.GraphValue.{GraphValue}
 use Rattle.pb_lease.specs.Choices.{is_out_in}
 use Rattle.pb_yard.specs.Order.{RunsInTime}
+use Rattle.pb_yard.specs.Length.{most_events}
 use Rattle.pb_workers.specs.Ends.{home_store, IsBestEnd}
 
 -- ---- the rows at a quiet end
@@ -77,7 +79,8 @@ HasEndedSo Memory settings store expanded = ⊥
 -- has signed off. So their events are a finished legal history. Whatever the number of workers, the
 -- moves are in order and in time: each lease is of the first choice at its moment, with the
 -- incumbent of the whole store. Expansions, none of them broken off, lead from the start's row alone
--- to the rows of that machine, as the end says.
+-- to the rows of that machine, as the end says. The journal isn't padded: each of its events stands
+-- within the room of its lease, and there are no more than the expansions can have brought about.
 pub record EndsBy (parts : TaskParts) (settings : Settings) (end : End) (moves : List Move)
     : Type 0 where
   pub graph : AbstractGraph
@@ -96,6 +99,9 @@ pub record EndsBy (parts : TaskParts) (settings : Settings) (end : End) (moves :
   pub none_broken : broken_expansions works ≡ 0
   pub one_run : reopenings works ≡ 0
   pub ended_so : HasEndedSo end settings machine.store (expansions works)
+  pub within : KeepsWithinRoom (journal_of moves)
+  pub short : length (journal_of moves)
+      ≤ most_events (space_of parts).actions machine.counts.spent settings.workers
 
 -- A search of this task with these settings came to the end of its budget by some moves, which are
 -- those of the events that the journal has.

@@ -5,6 +5,7 @@ use Rattle.pb_machine.specs.declared.event.End.TheVariants.{Quiet, Budget}
 use Rattle.pb_machine.specs.declared.settings.Settings.{Settings}
 use Rattle.pb_machine.specs.Counts.{opening_counts}
 use Rattle.pb_machine.specs.History.{AreFinished}
+use Rattle.pb_machine.specs.Room.{KeepsWithinRoom}
 use Rattle.pb_machine.specs.Machine.{Machine, Move, journal_of}
 use Rattle.pb_task.specs.declared.parts.TaskParts.{TaskParts}
 use Rattle.pb_abstract.specs.Graph.{AbstractGraph}
@@ -27,7 +28,8 @@ pub record Opens (parts : TaskParts) (abstraction : AbstractGraph) (settings : S
 -- The graph is what a search of this task by this abstract graph, with these settings, came to,
 -- quietly or by its budget. Moves from the machine that has the start's row alone lead to one that
 -- the graph is a moment of, where every worker has signed off; their events are the graph's journal.
--- They are in order and in time. No lease is out.
+-- They are in order and in time, and the journal keeps within the room of its leases. No lease is
+-- out.
 pub record HasSearched (parts : TaskParts) (abstraction : AbstractGraph) (settings : Settings)
     (graph : GraphValue) : Type 0 where
   pub task : graph.task ≡ parts
@@ -44,3 +46,4 @@ pub record HasSearched (parts : TaskParts) (abstraction : AbstractGraph) (settin
   pub recorded : (worker : ℕ) → Rows
   pub moment : IsMoment graph recorded machine
   pub finished : AreFinished settings machine.counts
+  pub within : KeepsWithinRoom graph.table.journal

@@ -25,5 +25,6 @@ pub fn search_alone<G: Gate>(
     let mut graph = opening;
     run_alone(alloc, task, abstraction, &mut graph, gate)?;
     let _lawful = graph.abstraction();
+    let _events = graph.journal();
     Ok(graph)
 }

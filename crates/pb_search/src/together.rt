@@ -38,6 +38,7 @@ pub fn search_together<R: Threads + Wait + Sync, G: Gate>(
     };
     let graph = yard.close(pass);
     let _lawful = graph.abstraction();
+    let _events = graph.journal();
     match graph.end() {
         Some(End::Quiet) => Ok(graph),
         Some(End::Budget) => Ok(graph),

@@ -14,7 +14,7 @@ returns-in-Some-Quiet g c =
     let keeps : KeepsSearch (opening_view c.args.opening) last = subst (λ (v : View). KeepsSearch v last) same c.in-Ok-run_workers.ensures.search in
     let end : c.close-graph.result.table.end ≡ Some Quiet = cc in
     yard_searched c.args.task.now c.args.abstraction.now c.args.opening.table.settings c.args.opening c.requires.opens last keeps c.close-graph.result c.close-graph.ensures.closed
-    c.abstraction-lawful.ensures.lawful (inl end)
+    c.abstraction-lawful.ensures.lawful c.journal-events.ensures.within (inl end)
 
 pub returns-in-Some-Budget : goal.returns-in-Some-Budget
 returns-in-Some-Budget g c =
@@ -23,4 +23,4 @@ returns-in-Some-Budget g c =
     let keeps : KeepsSearch (opening_view c.args.opening) last = subst (λ (v : View). KeepsSearch v last) same c.in-Ok-run_workers.ensures.search in
     let end : c.close-graph.result.table.end ≡ Some Budget = cc in
     yard_searched c.args.task.now c.args.abstraction.now c.args.opening.table.settings c.args.opening c.requires.opens last keeps c.close-graph.result c.close-graph.ensures.closed
-    c.abstraction-lawful.ensures.lawful (inr end)
+    c.abstraction-lawful.ensures.lawful c.journal-events.ensures.within (inr end)
