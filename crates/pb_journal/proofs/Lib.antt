@@ -15,3 +15,4 @@ pub mod Answered
 pub mod Faulty
 pub mod Cuts
 pub mod Searched
+pub mod Lengths

@@ -7,3 +7,4 @@ pub mod Replaying
 pub mod Saved
 pub mod Shown
 pub mod Searched
+pub mod Lengths

@@ -1,5 +1,6 @@
 //! What the text of a journal means. Each law is the contract of a function without a body.
 ghost use Rattle.pb_journal.specs.Shown.{AcceptedJournalsAreFinished, CutJournalsAreRefused, RefusedLinesAreFirst, WrittenJournalsAreAccepted};
+ghost use Rattle.pb_journal.specs.Lengths.{JournalTextsAreShort};
 ghost use Rattle.pb_journal.specs.Searched.{PlainJournalsHaveNoHot, PlainTextsHaveNoHot, RunsAreAccepted, SearchesAreAccepted};
 
 /// A journal is accepted, with its number of events, exactly if it is the text of a finished legal
@@ -48,4 +49,10 @@ pub fn plain_journals_have_no_hot()
 /// So no line of such a text is a hot mark: one that has it is refused.
 pub fn plain_texts_have_no_hot()
     ensures { PlainTextsHaveNoHot }
+{}
+
+/// The text of a legal history over at most 4,096 blocks has at most 79 bytes of header, and 26 an
+/// event.
+pub fn journal_texts_are_short()
+    ensures { JournalTextsAreShort }
 {}
