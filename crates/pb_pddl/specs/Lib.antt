@@ -1,4 +1,5 @@
 pub mod Tokens
+pub mod Numbers
 pub mod Reading
 pub mod Grammar
 pub mod Trees

@@ -13,6 +13,7 @@ use Rattle.pb_pddl.specs.declared.error.LeftOut.TheVariants as left
 use Rattle.pb_pddl.specs.declared.parts.ActionParts.{ActionParts}
 use Rattle.pb_pddl.specs.declared.parts.DomainParts.{DomainParts}
 use Rattle.pb_pddl.specs.declared.parts.ProblemParts.{ProblemParts}
+use Rattle.pb_pddl.specs.Numbers.{is_number}
 use Rattle.pb_pddl.specs.Reading.{same_kind, is_reserved, front, stood_all}
 
 -- the places that the grammar has, each with what was said so far where that matters
@@ -22,13 +23,21 @@ pub data Place : Type 0 where
   AClose : Place
   -- this word: define, domain or problem
   TheWord : List ℕ → Place
+  -- this word, where another is left out: total-cost or minimize
+  OnlyWord : List ℕ → LeftOut → Place
   -- NAME; the NAME behind a -; the NAME of an ATOM
   AName : Place
   AType : Place
   AHead : Place
-  -- behind the ( of a COND or of an EFF
+  -- NUM
+  ANumber : Place
+  -- behind the ( of a COND, of an EFF, or of what stands in :init
   InCondition : Place
   InEffect : Place
+  InFact : Place
+  -- behind the ( total-cost ) of :functions: a - or the ); and the word number behind that -
+  MoreFunction : Place
+  ANumberType : Place
   -- in an ATOM, where there may be variables or not: another TERM or the )
   MoreTerms : Bool → Place
   -- in a LIST of words or of variables, where some wait for a type or none: another, a -, or the )
@@ -56,6 +65,14 @@ is_word text t = same_kind t.kind kinds.Word && bytes_eq t.text text
 abbrev pub is_key : List ℕ → Token → Bool
 is_key text t = same_kind t.kind kinds.Key && bytes_eq t.text text
 
+-- the = of :init
+abbrev pub is_equals : Token → Bool
+is_equals t = same_kind t.kind kinds.Equals && bytes_eq t.text (codes "=")
+
+-- a word that is a NUM
+abbrev pub is_numeral : Token → Bool
+is_numeral t = same_kind t.kind kinds.Word && is_number t.text
+
 -- a word that may be an ATOM's
 abbrev pub is_head : Token → Bool
 is_head t = same_kind t.kind kinds.Word && not (is_reserved t.text)
@@ -74,6 +91,7 @@ fits_domain said t =
     || is_key (codes ":types") t && not (is_some said.types)
     || is_key (codes ":constants") t && not (is_some said.constants)
     || is_key (codes ":predicates") t && not (is_some said.predicates)
+    || is_key (codes ":functions") t && not said.functions
     || is_key (codes ":action") t
 
 abbrev pub fits_problem : ProblemParts → Token → Bool
@@ -83,17 +101,23 @@ fits_problem said t =
     || is_key (codes ":objects") t && not (is_some said.objects)
     || is_key (codes ":init") t && not (is_some said.init)
     || is_key (codes ":goal") t && not (is_some said.goal)
+    || is_key (codes ":metric") t && not (is_some said.metric)
 
 -- the grammar goes on with this token
 unfoldable pub fits : Place → Token → Bool
 fits AnOpen t = is_kind kinds.Open t
 fits AClose t = is_kind kinds.Close t
 fits (TheWord text) t = is_word text t
+fits (OnlyWord text what) t = is_word text t
 fits AName t = is_kind kinds.Word t
 fits AType t = is_kind kinds.Word t
 fits AHead t = is_head t
+fits ANumber t = is_numeral t
 fits InCondition t = is_kind kinds.Close t || is_word (codes "and") t || is_head t
-fits InEffect t = is_kind kinds.Close t || is_word (codes "and") t || is_word (codes "not") t || is_head t
+fits InEffect t = is_kind kinds.Close t || is_word (codes "and") t || is_word (codes "not") t || is_word (codes "increase") t || is_head t
+fits InFact t = is_equals t || is_head t
+fits MoreFunction t = is_kind kinds.Dash t || is_kind kinds.Close t
+fits ANumberType t = is_word (codes "number") t
 fits (MoreTerms variables) t = is_kind kinds.Word t || variables && is_kind kinds.Variable t || is_kind kinds.Close t
 fits (MoreNames kind some) t = is_kind kind t || some && is_kind kinds.Dash t || is_kind kinds.Close t
 fits MoreKeys t = is_kind kinds.Key t || is_kind kinds.Close t
@@ -142,19 +166,28 @@ is_part_key text = bytes_eq text (codes ":parameters") || bytes_eq text (codes "
 
 abbrev pub is_domain_key : List ℕ → Bool
 is_domain_key text =
-    bytes_eq text (codes ":requirements") || bytes_eq text (codes ":types") || bytes_eq text (codes ":constants") || bytes_eq text (codes ":predicates") || bytes_eq text (codes ":action")
+    bytes_eq text (codes ":requirements") || bytes_eq text (codes ":types") || bytes_eq text (codes ":constants") || bytes_eq text (codes ":predicates")
+    || bytes_eq text (codes ":functions") || bytes_eq text (codes ":action")
 
 abbrev pub is_problem_key : List ℕ → Bool
 is_problem_key text =
     bytes_eq text (codes ":domain") || bytes_eq text (codes ":requirements") || bytes_eq text (codes ":objects") || bytes_eq text (codes ":init") || bytes_eq text (codes ":goal")
+    || bytes_eq text (codes ":metric")
 
 -- a keyword that is none of those that there are
 abbrev pub other_key : Bool → LeftOut → Option LeftOut
 other_key known what = if known then None else Some what
 
+-- a word that is no reserved head
+abbrev pub other_word : LeftOut → Token → Option LeftOut
+other_word what t = if is_kind kinds.Word t && not (t.head && is_reserved t.text) then Some what else reserved_head t
+
 -- what of the language is left out here
 unfoldable pub left_out : Place → Token → Option LeftOut
+left_out (OnlyWord text what) t = other_word what t
 left_out AType t = if is_kind kinds.Open t then Some left.Either else reserved_head t
+left_out ANumberType t = if is_kind kinds.Open t then Some left.Either else reserved_head t
+left_out ANumber t = if is_kind kinds.Open t then Some left.Function else reserved_head t
 left_out (MoreParts said) t = if is_kind kinds.Key t then other_key (is_part_key t.text) left.Part else reserved_head t
 left_out (ADomainSection said) t = if is_kind kinds.Key t then other_key (is_domain_key t.text) left.Section else reserved_head t
 left_out (AProblemSection said) t = if is_kind kinds.Key t then other_key (is_problem_key t.text) left.Section else reserved_head t
@@ -164,7 +197,10 @@ left_out place t = reserved_head t
 -- what must stand here in place of this token
 unfoldable pub wanted : Place → Token → Want
 wanted (TheWord text) t = wants.Word
+wanted (OnlyWord text what) t = wants.Word
 wanted AType t = wants.TypeName
+wanted ANumberType t = wants.TypeName
+wanted ANumber t = wants.Number
 wanted (MoreNames kind some) t = if is_kind kinds.Dash t then wants.Group else first_fit (MoreNames kind some)
 wanted (MoreParts said) t = if is_kind kinds.Key t then wants.Once else first_fit (MoreParts said)
 wanted (ADomainSection said) t = if is_kind kinds.Key t then wants.Once else first_fit (ADomainSection said)

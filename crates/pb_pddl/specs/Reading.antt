@@ -15,15 +15,18 @@ use Rattle.pb_pddl.specs.declared.tree.Term.{Term}
 use Rattle.pb_pddl.specs.declared.tree.Term.TheVariants as terms
 use Rattle.pb_pddl.specs.declared.tree.Atom.{Atom}
 use Rattle.pb_pddl.specs.declared.tree.Typed.{Typed}
-use Rattle.pb_pddl.specs.declared.tree.Literal.{Literal}
+use Rattle.pb_pddl.specs.declared.tree.Cost.{Cost}
 use Rattle.pb_pddl.specs.declared.tree.Predicate.{Predicate}
 use Rattle.pb_pddl.specs.declared.parts.Group.{Group}
 use Rattle.pb_pddl.specs.declared.tree.Action.{Action}
 use Rattle.pb_pddl.specs.declared.tree.Domain.{Domain}
 use Rattle.pb_pddl.specs.declared.tree.Problem.{Problem}
+use Rattle.pb_pddl.specs.declared.parts.EffectParts.{EffectParts}
+use Rattle.pb_pddl.specs.declared.parts.InitParts.{InitParts}
 use Rattle.pb_pddl.specs.declared.parts.ActionParts.{ActionParts}
 use Rattle.pb_pddl.specs.declared.parts.DomainParts.{DomainParts}
 use Rattle.pb_pddl.specs.declared.parts.ProblemParts.{ProblemParts}
+use Rattle.pb_pddl.specs.Numbers.{is_number, number_of}
 
 -- what is read, and the tokens behind it; or the error of the first token that can't go on
 abbrev pub Read : Type 0 → Type 0
@@ -143,7 +146,7 @@ atom_at variables ts = do
   rest ← need kinds.Close wants.Name all.1
   Ok (record { predicate = head.0; terms = all.0 }, rest)
 
--- ---- conditions and effects
+-- ---- conditions
 
 abbrev pub begins_open : List Token → Bool
 begins_open ts = begins kinds.Open ts
@@ -169,13 +172,55 @@ cond_at variables (suc room) out ts = do
       else if spells kinds.Word (codes "and") inside then conds_at variables (cond_at variables room) out (drop 1 inside)
       else add_atom variables out inside
 
-unfoldable pub add_literal : Bool → List Literal → List Token → Read (List Literal)
+-- ---- ( total-cost ) and numbers
+
+-- the first token is a reserved head directly behind a (
+unfoldable pub begins_reserved : List Token → Bool
+begins_reserved ts = (front ts).head && is_reserved (front ts).text
+
+-- this word, where another is left out
+unfoldable pub only_word : List ℕ → LeftOut → List Token → Result (List Token) SyntaxError
+only_word text what ts =
+    if spells kinds.Word text ts then Ok (drop 1 ts)
+    else Err (if begins kinds.Word ts && not (begins_reserved ts) then left_at what ts else fault_at wants.Word ts)
+
+-- ( total-cost ): the place of the word
+unfoldable pub total_cost_at : List Token → Read ℕ
+total_cost_at ts = do
+  inside ← need kinds.Open wants.Paren ts
+  last ← only_word (codes "total-cost") left.Function inside
+  rest ← need kinds.Close wants.Close last
+  Ok ((front inside).at, rest)
+
+unfoldable pub begins_number : List Token → Bool
+begins_number ts = begins kinds.Word ts && is_number (front ts).text
+
+unfoldable pub number_at : List Token → Read ℕ
+number_at ts = if begins_number ts then Ok (number_of (front ts).text, drop 1 ts) else Err (if begins kinds.Open ts then left_at left.Function ts else fault_at wants.Number ts)
+
+-- a cost, at its increase or =
+unfoldable pub cost_at : List Token → Read Cost
+cost_at ts = do
+  function ← total_cost_at (drop 1 ts)
+  number ← number_at function.1
+  rest ← need kinds.Close wants.Close number.1
+  Ok (record { at = (front ts).at; function = function.0; number = number.0; number_at = (front function.1).at }, rest)
+
+-- ---- effects
+
+unfoldable pub add_literal : Bool → EffectParts → List Token → Read EffectParts
 add_literal negated out ts = do
   atom ← atom_at true ts
-  Ok (out ++ record { atom = atom.0; negated = negated } ∷ [], atom.1)
+  Ok (record { literals = out.literals ++ record { atom = atom.0; negated = negated } ∷ []; costs = out.costs }, atom.1)
+
+-- a cost, at its increase
+unfoldable pub add_increase : EffectParts → List Token → Read EffectParts
+add_increase out ts = do
+  cost ← cost_at ts
+  Ok (record { literals = out.literals; costs = out.costs ++ cost.0 ∷ [] }, cost.1)
 
 -- behind ( not
-unfoldable pub negative_at : List Literal → List Token → Read (List Literal)
+unfoldable pub negative_at : EffectParts → List Token → Read EffectParts
 negative_at out ts = do
   inside ← need kinds.Open wants.Paren ts
   literal ← add_literal true out inside
@@ -183,20 +228,24 @@ negative_at out ts = do
   Ok (literal.0, rest)
 
 -- behind ( and
-unfoldable pub effects_at : (List Literal → List Token → Read (List Literal)) → List Literal → List Token → Read (List Literal)
+unfoldable pub effects_at : (EffectParts → List Token → Read EffectParts) → EffectParts → List Token → Read EffectParts
 effects_at one out ts = do
   all ← all_of begins_open one out ts
   rest ← need kinds.Close wants.Paren all.1
   Ok (all.0, rest)
 
-unfoldable pub effect_at : ℕ → List Literal → List Token → Read (List Literal)
+unfoldable pub effect_at : ℕ → EffectParts → List Token → Read EffectParts
 effect_at zero out ts = Err (fault_at wants.Paren ts)
 effect_at (suc room) out ts = do
   inside ← need kinds.Open wants.Paren ts
   if begins kinds.Close inside then Ok (out, drop 1 inside)
       else if spells kinds.Word (codes "and") inside then effects_at (effect_at room) out (drop 1 inside)
       else if spells kinds.Word (codes "not") inside then negative_at out (drop 1 inside)
+      else if spells kinds.Word (codes "increase") inside then add_increase out inside
       else add_literal false out inside
+
+abbrev pub no_effects : EffectParts
+no_effects = record { literals = []; costs = [] }
 
 -- ---- lists of names with types
 
@@ -209,6 +258,10 @@ typed kind names = map (λ n. record { name = n; kind = kind }) names
 -- a type's name, behind a -
 unfoldable pub type_at : List Token → Read Name
 type_at ts = if begins kinds.Word ts then Ok (name_of (front ts), drop 1 ts) else Err (if begins kinds.Open ts then left_at left.Either ts else fault_at wants.TypeName ts)
+
+-- the word number, behind the - of :functions
+unfoldable pub number_type : List Token → Result (List Token) SyntaxError
+number_type ts = if spells kinds.Word (codes "number") ts then Ok (drop 1 ts) else Err (if begins kinds.Open ts then left_at left.Either ts else fault_at wants.TypeName ts)
 
 -- a - and what follows it: all that wait get this type
 unfoldable pub close_group : Group → List Token → Read Group
@@ -229,7 +282,7 @@ list_at kind want ts = do
   rest ← need kinds.Close want all.1
   Ok (all.0.done ++ typed None all.0.waiting, rest)
 
--- ---- predicates, words of requirements, atoms of a state
+-- ---- predicates, words of requirements, what stands in :init
 
 unfoldable pub add_predicate : List Predicate → List Token → Read (List Predicate)
 add_predicate out ts = do
@@ -255,14 +308,29 @@ keys_at ts = do
   all ← all_of begins_key add_key [] ts
   need kinds.Close wants.Close all.1
 
-unfoldable pub add_fact : List Atom → List Token → Read (List Atom)
+-- an atom of a state, behind its (
+unfoldable pub add_held : InitParts → List Token → Read InitParts
+add_held out ts = do
+  atom ← atom_at false ts
+  Ok (record { atoms = out.atoms ++ atom.0 ∷ []; costs = out.costs }, atom.1)
+
+-- a cost, at its =
+unfoldable pub add_equal : InitParts → List Token → Read InitParts
+add_equal out ts = do
+  cost ← cost_at ts
+  Ok (record { atoms = out.atoms; costs = out.costs ++ cost.0 ∷ [] }, cost.1)
+
+unfoldable pub add_fact : InitParts → List Token → Read InitParts
 add_fact out ts = do
   inside ← need kinds.Open wants.Paren ts
-  add_atom false out inside
+  if spells kinds.Equals (codes "=") inside then add_equal out inside else add_held out inside
 
-unfoldable pub facts_at : List Token → Read (List Atom)
+abbrev pub no_init : InitParts
+no_init = record { atoms = []; costs = [] }
+
+unfoldable pub facts_at : List Token → Read InitParts
 facts_at ts = do
-  all ← all_of begins_open add_fact [] ts
+  all ← all_of begins_open add_fact no_init ts
   rest ← need kinds.Close wants.Paren all.1
   Ok (all.0, rest)
 
@@ -286,17 +354,17 @@ unfoldable pub params_part : ActionParts → List Token → Read ActionParts
 params_part a ts = if is_some a.params then Err (once ts) else (do
   inside ← need kinds.Open wants.Paren (drop 1 ts)
   list ← list_at kinds.Variable wants.Variable inside
-  Ok (record { params = Some list.0; pre = a.pre; effect = a.effect }, list.1))
+  Ok (record { params = Some list.0; pre = a.pre; effect = a.effect; costs = a.costs }, list.1))
 
 unfoldable pub pre_part : (List Token → ℕ) → ActionParts → List Token → Read ActionParts
 pre_part room a ts = if is_some a.pre then Err (once ts) else (do
   all ← cond_at true (room (drop 1 ts)) [] (drop 1 ts)
-  Ok (record { params = a.params; pre = Some all.0; effect = a.effect }, all.1))
+  Ok (record { params = a.params; pre = Some all.0; effect = a.effect; costs = a.costs }, all.1))
 
 unfoldable pub effect_part : (List Token → ℕ) → ActionParts → List Token → Read ActionParts
 effect_part room a ts = if is_some a.effect then Err (once ts) else (do
-  all ← effect_at (room (drop 1 ts)) [] (drop 1 ts)
-  Ok (record { params = a.params; pre = a.pre; effect = Some all.0 }, all.1))
+  all ← effect_at (room (drop 1 ts)) no_effects (drop 1 ts)
+  Ok (record { params = a.params; pre = a.pre; effect = Some all.0.literals; costs = all.0.costs }, all.1))
 
 -- a part of an action, at its keyword
 unfoldable pub part_at : (List Token → ℕ) → ActionParts → List Token → Read ActionParts
@@ -311,7 +379,7 @@ or_empty None = []
 or_empty (Some xs) = xs
 
 abbrev pub no_parts : ActionParts
-no_parts = record { params = None; pre = None; effect = None }
+no_parts = record { params = None; pre = None; effect = None; costs = [] }
 
 -- what is wanted behind these parts: the keyword of a part that did not stand, else the )
 unfoldable pub parts_want : ActionParts → Want
@@ -323,34 +391,54 @@ add_action room out ts = do
   name ← name_at kinds.Word wants.Name ts
   all ← all_of begins_key (part_at room) no_parts name.1
   rest ← need kinds.Close (parts_want all.0) all.1
-  Ok (out ++ record { name = name.0; params = or_empty all.0.params; pre = or_empty all.0.pre; effect = or_empty all.0.effect } ∷ [], rest)
+  Ok (out ++ record { name = name.0; params = or_empty all.0.params; pre = or_empty all.0.pre; effect = or_empty all.0.effect; costs = all.0.costs } ∷ [], rest)
 
 -- ---- sections of a domain, at their keyword
 
 unfoldable pub requirements_section : DomainParts → List Token → Read DomainParts
 requirements_section d ts = if d.requirements then Err (once ts) else (do
   rest ← keys_at (drop 1 ts)
-  Ok (record { requirements = true; types = d.types; constants = d.constants; predicates = d.predicates; actions = d.actions }, rest))
+  Ok (record { requirements = true; types = d.types; constants = d.constants; predicates = d.predicates; functions = d.functions; has_cost = d.has_cost; actions = d.actions }, rest))
 
 unfoldable pub types_section : DomainParts → List Token → Read DomainParts
 types_section d ts = if is_some d.types then Err (once ts) else (do
   list ← list_at kinds.Word wants.Name (drop 1 ts)
-  Ok (record { requirements = d.requirements; types = Some list.0; constants = d.constants; predicates = d.predicates; actions = d.actions }, list.1))
+  Ok (record { requirements = d.requirements; types = Some list.0; constants = d.constants; predicates = d.predicates; functions = d.functions; has_cost = d.has_cost; actions = d.actions }, list.1))
 
 unfoldable pub constants_section : DomainParts → List Token → Read DomainParts
 constants_section d ts = if is_some d.constants then Err (once ts) else (do
   list ← list_at kinds.Word wants.Name (drop 1 ts)
-  Ok (record { requirements = d.requirements; types = d.types; constants = Some list.0; predicates = d.predicates; actions = d.actions }, list.1))
+  Ok (record { requirements = d.requirements; types = d.types; constants = Some list.0; predicates = d.predicates; functions = d.functions; has_cost = d.has_cost; actions = d.actions }, list.1))
 
 unfoldable pub predicates_section : DomainParts → List Token → Read DomainParts
 predicates_section d ts = if is_some d.predicates then Err (once ts) else (do
   list ← predicates_at (drop 1 ts)
-  Ok (record { requirements = d.requirements; types = d.types; constants = d.constants; predicates = Some list.0; actions = d.actions }, list.1))
+  Ok (record { requirements = d.requirements; types = d.types; constants = d.constants; predicates = Some list.0; functions = d.functions; has_cost = d.has_cost; actions = d.actions }, list.1))
+
+-- behind ( :functions ( total-cost )
+unfoldable pub function_type : List Token → Result (List Token) SyntaxError
+function_type ts = if begins kinds.Dash ts then (number_type (drop 1 ts) >>= λ last. need kinds.Close wants.Close last) else need kinds.Close wants.Close ts
+
+-- the declared function, and the ) behind it
+unfoldable pub one_function : List Token → Read Bool
+one_function ts = do
+  function ← total_cost_at ts
+  rest ← function_type function.1
+  Ok (true, rest)
+
+-- behind ( :functions: whether total-cost is declared
+unfoldable pub functions_at : List Token → Read Bool
+functions_at ts = if begins kinds.Close ts then Ok (false, drop 1 ts) else one_function ts
+
+unfoldable pub functions_section : DomainParts → List Token → Read DomainParts
+functions_section d ts = if d.functions then Err (once ts) else (do
+  has_cost ← functions_at (drop 1 ts)
+  Ok (record { requirements = d.requirements; types = d.types; constants = d.constants; predicates = d.predicates; functions = true; has_cost = has_cost.0; actions = d.actions }, has_cost.1))
 
 unfoldable pub action_section : (List Token → ℕ) → DomainParts → List Token → Read DomainParts
 action_section room d ts = do
   all ← add_action room d.actions (drop 1 ts)
-  Ok (record { requirements = d.requirements; types = d.types; constants = d.constants; predicates = d.predicates; actions = all.0 }, all.1)
+  Ok (record { requirements = d.requirements; types = d.types; constants = d.constants; predicates = d.predicates; functions = d.functions; has_cost = d.has_cost; actions = all.0 }, all.1)
 
 -- no keyword of a section that there is
 unfoldable pub no_section : List Token → SyntaxError
@@ -362,6 +450,7 @@ domain_key room d ts =
     else if spells kinds.Key (codes ":types") ts then types_section d ts
     else if spells kinds.Key (codes ":constants") ts then constants_section d ts
     else if spells kinds.Key (codes ":predicates") ts then predicates_section d ts
+    else if spells kinds.Key (codes ":functions") ts then functions_section d ts
     else if spells kinds.Key (codes ":action") ts then action_section room d ts
     else Err (no_section ts)
 
@@ -390,7 +479,7 @@ end_at ts =
     else Err (errors.Extra (front ts).at)
 
 abbrev pub no_domain : DomainParts
-no_domain = record { requirements = false; types = None; constants = None; predicates = None; actions = [] }
+no_domain = record { requirements = false; types = None; constants = None; predicates = None; functions = false; has_cost = false; actions = [] }
 
 unfoldable pub domain_at : (List Token → ℕ) → List Token → Result Domain SyntaxError
 domain_at room ts = do
@@ -398,7 +487,7 @@ domain_at room ts = do
   all ← all_of begins_open (domain_section room) no_domain name.1
   rest ← need kinds.Close wants.Paren all.1
   end ← end_at rest
-  Ok (record { name = name.0; types = or_empty all.0.types; constants = or_empty all.0.constants; predicates = or_empty all.0.predicates; actions = all.0.actions })
+  Ok (record { name = name.0; types = or_empty all.0.types; constants = or_empty all.0.constants; predicates = or_empty all.0.predicates; actions = all.0.actions; has_cost = all.0.has_cost })
 
 -- ---- sections of a problem, at their keyword
 
@@ -406,28 +495,35 @@ unfoldable pub domain_name_section : ProblemParts → List Token → Read Proble
 domain_name_section p ts = if is_some p.domain then Err (once ts) else (do
   name ← name_at kinds.Word wants.Name (drop 1 ts)
   rest ← need kinds.Close wants.Close name.1
-  Ok (record { requirements = p.requirements; domain = Some name.0; objects = p.objects; init = p.init; goal = p.goal }, rest))
+  Ok (record { requirements = p.requirements; domain = Some name.0; objects = p.objects; init = p.init; goal = p.goal; costs = p.costs; metric = p.metric }, rest))
 
 unfoldable pub problem_requirements : ProblemParts → List Token → Read ProblemParts
 problem_requirements p ts = if p.requirements then Err (once ts) else (do
   rest ← keys_at (drop 1 ts)
-  Ok (record { requirements = true; domain = p.domain; objects = p.objects; init = p.init; goal = p.goal }, rest))
+  Ok (record { requirements = true; domain = p.domain; objects = p.objects; init = p.init; goal = p.goal; costs = p.costs; metric = p.metric }, rest))
 
 unfoldable pub objects_section : ProblemParts → List Token → Read ProblemParts
 objects_section p ts = if is_some p.objects then Err (once ts) else (do
   list ← list_at kinds.Word wants.Name (drop 1 ts)
-  Ok (record { requirements = p.requirements; domain = p.domain; objects = Some list.0; init = p.init; goal = p.goal }, list.1))
+  Ok (record { requirements = p.requirements; domain = p.domain; objects = Some list.0; init = p.init; goal = p.goal; costs = p.costs; metric = p.metric }, list.1))
 
 unfoldable pub init_section : ProblemParts → List Token → Read ProblemParts
 init_section p ts = if is_some p.init then Err (once ts) else (do
   list ← facts_at (drop 1 ts)
-  Ok (record { requirements = p.requirements; domain = p.domain; objects = p.objects; init = Some list.0; goal = p.goal }, list.1))
+  Ok (record { requirements = p.requirements; domain = p.domain; objects = p.objects; init = Some list.0.atoms; goal = p.goal; costs = list.0.costs; metric = p.metric }, list.1))
 
 unfoldable pub goal_section : (List Token → ℕ) → ProblemParts → List Token → Read ProblemParts
 goal_section room p ts = if is_some p.goal then Err (once ts) else (do
   all ← cond_at false (room (drop 1 ts)) [] (drop 1 ts)
   rest ← need kinds.Close wants.Close all.1
-  Ok (record { requirements = p.requirements; domain = p.domain; objects = p.objects; init = p.init; goal = Some all.0 }, rest))
+  Ok (record { requirements = p.requirements; domain = p.domain; objects = p.objects; init = p.init; goal = Some all.0; costs = p.costs; metric = p.metric }, rest))
+
+unfoldable pub metric_section : ProblemParts → List Token → Read ProblemParts
+metric_section p ts = if is_some p.metric then Err (once ts) else (do
+  word ← only_word (codes "minimize") left.Metric (drop 1 ts)
+  function ← total_cost_at word
+  rest ← need kinds.Close wants.Close function.1
+  Ok (record { requirements = p.requirements; domain = p.domain; objects = p.objects; init = p.init; goal = p.goal; costs = p.costs; metric = Some function.0 }, rest))
 
 unfoldable pub problem_key : (List Token → ℕ) → ProblemParts → List Token → Read ProblemParts
 problem_key room p ts =
@@ -436,11 +532,12 @@ problem_key room p ts =
     else if spells kinds.Key (codes ":objects") ts then objects_section p ts
     else if spells kinds.Key (codes ":init") ts then init_section p ts
     else if spells kinds.Key (codes ":goal") ts then goal_section room p ts
+    else if spells kinds.Key (codes ":metric") ts then metric_section p ts
     else Err (no_section ts)
 
 -- each section stood: no more may come
 unfoldable pub stood_all : ProblemParts → Bool
-stood_all p = p.requirements && is_some p.domain && is_some p.objects && is_some p.init && is_some p.goal
+stood_all p = p.requirements && is_some p.domain && is_some p.objects && is_some p.init && is_some p.goal && is_some p.metric
 
 unfoldable pub problem_section : (List Token → ℕ) → ProblemParts → List Token → Read ProblemParts
 problem_section room p ts = if stood_all p then Err (fault_at wants.Close ts) else (need kinds.Open wants.Paren ts >>= λ inside. problem_key room p inside)
@@ -450,7 +547,7 @@ unfoldable pub sections_want : ProblemParts → Want
 sections_want p = if stood_all p then wants.Close else wants.Paren
 
 abbrev pub no_problem : ProblemParts
-no_problem = record { requirements = false; domain = None; objects = None; init = None; goal = None }
+no_problem = record { requirements = false; domain = None; objects = None; init = None; goal = None; costs = []; metric = None }
 
 -- at the last ), where a section that must be there is missing
 unfoldable pub missing : List Token → SyntaxError
@@ -469,4 +566,4 @@ problem_at room ts = do
   domain ← there all.0.domain all.1
   goal ← there all.0.goal all.1
   end ← end_at rest
-  Ok (record { name = name.0; domain = domain; objects = or_empty all.0.objects; init = or_empty all.0.init; goal = goal })
+  Ok (record { name = name.0; domain = domain; objects = or_empty all.0.objects; init = or_empty all.0.init; goal = goal; costs = all.0.costs; metric = all.0.metric })

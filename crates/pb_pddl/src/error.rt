@@ -11,7 +11,7 @@ pub enum Want {
     Paren,
     /// A `)`; also where a `:word` of the requirements or a `)` must stand.
     Close,
-    /// The word `define`, `domain` or `problem`.
+    /// The word `define`, `domain`, `problem`, `total-cost` or `minimize`.
     Word,
     /// A word.
     Name,
@@ -21,8 +21,10 @@ pub enum Want {
     Section,
     /// The keyword of a part of an action.
     Part,
-    /// The name of a type, behind a `-`.
+    /// The name of a type, behind a `-`; behind the `-` of `:functions` the word `number`.
     TypeName,
+    /// A number: a word of 1 to 9 decimal digits.
+    Number,
     /// A name or variable before this `-`.
     Group,
     /// Another keyword: this section or part stood before.
@@ -34,7 +36,7 @@ pub enum Want {
 /// What of PDDL is left out here.
 #[derive(Clone, Copy, Debug, PartialEq, Eq)]
 pub enum LeftOut {
-    /// A section with another keyword, as `:functions`.
+    /// A section with another keyword, as `:derived`.
     Section,
     /// A part of an action with another keyword, as `:duration`.
     Part,
@@ -42,6 +44,10 @@ pub enum LeftOut {
     Head,
     /// A `(` behind a `-`, as in `- (either a b)`.
     Either,
+    /// Another function than `total-cost`, or a `(` in place of a number.
+    Function,
+    /// Another word than `minimize` in a metric.
+    Metric,
 }
 
 /// Why a text is no tree: the first token that can't go on. `at` is the place of its first byte, counted from 0.

@@ -11,7 +11,7 @@ mod tree;
 
 pub use error::{LeftOut, SyntaxError, Want};
 pub use listed::Listed;
-pub use parts::{ActionParts, DomainParts, Group, ProblemParts};
+pub use parts::{ActionParts, DomainParts, EffectParts, Group, InitParts, ProblemParts};
 pub use text::Text;
 pub use token::{Cursor, Token, TokenKind};
-pub use tree::{Action, Atom, Domain, Literal, Name, Predicate, Problem, Term, Typed};
+pub use tree::{Action, Atom, Cost, Domain, Literal, Name, Predicate, Problem, Term, Typed};

@@ -1,7 +1,7 @@
 //! What a reader has gathered while a list, an action or a whole form is still open.
 
 use crate::listed::Listed;
-use crate::tree::{Action, Atom, Literal, Name, Predicate, Typed};
+use crate::tree::{Action, Atom, Cost, Literal, Name, Predicate, Typed};
 
 /// The names of a list that have their type, and those that wait for it.
 #[derive(Debug, Drop)]
@@ -10,25 +10,43 @@ pub struct Group {
     pub waiting: Listed<Name>,
 }
 
-/// The parts of an action that stood so far.
+/// What an effect said so far.
+#[derive(Debug, Drop)]
+pub struct EffectParts {
+    pub literals: Listed<Literal>,
+    pub costs: Listed<Cost>,
+}
+
+/// What `:init` said so far.
+#[derive(Debug, Drop)]
+pub struct InitParts {
+    pub atoms: Listed<Atom>,
+    pub costs: Listed<Cost>,
+}
+
+/// The parts of an action that stood so far; `costs` are those of its effect.
 #[derive(Debug, Drop)]
 pub struct ActionParts {
     pub params: Option<Listed<Typed>>,
     pub pre: Option<Listed<Atom>>,
     pub effect: Option<Listed<Literal>>,
+    pub costs: Listed<Cost>,
 }
 
-/// The sections of a domain that stood so far.
+/// The sections of a domain that stood so far: whether `:functions` stood, and whether it declared `total-cost`.
 #[derive(Debug, Drop)]
 pub struct DomainParts {
     pub requirements: bool,
     pub types: Option<Listed<Typed>>,
     pub constants: Option<Listed<Typed>>,
     pub predicates: Option<Listed<Predicate>>,
+    pub functions: bool,
+    pub has_cost: bool,
     pub actions: Listed<Action>,
 }
 
-/// The sections of a problem that stood so far.
+/// The sections of a problem that stood so far; `costs` are those of `:init`, and `metric` is the place of its
+/// `total-cost`.
 #[derive(Debug, Drop)]
 pub struct ProblemParts {
     pub requirements: bool,
@@ -36,4 +54,6 @@ pub struct ProblemParts {
     pub objects: Option<Listed<Typed>>,
     pub init: Option<Listed<Atom>>,
     pub goal: Option<Listed<Atom>>,
+    pub costs: Listed<Cost>,
+    pub metric: Option<u64>,
 }

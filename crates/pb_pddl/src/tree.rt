@@ -39,6 +39,19 @@ pub struct Literal {
     pub negated: bool,
 }
 
+/// The `increase` of the total cost in an effect, or its `=` in `:init`.
+#[derive(Clone, Copy, Debug)]
+pub struct Cost {
+    /// The place of the word `increase` or `=`.
+    pub at: u64,
+    /// The place of its `total-cost`.
+    pub function: u64,
+    /// Its number, below 10^9.
+    pub number: u64,
+    /// The place of its number.
+    pub number_at: u64,
+}
+
 /// A predicate as it is declared.
 #[derive(Debug, Drop)]
 pub struct Predicate {
@@ -46,16 +59,18 @@ pub struct Predicate {
     pub params: Listed<Typed>,
 }
 
-/// An action schema: its parameters, the atoms of its precondition, and the literals of its effect.
+/// An action schema: its parameters, the atoms of its precondition, and the literals and costs of its effect.
 #[derive(Debug, Drop)]
 pub struct Action {
     pub name: Name,
     pub params: Listed<Typed>,
     pub pre: Listed<Atom>,
     pub effect: Listed<Literal>,
+    pub costs: Listed<Cost>,
 }
 
-/// A domain. Of each name in `types`, `kind` is the type above it.
+/// A domain. Of each name in `types`, `kind` is the type above it; `has_cost` says whether `:functions` declares
+/// `total-cost`.
 #[derive(Debug, Drop)]
 pub struct Domain {
     pub name: Name,
@@ -63,9 +78,11 @@ pub struct Domain {
     pub constants: Listed<Typed>,
     pub predicates: Listed<Predicate>,
     pub actions: Listed<Action>,
+    pub has_cost: bool,
 }
 
-/// A problem; `domain` is the name that it gives to its domain.
+/// A problem; `domain` is the name that it gives to its domain, `costs` are those of `:init`, and `metric` is the place
+/// of the metric's `total-cost`, if there is a metric.
 #[derive(Debug, Drop)]
 pub struct Problem {
     pub name: Name,
@@ -73,4 +90,6 @@ pub struct Problem {
     pub objects: Listed<Typed>,
     pub init: Listed<Atom>,
     pub goal: Listed<Atom>,
+    pub costs: Listed<Cost>,
+    pub metric: Option<u64>,
 }
