@@ -7,7 +7,7 @@ use Rattle.pb_pddl.specs.declared.tree.Name.{Name}
 use Rattle.pb_pddl.specs.declared.tree.Action.{Action}
 use Rattle.pb_pddl.specs.declared.parts.ActionParts.{ActionParts}
 use Rattle.pb_pddl.specs.declared.error.Want.TheVariants as wants
-use Rattle.pb_pddl.specs.Reading.{kind_number, same_kind, begins_key, unlimited, list_at, part_at, no_parts, parts_want, add_action}
+use Rattle.pb_pddl.specs.Reading.{kind_number, same_kind, begins_key, unlimited, list_at, part_at, no_effects, no_parts, parts_want, add_action}
 use Rattle.pb_pddl.specs.Places
 use Rattle.pb_pddl.specs.Places.{fits, is_kind, is_key}
 use Rattle.pb_pddl_laws.specs.Table
@@ -42,10 +42,10 @@ does_part_1 : (n : ℕ) (s : ActionParts) → Does n (part_body_1 s) due (due_1 
 does_part_1 n s = does_make n (any_cond true []) (part_with_1 s) due (Table.Opening ∷ Table.Condition true ∷ []) (due (part_with_1 s [])) (λ x. refl) (reads_cond true n []) (does_cond true n [])
 
 abbrev due_2 : ActionParts → List Symbol
-due_2 s = Table.Opening ∷ Table.Effect ∷ due (part_with_2 s [])
+due_2 s = Table.Opening ∷ Table.Effect ∷ due (part_with_2 s no_effects)
 
 does_part_2 : (n : ℕ) (s : ActionParts) → Does n (part_body_2 s) due (due_2 s)
-does_part_2 n s = does_make n (any_effect []) (part_with_2 s) due (Table.Opening ∷ Table.Effect ∷ []) (due (part_with_2 s [])) (λ x. refl) (reads_effect n []) (does_effect n [])
+does_part_2 n s = does_make n (any_effect no_effects) (part_with_2 s) due (Table.Opening ∷ Table.Effect ∷ []) (due (part_with_2 s no_effects)) (λ x. refl) (reads_effect n no_effects) (does_effect n no_effects)
 
 does_part_key : (n : ℕ) (s : ActionParts) (t : Token) → is_kind kinds.Key t ≡ true → fits (Places.MoreParts s) t ≡ true → Does n (λ us. part_at unlimited s (t ∷ us)) due (after (Table.Parts (noted_parts s)) t ++ [])
 unfolding same_kind kind_number

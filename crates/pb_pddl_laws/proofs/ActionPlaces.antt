@@ -7,12 +7,12 @@ use Rattle.pb_pddl.specs.declared.token.Token.{Token}
 use Rattle.pb_pddl.specs.declared.tree.Name.{Name}
 use Rattle.pb_pddl.specs.declared.tree.Typed.{Typed}
 use Rattle.pb_pddl.specs.declared.tree.Atom.{Atom}
-use Rattle.pb_pddl.specs.declared.tree.Literal.{Literal}
+use Rattle.pb_pddl.specs.declared.parts.EffectParts.{EffectParts}
 use Rattle.pb_pddl.specs.declared.tree.Action.{Action}
 use Rattle.pb_pddl.specs.declared.parts.ActionParts.{ActionParts}
 use Rattle.pb_pddl.specs.declared.error.Want.TheVariants as wants
 use Rattle.pb_pddl.specs.declared.error.LeftOut.TheVariants as left
-use Rattle.pb_pddl.specs.Reading.{◌>>=◌, Read, kind_number, same_kind, front, begins, begins_key, spells, no_token, refusal, need, name_at, all_of, unlimited, list_at, or_empty, params_part, pre_part, effect_part, part_at, no_parts, parts_want, add_action}
+use Rattle.pb_pddl.specs.Reading.{◌>>=◌, Read, kind_number, same_kind, front, begins, begins_key, spells, no_token, refusal, need, name_at, all_of, unlimited, list_at, or_empty, params_part, pre_part, effect_part, part_at, no_effects, no_parts, parts_want, add_action}
 use Rattle.pb_pddl.specs.Grammar.{IsPart}
 use Rattle.pb_pddl_laws.proofs.ActionsRead.{part_sound, part_complete}
 use Rattle.pb_pddl.specs.Places
@@ -42,7 +42,7 @@ unfolding same_kind kind_number
 key_close = refl
 
 abbrev pub part_with_0 : ActionParts → List Typed → ActionParts
-part_with_0 s x = record { params = Some x; pre = s.pre; effect = s.effect }
+part_with_0 s x = record { params = Some x; pre = s.pre; effect = s.effect; costs = s.costs }
 
 abbrev pub params_inside : ActionParts → List Token → Read ActionParts
 params_inside s us = list_at kinds.Variable wants.Variable us >>= λ p. Ok (part_with_0 s p.0, p.1)
@@ -67,7 +67,7 @@ reads_part_0 : (n : ℕ) (s : ActionParts) → Reads ActionParts n (part_body_0 
 reads_part_0 n s = reads_open (params_inside s) (can_params_inside s) n (λ m less. reads_params_inside m s)
 
 abbrev pub part_with_1 : ActionParts → List Atom → ActionParts
-part_with_1 s x = record { params = s.params; pre = Some x; effect = s.effect }
+part_with_1 s x = record { params = s.params; pre = Some x; effect = s.effect; costs = s.costs }
 
 abbrev pub part_body_1 : ActionParts → List Token → Read ActionParts
 part_body_1 s = λ us. any_cond true [] us >>= λ p. Ok (part_with_1 s p.0, p.1)
@@ -82,21 +82,21 @@ can_part_1 s = can_then (any_cond true []) (λ x ts. Ok (part_with_1 s x, ts)) (
 reads_part_1 : (n : ℕ) (s : ActionParts) → Reads ActionParts n (part_body_1 s)
 reads_part_1 n s = reads_then (any_cond true []) (λ x ts. Ok (part_with_1 s x, ts)) n (reads_cond true n []) (λ x. reads_done n (part_with_1 s x)) (λ x. can_done (part_with_1 s x))
 
-abbrev pub part_with_2 : ActionParts → List Literal → ActionParts
-part_with_2 s x = record { params = s.params; pre = s.pre; effect = Some x }
+abbrev pub part_with_2 : ActionParts → EffectParts → ActionParts
+part_with_2 s x = record { params = s.params; pre = s.pre; effect = Some x.literals; costs = x.costs }
 
 abbrev pub part_body_2 : ActionParts → List Token → Read ActionParts
-part_body_2 s = λ us. any_effect [] us >>= λ p. Ok (part_with_2 s p.0, p.1)
+part_body_2 s = λ us. any_effect no_effects us >>= λ p. Ok (part_with_2 s p.0, p.1)
 
 pub part_is_2 : (s : ActionParts) (t : Token) (us : List Token) → is_key (codes ":effect") t ≡ true → is_some s.effect ≡ false → part_at unlimited s (t ∷ us) ≡ part_body_2 s us
 unfolding part_at params_part pre_part effect_part unlimited spells begins front same_kind kind_number
 part_is_2 s t us e free = ap (λ (x : Token). part_at unlimited s (x ∷ us)) (as_key (codes ":effect") t e) ∙ if_false (is_some s.effect) _ _ free
 
 can_part_2 : (s : ActionParts) → Can (part_body_2 s)
-can_part_2 s = can_then (any_effect []) (λ x ts. Ok (part_with_2 s x, ts)) (can_effect []) (λ x. can_done (part_with_2 s x))
+can_part_2 s = can_then (any_effect no_effects) (λ x ts. Ok (part_with_2 s x, ts)) (can_effect no_effects) (λ x. can_done (part_with_2 s x))
 
 reads_part_2 : (n : ℕ) (s : ActionParts) → Reads ActionParts n (part_body_2 s)
-reads_part_2 n s = reads_then (any_effect []) (λ x ts. Ok (part_with_2 s x, ts)) n (reads_effect n []) (λ x. reads_done n (part_with_2 s x)) (λ x. can_done (part_with_2 s x))
+reads_part_2 n s = reads_then (any_effect no_effects) (λ x ts. Ok (part_with_2 s x, ts)) n (reads_effect n no_effects) (λ x. reads_done n (part_with_2 s x)) (λ x. can_done (part_with_2 s x))
 
 pub part_fit : (s : ActionParts) (t : Token) → is_kind kinds.Key t ≡ true → fits (Places.MoreParts s) t ≡ true → (is_key (codes ":parameters") t && not (is_some s.params) || is_key (codes ":precondition") t && not (is_some s.pre) || is_key (codes ":effect") t && not (is_some s.effect)) ≡ true
 unfolding fits
@@ -162,7 +162,7 @@ pub part_refused : (s : ActionParts) (t : Token) (us : List Token) → key_test 
 part_refused s t us key misfit = part_key_refused s t us key misfit
 
 abbrev pub with_action : List Action → Name → ActionParts → List Action
-with_action said name all = said ++ record { name = name; params = or_empty all.params; pre = or_empty all.pre; effect = or_empty all.effect } ∷ []
+with_action said name all = said ++ record { name = name; params = or_empty all.params; pre = or_empty all.pre; effect = or_empty all.effect; costs = all.costs } ∷ []
 
 abbrev pub parts_behind : List Action → Name → List Token → Read (List Action)
 parts_behind said name ts = all_of begins_key (part_at unlimited) no_parts ts >>= λ all. need kinds.Close (parts_want all.0) all.1 >>= λ rest. Ok (with_action said name all.0, rest)

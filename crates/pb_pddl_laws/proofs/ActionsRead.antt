@@ -7,10 +7,12 @@ use Rattle.pb_pddl.specs.declared.tree.Name.{Name}
 use Rattle.pb_pddl.specs.declared.tree.Typed.{Typed}
 use Rattle.pb_pddl.specs.declared.tree.Atom.{Atom}
 use Rattle.pb_pddl.specs.declared.tree.Literal.{Literal}
+use Rattle.pb_pddl.specs.declared.tree.Cost.{Cost}
+use Rattle.pb_pddl.specs.declared.parts.EffectParts.{EffectParts}
 use Rattle.pb_pddl.specs.declared.tree.Action.{Action}
 use Rattle.pb_pddl.specs.declared.parts.ActionParts.{ActionParts}
 use Rattle.pb_pddl.specs.declared.error.Want.TheVariants as wants
-use Rattle.pb_pddl.specs.Reading.{begins, spells, need, name_at, all_of, begins_open, begins_key, list_at, cond_at, effect_at, params_part, pre_part, effect_part, part_at, no_parts, parts_want, unlimited, or_empty, add_action}
+use Rattle.pb_pddl.specs.Reading.{begins, spells, need, name_at, all_of, begins_open, begins_key, list_at, cond_at, effect_at, params_part, pre_part, effect_part, part_at, no_effects, no_parts, parts_want, unlimited, or_empty, add_action}
 use Rattle.pb_pddl.specs.Grammar.{Takes, Says, IsCond, IsEffect, IsList, IsPart, IsAction}
 use Rattle.pb_pddl_laws.proofs.Singles.{ok_pair, bind_ok, bind_again, takes_begins, takes_less, need_takes, takes_need, name_takes, takes_name, open_token, close_token, word_token, key_token, spells_says, says_spells}
 use Rattle.pb_pddl_laws.proofs.ManyRead.{IsSound, IsComplete, all_sound, all_complete, steps_less}
@@ -47,7 +49,7 @@ cond_opens variables (suc room) said ts now rest e =
 pub cond_is : (variables : Bool) (room : ℕ) (said : List Atom) (ts : List Token) (now : List Atom) (rest : List Token) → cond_at variables room said ts ≡ Ok (now, rest) → IsCond variables room said ts now rest
 cond_is variables room said ts now rest e = cond_sound variables room said ts now rest (cond_opens variables room said ts now rest e) e
 
-effect_opens : (room : ℕ) (said : List Literal) (ts : List Token) (now : List Literal) (rest : List Token) → effect_at room said ts ≡ Ok (now, rest) → begins_open ts ≡ true
+effect_opens : (room : ℕ) (said : EffectParts) (ts : List Token) (now : EffectParts) (rest : List Token) → effect_at room said ts ≡ Ok (now, rest) → begins_open ts ≡ true
 unfolding effect_at need
 effect_opens zero said ts now rest e = absurd cc
 effect_opens (suc room) said ts now rest e =
@@ -55,11 +57,11 @@ effect_opens (suc room) said ts now rest e =
     let t = need_takes kinds.Open wants.Paren ts o.0 open_token o.1 in
     (takes_begins kinds.Open ts t.0 o.0 t.1).0
 
-pub effect_is : (room : ℕ) (said : List Literal) (ts : List Token) (now : List Literal) (rest : List Token) → effect_at room said ts ≡ Ok (now, rest) → IsEffect room said ts now rest
+pub effect_is : (room : ℕ) (said : EffectParts) (ts : List Token) (now : EffectParts) (rest : List Token) → effect_at room said ts ≡ Ok (now, rest) → IsEffect room said ts now rest
 effect_is room said ts now rest e = effect_sound room said ts now rest (effect_opens room said ts now rest e) e
 
-abbrev parts : Option (List Typed) → Option (List Atom) → Option (List Literal) → ActionParts
-parts params pre effect = record { params = params; pre = pre; effect = effect }
+abbrev parts : Option (List Typed) → Option (List Atom) → Option (List Literal) → List Cost → ActionParts
+parts params pre effect costs = record { params = params; pre = pre; effect = effect; costs = costs }
 
 pub part_sound : IsSound begins_key (part_at unlimited) IsPart
 unfolding part_at params_part pre_part effect_part unlimited
@@ -71,7 +73,7 @@ part_sound s ts now rest m e = (
       | inr z ↦
           let o = bind_ok (need kinds.Open wants.Paren (drop 1 ts)) _ (now, rest) z.1 in
           let l = bind_ok (list_at kinds.Variable wants.Variable o.0) _ (now, rest) o.2 in
-          let p = ok_pair (parts (Some l.0.0) s.pre s.effect) now l.0.1 rest l.2 in
+          let p = ok_pair (parts (Some l.0.0) s.pre s.effect s.costs) now l.0.1 rest l.2 in
           inl (
             o.0,
             l.0.0,
@@ -87,7 +89,7 @@ part_sound s ts now rest m e = (
         | inl z ↦ absurd cc
         | inr z ↦
             let a = bind_ok (cond_at true (length (drop 1 ts)) [] (drop 1 ts)) _ (now, rest) z.1 in
-            let p = ok_pair (parts s.params (Some a.0.0) s.effect) now a.0.1 rest a.2 in
+            let p = ok_pair (parts s.params (Some a.0.0) s.effect s.costs) now a.0.1 rest a.2 in
             inr (inl (
               a.0.0,
               spells_says kinds.Key (codes ":precondition") ts key_token v.0,
@@ -100,13 +102,13 @@ part_sound s ts now rest m e = (
         | inl u ↦ elim (if_cases (is_some s.effect) _ _ (Ok (now, rest)) u.1) [
           | inl z ↦ absurd cc
           | inr z ↦
-              let a = bind_ok (effect_at (length (drop 1 ts)) [] (drop 1 ts)) _ (now, rest) z.1 in
-              let p = ok_pair (parts s.params s.pre (Some a.0.0)) now a.0.1 rest a.2 in
+              let a = bind_ok (effect_at (length (drop 1 ts)) no_effects (drop 1 ts)) _ (now, rest) z.1 in
+              let p = ok_pair (parts s.params s.pre (Some a.0.0.literals) a.0.0.costs) now a.0.1 rest a.2 in
               inr (inr (
                 a.0.0,
                 spells_says kinds.Key (codes ":effect") ts key_token u.0,
                 is_none s.effect z.0,
-                subst (λ r. IsEffect (length (drop 1 ts)) [] (drop 1 ts) a.0.0 r) p.1 (effect_is (length (drop 1 ts)) [] (drop 1 ts) a.0.0 a.0.1 a.1),
+                subst (λ r. IsEffect (length (drop 1 ts)) no_effects (drop 1 ts) a.0.0 r) p.1 (effect_is (length (drop 1 ts)) no_effects (drop 1 ts) a.0.0 a.0.1 a.1),
                 sym p.0,
               ))
         ]
@@ -150,18 +152,18 @@ part_complete s ts now rest (first, cases) =
           )
       | inr (inr (effect, says, none, effect_here, is)) ↦
           let w = says_spells kinds.Key (codes ":effect") ts first says in
-          let c = effect_complete (length first) [] first effect rest effect_here in (
+          let c = effect_complete (length first) no_effects first effect rest effect_here in (
             says_key (codes ":effect") ts first says,
             if_false (spells kinds.Key (codes ":parameters") ts) _ _ (other_word kinds.Key (codes ":effect") (codes ":parameters") ts first effect_not_params says)
                 ∙ if_false (spells kinds.Key (codes ":precondition") ts) _ _ (other_word kinds.Key (codes ":effect") (codes ":precondition") ts first effect_not_pre says)
                 ∙ if_true (spells kinds.Key (codes ":effect") ts) _ _ w.0 ∙ if_false (is_some s.effect) _ _ (none_is s.effect none)
-                ∙ bind_again (effect_at (length (drop 1 ts)) [] (drop 1 ts)) _ (effect, rest) _ (ap (λ (us : List Token). effect_at (length us) [] us) w.1 ∙ c.1) (ap (λ (x : ActionParts). Ok (x, rest)) (sym is)),
+                ∙ bind_again (effect_at (length (drop 1 ts)) no_effects (drop 1 ts)) _ (effect, rest) _ (ap (λ (us : List Token). effect_at (length us) no_effects us) w.1 ∙ c.1) (ap (λ (x : ActionParts). Ok (x, rest)) (sym is)),
             omega (arith, w.2, c.2),
           )
     ]
 
 abbrev action_of : Name → ActionParts → Action
-action_of name all = record { name = name; params = or_empty all.params; pre = or_empty all.pre; effect = or_empty all.effect }
+action_of name all = record { name = name; params = or_empty all.params; pre = or_empty all.pre; effect = or_empty all.effect; costs = all.costs }
 
 pub action_sound : (said : List Action) (ts rest : List Token) (now : List Action) → add_action unlimited said ts ≡ Ok (now, rest) → (action : Action) × IsAction ts rest action × (now ≡ said ++ action ∷ [])
 unfolding add_action
@@ -180,6 +182,7 @@ action_sound said ts rest now e =
         params = refl;
         pre = refl;
         effect = refl;
+        costs = refl;
       },
       sym p.0,
     )
@@ -189,9 +192,10 @@ unfolding add_action
 action_complete said ts rest action is =
     let c = is.all.2 in
     let same : action_of action.name is.parts ≡ action =
-    ap (λ (x : List Typed). record { name = action.name; params = x; pre = or_empty is.parts.pre; effect = or_empty is.parts.effect }) (sym is.params)
-    ∙ ap (λ (x : List Atom). record { name = action.name; params = action.params; pre = x; effect = or_empty is.parts.effect }) (sym is.pre)
-    ∙ ap (λ (x : List Literal). record { name = action.name; params = action.params; pre = action.pre; effect = x }) (sym is.effect) in
+    ap (λ (x : List Typed). record { name = action.name; params = x; pre = or_empty is.parts.pre; effect = or_empty is.parts.effect; costs = is.parts.costs }) (sym is.params)
+    ∙ ap (λ (x : List Atom). record { name = action.name; params = action.params; pre = x; effect = or_empty is.parts.effect; costs = is.parts.costs }) (sym is.pre)
+    ∙ ap (λ (x : List Literal). record { name = action.name; params = action.params; pre = action.pre; effect = x; costs = is.parts.costs }) (sym is.effect)
+    ∙ ap (λ (x : List Cost). record { name = action.name; params = action.params; pre = action.pre; effect = action.effect; costs = x }) (sym is.costs) in
     bind_again (name_at kinds.Word wants.Name ts) _ (action.name, is.first) _ (takes_name kinds.Word wants.Name ts is.first action.name is.name)
     (bind_again (all_of begins_key (part_at unlimited) no_parts is.first) _ (is.parts, is.all.0) _ (all_complete begins_key (part_at unlimited) IsPart no_parts is.first is.parts is.all.0 part_complete (key_stops is.all.0 rest c.0 c.1) is.all.1)
     (bind_again (need kinds.Close (parts_want is.parts) is.all.0) _ rest _ (takes_need kinds.Close (parts_want is.parts) is.all.0 c.0 rest c.1) (ap (λ (x : Action). Ok (said ++ x ∷ [], rest)) same)))

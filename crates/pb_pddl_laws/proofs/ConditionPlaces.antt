@@ -15,7 +15,7 @@ use Rattle.pb_pddl_laws.proofs.Readers.{Reads, Can, reads_done, can_done, reads_
 use Rattle.pb_pddl_laws.proofs.Loops.{Takes}
 use Rattle.pb_pddl_laws.proofs.Refusals.{plain, open_refused, head_misfit}
 use Rattle.pb_pddl_laws.proofs.Closing.{or_none, can_forms, reads_forms, does_each}
-use Rattle.pb_pddl_laws.proofs.AtomPlaces.{can_atom, reads_atom, can_atom_behind, reads_atom_behind, does_atom, does_atom_behind}
+use Rattle.pb_pddl_laws.proofs.AtomPlaces.{can_atom_behind, reads_atom_behind, does_atom_behind}
 use Rattle.pb_pddl_laws.proofs.Rooms.{cond_inside, any_cond, any_cond_shut, any_cond_open}
 use Rattle.pb_pddl_laws.specs.Table
 use Rattle.pb_pddl_laws.specs.Table.{Symbol, after}
@@ -68,16 +68,9 @@ module _ (variables : Bool) where
   unfolding add_atom
   add_is said ts = refl
 
-  pub add_misfit : (said : List Atom) (ts : List Token) → is_head (front ts) ≡ false → add_atom variables said ts ≡ Err (refusal wants.Name (front ts))
+  add_misfit : (said : List Atom) (ts : List Token) → is_head (front ts) ≡ false → add_atom variables said ts ≡ Err (refusal wants.Name (front ts))
   unfolding add_atom atom_at
   add_misfit said ts e = ap (λ (r : Read Name). (r >>= λ head. (all_of (begins_term variables) add_term [] head.1 >>= λ all. need kinds.Close wants.Name all.1 >>= λ rest. Ok (record { predicate = head.0; terms = all.0 }, rest))) >>= λ (atom : Atom × List Token). Ok (added said atom.0, atom.1)) (head_misfit ts e)
-
-  pub can_add : (said : List Atom) → Can (add_atom variables said)
-  can_add said = can_same (add_atom variables said) _ (add_is said) (can_then (atom_at variables) (λ atom ts. Ok (added said atom, ts)) (can_atom variables) (λ atom. can_done (added said atom)))
-
-  pub reads_add : (n : ℕ) (said : List Atom) → Reads (List Atom) n (add_atom variables said)
-  reads_add n said =
-      reads_same (add_atom variables said) _ (add_is said) n (reads_then (atom_at variables) (λ atom ts. Ok (added said atom, ts)) n (reads_atom variables n) (λ atom. reads_done n (added said atom)) (λ atom. can_done (added said atom)))
 
   can_add_behind : (said : List Atom) (t : Token) → is_head t ≡ true → Can (λ us. add_atom variables said (t ∷ us))
   can_add_behind said t e =
@@ -88,11 +81,6 @@ module _ (variables : Bool) where
   reads_add_behind n said t e =
       reads_same (λ us. add_atom variables said (t ∷ us)) _ (λ us. add_is said (t ∷ us)) n
       (reads_then (λ us. atom_at variables (t ∷ us)) (λ atom ts. Ok (added said atom, ts)) n (reads_atom_behind variables n t e) (λ atom. reads_done n (added said atom)) (λ atom. can_done (added said atom)))
-
-  pub does_add : (n : ℕ) (said : List Atom) → Does n (add_atom variables said) nothing (Table.HeadName ∷ Table.Terms variables ∷ [])
-  does_add n said =
-      does_same n (add_atom variables said) _ nothing (Table.HeadName ∷ Table.Terms variables ∷ []) (add_is said)
-      (does_then (atom_at variables) (λ atom ts. Ok (added said atom, ts)) nothing nothing (Table.HeadName ∷ Table.Terms variables ∷ []) n (reads_atom variables n) (does_atom variables n) (λ atom. does_done n nothing (added said atom)))
 
   does_add_behind : (n : ℕ) (said : List Atom) (t : Token) → is_head t ≡ true → Does n (λ us. add_atom variables said (t ∷ us)) nothing (Table.Terms variables ∷ [])
   does_add_behind n said t e =

@@ -297,7 +297,7 @@ bind_same (Ok x) f g same = same x
 bind_same (Err e) f g same = refl
 
 abbrev domain_of : Name → DomainParts → Domain
-domain_of name all = record { name = name; types = or_empty all.types; constants = or_empty all.constants; predicates = or_empty all.predicates; actions = all.actions }
+domain_of name all = record { name = name; types = or_empty all.types; constants = or_empty all.constants; predicates = or_empty all.predicates; actions = all.actions; has_cost = all.has_cost }
 
 abbrev domain_body : List Token → Read Domain
 domain_body ts = title_at (codes "domain") ts >>= λ p. domain_sections (domain_of p.0) no_domain p.1
@@ -340,7 +340,7 @@ pub told_domain : (ts : List Token) (e : SyntaxError) → IsTold Domain IsDomain
 told_domain ts e told = domain_whole ts ∙ told_is_read domain_body reads_domain can_domain domain_form does_domain IsDomain ts e told
 
 abbrev problem_of : Name → ProblemParts → Name → List Atom → Problem
-problem_of name all domain goal = record { name = name; domain = domain; objects = or_empty all.objects; init = or_empty all.init; goal = goal }
+problem_of name all domain goal = record { name = name; domain = domain; objects = or_empty all.objects; init = or_empty all.init; goal = goal; costs = all.costs; metric = all.metric }
 
 abbrev problem_body : List Token → Read Problem
 problem_body ts = title_at (codes "problem") ts >>= λ p. problem_sections (problem_of p.0) no_problem p.1

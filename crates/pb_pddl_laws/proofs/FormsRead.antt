@@ -1,5 +1,5 @@
 -- Whole forms: what is read is what the grammar has, and the other way round.
-use Rattle.std.proofs.Common.{◌≡◌, ℕ, List, drop, Ok, refl, sym, ap, subst, ◌∙◌, inl, inr}
+use Rattle.std.proofs.Common.{◌≡◌, ℕ, Bool, List, drop, Ok, refl, sym, ap, subst, ◌∙◌, inl, inr}
 use Rattle.std.specs.Prelude.{Option, Some, None, codes}
 use Rattle.pb_pddl.specs.declared.token.TokenKind.TheVariants as kinds
 use Rattle.pb_pddl.specs.declared.token.Token.{Token}
@@ -8,6 +8,7 @@ use Rattle.pb_pddl.specs.declared.tree.Typed.{Typed}
 use Rattle.pb_pddl.specs.declared.tree.Atom.{Atom}
 use Rattle.pb_pddl.specs.declared.tree.Predicate.{Predicate}
 use Rattle.pb_pddl.specs.declared.tree.Action.{Action}
+use Rattle.pb_pddl.specs.declared.tree.Cost.{Cost}
 use Rattle.pb_pddl.specs.declared.error.Want.TheVariants as wants
 use Rattle.pb_pddl_laws.proofs.Singles.{guard_ok, done, kinds_same, same_self, ok_pair, bind_ok, bind_again, need_takes, takes_need, name_takes, takes_name, open_token, close_token, word_token, spells_says, says_spells}
 use Rattle.pb_pddl_laws.proofs.ManyRead.{all_sound, all_complete}
@@ -80,7 +81,7 @@ ok_is : {A : Type 0} (x y : A) → done x ≡ done y → x ≡ y
 ok_is x y e = cc
 
 abbrev domain_of : Name → DomainParts → Domain
-domain_of name all = record { name = name; types = or_empty all.types; constants = or_empty all.constants; predicates = or_empty all.predicates; actions = all.actions }
+domain_of name all = record { name = name; types = or_empty all.types; constants = or_empty all.constants; predicates = or_empty all.predicates; actions = all.actions; has_cost = all.has_cost }
 
 pub domain_is : (ts : List Token) (domain : Domain) → domain_at unlimited ts ≡ Ok domain → IsDomain ts domain
 unfolding domain_at
@@ -101,6 +102,7 @@ domain_is ts domain e =
       constants = refl;
       predicates = refl;
       actions = refl;
+      has_cost = refl;
     } in
     subst (IsDomain ts) p made
 
@@ -109,10 +111,11 @@ unfolding domain_at
 domain_again ts domain is =
     let c = is.sections.2 in
     let same : domain_of domain.name is.parts ≡ domain =
-    ap (λ (x : List Typed). record { name = domain.name; types = x; constants = or_empty is.parts.constants; predicates = or_empty is.parts.predicates; actions = is.parts.actions }) (sym is.types)
-    ∙ ap (λ (x : List Typed). record { name = domain.name; types = domain.types; constants = x; predicates = or_empty is.parts.predicates; actions = is.parts.actions }) (sym is.constants)
-    ∙ ap (λ (x : List Predicate). record { name = domain.name; types = domain.types; constants = domain.constants; predicates = x; actions = is.parts.actions }) (sym is.predicates)
-    ∙ ap (λ (x : List Action). record { name = domain.name; types = domain.types; constants = domain.constants; predicates = domain.predicates; actions = x }) (sym is.actions) in
+    ap (λ (x : List Typed). record { name = domain.name; types = x; constants = or_empty is.parts.constants; predicates = or_empty is.parts.predicates; actions = is.parts.actions; has_cost = is.parts.has_cost }) (sym is.types)
+    ∙ ap (λ (x : List Typed). record { name = domain.name; types = domain.types; constants = x; predicates = or_empty is.parts.predicates; actions = is.parts.actions; has_cost = is.parts.has_cost }) (sym is.constants)
+    ∙ ap (λ (x : List Predicate). record { name = domain.name; types = domain.types; constants = domain.constants; predicates = x; actions = is.parts.actions; has_cost = is.parts.has_cost }) (sym is.predicates)
+    ∙ ap (λ (x : List Action). record { name = domain.name; types = domain.types; constants = domain.constants; predicates = domain.predicates; actions = x; has_cost = is.parts.has_cost }) (sym is.actions)
+    ∙ ap (λ (x : Bool). record { name = domain.name; types = domain.types; constants = domain.constants; predicates = domain.predicates; actions = domain.actions; has_cost = x }) (sym is.has_cost) in
     bind_again (title_at (codes "domain") ts) _ (domain.name, is.first) _ (title_complete (codes "domain") ts is.first domain.name is.title)
     (bind_again (all_of begins_open (domain_section unlimited) no_domain is.first) _ (is.parts, is.sections.0) _ (all_complete begins_open (domain_section unlimited) IsDomainSection no_domain is.first is.parts is.sections.0 domain_complete (open_stops is.sections.0 is.last c.0 c.1) is.sections.1)
     (bind_again (need kinds.Close wants.Paren is.sections.0) _ is.last _ (takes_need kinds.Close wants.Paren is.sections.0 c.0 is.last c.1)
@@ -136,7 +139,7 @@ problem_is ts problem e =
     let d = bind_ok (there a.0.0.domain a.0.1) _ problem c.2 in
     let g = bind_ok (there a.0.0.goal a.0.1) _ problem d.2 in
     let z = bind_ok (end_at c.0) _ problem g.2 in
-    let read : Problem = record { name = n.0.0; domain = d.0; objects = or_empty a.0.0.objects; init = or_empty a.0.0.init; goal = g.0 } in
+    let read : Problem = record { name = n.0.0; domain = d.0; objects = or_empty a.0.0.objects; init = or_empty a.0.0.init; goal = g.0; costs = a.0.0.costs; metric = a.0.0.metric } in
     let p = ok_is read problem z.2 in
     let made : IsProblem ts read = record {
       first = n.0.1;
@@ -149,6 +152,8 @@ problem_is ts problem e =
       objects = refl;
       init = refl;
       goal = there_is a.0.0.goal a.0.1 g.0 g.1;
+      costs = refl;
+      metric = refl;
     } in
     subst (IsProblem ts) p made
 
@@ -156,9 +161,11 @@ pub problem_again : (ts : List Token) (problem : Problem) → IsProblem ts probl
 unfolding problem_at
 problem_again ts problem is =
     let c = is.sections.2 in
-    let same : (let p : Problem = record { name = problem.name; domain = problem.domain; objects = or_empty is.parts.objects; init = or_empty is.parts.init; goal = problem.goal } in p) ≡ problem =
-    ap (λ (x : List Typed). record { name = problem.name; domain = problem.domain; objects = x; init = or_empty is.parts.init; goal = problem.goal }) (sym is.objects)
-    ∙ ap (λ (x : List Atom). record { name = problem.name; domain = problem.domain; objects = problem.objects; init = x; goal = problem.goal }) (sym is.init) in
+    let same : (let p : Problem = record { name = problem.name; domain = problem.domain; objects = or_empty is.parts.objects; init = or_empty is.parts.init; goal = problem.goal; costs = is.parts.costs; metric = is.parts.metric } in p) ≡ problem =
+    ap (λ (x : List Typed). record { name = problem.name; domain = problem.domain; objects = x; init = or_empty is.parts.init; goal = problem.goal; costs = is.parts.costs; metric = is.parts.metric }) (sym is.objects)
+    ∙ ap (λ (x : List Atom). record { name = problem.name; domain = problem.domain; objects = problem.objects; init = x; goal = problem.goal; costs = is.parts.costs; metric = is.parts.metric }) (sym is.init)
+    ∙ ap (λ (x : List Cost). record { name = problem.name; domain = problem.domain; objects = problem.objects; init = problem.init; goal = problem.goal; costs = x; metric = is.parts.metric }) (sym is.costs)
+    ∙ ap (λ (x : Option ℕ). record { name = problem.name; domain = problem.domain; objects = problem.objects; init = problem.init; goal = problem.goal; costs = problem.costs; metric = x }) (sym is.metric) in
     bind_again (title_at (codes "problem") ts) _ (problem.name, is.first) _ (title_complete (codes "problem") ts is.first problem.name is.title)
     (bind_again (all_of begins_open (problem_section unlimited) no_problem is.first) _ (is.parts, is.sections.0) _
     (all_complete begins_open (problem_section unlimited) IsProblemSection no_problem is.first is.parts is.sections.0 problem_complete (open_stops is.sections.0 is.last c.0 c.1) is.sections.1)

@@ -4,6 +4,7 @@ pub mod AtomsRead
 pub mod CondsRead
 pub mod EffectsRead
 pub mod ListsRead
+pub mod CostsRead
 pub mod PiecesRead
 pub mod ActionsRead
 pub mod SectionsRead
@@ -18,6 +19,7 @@ pub mod Refusals
 pub mod Closing
 pub mod AtomPlaces
 pub mod ConditionPlaces
+pub mod CostPlaces
 pub mod EffectPlaces
 pub mod ListPlaces
 pub mod PiecePlaces

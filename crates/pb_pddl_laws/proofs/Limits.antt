@@ -5,7 +5,7 @@ use Rattle.pb_pddl.specs.declared.token.TokenKind.TheVariants as kinds
 use Rattle.pb_pddl.specs.declared.token.Token.{Token}
 use Rattle.pb_pddl.specs.declared.tree.Name.{Name}
 use Rattle.pb_pddl.specs.declared.tree.Atom.{Atom}
-use Rattle.pb_pddl.specs.declared.tree.Literal.{Literal}
+use Rattle.pb_pddl.specs.declared.parts.EffectParts.{EffectParts}
 use Rattle.pb_pddl.specs.declared.tree.Action.{Action}
 use Rattle.pb_pddl.specs.declared.parts.ActionParts.{ActionParts}
 use Rattle.pb_pddl.specs.declared.parts.DomainParts.{DomainParts}
@@ -14,7 +14,7 @@ use Rattle.pb_pddl.specs.declared.error.SyntaxError.{SyntaxError}
 use Rattle.pb_pddl.specs.declared.error.Want.TheVariants as wants
 use Rattle.pb_pddl.specs.declared.error.LeftOut.TheVariants as left
 use Rattle.pb_pddl.specs.Tokens.{TextTokens, start}
-use Rattle.pb_pddl.specs.Reading.{◌>>=◌, Read, same_kind, kind_number, front, begins, begins_open, begins_key, spells, need, name_at, once, left_at, no_section, limited, unlimited, cond_at, effect_at, params_part, pre_part, effect_part, part_at, no_parts, parts_want, or_empty, add_action, requirements_section, types_section, constants_section, predicates_section, action_section, domain_key, domain_section, title_at, end_at, no_domain, domain_at, domain_name_section, problem_requirements, objects_section, init_section, goal_section, problem_key, problem_section, stood_all, no_problem, sections_want, there, problem_at, fault_at}
+use Rattle.pb_pddl.specs.Reading.{◌>>=◌, Read, same_kind, kind_number, front, begins, begins_open, begins_key, spells, need, name_at, once, left_at, no_section, limited, unlimited, cond_at, effect_at, params_part, pre_part, effect_part, part_at, no_effects, no_parts, parts_want, or_empty, add_action, requirements_section, types_section, constants_section, predicates_section, functions_section, action_section, domain_key, domain_section, title_at, end_at, no_domain, domain_at, domain_name_section, problem_requirements, objects_section, init_section, goal_section, metric_section, problem_key, problem_section, stood_all, no_problem, sections_want, there, problem_at, fault_at}
 use Rattle.pb_pddl.specs.Places
 use Rattle.pb_pddl.specs.Places.{fits, is_kind, refused}
 use Rattle.pb_pddl_laws.proofs.Singles.{need_takes, open_token, name_takes, word_token}
@@ -71,21 +71,21 @@ cond_same : (variables : Bool) (ts : List Token) → Shallow 0 ts → cond_at va
 unfolding limited unlimited
 cond_same variables ts is = cond_agree variables (length ts) 32 0 [] ts (inr (omega arith)) (inl (omega arith, is))
 
-effect_same : (ts : List Token) → Shallow 0 ts → effect_at (unlimited ts) [] ts ≡ effect_at (limited ts) [] ts
+effect_same : (ts : List Token) → Shallow 0 ts → effect_at (unlimited ts) no_effects ts ≡ effect_at (limited ts) no_effects ts
 unfolding limited unlimited
-effect_same ts is = effect_agree (length ts) 32 0 [] ts (inr (omega arith)) (inl (omega arith, is))
+effect_same ts is = effect_agree (length ts) 32 0 no_effects ts (inr (omega arith)) (inl (omega arith, is))
 
 part_same : (s : ActionParts) (ts : List Token) → Shallow 0 ts → part_at unlimited s ts ≡ part_at limited s ts
 unfolding part_at pre_part effect_part
 part_same s ts is =
     ap (λ (r : Read (List Atom)).
     cond (spells kinds.Key (codes ":parameters") ts) (params_part s ts)
-    (cond (spells kinds.Key (codes ":precondition") ts) (cond (is_some s.pre) (Err (once ts)) (r >>= λ all. Ok (record { params = s.params; pre = Some all.0; effect = s.effect }, all.1)))
+    (cond (spells kinds.Key (codes ":precondition") ts) (cond (is_some s.pre) (Err (once ts)) (r >>= λ all. Ok (record { params = s.params; pre = Some all.0; effect = s.effect; costs = s.costs }, all.1)))
     (cond (spells kinds.Key (codes ":effect") ts) (effect_part unlimited s ts) (Err (left_at left.Part ts))))) (cond_same true (drop 1 ts) (drop_shallow ts is))
-    ∙ ap (λ (r : Read (List Literal)).
+    ∙ ap (λ (r : Read EffectParts).
     cond (spells kinds.Key (codes ":parameters") ts) (params_part s ts)
     (cond (spells kinds.Key (codes ":precondition") ts) (pre_part limited s ts)
-    (cond (spells kinds.Key (codes ":effect") ts) (cond (is_some s.effect) (Err (once ts)) (r >>= λ all. Ok (record { params = s.params; pre = s.pre; effect = Some all.0 }, all.1))) (Err (left_at left.Part ts))))) (effect_same (drop 1 ts) (drop_shallow ts is))
+    (cond (spells kinds.Key (codes ":effect") ts) (cond (is_some s.effect) (Err (once ts)) (r >>= λ all. Ok (record { params = s.params; pre = s.pre; effect = Some all.0.literals; costs = all.0.costs }, all.1))) (Err (left_at left.Part ts))))) (effect_same (drop 1 ts) (drop_shallow ts is))
 
 part_keeps : (s : ActionParts) (ts : List Token) (now : ActionParts) (rest : List Token) → begins_key ts ≡ true → Shallow 0 ts → part_at unlimited s ts ≡ Ok (now, rest) → Shallow 0 rest
 part_keeps s [] now rest goes is e = absurd (true_false (sym goes ∙ no_key))
@@ -101,7 +101,7 @@ action_same : (said : List Action) (ts : List Token) → Shallow 0 ts → add_ac
 unfolding add_action
 action_same said ts is =
     then_agree (name_at kinds.Word wants.Name ts) _ _ (λ name e.
-    ap (λ (r : Read ActionParts). r >>= λ all. need kinds.Close (parts_want all.0) all.1 >>= λ rest. Ok (said ++ record { name = name.0; params = or_empty all.0.params; pre = or_empty all.0.pre; effect = or_empty all.0.effect } ∷ [], rest))
+    ap (λ (r : Read ActionParts). r >>= λ all. need kinds.Close (parts_want all.0) all.1 >>= λ rest. Ok (said ++ record { name = name.0; params = or_empty all.0.params; pre = or_empty all.0.pre; effect = or_empty all.0.effect; costs = all.0.costs } ∷ [], rest))
     (all_agree begins_key (part_at unlimited) (part_at limited) (Shallow 0) part_keeps (λ s us goes shallow. part_same s us shallow) no_parts name.1 (name_shallow ts name.1 name.0 e is)))
 
 -- ---- domains
@@ -114,8 +114,9 @@ domain_key_same s ts is =
     (cond (spells kinds.Key (codes ":types") ts) (types_section s ts)
     (cond (spells kinds.Key (codes ":constants") ts) (constants_section s ts)
     (cond (spells kinds.Key (codes ":predicates") ts) (predicates_section s ts)
+    (cond (spells kinds.Key (codes ":functions") ts) (functions_section s ts)
     (cond (spells kinds.Key (codes ":action") ts)
-    (r >>= λ all. Ok (record { requirements = s.requirements; types = s.types; constants = s.constants; predicates = s.predicates; actions = all.0 }, all.1)) (Err (no_section ts)))))))
+    (r >>= λ all. Ok (record { requirements = s.requirements; types = s.types; constants = s.constants; predicates = s.predicates; functions = s.functions; has_cost = s.has_cost; actions = all.0 }, all.1)) (Err (no_section ts))))))))
     (action_same s.actions (drop 1 ts) (drop_shallow ts is))
 
 inside_shallow : (ts inside : List Token) → need kinds.Open wants.Paren ts ≡ Ok inside → Shallow 0 ts → Shallow 0 inside
@@ -137,7 +138,7 @@ unfolding domain_at
 domain_same_at ts is =
     then_agree (title_at (codes "domain") ts) _ _ (λ name e.
     ap (λ (r : Read DomainParts). r >>= λ all. need kinds.Close wants.Paren all.1 >>= λ rest. end_at rest >>= λ end.
-    Ok (record { name = name.0; types = or_empty all.0.types; constants = or_empty all.0.constants; predicates = or_empty all.0.predicates; actions = all.0.actions }))
+    Ok (record { name = name.0; types = or_empty all.0.types; constants = or_empty all.0.constants; predicates = or_empty all.0.predicates; actions = all.0.actions; has_cost = all.0.has_cost }))
     (all_agree begins_open (domain_section unlimited) (domain_section limited) (Shallow 0) domain_keeps (λ s us goes shallow. domain_section_same s us shallow) no_domain name.1
     (rest_shallow (title_at (codes "domain")) ts name.0 name.1 (reads_title (codes "domain") domain_same (length ts)) is e)))
 
@@ -155,8 +156,8 @@ goal_same s ts is =
     (cond (spells kinds.Key (codes ":objects") ts) (objects_section s ts)
     (cond (spells kinds.Key (codes ":init") ts) (init_section s ts)
     (cond (spells kinds.Key (codes ":goal") ts)
-    (cond (is_some s.goal) (Err (once ts)) (r >>= λ all. need kinds.Close wants.Close all.1 >>= λ rest. Ok (record { requirements = s.requirements; domain = s.domain; objects = s.objects; init = s.init; goal = Some all.0 }, rest)))
-    (Err (no_section ts)))))))
+    (cond (is_some s.goal) (Err (once ts)) (r >>= λ all. need kinds.Close wants.Close all.1 >>= λ rest. Ok (record { requirements = s.requirements; domain = s.domain; objects = s.objects; init = s.init; goal = Some all.0; costs = s.costs; metric = s.metric }, rest)))
+    (cond (spells kinds.Key (codes ":metric") ts) (metric_section s ts) (Err (no_section ts))))))))
     (cond_same false (drop 1 ts) (drop_shallow ts is))
 
 problem_section_same : (s : ProblemParts) (ts : List Token) → Shallow 0 ts → problem_section unlimited s ts ≡ problem_section limited s ts
@@ -177,7 +178,7 @@ unfolding problem_at
 problem_same_at ts is =
     then_agree (title_at (codes "problem") ts) _ _ (λ name e.
     ap (λ (r : Read ProblemParts). r >>= λ all. need kinds.Close (sections_want all.0) all.1 >>= λ rest. there all.0.domain all.1 >>= λ domain. there all.0.goal all.1 >>= λ goal. end_at rest >>= λ end.
-    Ok (record { name = name.0; domain = domain; objects = or_empty all.0.objects; init = or_empty all.0.init; goal = goal }))
+    Ok (record { name = name.0; domain = domain; objects = or_empty all.0.objects; init = or_empty all.0.init; goal = goal; costs = all.0.costs; metric = all.0.metric }))
     (all_agree begins_open (problem_section unlimited) (problem_section limited) (Shallow 0) problem_keeps (λ s us goes shallow. problem_section_same s us shallow) no_problem name.1
     (rest_shallow (title_at (codes "problem")) ts name.0 name.1 (reads_title (codes "problem") problem_same (length ts)) is e)))
 

@@ -122,7 +122,8 @@ domain_says s ts now rest (first, cases) (actions, constants) words =
           let behind = takes_words kinds.Key inside says.0 first says.1 (takes_words kinds.Open ts opens.0 inside opens.1 words) in
           subst DomainSays (sym now_is) (actions, list_words first rest list is behind)
       | inr (inr (inr (inl (list, at, none, is, now_is)))) ↦ subst DomainSays (sym now_is) (actions, constants)
-      | inr (inr (inr (inr (action, (inside, opens, says), is, now_is)))) ↦
+      | inr (inr (inr (inr (inl (has_cost, at, none, is, now_is))))) ↦ subst DomainSays (sym now_is) (actions, constants)
+      | inr (inr (inr (inr (inr (action, (inside, opens, says), is, now_is))))) ↦
           let behind = takes_words kinds.Key inside says.0 first says.1 (takes_words kinds.Open ts opens.0 inside opens.1 words) in
           let named = (name_word first is.first action.name is.name behind).0 in
           let one : All is_named (action ∷ []) = All-cons is_named action [] named (All-nil is_named) in
@@ -165,7 +166,8 @@ problem_says s ts now rest (first, cases) objects words =
           let behind = takes_words kinds.Key inside says.0 first says.1 (takes_words kinds.Open ts opens.0 inside opens.1 words) in
           subst ProblemSays (sym now_is) (list_words first rest list is behind)
       | inr (inr (inr (inl (list, at, none, is, now_is)))) ↦ subst ProblemSays (sym now_is) objects
-      | inr (inr (inr (inr (goal, last, at, none, is, closes, now_is)))) ↦ subst ProblemSays (sym now_is) objects
+      | inr (inr (inr (inr (inl (goal, last, at, none, is, closes, now_is))))) ↦ subst ProblemSays (sym now_is) objects
+      | inr (inr (inr (inr (inr (metric, word, last, at, none, says, total, closes, now_is))))) ↦ subst ProblemSays (sym now_is) objects
     ]
 
 pub problem_has_words : (text : List ℕ) (problem : Problem) → SpellsProblem text problem → ProblemHasWords problem

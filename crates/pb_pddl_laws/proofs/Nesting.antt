@@ -1,17 +1,18 @@
 -- How deep parentheses stand inside one another, and that the limit on them never decides how a condition or an effect is read.
 use Rattle.std.proofs.Common.{◌≡◌, ℕ, zero, suc, ◌+◌, ◌-◌, ◌<◌, ◌≤◌, Bool, true, false, cond, List, [], ◌∷◌, ◌++◌, length, take, drop, Ok, Err, refl, sym, ap, subst, ◌∙◌, arith, inl, inr}
 use Rattle.std.proofs.Common.{length-append}
-use Rattle.std.specs.Prelude.{nat_le, if◌then◌else◌}
+use Rattle.std.specs.Prelude.{codes, nat_le, if◌then◌else◌}
 use Rattle.pb_pddl.specs.declared.token.TokenKind.{TokenKind}
 use Rattle.pb_pddl.specs.declared.token.TokenKind.TheVariants as kinds
 use Rattle.pb_pddl.specs.declared.token.Token.{Token}
 use Rattle.pb_pddl.specs.declared.token.Cursor.{Cursor}
 use Rattle.pb_pddl.specs.declared.tree.Atom.{Atom}
 use Rattle.pb_pddl.specs.declared.tree.Term.{Term}
-use Rattle.pb_pddl.specs.declared.tree.Literal.{Literal}
+use Rattle.pb_pddl.specs.declared.tree.Cost.{Cost}
+use Rattle.pb_pddl.specs.declared.parts.EffectParts.{EffectParts}
 use Rattle.pb_pddl.specs.Tokens.{gap_len, token_at, kind_of, kind_inside, word_first, is_last, opened, AreTokens, moved, behind}
 use Rattle.pb_pddl.specs.Reading.{◌>>=◌, Read, folds, all_of}
-use Rattle.pb_pddl.specs.Grammar.{Takes, Steps, IsTerm, IsAtom, IsCond, IsEffect}
+use Rattle.pb_pddl.specs.Grammar.{Takes, Steps, IsTerm, IsAtom, IsCond, IsCost, IsEffect}
 
 true_false : true ≡ false → ⊥
 true_false e = cc
@@ -149,7 +150,18 @@ cond_shallow variables (suc room) n said ts now rest (inside, (o, opens), cases)
       | inr (inr (atom, a, e)) ↦ atom_shallow variables n inside rest atom a one
     ]
 
-pub effect_shallow : (room n : ℕ) (said : List Literal) (ts : List Token) (now : List Literal) (rest : List Token) → IsEffect room said ts now rest → Shallow n ts → Shallow n rest
+-- from the increase or = on
+cost_shallow : (kind : TokenKind) (text : List ℕ) (n : ℕ) (ts rest : List Token) (cost : Cost) → nested kind (suc n) ≡ suc n → IsCost kind text ts rest cost → Shallow (suc n) ts → Shallow n rest
+cost_shallow kind text n ts rest cost level c is =
+    let sign : Shallow (suc n) c.first = subst (λ k. Shallow k c.first) level (takes_shallow (suc n) kind ts c.sign.0 c.first c.sign.1 is).1 in
+    let total = c.function in
+    let inner = (takes_shallow (suc n) kinds.Open c.first total.2.0 total.0 total.2.1 sign).1 in
+    let word = (takes_shallow (suc (suc n)) kinds.Word total.0 total.3.0 total.1 total.3.1 inner).1 in
+    let close = (takes_shallow (suc (suc n)) kinds.Close total.1 total.4.0 c.second total.4.1 word).1 in
+    let number = (takes_shallow (suc n) kinds.Word c.second c.number.0 c.last c.number.1 close).1 in
+    (takes_shallow (suc n) kinds.Close c.last c.close.0 rest c.close.1 number).1
+
+pub effect_shallow : (room n : ℕ) (said : EffectParts) (ts : List Token) (now : EffectParts) (rest : List Token) → IsEffect room said ts now rest → Shallow n ts → Shallow n rest
 effect_shallow zero n said ts now rest c is = absurd c
 effect_shallow (suc room) n said ts now rest (inside, (o, opens), cases) is =
     let one : Shallow (suc n) inside = (takes_shallow n kinds.Open ts o inside opens is).1 in
@@ -163,7 +175,8 @@ effect_shallow (suc room) n said ts now rest (inside, (o, opens), cases) is =
           let two = (takes_shallow (suc n) kinds.Word inside says.0 start says.1 one).1 in
           let three : Shallow (suc (suc n)) behind = (takes_shallow (suc n) kinds.Open start p behind inner two).1 in
           (takes_shallow (suc n) kinds.Close last c rest closes (atom_shallow true (suc n) behind last atom a three)).1
-      | inr (inr (inr (atom, a, e))) ↦ atom_shallow true n inside rest atom a one
+      | inr (inr (inr (inl (cost, c, e)))) ↦ cost_shallow kinds.Word (codes "increase") n inside rest cost refl c one
+      | inr (inr (inr (inr (atom, a, e)))) ↦ atom_shallow true n inside rest atom a one
     ]
 
 -- ---- two steps that agree where something holds, which they keep

@@ -1,5 +1,5 @@
 -- Of a part or section that stood is noted that it did: the places are the same.
-use Rattle.std.proofs.Common.{◌≡◌, Bool, not, ◌&&◌, ◌||◌, [], refl, sym, ap, ◌∙◌}
+use Rattle.std.proofs.Common.{◌≡◌, Bool, false, not, ◌&&◌, ◌||◌, [], refl, sym, ap, ◌∙◌}
 use Rattle.std.specs.Prelude.{codes, Option, Some, None, is_some, if◌then◌else◌}
 use Rattle.pb_pddl.specs.declared.token.TokenKind.TheVariants as kinds
 use Rattle.pb_pddl.specs.declared.token.Token.{Token}
@@ -29,7 +29,7 @@ marked x (Some y) = refl
 -- ---- parts of an action
 
 abbrev pub noted_parts : ActionParts → ActionParts
-noted_parts s = record { params = mark [] s.params; pre = mark [] s.pre; effect = mark [] s.effect }
+noted_parts s = record { params = mark [] s.params; pre = mark [] s.pre; effect = mark [] s.effect; costs = [] }
 
 module _ (s : ActionParts) (t : Token) where
   parts_fit : fits (Places.MoreParts (noted_parts s)) t ≡ fits (Places.MoreParts s) t
@@ -58,13 +58,13 @@ same_parts s t = (parts_fit s t, parts_refused s t)
 -- ---- sections of a domain
 
 abbrev pub noted_domain : DomainParts → DomainParts
-noted_domain s = record { requirements = s.requirements; types = mark [] s.types; constants = mark [] s.constants; predicates = mark [] s.predicates; actions = [] }
+noted_domain s = record { requirements = s.requirements; types = mark [] s.types; constants = mark [] s.constants; predicates = mark [] s.predicates; functions = s.functions; has_cost = false; actions = [] }
 
 module _ (s : DomainParts) (t : Token) where
   abbrev domain_fits : Bool → Bool → Bool → Bool
   domain_fits a b c =
       is_key (codes ":requirements") t && not s.requirements || is_key (codes ":types") t && not a || is_key (codes ":constants") t && not b
-      || is_key (codes ":predicates") t && not c || is_key (codes ":action") t
+      || is_key (codes ":predicates") t && not c || is_key (codes ":functions") t && not s.functions || is_key (codes ":action") t
 
   domain_fit : fits (Places.ADomainSection (noted_domain s)) t ≡ fits (Places.ADomainSection s) t
   unfolding fits
@@ -85,21 +85,22 @@ same_domain s t = (domain_fit s t, domain_refused s t)
 -- ---- sections of a problem
 
 abbrev pub noted_problem : ProblemParts → ProblemParts
-noted_problem s = record { requirements = s.requirements; domain = mark no_name s.domain; objects = mark [] s.objects; init = mark [] s.init; goal = mark [] s.goal }
+noted_problem s = record { requirements = s.requirements; domain = mark no_name s.domain; objects = mark [] s.objects; init = mark [] s.init; goal = mark [] s.goal; costs = []; metric = mark 0 s.metric }
 
 module _ (s : ProblemParts) (t : Token) where
-  abbrev problem_fits : Bool → Bool → Bool → Bool → Bool
-  problem_fits a b c d =
+  abbrev problem_fits : Bool → Bool → Bool → Bool → Bool → Bool
+  problem_fits a b c d e =
       is_key (codes ":domain") t && not a || is_key (codes ":requirements") t && not s.requirements || is_key (codes ":objects") t && not b
-      || is_key (codes ":init") t && not c || is_key (codes ":goal") t && not d
+      || is_key (codes ":init") t && not c || is_key (codes ":goal") t && not d || is_key (codes ":metric") t && not e
 
   problem_fit : fits (Places.AProblemSection (noted_problem s)) t ≡ fits (Places.AProblemSection s) t
   unfolding fits
   problem_fit =
-      ap (λ a. problem_fits a (is_some (mark [] s.objects)) (is_some (mark [] s.init)) (is_some (mark [] s.goal))) (marked no_name s.domain)
-      ∙ ap (λ a. problem_fits (is_some s.domain) a (is_some (mark [] s.init)) (is_some (mark [] s.goal))) (marked [] s.objects)
-      ∙ ap (λ a. problem_fits (is_some s.domain) (is_some s.objects) a (is_some (mark [] s.goal))) (marked [] s.init)
-      ∙ ap (λ a. problem_fits (is_some s.domain) (is_some s.objects) (is_some s.init) a) (marked [] s.goal)
+      ap (λ a. problem_fits a (is_some (mark [] s.objects)) (is_some (mark [] s.init)) (is_some (mark [] s.goal)) (is_some (mark 0 s.metric))) (marked no_name s.domain)
+      ∙ ap (λ a. problem_fits (is_some s.domain) a (is_some (mark [] s.init)) (is_some (mark [] s.goal)) (is_some (mark 0 s.metric))) (marked [] s.objects)
+      ∙ ap (λ a. problem_fits (is_some s.domain) (is_some s.objects) a (is_some (mark [] s.goal)) (is_some (mark 0 s.metric))) (marked [] s.init)
+      ∙ ap (λ a. problem_fits (is_some s.domain) (is_some s.objects) (is_some s.init) a (is_some (mark 0 s.metric))) (marked [] s.goal)
+      ∙ ap (λ a. problem_fits (is_some s.domain) (is_some s.objects) (is_some s.init) (is_some s.goal) a) (marked 0 s.metric)
 
   problem_refused : refused (Places.AProblemSection (noted_problem s)) t ≡ refused (Places.AProblemSection s) t
   unfolding refused_token left_out wanted
@@ -107,16 +108,17 @@ module _ (s : ProblemParts) (t : Token) where
       told_same (Places.AProblemSection (noted_problem s)) (Places.AProblemSection s) t refl refl refl
       (ap (λ w. if is_kind kinds.Key t then wants.Once else w) (problem_first (noted_problem s) ∙ sym (problem_first s)))
 
-  abbrev all_stood : Bool → Bool → Bool → Bool → Bool
-  all_stood a b c d = s.requirements && a && b && c && d
+  abbrev all_stood : Bool → Bool → Bool → Bool → Bool → Bool
+  all_stood a b c d e = s.requirements && a && b && c && d && e
 
   stood_same : stood_all (noted_problem s) ≡ stood_all s
   unfolding stood_all
   stood_same =
-      ap (λ a. all_stood a (is_some (mark [] s.objects)) (is_some (mark [] s.init)) (is_some (mark [] s.goal))) (marked no_name s.domain)
-      ∙ ap (λ a. all_stood (is_some s.domain) a (is_some (mark [] s.init)) (is_some (mark [] s.goal))) (marked [] s.objects)
-      ∙ ap (λ a. all_stood (is_some s.domain) (is_some s.objects) a (is_some (mark [] s.goal))) (marked [] s.init)
-      ∙ ap (λ a. all_stood (is_some s.domain) (is_some s.objects) (is_some s.init) a) (marked [] s.goal)
+      ap (λ a. all_stood a (is_some (mark [] s.objects)) (is_some (mark [] s.init)) (is_some (mark [] s.goal)) (is_some (mark 0 s.metric))) (marked no_name s.domain)
+      ∙ ap (λ a. all_stood (is_some s.domain) a (is_some (mark [] s.init)) (is_some (mark [] s.goal)) (is_some (mark 0 s.metric))) (marked [] s.objects)
+      ∙ ap (λ a. all_stood (is_some s.domain) (is_some s.objects) a (is_some (mark [] s.goal)) (is_some (mark 0 s.metric))) (marked [] s.init)
+      ∙ ap (λ a. all_stood (is_some s.domain) (is_some s.objects) (is_some s.init) a (is_some (mark 0 s.metric))) (marked [] s.goal)
+      ∙ ap (λ a. all_stood (is_some s.domain) (is_some s.objects) (is_some s.init) (is_some s.goal) a) (marked 0 s.metric)
 
   sections_fit : fits (Places.MoreSections (noted_problem s)) t ≡ fits (Places.MoreSections s) t
   unfolding fits

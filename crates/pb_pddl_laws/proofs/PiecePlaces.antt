@@ -1,27 +1,32 @@
--- Predicates, the words of requirements and the atoms of a state: where their reading stops.
+-- Predicates, the words of requirements and what stands in :init: where their reading stops.
 use Rattle.std.proofs.Common.{◌≡◌, ℕ, Bool, true, false, ◌||◌, List, [], ◌∷◌, ◌++◌, Result, Ok, Err, refl, sym, ap, ◌∙◌, cond}
 use Rattle.pb_pddl.specs.declared.token.TokenKind.TheVariants as kinds
 use Rattle.pb_pddl.specs.declared.token.Token.{Token}
 use Rattle.pb_pddl.specs.declared.tree.Name.{Name}
 use Rattle.pb_pddl.specs.declared.tree.Typed.{Typed}
 use Rattle.pb_pddl.specs.declared.tree.Atom.{Atom}
+use Rattle.std.specs.Prelude.{codes}
+use Rattle.pb_pddl.specs.declared.tree.Cost.{Cost}
 use Rattle.pb_pddl.specs.declared.tree.Predicate.{Predicate}
+use Rattle.pb_pddl.specs.declared.parts.InitParts.{InitParts}
 use Rattle.pb_pddl.specs.declared.error.SyntaxError.{SyntaxError}
 use Rattle.pb_pddl.specs.declared.error.Want.TheVariants as wants
-use Rattle.pb_pddl.specs.Reading.{◌>>=◌, Read, kind_number, same_kind, front, begins, begins_open, begins_key, no_token, refusal, need, all_of, name_of, name_at, add_atom, list_at, add_predicate, predicates_at, add_key, keys_at, add_fact, facts_at}
+use Rattle.pb_pddl.specs.Reading.{◌>>=◌, Read, kind_number, same_kind, front, begins, begins_open, begins_key, no_token, refusal, need, all_of, name_of, name_at, spells, is_reserved, begins_term, add_term, atom_at, list_at, add_predicate, predicates_at, add_key, keys_at, add_held, add_equal, add_fact, no_init, facts_at}
 use Rattle.pb_pddl.specs.Grammar.{AddsName, IsPredicate, IsFact}
 use Rattle.pb_pddl.specs.Places
-use Rattle.pb_pddl.specs.Places.{fits, is_kind, sample, takes_section, takes_part, first_fit, left_out, wanted, refused_token, refused}
+use Rattle.pb_pddl.specs.Places.{fits, is_kind, is_equals, is_head, sample, takes_section, takes_part, first_fit, left_out, wanted, refused_token, refused}
 use Rattle.pb_pddl_laws.proofs.PiecesRead.{predicate_sound, predicate_complete, fact_sound, fact_complete, key_sound, key_complete}
-use Rattle.pb_pddl_laws.proofs.Readers.{Reads, Can, reads_done, can_done, reads_same, can_same, reads_then, can_then}
+use Rattle.pb_pddl_laws.proofs.Readers.{Reads, Can, reads_done, can_done, reads_same, can_same, reads_then, can_then, reads_one, can_one}
 use Rattle.pb_pddl_laws.proofs.Loops.{Takes}
-use Rattle.pb_pddl_laws.proofs.Refusals.{plain, need_fit, can_name, reads_name, does_name}
-use Rattle.pb_pddl_laws.proofs.Closing.{takes_piece, can_closed, reads_closed, does_closed, can_forms, reads_forms, does_each}
-use Rattle.pb_pddl_laws.proofs.ConditionPlaces.{can_add, reads_add, does_add}
+use Rattle.pb_pddl_laws.proofs.Refusals.{plain, head_misfit, need_fit, can_name, reads_name, does_name}
+use Rattle.pb_pddl_laws.proofs.Closing.{or_none, takes_piece, can_closed, reads_closed, does_closed, can_forms, reads_forms, does_each}
+use Rattle.pb_pddl_laws.proofs.AtomPlaces.{can_atom_behind, reads_atom_behind, does_atom_behind}
+use Rattle.pb_pddl_laws.proofs.ConditionPlaces.{can_either, reads_either, or_last}
+use Rattle.pb_pddl_laws.proofs.CostPlaces.{cost_behind, cost_is, can_cost, reads_cost, does_cost}
 use Rattle.pb_pddl_laws.proofs.ListPlaces.{can_variables, reads_variables, does_variables}
 use Rattle.pb_pddl_laws.specs.Table
-use Rattle.pb_pddl_laws.specs.Table.{Symbol, after}
-use Rattle.pb_pddl_laws.proofs.Following.{Does, nothing, does_same, does_done, does_as, does_then, does_more}
+use Rattle.pb_pddl_laws.specs.Table.{Symbol, after, cost_due}
+use Rattle.pb_pddl_laws.proofs.Following.{Does, nothing, does_same, does_done, does_as, does_either, does_then, does_more, does_one}
 
 true_false : true ≡ false → ⊥
 true_false e = cc
@@ -82,29 +87,139 @@ does_predicates n =
     (does_each add_predicate predicate_behind same takes_predicate predicate_step can_predicate Table.Predicates (Table.AnyName ∷ params_due) (λ t. (refl, refl)) (λ t. refl) n
     (λ m less said. does_name (params_behind said) (can_params said) nothing params_due m (λ l below name. does_params l said name)) [])
 
--- ---- the atoms of a state
+-- ---- what stands in :init
 
-fact_step : (said : List Atom) (t : Token) (us : List Token) → same_kind t.kind kinds.Open ≡ true → add_fact said (t ∷ us) ≡ add_atom false said us
+abbrev with_held : InitParts → Atom → InitParts
+with_held said atom = record { atoms = said.atoms ++ atom ∷ []; costs = said.costs }
+
+abbrev with_equal : InitParts → Cost → InitParts
+with_equal said cost = record { atoms = said.atoms; costs = said.costs ++ cost ∷ [] }
+
+module _ (said : InitParts) where
+  abbrev held_then : Atom → List Token → Read InitParts
+  held_then atom ts = Ok (with_held said atom, ts)
+
+  abbrev equal_then : Cost → List Token → Read InitParts
+  equal_then cost ts = Ok (with_equal said cost, ts)
+
+  held_is : (ts : List Token) → add_held said ts ≡ (atom_at false ts >>= λ p. held_then p.0 p.1)
+  unfolding add_held
+  held_is ts = refl
+
+  equal_is : (t : Token) (us : List Token) → add_equal said (t ∷ us) ≡ (cost_behind t us >>= λ p. equal_then p.0 p.1)
+  unfolding add_equal
+  equal_is t us = ap (λ (r : Read Cost). r >>= λ p. equal_then p.0 p.1) (cost_is t us)
+
+  held_misfit : (ts : List Token) → is_head (front ts) ≡ false → add_held said ts ≡ Err (refusal wants.Name (front ts))
+  unfolding add_held atom_at
+  held_misfit ts e =
+      ap (λ (r : Read Name). (r >>= λ head. (all_of (begins_term false) add_term [] head.1 >>= λ all. need kinds.Close wants.Name all.1 >>= λ rest. Ok (record { predicate = head.0; terms = all.0 }, rest))) >>= λ (atom : Atom × List Token). held_then atom.0 atom.1)
+      (head_misfit ts e)
+
+  abbrev fact_inside : List Token → Read InitParts
+  fact_inside ts = cond (spells kinds.Equals (codes "=") ts) (add_equal said ts) (add_held said ts)
+
+  -- what follows the token behind the (
+  abbrev fact_behind : Token → List Token → Read InitParts
+  fact_behind t us = cond (is_equals t) (add_equal said (t ∷ us)) (add_held said (t ∷ us))
+
+  fact_no_end : fits Places.InFact no_token ≡ false
+  unfolding fits same_kind kind_number
+  fact_no_end = refl
+
+  fact_refused : (t : Token) → refused Places.InFact t ≡ refusal wants.Name t
+  unfolding refused_token left_out wanted first_fit takes_section takes_part fits same_kind kind_number is_reserved
+  fact_refused t = plain Places.InFact t wants.Name refl refl refl
+
+  fact_misfit : (ts : List Token) → fits Places.InFact (front ts) ≡ false → fact_inside ts ≡ Err (refused Places.InFact (front ts))
+  unfolding fits begins spells
+  fact_misfit ts e =
+      let a = or_none (is_equals (front ts)) (is_head (front ts)) e in
+      ap (λ x. cond x (add_equal said ts) (add_held said ts)) a.0 ∙ held_misfit ts a.1 ∙ ap (λ (x : SyntaxError). Err x) (sym (fact_refused (front ts)))
+
+  fact_take : (t : Token) (us : List Token) → fits Places.InFact t ≡ true → fact_inside (t ∷ us) ≡ fact_behind t us
+  unfolding begins spells front
+  fact_take t us fit = refl
+
+  fact_head : (t : Token) → fits Places.InFact t ≡ true → is_equals t ≡ false → is_head t ≡ true
+  unfolding fits
+  fact_head t fit no_equals = or_last (is_equals t) (is_head t) no_equals fit
+
+  fact_sample : fits Places.InFact (sample kinds.Word) ≡ true
+  unfolding fits same_kind kind_number is_reserved
+  fact_sample = refl
+
+  can_equal : (t : Token) → Can (λ us. add_equal said (t ∷ us))
+  can_equal t = can_same (λ us. add_equal said (t ∷ us)) _ (equal_is t) (can_then (cost_behind t) equal_then (can_cost t) (λ cost. can_done (with_equal said cost)))
+
+  can_held : (t : Token) → is_head t ≡ true → Can (λ us. add_held said (t ∷ us))
+  can_held t e =
+      can_same (λ us. add_held said (t ∷ us)) _ (λ us. held_is (t ∷ us)) (can_then (λ us. atom_at false (t ∷ us)) held_then (can_atom_behind false t e) (λ atom. can_done (with_held said atom)))
+
+  can_fact_behind : (t : Token) → fits Places.InFact t ≡ true → Can (fact_behind t)
+  can_fact_behind t fit = can_either (is_equals t) (λ us. add_equal said (t ∷ us)) (λ us. add_held said (t ∷ us)) (λ e. can_equal t) (λ e. can_held t (fact_head t fit e))
+
+  can_fact : Can fact_inside
+  can_fact = can_one fact_inside fact_behind Places.InFact fact_no_end fact_misfit fact_take can_fact_behind (sample kinds.Word) fact_sample
+
+  reads_equal : (n : ℕ) (t : Token) → Reads InitParts n (λ us. add_equal said (t ∷ us))
+  reads_equal n t =
+      reads_same (λ us. add_equal said (t ∷ us)) _ (equal_is t) n (reads_then (cost_behind t) equal_then n (reads_cost n t) (λ cost. reads_done n (with_equal said cost)) (λ cost. can_done (with_equal said cost)))
+
+  reads_held : (n : ℕ) (t : Token) → is_head t ≡ true → Reads InitParts n (λ us. add_held said (t ∷ us))
+  reads_held n t e =
+      reads_same (λ us. add_held said (t ∷ us)) _ (λ us. held_is (t ∷ us)) n
+      (reads_then (λ us. atom_at false (t ∷ us)) held_then n (reads_atom_behind false n t e) (λ atom. reads_done n (with_held said atom)) (λ atom. can_done (with_held said atom)))
+
+  reads_fact : (n : ℕ) → Reads InitParts n fact_inside
+  reads_fact n =
+      reads_one fact_inside fact_behind Places.InFact fact_no_end fact_misfit fact_take can_fact_behind can_fact n
+      (λ m less t fit. reads_either (is_equals t) m (λ us. add_equal said (t ∷ us)) (λ us. add_held said (t ∷ us)) (λ e. reads_equal m t) (λ e. reads_held m t (fact_head t fit e)))
+
+  does_equal : (n : ℕ) (t : Token) → Does n (λ us. add_equal said (t ∷ us)) nothing cost_due
+  does_equal n t =
+      does_same n (λ us. add_equal said (t ∷ us)) _ nothing cost_due (equal_is t)
+      (does_then (cost_behind t) equal_then nothing nothing cost_due n (reads_cost n t) (does_cost n t) (λ cost. does_done n nothing (with_equal said cost)))
+
+  abbrev held_due : List Symbol
+  held_due = Table.Terms false ∷ []
+
+  does_held : (n : ℕ) (t : Token) → is_head t ≡ true → Does n (λ us. add_held said (t ∷ us)) nothing held_due
+  does_held n t e =
+      does_same n (λ us. add_held said (t ∷ us)) _ nothing held_due (λ us. held_is (t ∷ us))
+      (does_then (λ us. atom_at false (t ∷ us)) held_then nothing nothing held_due n (reads_atom_behind false n t e) (does_atom_behind false n t e) (λ atom. does_done n nothing (with_held said atom)))
+
+  fact_due : (t : Token) (v : Bool) → is_equals t ≡ v → after Table.Fact t ++ [] ≡ cond v cost_due held_due ++ []
+  fact_due t v e = ap (λ b. cond b cost_due held_due ++ []) e
+
+  does_fact : (n : ℕ) → Does n fact_inside nothing (Table.Fact ∷ [])
+  does_fact n =
+      does_one fact_inside fact_behind Places.InFact fact_no_end fact_misfit fact_take Table.Fact (λ t. (refl, refl)) nothing [] n
+      (λ m less t fit. does_either (is_equals t) m (λ us. add_equal said (t ∷ us)) (λ us. add_held said (t ∷ us)) nothing (after Table.Fact t ++ [])
+      (λ e. does_as m (λ us. add_equal said (t ∷ us)) nothing cost_due (after Table.Fact t ++ []) (fact_due t true e) (does_equal m t))
+      (λ e. does_as m (λ us. add_held said (t ∷ us)) nothing held_due (after Table.Fact t ++ []) (fact_due t false e) (does_held m t (fact_head t fit e))))
+
+fact_step : (said : InitParts) (t : Token) (us : List Token) → same_kind t.kind kinds.Open ≡ true → add_fact said (t ∷ us) ≡ fact_inside said us
 unfolding add_fact
-fact_step said t us e = ap (λ (r : Result (List Token) SyntaxError). r >>= add_atom false said) (need_fit kinds.Open wants.Paren t us e)
+fact_step said t us e = ap (λ (r : Result (List Token) SyntaxError). r >>= fact_inside said) (need_fit kinds.Open wants.Paren t us e)
 
 takes_fact : Takes begins_open add_fact
 takes_fact = takes_piece begins_open add_fact IsFact fact_sound fact_complete
 
-facts_is : (ts : List Token) → facts_at ts ≡ (all_of begins_open add_fact [] ts >>= λ all. need kinds.Close wants.Paren all.1 >>= λ rest. Ok (same all.0, rest))
+facts_is : (ts : List Token) → facts_at ts ≡ (all_of begins_open add_fact no_init ts >>= λ all. need kinds.Close wants.Paren all.1 >>= λ rest. Ok (same all.0, rest))
 unfolding facts_at
 facts_is ts = refl
 
 pub can_facts : Can facts_at
-can_facts = can_same facts_at _ facts_is (can_forms add_fact (add_atom false) same takes_fact fact_step (can_add false) [])
+can_facts = can_same facts_at _ facts_is (can_forms add_fact fact_inside same takes_fact fact_step can_fact no_init)
 
-pub reads_facts : (n : ℕ) → Reads (List Atom) n facts_at
-reads_facts n = reads_same facts_at _ facts_is n (reads_forms add_fact (add_atom false) same takes_fact fact_step (can_add false) n (λ m less said. reads_add false m said) [])
+pub reads_facts : (n : ℕ) → Reads InitParts n facts_at
+reads_facts n = reads_same facts_at _ facts_is n (reads_forms add_fact fact_inside same takes_fact fact_step can_fact n (λ m less said. reads_fact said m) no_init)
 
 pub does_facts : (n : ℕ) → Does n facts_at nothing (Table.Facts ∷ [])
 does_facts n =
     does_same n facts_at _ nothing (Table.Facts ∷ []) facts_is
-    (does_each add_fact (add_atom false) same takes_fact fact_step (can_add false) Table.Facts (Table.HeadName ∷ Table.Terms false ∷ []) (λ t. (refl, refl)) (λ t. refl) n (λ m less said. does_add false m said) [])
+    (does_each add_fact fact_inside same takes_fact fact_step can_fact Table.Facts (Table.Fact ∷ []) (λ t. (refl, refl)) (λ t. refl) n (λ m less said. does_fact said m) no_init)
 
 -- ---- the words of requirements, and what they make known
 

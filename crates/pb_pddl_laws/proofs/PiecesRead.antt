@@ -1,17 +1,22 @@
 -- Predicates, facts, keywords and parts of actions: what is read is what the grammar has, and the other way round.
-use Rattle.std.proofs.Common.{◌≡◌, ◌<◌, ◌≤◌, Bool, false, List, [], ◌∷◌, ◌++◌, length, drop, Ok, refl, sym, ap, subst, ◌∙◌, arith}
+use Rattle.std.proofs.Common.{◌≡◌, ◌<◌, ◌≤◌, Bool, false, inl, inr, List, [], ◌∷◌, ◌++◌, length, drop, Ok, refl, sym, ap, subst, ◌∙◌, arith}
 use Rattle.pb_pddl.specs.declared.token.TokenKind.TheVariants as kinds
 use Rattle.pb_pddl.specs.declared.token.Token.{Token}
 use Rattle.pb_pddl.specs.declared.tree.Name.{Name}
 use Rattle.pb_pddl.specs.declared.tree.Atom.{Atom}
+use Rattle.std.specs.Prelude.{codes}
+use Rattle.pb_pddl.specs.declared.tree.Cost.{Cost}
 use Rattle.pb_pddl.specs.declared.tree.Predicate.{Predicate}
+use Rattle.pb_pddl.specs.declared.parts.InitParts.{InitParts}
 use Rattle.pb_pddl.specs.declared.error.Want.{Want}
 use Rattle.pb_pddl.specs.declared.error.Want.TheVariants as wants
-use Rattle.pb_pddl.specs.Reading.{◌>>=◌, Read, kind_number, same_kind, front, need, name_at, name_of, atom_at, all_of, begins_open, add_predicate, predicates_at, begins_key, add_key, keys_at, add_atom, add_fact, facts_at, list_at}
-use Rattle.pb_pddl.specs.Grammar.{Takes, Many, Closed, AddsName, IsAtom, IsList, IsPredicate, IsFact}
-use Rattle.pb_pddl_laws.proofs.Singles.{ok_pair, bind_ok, bind_again, begins_takes, takes_begins, takes_less, need_takes, takes_need, name_takes, takes_name, open_token, close_token, word_token, key_token, takes_other, close_no_open}
+use Rattle.pb_pddl.specs.Reading.{◌>>=◌, Read, kind_number, same_kind, front, need, name_at, name_of, atom_at, all_of, begins_open, add_predicate, predicates_at, begins_key, add_key, keys_at, spells, cost_at, add_held, add_equal, add_fact, no_init, facts_at, list_at}
+use Rattle.pb_pddl.specs.Grammar.{Takes, Many, Closed, AddsName, IsAtom, IsCost, IsList, IsPredicate, IsFact}
+use Rattle.pb_pddl_laws.proofs.Singles.{ok_pair, bind_ok, bind_again, begins_takes, takes_begins, takes_less, need_takes, takes_need, name_takes, takes_name, open_token, close_token, word_token, key_token, equals_token, says_spells, spells_not, takes_other, close_no_open, word_no_equals}
 use Rattle.pb_pddl_laws.proofs.ManyRead.{IsSound, IsComplete, all_sound, all_complete, steps_less}
 use Rattle.pb_pddl_laws.proofs.AtomsRead.{atom_sound, atom_complete, atom_less}
+use Rattle.pb_pddl_laws.proofs.CondsRead.{if_cases, if_true, if_false}
+use Rattle.pb_pddl_laws.proofs.CostsRead.{at_says, cost_sound, cost_complete, cost_less}
 use Rattle.pb_pddl_laws.proofs.ListsRead.{list_sound, list_complete, list_less, variables_listed}
 
 -- ---- many pieces and the ) behind them
@@ -98,35 +103,68 @@ predicates_less ts rest list c = closed_less begins_open add_predicate IsPredica
 
 -- ---- facts
 
-pub fact_sound : IsSound begins_open add_fact IsFact
-unfolding add_fact add_atom
-fact_sound s ts now rest m e =
-    let o = bind_ok (need kinds.Open wants.Paren ts) _ (now, rest) e in
-    let a = bind_ok (atom_at false o.0) _ (now, rest) o.2 in
-    let p = ok_pair (s ++ a.0.0 ∷ []) now a.0.1 rest a.2 in
-    (o.0, a.0.0, need_takes kinds.Open wants.Paren ts o.0 open_token o.1, subst (λ r. IsAtom false o.0 r a.0.0) p.1 (atom_sound false o.0 a.0.1 a.0.0 a.1), sym p.0)
+abbrev with_held : InitParts → Atom → InitParts
+with_held said atom = record { atoms = said.atoms ++ atom ∷ []; costs = said.costs }
 
-pub fact_complete : IsComplete begins_open add_fact IsFact
-unfolding add_fact add_atom
-fact_complete s ts now rest (inside, atom, (o, opens), is, now_is) =
-    let one : length inside < length ts = takes_less kinds.Open ts o inside opens in
-    let two : length rest < length inside = atom_less false inside rest atom is in (
-      (takes_begins kinds.Open ts o inside opens).0,
-      bind_again (need kinds.Open wants.Paren ts) _ inside _ (takes_need kinds.Open wants.Paren ts o inside opens)
-          (bind_again (atom_at false inside) _ (atom, rest) _ (atom_complete false inside rest atom is) (ap (λ (x : List Atom). Ok (x, rest)) (sym now_is))),
-      omega arith,
+abbrev with_equal : InitParts → Cost → InitParts
+with_equal said cost = record { atoms = said.atoms; costs = said.costs ++ cost ∷ [] }
+
+pub fact_sound : IsSound begins_open add_fact IsFact
+unfolding add_fact add_held add_equal
+fact_sound s ts now rest m e =
+    let o = bind_ok (need kinds.Open wants.Paren ts) _ (now, rest) e in (
+      o.0,
+      need_takes kinds.Open wants.Paren ts o.0 open_token o.1,
+      elim (if_cases (spells kinds.Equals (codes "=") o.0) _ _ (Ok (now, rest)) o.2) [
+        | inl w ↦
+            let c = bind_ok (cost_at o.0) _ (now, rest) w.1 in
+            let p = ok_pair (with_equal s c.0.0) now c.0.1 rest c.2 in
+            inl (c.0.0, subst (λ r. IsCost kinds.Equals (codes "=") o.0 r c.0.0) p.1 (cost_sound kinds.Equals (codes "=") o.0 c.0.1 c.0.0 equals_token w.0 c.1), sym p.0)
+        | inr w ↦
+            let a = bind_ok (atom_at false o.0) _ (now, rest) w.1 in
+            let p = ok_pair (with_held s a.0.0) now a.0.1 rest a.2 in
+            inr (a.0.0, subst (λ r. IsAtom false o.0 r a.0.0) p.1 (atom_sound false o.0 a.0.1 a.0.0 a.1), sym p.0)
+      ],
     )
 
-pub facts_sound : (ts rest : List Token) (list : List Atom) → facts_at ts ≡ Ok (list, rest) → Closed IsFact [] ts rest list
-unfolding facts_at
-facts_sound ts rest list e = closed_sound begins_open add_fact IsFact wants.Paren [] ts list rest fact_sound e
+pub fact_complete : IsComplete begins_open add_fact IsFact
+unfolding add_fact add_held add_equal
+fact_complete s ts now rest (inside, (o, opens), cases) =
+    let first = (takes_begins kinds.Open ts o inside opens).0 in
+    let opened = takes_need kinds.Open wants.Paren ts o inside opens in
+    let one : length inside < length ts = takes_less kinds.Open ts o inside opens in
+    elim cases [
+      | inl (cost, is, now_is) ↦
+          let w = says_spells kinds.Equals (codes "=") inside is.first (at_says kinds.Equals (codes "=") inside is.first cost.at is.sign) in
+          let two : length rest < length inside = cost_less kinds.Equals (codes "=") inside rest cost is in (
+            first,
+            bind_again (need kinds.Open wants.Paren ts) _ inside _ opened
+                (if_true (spells kinds.Equals (codes "=") inside) _ _ w.0
+                ∙ bind_again (cost_at inside) _ (cost, rest) _ (cost_complete kinds.Equals (codes "=") inside rest cost is) (ap (λ (x : InitParts). Ok (x, rest)) (sym now_is))),
+            omega arith,
+          )
+      | inr (atom, is, now_is) ↦
+          let head = is.head.0 in
+          let no_equals = spells_not kinds.Equals (codes "=") inside (takes_other kinds.Word kinds.Equals inside head.0 is.inside word_no_equals head.1) in
+          let two : length rest < length inside = atom_less false inside rest atom is in (
+            first,
+            bind_again (need kinds.Open wants.Paren ts) _ inside _ opened
+                (if_false (spells kinds.Equals (codes "=") inside) _ _ no_equals
+                ∙ bind_again (atom_at false inside) _ (atom, rest) _ (atom_complete false inside rest atom is) (ap (λ (x : InitParts). Ok (x, rest)) (sym now_is))),
+            omega arith,
+          )
+    ]
 
-pub facts_complete : (ts rest : List Token) (list : List Atom) → Closed IsFact [] ts rest list → facts_at ts ≡ Ok (list, rest)
+pub facts_sound : (ts rest : List Token) (all : InitParts) → facts_at ts ≡ Ok (all, rest) → Closed IsFact no_init ts rest all
 unfolding facts_at
-facts_complete ts rest list c = closed_complete begins_open add_fact IsFact wants.Paren [] ts list rest fact_complete open_stops c
+facts_sound ts rest all e = closed_sound begins_open add_fact IsFact wants.Paren no_init ts all rest fact_sound e
 
-pub facts_less : (ts rest : List Token) (list : List Atom) → Closed IsFact [] ts rest list → length rest < length ts
-facts_less ts rest list c = closed_less begins_open add_fact IsFact [] ts list rest fact_complete c
+pub facts_complete : (ts rest : List Token) (all : InitParts) → Closed IsFact no_init ts rest all → facts_at ts ≡ Ok (all, rest)
+unfolding facts_at
+facts_complete ts rest all c = closed_complete begins_open add_fact IsFact wants.Paren no_init ts all rest fact_complete open_stops c
+
+pub facts_less : (ts rest : List Token) (all : InitParts) → Closed IsFact no_init ts rest all → length rest < length ts
+facts_less ts rest all c = closed_less begins_open add_fact IsFact no_init ts all rest fact_complete c
 
 -- ---- words of requirements
 

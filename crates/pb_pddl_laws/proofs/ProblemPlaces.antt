@@ -8,12 +8,13 @@ use Rattle.pb_pddl.specs.declared.token.Token.{Token}
 use Rattle.pb_pddl.specs.declared.tree.Name.{Name}
 use Rattle.pb_pddl.specs.declared.tree.Typed.{Typed}
 use Rattle.pb_pddl.specs.declared.tree.Atom.{Atom}
+use Rattle.pb_pddl.specs.declared.parts.InitParts.{InitParts}
 use Rattle.pb_pddl.specs.declared.parts.ProblemParts.{ProblemParts}
 use Rattle.pb_pddl.specs.declared.error.SyntaxError.{SyntaxError}
 use Rattle.pb_pddl.specs.declared.error.SyntaxError.TheVariants as errors
 use Rattle.pb_pddl.specs.declared.error.Want.TheVariants as wants
 use Rattle.pb_pddl.specs.declared.error.LeftOut.TheVariants as left
-use Rattle.pb_pddl.specs.Reading.{◌>>=◌, Read, kind_number, same_kind, front, begins, begins_open, spells, left_at, no_token, refusal, fault_at, need, name_at, all_of, unlimited, list_at, facts_at, cond_at, no_section, domain_name_section, problem_requirements, objects_section, init_section, goal_section, problem_key, stood_all, problem_section, sections_want, missing, there}
+use Rattle.pb_pddl.specs.Reading.{◌>>=◌, Read, kind_number, same_kind, front, begins, begins_open, spells, left_at, no_token, refusal, fault_at, need, name_at, all_of, unlimited, list_at, facts_at, cond_at, total_cost_at, no_section, domain_name_section, problem_requirements, objects_section, init_section, goal_section, metric_section, problem_key, stood_all, problem_section, sections_want, missing, there}
 use Rattle.pb_pddl.specs.Grammar.{IsProblemSection}
 use Rattle.pb_pddl_laws.proofs.SectionsRead.{problem_sound, problem_complete, no_domain_yet, no_goal_yet}
 use Rattle.pb_pddl_laws.proofs.ActionsRead.{none_is}
@@ -27,6 +28,7 @@ use Rattle.pb_pddl_laws.proofs.Loops.{Takes, loop, all_more, all_stop, reads_loo
 use Rattle.pb_pddl_laws.proofs.Refusals.{plain, told, need_misfit, need_fit, can_close, reads_close, can_name, reads_name}
 use Rattle.pb_pddl_laws.proofs.Closing.{takes_piece}
 use Rattle.pb_pddl_laws.proofs.ConditionPlaces.{can_cond, reads_cond}
+use Rattle.pb_pddl_laws.proofs.CostPlaces.{only_then, can_only, reads_only, can_total, reads_total}
 use Rattle.pb_pddl_laws.proofs.ListPlaces.{can_words, reads_words}
 use Rattle.pb_pddl_laws.proofs.PiecePlaces.{keys_then, can_facts, reads_facts, can_keys, reads_keys}
 use Rattle.pb_pddl_laws.proofs.Keys.{as_key, decide}
@@ -47,13 +49,13 @@ reads_closed_value : (n : ℕ) (value : ProblemParts) → Reads ProblemParts n (
 reads_closed_value n value = reads_close (λ rest. Ok (value, rest)) (can_done value) n (λ m less. reads_done m value)
 
 abbrev pub problem_with_0 : ProblemParts → Name → ProblemParts
-problem_with_0 s x = record { requirements = s.requirements; domain = Some x; objects = s.objects; init = s.init; goal = s.goal }
+problem_with_0 s x = record { requirements = s.requirements; domain = Some x; objects = s.objects; init = s.init; goal = s.goal; costs = s.costs; metric = s.metric }
 
 abbrev pub problem_body_0 : ProblemParts → List Token → Read ProblemParts
 problem_body_0 s = λ us. name_at kinds.Word wants.Name us >>= λ p. closed (problem_with_0 s p.0) p.1
 
 pub problem_is_0 : (s : ProblemParts) (t : Token) (us : List Token) → is_key (codes ":domain") t ≡ true → is_some s.domain ≡ false → problem_key unlimited s (t ∷ us) ≡ problem_body_0 s us
-unfolding problem_key domain_name_section problem_requirements objects_section init_section goal_section unlimited spells begins front same_kind kind_number
+unfolding problem_key domain_name_section problem_requirements objects_section init_section goal_section metric_section unlimited spells begins front same_kind kind_number
 problem_is_0 s t us e free = ap (λ (x : Token). problem_key unlimited s (x ∷ us)) (as_key (codes ":domain") t e) ∙ if_false (is_some s.domain) _ _ free
 
 can_problem_0 : (s : ProblemParts) → Can (problem_body_0 s)
@@ -63,26 +65,26 @@ reads_problem_0 : (n : ℕ) (s : ProblemParts) → Reads ProblemParts n (problem
 reads_problem_0 n s = reads_name (λ name. closed (problem_with_0 s name)) (λ name. can_closed_value (problem_with_0 s name)) n (λ m less name. reads_closed_value m (problem_with_0 s name))
 
 abbrev pub problem_body_1 : ProblemParts → List Token → Read ProblemParts
-problem_body_1 s = keys_then (record { requirements = true; domain = s.domain; objects = s.objects; init = s.init; goal = s.goal })
+problem_body_1 s = keys_then (record { requirements = true; domain = s.domain; objects = s.objects; init = s.init; goal = s.goal; costs = s.costs; metric = s.metric })
 
 pub problem_is_1 : (s : ProblemParts) (t : Token) (us : List Token) → is_key (codes ":requirements") t ≡ true → s.requirements ≡ false → problem_key unlimited s (t ∷ us) ≡ problem_body_1 s us
-unfolding problem_key domain_name_section problem_requirements objects_section init_section goal_section unlimited spells begins front same_kind kind_number
+unfolding problem_key domain_name_section problem_requirements objects_section init_section goal_section metric_section unlimited spells begins front same_kind kind_number
 problem_is_1 s t us e free = ap (λ (x : Token). problem_key unlimited s (x ∷ us)) (as_key (codes ":requirements") t e) ∙ if_false (s.requirements) _ _ free
 
 can_problem_1 : (s : ProblemParts) → Can (problem_body_1 s)
-can_problem_1 s = can_keys (record { requirements = true; domain = s.domain; objects = s.objects; init = s.init; goal = s.goal })
+can_problem_1 s = can_keys (record { requirements = true; domain = s.domain; objects = s.objects; init = s.init; goal = s.goal; costs = s.costs; metric = s.metric })
 
 reads_problem_1 : (n : ℕ) (s : ProblemParts) → Reads ProblemParts n (problem_body_1 s)
-reads_problem_1 n s = reads_keys (record { requirements = true; domain = s.domain; objects = s.objects; init = s.init; goal = s.goal }) n
+reads_problem_1 n s = reads_keys (record { requirements = true; domain = s.domain; objects = s.objects; init = s.init; goal = s.goal; costs = s.costs; metric = s.metric }) n
 
 abbrev pub problem_with_2 : ProblemParts → List Typed → ProblemParts
-problem_with_2 s x = record { requirements = s.requirements; domain = s.domain; objects = Some x; init = s.init; goal = s.goal }
+problem_with_2 s x = record { requirements = s.requirements; domain = s.domain; objects = Some x; init = s.init; goal = s.goal; costs = s.costs; metric = s.metric }
 
 abbrev pub problem_body_2 : ProblemParts → List Token → Read ProblemParts
 problem_body_2 s = λ us. list_at kinds.Word wants.Name us >>= λ p. Ok (problem_with_2 s p.0, p.1)
 
 pub problem_is_2 : (s : ProblemParts) (t : Token) (us : List Token) → is_key (codes ":objects") t ≡ true → is_some s.objects ≡ false → problem_key unlimited s (t ∷ us) ≡ problem_body_2 s us
-unfolding problem_key domain_name_section problem_requirements objects_section init_section goal_section unlimited spells begins front same_kind kind_number
+unfolding problem_key domain_name_section problem_requirements objects_section init_section goal_section metric_section unlimited spells begins front same_kind kind_number
 problem_is_2 s t us e free = ap (λ (x : Token). problem_key unlimited s (x ∷ us)) (as_key (codes ":objects") t e) ∙ if_false (is_some s.objects) _ _ free
 
 can_problem_2 : (s : ProblemParts) → Can (problem_body_2 s)
@@ -91,14 +93,14 @@ can_problem_2 s = can_then (list_at kinds.Word wants.Name) (λ x ts. Ok (problem
 reads_problem_2 : (n : ℕ) (s : ProblemParts) → Reads ProblemParts n (problem_body_2 s)
 reads_problem_2 n s = reads_then (list_at kinds.Word wants.Name) (λ x ts. Ok (problem_with_2 s x, ts)) n (reads_words n) (λ x. reads_done n (problem_with_2 s x)) (λ x. can_done (problem_with_2 s x))
 
-abbrev pub problem_with_3 : ProblemParts → List Atom → ProblemParts
-problem_with_3 s x = record { requirements = s.requirements; domain = s.domain; objects = s.objects; init = Some x; goal = s.goal }
+abbrev pub problem_with_3 : ProblemParts → InitParts → ProblemParts
+problem_with_3 s x = record { requirements = s.requirements; domain = s.domain; objects = s.objects; init = Some x.atoms; goal = s.goal; costs = x.costs; metric = s.metric }
 
 abbrev pub problem_body_3 : ProblemParts → List Token → Read ProblemParts
 problem_body_3 s = λ us. facts_at us >>= λ p. Ok (problem_with_3 s p.0, p.1)
 
 pub problem_is_3 : (s : ProblemParts) (t : Token) (us : List Token) → is_key (codes ":init") t ≡ true → is_some s.init ≡ false → problem_key unlimited s (t ∷ us) ≡ problem_body_3 s us
-unfolding problem_key domain_name_section problem_requirements objects_section init_section goal_section unlimited spells begins front same_kind kind_number
+unfolding problem_key domain_name_section problem_requirements objects_section init_section goal_section metric_section unlimited spells begins front same_kind kind_number
 problem_is_3 s t us e free = ap (λ (x : Token). problem_key unlimited s (x ∷ us)) (as_key (codes ":init") t e) ∙ if_false (is_some s.init) _ _ free
 
 can_problem_3 : (s : ProblemParts) → Can (problem_body_3 s)
@@ -108,13 +110,13 @@ reads_problem_3 : (n : ℕ) (s : ProblemParts) → Reads ProblemParts n (problem
 reads_problem_3 n s = reads_then (facts_at) (λ x ts. Ok (problem_with_3 s x, ts)) n (reads_facts n) (λ x. reads_done n (problem_with_3 s x)) (λ x. can_done (problem_with_3 s x))
 
 abbrev pub problem_with_4 : ProblemParts → List Atom → ProblemParts
-problem_with_4 s x = record { requirements = s.requirements; domain = s.domain; objects = s.objects; init = s.init; goal = Some x }
+problem_with_4 s x = record { requirements = s.requirements; domain = s.domain; objects = s.objects; init = s.init; goal = Some x; costs = s.costs; metric = s.metric }
 
 abbrev pub problem_body_4 : ProblemParts → List Token → Read ProblemParts
 problem_body_4 s = λ us. any_cond false [] us >>= λ p. closed (problem_with_4 s p.0) p.1
 
 pub problem_is_4 : (s : ProblemParts) (t : Token) (us : List Token) → is_key (codes ":goal") t ≡ true → is_some s.goal ≡ false → problem_key unlimited s (t ∷ us) ≡ problem_body_4 s us
-unfolding problem_key domain_name_section problem_requirements objects_section init_section goal_section unlimited spells begins front same_kind kind_number
+unfolding problem_key domain_name_section problem_requirements objects_section init_section goal_section metric_section unlimited spells begins front same_kind kind_number
 problem_is_4 s t us e free = ap (λ (x : Token). problem_key unlimited s (x ∷ us)) (as_key (codes ":goal") t e) ∙ if_false (is_some s.goal) _ _ free
 
 can_problem_4 : (s : ProblemParts) → Can (problem_body_4 s)
@@ -123,7 +125,36 @@ can_problem_4 s = can_then (any_cond false []) (λ x. closed (problem_with_4 s x
 reads_problem_4 : (n : ℕ) (s : ProblemParts) → Reads ProblemParts n (problem_body_4 s)
 reads_problem_4 n s = reads_then (any_cond false []) (λ x. closed (problem_with_4 s x)) n (reads_cond false n []) (λ x. reads_closed_value n (problem_with_4 s x)) (λ x. can_closed_value (problem_with_4 s x))
 
-pub problem_fit : (s : ProblemParts) (t : Token) → is_kind kinds.Key t ≡ true → fits (Places.AProblemSection s) t ≡ true → (is_key (codes ":domain") t && not (is_some s.domain) || is_key (codes ":requirements") t && not s.requirements || is_key (codes ":objects") t && not (is_some s.objects) || is_key (codes ":init") t && not (is_some s.init) || is_key (codes ":goal") t && not (is_some s.goal)) ≡ true
+abbrev pub problem_with_5 : ProblemParts → ℕ → ProblemParts
+problem_with_5 s x = record { requirements = s.requirements; domain = s.domain; objects = s.objects; init = s.init; goal = s.goal; costs = s.costs; metric = Some x }
+
+-- behind the word minimize
+abbrev pub metric_then : ProblemParts → Token → List Token → Read ProblemParts
+metric_then s t us = total_cost_at us >>= λ p. closed (problem_with_5 s p.0) p.1
+
+pub can_metric_then : (s : ProblemParts) (t : Token) → Can (metric_then s t)
+can_metric_then s t = can_then total_cost_at (λ x. closed (problem_with_5 s x)) can_total (λ x. can_closed_value (problem_with_5 s x))
+
+reads_metric_then : (n : ℕ) (s : ProblemParts) (t : Token) → Reads ProblemParts n (metric_then s t)
+reads_metric_then n s t = reads_then total_cost_at (λ x. closed (problem_with_5 s x)) n (reads_total n) (λ x. reads_closed_value n (problem_with_5 s x)) (λ x. can_closed_value (problem_with_5 s x))
+
+pub minimize_same : bytes_eq (codes "minimize") (codes "minimize") ≡ true
+minimize_same = refl
+
+abbrev pub problem_body_5 : ProblemParts → List Token → Read ProblemParts
+problem_body_5 s = only_then (metric_then s) (can_metric_then s) (codes "minimize") left.Metric minimize_same
+
+pub problem_is_5 : (s : ProblemParts) (t : Token) (us : List Token) → is_key (codes ":metric") t ≡ true → is_some s.metric ≡ false → problem_key unlimited s (t ∷ us) ≡ problem_body_5 s us
+unfolding problem_key domain_name_section problem_requirements objects_section init_section goal_section metric_section unlimited spells begins front same_kind kind_number
+problem_is_5 s t us e free = ap (λ (x : Token). problem_key unlimited s (x ∷ us)) (as_key (codes ":metric") t e) ∙ if_false (is_some s.metric) _ _ free
+
+can_problem_5 : (s : ProblemParts) → Can (problem_body_5 s)
+can_problem_5 s = can_only (metric_then s) (can_metric_then s) (codes "minimize") left.Metric minimize_same
+
+reads_problem_5 : (n : ℕ) (s : ProblemParts) → Reads ProblemParts n (problem_body_5 s)
+reads_problem_5 n s = reads_only (metric_then s) (can_metric_then s) (codes "minimize") left.Metric minimize_same n (λ m less t. reads_metric_then m s t)
+
+pub problem_fit : (s : ProblemParts) (t : Token) → is_kind kinds.Key t ≡ true → fits (Places.AProblemSection s) t ≡ true → (is_key (codes ":domain") t && not (is_some s.domain) || is_key (codes ":requirements") t && not s.requirements || is_key (codes ":objects") t && not (is_some s.objects) || is_key (codes ":init") t && not (is_some s.init) || is_key (codes ":goal") t && not (is_some s.goal) || is_key (codes ":metric") t && not (is_some s.metric)) ≡ true
 unfolding fits
 problem_fit s t key fit = fit
 
@@ -134,7 +165,8 @@ can_problem_key s t key fit =
       | inr (inl (e, free)) ↦ can_same (λ us. problem_key unlimited s (t ∷ us)) (problem_body_1 s) (λ us. problem_is_1 s t us e free) (can_problem_1 s)
       | inr (inr (inl (e, free))) ↦ can_same (λ us. problem_key unlimited s (t ∷ us)) (problem_body_2 s) (λ us. problem_is_2 s t us e free) (can_problem_2 s)
       | inr (inr (inr (inl (e, free)))) ↦ can_same (λ us. problem_key unlimited s (t ∷ us)) (problem_body_3 s) (λ us. problem_is_3 s t us e free) (can_problem_3 s)
-      | inr (inr (inr (inr ((e, free))))) ↦ can_same (λ us. problem_key unlimited s (t ∷ us)) (problem_body_4 s) (λ us. problem_is_4 s t us e free) (can_problem_4 s)
+      | inr (inr (inr (inr (inl (e, free))))) ↦ can_same (λ us. problem_key unlimited s (t ∷ us)) (problem_body_4 s) (λ us. problem_is_4 s t us e free) (can_problem_4 s)
+      | inr (inr (inr (inr (inr (e, free))))) ↦ can_same (λ us. problem_key unlimited s (t ∷ us)) (problem_body_5 s) (λ us. problem_is_5 s t us e free) (can_problem_5 s)
     ]
 
 pub reads_problem_key : (n : ℕ) (s : ProblemParts) (t : Token) → is_kind kinds.Key t ≡ true → fits (Places.AProblemSection s) t ≡ true → Reads ProblemParts n (λ us. problem_key unlimited s (t ∷ us))
@@ -144,7 +176,8 @@ reads_problem_key n s t key fit =
       | inr (inl (e, free)) ↦ reads_same (λ us. problem_key unlimited s (t ∷ us)) (problem_body_1 s) (λ us. problem_is_1 s t us e free) n (reads_problem_1 n s)
       | inr (inr (inl (e, free))) ↦ reads_same (λ us. problem_key unlimited s (t ∷ us)) (problem_body_2 s) (λ us. problem_is_2 s t us e free) n (reads_problem_2 n s)
       | inr (inr (inr (inl (e, free)))) ↦ reads_same (λ us. problem_key unlimited s (t ∷ us)) (problem_body_3 s) (λ us. problem_is_3 s t us e free) n (reads_problem_3 n s)
-      | inr (inr (inr (inr ((e, free))))) ↦ reads_same (λ us. problem_key unlimited s (t ∷ us)) (problem_body_4 s) (λ us. problem_is_4 s t us e free) n (reads_problem_4 n s)
+      | inr (inr (inr (inr (inl (e, free))))) ↦ reads_same (λ us. problem_key unlimited s (t ∷ us)) (problem_body_4 s) (λ us. problem_is_4 s t us e free) n (reads_problem_4 n s)
+      | inr (inr (inr (inr (inr (e, free))))) ↦ reads_same (λ us. problem_key unlimited s (t ∷ us)) (problem_body_5 s) (λ us. problem_is_5 s t us e free) n (reads_problem_5 n s)
     ]
 
 -- ---- the keyword of a section
@@ -165,7 +198,7 @@ problem_plain s t e =
 problem_other : (s : ProblemParts) (ts : List Token) → is_kind kinds.Key (front ts) ≡ false → problem_key unlimited s ts ≡ Err (refusal wants.Section (front ts))
 unfolding problem_key spells begins no_section left_at fault_at
 problem_other s ts e =
-    ap (λ b. cond (b && bytes_eq (front ts).text (codes ":domain")) (domain_name_section s ts) (cond (b && bytes_eq (front ts).text (codes ":requirements")) (problem_requirements s ts) (cond (b && bytes_eq (front ts).text (codes ":objects")) (objects_section s ts) (cond (b && bytes_eq (front ts).text (codes ":init")) (init_section s ts) (cond (b && bytes_eq (front ts).text (codes ":goal")) (goal_section unlimited s ts) (Err (if b then left_at left.Section ts else refusal wants.Section (front ts)))))))) e
+    ap (λ b. cond (b && bytes_eq (front ts).text (codes ":domain")) (domain_name_section s ts) (cond (b && bytes_eq (front ts).text (codes ":requirements")) (problem_requirements s ts) (cond (b && bytes_eq (front ts).text (codes ":objects")) (objects_section s ts) (cond (b && bytes_eq (front ts).text (codes ":init")) (init_section s ts) (cond (b && bytes_eq (front ts).text (codes ":goal")) (goal_section unlimited s ts) (cond (b && bytes_eq (front ts).text (codes ":metric")) (metric_section s ts) (Err (if b then left_at left.Section ts else refusal wants.Section (front ts))))))))) e
 
 no_key : same_kind kinds.End kinds.Key ≡ false
 unfolding same_kind kind_number
@@ -182,42 +215,47 @@ problem_misfit s ts misfit = decide (is_kind kinds.Key (front ts)) (λ key. prob
 pub problem_is_key : (s : ProblemParts) (t : Token) → fits (Places.AProblemSection s) t ≡ true → is_kind kinds.Key t ≡ true
 unfolding fits
 problem_is_key s t fit =
-    decide (is_kind kinds.Key t) (λ key. key) (λ other. absurd (true_false (sym fit ∙ ap (λ b. b && bytes_eq t.text (codes ":domain") && not (is_some s.domain) || b && bytes_eq t.text (codes ":requirements") && not s.requirements || b && bytes_eq t.text (codes ":objects") && not (is_some s.objects) || b && bytes_eq t.text (codes ":init") && not (is_some s.init) || b && bytes_eq t.text (codes ":goal") && not (is_some s.goal)) other)))
+    decide (is_kind kinds.Key t) (λ key. key) (λ other. absurd (true_false (sym fit ∙ ap (λ b. b && bytes_eq t.text (codes ":domain") && not (is_some s.domain) || b && bytes_eq t.text (codes ":requirements") && not s.requirements || b && bytes_eq t.text (codes ":objects") && not (is_some s.objects) || b && bytes_eq t.text (codes ":init") && not (is_some s.init) || b && bytes_eq t.text (codes ":goal") && not (is_some s.goal) || b && bytes_eq t.text (codes ":metric") && not (is_some s.metric)) other)))
 
 abbrev key_of : List ℕ → Token
 key_of text = record { kind = kinds.Key; text = text; at = 0; head = false }
 
 free_0 : (s : ProblemParts) → is_some s.domain ≡ false → fits (Places.AProblemSection s) (key_of (codes ":domain")) ≡ true
 unfolding fits same_kind kind_number
-free_0 s e = ap (λ b. is_key (codes ":domain") (key_of (codes ":domain")) && not b || is_key (codes ":requirements") (key_of (codes ":domain")) && not s.requirements || is_key (codes ":objects") (key_of (codes ":domain")) && not (is_some s.objects) || is_key (codes ":init") (key_of (codes ":domain")) && not (is_some s.init) || is_key (codes ":goal") (key_of (codes ":domain")) && not (is_some s.goal)) e
+free_0 s e = ap (λ b. is_key (codes ":domain") (key_of (codes ":domain")) && not b || is_key (codes ":requirements") (key_of (codes ":domain")) && not s.requirements || is_key (codes ":objects") (key_of (codes ":domain")) && not (is_some s.objects) || is_key (codes ":init") (key_of (codes ":domain")) && not (is_some s.init) || is_key (codes ":goal") (key_of (codes ":domain")) && not (is_some s.goal) || is_key (codes ":metric") (key_of (codes ":domain")) && not (is_some s.metric)) e
 
 free_1 : (s : ProblemParts) → s.requirements ≡ false → fits (Places.AProblemSection s) (key_of (codes ":requirements")) ≡ true
 unfolding fits same_kind kind_number
-free_1 s e = ap (λ b. is_key (codes ":domain") (key_of (codes ":requirements")) && not (is_some s.domain) || is_key (codes ":requirements") (key_of (codes ":requirements")) && not b || is_key (codes ":objects") (key_of (codes ":requirements")) && not (is_some s.objects) || is_key (codes ":init") (key_of (codes ":requirements")) && not (is_some s.init) || is_key (codes ":goal") (key_of (codes ":requirements")) && not (is_some s.goal)) e
+free_1 s e = ap (λ b. is_key (codes ":domain") (key_of (codes ":requirements")) && not (is_some s.domain) || is_key (codes ":requirements") (key_of (codes ":requirements")) && not b || is_key (codes ":objects") (key_of (codes ":requirements")) && not (is_some s.objects) || is_key (codes ":init") (key_of (codes ":requirements")) && not (is_some s.init) || is_key (codes ":goal") (key_of (codes ":requirements")) && not (is_some s.goal) || is_key (codes ":metric") (key_of (codes ":requirements")) && not (is_some s.metric)) e
 
 free_2 : (s : ProblemParts) → is_some s.objects ≡ false → fits (Places.AProblemSection s) (key_of (codes ":objects")) ≡ true
 unfolding fits same_kind kind_number
-free_2 s e = ap (λ b. is_key (codes ":domain") (key_of (codes ":objects")) && not (is_some s.domain) || is_key (codes ":requirements") (key_of (codes ":objects")) && not s.requirements || is_key (codes ":objects") (key_of (codes ":objects")) && not b || is_key (codes ":init") (key_of (codes ":objects")) && not (is_some s.init) || is_key (codes ":goal") (key_of (codes ":objects")) && not (is_some s.goal)) e
+free_2 s e = ap (λ b. is_key (codes ":domain") (key_of (codes ":objects")) && not (is_some s.domain) || is_key (codes ":requirements") (key_of (codes ":objects")) && not s.requirements || is_key (codes ":objects") (key_of (codes ":objects")) && not b || is_key (codes ":init") (key_of (codes ":objects")) && not (is_some s.init) || is_key (codes ":goal") (key_of (codes ":objects")) && not (is_some s.goal) || is_key (codes ":metric") (key_of (codes ":objects")) && not (is_some s.metric)) e
 
 free_3 : (s : ProblemParts) → is_some s.init ≡ false → fits (Places.AProblemSection s) (key_of (codes ":init")) ≡ true
 unfolding fits same_kind kind_number
-free_3 s e = ap (λ b. is_key (codes ":domain") (key_of (codes ":init")) && not (is_some s.domain) || is_key (codes ":requirements") (key_of (codes ":init")) && not s.requirements || is_key (codes ":objects") (key_of (codes ":init")) && not (is_some s.objects) || is_key (codes ":init") (key_of (codes ":init")) && not b || is_key (codes ":goal") (key_of (codes ":init")) && not (is_some s.goal)) e
+free_3 s e = ap (λ b. is_key (codes ":domain") (key_of (codes ":init")) && not (is_some s.domain) || is_key (codes ":requirements") (key_of (codes ":init")) && not s.requirements || is_key (codes ":objects") (key_of (codes ":init")) && not (is_some s.objects) || is_key (codes ":init") (key_of (codes ":init")) && not b || is_key (codes ":goal") (key_of (codes ":init")) && not (is_some s.goal) || is_key (codes ":metric") (key_of (codes ":init")) && not (is_some s.metric)) e
 
 free_4 : (s : ProblemParts) → is_some s.goal ≡ false → fits (Places.AProblemSection s) (key_of (codes ":goal")) ≡ true
 unfolding fits same_kind kind_number
-free_4 s e = ap (λ b. is_key (codes ":domain") (key_of (codes ":goal")) && not (is_some s.domain) || is_key (codes ":requirements") (key_of (codes ":goal")) && not s.requirements || is_key (codes ":objects") (key_of (codes ":goal")) && not (is_some s.objects) || is_key (codes ":init") (key_of (codes ":goal")) && not (is_some s.init) || is_key (codes ":goal") (key_of (codes ":goal")) && not b) e
+free_4 s e = ap (λ b. is_key (codes ":domain") (key_of (codes ":goal")) && not (is_some s.domain) || is_key (codes ":requirements") (key_of (codes ":goal")) && not s.requirements || is_key (codes ":objects") (key_of (codes ":goal")) && not (is_some s.objects) || is_key (codes ":init") (key_of (codes ":goal")) && not (is_some s.init) || is_key (codes ":goal") (key_of (codes ":goal")) && not b || is_key (codes ":metric") (key_of (codes ":goal")) && not (is_some s.metric)) e
+
+free_5 : (s : ProblemParts) → is_some s.metric ≡ false → fits (Places.AProblemSection s) (key_of (codes ":metric")) ≡ true
+unfolding fits same_kind kind_number
+free_5 s e = ap (λ b. is_key (codes ":domain") (key_of (codes ":metric")) && not (is_some s.domain) || is_key (codes ":requirements") (key_of (codes ":metric")) && not s.requirements || is_key (codes ":objects") (key_of (codes ":metric")) && not (is_some s.objects) || is_key (codes ":init") (key_of (codes ":metric")) && not (is_some s.init) || is_key (codes ":goal") (key_of (codes ":metric")) && not (is_some s.goal) || is_key (codes ":metric") (key_of (codes ":metric")) && not b) e
 
 -- where not each section stood, one may follow
 some_free : (s : ProblemParts) → stood_all s ≡ false → (t : Token) × (fits (Places.AProblemSection s) t ≡ true)
 unfolding stood_all
 some_free s open_still =
-    decide s.requirements (λ y1. decide (is_some s.domain) (λ y0. decide (is_some s.objects) (λ y2. decide (is_some s.init) (λ y3. decide (is_some s.goal)
-    (λ y4. absurd (true_false (sym (all_of_them s.requirements (is_some s.domain) (is_some s.objects) (is_some s.init) (is_some s.goal) y1 y0 y2 y3 y4) ∙ open_still)))
-    (λ n4. (key_of (codes ":goal"), free_4 s n4))) (λ n3. (key_of (codes ":init"), free_3 s n3))) (λ n2. (key_of (codes ":objects"), free_2 s n2))) (λ n0. (key_of (codes ":domain"), free_0 s n0)))
+    decide s.requirements (λ y1. decide (is_some s.domain) (λ y0. decide (is_some s.objects) (λ y2. decide (is_some s.init) (λ y3. decide (is_some s.goal) (λ y4. decide (is_some s.metric)
+    (λ y5. absurd (true_false (sym (all_of_them s.requirements (is_some s.domain) (is_some s.objects) (is_some s.init) (is_some s.goal) (is_some s.metric) y1 y0 y2 y3 y4 y5) ∙ open_still)))
+    (λ n5. (key_of (codes ":metric"), free_5 s n5))) (λ n4. (key_of (codes ":goal"), free_4 s n4))) (λ n3. (key_of (codes ":init"), free_3 s n3))) (λ n2. (key_of (codes ":objects"), free_2 s n2)))
+    (λ n0. (key_of (codes ":domain"), free_0 s n0)))
     (λ n1. (key_of (codes ":requirements"), free_1 s n1)) where
-      all_of_them : (a b c d e : Bool) → a ≡ true → b ≡ true → c ≡ true → d ≡ true → e ≡ true → a && b && c && d && e ≡ true
-      all_of_them a b c d e pa pb pc pd pe =
-          ap (λ x. x && b && c && d && e) pa ∙ ap (λ x. x && c && d && e) pb ∙ ap (λ x. x && d && e) pc ∙ ap (λ x. x && e) pd ∙ pe
+      all_of_them : (a b c d e f : Bool) → a ≡ true → b ≡ true → c ≡ true → d ≡ true → e ≡ true → f ≡ true → a && b && c && d && e && f ≡ true
+      all_of_them a b c d e f pa pb pc pd pe pf =
+          ap (λ x. x && b && c && d && e && f) pa ∙ ap (λ x. x && c && d && e && f) pb ∙ ap (λ x. x && d && e && f) pc ∙ ap (λ x. x && e && f) pd ∙ ap (λ x. x && f) pe ∙ pf
 
 pub problem_take : (s : ProblemParts) (t : Token) (us : List Token) → fits (Places.AProblemSection s) t ≡ true → problem_key unlimited s (t ∷ us) ≡ problem_key unlimited s (t ∷ us)
 problem_take s t us fit = refl

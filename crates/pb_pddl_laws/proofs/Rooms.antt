@@ -4,9 +4,9 @@ use Rattle.std.specs.Prelude.{codes}
 use Rattle.pb_pddl.specs.declared.token.TokenKind.TheVariants as kinds
 use Rattle.pb_pddl.specs.declared.token.Token.{Token}
 use Rattle.pb_pddl.specs.declared.tree.Atom.{Atom}
-use Rattle.pb_pddl.specs.declared.tree.Literal.{Literal}
+use Rattle.pb_pddl.specs.declared.parts.EffectParts.{EffectParts}
 use Rattle.pb_pddl.specs.declared.error.Want.TheVariants as wants
-use Rattle.pb_pddl.specs.Reading.{◌>>=◌, Read, front, begins, spells, need, fault_at, all_of, begins_open, add_atom, cond_at, conds_at, add_literal, negative_at, effect_at, effects_at}
+use Rattle.pb_pddl.specs.Reading.{◌>>=◌, Read, front, begins, spells, need, fault_at, all_of, begins_open, add_atom, cond_at, conds_at, add_literal, add_increase, negative_at, effect_at, effects_at}
 use Rattle.pb_pddl_laws.proofs.Singles.{begins_takes, takes_less, open_token, word_token, spells_says}
 use Rattle.pb_pddl_laws.proofs.ActionsRead.{cond_is, cond_less, effect_is}
 use Rattle.pb_pddl_laws.proofs.EffectsRead.{effect_complete}
@@ -131,29 +131,30 @@ module _ (variables : Bool) where
 
 -- ---- effects
 
-pub effect_less : (room : ℕ) (said : List Literal) (ts : List Token) (now : List Literal) (rest : List Token) → effect_at room said ts ≡ Ok (now, rest) → length rest < length ts
+pub effect_less : (room : ℕ) (said : EffectParts) (ts : List Token) (now : EffectParts) (rest : List Token) → effect_at room said ts ≡ Ok (now, rest) → length rest < length ts
 effect_less room said ts now rest e = (effect_complete room said ts now rest (effect_is room said ts now rest e)).2
 
 -- behind the ( of an effect, where one reads those inside
-abbrev pub effect_inside : (List Literal → List Token → Read (List Literal)) → List Literal → List Token → Read (List Literal)
+abbrev pub effect_inside : (EffectParts → List Token → Read EffectParts) → EffectParts → List Token → Read EffectParts
 effect_inside one said inside =
     cond (begins kinds.Close inside) (Ok (said, drop 1 inside))
-    (cond (spells kinds.Word (codes "and") inside) (effects_at one said (drop 1 inside)) (cond (spells kinds.Word (codes "not") inside) (negative_at said (drop 1 inside)) (add_literal false said inside)))
+    (cond (spells kinds.Word (codes "and") inside) (effects_at one said (drop 1 inside)) (cond (spells kinds.Word (codes "not") inside) (negative_at said (drop 1 inside))
+    (cond (spells kinds.Word (codes "increase") inside) (add_increase said inside) (add_literal false said inside))))
 
-effect_open : (room : ℕ) (said : List Literal) (ts : List Token) → begins_open ts ≡ true → effect_at (suc room) said ts ≡ effect_inside (effect_at room) said (drop 1 ts)
+effect_open : (room : ℕ) (said : EffectParts) (ts : List Token) → begins_open ts ≡ true → effect_at (suc room) said ts ≡ effect_inside (effect_at room) said (drop 1 ts)
 unfolding effect_at need
 effect_open room said ts opens = ap (λ b. cond b (Ok (drop 1 ts)) (Err (fault_at wants.Paren ts)) >>= λ inside. effect_inside (effect_at room) said inside) opens
 
-effect_shut : (room : ℕ) (said : List Literal) (ts : List Token) → begins_open ts ≡ false → effect_at room said ts ≡ Err (fault_at wants.Paren ts)
+effect_shut : (room : ℕ) (said : EffectParts) (ts : List Token) → begins_open ts ≡ false → effect_at room said ts ≡ Err (fault_at wants.Paren ts)
 unfolding effect_at need
 effect_shut zero said ts shut = refl
 effect_shut (suc room) said ts shut = ap (λ b. cond b (Ok (drop 1 ts)) (Err (fault_at wants.Paren ts)) >>= λ inside. effect_inside (effect_at room) said inside) shut
 
-effects_agree : (one two : List Literal → List Token → Read (List Literal)) (said : List Literal) (ts : List Token) → all_of begins_open one said ts ≡ all_of begins_open two said ts → effects_at one said ts ≡ effects_at two said ts
+effects_agree : (one two : EffectParts → List Token → Read EffectParts) (said : EffectParts) (ts : List Token) → all_of begins_open one said ts ≡ all_of begins_open two said ts → effects_at one said ts ≡ effects_at two said ts
 unfolding effects_at
-effects_agree one two said ts e = ap (λ (r : Read (List Literal)). r >>= λ all. need kinds.Close wants.Paren all.1 >>= λ rest. Ok (all.0, rest)) e
+effects_agree one two said ts e = ap (λ (r : Read EffectParts). r >>= λ all. need kinds.Close wants.Paren all.1 >>= λ rest. Ok (all.0, rest)) e
 
-effect_enough : (room more n : ℕ) (said : List Literal) (ts : List Token) (now : List Literal) (rest : List Token) → effect_at room said ts ≡ Ok (now, rest) → Enough more n ts → Enough more n rest
+effect_enough : (room more n : ℕ) (said : EffectParts) (ts : List Token) (now : EffectParts) (rest : List Token) → effect_at room said ts ≡ Ok (now, rest) → Enough more n ts → Enough more n rest
 effect_enough room more n said ts now rest e enough =
     let is = effect_is room said ts now rest e in
     elim enough [
@@ -161,7 +162,7 @@ effect_enough room more n said ts now rest e enough =
       | inr le ↦ let less : length rest < length ts = effect_less room said ts now rest e in inr (omega arith)
     ]
 
-pub effect_agree : (one two n : ℕ) (said : List Literal) (ts : List Token) → Enough one n ts → Enough two n ts → effect_at one said ts ≡ effect_at two said ts
+pub effect_agree : (one two n : ℕ) (said : EffectParts) (ts : List Token) → Enough one n ts → Enough two n ts → effect_at one said ts ≡ effect_at two said ts
 effect_agree zero two n said ts first second = let shut = no_room n ts first in effect_shut zero said ts shut ∙ sym (effect_shut two said ts shut)
 effect_agree (suc one) zero n said ts first second = let shut = no_room n ts second in effect_shut (suc one) said ts shut ∙ sym (effect_shut zero said ts shut)
 effect_agree (suc one) (suc two) n said ts first second =
@@ -182,13 +183,13 @@ effect_agree (suc one) (suc two) n said ts first second =
     cases (begins_open ts) refl
 
 -- with room for each token
-abbrev pub any_effect : List Literal → List Token → Read (List Literal)
+abbrev pub any_effect : EffectParts → List Token → Read EffectParts
 any_effect said ts = effect_at (length ts) said ts
 
-pub any_effect_shut : (said : List Literal) (ts : List Token) → begins_open ts ≡ false → any_effect said ts ≡ Err (fault_at wants.Paren ts)
+pub any_effect_shut : (said : EffectParts) (ts : List Token) → begins_open ts ≡ false → any_effect said ts ≡ Err (fault_at wants.Paren ts)
 any_effect_shut said ts shut = effect_shut (length ts) said ts shut
 
-pub any_effect_open : (said : List Literal) (t : Token) (us : List Token) → begins_open (t ∷ us) ≡ true → any_effect said (t ∷ us) ≡ effect_inside any_effect said us
+pub any_effect_open : (said : EffectParts) (t : Token) (us : List Token) → begins_open (t ∷ us) ≡ true → any_effect said (t ∷ us) ≡ effect_inside any_effect said us
 any_effect_open said t us opens =
     effect_open (length us) said (t ∷ us) opens
     ∙ in_false (begins kinds.Close us) _ _ (Ok (said, drop 1 us)) (λ _.

@@ -6,28 +6,30 @@ use Rattle.pb_pddl.specs.declared.token.Token.{Token}
 use Rattle.pb_pddl.specs.declared.tree.Action.{Action}
 use Rattle.pb_pddl.specs.declared.error.SyntaxError.{SyntaxError}
 use Rattle.pb_pddl.specs.declared.error.Want.TheVariants as wants
+use Rattle.pb_pddl.specs.declared.error.LeftOut.TheVariants as left
 use Rattle.pb_pddl_laws.proofs.Singles.{ok_pair, bind_ok, bind_again, takes_begins, takes_less, need_takes, takes_need, name_takes, takes_name, open_token, close_token, word_token, key_token, spells_says, says_spells}
 use Rattle.pb_pddl_laws.proofs.ManyRead.{IsSound, IsComplete}
 use Rattle.pb_pddl_laws.proofs.CondsRead.{if_cases, if_true, if_false, cond_complete}
 use Rattle.pb_pddl_laws.proofs.EffectsRead.{other_word}
+use Rattle.pb_pddl_laws.proofs.CostsRead.{only_sound, only_complete, total_sound, total_complete, total_less, functions_sound, functions_complete, functions_less}
 use Rattle.pb_pddl_laws.proofs.ListsRead.{list_sound, list_complete, list_less, words_listed}
 use Rattle.std.specs.Str.{bytes_eq}
 use Rattle.pb_pddl.specs.declared.parts.DomainParts.{DomainParts}
 use Rattle.pb_pddl.specs.declared.parts.ProblemParts.{ProblemParts}
-use Rattle.pb_pddl.specs.Reading.{spells, need, name_at, begins_open, stood_all, unlimited, keys_at, list_at, predicates_at, facts_at, cond_at, add_action, requirements_section, types_section, constants_section, predicates_section, action_section, domain_key, domain_section, domain_name_section, problem_requirements, objects_section, init_section, goal_section, problem_key, problem_section}
-use Rattle.pb_pddl.specs.Grammar.{Takes, Opens, Closed, AddsName, IsList, IsPredicate, IsFact, IsAction, IsDomainSection, IsProblemSection}
+use Rattle.pb_pddl.specs.Reading.{spells, need, name_at, begins_open, stood_all, unlimited, keys_at, list_at, predicates_at, no_init, facts_at, cond_at, only_word, total_cost_at, functions_at, add_action, requirements_section, types_section, constants_section, predicates_section, functions_section, action_section, domain_key, domain_section, domain_name_section, problem_requirements, objects_section, init_section, goal_section, metric_section, problem_key, problem_section}
+use Rattle.pb_pddl.specs.Grammar.{Takes, Opens, Closed, AddsName, IsList, IsPredicate, IsFact, IsFunctions, IsAction, IsDomainSection, IsProblemSection}
 use Rattle.pb_pddl_laws.proofs.PiecesRead.{predicates_sound, predicates_complete, predicates_less, facts_sound, facts_complete, facts_less, keys_sound, keys_complete, keys_less}
 use Rattle.pb_pddl_laws.proofs.ActionsRead.{is_none, none_is, cond_is, action_sound, action_complete, action_less}
 
 pub domain_key_sound : (s : DomainParts) (ts : List Token) (now : DomainParts) (rest before : List Token) → Opens before ts → domain_key unlimited s ts ≡ Ok (now, rest) → IsDomainSection s before now rest
-unfolding domain_key requirements_section types_section constants_section predicates_section action_section
+unfolding domain_key requirements_section types_section constants_section predicates_section functions_section action_section
 domain_key_sound s ts now rest before opens e = (
   drop 1 ts,
   elim (if_cases (spells kinds.Key (codes ":requirements") ts) _ _ (Ok (now, rest)) e) [
     | inl w0 ↦ elim (if_cases (s.requirements) _ _ (Ok (now, rest)) w0.1) [
       | inl z ↦ absurd cc
       | inr z ↦ let r = bind_ok (keys_at (drop 1 ts)) _ (now, rest) z.1 in
-          let p = ok_pair (record { requirements = true; types = s.types; constants = s.constants; predicates = s.predicates; actions = s.actions }) now r.0 rest r.2 in
+          let p = ok_pair (record { requirements = true; types = s.types; constants = s.constants; predicates = s.predicates; functions = s.functions; has_cost = s.has_cost; actions = s.actions }) now r.0 rest r.2 in
           let k = keys_sound (drop 1 ts) r.0 r.1 in
           inl ((k.0, (ts, opens, spells_says kinds.Key (codes ":requirements") ts key_token w0.0), z.0, subst (λ q. Closed (AddsName kinds.Key) [] (drop 1 ts) q k.0) p.1 k.1, sym p.0))
     ]
@@ -35,29 +37,37 @@ domain_key_sound s ts now rest before opens e = (
       | inl w1 ↦ elim (if_cases (is_some s.types) _ _ (Ok (now, rest)) w1.1) [
         | inl z ↦ absurd cc
         | inr z ↦ let l = bind_ok (list_at kinds.Word wants.Name (drop 1 ts)) _ (now, rest) z.1 in
-            let p = ok_pair (record { requirements = s.requirements; types = Some l.0.0; constants = s.constants; predicates = s.predicates; actions = s.actions }) now l.0.1 rest l.2 in
+            let p = ok_pair (record { requirements = s.requirements; types = Some l.0.0; constants = s.constants; predicates = s.predicates; functions = s.functions; has_cost = s.has_cost; actions = s.actions }) now l.0.1 rest l.2 in
             inr (inl ((l.0.0, (ts, opens, spells_says kinds.Key (codes ":types") ts key_token w1.0), is_none s.types z.0, subst (λ q. IsList kinds.Word (drop 1 ts) q l.0.0) p.1 (list_sound kinds.Word wants.Name (drop 1 ts) l.0.1 l.0.0 words_listed l.1), sym p.0)))
       ]
       | inr v1 ↦ elim (if_cases (spells kinds.Key (codes ":constants") ts) _ _ (Ok (now, rest)) v1.1) [
         | inl w2 ↦ elim (if_cases (is_some s.constants) _ _ (Ok (now, rest)) w2.1) [
           | inl z ↦ absurd cc
           | inr z ↦ let l = bind_ok (list_at kinds.Word wants.Name (drop 1 ts)) _ (now, rest) z.1 in
-              let p = ok_pair (record { requirements = s.requirements; types = s.types; constants = Some l.0.0; predicates = s.predicates; actions = s.actions }) now l.0.1 rest l.2 in
+              let p = ok_pair (record { requirements = s.requirements; types = s.types; constants = Some l.0.0; predicates = s.predicates; functions = s.functions; has_cost = s.has_cost; actions = s.actions }) now l.0.1 rest l.2 in
               inr (inr (inl ((l.0.0, (ts, opens, spells_says kinds.Key (codes ":constants") ts key_token w2.0), is_none s.constants z.0, subst (λ q. IsList kinds.Word (drop 1 ts) q l.0.0) p.1 (list_sound kinds.Word wants.Name (drop 1 ts) l.0.1 l.0.0 words_listed l.1), sym p.0))))
         ]
         | inr v2 ↦ elim (if_cases (spells kinds.Key (codes ":predicates") ts) _ _ (Ok (now, rest)) v2.1) [
           | inl w3 ↦ elim (if_cases (is_some s.predicates) _ _ (Ok (now, rest)) w3.1) [
             | inl z ↦ absurd cc
             | inr z ↦ let l = bind_ok (predicates_at (drop 1 ts)) _ (now, rest) z.1 in
-                let p = ok_pair (record { requirements = s.requirements; types = s.types; constants = s.constants; predicates = Some l.0.0; actions = s.actions }) now l.0.1 rest l.2 in
+                let p = ok_pair (record { requirements = s.requirements; types = s.types; constants = s.constants; predicates = Some l.0.0; functions = s.functions; has_cost = s.has_cost; actions = s.actions }) now l.0.1 rest l.2 in
                 inr (inr (inr (inl ((l.0.0, (ts, opens, spells_says kinds.Key (codes ":predicates") ts key_token w3.0), is_none s.predicates z.0, subst (λ q. Closed IsPredicate [] (drop 1 ts) q l.0.0) p.1 (predicates_sound (drop 1 ts) l.0.1 l.0.0 l.1), sym p.0)))))
           ]
-          | inr v3 ↦ elim (if_cases (spells kinds.Key (codes ":action") ts) _ _ (Ok (now, rest)) v3.1) [
-            | inl w4 ↦ let a = bind_ok (add_action unlimited s.actions (drop 1 ts)) _ (now, rest) w4.1 in
-                let p = ok_pair (record { requirements = s.requirements; types = s.types; constants = s.constants; predicates = s.predicates; actions = a.0.0 }) now a.0.1 rest a.2 in
-                let r = action_sound s.actions (drop 1 ts) a.0.1 a.0.0 a.1 in
-                inr (inr (inr (inr ((r.0, (ts, opens, spells_says kinds.Key (codes ":action") ts key_token w4.0), subst (λ q. IsAction (drop 1 ts) q r.0) p.1 r.1, sym p.0 ∙ ap (λ (x : List Action). record { requirements = s.requirements; types = s.types; constants = s.constants; predicates = s.predicates; actions = x }) r.2)))))
-            | inr v4 ↦ absurd cc
+          | inr v3 ↦ elim (if_cases (spells kinds.Key (codes ":functions") ts) _ _ (Ok (now, rest)) v3.1) [
+            | inl w4 ↦ elim (if_cases (s.functions) _ _ (Ok (now, rest)) w4.1) [
+              | inl z ↦ absurd cc
+              | inr z ↦ let l = bind_ok (functions_at (drop 1 ts)) _ (now, rest) z.1 in
+                  let p = ok_pair (record { requirements = s.requirements; types = s.types; constants = s.constants; predicates = s.predicates; functions = true; has_cost = l.0.0; actions = s.actions }) now l.0.1 rest l.2 in
+                  inr (inr (inr (inr (inl ((l.0.0, (ts, opens, spells_says kinds.Key (codes ":functions") ts key_token w4.0), z.0, subst (λ q. IsFunctions (drop 1 ts) q l.0.0) p.1 (functions_sound (drop 1 ts) l.0.1 l.0.0 l.1), sym p.0))))))
+            ]
+            | inr v4 ↦ elim (if_cases (spells kinds.Key (codes ":action") ts) _ _ (Ok (now, rest)) v4.1) [
+              | inl w5 ↦ let a = bind_ok (add_action unlimited s.actions (drop 1 ts)) _ (now, rest) w5.1 in
+                  let p = ok_pair (record { requirements = s.requirements; types = s.types; constants = s.constants; predicates = s.predicates; functions = s.functions; has_cost = s.has_cost; actions = a.0.0 }) now a.0.1 rest a.2 in
+                  let r = action_sound s.actions (drop 1 ts) a.0.1 a.0.0 a.1 in
+                  inr (inr (inr (inr (inr ((r.0, (ts, opens, spells_says kinds.Key (codes ":action") ts key_token w5.0), subst (λ q. IsAction (drop 1 ts) q r.0) p.1 r.1, sym p.0 ∙ ap (λ (x : List Action). record { requirements = s.requirements; types = s.types; constants = s.constants; predicates = s.predicates; functions = s.functions; has_cost = s.has_cost; actions = x }) r.2))))))
+              | inr v5 ↦ absurd cc
+            ]
           ]
         ]
       ]
@@ -89,20 +99,35 @@ domain_3_1 = refl
 domain_3_2 : bytes_eq (codes ":predicates") (codes ":constants") ≡ false
 domain_3_2 = refl
 
-domain_4_0 : bytes_eq (codes ":action") (codes ":requirements") ≡ false
+domain_4_0 : bytes_eq (codes ":functions") (codes ":requirements") ≡ false
 domain_4_0 = refl
 
-domain_4_1 : bytes_eq (codes ":action") (codes ":types") ≡ false
+domain_4_1 : bytes_eq (codes ":functions") (codes ":types") ≡ false
 domain_4_1 = refl
 
-domain_4_2 : bytes_eq (codes ":action") (codes ":constants") ≡ false
+domain_4_2 : bytes_eq (codes ":functions") (codes ":constants") ≡ false
 domain_4_2 = refl
 
-domain_4_3 : bytes_eq (codes ":action") (codes ":predicates") ≡ false
+domain_4_3 : bytes_eq (codes ":functions") (codes ":predicates") ≡ false
 domain_4_3 = refl
 
+domain_5_0 : bytes_eq (codes ":action") (codes ":requirements") ≡ false
+domain_5_0 = refl
+
+domain_5_1 : bytes_eq (codes ":action") (codes ":types") ≡ false
+domain_5_1 = refl
+
+domain_5_2 : bytes_eq (codes ":action") (codes ":constants") ≡ false
+domain_5_2 = refl
+
+domain_5_3 : bytes_eq (codes ":action") (codes ":predicates") ≡ false
+domain_5_3 = refl
+
+domain_5_4 : bytes_eq (codes ":action") (codes ":functions") ≡ false
+domain_5_4 = refl
+
 pub domain_complete : IsComplete begins_open (domain_section unlimited) IsDomainSection
-unfolding domain_section domain_key requirements_section types_section constants_section predicates_section action_section
+unfolding domain_section domain_key requirements_section types_section constants_section predicates_section functions_section action_section
 domain_complete s ts now rest (first, cases) =
     elim cases [
       | inl ((found, (inside, (o, opens), says), none, is, now_is)) ↦
@@ -151,16 +176,31 @@ domain_complete s ts now rest (first, cases) =
                 ∙ bind_again (predicates_at (drop 1 inside)) _ (found, rest) _ (ap predicates_at w.1 ∙ predicates_complete first rest found is) (ap (λ (x : DomainParts). Ok (x, rest)) (sym now_is))),
             omega (arith, w.2),
           )
-      | inr (inr (inr (inr ((action, (inside, (o, opens), says), is, now_is))))) ↦
+      | inr (inr (inr (inr (inl ((has_cost, (inside, (o, opens), says), none, is, now_is)))))) ↦
+          let w = says_spells kinds.Key (codes ":functions") inside first says in
+          let one : length inside < length ts = takes_less kinds.Open ts o inside opens in
+          let less : length rest < length first = functions_less first rest has_cost is in (
+            (takes_begins kinds.Open ts o inside opens).0,
+            bind_again (need kinds.Open wants.Paren ts) _ inside _ (takes_need kinds.Open wants.Paren ts o inside opens)
+                (if_false (spells kinds.Key (codes ":requirements") inside) _ _ (other_word kinds.Key (codes ":functions") (codes ":requirements") inside first domain_4_0 says)
+                ∙ if_false (spells kinds.Key (codes ":types") inside) _ _ (other_word kinds.Key (codes ":functions") (codes ":types") inside first domain_4_1 says)
+                ∙ if_false (spells kinds.Key (codes ":constants") inside) _ _ (other_word kinds.Key (codes ":functions") (codes ":constants") inside first domain_4_2 says)
+                ∙ if_false (spells kinds.Key (codes ":predicates") inside) _ _ (other_word kinds.Key (codes ":functions") (codes ":predicates") inside first domain_4_3 says)
+                ∙ if_true (spells kinds.Key (codes ":functions") inside) _ _ w.0 ∙ if_false (s.functions) _ _ none
+                ∙ bind_again (functions_at (drop 1 inside)) _ (has_cost, rest) _ (ap functions_at w.1 ∙ functions_complete first rest has_cost is) (ap (λ (x : DomainParts). Ok (x, rest)) (sym now_is))),
+            omega (arith, w.2),
+          )
+      | inr (inr (inr (inr (inr ((action, (inside, (o, opens), says), is, now_is)))))) ↦
           let w = says_spells kinds.Key (codes ":action") inside first says in
           let one : length inside < length ts = takes_less kinds.Open ts o inside opens in
           let less : length rest < length first = action_less first rest action is in (
             (takes_begins kinds.Open ts o inside opens).0,
             bind_again (need kinds.Open wants.Paren ts) _ inside _ (takes_need kinds.Open wants.Paren ts o inside opens)
-                (if_false (spells kinds.Key (codes ":requirements") inside) _ _ (other_word kinds.Key (codes ":action") (codes ":requirements") inside first domain_4_0 says)
-                ∙ if_false (spells kinds.Key (codes ":types") inside) _ _ (other_word kinds.Key (codes ":action") (codes ":types") inside first domain_4_1 says)
-                ∙ if_false (spells kinds.Key (codes ":constants") inside) _ _ (other_word kinds.Key (codes ":action") (codes ":constants") inside first domain_4_2 says)
-                ∙ if_false (spells kinds.Key (codes ":predicates") inside) _ _ (other_word kinds.Key (codes ":action") (codes ":predicates") inside first domain_4_3 says)
+                (if_false (spells kinds.Key (codes ":requirements") inside) _ _ (other_word kinds.Key (codes ":action") (codes ":requirements") inside first domain_5_0 says)
+                ∙ if_false (spells kinds.Key (codes ":types") inside) _ _ (other_word kinds.Key (codes ":action") (codes ":types") inside first domain_5_1 says)
+                ∙ if_false (spells kinds.Key (codes ":constants") inside) _ _ (other_word kinds.Key (codes ":action") (codes ":constants") inside first domain_5_2 says)
+                ∙ if_false (spells kinds.Key (codes ":predicates") inside) _ _ (other_word kinds.Key (codes ":action") (codes ":predicates") inside first domain_5_3 says)
+                ∙ if_false (spells kinds.Key (codes ":functions") inside) _ _ (other_word kinds.Key (codes ":action") (codes ":functions") inside first domain_5_4 says)
                 ∙ if_true (spells kinds.Key (codes ":action") inside) _ _ w.0
                 ∙ bind_again (add_action unlimited s.actions (drop 1 inside)) _ (s.actions ++ action ∷ [], rest) _ (ap (add_action unlimited s.actions) w.1 ∙ action_complete s.actions first rest action is) (ap (λ (x : DomainParts). Ok (x, rest)) (sym now_is))),
             omega (arith, w.2),
@@ -168,7 +208,7 @@ domain_complete s ts now rest (first, cases) =
     ]
 
 pub problem_key_sound : (s : ProblemParts) (ts : List Token) (now : ProblemParts) (rest before : List Token) → Opens before ts → problem_key unlimited s ts ≡ Ok (now, rest) → IsProblemSection s before now rest
-unfolding problem_key domain_name_section problem_requirements objects_section init_section goal_section unlimited
+unfolding problem_key domain_name_section problem_requirements objects_section init_section goal_section metric_section unlimited
 problem_key_sound s ts now rest before opens e = (
   drop 1 ts,
   elim (if_cases (spells kinds.Key (codes ":domain") ts) _ _ (Ok (now, rest)) e) [
@@ -176,7 +216,7 @@ problem_key_sound s ts now rest before opens e = (
       | inl z ↦ absurd cc
       | inr z ↦ let l = bind_ok (name_at kinds.Word wants.Name (drop 1 ts)) _ (now, rest) z.1 in
           let c = bind_ok (need kinds.Close wants.Close l.0.1) _ (now, rest) l.2 in
-          let p = ok_pair (record { requirements = s.requirements; domain = Some l.0.0; objects = s.objects; init = s.init; goal = s.goal }) now c.0 rest c.2 in
+          let p = ok_pair (record { requirements = s.requirements; domain = Some l.0.0; objects = s.objects; init = s.init; goal = s.goal; costs = s.costs; metric = s.metric }) now c.0 rest c.2 in
           let t = need_takes kinds.Close wants.Close l.0.1 c.0 close_token c.1 in
           inl ((l.0.0, l.0.1, (ts, opens, spells_says kinds.Key (codes ":domain") ts key_token w0.0), is_none s.domain z.0, name_takes kinds.Word wants.Name (drop 1 ts) l.0.1 l.0.0 word_token l.1, (t.0, subst (Takes kinds.Close l.0.1 t.0) p.1 t.1), sym p.0))
     ]
@@ -184,7 +224,7 @@ problem_key_sound s ts now rest before opens e = (
       | inl w1 ↦ elim (if_cases (s.requirements) _ _ (Ok (now, rest)) w1.1) [
         | inl z ↦ absurd cc
         | inr z ↦ let r = bind_ok (keys_at (drop 1 ts)) _ (now, rest) z.1 in
-            let p = ok_pair (record { requirements = true; domain = s.domain; objects = s.objects; init = s.init; goal = s.goal }) now r.0 rest r.2 in
+            let p = ok_pair (record { requirements = true; domain = s.domain; objects = s.objects; init = s.init; goal = s.goal; costs = s.costs; metric = s.metric }) now r.0 rest r.2 in
             let k = keys_sound (drop 1 ts) r.0 r.1 in
             inr (inl ((k.0, (ts, opens, spells_says kinds.Key (codes ":requirements") ts key_token w1.0), z.0, subst (λ q. Closed (AddsName kinds.Key) [] (drop 1 ts) q k.0) p.1 k.1, sym p.0)))
       ]
@@ -192,26 +232,37 @@ problem_key_sound s ts now rest before opens e = (
         | inl w2 ↦ elim (if_cases (is_some s.objects) _ _ (Ok (now, rest)) w2.1) [
           | inl z ↦ absurd cc
           | inr z ↦ let l = bind_ok (list_at kinds.Word wants.Name (drop 1 ts)) _ (now, rest) z.1 in
-              let p = ok_pair (record { requirements = s.requirements; domain = s.domain; objects = Some l.0.0; init = s.init; goal = s.goal }) now l.0.1 rest l.2 in
+              let p = ok_pair (record { requirements = s.requirements; domain = s.domain; objects = Some l.0.0; init = s.init; goal = s.goal; costs = s.costs; metric = s.metric }) now l.0.1 rest l.2 in
               inr (inr (inl ((l.0.0, (ts, opens, spells_says kinds.Key (codes ":objects") ts key_token w2.0), is_none s.objects z.0, subst (λ q. IsList kinds.Word (drop 1 ts) q l.0.0) p.1 (list_sound kinds.Word wants.Name (drop 1 ts) l.0.1 l.0.0 words_listed l.1), sym p.0))))
         ]
         | inr v2 ↦ elim (if_cases (spells kinds.Key (codes ":init") ts) _ _ (Ok (now, rest)) v2.1) [
           | inl w3 ↦ elim (if_cases (is_some s.init) _ _ (Ok (now, rest)) w3.1) [
             | inl z ↦ absurd cc
             | inr z ↦ let l = bind_ok (facts_at (drop 1 ts)) _ (now, rest) z.1 in
-                let p = ok_pair (record { requirements = s.requirements; domain = s.domain; objects = s.objects; init = Some l.0.0; goal = s.goal }) now l.0.1 rest l.2 in
-                inr (inr (inr (inl ((l.0.0, (ts, opens, spells_says kinds.Key (codes ":init") ts key_token w3.0), is_none s.init z.0, subst (λ q. Closed IsFact [] (drop 1 ts) q l.0.0) p.1 (facts_sound (drop 1 ts) l.0.1 l.0.0 l.1), sym p.0)))))
+                let p = ok_pair (record { requirements = s.requirements; domain = s.domain; objects = s.objects; init = Some l.0.0.atoms; goal = s.goal; costs = l.0.0.costs; metric = s.metric }) now l.0.1 rest l.2 in
+                inr (inr (inr (inl ((l.0.0, (ts, opens, spells_says kinds.Key (codes ":init") ts key_token w3.0), is_none s.init z.0, subst (λ q. Closed IsFact no_init (drop 1 ts) q l.0.0) p.1 (facts_sound (drop 1 ts) l.0.1 l.0.0 l.1), sym p.0)))))
           ]
           | inr v3 ↦ elim (if_cases (spells kinds.Key (codes ":goal") ts) _ _ (Ok (now, rest)) v3.1) [
             | inl w4 ↦ elim (if_cases (is_some s.goal) _ _ (Ok (now, rest)) w4.1) [
               | inl z ↦ absurd cc
               | inr z ↦ let l = bind_ok (cond_at false (length (drop 1 ts)) [] (drop 1 ts)) _ (now, rest) z.1 in
                   let c = bind_ok (need kinds.Close wants.Close l.0.1) _ (now, rest) l.2 in
-                  let p = ok_pair (record { requirements = s.requirements; domain = s.domain; objects = s.objects; init = s.init; goal = Some l.0.0 }) now c.0 rest c.2 in
+                  let p = ok_pair (record { requirements = s.requirements; domain = s.domain; objects = s.objects; init = s.init; goal = Some l.0.0; costs = s.costs; metric = s.metric }) now c.0 rest c.2 in
                   let t = need_takes kinds.Close wants.Close l.0.1 c.0 close_token c.1 in
-                  inr (inr (inr (inr ((l.0.0, l.0.1, (ts, opens, spells_says kinds.Key (codes ":goal") ts key_token w4.0), is_none s.goal z.0, cond_is false (length (drop 1 ts)) [] (drop 1 ts) l.0.0 l.0.1 l.1, (t.0, subst (Takes kinds.Close l.0.1 t.0) p.1 t.1), sym p.0)))))
+                  inr (inr (inr (inr (inl ((l.0.0, l.0.1, (ts, opens, spells_says kinds.Key (codes ":goal") ts key_token w4.0), is_none s.goal z.0, cond_is false (length (drop 1 ts)) [] (drop 1 ts) l.0.0 l.0.1 l.1, (t.0, subst (Takes kinds.Close l.0.1 t.0) p.1 t.1), sym p.0))))))
             ]
-            | inr v4 ↦ absurd cc
+            | inr v4 ↦ elim (if_cases (spells kinds.Key (codes ":metric") ts) _ _ (Ok (now, rest)) v4.1) [
+              | inl w5 ↦ elim (if_cases (is_some s.metric) _ _ (Ok (now, rest)) w5.1) [
+                | inl z ↦ absurd cc
+                | inr z ↦ let m = bind_ok (only_word (codes "minimize") left.Metric (drop 1 ts)) _ (now, rest) z.1 in
+                    let l = bind_ok (total_cost_at m.0) _ (now, rest) m.2 in
+                    let c = bind_ok (need kinds.Close wants.Close l.0.1) _ (now, rest) l.2 in
+                    let p = ok_pair (record { requirements = s.requirements; domain = s.domain; objects = s.objects; init = s.init; goal = s.goal; costs = s.costs; metric = Some l.0.0 }) now c.0 rest c.2 in
+                    let t = need_takes kinds.Close wants.Close l.0.1 c.0 close_token c.1 in
+                    inr (inr (inr (inr (inr ((l.0.0, m.0, l.0.1, (ts, opens, spells_says kinds.Key (codes ":metric") ts key_token w5.0), is_none s.metric z.0, only_sound (codes "minimize") left.Metric (drop 1 ts) m.0 m.1, total_sound m.0 l.0.1 l.0.0 l.1, (t.0, subst (Takes kinds.Close l.0.1 t.0) p.1 t.1), sym p.0))))))
+              ]
+              | inr v5 ↦ absurd cc
+            ]
           ]
         ]
       ]
@@ -261,6 +312,21 @@ problem_4_2 = refl
 problem_4_3 : bytes_eq (codes ":goal") (codes ":init") ≡ false
 problem_4_3 = refl
 
+problem_5_0 : bytes_eq (codes ":metric") (codes ":domain") ≡ false
+problem_5_0 = refl
+
+problem_5_1 : bytes_eq (codes ":metric") (codes ":requirements") ≡ false
+problem_5_1 = refl
+
+problem_5_2 : bytes_eq (codes ":metric") (codes ":objects") ≡ false
+problem_5_2 = refl
+
+problem_5_3 : bytes_eq (codes ":metric") (codes ":init") ≡ false
+problem_5_3 = refl
+
+problem_5_4 : bytes_eq (codes ":metric") (codes ":goal") ≡ false
+problem_5_4 = refl
+
 -- where a section did not stand, not each did
 and_no : (a : Bool) → a && false ≡ false
 and_no true = refl
@@ -269,30 +335,35 @@ and_no false = refl
 module _ (p : ProblemParts) where
   no_requirements_yet : p.requirements ≡ false → stood_all p ≡ false
   unfolding stood_all
-  no_requirements_yet e = ap (λ b. b && is_some p.domain && is_some p.objects && is_some p.init && is_some p.goal) e
+  no_requirements_yet e = ap (λ b. b && is_some p.domain && is_some p.objects && is_some p.init && is_some p.goal && is_some p.metric) e
 
   pub no_domain_yet : p.domain ≡ None → stood_all p ≡ false
   unfolding stood_all
-  no_domain_yet e = ap (λ b. p.requirements && b && is_some p.objects && is_some p.init && is_some p.goal) (none_is p.domain e)
-      ∙ ap (λ b. b && is_some p.objects && is_some p.init && is_some p.goal) (and_no p.requirements)
+  no_domain_yet e = ap (λ b. p.requirements && b && is_some p.objects && is_some p.init && is_some p.goal && is_some p.metric) (none_is p.domain e)
+      ∙ ap (λ b. b && is_some p.objects && is_some p.init && is_some p.goal && is_some p.metric) (and_no p.requirements)
 
   no_objects_yet : p.objects ≡ None → stood_all p ≡ false
   unfolding stood_all
-  no_objects_yet e = ap (λ b. p.requirements && is_some p.domain && b && is_some p.init && is_some p.goal) (none_is p.objects e)
-      ∙ ap (λ b. b && is_some p.init && is_some p.goal) (and_no (p.requirements && is_some p.domain))
+  no_objects_yet e = ap (λ b. p.requirements && is_some p.domain && b && is_some p.init && is_some p.goal && is_some p.metric) (none_is p.objects e)
+      ∙ ap (λ b. b && is_some p.init && is_some p.goal && is_some p.metric) (and_no (p.requirements && is_some p.domain))
 
   no_init_yet : p.init ≡ None → stood_all p ≡ false
   unfolding stood_all
-  no_init_yet e = ap (λ b. p.requirements && is_some p.domain && is_some p.objects && b && is_some p.goal) (none_is p.init e)
-      ∙ ap (λ b. b && is_some p.goal) (and_no (p.requirements && is_some p.domain && is_some p.objects))
+  no_init_yet e = ap (λ b. p.requirements && is_some p.domain && is_some p.objects && b && is_some p.goal && is_some p.metric) (none_is p.init e)
+      ∙ ap (λ b. b && is_some p.goal && is_some p.metric) (and_no (p.requirements && is_some p.domain && is_some p.objects))
 
   pub no_goal_yet : p.goal ≡ None → stood_all p ≡ false
   unfolding stood_all
-  no_goal_yet e = ap (λ b. p.requirements && is_some p.domain && is_some p.objects && is_some p.init && b) (none_is p.goal e)
-      ∙ and_no (p.requirements && is_some p.domain && is_some p.objects && is_some p.init)
+  no_goal_yet e = ap (λ b. p.requirements && is_some p.domain && is_some p.objects && is_some p.init && b && is_some p.metric) (none_is p.goal e)
+      ∙ ap (λ b. b && is_some p.metric) (and_no (p.requirements && is_some p.domain && is_some p.objects && is_some p.init))
+
+  no_metric_yet : p.metric ≡ None → stood_all p ≡ false
+  unfolding stood_all
+  no_metric_yet e = ap (λ b. p.requirements && is_some p.domain && is_some p.objects && is_some p.init && is_some p.goal && b) (none_is p.metric e)
+      ∙ and_no (p.requirements && is_some p.domain && is_some p.objects && is_some p.init && is_some p.goal)
 
 pub problem_complete : IsComplete begins_open (problem_section unlimited) IsProblemSection
-unfolding problem_section problem_key domain_name_section problem_requirements objects_section init_section goal_section unlimited
+unfolding problem_section problem_key domain_name_section problem_requirements objects_section init_section goal_section metric_section unlimited
 problem_complete s ts now rest (first, cases) =
     elim cases [
       | inl ((found, last, (inside, (o, opens), says), none, is, (c, closes), now_is)) ↦
@@ -343,7 +414,7 @@ problem_complete s ts now rest (first, cases) =
                 ∙ bind_again (facts_at (drop 1 inside)) _ (found, rest) _ (ap facts_at w.1 ∙ facts_complete first rest found is) (ap (λ (x : ProblemParts). Ok (x, rest)) (sym now_is))),
             omega (arith, w.2),
           )
-      | inr (inr (inr (inr ((found, last, (inside, (o, opens), says), none, is, (c, closes), now_is))))) ↦
+      | inr (inr (inr (inr (inl ((found, last, (inside, (o, opens), says), none, is, (c, closes), now_is)))))) ↦
           let w = says_spells kinds.Key (codes ":goal") inside first says in
           let one : length inside < length ts = takes_less kinds.Open ts o inside opens in
           let cond = cond_complete false (length first) [] first found last is in
@@ -358,6 +429,25 @@ problem_complete s ts now rest (first, cases) =
                 ∙ if_true (spells kinds.Key (codes ":goal") inside) _ _ w.0 ∙ if_false (is_some s.goal) _ _ (none_is s.goal none)
                 ∙ bind_again (cond_at false (length (drop 1 inside)) [] (drop 1 inside)) _ (found, last) _ (ap (λ (us : List Token). cond_at false (length us) [] us) w.1 ∙ cond.1)
                 (bind_again (need kinds.Close wants.Close last) _ rest _ (takes_need kinds.Close wants.Close last c rest closes) (ap (λ (x : ProblemParts). Ok (x, rest)) (sym now_is)))),
+            omega (arith, w.2),
+          )
+      | inr (inr (inr (inr (inr ((at, word, last, (inside, (o, opens), says), none, minimize, total, (c, closes), now_is)))))) ↦
+          let w = says_spells kinds.Key (codes ":metric") inside first says in
+          let one : length inside < length ts = takes_less kinds.Open ts o inside opens in
+          let word_less : length word < length first = takes_less kinds.Word first minimize.0 word minimize.1 in
+          let less : length last < length word = total_less word last at total in
+          let last_less : length rest < length last = takes_less kinds.Close last c rest closes in (
+            (takes_begins kinds.Open ts o inside opens).0,
+            if_false (stood_all s) _ _ (no_metric_yet s none) ∙ bind_again (need kinds.Open wants.Paren ts) _ inside _ (takes_need kinds.Open wants.Paren ts o inside opens)
+                (if_false (spells kinds.Key (codes ":domain") inside) _ _ (other_word kinds.Key (codes ":metric") (codes ":domain") inside first problem_5_0 says)
+                ∙ if_false (spells kinds.Key (codes ":requirements") inside) _ _ (other_word kinds.Key (codes ":metric") (codes ":requirements") inside first problem_5_1 says)
+                ∙ if_false (spells kinds.Key (codes ":objects") inside) _ _ (other_word kinds.Key (codes ":metric") (codes ":objects") inside first problem_5_2 says)
+                ∙ if_false (spells kinds.Key (codes ":init") inside) _ _ (other_word kinds.Key (codes ":metric") (codes ":init") inside first problem_5_3 says)
+                ∙ if_false (spells kinds.Key (codes ":goal") inside) _ _ (other_word kinds.Key (codes ":metric") (codes ":goal") inside first problem_5_4 says)
+                ∙ if_true (spells kinds.Key (codes ":metric") inside) _ _ w.0 ∙ if_false (is_some s.metric) _ _ (none_is s.metric none)
+                ∙ bind_again (only_word (codes "minimize") left.Metric (drop 1 inside)) _ word _ (ap (only_word (codes "minimize") left.Metric) w.1 ∙ only_complete (codes "minimize") left.Metric first word minimize)
+                (bind_again (total_cost_at word) _ (at, last) _ (total_complete word last at total)
+                (bind_again (need kinds.Close wants.Close last) _ rest _ (takes_need kinds.Close wants.Close last c rest closes) (ap (λ (x : ProblemParts). Ok (x, rest)) (sym now_is))))),
             omega (arith, w.2),
           )
     ]

@@ -104,6 +104,10 @@ pub word_token : IsToken kinds.Word
 unfolding same_kind kind_number
 word_token = refl
 
+pub equals_token : IsToken kinds.Equals
+unfolding same_kind kind_number
+equals_token = refl
+
 pub variable_token : IsToken kinds.Variable
 unfolding same_kind kind_number
 variable_token = refl
@@ -188,6 +192,18 @@ close_no_open = refl
 pub close_no_word : same_kind kinds.Close kinds.Word ≡ false
 unfolding same_kind kind_number
 close_no_word = refl
+
+pub close_no_dash : same_kind kinds.Close kinds.Dash ≡ false
+unfolding same_kind kind_number
+close_no_dash = refl
+
+pub open_no_close : same_kind kinds.Open kinds.Close ≡ false
+unfolding same_kind kind_number
+open_no_close = refl
+
+pub word_no_equals : same_kind kinds.Word kinds.Equals ≡ false
+unfolding same_kind kind_number
+word_no_equals = refl
 
 pub word_no_close : same_kind kinds.Word kinds.Close ≡ false
 unfolding same_kind kind_number

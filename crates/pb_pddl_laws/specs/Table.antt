@@ -6,33 +6,42 @@ use Rattle.pb_pddl.specs.declared.token.TokenKind.TheVariants as kinds
 use Rattle.pb_pddl.specs.declared.token.Token.{Token}
 use Rattle.pb_pddl.specs.declared.tree.Name.{Name}
 use Rattle.pb_pddl.specs.declared.error.SyntaxError.{SyntaxError}
+use Rattle.pb_pddl.specs.declared.error.LeftOut.{LeftOut}
+use Rattle.pb_pddl.specs.declared.error.LeftOut.TheVariants as left
 use Rattle.pb_pddl.specs.declared.parts.ActionParts.{ActionParts}
 use Rattle.pb_pddl.specs.declared.parts.DomainParts.{DomainParts}
 use Rattle.pb_pddl.specs.declared.parts.ProblemParts.{ProblemParts}
 use Rattle.pb_pddl.specs.Tokens.{TextTokens}
 use Rattle.pb_pddl.specs.Reading.{front, no_parts, no_domain, no_problem}
 use Rattle.pb_pddl.specs.Places
-use Rattle.pb_pddl.specs.Places.{Place, is_kind, is_word, is_key, fits, refused, Begins}
+use Rattle.pb_pddl.specs.Places.{Place, is_kind, is_word, is_key, is_equals, fits, refused, Begins}
 
 -- what must still stand. Of a part or section that stood is noted only that it did
 pub data Symbol : Type 0 where
-  -- one token: a ( or a ), this word, a NAME, the NAME of a type, or the NAME of an ATOM
+  -- one token: a ( or a ), this word, this word where another is left out, a NAME, the NAME of a type, the NAME of an ATOM, a NUM, or the word number
   Opening : Symbol
   Closing : Symbol
   ThisWord : List ℕ → Symbol
+  OnlyWord : List ℕ → LeftOut → Symbol
   AnyName : Symbol
   TypeName : Symbol
   HeadName : Symbol
+  Number : Symbol
+  NumberType : Symbol
   -- TERM* ), where there may be variables or not
   Terms : Bool → Symbol
-  -- a COND or an EFF, behind its (
+  -- a COND, an EFF or what stands in :init, behind its (
   Condition : Bool → Symbol
   Effect : Symbol
-  -- COND* ) and EFF* ) and PRED* ) and ATOM* ) of a state
+  Fact : Symbol
+  -- COND* ) and EFF* ) and PRED* ) and what stands in :init, to its )
   Conditions : Bool → Symbol
   Effects : Symbol
   Predicates : Symbol
   Facts : Symbol
+  -- behind ( :functions, and behind its ( total-cost )
+  Functions : Symbol
+  FunctionType : Symbol
   -- LIST ) of variables or of words, where a name waits for its type or none
   Names : Bool → Bool → Symbol
   -- KEY* ) and PART* ) and DSECT* ) and PSECT* )
@@ -54,16 +63,22 @@ abbrev pub place_of : Symbol → Place
 place_of Opening = Places.AnOpen
 place_of Closing = Places.AClose
 place_of (ThisWord text) = Places.TheWord text
+place_of (OnlyWord text what) = Places.OnlyWord text what
 place_of AnyName = Places.AName
 place_of TypeName = Places.AType
 place_of HeadName = Places.AHead
+place_of Number = Places.ANumber
+place_of NumberType = Places.ANumberType
 place_of (Terms variables) = Places.MoreTerms variables
 place_of (Condition variables) = Places.InCondition
 place_of Effect = Places.InEffect
+place_of Fact = Places.InFact
 place_of (Conditions variables) = Places.MoreForms
 place_of Effects = Places.MoreForms
 place_of Predicates = Places.MoreForms
 place_of Facts = Places.MoreForms
+place_of Functions = Places.MoreForms
+place_of FunctionType = Places.MoreFunction
 place_of (Names variables waits) = Places.MoreNames (names_kind variables) waits
 place_of Keys = Places.MoreKeys
 place_of (Parts said) = Places.MoreParts said
@@ -74,6 +89,14 @@ place_of (ProblemSection said) = Places.AProblemSection said
 
 abbrev pub no_name : Name
 no_name = record { text = []; at = 0 }
+
+-- total-cost ), and what follows it
+abbrev pub total_cost_then : List Symbol → List Symbol
+total_cost_then due = OnlyWord (codes "total-cost") left.Function ∷ Closing ∷ due
+
+-- ( total-cost ) NUM )
+abbrev pub cost_due : List Symbol
+cost_due = Opening ∷ total_cost_then (Number ∷ Closing ∷ [])
 
 -- behind the keyword of a part
 abbrev pub after_part : ActionParts → Token → List Symbol
@@ -89,6 +112,7 @@ after_domain_key said t =
     else if is_key (codes ":types") t then Names false false ∷ DomainSections (record said { types = Some [] }) ∷ []
     else if is_key (codes ":constants") t then Names false false ∷ DomainSections (record said { constants = Some [] }) ∷ []
     else if is_key (codes ":predicates") t then Predicates ∷ DomainSections (record said { predicates = Some [] }) ∷ []
+    else if is_key (codes ":functions") t then Functions ∷ DomainSections (record said { functions = true }) ∷ []
     else AnyName ∷ Parts no_parts ∷ DomainSections said ∷ []
 
 abbrev pub after_problem_key : ProblemParts → Token → List Symbol
@@ -97,16 +121,20 @@ after_problem_key said t =
     else if is_key (codes ":requirements") t then Keys ∷ ProblemSections (record said { requirements = true }) ∷ []
     else if is_key (codes ":objects") t then Names false false ∷ ProblemSections (record said { objects = Some [] }) ∷ []
     else if is_key (codes ":init") t then Facts ∷ ProblemSections (record said { init = Some [] }) ∷ []
-    else Opening ∷ Condition false ∷ Closing ∷ ProblemSections (record said { goal = Some [] }) ∷ []
+    else if is_key (codes ":goal") t then Opening ∷ Condition false ∷ Closing ∷ ProblemSections (record said { goal = Some [] }) ∷ []
+    else OnlyWord (codes "minimize") left.Metric ∷ Opening ∷ total_cost_then (Closing ∷ ProblemSections (record said { metric = Some 0 }) ∷ [])
 
 -- what must stand behind a token that fits, up to the end of this
 abbrev pub after : Symbol → Token → List Symbol
 after Opening t = []
 after Closing t = []
 after (ThisWord text) t = []
+after (OnlyWord text what) t = []
 after AnyName t = []
 after TypeName t = []
 after HeadName t = []
+after Number t = []
+after NumberType t = []
 after (Terms variables) t = if is_kind kinds.Word t || variables && is_kind kinds.Variable t then Terms variables ∷ [] else []
 after (Condition variables) t =
     if is_kind kinds.Close t then []
@@ -116,11 +144,15 @@ after Effect t =
     if is_kind kinds.Close t then []
     else if is_word (codes "and") t then Effects ∷ []
     else if is_word (codes "not") t then Opening ∷ HeadName ∷ Terms true ∷ Closing ∷ []
+    else if is_word (codes "increase") t then cost_due
     else Terms true ∷ []
+after Fact t = if is_equals t then cost_due else Terms false ∷ []
 after (Conditions variables) t = if is_kind kinds.Open t then Condition variables ∷ Conditions variables ∷ [] else []
 after Effects t = if is_kind kinds.Open t then Effect ∷ Effects ∷ [] else []
 after Predicates t = if is_kind kinds.Open t then AnyName ∷ Names true false ∷ Predicates ∷ [] else []
-after Facts t = if is_kind kinds.Open t then HeadName ∷ Terms false ∷ Facts ∷ [] else []
+after Facts t = if is_kind kinds.Open t then Fact ∷ Facts ∷ [] else []
+after Functions t = if is_kind kinds.Open t then total_cost_then (FunctionType ∷ []) else []
+after FunctionType t = if is_kind kinds.Dash t then NumberType ∷ Closing ∷ [] else []
 after (Names variables waits) t =
     if is_kind (names_kind variables) t then Names variables true ∷ []
     else if is_kind kinds.Dash t then TypeName ∷ Names variables false ∷ []
