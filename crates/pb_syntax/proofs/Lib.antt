@@ -1,1 +1,3 @@
 pub mod Folds
+pub mod Values
+pub mod Keys

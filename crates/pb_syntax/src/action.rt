@@ -5,7 +5,8 @@ use crate::conditions::{cond, effect};
 use crate::lists::{begins_key, list};
 use crate::pieces::{behind, left_out, name, need, place, spells};
 use pb_pddl::{
-    Action, ActionParts, Atom, LeftOut, Listed, Literal, SyntaxError, Token, TokenKind, Typed, Want,
+    Action, ActionParts, Atom, EffectParts, LeftOut, Listed, Literal, SyntaxError, Token,
+    TokenKind, Typed, Want,
 };
 use std::alloc::Global;
 
@@ -77,9 +78,14 @@ fn effect_part<'a>(
     if out.effect.is_some() {
         return Err(once(tokens));
     }
-    let mut literals = Listed::new(alloc);
-    let rest = effect(alloc, DEEPEST, &mut literals, behind(tokens))?;
-    out.effect = Some(literals);
+    let mut all = EffectParts {
+        literals: Listed::new(alloc),
+        costs: Listed::new(alloc),
+    };
+    let rest = effect(alloc, DEEPEST, &mut all, behind(tokens))?;
+    all.costs.trim();
+    out.effect = Some(all.literals);
+    out.costs = all.costs;
     Ok(rest)
 }
 
@@ -146,6 +152,7 @@ pub fn add_action<'a>(
         params: None,
         pre: None,
         effect: None,
+        costs: Listed::new(alloc),
     };
     let rest = parts(alloc, &mut all, rest)?;
     let rest = need(TokenKind::Close, parts_want(&all), rest)?;
@@ -154,6 +161,7 @@ pub fn add_action<'a>(
         params: or_empty(alloc, all.params),
         pre: or_empty(alloc, all.pre),
         effect: or_empty(alloc, all.effect),
+        costs: all.costs,
     })?;
     Ok(rest)
 }

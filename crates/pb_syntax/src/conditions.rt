@@ -2,13 +2,14 @@ ghost use Rattle.std.specs.Prelude.{◌≡◌, codes, drop, Ok};
 ghost use Rattle.pb_pddl.specs.Reading.{Gives, all_of, begins_open, add_atom, cond_at, conds_at, add_literal, negative_at, effects_at, effect_at};
 
 use crate::atoms::atom;
+use crate::costs::add_increase;
 use crate::pieces::{begins, behind, fault, need, spells};
-use pb_pddl::{Atom, Listed, Literal, SyntaxError, Token, TokenKind, Want};
+use pb_pddl::{Atom, EffectParts, Listed, Literal, SyntaxError, Token, TokenKind, Want};
 use std::alloc::Global;
 
 // Adds an atom, behind its `(`.
 #[tactic(auto, unfolding(pb_pddl::specs::Reading::add_atom))]
-pub fn add_atom<'a>(
+fn add_atom<'a>(
     alloc: Global,
     variables: bool,
     out: &mut Listed<Atom>,
@@ -88,13 +89,13 @@ fn conds<'a>(
 fn add_literal<'a>(
     alloc: Global,
     negated: bool,
-    out: &mut Listed<Literal>,
+    out: &mut EffectParts,
     tokens: &'a [Token],
 ) -> Result<&'a [Token], SyntaxError>
     ensures { Gives (λ rest. (out.new, rest.now)) result (add_literal negated out.old tokens.now) }
 {
     let (atom, rest) = atom(alloc, true, tokens)?;
-    out.push(Literal { atom, negated })?;
+    out.literals.push(Literal { atom, negated })?;
     Ok(rest)
 }
 
@@ -102,7 +103,7 @@ fn add_literal<'a>(
 #[tactic(auto, unfolding(pb_pddl::specs::Reading::negative_at))]
 fn negative<'a>(
     alloc: Global,
-    out: &mut Listed<Literal>,
+    out: &mut EffectParts,
     tokens: &'a [Token],
 ) -> Result<&'a [Token], SyntaxError>
     ensures { Gives (λ rest. (out.new, rest.now)) result (negative_at out.old tokens.now) }
@@ -118,7 +119,7 @@ fn negative<'a>(
 pub fn effect<'a>(
     alloc: Global,
     room: u32,
-    out: &mut Listed<Literal>,
+    out: &mut EffectParts,
     tokens: &'a [Token],
 ) -> Result<&'a [Token], SyntaxError>
     ensures { Gives (λ rest. (out.new, rest.now)) result (effect_at room out.old tokens.now) }
@@ -133,6 +134,8 @@ pub fn effect<'a>(
         effects(alloc, room - 1, out, behind(inside))
     } else if spells(TokenKind::Word, b"not", inside) {
         negative(alloc, out, behind(inside))
+    } else if spells(TokenKind::Word, b"increase", inside) {
+        add_increase(out, inside)
     } else {
         add_literal(alloc, false, out, inside)
     }
@@ -143,7 +146,7 @@ pub fn effect<'a>(
 fn all_effects<'a>(
     alloc: Global,
     room: u32,
-    out: &mut Listed<Literal>,
+    out: &mut EffectParts,
     tokens: &'a [Token],
 ) -> Result<&'a [Token], SyntaxError>
     ensures { Gives (λ rest. (out.new, rest.now)) result (all_of begins_open (effect_at room) out.old tokens.now) }
@@ -164,7 +167,7 @@ fn all_effects<'a>(
 fn effects<'a>(
     alloc: Global,
     room: u32,
-    out: &mut Listed<Literal>,
+    out: &mut EffectParts,
     tokens: &'a [Token],
 ) -> Result<&'a [Token], SyntaxError>
     ensures { Gives (λ rest. (out.new, rest.now)) result (effects_at (effect_at room) out.old tokens.now) }

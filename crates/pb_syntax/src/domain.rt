@@ -1,7 +1,8 @@
 ghost use Rattle.std.specs.Prelude.{◌≡◌, [], codes, drop, is_some, Ok};
-ghost use Rattle.pb_pddl.specs.Reading.{Gives, all_of, begins_open, requirements_section, types_section, constants_section, predicates_section, action_section, no_section, domain_key, domain_section, title_at, end_at, limited, domain_at};
+ghost use Rattle.pb_pddl.specs.Reading.{Gives, all_of, begins_open, requirements_section, types_section, constants_section, predicates_section, functions_section, action_section, no_section, domain_key, domain_section, title_at, end_at, limited, domain_at};
 
 use crate::action::{add_action, once, or_empty};
+use crate::costs::functions;
 use crate::lists::{keys, list, predicates};
 use crate::pieces::{begins, behind, fault, left_out, name, need, need_word, place, spells};
 use pb_pddl::{
@@ -74,6 +75,22 @@ fn predicates_section<'a>(
     Ok(rest)
 }
 
+#[tactic(auto, unfolding(pb_pddl::specs::Reading::functions_section))]
+fn functions_section<'a>(
+    out: &mut DomainParts,
+    tokens: &'a [Token],
+) -> Result<&'a [Token], SyntaxError>
+    ensures { Gives (λ rest. (out.new, rest.now)) result (functions_section out.old tokens.now) }
+{
+    if out.functions {
+        return Err(once(tokens));
+    }
+    let (has_cost, rest) = functions(behind(tokens))?;
+    out.functions = true;
+    out.has_cost = has_cost;
+    Ok(rest)
+}
+
 #[tactic(auto, unfolding(pb_pddl::specs::Reading::action_section))]
 fn action_section<'a>(
     alloc: Global,
@@ -114,6 +131,8 @@ fn domain_key<'a>(
         constants_section(alloc, out, tokens)
     } else if spells(TokenKind::Key, b":predicates", tokens) {
         predicates_section(alloc, out, tokens)
+    } else if spells(TokenKind::Key, b":functions", tokens) {
+        functions_section(out, tokens)
     } else if spells(TokenKind::Key, b":action", tokens) {
         action_section(alloc, out, tokens)
     } else {
@@ -195,6 +214,8 @@ pub fn domain(alloc: Global, tokens: &[Token]) -> Result<Domain, SyntaxError>
         types: None,
         constants: None,
         predicates: None,
+        functions: false,
+        has_cost: false,
         actions: Listed::new(alloc),
     };
     let rest = domain_sections(alloc, &mut all, rest)?;
@@ -206,5 +227,6 @@ pub fn domain(alloc: Global, tokens: &[Token]) -> Result<Domain, SyntaxError>
         constants: or_empty(alloc, all.constants),
         predicates: or_empty(alloc, all.predicates),
         actions: all.actions,
+        has_cost: all.has_cost,
     })
 }

@@ -1,9 +1,10 @@
-//! Reads the STRIPS and typing part of PDDL into trees, and refuses everything else by name and place.
+//! Reads the STRIPS and typing part of PDDL, and costs of actions, into trees, and refuses everything else by name and place.
 #![tactic(auto)]
 
 mod action;
 mod atoms;
 mod conditions;
+mod costs;
 mod domain;
 mod lists;
 mod pieces;
@@ -11,7 +12,7 @@ mod problem;
 mod reader;
 
 pub use pb_pddl::{
-    Action, Atom, Domain, LeftOut, Listed, Literal, Name, Predicate, Problem, SyntaxError, Term,
-    Text, Typed, Want,
+    Action, Atom, Cost, Domain, LeftOut, Listed, Literal, Name, Predicate, Problem, SyntaxError,
+    Term, Text, Typed, Want,
 };
 pub use reader::{read_domain, read_problem};

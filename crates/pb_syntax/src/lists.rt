@@ -1,10 +1,11 @@
 ghost use Rattle.std.specs.Prelude.{◌≡◌, ◌++◌, [], drop, OnOk, IfOk, Ok};
-ghost use Rattle.pb_pddl.specs.Reading.{Gives, all_of, begins_group, begins_key, begins_open, typed, type_at, close_group, group_step, list_at, add_key, keys_at, add_predicate, predicates_at, add_fact, facts_at};
+ghost use Rattle.pb_pddl.specs.Reading.{Gives, all_of, begins_group, begins_key, begins_open, typed, type_at, close_group, group_step, list_at, add_key, keys_at, add_predicate, predicates_at, add_held, add_fact, facts_at};
 
-use crate::conditions::add_atom;
-use crate::pieces::{begins, behind, copy_name, fault, first_name, left_out, name, need};
+use crate::atoms::atom;
+use crate::costs::add_equal;
+use crate::pieces::{begins, behind, copy_name, fault, first_name, left_out, name, need, spells};
 use pb_pddl::{
-    Atom, Group, LeftOut, Listed, Name, Predicate, SyntaxError, Token, TokenKind, Typed, Want,
+    Group, InitParts, LeftOut, Listed, Name, Predicate, SyntaxError, Token, TokenKind, Typed, Want,
 };
 use std::alloc::{AllocError, Global};
 
@@ -223,21 +224,39 @@ pub fn keys(alloc: Global, tokens: &[Token]) -> Result<&[Token], SyntaxError>
     need(TokenKind::Close, Want::Close, rest)
 }
 
+// Adds an atom of a state, behind its `(`.
+#[tactic(auto, unfolding(pb_pddl::specs::Reading::add_held))]
+fn add_held<'a>(
+    alloc: Global,
+    out: &mut InitParts,
+    tokens: &'a [Token],
+) -> Result<&'a [Token], SyntaxError>
+    ensures { Gives (λ rest. (out.new, rest.now)) result (add_held out.old tokens.now) }
+{
+    let (atom, rest) = atom(alloc, false, tokens)?;
+    out.atoms.push(atom)?;
+    Ok(rest)
+}
+
 #[tactic(auto, unfolding(pb_pddl::specs::Reading::add_fact))]
 fn add_fact<'a>(
     alloc: Global,
-    out: &mut Listed<Atom>,
+    out: &mut InitParts,
     tokens: &'a [Token],
 ) -> Result<&'a [Token], SyntaxError>
     ensures { Gives (λ rest. (out.new, rest.now)) result (add_fact out.old tokens.now) }
 {
     let inside = need(TokenKind::Open, Want::Paren, tokens)?;
-    add_atom(alloc, false, out, inside)
+    if spells(TokenKind::Equals, b"=", inside) {
+        add_equal(out, inside)
+    } else {
+        add_held(alloc, out, inside)
+    }
 }
 
 fn all_facts<'a>(
     alloc: Global,
-    out: &mut Listed<Atom>,
+    out: &mut InitParts,
     tokens: &'a [Token],
 ) -> Result<&'a [Token], SyntaxError>
     ensures { Gives (λ rest. (out.new, rest.now)) result (all_of begins_open add_fact out.old tokens.now) }
@@ -252,12 +271,15 @@ fn all_facts<'a>(
     Ok(rest)
 }
 
-// The atoms of a state, and the `)` behind them.
+// What stands in `:init`, and the `)` behind it.
 #[tactic(auto, unfolding(pb_pddl::specs::Reading::facts_at))]
-pub fn facts(alloc: Global, tokens: &[Token]) -> Result<(Listed<Atom>, &[Token]), SyntaxError>
+pub fn facts(alloc: Global, tokens: &[Token]) -> Result<(InitParts, &[Token]), SyntaxError>
     ensures { Gives (λ x. (x.0, x.1.now)) result (facts_at tokens.now) }
 {
-    let mut out = Listed::new(alloc);
+    let mut out = InitParts {
+        atoms: Listed::new(alloc),
+        costs: Listed::new(alloc),
+    };
     let rest = all_facts(alloc, &mut out, tokens)?;
     let rest = need(TokenKind::Close, Want::Paren, rest)?;
     Ok((out, rest))

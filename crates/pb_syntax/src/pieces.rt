@@ -1,6 +1,6 @@
 ghost use Rattle.std.specs.Prelude.{◌≡◌, codes, drop, IfOk, Ok};
 ghost use Rattle.std.specs.Str.{bytes_eq};
-ghost use Rattle.pb_pddl.specs.Reading.{Gives, kind_number, same_kind, front, begins, spells, is_reserved, refusal, fault_at, left_at, need, need_word, name_at, begins_term, term_of, begins_head, head_at, begins_group, begins_key, name_of};
+ghost use Rattle.pb_pddl.specs.Reading.{Gives, kind_number, same_kind, front, begins, spells, is_reserved, refusal, fault_at, left_at, need, need_word, begins_reserved, only_word, name_at, begins_term, term_of, begins_head, head_at, begins_group, begins_key, name_of};
 
 use pb_pddl::{LeftOut, Name, SyntaxError, Text, Token, TokenKind, Want};
 use std::alloc::{AllocError, Global};
@@ -161,6 +161,35 @@ pub fn need_word<'a>(text: &[u8], tokens: &'a [Token]) -> Result<&'a [Token], Sy
 {
     if spells(TokenKind::Word, text, tokens) {
         Ok(behind(tokens))
+    } else {
+        Err(fault(Want::Word, tokens))
+    }
+}
+
+// Whether the first token is a reserved head directly behind a `(`.
+#[tactic(auto, unfolding(pb_pddl::specs::Reading::begins_reserved, pb_pddl::specs::Reading::front))]
+fn begins_reserved(tokens: &[Token]) -> bool
+    ensures { result ≡ begins_reserved tokens.now }
+{
+    match tokens {
+        [] => false,
+        [token, ..] => token.head && is_reserved(token.text.as_slice()),
+    }
+}
+
+// Takes this word, where another is left out.
+#[tactic(auto, unfolding(pb_pddl::specs::Reading::only_word))]
+pub fn only_word<'a>(
+    text: &[u8],
+    what: LeftOut,
+    tokens: &'a [Token],
+) -> Result<&'a [Token], SyntaxError>
+    ensures { Gives (λ x. x.now) result (only_word text.now what tokens.now) }
+{
+    if spells(TokenKind::Word, text, tokens) {
+        Ok(behind(tokens))
+    } else if begins(TokenKind::Word, tokens) && !begins_reserved(tokens) {
+        Err(left_out(what, tokens))
     } else {
         Err(fault(Want::Word, tokens))
     }

@@ -1,13 +1,14 @@
 ghost use Rattle.std.specs.Prelude.{◌≡◌, [], codes, drop, is_some, Ok};
-ghost use Rattle.pb_pddl.specs.Reading.{Gives, all_of, begins_open, domain_name_section, problem_requirements, objects_section, init_section, goal_section, problem_key, problem_section, missing, there, stood_all, sections_want, limited, problem_at};
+ghost use Rattle.pb_pddl.specs.Reading.{Gives, all_of, begins_open, domain_name_section, problem_requirements, objects_section, init_section, goal_section, metric_section, problem_key, problem_section, missing, there, stood_all, sections_want, limited, problem_at};
 
 use crate::action::{DEEPEST, once, or_empty};
 use crate::conditions::cond;
+use crate::costs::total_cost;
 use crate::domain::{end, no_section, title};
 use crate::lists::{facts, keys, list};
-use crate::pieces::{begins, behind, fault, name, need, place, spells};
+use crate::pieces::{begins, behind, fault, name, need, only_word, place, spells};
 use pb_pddl::{
-    Atom, Listed, Name, Problem, ProblemParts, SyntaxError, Token, TokenKind, Typed, Want,
+    Atom, LeftOut, Listed, Name, Problem, ProblemParts, SyntaxError, Token, TokenKind, Typed, Want,
 };
 use std::alloc::Global;
 
@@ -72,7 +73,8 @@ fn init_section<'a>(
         return Err(once(tokens));
     }
     let (init, rest) = facts(alloc, behind(tokens))?;
-    out.init = Some(init);
+    out.init = Some(init.atoms);
+    out.costs = init.costs;
     Ok(rest)
 }
 
@@ -94,6 +96,23 @@ fn goal_section<'a>(
     Ok(rest)
 }
 
+#[tactic(auto, unfolding(pb_pddl::specs::Reading::metric_section))]
+fn metric_section<'a>(
+    out: &mut ProblemParts,
+    tokens: &'a [Token],
+) -> Result<&'a [Token], SyntaxError>
+    ensures { Gives (λ rest. (out.new, rest.now)) result (metric_section out.old tokens.now) }
+{
+    if out.metric.is_some() {
+        return Err(once(tokens));
+    }
+    let word = only_word(b"minimize", LeftOut::Metric, behind(tokens))?;
+    let (function, last) = total_cost(word)?;
+    let rest = need(TokenKind::Close, Want::Close, last)?;
+    out.metric = Some(function);
+    Ok(rest)
+}
+
 #[tactic(auto, unfolding(pb_pddl::specs::Reading::problem_key))]
 fn problem_key<'a>(
     alloc: Global,
@@ -112,6 +131,8 @@ fn problem_key<'a>(
         init_section(alloc, out, tokens)
     } else if spells(TokenKind::Key, b":goal", tokens) {
         goal_section(alloc, out, tokens)
+    } else if spells(TokenKind::Key, b":metric", tokens) {
+        metric_section(out, tokens)
     } else {
         Err(no_section(tokens))
     }
@@ -127,6 +148,7 @@ fn stood_all(parts: &ProblemParts) -> bool
         && parts.objects.is_some()
         && parts.init.is_some()
         && parts.goal.is_some()
+        && parts.metric.is_some()
 }
 
 // What is wanted behind these sections.
@@ -207,6 +229,8 @@ pub fn problem(alloc: Global, tokens: &[Token]) -> Result<Problem, SyntaxError>
         objects: None,
         init: None,
         goal: None,
+        costs: Listed::new(alloc),
+        metric: None,
     };
     let last = problem_sections(alloc, &mut all, rest)?;
     let rest = need(TokenKind::Close, sections_want(&all), last)?;
@@ -219,5 +243,7 @@ pub fn problem(alloc: Global, tokens: &[Token]) -> Result<Problem, SyntaxError>
         objects: or_empty(alloc, all.objects),
         init: or_empty(alloc, all.init),
         goal,
+        costs: all.costs,
+        metric: all.metric,
     })
 }

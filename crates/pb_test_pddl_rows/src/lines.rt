@@ -37,6 +37,13 @@ impl Lines {
         Ok(())
     }
 
+    // Adds a number, and the place where it stands.
+    pub(crate) fn placed(&mut self, number: u64, at: u64) -> Result<(), Memory> {
+        let text = format!(in self.alloc; " {number}@{at}")?;
+        self.text.push_str(text.as_str())?;
+        Ok(())
+    }
+
     // Adds a number, after a space and a mark.
     pub(crate) fn marked(&mut self, mark: &str, number: usize) -> Result<(), Memory> {
         let text = format!(in self.alloc; " {mark}{number}")?;

@@ -1,7 +1,9 @@
 //! Trees of PDDL texts as a line: each name with its place.
 use crate::lines::Lines;
 use pb_outside::Memory;
-use pb_syntax::{Action, Atom, Literal, Name, SyntaxError, Term, Typed, read_domain, read_problem};
+use pb_syntax::{
+    Action, Atom, Cost, Literal, Name, SyntaxError, Term, Typed, read_domain, read_problem,
+};
 use std::alloc::Global;
 
 fn add_name(lines: &mut Lines, name: &Name) -> Result<(), Memory> {
@@ -57,6 +59,15 @@ fn add_literals(lines: &mut Lines, literals: &[Literal]) -> Result<(), Memory> {
     Ok(())
 }
 
+fn add_costs(lines: &mut Lines, sign: &str, costs: &[Cost]) -> Result<(), Memory> {
+    for cost in costs {
+        lines.name(sign.as_bytes(), cost.at)?;
+        lines.name(b"total-cost", cost.function)?;
+        lines.placed(cost.number, cost.number_at)?;
+    }
+    Ok(())
+}
+
 fn add_action(lines: &mut Lines, action: &Action) -> Result<(), Memory> {
     lines.word("action")?;
     add_name(lines, &action.name)?;
@@ -64,7 +75,8 @@ fn add_action(lines: &mut Lines, action: &Action) -> Result<(), Memory> {
     lines.word("if")?;
     add_atoms(lines, action.pre.as_slice())?;
     lines.word("then")?;
-    add_literals(lines, action.effect.as_slice())
+    add_literals(lines, action.effect.as_slice())?;
+    add_costs(lines, "increase", action.costs.as_slice())
 }
 
 pub(crate) fn domain_line(alloc: Global, text: &[u8]) -> Result<Option<Lines>, Memory> {
@@ -83,6 +95,9 @@ pub(crate) fn domain_line(alloc: Global, text: &[u8]) -> Result<Option<Lines>, M
         lines.word("predicate")?;
         add_name(&mut lines, &predicate.name)?;
         add_all_typed(&mut lines, predicate.params.as_slice())?;
+    }
+    if domain.has_cost {
+        lines.word("functions total-cost")?;
     }
     for action in domain.actions.as_slice() {
         add_action(&mut lines, action)?;
@@ -105,8 +120,13 @@ pub(crate) fn problem_line(alloc: Global, text: &[u8]) -> Result<Option<Lines>, 
     add_all_typed(&mut lines, problem.objects.as_slice())?;
     lines.word("init")?;
     add_atoms(&mut lines, problem.init.as_slice())?;
+    add_costs(&mut lines, "=", problem.costs.as_slice())?;
     lines.word("goal")?;
     add_atoms(&mut lines, problem.goal.as_slice())?;
+    if let Some(at) = problem.metric {
+        lines.word("metric")?;
+        lines.name(b"total-cost", at)?;
+    }
     lines.end()?;
     Ok(Some(lines))
 }
