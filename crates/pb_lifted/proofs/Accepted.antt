@@ -22,6 +22,7 @@ use Rattle.pb_lifted.specs.Refusals as refusals
 use Rattle.pb_lifted.specs.Space.{FitsParameter}
 use Rattle.pb_lifted.specs.Typing.{ArgumentsFit, AtomFits, IsRooted, KindIsKnown, ActionFits, IsWellTyped, WellTypedIsAccepted}
 use Rattle.pb_lifted.proofs.Faultless.{both_nil, all_nil, AllFaultless, not_refused}
+use Rattle.pb_lifted.proofs.FittingCosts.{all_declared, none_again, all_in_range, none_zero}
 use Rattle.pb_lifted.proofs.DistinctNames.{none_twice, no_constant_twice, no_object_twice}
 use Rattle.pb_lifted.proofs.TypeTree.{same_text, self_text}
 use Rattle.pb_lifted.proofs.NamesUp.{object_is_reached}
@@ -214,7 +215,19 @@ free domain problem typed =
                   (actions.2, atoms.2),
                   (
                     (actions.3, atoms.3),
-                    ((none_wide domain problem typed, refl), not_many (length (objects_of domain problem)) typed.few),
+                    (
+                      (none_wide domain problem typed, refl),
+                      (
+                        all_declared domain problem typed.costs,
+                        (
+                          none_again domain problem typed.costs,
+                          (
+                            all_in_range domain problem typed.costs,
+                            (none_zero domain problem typed.costs, not_many (length (objects_of domain problem)) typed.few),
+                          ),
+                        ),
+                      ),
+                    ),
                   ),
                 ),
               ),

@@ -37,7 +37,7 @@ ground_goal_is_goal domain problem now state accepted same =
 -- ---- an action and its schema
 
 abbrev pub schema_in : Domain → Problem → Action → Schema
-schema_in domain problem action = schema_of (type_names domain.types) (predicate_names domain) (object_names domain problem) action
+schema_in domain problem action = schema_of problem (type_names domain.types) (predicate_names domain) (object_names domain problem) action
 
 -- what an action and its schema say of the same objects
 pub record Says (domain : Domain) (problem : Problem) (action : Action) (given : List ℕ) : Type 0 where

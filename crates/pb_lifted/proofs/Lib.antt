@@ -4,6 +4,7 @@ pub mod DistinctNames
 pub mod Earliest
 pub mod FarEnough
 pub mod Faultless
+pub mod FittingCosts
 pub mod FittingObjects
 pub mod Found
 pub mod GroundSteps
@@ -11,6 +12,7 @@ pub mod InOrder
 pub mod KnownNames
 pub mod NamesUp
 pub mod Numbering
+pub mod SameCosts
 pub mod SameFacts
 pub mod SamePlans
 pub mod TwinAtoms

@@ -22,6 +22,7 @@ use Rattle.pb_lifted.specs.Refusals as refusals
 use Rattle.pb_lifted.specs.Space.{FitsParameter}
 use Rattle.pb_lifted.specs.Typing.{AreDistinct, object_names, PredicateFits, ArgumentsFit, AtomFits, IsRooted, KindIsKnown, ActionFits, AcceptedIsWellTyped}
 use Rattle.pb_lifted.proofs.Faultless.{nil_left, nil_right, each_nil, no_fault, not_false, AllFaultless, faultless}
+use Rattle.pb_lifted.proofs.FittingCosts.{costs_fit}
 use Rattle.pb_lifted.proofs.DistinctNames.{objects_distinct, declared_once}
 use Rattle.pb_lifted.proofs.TypeTree.{same_text, self_text}
 
@@ -207,7 +208,7 @@ accepted_is_well_typed domain problem accepted =
     let free : fault_free domain problem = faultless refusals.causes_in_order domain problem accepted in
     record {
       same_domain = same_domain domain problem free;
-      few = few_enough (length (objects_of domain problem)) free.1.1.1.1.1.1.1.1.1;
+      few = few_enough (length (objects_of domain problem)) free.1.1.1.1.1.1.1.1.1.1.1.1.1;
       rooted = rooted domain problem free;
       distinct_types = declared_once refusals.typed_name (declared_types domain.types) (nil_left _ _ (nil_left _ _ (nil_left _ _ (nil_left _ _ free.1.0.0))));
       distinct_predicates = declared_once refusals.predicate_name domain.predicates (nil_right _ _ (nil_left _ _ (nil_left _ _ free.1.0.0)));
@@ -222,4 +223,7 @@ accepted_is_well_typed domain problem accepted =
       goal =
           atoms_fit domain problem [] problem.goal
           (right_none (λ c. refusals.in_atoms c domain problem [] problem.init) (λ c. refusals.in_atoms c domain problem [] problem.goal) (problem_atoms domain problem free));
+      costs =
+          let costs = free.1.1.1.1.1.1.1.1.1 in
+          costs_fit domain problem costs.0.0 costs.0.1 costs.1.0.0 costs.1.0.1 costs.1.1.0.0 costs.1.1.0.1 costs.1.1.1.0.0;
     }

@@ -14,4 +14,5 @@ pub mod Numbers
 pub mod Names
 pub mod Types
 pub mod Objects
+pub mod Costs
 pub mod Refusals

@@ -17,6 +17,7 @@ use Rattle.pb_lifted.specs.declared.lifted.Lifted.{Lifted}
 use Rattle.pb_lifted.specs.Names.{number_of}
 use Rattle.pb_lifted.specs.Types.{name_text, kind_text, type_names}
 use Rattle.pb_lifted.specs.Objects.{objects_of}
+use Rattle.pb_lifted.specs.Costs.{cost_of}
 use Rattle.pb_lifted.specs.Tree.{parent_numbers}
 use Rattle.pb_lifted.specs.Tables.{predicate_text}
 
@@ -50,18 +51,19 @@ atom_if false predicates objects params literal = cond literal.negated [] (atom_
 abbrev pub effect_of : Bool → List (List ℕ) → List (List ℕ) → List (List ℕ) → List Literal → List LiftedAtom
 effect_of negated predicates objects params effect = flat_map (λ l. atom_if negated predicates objects params l) effect
 
-abbrev pub schema_of : List (List ℕ) → List (List ℕ) → List (List ℕ) → Action → Schema
-schema_of types predicates objects action =
+abbrev pub schema_of : Problem → List (List ℕ) → List (List ℕ) → List (List ℕ) → Action → Schema
+schema_of problem types predicates objects action =
     let params = map name_text action.params in
     record {
       params = kind_numbers types action.params;
       pre = atoms_of predicates objects params action.pre;
       adds = effect_of false predicates objects params action.effect;
       deletes = effect_of true predicates objects params action.effect;
+      cost = cost_of problem action;
     }
 
-abbrev pub schemas_of : List (List ℕ) → List (List ℕ) → List (List ℕ) → List Action → List Schema
-schemas_of types predicates objects actions = map (λ a. schema_of types predicates objects a) actions
+abbrev pub schemas_of : Problem → List (List ℕ) → List (List ℕ) → List (List ℕ) → List Action → List Schema
+schemas_of problem types predicates objects actions = map (λ a. schema_of problem types predicates objects a) actions
 
 abbrev pub predicate_kinds : List (List ℕ) → List Predicate → List (List ℕ)
 predicate_kinds types predicates = map (λ p. kind_numbers types p.params) predicates
@@ -75,7 +77,7 @@ lifted_of domain problem =
       types = parent_numbers types domain.types;
       objects = kind_numbers types (objects_of domain problem);
       predicates = predicate_kinds types domain.predicates;
-      actions = schemas_of types predicates objects domain.actions;
+      actions = schemas_of problem types predicates objects domain.actions;
       init = atoms_of predicates objects [] problem.init;
       goal = atoms_of predicates objects [] problem.goal;
     }

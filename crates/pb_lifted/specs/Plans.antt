@@ -1,13 +1,15 @@
--- Plans of a domain and a problem, by names and by numbers.
+-- Plans of a domain and a problem, by names and by numbers, and what they cost.
 use Rattle.std.specs.Prelude.{◌≡◌, ℕ, List, [], ◌∷◌, map, None}
+use Rattle.std.specs.List.{sum_by}
 use Rattle.pb_pddl.specs.declared.tree.Domain.{Domain}
 use Rattle.pb_pddl.specs.declared.tree.Problem.{Problem}
 use Rattle.pb_lifted.specs.declared.lifted.Lifted.{Lifted}
+use Rattle.pb_lifted.specs.Costs.{cost_at}
 use Rattle.pb_lifted.specs.Lifted.{lifted_of}
 use Rattle.pb_lifted.specs.Refusals.{first_refusal}
 use Rattle.pb_lifted.specs.Space.{Fact, State, IsStep, start_of, IsGoal}
 use Rattle.pb_lifted.specs.Typing.{named}
-use Rattle.pb_lifted.specs.Steps.{GroundFact, GroundState, IsGroundStep, ground_start, IsGroundGoal}
+use Rattle.pb_lifted.specs.Steps.{GroundFact, GroundState, IsGroundStep, ground_start, IsGroundGoal, ground_cost}
 
 -- an action by its place in the domain, with the names of its objects
 abbrev pub NamedAction : Type 0
@@ -22,6 +24,14 @@ Leads domain problem state (a ∷ actions) last = (next : State) × IsStep domai
 abbrev pub IsPlan : Domain → Problem → List NamedAction → Type 0
 IsPlan domain problem actions = (last : State) × Leads domain problem (start_of problem) actions last × IsGoal problem last
 
+-- what an action costs, whatever its objects
+abbrev pub step_cost : Domain → Problem → NamedAction → ℕ
+step_cost domain problem a = cost_at domain problem a.0
+
+-- what the actions cost together
+abbrev pub plan_cost : Domain → Problem → List NamedAction → ℕ
+plan_cost domain problem actions = sum_by (step_cost domain problem) actions
+
 -- a schema by its place, with the numbers of its objects
 abbrev pub GroundAction : Type 0
 GroundAction = ℕ × List ℕ
@@ -32,6 +42,9 @@ GroundLeads lifted state (a ∷ actions) last = (next : GroundState) × IsGround
 
 abbrev pub IsGroundPlan : Lifted → List GroundAction → Type 0
 IsGroundPlan lifted actions = (last : GroundState) × GroundLeads lifted (ground_start lifted) actions last × IsGroundGoal lifted last
+
+abbrev pub ground_plan_cost : Lifted → List GroundAction → ℕ
+ground_plan_cost lifted actions = sum_by (λ (a : GroundAction). ground_cost lifted a.0) actions
 
 abbrev pub name_action : Domain → Problem → GroundAction → NamedAction
 name_action domain problem a = (a.0, named domain problem a.1)
@@ -47,3 +60,9 @@ abbrev pub PlansAreGroundPlans : Type 0
 PlansAreGroundPlans =
     (domain : Domain) (problem : Problem) (actions : List NamedAction) → first_refusal domain problem ≡ None → IsPlan domain problem actions
     → (ground : List GroundAction) × (actions ≡ map (name_action domain problem) ground) × IsGroundPlan (lifted_of domain problem) ground
+
+-- The same actions cost the same, by numbers and by names.
+abbrev pub GroundPlansCostTheSame : Type 0
+GroundPlansCostTheSame =
+    (domain : Domain) (problem : Problem) (actions : List GroundAction)
+    → ground_plan_cost (lifted_of domain problem) actions ≡ plan_cost domain problem (map (name_action domain problem) actions)

@@ -1,4 +1,4 @@
--- Why a domain and a problem are no task: for each cause the places of the names where it applies, and the first of all.
+-- Why a domain and a problem are no task: for each cause the places where it applies, and the first of all.
 use Rattle.std.specs.Prelude.{◌≡◌, ℕ, Bool, true, not, nat_lt, nat_eq, if◌then◌else◌, List, [], ◌∷◌, ◌++◌, length, map, flat_map, Option, Some, None, is_none}
 use Rattle.std.specs.Str.{bytes_eq}
 use Rattle.pb_pddl.specs.declared.tree.Name.{Name}
@@ -21,6 +21,7 @@ use Rattle.pb_lifted.specs.declared.refusal.LiftedError.TheVariants as errors
 use Rattle.pb_lifted.specs.Names.{fault_if, repeated, earliest}
 use Rattle.pb_lifted.specs.Types.{name_text, kind_text, declared_types, cyclic_types, unknown_kinds, is_below}
 use Rattle.pb_lifted.specs.Objects.{objects_of, predicate_of, entry_of_term, term_name}
+use Rattle.pb_lifted.specs.Costs.{undeclared, undeclared_metric, costs_again, too_great, zero_cost}
 
 -- ---- in an atom, whose variables are these parameters
 
@@ -94,6 +95,10 @@ in_predicate cause types predicate = []
 abbrev pub in_action : Cause → Domain → Problem → Action → List ℕ
 in_action causes.UnknownType domain problem action = unknown_kinds domain.types action.params
 in_action causes.TooWide domain problem action = too_wide action.name action.params
+in_action causes.NoFunction domain problem action = undeclared domain.has_cost action.costs
+in_action causes.CostTwice domain problem action = costs_again action.costs
+in_action causes.CostRange domain problem action = too_great 1048576 action.costs
+in_action causes.ZeroCost domain problem action = zero_cost problem.metric action
 in_action cause domain problem action =
     in_atoms cause domain problem action.params action.pre ++ in_effect cause domain problem action.params action.effect
 
@@ -122,6 +127,10 @@ in_problem causes.Twice domain problem = repeated (map name_text domain.constant
 in_problem causes.UnknownType domain problem = unknown_kinds domain.types problem.objects
 in_problem causes.TypeCycle domain problem = []
 in_problem causes.TooWide domain problem = []
+in_problem causes.NoFunction domain problem = undeclared domain.has_cost problem.costs ++ undeclared_metric domain.has_cost problem.metric
+in_problem causes.CostTwice domain problem = costs_again problem.costs
+in_problem causes.CostRange domain problem = too_great 0 problem.costs
+in_problem causes.ZeroCost domain problem = []
 in_problem cause domain problem = in_atoms cause domain problem [] problem.init ++ in_atoms cause domain problem [] problem.goal
 
 -- ---- the first of all
@@ -139,7 +148,7 @@ first_place cause domain problem = place_in (earliest None (in_domain cause doma
 abbrev pub causes_in_order : List Cause
 causes_in_order =
     causes.DomainName ∷ causes.Twice ∷ causes.UnknownType ∷ causes.TypeCycle ∷ causes.UnknownPredicate ∷ causes.Arity ∷ causes.UnknownObject ∷ causes.WrongType
-    ∷ causes.TooWide ∷ []
+    ∷ causes.TooWide ∷ causes.NoFunction ∷ causes.CostTwice ∷ causes.CostRange ∷ causes.ZeroCost ∷ []
 
 abbrev pub or_refusal : Cause → Option Place → Option TypingRefusal → Option TypingRefusal
 or_refusal cause None later = later

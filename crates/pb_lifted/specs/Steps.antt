@@ -1,7 +1,8 @@
 -- A lifted task as a state space, by numbers, and that it is the state space by names.
-use Rattle.std.specs.Prelude.{◌≡◌, ◌<◌, ◌↔◌, ℕ, Bool, true, not, ◌&&◌, ◌||◌, nat_eq, List, [], ◌∷◌, length, map, Some, None, slice_index}
+use Rattle.std.specs.Prelude.{◌≡◌, ◌<◌, ◌≤◌, ◌^◌, ◌↔◌, ℕ, Bool, true, not, ◌&&◌, ◌||◌, nat_eq, List, [], ◌∷◌, length, map, Option, Some, None, slice_index}
 use Rattle.std.specs.List.{list_any, list_all, slice_get}
 use Rattle.std.specs.Cmp.Lexicographic.{pointwise}
+use Rattle.pb_pddl.specs.declared.tree.Action.{Action}
 use Rattle.pb_pddl.specs.declared.tree.Domain.{Domain}
 use Rattle.pb_pddl.specs.declared.tree.Problem.{Problem}
 use Rattle.pb_lifted.specs.declared.lifted.LiftedAtom.{LiftedAtom}
@@ -9,6 +10,7 @@ use Rattle.pb_lifted.specs.declared.lifted.Schema.{Schema}
 use Rattle.pb_lifted.specs.declared.lifted.Lifted.{Lifted}
 use Rattle.pb_lifted.specs.Names.{is_among}
 use Rattle.pb_lifted.specs.Tree.{comes_to}
+use Rattle.pb_lifted.specs.Costs.{cost_at}
 use Rattle.pb_lifted.specs.Lifted.{number, lifted_of}
 use Rattle.pb_lifted.specs.Refusals.{first_refusal}
 use Rattle.pb_lifted.specs.Facts.{value_of}
@@ -66,6 +68,14 @@ pub record IsGroundStep (lifted : Lifted) (state : GroundState) (i : ℕ) (given
   pub applicable : AllGroundHold state (ground_all given schema.pre)
   pub result : (f : GroundFact) → next f ≡ ground_after state (ground_all given schema.deletes) (ground_all given schema.adds) f
 
+-- what schema i costs; there is none behind the last, and it costs nothing
+abbrev pub cost_of_schema : Option Schema → ℕ
+cost_of_schema None = 0
+cost_of_schema (Some schema) = schema.cost
+
+abbrev pub ground_cost : Lifted → ℕ → ℕ
+ground_cost lifted i = cost_of_schema (slice_get lifted.actions i)
+
 abbrev pub ground_start : Lifted → GroundState
 ground_start lifted f = is_ground_in f (ground_all [] lifted.init)
 
@@ -110,3 +120,13 @@ abbrev pub GroundGoalIsGoal : Type 0
 GroundGoalIsGoal =
     (domain : Domain) (problem : Problem) (now : GroundState) (state : State) → first_refusal domain problem ≡ None → IsSameState domain problem now state
     → IsGroundGoal (lifted_of domain problem) now ↔ IsGoal problem state
+
+-- A schema costs what its action costs.
+abbrev pub SchemasCostTheSame : Type 0
+SchemasCostTheSame = (domain : Domain) (problem : Problem) (i : ℕ) → ground_cost (lifted_of domain problem) i ≡ cost_at domain problem i
+
+-- Where nothing is refused, each action of the domain costs 1 to 2^20.
+abbrev pub CostsAreInRange : Type 0
+CostsAreInRange =
+    (domain : Domain) (problem : Problem) (i : ℕ) (action : Action) → first_refusal domain problem ≡ None → slice_get domain.actions i ≡ Some action
+    → (1 ≤ cost_at domain problem i) × (cost_at domain problem i ≤ 2 ^ 20)

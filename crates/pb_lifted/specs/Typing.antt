@@ -1,11 +1,12 @@
 -- What a domain and a problem are that are not refused, and no others: names are distinct and known, types lead to object, arguments are as
--- many as parameters and of their types, and the limits are kept.
-use Rattle.std.specs.Prelude.{◌≡◌, ◌<◌, ◌≤◌, ℕ, true, List, [], ◌∷◌, length, map, Some, None, All}
+-- many as parameters and of their types, the limits are kept, and costs are declared and at least 1.
+use Rattle.std.specs.Prelude.{◌≡◌, ◌<◌, ◌≤◌, ◌^◌, ℕ, true, false, List, [], ◌∷◌, length, map, Some, None, All}
 use Rattle.pb_pddl.specs.declared.tree.Typed.{Typed}
 use Rattle.pb_pddl.specs.declared.tree.Term.{Term}
 use Rattle.pb_pddl.specs.declared.tree.Atom.{Atom}
 use Rattle.pb_pddl.specs.declared.tree.Literal.{Literal}
 use Rattle.pb_pddl.specs.declared.tree.Predicate.{Predicate}
+use Rattle.pb_pddl.specs.declared.tree.Cost.{Cost}
 use Rattle.pb_pddl.specs.declared.tree.Action.{Action}
 use Rattle.pb_pddl.specs.declared.tree.Domain.{Domain}
 use Rattle.pb_pddl.specs.declared.tree.Problem.{Problem}
@@ -13,6 +14,7 @@ use Rattle.pb_lifted.specs.Names.{number_of, is_among}
 use Rattle.pb_lifted.specs.Types.{object, name_text, kind_text, declared_types, type_names, ancestor}
 use Rattle.pb_lifted.specs.Objects.{objects_of, predicate_of, entry_of_term}
 use Rattle.pb_lifted.specs.Tables.{predicate_text}
+use Rattle.pb_lifted.specs.Costs.{cost_of}
 use Rattle.pb_lifted.specs.Lifted.{atom_of}
 use Rattle.pb_lifted.specs.Refusals.{first_refusal}
 use Rattle.pb_lifted.specs.Space.{FitsParameter, fact_of}
@@ -79,8 +81,24 @@ pub record PredicateFits (domain : Domain) (predicate : Predicate) : Type 0 wher
   pub narrow : length predicate.params ≤ 16
   pub params : All (KindIsKnown domain.types) predicate.params
 
+-- nothing is said of costs: no increase, no number at first and no metric
+pub record HasNoCosts (domain : Domain) (problem : Problem) : Type 0 where
+  pub increases : All (λ (a : Action). a.costs ≡ []) domain.actions
+  pub initial : problem.costs ≡ []
+  pub metric : problem.metric ≡ None
+
+-- Costs are declared, if anything is said of them. An action has at most one increase, of at most 2^20, and costs at least 1. At first the cost is
+-- set at most once, to 0.
+pub record CostsFit (domain : Domain) (problem : Problem) : Type 0 where
+  pub declared : domain.has_cost ≡ false → HasNoCosts domain problem
+  pub once : All (λ (a : Action). length a.costs ≤ 1) domain.actions
+  pub few : All (λ (a : Action). All (λ (c : Cost). c.number ≤ 2 ^ 20) a.costs) domain.actions
+  pub some : All (λ (a : Action). 1 ≤ cost_of problem a) domain.actions
+  pub once_at_first : length problem.costs ≤ 1
+  pub none_at_first : All (λ (c : Cost). c.number ≡ 0) problem.costs
+
 -- The problem is of the domain of this name. There are at most 1,000 objects. No two types, predicates, actions or objects have one name.
--- All types lead to object, and those of objects are known. Predicates, actions and all atoms fit.
+-- All types lead to object, and those of objects are known. Predicates, actions, all atoms and costs fit.
 pub record IsWellTyped (domain : Domain) (problem : Problem) : Type 0 where
   pub same_domain : problem.domain.text ≡ domain.name.text
   pub few : length (objects_of domain problem) ≤ 1000
@@ -94,6 +112,7 @@ pub record IsWellTyped (domain : Domain) (problem : Problem) : Type 0 where
   pub actions : All (ActionFits domain problem) domain.actions
   pub init : All (AtomFits domain problem []) problem.init
   pub goal : All (AtomFits domain problem []) problem.goal
+  pub costs : CostsFit domain problem
 
 -- What is not refused is well typed.
 abbrev pub AcceptedIsWellTyped : Type 0

@@ -1,10 +1,12 @@
 -- Worked rows of the definitions, over small trees. A name's place is the byte where it begins in the text that is quoted.
-use Rattle.std.specs.Prelude.{◌≡◌, ℕ, true, false, List, [], ◌∷◌, codes, Some, None}
+use Rattle.std.specs.Prelude.{◌≡◌, ◌+◌, ℕ, Bool, true, false, List, [], ◌∷◌, codes, Option, Some, None}
 use Rattle.pb_pddl.specs.declared.tree.Name.{Name}
 use Rattle.pb_pddl.specs.declared.tree.Typed.{Typed}
 use Rattle.pb_pddl.specs.declared.tree.Term.TheVariants as terms
 use Rattle.pb_pddl.specs.declared.tree.Atom.{Atom}
+use Rattle.pb_pddl.specs.declared.tree.Cost.{Cost}
 use Rattle.pb_pddl.specs.declared.tree.Literal.{Literal}
+use Rattle.pb_pddl.specs.declared.tree.Action.{Action}
 use Rattle.pb_pddl.specs.declared.tree.Domain.{Domain}
 use Rattle.pb_pddl.specs.declared.tree.Problem.{Problem}
 use Rattle.pb_lifted.specs.declared.refusal.Cause.TheVariants as causes
@@ -16,6 +18,7 @@ use Rattle.pb_lifted.specs.declared.lifted.LiftedAtom.{LiftedAtom}
 use Rattle.pb_lifted.specs.declared.lifted.Lifted.{Lifted}
 use Rattle.pb_lifted.specs.Names.{repeated, earliest}
 use Rattle.pb_lifted.specs.Types.{object, is_below, cyclic_types}
+use Rattle.pb_lifted.specs.Costs.{cost_of, costs_again}
 use Rattle.pb_lifted.specs.Refusals.{place_in, first_refusal}
 use Rattle.pb_lifted.specs.Lifted.{lifted_of}
 use Rattle.pb_lifted.specs.Space.{Fact, State, after, added, deleted}
@@ -89,7 +92,8 @@ turning =
       types = vehicles;
       constants = [];
       predicates = record { name = name (codes "parked") 30; params = under (name (codes "?v") 37) (name (codes "vehicle") 42) ∷ [] } ∷ [];
-      actions = record { name = name (codes "turn") 48; params = one_car; pre = parked ∷ []; effect = parks_again } ∷ [];
+      actions = record { name = name (codes "turn") 48; params = one_car; pre = parked ∷ []; effect = parks_again; costs = [] } ∷ [];
+      has_cost = false;
     }
 
 -- (parked c1), c1 being of this type
@@ -101,6 +105,8 @@ turning_problem kind =
       objects = under (name (codes "c1") 40) (name kind 45) ∷ [];
       init = record { predicate = name (codes "parked") 60; terms = terms.Object (name (codes "c1") 67) ∷ [] } ∷ [];
       goal = [];
+      costs = [];
+      metric = None;
     }
 
 abbrev pub parked_by_number : LiftedAtom
@@ -114,7 +120,7 @@ TurningIsLifted =
       types = 0 ∷ 2 ∷ 0 ∷ [];
       objects = 1 ∷ [];
       predicates = (2 ∷ []) ∷ [];
-      actions = record { params = 1 ∷ []; pre = parked_by_number ∷ []; adds = parked_by_number ∷ []; deletes = parked_by_number ∷ [] } ∷ [];
+      actions = record { params = 1 ∷ []; pre = parked_by_number ∷ []; adds = parked_by_number ∷ []; deletes = parked_by_number ∷ []; cost = 1 } ∷ [];
       init = record { predicate = 0; arguments = arguments.Object 0 ∷ [] } ∷ [];
       goal = [];
     }
@@ -134,3 +140,51 @@ DeletedAndAddedHolds =
     (state : State)
     → (after state (deleted one_car c1 parks_again) (added one_car c1 parks_again) fact ≡ true)
     × (state fact ≡ true → after state (deleted one_car c1 parks_again) [] fact ≡ false)
+
+-- ---- costs
+
+-- (WORD (total-cost) NUMBER), the word at this place: `increase` has eight letters and `=` one
+abbrev pub cost : (at letters number : ℕ) → Cost
+cost at letters number = record { at = at; function = at + letters + 2; number = number; number_at = at + letters + 14 }
+
+-- an action buy at 100 with an increase at 130, and one without, wait at 200
+abbrev pub buy : (number : ℕ) → Action
+buy number = record { name = name (codes "buy") 100; params = []; pre = []; effect = []; costs = cost 130 8 number ∷ [] }
+
+abbrev pub wait : Action
+wait = record { name = name (codes "wait") 200; params = []; pre = []; effect = []; costs = [] }
+
+abbrev pub shop : (has_cost : Bool) → (number : ℕ) → Domain
+shop has_cost number =
+    record { name = name (codes "shop") 8; types = []; constants = []; predicates = []; actions = buy number ∷ wait ∷ []; has_cost = has_cost }
+
+-- (= (total-cost) NUMBER) at 60, and a metric or none
+abbrev pub shopping : (number : ℕ) → (metric : Option ℕ) → Problem
+shopping number metric =
+    record {
+      name = name (codes "p") 9;
+      domain = name (codes "shop") 20;
+      objects = [];
+      init = [];
+      goal = [];
+      costs = cost 60 1 number ∷ [];
+      metric = metric;
+    }
+
+-- Without a metric each action costs 1, with one the number of its increase.
+abbrev pub MetricDecides : Type 0
+MetricDecides =
+    (cost_of (shopping 0 None) (buy 5) ≡ 1) × (cost_of (shopping 0 None) wait ≡ 1) × (cost_of (shopping 0 (Some 90)) (buy 5) ≡ 5)
+    × (first_refusal (shop true 5) (shopping 0 None) ≡ None)
+
+-- Each cause of costs has its place, and an earlier cause comes before a later one. A second cost is told, and a third.
+abbrev pub CostsAreRefused : Type 0
+CostsAreRefused =
+    let metric : Option ℕ = Some 90 in let in_domain : ℕ → Place = λ at. record { file = files.Domain; at = at } in
+    let in_problem : ℕ → Place = λ at. record { file = files.Problem; at = at } in
+    (first_refusal (shop false 0) (shopping 1 metric) ≡ Some (refusals.Named causes.NoFunction (in_domain 140)))
+    × (first_refusal (shop true 1048577) (shopping 1 metric) ≡ Some (refusals.Named causes.CostRange (in_domain 152)))
+    × (first_refusal (shop true 1048576) (shopping 1 metric) ≡ Some (refusals.Named causes.CostRange (in_problem 75)))
+    × (first_refusal (shop true 0) (shopping 0 metric) ≡ Some (refusals.Named causes.ZeroCost (in_domain 152)))
+    × (first_refusal (shop true 1) (shopping 0 metric) ≡ Some (refusals.Named causes.ZeroCost (in_domain 200)))
+    × (costs_again (cost 10 8 1 ∷ cost 50 8 2 ∷ cost 90 8 3 ∷ []) ≡ 50 ∷ 90 ∷ [])

@@ -14,7 +14,7 @@ use pb_pddl::{Domain, Problem};
 use std::alloc::Global;
 
 /// The causes that have a place, in the order in which they are told.
-const ORDER: [Cause; 9] = [
+const ORDER: [Cause; 13] = [
     Cause::DomainName,
     Cause::Twice,
     Cause::UnknownType,
@@ -24,6 +24,10 @@ const ORDER: [Cause; 9] = [
     Cause::UnknownObject,
     Cause::WrongType,
     Cause::TooWide,
+    Cause::NoFunction,
+    Cause::CostTwice,
+    Cause::CostRange,
+    Cause::ZeroCost,
 ];
 
 /// How many objects there may be.

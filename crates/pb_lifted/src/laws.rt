@@ -1,10 +1,10 @@
-ghost use Rattle.pb_lifted.specs.Plans.{GroundPlansArePlans, PlansAreGroundPlans};
+ghost use Rattle.pb_lifted.specs.Plans.{GroundPlansArePlans, PlansAreGroundPlans, GroundPlansCostTheSame};
 ghost use Rattle.pb_lifted.specs.InstanceTypes.{InstancesAreTyped, StartIsTyped, GoalIsTyped};
 ghost use Rattle.pb_lifted.specs.WaysUp.{MoreStepsChangeNothing, MoreStepsOfNumbersChangeNothing, ObjectIsReached, BelowIsReflexive, BelowIsTransitive};
-ghost use Rattle.pb_lifted.specs.WorkedRows.{SubtypeIsBelow, CycleIsFound, RepeatedNamesAreFound, DomainComesFirst, TurningIsLifted, WrongTypeIsRefused, DeletedAndAddedHolds};
+ghost use Rattle.pb_lifted.specs.WorkedRows.{SubtypeIsBelow, CycleIsFound, RepeatedNamesAreFound, DomainComesFirst, TurningIsLifted, WrongTypeIsRefused, DeletedAndAddedHolds, MetricDecides, CostsAreRefused};
 ghost use Rattle.pb_lifted.specs.Facts.{NumbersKeepFacts};
 ghost use Rattle.pb_lifted.specs.Typing.{AcceptedIsWellTyped, WellTypedIsAccepted, FittingAtomsKeepFacts};
-ghost use Rattle.pb_lifted.specs.Steps.{GroundStepsAreSteps, StepsAreGroundSteps, GroundStartIsStart, GroundGoalIsGoal};
+ghost use Rattle.pb_lifted.specs.Steps.{GroundStepsAreSteps, StepsAreGroundSteps, GroundStartIsStart, GroundGoalIsGoal, SchemasCostTheSame, CostsAreInRange};
 
 /// An atom of known names stands for one fact, by numbers and by names, whatever objects are given to the parameters.
 pub fn numbers_keep_facts()
@@ -38,6 +38,14 @@ pub fn numbers_keep_plans()
     ensures by_numbers { PlansAreGroundPlans }
 {}
 
+/// A schema costs what its action costs by the trees, and so plans by numbers what they cost by names. Where nothing is refused, each
+/// action costs 1 to 2^20.
+pub fn numbers_keep_costs()
+    ensures schemas { SchemasCostTheSame }
+    ensures plans { GroundPlansCostTheSame }
+    ensures range { CostsAreInRange }
+{}
+
 /// Where nothing is refused, what the instances of a lifted task need, add and delete, what holds at first and what the goal asks are facts
 /// of declared predicates, each object of its parameter's type or of one below.
 pub fn instances_are_typed()
@@ -57,7 +65,7 @@ pub fn ways_up_are_far_enough()
 {}
 
 /// The definitions on small trees: a subtype, types in a circle, a name that stands twice, a task and its numbers, an argument of a wrong
-/// type, and a fact that is deleted and added.
+/// type, a fact that is deleted and added, and actions with costs.
 pub fn worked_rows()
     ensures subtype { SubtypeIsBelow }
     ensures cycle { CycleIsFound }
@@ -66,4 +74,6 @@ pub fn worked_rows()
     ensures lifted { TurningIsLifted }
     ensures wrong_type { WrongTypeIsRefused }
     ensures added { DeletedAndAddedHolds }
+    ensures metric { MetricDecides }
+    ensures costs { CostsAreRefused }
 {}

@@ -4,6 +4,7 @@
 mod atoms;
 mod checking;
 mod climb;
+mod costs;
 mod declared;
 mod entries;
 mod laws;
@@ -18,8 +19,9 @@ mod tree;
 
 pub use checking::resolve;
 pub use laws::{
-    accepted_is_well_typed, instances_are_typed, numbers_keep_facts, numbers_keep_plans,
-    numbers_keep_steps, ways_up_are_far_enough, well_typed_is_accepted, worked_rows,
+    accepted_is_well_typed, instances_are_typed, numbers_keep_costs, numbers_keep_facts,
+    numbers_keep_plans, numbers_keep_steps, ways_up_are_far_enough, well_typed_is_accepted,
+    worked_rows,
 };
 pub use lifted::{Argument, Lifted, LiftedAtom, Schema};
 pub use refusal::{Cause, File, LiftedError, Place, TypingRefusal};

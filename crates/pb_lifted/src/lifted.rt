@@ -29,6 +29,8 @@ pub struct Schema {
     pub adds: Listed<LiftedAtom>,
     /// The atoms that no longer hold, but for those that are added.
     pub deletes: Listed<LiftedAtom>,
+    /// What each instance costs.
+    pub cost: u64,
 }
 
 /// A lifted task. Predicates and actions have the numbers that they have in the domain, and objects are the constants and then the

@@ -6,6 +6,9 @@ ghost use Rattle.pb_lifted.specs.Tables.{AreTables};
 ghost use Rattle.pb_lifted.specs.Refusals.{too_wide, in_predicate, in_predicates, in_action, in_actions, in_domain, in_problem};
 
 use crate::atoms::{first_in_atoms, first_in_effect};
+use crate::costs::{
+    MOST_COST, first_again, first_too_great, first_undeclared, note_metric, note_zero_cost,
+};
 use crate::declared::note;
 use crate::names::Names;
 use crate::refusal::Cause;
@@ -77,6 +80,7 @@ fn first_in_action(
     ensures { result ≡ earliest first (in_action cause domain.now problem.now action.now) }
 {
     let params = action.params.as_slice();
+    let costs = action.costs.as_slice();
     let scope = Scope {
         tables,
         domain,
@@ -89,6 +93,10 @@ fn first_in_action(
             first_unknown(&tables.types, domain.types.as_slice(), params, first)
         }
         Cause::TooWide => note_width(&action.name, params, first),
+        Cause::NoFunction => first_undeclared(domain.has_cost, costs, first),
+        Cause::CostTwice => first_again(costs, first),
+        Cause::CostRange => first_too_great(MOST_COST, costs, first),
+        Cause::ZeroCost => note_zero_cost(problem.metric, action, first),
         _ => {
             let found = first_in_atoms(cause, &scope, action.pre.as_slice(), first);
             first_in_effect(cause, &scope, action.effect.as_slice(), found)
@@ -166,6 +174,7 @@ pub(crate) fn first_in_problem(
         params: &[],
         names,
     };
+    let costs = problem.costs.as_slice();
     match cause {
         Cause::DomainName => {
             let same = problem.domain.text.as_slice() == domain.name.text.as_slice();
@@ -180,6 +189,13 @@ pub(crate) fn first_in_problem(
         ),
         Cause::TypeCycle => None,
         Cause::TooWide => None,
+        Cause::NoFunction => {
+            let found = first_undeclared(domain.has_cost, costs, None);
+            note_metric(domain.has_cost, problem.metric, found)
+        }
+        Cause::CostTwice => first_again(costs, None),
+        Cause::CostRange => first_too_great(0, costs, None),
+        Cause::ZeroCost => None,
         _ => {
             let found = first_in_atoms(cause, &scope, problem.init.as_slice(), None);
             first_in_atoms(cause, &scope, problem.goal.as_slice(), found)

@@ -12,14 +12,14 @@ pub enum File {
     Problem,
 }
 
-/// Where a name stands: its file, and its first byte there, counted from 0.
+/// Where a name, a word or a number stands: its file, and its first byte there, counted from 0.
 #[derive(Clone, Copy, Debug, PartialEq, Eq)]
 pub struct Place {
     pub file: File,
     pub at: u64,
 }
 
-/// Why a name makes the two trees no task, in the order in which the causes are told.
+/// Why a name, or what is said of costs, makes the two trees no task, in the order in which the causes are told.
 #[derive(Clone, Copy, Debug, PartialEq, Eq)]
 pub enum Cause {
     /// The problem is of a domain of another name.
@@ -40,12 +40,20 @@ pub enum Cause {
     WrongType,
     /// A predicate or action of more than 16 parameters.
     TooWide,
+    /// `total-cost` in an increase, in `:init` or in the metric, while the domain declares none.
+    NoFunction,
+    /// The word `increase` or `=` of a second cost in one action or in `:init`.
+    CostTwice,
+    /// An increase of more than 1,048,576, or another number than 0 in `:init`.
+    CostRange,
+    /// With a metric, the name of an action without an increase, or the number 0 of its increase.
+    ZeroCost,
 }
 
 /// Why two trees are no task.
 #[derive(Clone, Copy, Debug, PartialEq, Eq)]
 pub enum TypingRefusal {
-    /// This name.
+    /// This name, word or number.
     Named { cause: Cause, place: Place },
     /// There are more than 1,000 objects: n, with the constants.
     TooManyObjects { n: u64 },

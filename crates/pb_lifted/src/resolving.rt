@@ -3,6 +3,7 @@ ghost use Rattle.pb_lifted.specs.Types.{name_text};
 ghost use Rattle.pb_lifted.specs.Lifted.{kind_numbers, argument_of, arguments_of, atom_of, atoms_of, atom_if, effect_of, schema_of, schemas_of, predicate_kinds, lifted_of};
 ghost use Rattle.pb_lifted.specs.Tables.{AreTables, names_of_params};
 
+use crate::costs::cost_of;
 use crate::declared::kind_text;
 use crate::lifted::{Argument, Lifted, LiftedAtom, Schema};
 use crate::names::Names;
@@ -116,10 +117,11 @@ fn schema_of(
     alloc: Global,
     tables: &NameTables,
     names: &Names,
+    problem: &Problem,
     action: &Action,
 ) -> Result<Schema, AllocError>
     requires { names.now ≡ map name_text action.now.params }
-    ensures { IfOk result (λ s. s ≡ schema_of tables.now.types.names tables.now.predicates tables.now.objects action.now) }
+    ensures { IfOk result (λ s. s ≡ schema_of problem.now tables.now.types.names tables.now.predicates tables.now.objects action.now) }
 {
     let predicates = &tables.predicates;
     let objects = &tables.objects;
@@ -133,6 +135,7 @@ fn schema_of(
         pre,
         adds,
         deletes,
+        cost: cost_of(problem, action),
     })
 }
 
@@ -140,14 +143,15 @@ fn schema_of(
 fn schemas_of(
     alloc: Global,
     tables: &NameTables,
+    problem: &Problem,
     actions: &[Action],
 ) -> Result<Listed<Schema>, AllocError>
     requires { tables.now.params.items ≡ names_of_params actions.now }
-    ensures { IfOk result (λ list. list ≡ schemas_of tables.now.types.names tables.now.predicates tables.now.objects actions.now) }
+    ensures { IfOk result (λ list. list ≡ schemas_of problem.now tables.now.types.names tables.now.predicates tables.now.objects actions.now) }
 {
     let mut list = Listed::new(alloc);
     for (i, action) in actions.iter().enumerate() {
-        list.push(schema_of(alloc, tables, &tables.params[i], action)?)?;
+        list.push(schema_of(alloc, tables, &tables.params[i], problem, action)?)?;
     }
     Ok(list)
 }
@@ -190,7 +194,7 @@ pub(crate) fn lifted_of(
         types,
         objects: kinds,
         predicates: predicate_kinds(alloc, names, domain.predicates.as_slice())?,
-        actions: schemas_of(alloc, tables, domain.actions.as_slice())?,
+        actions: schemas_of(alloc, tables, problem, domain.actions.as_slice())?,
         init: atoms_of(alloc, predicates, objects, &none, problem.init.as_slice())?,
         goal: atoms_of(alloc, predicates, objects, &none, problem.goal.as_slice())?,
     })

@@ -22,3 +22,9 @@ returns-clause-wrong_type c = (refl, refl)
 
 pub returns-clause-added : goal.returns-clause-added
 returns-clause-added c = deleted_and_added_holds
+
+pub returns-clause-metric : goal.returns-clause-metric
+returns-clause-metric c = (refl, refl, refl, refl)
+
+pub returns-clause-costs : goal.returns-clause-costs
+returns-clause-costs c = (refl, refl, refl, refl, refl, refl)
