@@ -13,7 +13,7 @@ use pb_lifted::{Lifted, Schema};
 use pb_pddl::Listed;
 use std::alloc::{AllocError, Global};
 
-/// An instance of an action schema. Atoms are named by their numbers. It costs 1.
+/// An instance of an action schema. Atoms are named by their numbers.
 #[derive(Debug, Drop)]
 pub struct ActionInstance {
     /// The number of the schema.
@@ -26,6 +26,8 @@ pub struct ActionInstance {
     pub adds: Listed<usize>,
     /// The ground atoms that no longer hold, but for those that are added.
     pub deletes: Listed<usize>,
+    /// What it costs: as much as its schema.
+    pub cost: u64,
 }
 
 /// How many ground actions there may be.
@@ -51,6 +53,7 @@ fn action_of(
         needs,
         adds,
         deletes,
+        cost: schema.cost,
     })
 }
 
