@@ -9,6 +9,7 @@ use Rattle.pb_lifted.specs.declared.lifted.Lifted.{Lifted}
 use Rattle.pb_lifted.specs.declared.lifted.LiftedAtom.{LiftedAtom}
 use Rattle.pb_lifted.specs.declared.lifted.Schema.{Schema}
 use Rattle.pb_lifted.specs.Lifted.{lifted_of}
+use Rattle.pb_lifted.specs.Refusals.{first_refusal}
 use Rattle.pb_ground.specs.declared.actions.ActionInstance as instance
 use Rattle.pb_ground.specs.declared.atoms.GroundAtom.{GroundAtom}
 use Rattle.pb_ground.specs.Atoms.{ground_atoms, grounded, number_in, same_atom}
@@ -16,6 +17,7 @@ use Rattle.pb_ground.specs.Actions.{with_number_in, numbers_with, numbers_of, ac
 use Rattle.pb_task.specs.Strips.{IsGroundAction, IsStrips}
 use Rattle.pb_strips.specs.Grounding.{packed_action, strips_of}
 use Rattle.pb_strips.specs.Packing.{AreAtoms, HasAtoms}
+use Rattle.pb_strips.proofs.CostsBelow.{IsInRange, actions_in_range}
 use Rattle.pb_strips.proofs.AtomSets.{set_below}
 
 -- ---- numbers
@@ -82,23 +84,23 @@ have_below few count actions less = All-weaker (HasAtoms few) (HasAtoms count) (
 
 -- ---- the task
 
-packed_is : (domain : Domain) (problem : Problem) (count : ℕ) (action : instance.ActionInstance) → IsGroundAction count (packed_action domain problem count action)
-packed_is domain problem count action = record {
+packed_is : (domain : Domain) (problem : Problem) (count : ℕ) (action : instance.ActionInstance) → IsInRange action → IsGroundAction count (packed_action domain problem count action)
+packed_is domain problem count action range = record {
   needs = set_below count _;
   adds = set_below count _;
   deletes = set_below count _;
-  cost = (omega arith, omega arith);
+  cost = range;
 }
 
-all_packed : (domain : Domain) (problem : Problem) (count : ℕ) (actions : List instance.ActionInstance) → All (IsGroundAction count) (map (packed_action domain problem count) actions)
-all_packed domain problem count [] = All-nil (IsGroundAction count)
-all_packed domain problem count (action ∷ actions) =
-    All-cons (IsGroundAction count) (packed_action domain problem count action) (map (packed_action domain problem count) actions) (packed_is domain problem count action)
-    (all_packed domain problem count actions)
+all_packed : (domain : Domain) (problem : Problem) (count : ℕ) (actions : List instance.ActionInstance) → All IsInRange actions → All (IsGroundAction count) (map (packed_action domain problem count) actions)
+all_packed domain problem count [] range = All-nil (IsGroundAction count)
+all_packed domain problem count (action ∷ actions) range =
+    All-cons (IsGroundAction count) (packed_action domain problem count action) (map (packed_action domain problem count) actions) (packed_is domain problem count action (range 0 action (omega arith)))
+    (all_packed domain problem count actions (λ k d less. range (suc k) d (omega arith)))
 
-pub is_strips : (domain : Domain) (problem : Problem) → length (ground_atoms (lifted_of domain problem)) ≤ 256
+pub is_strips : (domain : Domain) (problem : Problem) → first_refusal domain problem ≡ None → length (ground_atoms (lifted_of domain problem)) ≤ 256
     → length (ground_actions (lifted_of domain problem) (ground_atoms (lifted_of domain problem))) ≤ 65536 → IsStrips (strips_of domain problem)
-is_strips domain problem few_atoms few_actions =
+is_strips domain problem accepted few_atoms few_actions =
     let lifted : Lifted = lifted_of domain problem in
     let atoms : List GroundAtom = ground_atoms lifted in
     let actions : List instance.ActionInstance = ground_actions lifted atoms in
@@ -106,7 +108,7 @@ is_strips domain problem few_atoms few_actions =
     record {
       atoms = few_atoms;
       few = omega (arith, many, few_actions);
-      actions = all_packed domain problem (length atoms) actions;
+      actions = all_packed domain problem (length atoms) actions (actions_in_range domain problem accepted atoms);
       start = set_below (length atoms) _;
       goal = set_below (length atoms) _;
     }

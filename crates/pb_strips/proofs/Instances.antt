@@ -94,13 +94,14 @@ are_instances_from lifted atoms i (schema ∷ later) declared =
     next : (k : ℕ) (other : Schema) → slice_get lifted.actions (i + suc k) ≡ Some other → slice_get lifted.actions (suc i + k) ≡ Some other
     next k other e = let place : i + suc k ≡ suc i + k = omega arith in subst (λ j. slice_get lifted.actions j ≡ Some other) place e
 
-pub is_instance_at : (lifted : Lifted) (atoms : List GroundAtom) (k : ℕ) (action : ActionInstance) → slice_get (ground_actions lifted atoms) k ≡ Some action → IsInstance lifted atoms action
-is_instance_at lifted atoms k action e =
-    holds_at (IsInstance lifted atoms) (ground_actions lifted atoms) k action
-    (are_instances_from lifted atoms 0 lifted.actions (λ j schema there. same j schema there)) e
+pub are_instances : (lifted : Lifted) (atoms : List GroundAtom) → All (IsInstance lifted atoms) (ground_actions lifted atoms)
+are_instances lifted atoms = are_instances_from lifted atoms 0 lifted.actions (λ j schema there. same j schema there)
   where
     same : (j : ℕ) (schema : Schema) → slice_get lifted.actions j ≡ Some schema → slice_get lifted.actions (0 + j) ≡ Some schema
     same j schema there = let place : j ≡ 0 + j = omega arith in subst (λ n. slice_get lifted.actions n ≡ Some schema) place there
+
+pub is_instance_at : (lifted : Lifted) (atoms : List GroundAtom) (k : ℕ) (action : ActionInstance) → slice_get (ground_actions lifted atoms) k ≡ Some action → IsInstance lifted atoms action
+is_instance_at lifted atoms k action e = holds_at (IsInstance lifted atoms) (ground_actions lifted atoms) k action (are_instances lifted atoms) e
 
 -- ---- each such instance is a ground action
 

@@ -1,6 +1,7 @@
 pub mod AtomSets
 pub mod Below
 pub mod Bridges
+pub mod CostsBelow
 pub mod Instances
 pub mod Numbered
 pub mod Packed

@@ -1,11 +1,12 @@
 -- Plans by bits and by names are the same.
-use Rattle.std.proofs.Common.{◌≡◌, ◌<◌, ◌^◌, ◌+◌, ℕ, suc, not, ◌&&◌, ◌||◌, List, [], ◌∷◌, length, map, None, refl, sym, ap, ◌∙◌, subst, arith}
+use Rattle.std.proofs.Common.{◌≡◌, ◌<◌, ◌^◌, ◌+◌, ℕ, not, ◌&&◌, ◌||◌, List, [], ◌∷◌, length, map, None, refl, sym, ap, ◌∙◌, subst}
+use Rattle.std.proofs.lemmas.List.Sums.{sum_by-cons}
 use Rattle.pb_model.specs.Space.{Space, Steps}
 use Rattle.pb_model.specs.Plan.{Walk}
 use Rattle.pb_pddl.specs.declared.tree.Domain.{Domain}
 use Rattle.pb_pddl.specs.declared.tree.Problem.{Problem}
 use Rattle.pb_lifted.specs.Lifted.{lifted_of}
-use Rattle.pb_lifted.specs.Plans.{NamedAction, Leads}
+use Rattle.pb_lifted.specs.Plans.{NamedAction, Leads, step_cost, plan_cost}
 use Rattle.pb_lifted.specs.Space.{Fact, State, IsStep, AllHold, added, deleted, facts_of, is_fact_in, start_of, IsGoal}
 use Rattle.pb_ground.specs.Atoms.{ground_atoms}
 use Rattle.pb_task.specs.Strips.{name_in, strips_space, Acts}
@@ -62,7 +63,7 @@ walk_stays domain problem (action ∷ actions) from cost to small walk =
 abbrev NamedWalk : Domain → Problem → State → List ℕ → (cost to : ℕ) → Type 0
 NamedWalk domain problem state actions cost to =
     (names : List NamedAction) × Leads domain problem state names (facts_of_state domain problem to)
-    × (map (action_text domain) names ≡ map (name_in (strips_of domain problem).actions) actions) × (cost ≡ length names)
+    × (map (action_text domain) names ≡ map (name_in (strips_of domain problem).actions) actions) × (cost ≡ plan_cost domain problem names)
 
 walk_by_names : (domain : Domain) (problem : Problem) → first_fault domain problem ≡ None → (actions : List ℕ) (from cost to : ℕ) (state : State)
     → Same state (facts_of_state domain problem from) → Walk (space domain problem) from actions cost to → NamedWalk domain problem state actions cost to
@@ -74,12 +75,12 @@ walk_by_names domain problem none (action ∷ actions) from cost to state same w
     walk_by_names domain problem none actions next walk.2 to (facts_of_state domain problem next) (λ f. refl) walk.4 in
     let texts = map (name_in (strips_of domain problem).actions) actions in
     let sum : cost ≡ walk.1 + walk.2 = walk.5 in
-    let one : walk.1 ≡ 1 = step.3 in
-    let later : walk.2 ≡ length rest.0 = rest.3 in (
+    let one : walk.1 ≡ step_cost domain problem step.0 = step.3 in
+    let later : walk.2 ≡ plan_cost domain problem rest.0 = rest.3 in (
       step.0 ∷ rest.0,
       (facts_of_state domain problem next, step_too domain problem (facts_of_state domain problem from) state (facts_of_state domain problem next) step.0.0 step.0.1 same step.1, rest.1),
       ap (λ text. text ∷ map (action_text domain) rest.0) (sym step.2) ∙ ap (λ xs. name_in (strips_of domain problem).actions action ∷ xs) rest.2,
-      omega (arith, sum, one, later),
+      sum ∙ (ap (λ n. n + walk.2) one ∙ (ap (λ n. step_cost domain problem step.0 + n) later ∙ sym (sum_by-cons (step_cost domain problem) step.0 rest.0))),
     )
 
 pub packed_plans_are_plans : PackedPlansArePlans
@@ -96,7 +97,7 @@ packed_plans_are_plans domain problem plan none is =
 pub record IsWalked (domain : Domain) (problem : Problem) (from : ℕ) (names : List NamedAction) (last : State) : Type 0 where
   pub numbers : List ℕ
   pub to : ℕ
-  pub walk : Walk (space domain problem) from numbers (length names) to
+  pub walk : Walk (space domain problem) from numbers (plan_cost domain problem names) to
   pub small : IsSet domain problem to
   pub same : Same last (facts_of_state domain problem to)
   pub texts : map (name_in (strips_of domain problem).actions) numbers ≡ map (action_text domain) names
@@ -111,18 +112,15 @@ walk_by_numbers domain problem none (name ∷ names) from state last small same 
     step_too domain problem state (facts_of_state domain problem from) next name.0 name.1 (λ f. sym (same f)) leads.1 in
     let step = steps_are_packed_steps domain problem from name next none small by_facts in
     let rest : IsWalked domain problem step.1 names last =
-    walk_by_numbers domain problem none names step.1 next last (step_stays domain problem from step.0 step.1 1 step.2) step.4 leads.2 in
+    walk_by_numbers domain problem none names step.1 next last (step_stays domain problem from step.0 step.1 (step_cost domain problem name) step.2) step.4 leads.2 in
     record {
       numbers = step.0 ∷ rest.numbers;
       to = rest.to;
-      walk = (step.1, 1, length names, step.2, rest.walk, one_more (length names));
+      walk = (step.1, step_cost domain problem name, plan_cost domain problem names, step.2, rest.walk, sum_by-cons (step_cost domain problem) name names);
       small = rest.small;
       same = rest.same;
       texts = ap (λ text. text ∷ map (name_in (strips_of domain problem).actions) rest.numbers) step.3 ∙ ap (λ xs. action_text domain name ∷ xs) rest.texts;
     }
-  where
-    one_more : (n : ℕ) → suc n ≡ 1 + n
-    one_more n = omega arith
 
 pub plans_are_packed_plans : PlansArePackedPlans
 plans_are_packed_plans domain problem actions none plan =

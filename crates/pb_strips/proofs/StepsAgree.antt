@@ -10,7 +10,8 @@ use Rattle.pb_lifted.specs.declared.lifted.Schema.{Schema}
 use Rattle.pb_lifted.specs.declared.refusal.TypingRefusal.{TypingRefusal}
 use Rattle.pb_lifted.specs.InstanceTypes.{IsTypedInstance}
 use Rattle.pb_lifted.specs.Lifted.{lifted_of}
-use Rattle.pb_lifted.specs.Plans.{NamedAction}
+use Rattle.pb_lifted.specs.Costs.{cost_at}
+use Rattle.pb_lifted.specs.Plans.{NamedAction, step_cost}
 use Rattle.pb_lifted.specs.Refusals.{first_refusal}
 use Rattle.pb_lifted.specs.Space.{IsStep}
 use Rattle.pb_lifted.specs.Steps.{GroundFact, AreFitting, IsGroundStep, ground_start, is_of_task, by_number}
@@ -35,6 +36,7 @@ use Rattle.pb_strips.specs.Names.{action_text}
 use Rattle.pb_strips.specs.Refusals.{first_fault, or_too_many}
 use Rattle.pb_strips.proofs.Below.{number_below, numbers_below}
 use Rattle.pb_strips.proofs.Bridges.{to_atom, same_member, to_all, from_all, to_fitting, from_fitting}
+use Rattle.pb_strips.proofs.CostsBelow.{schema_costs}
 use Rattle.pb_strips.proofs.Instances.{IsInstance, is_instance_at, stands}
 use Rattle.pb_strips.proofs.Numbered.{are_numbered, absent}
 use Rattle.pb_strips.proofs.Packed.{has_number, all_within, within_all, packed_after}
@@ -52,7 +54,7 @@ accepted domain problem none = at (first_refusal domain problem) none
 abbrev Named : Domain → Problem → (from action to cost : ℕ) → Type 0
 Named domain problem from action to cost =
     (named : NamedAction) × IsStep domain problem (facts_of_state domain problem from) named.0 named.1 (facts_of_state domain problem to)
-    × (name_in (strips_of domain problem).actions action ≡ action_text domain named) × (cost ≡ 1)
+    × (name_in (strips_of domain problem).actions action ≡ action_text domain named) × (cost ≡ step_cost domain problem named)
 
 step_of : (domain : Domain) (problem : Problem) (from action to cost : ℕ) (ground : instance.ActionInstance) → first_refusal domain problem ≡ None
     → (act : Acts (strips_of domain problem) from action to cost) → packed_action domain problem (length (ground_atoms (lifted_of domain problem))) ground ≡ act.act
@@ -86,7 +88,7 @@ step_of domain problem from action to cost ground none act packed is =
           (λ f. refl) step (λ f. refl),
       ap name_of act.is
           ∙ (ap (λ (a : GroundAction). a.name) (sym packed) ∙ ap (λ (g : instance.ActionInstance). action_text domain (g.schema, named domain problem g.objects)) is.is),
-      act.price ∙ ap (λ (a : GroundAction). a.cost) (sym packed),
+      act.price ∙ (ap (λ (a : GroundAction). a.cost) (sym packed) ∙ (ap (λ (g : instance.ActionInstance). g.cost) is.is ∙ schema_costs domain problem is.i is.schema is.declared)),
     )
 
 pub packed_steps_are_steps : PackedStepsAreSteps
@@ -103,7 +105,7 @@ packed_steps_are_steps domain problem from action to cost none step =
 pub record IsTaken (domain : Domain) (problem : Problem) (from i : ℕ) (schema : Schema) (given : List ℕ) : Type 0 where
   pub action : ℕ
   pub to : ℕ
-  pub step : Steps (strips_space (strips_of domain problem)) from action to 1
+  pub step : Steps (strips_space (strips_of domain problem)) from action to (cost_at domain problem i)
   pub name : name_in (strips_of domain problem).actions action ≡ action_text domain (i, named domain problem given)
   pub after : IsAfter (lifted_of domain problem) from to i schema given
 
@@ -124,14 +126,14 @@ taken domain problem from i schema given small declared fit statics needs =
     record {
       action = place.0;
       to = to;
-      step = (strips_act (strips_of domain problem) from place.0 to 1).1 (record {
+      step = (strips_act (strips_of domain problem) from place.0 to (cost_at domain problem i)).1 (record {
         act = act;
         is = there;
         from_set = small;
         needed = within_all count ground.needs from needs;
         to_set = made.0;
         result = made.1;
-        price = refl;
+        price = sym (schema_costs domain problem i schema declared);
       });
       name = ap name_of there;
       after = λ n less. made.1 n less ∙ packed_after domain problem count ground from n less;
@@ -188,7 +190,7 @@ starts_agree domain problem f none =
 
 -- what the goal asks, as a schema
 abbrev goal_schema : Lifted → Schema
-goal_schema lifted = record { params = []; pre = lifted.goal; adds = []; deletes = [] }
+goal_schema lifted = record { params = []; pre = lifted.goal; adds = []; deletes = []; cost = 0 }
 
 twice_not : (b : Bool) → not (not b) ≡ true → b ≡ true
 twice_not true e = refl

@@ -1,6 +1,6 @@
 -- The task by bits and the task by names are the same: states, steps, their costs and names, the start, goals, and plans. By names a state is a set
 -- of facts and an action a schema with objects (`pb_lifted`'s Space); neither numbers of atoms nor bits occur there.
-use Rattle.std.specs.Prelude.{◌≡◌, ◌↔◌, ℕ, ◌<◌, ◌^◌, Bool, false, IsTrue, ◌&&◌, if◌then◌else◌, List, length, map, Option, Some, None}
+use Rattle.std.specs.Prelude.{◌≡◌, ◌↔◌, ℕ, ◌<◌, ◌^◌, Bool, false, IsTrue, ◌&&◌, if◌then◌else◌, List, map, Option, Some, None}
 use Rattle.pb_model.specs.Space.{Steps}
 use Rattle.pb_model.specs.Plan as packed
 use Rattle.pb_pddl.specs.declared.tree.Domain.{Domain}
@@ -9,7 +9,7 @@ use Rattle.pb_lifted.specs.declared.lifted.Lifted.{Lifted}
 use Rattle.pb_lifted.specs.Lifted.{lifted_of}
 use Rattle.pb_lifted.specs.Space.{Fact, State, IsStep, start_of, IsGoal}
 use Rattle.pb_lifted.specs.Steps.{GroundFact, is_of_task, by_number}
-use Rattle.pb_lifted.specs.Plans.{NamedAction, IsPlan}
+use Rattle.pb_lifted.specs.Plans.{NamedAction, IsPlan, step_cost, plan_cost}
 use Rattle.pb_ground.specs.Atoms.{is_fluent, atom_of, number_in, ground_atoms}
 use Rattle.pb_ground.specs.Statics.{is_initial}
 use Rattle.pb_task.specs.Strips.{has_atom, strips_space, name_in}
@@ -34,19 +34,19 @@ facts_of_state domain problem state fact = is_of_task domain problem fact && hol
 
 -- ---- steps
 
--- A step by bits is one by names, at cost 1, under the name that is printed.
+-- A step by bits is one by names, at the cost of its action by the trees, under the name that is printed.
 abbrev pub PackedStepsAreSteps : Type 0
 PackedStepsAreSteps =
     (domain : Domain) (problem : Problem) (from action to cost : ℕ) → first_fault domain problem ≡ None → Steps (strips_space (strips_of domain problem)) from action to cost
     → (named : NamedAction) × IsStep domain problem (facts_of_state domain problem from) named.0 named.1 (facts_of_state domain problem to)
-    × (name_in (strips_of domain problem).actions action ≡ action_text domain named) × (cost ≡ 1)
+    × (name_in (strips_of domain problem).actions action ≡ action_text domain named) × (cost ≡ step_cost domain problem named)
 
--- A step by names is one by bits, at cost 1, under the name that is printed, and leads to the same state.
+-- A step by names is one by bits, at the cost of its action, under the name that is printed, and leads to the same state.
 abbrev pub StepsArePackedSteps : Type 0
 StepsArePackedSteps =
     (domain : Domain) (problem : Problem) (from : ℕ) (named : NamedAction) (next : State) → first_fault domain problem ≡ None → from < 2 ^ (strips_of domain problem).atoms
     → IsStep domain problem (facts_of_state domain problem from) named.0 named.1 next
-    → (action : ℕ) × (to : ℕ) × Steps (strips_space (strips_of domain problem)) from action to 1
+    → (action : ℕ) × (to : ℕ) × Steps (strips_space (strips_of domain problem)) from action to (step_cost domain problem named)
     × (name_in (strips_of domain problem).actions action ≡ action_text domain named) × ((f : Fact) → next f ≡ facts_of_state domain problem to f)
 
 -- ---- start and goals
@@ -65,16 +65,16 @@ GoalsAgree =
 
 -- ---- plans
 
--- A plan by numbers is one by names, whose actions have the names that are printed; it costs as much as it has actions.
+-- A plan by numbers is one by names, whose actions have the names that are printed; it costs the sum of their costs.
 abbrev pub PackedPlansArePlans : Type 0
 PackedPlansArePlans =
     (domain : Domain) (problem : Problem) (plan : packed.Plan) → first_fault domain problem ≡ None → packed.IsPlan (strips_space (strips_of domain problem)) plan
     → (actions : List NamedAction) × IsPlan domain problem actions × (map (action_text domain) actions ≡ map (name_in (strips_of domain problem).actions) plan.actions)
-    × (plan.cost ≡ length actions)
+    × (plan.cost ≡ plan_cost domain problem actions)
 
--- A plan by names is one by numbers.
+-- A plan by names is one by numbers, at the same cost.
 abbrev pub PlansArePackedPlans : Type 0
 PlansArePackedPlans =
     (domain : Domain) (problem : Problem) (actions : List NamedAction) → first_fault domain problem ≡ None → IsPlan domain problem actions
-    → (numbers : List ℕ) × packed.IsPlan (strips_space (strips_of domain problem)) (record { actions = numbers; cost = length actions })
+    → (numbers : List ℕ) × packed.IsPlan (strips_space (strips_of domain problem)) (record { actions = numbers; cost = plan_cost domain problem actions })
     × (map (name_in (strips_of domain problem).actions) numbers ≡ map (action_text domain) actions)

@@ -19,14 +19,14 @@ numbered_set count numbers = set_of count (λ atom. list_any (nat_eq atom) numbe
 
 -- ---- the task
 
--- a ground action with its name and its sets; each costs 1
+-- a ground action with its name, its sets and its cost
 abbrev pub packed_action : Domain → Problem → (count : ℕ) → instance.ActionInstance → GroundAction
 packed_action domain problem count action = record {
   name = action_text domain (action.schema, named domain problem action.objects);
   needs = numbered_set count action.needs;
   adds = numbered_set count action.adds;
   deletes = numbered_set count action.deletes;
-  cost = 1;
+  cost = action.cost;
 }
 
 abbrev pub strips_of : Domain → Problem → StripsParts

@@ -13,9 +13,6 @@ use pb_pddl::{Domain, Problem};
 use pb_task::{Actions, StripsParts};
 use std::alloc::{AllocError, Global};
 
-/// What each ground action costs.
-const COST: u64 = 1;
-
 /// A ground action with its name and its sets.
 fn packed_action(
     alloc: Global,
@@ -38,7 +35,7 @@ fn packed_action(
         needs: set_of(action.needs.as_slice()),
         adds: set_of(action.adds.as_slice()),
         deletes: set_of(action.deletes.as_slice()),
-        cost: COST,
+        cost: action.cost,
     })
 }
 

@@ -14,4 +14,4 @@ of_strips-requires c =
     let few_actions =
     subst (λ (l : Lifted). length (ground_actions l (ground_atoms l)) ≤ 65536) lifted
     (subst (λ (atoms : List GroundAtom). length (ground_actions c.in_ok-lifted.lifted atoms) ≤ 65536) c.in_ok-atoms.ensures.atoms c.in_ok-actions.ensures.few) in
-    subst IsStrips (sym c.in_ok-parts.ensures) (is_strips c.args.domain.now c.args.problem.now few_atoms few_actions)
+    subst IsStrips (sym c.in_ok-parts.ensures) (is_strips c.args.domain.now c.args.problem.now c.in_ok-lifted.ensures.task few_atoms few_actions)
