@@ -1,9 +1,9 @@
 -- The texts of names and atoms of blocks have the tokens of names and atoms.
-use Rattle.std.proofs.Common.{◌≡◌, ℕ, zero, suc, ◌+◌, ◌<◌, ◌≤◌, ◌^◌, Bool, true, false, Option, None, Some, List, [], ◌∷◌, ◌++◌, length, map, codes, refl, ap, sym, subst, arith, ◌∙◌, append_assoc, append-nil, inl, inr}
+use Rattle.std.proofs.Common.{◌≡◌, ℕ, zero, suc, ◌+◌, ◌<◌, ◌≤◌, ◌^◌, true, false, None, Some, List, [], ◌∷◌, ◌++◌, map, refl, ap, sym, subst, arith, ◌∙◌, append_assoc, append-nil, inl}
 use Rattle.std.proofs.lemmas.Bool.Decides.{nat_tests}
 use Rattle.std.specs.Char.{is_ascii_digit}
 use Rattle.std.specs.Fmt.{decimal}
-use Rattle.std.specs.List.{list_all, AllByRecursion}
+use Rattle.std.specs.List.{list_all}
 use Rattle.pb_pddl.specs.declared.token.TokenKind.TheVariants as kinds
 use Rattle.pb_pddl.specs.declared.token.Token.{Token}
 use Rattle.pb_pddl.specs.declared.tree.Name.{Name}
@@ -12,11 +12,11 @@ use Rattle.pb_pddl.specs.declared.tree.Term.{Term}
 use Rattle.pb_pddl.specs.declared.tree.Term.TheVariants as terms
 use Rattle.pb_pddl.specs.declared.tree.Atom.{Atom}
 use Rattle.pb_pddl.specs.declared.tree.Predicate.{Predicate}
-use Rattle.pb_pddl.specs.Tokens.{is_white, begins_word, goes_on_word, lower, gap_next, kind_of, word_first}
+use Rattle.pb_pddl.specs.Tokens.{is_white, begins_word, goes_on_word, lower, gap_next, kind_of}
 use Rattle.pb_pddl.specs.Reading.{is_reserved, name_of}
-use Rattle.pb_pddl.specs.Grammar.{Says, Opens, Closes, Many, AddsName, IsAtom}
+use Rattle.pb_pddl.specs.Grammar.{Opens, Many, AddsName, IsAtom}
 use Rattle.pb_lifted.specs.Objects.{predicate_of}
-use Rattle.pb_make.specs.Problems.{block_name, object, objects_from}
+use Rattle.pb_make.specs.Problems.{block_name, objects_from}
 use Rattle.pb_make_laws.proofs.Words.{all_by, both, decimal_number}
 use Rattle.pb_make_laws.proofs.SpacedTokens.{IsSpelling, Reads, closes, opens, same_bytes, spelled, weakened, word_kind}
 use Rattle.pb_make_laws.proofs.BlocksTree.{blocks_tree}

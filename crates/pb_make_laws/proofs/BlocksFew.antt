@@ -1,5 +1,5 @@
 -- A problem of at most 14 blocks has few ground atoms and few ground actions.
-use Rattle.std.proofs.Common.{◌≡◌, ℕ, zero, suc, ◌+◌, ◌*◌, ◌<◌, ◌≤◌, Bool, true, false, cond, nat_lt, if◌then◌else◌, Option, None, Some, List, [], ◌∷◌, ◌++◌, length, map, filter, refl, ap, sym, subst, arith, ◌∙◌, length-append}
+use Rattle.std.proofs.Common.{◌≡◌, ℕ, suc, ◌+◌, ◌*◌, ◌≤◌, Bool, true, false, cond, nat_lt, if◌then◌else◌, Option, None, List, [], ◌∷◌, length, map, filter, ap, arith, ◌∙◌, length-append}
 use Rattle.std.proofs.lemmas.Bool.Decides.{nat_tests}
 use Rattle.std.proofs.lemmas.List.{length-map}
 use Rattle.std.proofs.lemmas.Nat.{mul-le}
@@ -7,7 +7,6 @@ use Rattle.pb_pddl.specs.declared.tree.Problem.{Problem}
 use Rattle.pb_lifted.specs.declared.lifted.Lifted.{Lifted}
 use Rattle.pb_lifted.specs.declared.lifted.Schema.{Schema}
 use Rattle.pb_lifted.specs.Lifted.{lifted_of}
-use Rattle.pb_lifted.specs.Refusals.{first_refusal}
 use Rattle.pb_lifted.specs.Tree.{comes_to}
 use Rattle.pb_lifted.proofs.Accepted.{well_typed_is_accepted}
 use Rattle.pb_ground.specs.declared.atoms.GroundAtom.{GroundAtom}
@@ -17,7 +16,7 @@ use Rattle.pb_ground.specs.Count.{product_of}
 use Rattle.pb_ground.specs.Instances.{candidates, fitting, fitting_from, instances}
 use Rattle.pb_ground.specs.Statics.{statics_hold}
 use Rattle.pb_ground.proofs.Products.{product_is}
-use Rattle.pb_strips.specs.Refusals.{first_fault, or_too_many, too_many}
+use Rattle.pb_strips.specs.Refusals.{first_fault, or_too_many}
 use Rattle.pb_make_laws.proofs.BlocksTree.{blocks_tree}
 use Rattle.pb_make_laws.proofs.BlocksRead.{IsBlocksProblem}
 use Rattle.pb_make_laws.proofs.BlocksTyped.{object_count, well_typed}

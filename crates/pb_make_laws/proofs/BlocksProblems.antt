@@ -1,21 +1,17 @@
 -- The text of a problem of blocks has the tokens of a problem, which names blocks and states facts and a goal of them.
-use Rattle.std.proofs.Common.{◌≡◌, ℕ, zero, suc, ◌+◌, ◌-◌, ◌<◌, ◌≤◌, ◌^◌, Bool, true, false, ◌==◌, ◌%◌, if◌then◌else◌, None, Some, List, [], ◌∷◌, ◌++◌, length, map, codes, refl, ap, sym, subst, arith, ◌∙◌, append_assoc, inl, inr}
+use Rattle.std.proofs.Common.{◌≡◌, ℕ, zero, suc, ◌+◌, ◌<◌, ◌≤◌, Bool, true, false, ◌==◌, ◌%◌, if◌then◌else◌, List, [], ◌∷◌, ◌++◌, length, codes, refl, arith, append_assoc, inr}
 use Rattle.std.specs.List.{AllByRecursion}
 use Rattle.pb_pddl.specs.declared.token.TokenKind.TheVariants as kinds
 use Rattle.pb_pddl.specs.declared.token.Token.{Token}
-use Rattle.pb_pddl.specs.declared.tree.Name.{Name}
 use Rattle.pb_pddl.specs.declared.tree.Atom.{Atom}
-use Rattle.pb_pddl.specs.declared.tree.Problem.{Problem}
-use Rattle.pb_pddl.specs.declared.parts.ProblemParts.{ProblemParts}
-use Rattle.pb_pddl.specs.Tokens.{is_white, begins_word, goes_on_word, lower, gap_next, kind_of, word_first, TextTokens, start}
-use Rattle.pb_pddl.specs.Reading.{is_reserved, name_of, typed, no_problem}
-use Rattle.pb_pddl.specs.Grammar.{Says, Opens, Closes, Ends, Many, IsFact, IsCond, IsProblemSection, IsProblem}
-use Rattle.pb_pddl.specs.Trees.{SpellsProblem}
-use Rattle.pb_make.specs.Draws.{draws}
-use Rattle.pb_make.specs.Problems.{block_name, facts_from, facts_of, goal_atom, goal_from, objects_from, problem_text}
-use Rattle.pb_make_laws.proofs.SpacedTokens.{IsSpelling, Reads, closes, closes_last, key_kind, opens, same_bytes, spelled, weakened, word_kind}
+use Rattle.pb_pddl.specs.declared.parts.InitParts.{InitParts}
+use Rattle.pb_pddl.specs.Tokens.{is_white, begins_word, goes_on_word, lower, gap_next, kind_of, word_first}
+use Rattle.pb_pddl.specs.Reading.{is_reserved}
+use Rattle.pb_pddl.specs.Grammar.{Many, IsFact, IsCond}
+use Rattle.pb_make.specs.Problems.{block_name, facts_from, goal_from}
+use Rattle.pb_make_laws.proofs.SpacedTokens.{IsSpelling, Reads, same_bytes, weakened}
 use Rattle.pb_make_laws.proofs.BlocksTree.{on_predicate, ontable_predicate, clear_predicate, handempty_predicate, untyped, name}
-use Rattle.pb_make_laws.proofs.BlocksAtoms.{IsBlockAtom, IsPredicate, NamesBlocks, ReadsAtom, atom_of_none, atom_of_one, atom_of_two, blocks_from, names_read, text_of}
+use Rattle.pb_make_laws.proofs.BlocksAtoms.{IsBlockAtom, IsPredicate, ReadsAtom, atom_of_one, atom_of_two}
 
 -- ---- the words of the blocks world
 
@@ -80,15 +76,19 @@ all_snoc : (blocks : ℕ) (atoms : List Atom) (atom : Atom) → AreBlockAtoms bl
 all_snoc blocks [] atom all is = (is, tt)
 all_snoc blocks (first ∷ atoms) atom all is = (all.0, all_snoc blocks atoms atom all.1 is)
 
+-- these facts and no cost
+abbrev pub only_atoms : List Atom → InitParts
+only_atoms atoms = record { atoms = atoms; costs = [] }
+
 -- the tokens of facts, and those of what is behind them
 abbrev pub FactsOf : (blocks : ℕ) → (Q : List Token → Type 0) → List Token → Type 0
-FactsOf blocks Q ts = (said : List Atom) → AreBlockAtoms blocks said → (atoms : List Atom) × (us : List Token) × Many IsFact said ts atoms us × AreBlockAtoms blocks atoms × Q us
+FactsOf blocks Q ts = (said : List Atom) → AreBlockAtoms blocks said → (atoms : List Atom) × (us : List Token) × Many IsFact (only_atoms said) ts (only_atoms atoms) us × AreBlockAtoms blocks atoms × Q us
 
 -- a fact before other facts
 pub fact_first : (blocks : ℕ) (Q : List Token → Type 0) (ts : List Token) → ReadsAtom blocks (FactsOf blocks Q) ts → FactsOf blocks Q ts
 fact_first blocks Q ts found said all =
     let next = found.6 (said ++ found.2 ∷ []) (all_snoc blocks said found.2 all found.5) in
-    (next.0, next.1, (suc next.2.0, (said ++ found.2 ∷ [], found.1, (found.0, found.2, found.3, found.4, refl), next.2.1)), next.3, next.4)
+    (next.0, next.1, (suc next.2.0, (only_atoms (said ++ found.2 ∷ []), found.1, (found.0, found.3, inr (found.2, found.4, refl)), next.2.1)), next.3, next.4)
 
 parted : (a b c d more rest : List ℕ) → a ++ (b ++ (c ++ (b ++ (d ++ (more ++ rest))))) ≡ ((a ++ (b ++ (c ++ (b ++ d)))) ++ more) ++ rest
 parted a b c d more rest = simp append_assoc

@@ -1,12 +1,12 @@
 -- The text of a made problem is that of a problem: section by section, from the last to the first.
-use Rattle.std.proofs.Common.{◌≡◌, ℕ, zero, suc, ◌+◌, ◌-◌, ◌<◌, ◌≤◌, ◌^◌, Bool, true, false, None, Some, List, [], ◌∷◌, ◌++◌, length, map, codes, refl, ap, sym, subst, arith, ◌∙◌, inl, inr}
+use Rattle.std.proofs.Common.{◌≡◌, ℕ, zero, suc, ◌+◌, ◌-◌, ◌<◌, ◌≤◌, ◌^◌, false, None, Some, List, [], ◌∷◌, ◌++◌, length, map, codes, refl, ap, sym, subst, arith, inl, inr}
 use Rattle.pb_pddl.specs.declared.token.TokenKind.TheVariants as kinds
 use Rattle.pb_pddl.specs.declared.token.Token.{Token}
 use Rattle.pb_pddl.specs.declared.tree.Name.{Name}
 use Rattle.pb_pddl.specs.declared.tree.Atom.{Atom}
 use Rattle.pb_pddl.specs.declared.tree.Problem.{Problem}
 use Rattle.pb_pddl.specs.declared.parts.ProblemParts.{ProblemParts}
-use Rattle.pb_pddl.specs.Tokens.{TextTokens, start}
+use Rattle.pb_pddl.specs.Tokens.{start}
 use Rattle.pb_pddl.specs.Reading.{name_of, typed, no_problem}
 use Rattle.pb_pddl.specs.Grammar.{Says, Opens, Closes, Ends, Many, IsCond, IsProblemSection, IsProblem, Titles}
 use Rattle.pb_pddl.specs.Trees.{SpellsProblem}
@@ -14,8 +14,8 @@ use Rattle.pb_make.specs.Draws.{draws, next_number}
 use Rattle.pb_make.specs.Problems.{facts_from, goal_from, objects_from, problem_text}
 use Rattle.pb_make_laws.proofs.SpacedTokens.{Reads, closes, closes_last, key_kind, opens, spelled, weakened, word_kind}
 use Rattle.pb_make_laws.proofs.BlocksTree.{handempty_predicate}
-use Rattle.pb_make_laws.proofs.BlocksAtoms.{IsBlockAtom, NamesBlocks, atom_of_none, blocks_from, names_read, text_of}
-use Rattle.pb_make_laws.proofs.BlocksProblems.{AreBlockAtoms, FactsOf, GoalsOf, and_is, blocks_is, define_is, domain_is, fact_first, facts_read, goal_is, goals_read, handempty_is, init_is, made_is, objects_is, problem_is}
+use Rattle.pb_make_laws.proofs.BlocksAtoms.{atom_of_none, blocks_from, names_read, text_of}
+use Rattle.pb_make_laws.proofs.BlocksProblems.{AreBlockAtoms, FactsOf, GoalsOf, and_is, blocks_is, define_is, domain_is, fact_first, facts_read, goal_is, goals_read, handempty_is, init_is, made_is, objects_is, only_atoms, problem_is}
 
 -- the last parenthesis, and the end
 abbrev Tail : List Token → Type 0
@@ -57,7 +57,7 @@ goal_read blocks ds less few =
       atoms.3,
       (λ said none. (
         key.0,
-        inr (inr (inr (inr (
+        inr (inr (inr (inr (inl (
           atoms.0,
           behind_it.0,
           (found.0, found.1, key.1),
@@ -65,7 +65,7 @@ goal_read blocks ds less few =
           cond_and key.0 inside.0 word.0 atoms.1 behind_it.0 atoms.0 inside.1 word.1 atoms.2 behind_it.1,
           behind_it.2.1,
           refl,
-        )))),
+        ))))),
       )),
       behind_it.2.2,
     ))
@@ -74,7 +74,7 @@ goal_read blocks ds less few =
 
 abbrev InitThen : (blocks : ℕ) → List Token → Type 0
 InitThen blocks ts =
-    (init : List Atom) × (us : List Token) × AreBlockAtoms blocks init × ((said : ProblemParts) → said.init ≡ None → IsProblemSection said ts (record said { init = Some init }) us) × GoalThen blocks us
+    (init : List Atom) × (us : List Token) × AreBlockAtoms blocks init × ((said : ProblemParts) → said.init ≡ None → IsProblemSection said ts (record said { init = Some init; costs = [] }) us) × GoalThen blocks us
 
 abbrev BehindInit : (blocks : ℕ) → List Token → Type 0
 BehindInit blocks ts = (a : List Token) × Closes ts a × GoalThen blocks a
@@ -94,7 +94,7 @@ init_read blocks goal few r =
       atoms.0,
       atoms.4.0,
       atoms.3,
-      (λ said none. (key.0, inr (inr (inr (inl (atoms.0, (found.0, found.1, key.1), none, (atoms.1, atoms.2, atoms.4.1), refl)))))),
+      (λ said none. (key.0, inr (inr (inr (inl (only_atoms atoms.0, (found.0, found.1, key.1), none, (atoms.1, atoms.2, atoms.4.1), refl)))))),
       atoms.4.2,
     ))
 
@@ -192,6 +192,8 @@ pub record IsBlocksProblem (blocks : ℕ) (problem : Problem) : Type 0 where
   pub names : List Name
   pub texts : map text_of names ≡ blocks_from 0 blocks
   pub objects : problem.objects ≡ typed None names
+  pub costs : problem.costs ≡ []
+  pub metric : problem.metric ≡ None
   pub init : AreBlockAtoms blocks problem.init
   pub goal : AreBlockAtoms blocks problem.goal
 
@@ -204,9 +206,9 @@ assembled blocks ts title =
     let tail = goal.4 in
     let one : ProblemParts = record no_problem { domain = Some domain.0 } in
     let two : ProblemParts = record one { objects = Some (typed None objects.0) } in
-    let three : ProblemParts = record two { init = Some init.0 } in
+    let three : ProblemParts = record two { init = Some init.0; costs = [] } in
     let four : ProblemParts = record three { goal = Some goal.0 } in
-    let problem : Problem = record { name = title.0; domain = domain.0; objects = typed None objects.0; init = init.0; goal = goal.0 } in (
+    let problem : Problem = record { name = title.0; domain = domain.0; objects = typed None objects.0; init = init.0; goal = goal.0; costs = []; metric = None } in (
       problem,
       record {
         first = title.1;
@@ -223,8 +225,10 @@ assembled blocks ts title =
         objects = refl;
         init = refl;
         goal = refl;
+        costs = refl;
+        metric = refl;
       },
-      record { domain = domain.2; names = objects.0; texts = objects.2; objects = refl; init = init.2; goal = goal.2 },
+      record { domain = domain.2; names = objects.0; texts = objects.2; objects = refl; costs = refl; metric = refl; init = init.2; goal = goal.2 },
     )
 
 length-draws : (count number : ℕ) → length (draws count number) ≡ count

@@ -3,7 +3,7 @@ use Rattle.std.proofs.Common.{◌≡◌, ℕ, List, Ok, sym, ap, ◌∙◌}
 use Rattle.pb_pddl.specs.declared.token.Token.{Token}
 use Rattle.pb_pddl.specs.declared.tree.Problem.{Problem}
 use Rattle.pb_pddl.specs.Reading.{problem_at, unlimited}
-use Rattle.pb_pddl.specs.Readings.{problem_reading, tokens_of}
+use Rattle.pb_pddl.specs.Readings.{problem_reading}
 use Rattle.pb_pddl.specs.Trees.{SpellsProblem}
 use Rattle.pb_pddl_laws.proofs.FormsRead.{problem_again}
 use Rattle.pb_pddl_laws.proofs.TokensOf.{tokens_are_unique}

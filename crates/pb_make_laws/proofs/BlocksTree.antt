@@ -51,6 +51,7 @@ pick_up = record {
   params = untyped (name (codes "?x") 152) ∷ [];
   pre = atom (name (codes "clear") 177) (variable (name (codes "?x") 183) ∷ []) ∷ atom (name (codes "ontable") 188) (variable (name (codes "?x") 196) ∷ []) ∷ atom (name (codes "handempty") 201) ([]) ∷ [];
   effect = gone (atom (name (codes "ontable") 233) (variable (name (codes "?x") 241) ∷ [])) ∷ gone (atom (name (codes "clear") 252) (variable (name (codes "?x") 258) ∷ [])) ∷ gone (atom (name (codes "handempty") 269) ([])) ∷ come (atom (name (codes "holding") 282) (variable (name (codes "?x") 290) ∷ [])) ∷ [];
+  costs = [];
 }
 
 abbrev pub put_down : Action
@@ -59,6 +60,7 @@ put_down = record {
   params = untyped (name (codes "?x") 327) ∷ [];
   pre = atom (name (codes "holding") 346) (variable (name (codes "?x") 354) ∷ []) ∷ [];
   effect = gone (atom (name (codes "holding") 378) (variable (name (codes "?x") 386) ∷ [])) ∷ come (atom (name (codes "clear") 392) (variable (name (codes "?x") 398) ∷ [])) ∷ come (atom (name (codes "handempty") 403) ([])) ∷ come (atom (name (codes "ontable") 415) (variable (name (codes "?x") 423) ∷ [])) ∷ [];
+  costs = [];
 }
 
 abbrev pub stack : Action
@@ -67,6 +69,7 @@ stack = record {
   params = untyped (name (codes "?x") 457) ∷ untyped (name (codes "?y") 460) ∷ [];
   pre = atom (name (codes "holding") 484) (variable (name (codes "?x") 492) ∷ []) ∷ atom (name (codes "clear") 497) (variable (name (codes "?y") 503) ∷ []) ∷ [];
   effect = gone (atom (name (codes "holding") 528) (variable (name (codes "?x") 536) ∷ [])) ∷ gone (atom (name (codes "clear") 547) (variable (name (codes "?y") 553) ∷ [])) ∷ come (atom (name (codes "clear") 559) (variable (name (codes "?x") 565) ∷ [])) ∷ come (atom (name (codes "handempty") 570) ([])) ∷ come (atom (name (codes "on") 582) (variable (name (codes "?x") 585) ∷ variable (name (codes "?y") 588) ∷ [])) ∷ [];
+  costs = [];
 }
 
 abbrev pub unstack : Action
@@ -75,6 +78,7 @@ unstack = record {
   params = untyped (name (codes "?x") 624) ∷ untyped (name (codes "?y") 627) ∷ [];
   pre = atom (name (codes "on") 652) (variable (name (codes "?x") 655) ∷ variable (name (codes "?y") 658) ∷ []) ∷ atom (name (codes "clear") 663) (variable (name (codes "?x") 669) ∷ []) ∷ atom (name (codes "handempty") 674) ([]) ∷ [];
   effect = come (atom (name (codes "holding") 701) (variable (name (codes "?x") 709) ∷ [])) ∷ come (atom (name (codes "clear") 714) (variable (name (codes "?y") 720) ∷ [])) ∷ gone (atom (name (codes "clear") 730) (variable (name (codes "?x") 736) ∷ [])) ∷ gone (atom (name (codes "handempty") 747) ([])) ∷ gone (atom (name (codes "on") 765) (variable (name (codes "?x") 768) ∷ variable (name (codes "?y") 771) ∷ [])) ∷ [];
+  costs = [];
 }
 
 abbrev pub blocks_tree : Domain
@@ -84,4 +88,5 @@ blocks_tree = record {
   constants = [];
   predicates = on_predicate ∷ ontable_predicate ∷ clear_predicate ∷ handempty_predicate ∷ holding_predicate ∷ [];
   actions = pick_up ∷ put_down ∷ stack ∷ unstack ∷ [];
+  has_cost = false;
 }

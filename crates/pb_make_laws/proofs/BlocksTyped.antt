@@ -1,11 +1,10 @@
 -- A problem of blocks and the domain of the blocks world are well typed.
-use Rattle.std.proofs.Common.{All, ◌≡◌, ℕ, zero, suc, ◌+◌, ◌-◌, ◌<◌, ◌≤◌, ◌^◌, Bool, true, false, cond, ◌||◌, if◌then◌else◌, Option, None, Some, List, [], ◌∷◌, ◌++◌, length, take, drop, map, codes, refl, ap, sym, subst, arith, ◌∙◌}
+use Rattle.std.proofs.Common.{All, ◌≡◌, ℕ, zero, suc, ◌+◌, ◌<◌, ◌≤◌, ◌^◌, Bool, true, false, cond, if◌then◌else◌, Option, None, Some, List, [], ◌∷◌, length, drop, map, codes, refl, ap, sym, subst, arith, ◌∙◌}
 use Rattle.std.proofs.lemmas.List.{length-map}
 use Rattle.std.proofs.lemmas.List.Elements.{All-from_recursion}
 use Rattle.std.proofs.lemmas.Slice.Eq.{bytes_eq-Decides}
 use Rattle.std.proofs.lemmas.Fmt.{decimal_injective}
-use Rattle.std.specs.Fmt.{decimal}
-use Rattle.std.specs.List.{AllByRecursion, find}
+use Rattle.std.specs.List.{AllByRecursion}
 use Rattle.std.specs.Option.{option_map}
 use Rattle.std.specs.Str.{bytes_eq}
 use Rattle.pb_pddl.specs.declared.tree.Name.{Name}
@@ -14,16 +13,17 @@ use Rattle.pb_pddl.specs.declared.tree.Term.{Term}
 use Rattle.pb_pddl.specs.declared.tree.Term.TheVariants as terms
 use Rattle.pb_pddl.specs.declared.tree.Atom.{Atom}
 use Rattle.pb_pddl.specs.declared.tree.Literal.{Literal}
-use Rattle.pb_pddl.specs.declared.tree.Predicate.{Predicate}
+use Rattle.pb_pddl.specs.declared.tree.Cost.{Cost}
 use Rattle.pb_pddl.specs.declared.tree.Action.{Action}
 use Rattle.pb_pddl.specs.declared.tree.Problem.{Problem}
 use Rattle.pb_pddl.specs.Reading.{typed}
-use Rattle.pb_lifted.specs.Names.{number_of, is_among}
+use Rattle.pb_lifted.specs.Names.{number_of}
 use Rattle.pb_lifted.specs.Types.{is_below, kind_or, kind_text, name_text, object}
-use Rattle.pb_lifted.specs.Objects.{entry_of, entry_of_term, objects_of, predicate_of}
+use Rattle.pb_lifted.specs.Objects.{entry_of, objects_of}
 use Rattle.pb_lifted.specs.Facts.{name_at}
 use Rattle.pb_lifted.specs.Space.{FitsParameter}
-use Rattle.pb_lifted.specs.Typing.{ActionFits, AreDistinct, ArgumentsFit, AtomFits, IsRooted, IsWellTyped, KindIsKnown, PredicateFits, action_names, declared_names, object_names, predicate_names}
+use Rattle.pb_lifted.specs.Costs.{cost_of, cost_with}
+use Rattle.pb_lifted.specs.Typing.{ActionFits, AreDistinct, ArgumentsFit, AtomFits, CostsFit, HasNoCosts, IsRooted, IsWellTyped, KindIsKnown, PredicateFits, action_names, declared_names, object_names, predicate_names}
 use Rattle.pb_make.specs.Problems.{block_name}
 use Rattle.pb_make_laws.proofs.BlocksTree.{blocks_tree, on_predicate, ontable_predicate, clear_predicate, handempty_predicate, holding_predicate, pick_up, put_down, stack, unstack}
 use Rattle.pb_make_laws.proofs.BlocksAtoms.{AreBlocks, IsBlock, IsBlockAtom, blocks_from, text_of}
@@ -226,6 +226,31 @@ module _ (blocks : ℕ) (few : blocks ≤ 14) (problem : Problem) (is : IsBlocks
   predicates_fit : AllByRecursion (PredicateFits blocks_tree) blocks_tree.predicates
   predicates_fit = (record { narrow = omega arith; params = All-from_recursion (KindIsKnown []) on_predicate.params (refl, (refl, tt)) }, (record { narrow = omega arith; params = All-from_recursion (KindIsKnown []) ontable_predicate.params (refl, tt) }, (record { narrow = omega arith; params = All-from_recursion (KindIsKnown []) clear_predicate.params (refl, tt) }, (record { narrow = omega arith; params = All-from_recursion (KindIsKnown []) handempty_predicate.params tt }, (record { narrow = omega arith; params = All-from_recursion (KindIsKnown []) holding_predicate.params (refl, tt) }, tt)))))
 
+  -- ---- no costs
+
+  no_costs : HasNoCosts blocks_tree problem
+  no_costs = record {
+    increases = All-from_recursion (λ (a : Action). a.costs ≡ []) blocks_tree.actions (refl, (refl, (refl, (refl, tt))));
+    initial = is.costs;
+    metric = is.metric;
+  }
+
+  costs_something : (action : Action) → 1 ≤ cost_of problem action
+  costs_something action = subst (λ (metric : Option ℕ). 1 ≤ cost_with metric action) (sym is.metric) (omega arith)
+
+  no_number : (P : Cost → Type 0) → All P []
+  no_number P = All-from_recursion P [] tt
+
+  costs_fit : CostsFit blocks_tree problem
+  costs_fit = record {
+    declared = λ e. no_costs;
+    once = All-from_recursion (λ (a : Action). length a.costs ≤ 1) blocks_tree.actions (omega arith, (omega arith, (omega arith, (omega arith, tt))));
+    few = let none = no_number (λ c. c.number ≤ 2 ^ 20) in All-from_recursion (λ (a : Action). All (λ (c : Cost). c.number ≤ 2 ^ 20) a.costs) blocks_tree.actions (none, (none, (none, (none, tt))));
+    some = All-from_recursion (λ (a : Action). 1 ≤ cost_of problem a) blocks_tree.actions (costs_something pick_up, (costs_something put_down, (costs_something stack, (costs_something unstack, tt))));
+    once_at_first = subst (λ (costs : List Cost). length costs ≤ 1) (sym is.costs) (omega arith);
+    none_at_first = subst (λ (costs : List Cost). All (λ (c : Cost). c.number ≡ 0) costs) (sym is.costs) (no_number (λ c. c.number ≡ 0));
+  }
+
   pub object_count : length (objects_of blocks_tree problem) ≡ blocks
   object_count =
       ap length is.objects ∙ sym (length-map (typed None is.names) name_text) ∙ ap length (texts_of_typed is.names) ∙ ap length is.texts ∙ length-blocks 0 blocks
@@ -247,4 +272,5 @@ module _ (blocks : ℕ) (few : blocks ≤ 14) (problem : Problem) (is : IsBlocks
     actions = All-from_recursion (ActionFits blocks_tree problem) blocks_tree.actions (pick_up_fits, (put_down_fits, (stack_fits, (unstack_fits, tt))));
     init = All-from_recursion (AtomFits blocks_tree problem []) problem.init (atoms_fit problem.init is.init);
     goal = All-from_recursion (AtomFits blocks_tree problem []) problem.goal (atoms_fit problem.goal is.goal);
+    costs = costs_fit;
   }
