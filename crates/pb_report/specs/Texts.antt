@@ -144,6 +144,7 @@ want_word wants.Variable = codes "Variable"
 want_word wants.Section = codes "Section"
 want_word wants.Part = codes "Part"
 want_word wants.TypeName = codes "TypeName"
+want_word wants.Number = codes "Number"
 want_word wants.Group = codes "Group"
 want_word wants.Once = codes "Once"
 want_word wants.Missing = codes "Missing"
@@ -154,6 +155,8 @@ left_out_word left_out.Section = codes "Section"
 left_out_word left_out.Part = codes "Part"
 left_out_word left_out.Head = codes "Head"
 left_out_word left_out.Either = codes "Either"
+left_out_word left_out.Function = codes "Function"
+left_out_word left_out.Metric = codes "Metric"
 
 -- why the text of a domain or a problem is refused: the error's name, the number of the file, the place in it, and what was wanted there or is left
 -- out; want of memory has no text
@@ -166,7 +169,7 @@ syntax_text file (syntax.Unclosed at) = Some (with_numbers (codes "input Unclose
 syntax_text file (syntax.Extra at) = Some (with_numbers (codes "input Extra") file at)
 syntax_text file syntax.Memory = None
 
--- why a name is refused, in a word
+-- why a name, or what is said of costs, is refused, in a word
 abbrev pub cause_word : Cause → List ℕ
 cause_word causes.DomainName = codes "DomainName"
 cause_word causes.Twice = codes "Twice"
@@ -177,8 +180,12 @@ cause_word causes.Arity = codes "Arity"
 cause_word causes.UnknownObject = codes "UnknownObject"
 cause_word causes.WrongType = codes "WrongType"
 cause_word causes.TooWide = codes "TooWide"
+cause_word causes.NoFunction = codes "NoFunction"
+cause_word causes.CostTwice = codes "CostTwice"
+cause_word causes.CostRange = codes "CostRange"
+cause_word causes.ZeroCost = codes "ZeroCost"
 
--- why names or objects are refused: the cause, the number of the file and the place of the name in it; or how many objects there are
+-- why names, costs or objects are refused: the cause, the number of the file and the place in it; or how many objects there are
 abbrev pub refusal_text : TypingRefusal → List ℕ
 refusal_text (Named cause place) = with_numbers (spaced (codes "input") (cause_word cause)) (file_number place.file) place.at
 refusal_text (TooManyObjects count) = with_number (codes "input TooManyObjects") count

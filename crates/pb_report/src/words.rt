@@ -28,6 +28,7 @@ pub(crate) fn want_word(want: Want) -> &'static str
         Want::Section => "Section",
         Want::Part => "Part",
         Want::TypeName => "TypeName",
+        Want::Number => "Number",
         Want::Group => "Group",
         Want::Once => "Once",
         Want::Missing => "Missing",
@@ -43,10 +44,12 @@ pub(crate) fn left_out_word(what: LeftOut) -> &'static str
         LeftOut::Part => "Part",
         LeftOut::Head => "Head",
         LeftOut::Either => "Either",
+        LeftOut::Function => "Function",
+        LeftOut::Metric => "Metric",
     }
 }
 
-// Why a name is refused.
+// Why a name, or what is said of costs, is refused.
 pub(crate) fn cause_word(cause: Cause) -> &'static str
     ensures { result.now ≡ cause_word cause }
 {
@@ -60,6 +63,10 @@ pub(crate) fn cause_word(cause: Cause) -> &'static str
         Cause::UnknownObject => "UnknownObject",
         Cause::WrongType => "WrongType",
         Cause::TooWide => "TooWide",
+        Cause::NoFunction => "NoFunction",
+        Cause::CostTwice => "CostTwice",
+        Cause::CostRange => "CostRange",
+        Cause::ZeroCost => "ZeroCost",
     }
 }
 

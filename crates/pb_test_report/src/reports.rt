@@ -139,6 +139,16 @@ fn each_error_of_a_pddl_text_has_its_name_its_place_and_its_word(
         ),
         (
             domain,
+            left_out(50, LeftOut::Function),
+            "input LeftOut 1 50 Function\n",
+        ),
+        (
+            problem,
+            left_out(60, LeftOut::Metric),
+            "input LeftOut 2 60 Metric\n",
+        ),
+        (
+            domain,
             expected(0, Want::Paren),
             "input Expected 1 0 Paren\n",
         ),
@@ -168,6 +178,11 @@ fn each_error_of_a_pddl_text_has_its_name_its_place_and_its_word(
             problem,
             expected(6, Want::TypeName),
             "input Expected 2 6 TypeName\n",
+        ),
+        (
+            domain,
+            expected(14, Want::Number),
+            "input Expected 1 14 Number\n",
         ),
         (
             domain,
@@ -247,6 +262,13 @@ fn each_error_of_a_domain_and_a_problem_has_its_name_and_its_numbers(
             named(Cause::TooWide, domain, u64::MAX),
             "input TooWide 1 18446744073709551615\n",
         ),
+        (
+            named(Cause::NoFunction, problem, 43),
+            "input NoFunction 2 43\n",
+        ),
+        (named(Cause::CostTwice, domain, 7), "input CostTwice 1 7\n"),
+        (named(Cause::CostRange, problem, 5), "input CostRange 2 5\n"),
+        (named(Cause::ZeroCost, domain, 99), "input ZeroCost 1 99\n"),
         (StripsError::Refused(objects), "input TooManyObjects 1001\n"),
         (
             StripsError::TooManyAtoms { n: 257 },
