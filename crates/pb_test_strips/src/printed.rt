@@ -24,6 +24,7 @@ fn act(alloc: Global) -> Result<Action, AllocError> {
         params: one(alloc, b"?x")?,
         pre: Listed::new(alloc),
         effect: Listed::new(alloc),
+        costs: Listed::new(alloc),
     })
 }
 
@@ -36,6 +37,7 @@ fn domain(alloc: Global) -> Result<Domain, AllocError> {
         constants: Listed::new(alloc),
         predicates: Listed::new(alloc),
         actions,
+        has_cost: false,
     })
 }
 
@@ -47,6 +49,8 @@ fn problem(alloc: Global, object: &[u8]) -> Result<Problem, AllocError> {
         objects: one(alloc, object)?,
         init: Listed::new(alloc),
         goal: Listed::new(alloc),
+        costs: Listed::new(alloc),
+        metric: None,
     })
 }
 
