@@ -66,7 +66,7 @@ fn typed(trees: &[Tree]) -> Vec<(String, String)> {
     names
 }
 
-// The literals of a conjunction: whether each is positive, with its words.
+// The literals of a conjunction without its costs: whether each is positive, with its words.
 fn literals(tree: &Tree) -> Vec<(bool, Vec<String>)> {
     let items = tree.list();
     let words = |items: &[Tree]| items.iter().map(|item| item.word().to_string()).collect();
@@ -74,7 +74,18 @@ fn literals(tree: &Tree) -> Vec<(bool, Vec<String>)> {
         None => Vec::new(),
         Some("and") => items[1..].iter().flat_map(literals).collect(),
         Some("not") => vec![(false, words(items[1].list()))],
+        Some("increase" | "=") => Vec::new(),
         Some(_) => vec![(true, words(items))],
+    }
+}
+
+// The costs in an effect, as in `(increase (total-cost) 3)`.
+fn costs(tree: &Tree) -> Vec<u32> {
+    let items = tree.list();
+    match items.first().map(Tree::word) {
+        Some("and") => items[1..].iter().flat_map(costs).collect(),
+        Some("increase") => vec![items[2].word().parse().expect("a cost")],
+        _ => Vec::new(),
     }
 }
 
@@ -82,9 +93,11 @@ struct Schema {
     parameters: Vec<(String, String)>,
     needs: Vec<Vec<String>>,
     effects: Vec<(bool, Vec<String>)>,
+    cost: u32,
 }
 
-fn schema_of(items: &[Tree]) -> Schema {
+// An action costs its increase if there is a metric, else 1.
+fn schema_of(items: &[Tree], has_metric: bool) -> Schema {
     let part = |name: &str| {
         items
             .iter()
@@ -97,6 +110,11 @@ fn schema_of(items: &[Tree]) -> Schema {
             literals(tree).into_iter().map(|literal| literal.1).collect()
         }),
         effects: part(":effect").map_or(Vec::new(), literals),
+        cost: match part(":effect").map_or(Vec::new(), costs)[..] {
+            _ if !has_metric => 1,
+            [cost] if cost >= 1 => cost,
+            _ => panic!("one cost of at least 1"),
+        },
     }
 }
 
@@ -112,6 +130,7 @@ struct Action {
     needs: Set,
     adds: Set,
     deletes: Set,
+    cost: u32,
 }
 
 struct Task {
@@ -196,6 +215,7 @@ impl Grounder<'_> {
                 needs: self.atoms(&needs),
                 adds: self.atoms(&adds),
                 deletes: self.atoms(&deletes),
+                cost: schema.cost,
             };
             self.actions.push(action);
             return;
@@ -228,8 +248,13 @@ fn task_of(domain: &str, problem: &str) -> Task {
             typed(&domain[0].list()[at].list()[1..]).into_iter().collect()
         });
     let is_action = |tree: &&Tree| begins_with(tree, ":action");
-    let schemas: Vec<Schema> =
-        domain[0].list().iter().filter(is_action).map(|tree| schema_of(tree.list())).collect();
+    let has_metric = section(&problem, ":metric").is_some();
+    let schemas: Vec<Schema> = domain[0]
+        .list()
+        .iter()
+        .filter(is_action)
+        .map(|tree| schema_of(tree.list(), has_metric))
+        .collect();
     let objects = section(&problem, ":objects")
         .map_or(Vec::new(), |at| typed(&problem[0].list()[at].list()[1..]));
     let init = &problem[0].list()[section(&problem, ":init").expect("an :init")].list()[1..];
@@ -272,8 +297,56 @@ fn atoms_in(set: &Set) -> impl Iterator<Item = usize> + '_ {
     (0..256).filter(move |atom| has(set, *atom))
 }
 
+// Atoms by their costs: lists if each action costs 1, else a heap.
+enum Queue {
+    Lists { lists: Vec<Vec<u8>>, cost: usize, next: usize },
+    Heap(BinaryHeap<Reverse<(u32, u8)>>),
+}
+
+impl Queue {
+    fn of(task: &Task) -> Queue {
+        if task.actions.iter().all(|action| action.cost == 1) {
+            Queue::Lists { lists: vec![Vec::new(); task.atoms + 2], cost: 0, next: 0 }
+        } else {
+            Queue::Heap(BinaryHeap::new())
+        }
+    }
+
+    fn clear(&mut self) {
+        match self {
+            Queue::Lists { lists, cost, next } => {
+                lists.iter_mut().for_each(Vec::clear);
+                (*cost, *next) = (0, 0);
+            }
+            Queue::Heap(heap) => heap.clear(),
+        }
+    }
+
+    fn push(&mut self, at: u32, atom: u8) {
+        match self {
+            Queue::Lists { lists, .. } => lists[at as usize].push(atom),
+            Queue::Heap(heap) => heap.push(Reverse((at, atom))),
+        }
+    }
+
+    fn pop(&mut self) -> Option<(u32, u8)> {
+        match self {
+            Queue::Lists { lists, cost, next } => {
+                while *cost < lists.len() && *next == lists[*cost].len() {
+                    (*cost, *next) = (*cost + 1, 0);
+                }
+                let atom = *lists.get(*cost)?.get(*next)?;
+                *next += 1;
+                Some((*cost as u32, atom))
+            }
+            Queue::Heap(heap) => heap.pop().map(|Reverse(first)| first),
+        }
+    }
+}
+
 struct Hmax {
     needs: Vec<u16>,
+    prices: Vec<u32>,
     adds: Vec<u8>,
     adds_from: Vec<u32>,
     users: Vec<u32>,
@@ -283,7 +356,7 @@ struct Hmax {
     wanted: u32,
     left: Vec<u16>,
     costs: Vec<u32>,
-    buckets: Vec<Vec<u8>>,
+    queue: Queue,
 }
 
 impl Hmax {
@@ -323,16 +396,19 @@ impl Hmax {
             is_goal: (0..task.atoms).map(|atom| has(&task.goal, atom)).collect(),
             wanted: atoms_in(&task.goal).count() as u32,
             costs: vec![u32::MAX; task.atoms],
-            buckets: vec![Vec::new(); task.atoms + 2],
+            prices: task.actions.iter().map(|action| action.cost).collect(),
+            queue: Queue::of(task),
         }
     }
 
+    // The action's needs are reached at this cost.
     fn reach(&mut self, action: usize, cost: u32) {
+        let cost = cost + self.prices[action];
         for at in self.adds_from[action]..self.adds_from[action + 1] {
             let atom = self.adds[at as usize];
             if cost < self.costs[atom as usize] {
                 self.costs[atom as usize] = cost;
-                self.buckets[cost as usize].push(atom);
+                self.queue.push(cost, atom);
             }
         }
     }
@@ -345,34 +421,30 @@ impl Hmax {
         }
         self.costs.fill(u32::MAX);
         self.left.copy_from_slice(&self.needs);
-        self.buckets.iter_mut().for_each(Vec::clear);
+        self.queue.clear();
         for atom in (0..self.costs.len()).filter(|atom| has(state, *atom)) {
             self.costs[atom] = 0;
-            self.buckets[0].push(atom as u8);
+            self.queue.push(0, atom as u8);
         }
         for at in 0..self.free.len() {
-            self.reach(self.free[at] as usize, 1);
+            self.reach(self.free[at] as usize, 0);
         }
-        for cost in 0..self.buckets.len() - 1 {
-            let mut next = 0;
-            while next < self.buckets[cost].len() {
-                let atom = self.buckets[cost][next] as usize;
-                next += 1;
-                if self.costs[atom] != cost as u32 {
-                    continue;
+        while let Some((cost, atom)) = self.queue.pop() {
+            let atom = atom as usize;
+            if self.costs[atom] != cost {
+                continue;
+            }
+            if self.is_goal[atom] {
+                wanted -= 1;
+                if wanted == 0 {
+                    return Some(cost);
                 }
-                if self.is_goal[atom] {
-                    wanted -= 1;
-                    if wanted == 0 {
-                        return Some(cost as u32);
-                    }
-                }
-                for at in self.users_from[atom]..self.users_from[atom + 1] {
-                    let user = self.users[at as usize] as usize;
-                    self.left[user] -= 1;
-                    if self.left[user] == 0 {
-                        self.reach(user, cost as u32 + 1);
-                    }
+            }
+            for at in self.users_from[atom]..self.users_from[atom + 1] {
+                let user = self.users[at as usize] as usize;
+                self.left[user] -= 1;
+                if self.left[user] == 0 {
+                    self.reach(user, cost);
                 }
             }
         }
@@ -387,13 +459,15 @@ struct Row {
     g: u32,
     h: u32,
     parent: u32,
+    price: u32,
     closed: bool,
 }
 
 fn search(task: &Task) -> (Option<u32>, u64) {
     let mut hmax = Hmax::of(task);
     let Some(first) = hmax.estimate(&task.start) else { return (None, 0) };
-    let mut rows = vec![Row { state: task.start, g: 0, h: first, parent: 0, closed: false }];
+    let start = Row { state: task.start, g: 0, h: first, parent: 0, price: 0, closed: false };
+    let mut rows = vec![start];
     let mut known = HashMap::from([(task.start, 0u32)]);
     let mut open = BinaryHeap::from([Reverse((first, first, 0u32))]);
     let mut expanded = 0;
@@ -402,15 +476,15 @@ fn search(task: &Task) -> (Option<u32>, u64) {
         if row.closed || sum != row.g + h {
             continue;
         }
-        let (state, cost) = (row.state, row.g + 1);
+        let (state, g) = (row.state, row.g);
         if (0..4).all(|i| state[i] & task.goal[i] == task.goal[i]) {
-            let (mut at, mut steps) = (number, 0);
+            let (mut at, mut sum) = (number, 0);
             while at != 0 {
+                sum += rows[at as usize].price;
                 at = rows[at as usize].parent;
-                steps += 1;
             }
-            assert_eq!(steps, cost - 1);
-            return (Some(steps), expanded);
+            assert_eq!(sum, g);
+            return (Some(sum), expanded);
         }
         row.closed = true;
         expanded += 1;
@@ -419,14 +493,14 @@ fn search(task: &Task) -> (Option<u32>, u64) {
                 continue;
             }
             let next: Set = std::array::from_fn(|i| state[i] & !action.deletes[i] | action.adds[i]);
-            let fresh = rows.len() as u32;
+            let (fresh, cost, price) = (rows.len() as u32, g + action.cost, action.cost);
             let at = *known.entry(next).or_insert(fresh);
             if at == fresh {
                 let h = hmax.estimate(&next).unwrap_or(u32::MAX);
-                rows.push(Row { state: next, g: cost, h, parent: number, closed: false });
+                rows.push(Row { state: next, g: cost, h, parent: number, price, closed: false });
             } else if cost < rows[at as usize].g {
                 let row = &mut rows[at as usize];
-                (row.g, row.parent, row.closed) = (cost, number, false);
+                (row.g, row.parent, row.price, row.closed) = (cost, number, price, false);
             } else {
                 continue;
             }

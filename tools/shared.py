@@ -206,7 +206,24 @@ def move_blank(random, board, width, moves):
 
 def make_strips(random, size):
     domain, problem = random.choice([make_blocks, make_delivery, make_domain])(random, size)
+    if random.random() < 0.6:
+        domain, problem = add_costs(random, domain, problem)
     return Task("strips", {"domain": domain.encode(), "problem": problem.encode()})
+
+
+def add_costs(random, domain, problem):
+    """The task with drawn costs of its actions, which count if the problem has a metric."""
+    has_metric = random.random() < 0.8
+    head, *rest = domain.split(":effect (and ")
+    for effect in rest:
+        cost = random.choice([1, 1, 2, 3, 10, 1000, 2**20] + [0] * (not has_metric))
+        increase = f"(increase (total-cost) {cost}) " if has_metric or random.random() < 0.7 else ""
+        head += f":effect (and {increase}{effect}"
+    declared = random.choice(["(:functions (total-cost))", "(:functions (total-cost) - number)"])
+    start = random.choice(["", "(= (total-cost) 0) "])
+    metric = "(:metric minimize (total-cost))" if has_metric else ""
+    return (head.replace("(:predicates", f"{declared} (:predicates", 1),
+            problem.replace("(:init ", f"{metric} (:init {start}", 1))
 
 
 def make_blocks(random, size):
@@ -292,7 +309,8 @@ WORDS_OF_FORMATS = [word.encode() for word in (
     "closed cut none end rows plan cost kind weight pbnf-certificate grid tiles strips goal type "
     "octile height width map version ( ) - = () ?x ?y and not or when define domain problem "
     ":action :parameters :precondition :effect :init :goal :objects :types :predicates "
-    ":constants :requirements :strips :typing :metric object either 0 1 2 3 4 7 15 16 00 01 -1 +1 "
+    ":constants :requirements :strips :typing :functions :metric total-cost number minimize "
+    "maximize increase decrease object either 0 1 2 3 4 7 15 16 00 01 -1 +1 1048576 1048577 "
     "9223372036854775807 9223372036854775808 4294967296 1000 1001 999999999 1000000000").split()]
 
 

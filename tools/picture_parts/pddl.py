@@ -1,4 +1,4 @@
-"""Reads a domain and a problem of PDDL, the STRIPS and typing part, as docs/FORMATS.md says.
+"""Reads a domain and a problem of PDDL, the part of STRIPS, types and costs, as docs/PDDL.md says.
 
 What isn't of this part, or names what isn't declared, is refused with its byte. The numbers of
 ground atoms and actions aren't counted here.
@@ -32,6 +32,14 @@ class Action:
         self.params = []
         self.needs = []
         self.effects = []
+        self.costs = []
+
+
+class Cost:
+    """A cost that is added or set: the names `increase` or `=`, `total-cost`, and the number."""
+
+    def __init__(self, word, function, number):
+        self.word, self.function, self.number = word, function, number
 
 
 class Reader:
@@ -131,8 +139,35 @@ class Reader:
         self.close()
         return terms
 
-    def atoms(self, variables, effects=False):
-        """The atoms of a condition, or the literals of an effect as (atom, is deleted)."""
+    def function(self):
+        """The name `total-cost` in parentheses."""
+        self.open()
+        if self.token in RESERVED:
+            self.refuse(f"`{self.token}` isn't read there")
+        if self.is_word() and self.token != "total-cost":
+            self.refuse(f"the function `{self.token}` isn't read")
+        name = Name.of(self.token, self.at)
+        self.word("total-cost")
+        self.close()
+        return name
+
+    def cost(self):
+        """The cost whose `(` was read, behind which `increase` or `=` stands."""
+        word = Name.of(self.token, self.at)
+        self.advance()
+        function = self.function()
+        if self.token == "(":
+            self.refuse("a cost that isn't a number isn't read")
+        number = Name.of(self.token, self.at)
+        if not re.fullmatch("[0-9]{1,9}", number):
+            self.expected("a number of 1 to 9 digits")
+        self.advance()
+        self.close()
+        return Cost(word, function, number)
+
+    def atoms(self, variables, effects=False, costs=None):
+        """The atoms of a condition, or the literals of an effect as (atom, is deleted), whose costs
+        are added to the list."""
         self.open()
         if self.token == ")":
             self.close()
@@ -141,7 +176,7 @@ class Reader:
             self.advance()
             found = []
             while self.token != ")":
-                found += self.atoms(variables, effects)
+                found += self.atoms(variables, effects, costs)
             self.close()
             return found
         if effects and self.token == "not":
@@ -150,6 +185,9 @@ class Reader:
             atom = self.atom_rest(variables)
             self.close()
             return [(atom, True)]
+        if effects and self.token == "increase":
+            costs.append(self.cost())
+            return []
         atom = self.atom_rest(variables)
         return [(atom, False)] if effects else [atom]
 
@@ -184,6 +222,7 @@ def sections(reader, readers, many=()):
 class Domain:
     def __init__(self, file):
         self.types, self.constants, self.predicates, self.actions = [], [], [], []
+        self.has_cost = False
         reader = self.reader = Reader(file)
         self.name = head(reader, "domain")
         sections(reader, {
@@ -191,6 +230,7 @@ class Domain:
             ":types": lambda: self.types.extend(reader.typed("", "a name")),
             ":constants": lambda: self.constants.extend(reader.typed("", "a name")),
             ":predicates": self.read_predicates,
+            ":functions": self.read_functions,
             ":action": self.read_action}, {":action"})
         reader.finish()
 
@@ -200,6 +240,15 @@ class Domain:
             name = self.reader.take("", "a name")
             self.predicates.append((name, self.reader.typed("?", "a variable")))
             self.reader.close()
+
+    def read_functions(self):
+        reader = self.reader
+        if reader.token != ")":
+            reader.function()
+            self.has_cost = True
+            if reader.token == "-":
+                reader.advance()
+                reader.word("number")
 
     def read_action(self):
         reader = self.reader
@@ -216,12 +265,13 @@ class Domain:
             elif key == ":precondition":
                 action.needs = reader.atoms(True)
             else:
-                action.effects = reader.atoms(True, effects=True)
+                action.effects = reader.atoms(True, effects=True, costs=action.costs)
 
 
 class Problem:
     def __init__(self, file):
         self.objects, self.init, self.goal, self.domain = [], [], [], None
+        self.costs, self.metric = [], None
         reader = self.reader = Reader(file)
         self.name = head(reader, "problem")
         seen = sections(reader, {
@@ -229,7 +279,8 @@ class Problem:
             ":requirements": lambda: requirements(reader),
             ":objects": lambda: self.objects.extend(reader.typed("", "a name")),
             ":init": self.read_init,
-            ":goal": lambda: self.goal.extend(reader.atoms(False))})
+            ":goal": lambda: self.goal.extend(reader.atoms(False)),
+            ":metric": self.read_metric})
         for key in (":domain", ":goal"):
             if key not in seen:
                 reader.refuse(f"`{key}` is missing")
@@ -241,7 +292,16 @@ class Problem:
     def read_init(self):
         while self.reader.token != ")":
             self.reader.open()
-            self.init.append(self.reader.atom_rest(False))
+            if self.reader.token == "=":
+                self.costs.append(self.reader.cost())
+            else:
+                self.init.append(self.reader.atom_rest(False))
+
+    def read_metric(self):
+        if self.reader.is_word() and self.reader.token != "minimize":
+            self.reader.refuse(f"the metric `{self.reader.token}` isn't read")
+        self.reader.word("minimize")
+        self.metric = self.reader.function()
 
 
 def requirements(reader):
@@ -250,7 +310,9 @@ def requirements(reader):
 
 
 CAUSES = ("DomainName", "Twice", "UnknownType", "TypeCycle", "UnknownPredicate", "Arity",
-          "UnknownObject", "WrongType", "TooWide")
+          "UnknownObject", "WrongType", "TooWide", "NoFunction", "CostTwice", "CostRange",
+          "ZeroCost")
+MOST_COST = 2**20
 
 
 class Lifted:
@@ -277,6 +339,7 @@ class Lifted:
             action.kinds = self.declared([(self.domain, action.params)])
         self.refuse_first()
         self.test_atoms()
+        self.test_costs()
         self.refuse_first()
         if len(self.objects) > 1000:
             raise Refused(problem_file, "", f"{len(self.objects)} objects, more than 1000")
@@ -355,6 +418,30 @@ class Lifted:
                 self.fault("UnknownObject", where, term, "is no object or parameter")
             elif kinds and at < len(kinds) and not self.fits(kind, kinds[at]):
                 self.fault("WrongType", where, term, f"isn't of the type {kinds[at]}")
+
+    def test_costs(self):
+        lists = [(self.domain, action.costs) for action in self.domain.actions]
+        lists += [(self.problem, self.problem.costs)]
+        named = [(where, cost.function) for where, costs in lists for cost in costs]
+        named += [(self.problem, name) for name in [self.problem.metric] if name]
+        for where, name in named if not self.domain.has_cost else []:
+            self.fault("NoFunction", where, name, "isn't declared by `:functions`")
+        for where, costs in lists:
+            for cost in costs[1:]:
+                self.fault("CostTwice", where, cost.word, "stands a second time")
+            most = MOST_COST if where is self.domain else 0
+            for cost in costs:
+                if int(cost.number) > most:
+                    self.fault("CostRange", where, cost.number, f"is more than {most}")
+        for action in self.domain.actions if self.problem.metric else []:
+            numbers = [cost.number for cost in action.costs if int(cost.number) == 0]
+            for name in numbers if action.costs else [action.name]:
+                self.fault("ZeroCost", self.domain, name, "costs nothing")
+
+    def cost(self, words):
+        """The cost of the action of these words: 1 if the problem has no metric."""
+        metric = self.problem.metric
+        return int(self.actions[words[0]].costs[0].number) if metric else 1
 
     def start(self):
         return {fact(atom, {}) for atom in self.problem.init}

@@ -18,6 +18,9 @@ def states_along(lifted, report, name):
         if isinstance(state, str):
             raise Refused(name, f"line {at + 2}", f"`{step}` {state}")
         states.append(state)
+    cost = sum(lifted.cost(step[1:-1].split(" ")) for step in report.steps or [])
+    if report.steps is not None and report.cost != cost:
+        raise Refused(name, "line 1", f"the steps cost {cost}")
     if report.steps is not None and not lifted.goal() <= state:
         raise Refused(name, f"line {len(states) + 1}", "the steps don't lead to the goal")
     return states

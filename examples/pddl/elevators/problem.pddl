@@ -1,0 +1,12 @@
+; Five floors; the fast lift stops at the first, the third and the fifth.
+(define (problem five-floors)
+  (:domain elevators)
+  (:objects f1 f2 f3 f4 f5 - floor creep - slow dash - fast ida jon kim - person)
+  (:init (next f1 f2) (next f2 f3) (next f3 f4) (next f4 f5)
+         (express f1 f3) (express f1 f5) (express f3 f1)
+         (express f3 f5) (express f5 f1) (express f5 f3)
+         (stands creep f2) (stands dash f5)
+         (waits ida f1) (waits jon f2) (waits kim f4)
+         (= (total-cost) 0))
+  (:goal (and (waits ida f5) (waits jon f3) (waits kim f1)))
+  (:metric minimize (total-cost)))

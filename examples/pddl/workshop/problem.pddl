@@ -1,0 +1,11 @@
+; The bath is full of blue. Is it worth while to fill it with green for three boards?
+(define (problem five-shelves)
+  (:domain workshop)
+  (:objects b1 b2 b3 b4 b5 - board red green blue - colour)
+  (:init (= (total-cost) 0)
+         (raw b1) (raw b2) (raw b3) (raw b4) (raw b5) (filled blue)
+         (other b1 b2) (other b1 b3) (other b1 b4) (other b1 b5) (other b2 b3)
+         (other b2 b4) (other b2 b5) (other b3 b4) (other b3 b5) (other b4 b5))
+  (:goal (and (painted b1 green) (painted b2 green) (painted b3 green)
+              (painted b4 red) (painted b5 blue)))
+  (:metric minimize (total-cost)))
