@@ -1,5 +1,5 @@
 -- What is claimed of a STRIPS task by names follows from what is claimed of its packed task.
-use Rattle.std.proofs.Common.{◌≡◌, ℕ, ◌+◌, ◌*◌, ◌≤◌, Bool, Option, None, Some, List, length, map, slice_get, Result, Ok, Err, refl, sym, ap, ◌∙◌, subst}
+use Rattle.std.proofs.Common.{◌≡◌, ℕ, ◌+◌, ◌*◌, ◌≤◌, Bool, Option, None, Some, List, map, slice_get, Result, Ok, Err, refl, sym, ap, ◌∙◌, subst}
 use Rattle.pb_model.specs.Plan.{Plan, IsPlan as IsPackedPlan, HasNoPlan, IsBound}
 use Rattle.pb_model.specs.Texts.{plan_report}
 use Rattle.pb_task.specs.declared.parts.TaskParts.{TaskParts}
@@ -9,7 +9,7 @@ use Rattle.pb_pddl.specs.declared.error.SyntaxError.{SyntaxError}
 use Rattle.pb_pddl.specs.declared.tree.Domain.{Domain}
 use Rattle.pb_pddl.specs.declared.tree.Problem.{Problem}
 use Rattle.pb_pddl.specs.Readings.{domain_reading, problem_reading}
-use Rattle.pb_lifted.specs.Plans.{NamedAction, IsPlan}
+use Rattle.pb_lifted.specs.Plans.{NamedAction, IsPlan, plan_cost}
 use Rattle.pb_strips.specs.declared.error.StripsError.{StripsError}
 use Rattle.pb_pddl.specs.Readings.{tokens_of}
 use Rattle.pb_pddl.specs.Trees.{SpellsDomain, SpellsProblem}
@@ -32,7 +32,7 @@ use Rattle.pb_answer.specs.Searches.{weight_asked}
 use Rattle.pb_answer.specs.Outputs.{Output}
 use Rattle.pb_answer.specs.Loaded.{refused_with, strips_told, problem_told, domain_told, strips_task, input_task, with_text, OfTexts, OfCheckedTexts}
 use Rattle.pb_answer.specs.Claims.{Solves, Accepts}
-use Rattle.pb_answer.specs.Named.{SpellTrees, OfTrees, named_cost, HasNoNamedPlan, PrintsNamedPlan, NamedVerdict, AcceptsNamed}
+use Rattle.pb_answer.specs.Named.{SpellTrees, OfTrees, HasNoNamedPlan, PrintsNamedPlan, NamedVerdict, AcceptsNamed}
 
 -- ---- the trees of a task
 
@@ -121,13 +121,13 @@ module _ (domain : Domain) (problem : Problem) (are : AreTask domain problem) wh
   task = parts.Strips (strips_of domain problem)
 
   -- a plan by names is a packed plan of the same cost
-  packed : (others : List NamedAction) → IsPlan domain problem others → (plan : Plan) × IsPackedPlan (space_of task) plan × (plan.cost ≡ named_cost domain others)
-  packed others is = let found = plans_are_packed_plans domain problem others are.accepted is in (record { actions = found.0; cost = length others }, found.1, refl)
+  packed : (others : List NamedAction) → IsPlan domain problem others → (plan : Plan) × IsPackedPlan (space_of task) plan × (plan.cost ≡ plan_cost domain problem others)
+  packed others is = let found = plans_are_packed_plans domain problem others are.accepted is in (record { actions = found.0; cost = plan_cost domain problem others }, found.1, refl)
 
   pub no_named_plan : HasNoPlan (space_of task) → HasNoNamedPlan domain problem
   no_named_plan none actions is =
       let packed = plans_are_packed_plans domain problem actions are.accepted is in
-      none (record { actions = packed.0; cost = length actions }) packed.1
+      none (record { actions = packed.0; cost = plan_cost domain problem actions }) packed.1
 
   pub prints_named_plan : (says : List ℕ → Type 0) (saves : List Output → Type 0)
       (solve : SolveMeaning) → Solves says saves solve task
@@ -135,7 +135,7 @@ module _ (domain : Domain) (problem : Problem) (are : AreTask domain problem) wh
   prints_named_plan says saves solve (plan, bound, text, is, bounded, least, saved, fits) =
       let weight = weight_asked solve in
       let named = packed_plans_are_plans domain problem plan are.accepted is in
-      let cost : plan.cost ≡ named_cost domain named.0 = named.3 in
+      let cost : plan.cost ≡ plan_cost domain problem named.0 = named.3 in
       let names = sym named.2 ∙ names_are_printed domain problem named.0 are.words are.others named.1 in (
         named.0,
         bound,
@@ -144,7 +144,7 @@ module _ (domain : Domain) (problem : Problem) (are : AreTask domain problem) wh
         subst (λ n. IsBound weight n bound) cost bounded,
         λ others other_is.
             let other = packed others other_is in
-            subst (λ n. weight.den * n ≤ weight.num * named_cost domain others) cost
+            subst (λ n. weight.den * n ≤ weight.num * plan_cost domain problem others) cost
             (subst (λ n. weight.den * plan.cost ≤ weight.num * n) other.2 (least other.0 other.1)),
       )
 

@@ -1,6 +1,6 @@
 -- What is claimed of a STRIPS task by names: of the domain and the problem that the texts spell, where a state is a set of facts and an action is one
 -- of the domain's with objects. Neither ground atoms nor bits occur in these claims.
-use Rattle.std.specs.Prelude.{◌≡◌, ℕ, ◌+◌, ◌*◌, ◌≤◌, ⊤, Option, None, Some, List, length, map, slice_get}
+use Rattle.std.specs.Prelude.{◌≡◌, ℕ, ◌+◌, ◌*◌, ◌≤◌, ⊤, Option, None, Some, List, map, slice_get}
 use Rattle.pb_model.specs.Weight.{Weight}
 use Rattle.pb_model.specs.Plan.{IsBound}
 use Rattle.pb_model.specs.Texts.{plan_report}
@@ -9,7 +9,7 @@ use Rattle.pb_task.specs.Parts.{space_of, action_name}
 use Rattle.pb_pddl.specs.declared.tree.Domain.{Domain}
 use Rattle.pb_pddl.specs.declared.tree.Problem.{Problem}
 use Rattle.pb_pddl.specs.Trees.{SpellsDomain, SpellsProblem}
-use Rattle.pb_lifted.specs.Plans.{NamedAction, IsPlan}
+use Rattle.pb_lifted.specs.Plans.{NamedAction, IsPlan, plan_cost}
 use Rattle.pb_strips.specs.Names.{action_bytes}
 use Rattle.pb_strips.specs.Naming.{AreTellingNames}
 use Rattle.pb_check.specs.declared.fault.Verdict.{Verdict}
@@ -40,36 +40,32 @@ OfTrees (Strips names) first texts P =
 
 -- ---- plans
 
--- what the actions cost together: each costs 1
-abbrev pub named_cost : Domain → List NamedAction → ℕ
-named_cost domain actions = length actions
-
 -- no plan costs less than this
 abbrev pub NoneBelow : Domain → Problem → (bound : ℕ) → Type 0
-NoneBelow domain problem bound = (others : List NamedAction) → IsPlan domain problem others → bound ≤ named_cost domain others
+NoneBelow domain problem bound = (others : List NamedAction) → IsPlan domain problem others → bound ≤ plan_cost domain problem others
 
 -- no plan costs less than this cost divided by the weight
 abbrev pub NoneCheaperByNames : Domain → Problem → Weight → (cost : ℕ) → Type 0
 NoneCheaperByNames domain problem weight cost =
-    (others : List NamedAction) → IsPlan domain problem others → weight.den * cost ≤ weight.num * named_cost domain others
+    (others : List NamedAction) → IsPlan domain problem others → weight.den * cost ≤ weight.num * plan_cost domain problem others
 
 abbrev pub HasNoNamedPlan : Domain → Problem → Type 0
 HasNoNamedPlan domain problem = (actions : List NamedAction) → IsPlan domain problem actions → ⊥
 
--- A plan is printed by the names of its actions and their objects, as `(name object ..)` each, with its cost and bound, and no plan costs
--- less than its cost divided by the weight.
+-- A plan is printed by the names of its actions and their objects, as `(name object ..)` each, with what these actions cost together and with
+-- the bound, and no plan costs less than its cost divided by the weight.
 abbrev pub PrintsNamedPlan : (says : List ℕ → Type 0) → Weight → Domain → Problem → Type 0
 PrintsNamedPlan says weight domain problem =
-    (actions : List NamedAction) × (bound : ℕ) × says (plan_report (map (action_bytes domain) actions) (named_cost domain actions) bound)
-    × IsPlan domain problem actions × IsBound weight (named_cost domain actions) bound
-    × NoneCheaperByNames domain problem weight (named_cost domain actions)
+    (actions : List NamedAction) × (bound : ℕ) × says (plan_report (map (action_bytes domain) actions) (plan_cost domain problem actions) bound)
+    × IsPlan domain problem actions × IsBound weight (plan_cost domain problem actions) bound
+    × NoneCheaperByNames domain problem weight (plan_cost domain problem actions)
 
 -- ---- verdicts
 
 -- what an accepted certificate shows: some plan has its cost, and none costs less than the bound; or there is none
 abbrev pub NamedVerdict : Domain → Problem → Verdict → Type 0
 NamedVerdict domain problem (Bounded cost bound) =
-    ((actions : List NamedAction) × IsPlan domain problem actions × (named_cost domain actions ≡ cost)) × NoneBelow domain problem bound
+    ((actions : List NamedAction) × IsPlan domain problem actions × (plan_cost domain problem actions ≡ cost)) × NoneBelow domain problem bound
 NamedVerdict domain problem Unsolvable = HasNoNamedPlan domain problem
 
 abbrev pub AcceptsNamed : (says : List ℕ → Type 0) → Domain → Problem → Type 0
