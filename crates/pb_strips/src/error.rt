@@ -9,7 +9,7 @@ use std::alloc::{AllocError, AllocFailed};
 /// Why a domain and a problem are no task, the first cause in the order of these variants.
 #[derive(Clone, Copy, Debug, PartialEq, Eq)]
 pub enum StripsError {
-    /// A name is at fault, or there are too many objects.
+    /// A name or a cost is at fault, or there are too many objects.
     Refused(TypingRefusal),
     /// There are more than 256 ground atoms: n, or 4,294,967,295 where there are more than that.
     TooManyAtoms { n: u64 },

@@ -26,8 +26,8 @@ fn task_of(alloc: Global, domain: &Domain, problem: &Problem) -> Result<Task, St
 }
 
 /// The task of a domain and a problem: its atoms are the ground atoms in their order, and its actions the ground actions in theirs, under the
-/// names that plans print. Else the first fault: that of a name or of too many objects, then too many atoms, then too many actions. Both limits
-/// are looked at before what they bound is built. At Memory nothing is said.
+/// names that plans print and at their costs. Else the first fault: that of a name, of a cost or of too many objects, then too many atoms, then
+/// too many actions. Both limits are looked at before what they bound is built. At Memory nothing is said.
 pub fn ground(alloc: Global, domain: &Domain, problem: &Problem) -> Result<Task, StripsError>
     // The two are a task.
     ensures accepted { OnOk result (first_fault domain.now problem.now ≡ None) }
