@@ -2,78 +2,10 @@ ghost use Rattle.pb_abstract.specs.Graph.{IsGraphOf};
 
 use pb_abstract::AbsGraph;
 use pb_packed::Packed;
-use pb_task::{Board, Cells, Class, GridParts, Swamp, Task, TilesParts};
+use pb_task::Task;
+use pb_test_examples::{corridor, near_board, one_step_board, open_square, shore};
 use std::alloc::{AllocError, Global};
 use std::test::Fail;
-
-// A map of 3 by 3 cells of land.
-fn open_square(alloc: Global) -> Result<Task, AllocError> {
-    let land = Class::Land;
-    let classes = vec![in alloc; land, land, land, land, land, land, land, land, land]?;
-    let task = Task::of_grid(GridParts {
-        width: 3,
-        height: 3,
-        cells: Cells::of(classes),
-        swamp: Swamp::of(vec![in alloc; false; 9]?),
-        start: (0, 0),
-        goal: (2, 2),
-    });
-    Ok(task)
-}
-
-// A map of two cells side by side, land and water.
-fn shore(alloc: Global) -> Result<Task, AllocError> {
-    let classes = vec![in alloc; Class::Land, Class::Water]?;
-    let task = Task::of_grid(GridParts {
-        width: 2,
-        height: 1,
-        cells: Cells::of(classes),
-        swamp: Swamp::of(vec![in alloc; false; 2]?),
-        start: (0, 0),
-        goal: (0, 0),
-    });
-    Ok(task)
-}
-
-// A map of 9 by 3 cells: one cell of land in the middle of the first row, a row of walls, and a row of land.
-fn corridor(alloc: Global) -> Result<Task, AllocError> {
-    let (wall, land) = (Class::Blocked, Class::Land);
-    let classes = vec![in alloc;
-        wall, wall, wall, wall, land, wall, wall, wall, wall, wall, wall, wall, wall, wall, wall,
-        wall, wall, wall, land, land, land, land, land, land, land, land, land,
-    ]?;
-    let task = Task::of_grid(GridParts {
-        width: 9,
-        height: 3,
-        cells: Cells::of(classes),
-        swamp: Swamp::of(vec![in alloc; false; 27]?),
-        start: (4, 0),
-        goal: (4, 0),
-    });
-    Ok(task)
-}
-
-// A board of 2 by 2 cells.
-fn small_board(alloc: Global) -> Result<Task, AllocError> {
-    let task = Task::of_tiles(TilesParts {
-        rows: 2,
-        cols: 2,
-        start: Board::of(vec![in alloc; 1, 0, 2, 3]?),
-        goal: Board::of(vec![in alloc; 0, 1, 2, 3]?),
-    });
-    Ok(task)
-}
-
-// A board of 3 by 3 cells.
-fn board(alloc: Global) -> Result<Task, AllocError> {
-    let task = Task::of_tiles(TilesParts {
-        rows: 3,
-        cols: 3,
-        start: Board::of(vec![in alloc; 1, 4, 2, 3, 5, 8, 6, 7, 0]?),
-        goal: Board::of(vec![in alloc; 0, 1, 2, 3, 4, 5, 6, 7, 8]?),
-    });
-    Ok(task)
-}
 
 /// The scope of a block, where there is one of this number.
 pub fn scope(graph: &AbsGraph, block: u32) -> &[u32] {
@@ -166,7 +98,7 @@ fn tiled(digits: u64) -> Packed {
 
 #[test]
 fn boards_of_four_cells_have_up_to_24_blocks(rt: HostRuntime) -> Result<(), Fail> {
-    let task = small_board(rt.alloc())?;
+    let task = one_step_board(rt.alloc())?;
     let graph = AbsGraph::of(rt.alloc(), &task, 256)?;
     assert_eq!(rt; graph.count(), 24);
     assert_eq!(rt; block(&graph, &task, &tiled(0x3201)), Some(6));
@@ -183,7 +115,7 @@ fn boards_of_four_cells_have_up_to_24_blocks(rt: HostRuntime) -> Result<(), Fail
 // The boards are written from their last cell to their first: 1 4 2 / 3 5 8 / 6 7 0, and 1 0 4 / 3 5 2 / 6 8 7.
 #[test]
 fn the_blank_takes_tiles_along_between_blocks(rt: HostRuntime) -> Result<(), Fail> {
-    let task = board(rt.alloc())?;
+    let task = near_board(rt.alloc())?;
     let graph = AbsGraph::of(rt.alloc(), &task, 256)?;
     assert_eq!(rt; graph.count(), 72);
     assert_eq!(rt; block(&graph, &task, &tiled(0x076853241)), Some(64));
@@ -196,7 +128,7 @@ fn the_blank_takes_tiles_along_between_blocks(rt: HostRuntime) -> Result<(), Fai
 
 #[test]
 fn projections_of_boards_are_as_fine_as_was_wished_for(rt: HostRuntime) -> Result<(), Fail> {
-    let task = board(rt.alloc())?;
+    let task = near_board(rt.alloc())?;
     let state = tiled(0x076853241);
     for (wish, count, number) in [(16, 9, 8), (71, 9, 8), (503, 72, 64), (504, 504, 449)] {
         let graph = AbsGraph::of(rt.alloc(), &task, wish)?;
@@ -218,7 +150,7 @@ fn crosses_threads<T: Send + Sync>(value: &T) -> &T {
 
 #[test]
 fn threads_may_share_a_graph(rt: HostRuntime) -> Result<(), Fail> {
-    let task = small_board(rt.alloc())?;
+    let task = one_step_board(rt.alloc())?;
     let graph = AbsGraph::of(rt.alloc(), &task, 16)?;
     assert_eq!(rt; crosses_threads(&graph).count(), 12);
     Ok(())

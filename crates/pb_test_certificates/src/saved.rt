@@ -6,7 +6,8 @@ use pb_lists::Bundle;
 use pb_model::{Estimate, Status};
 use pb_outside::{Failed, MemShelf};
 use pb_packed::Packed;
-use pb_task::{Cells, Class, GridParts, Swamp, Task};
+use pb_task::Task;
+use pb_test_examples::two_cells;
 use std::alloc::{AllocError, Global};
 use std::test::Fail;
 
@@ -194,19 +195,6 @@ fn plan_over_two_parts(
     let store = Halves { first, second };
     let plan = trace(alloc, task, &store)?;
     Ok(Some(plan))
-}
-
-// A task of two cells of water, from the left to the right one.
-fn two_cells(alloc: Global) -> Result<Task, AllocError> {
-    let classes = vec![in alloc; Class::Water, Class::Water]?;
-    Ok(Task::of_grid(GridParts {
-        width: 2,
-        height: 1,
-        cells: Cells::of(classes),
-        swamp: Swamp::of(vec![in alloc; false; 2]?),
-        start: (0, 0),
-        goal: (1, 0),
-    }))
 }
 
 #[test]

@@ -1,7 +1,8 @@
 use pb_estimate::Estimator;
 use pb_model::Estimate;
 use pb_packed::Packed;
-use pb_task::{Board, Cells, Class, GridParts, Swamp, Task, TilesParts};
+use pb_task::{Cells, Class, GridParts, Swamp, Task};
+use pb_test_examples::near_board;
 use std::alloc::{AllocError, Global};
 use std::test::Fail;
 
@@ -46,22 +47,11 @@ fn distances_are_counted_in_both_directions(rt: HostRuntime) -> Result<(), Fail>
     Ok(())
 }
 
-// A board of 3 by 3 cells, four steps before its goal: 1 4 2 / 3 5 8 / 6 7 0.
-fn four_steps(alloc: Global) -> Result<Task, AllocError> {
-    let task = Task::of_tiles(TilesParts {
-        rows: 3,
-        cols: 3,
-        start: Board::of(vec![in alloc; 1, 4, 2, 3, 5, 8, 6, 7, 0]?),
-        goal: Board::of(vec![in alloc; 0, 1, 2, 3, 4, 5, 6, 7, 8]?),
-    });
-    Ok(task)
-}
-
 // The boards are written from their last cell to their first: 1 4 2 / 3 5 8 / 6 7 0, where 1, 4, 5 and 8 are one step away; the
 // goal; 0 2 1 / 3 4 5 / 6 7 8; 8 0 6 / 5 4 7 / 2 3 1, where 4 alone is at home, which has a distance of 21.
 #[test]
 fn ways_of_all_tiles_but_the_blank_are_summed(rt: HostRuntime) -> Result<(), Fail> {
-    let task = four_steps(rt.alloc())?;
+    let task = near_board(rt.alloc())?;
     let boards = [
         (0x076853241, 4),
         (0x876543210, 0),

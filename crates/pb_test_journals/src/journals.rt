@@ -2,35 +2,9 @@ use pb_abstract::AbsGraph;
 use pb_journal::{JournalError, Why, check_journal, read_header, write_journal};
 use pb_machine::{End, Event, Settings};
 use pb_outside::{Failed, MemShelf};
-use pb_task::{Board, Cells, Class, GridParts, Swamp, Task, TilesParts};
+use pb_test_examples::{open_square, solved_board};
 use std::alloc::{AllocError, Global};
 use std::test::Fail;
-
-// The graph of a map of 3 by 3 cells of land, each of which is a block.
-fn nine_cells(alloc: Global) -> Result<AbsGraph, AllocError> {
-    let land = Class::Land;
-    let classes = vec![in alloc; land, land, land, land, land, land, land, land, land]?;
-    let task = Task::of_grid(GridParts {
-        width: 3,
-        height: 3,
-        cells: Cells::of(classes),
-        swamp: Swamp::of(vec![in alloc; false; 9]?),
-        start: (0, 0),
-        goal: (2, 2),
-    });
-    AbsGraph::of(alloc, &task, 256)
-}
-
-// The graph of a board of 2 by 2 cells that is its goal.
-fn solved_board(alloc: Global) -> Result<AbsGraph, AllocError> {
-    let task = Task::of_tiles(TilesParts {
-        rows: 2,
-        cols: 2,
-        start: Board::of(vec![in alloc; 0, 1, 2, 3]?),
-        goal: Board::of(vec![in alloc; 0, 1, 2, 3]?),
-    });
-    AbsGraph::of(alloc, &task, 256)
-}
 
 // The lines of the journal of one worker's search over nine cells.
 const LINES: [&str; 22] = [
@@ -85,7 +59,7 @@ fn changed(alloc: Global, changes: &[(usize, &str)]) -> Result<String, AllocErro
 
 // What the checker answers to the journal with these changes.
 fn changed_answer(alloc: Global, changes: &[(usize, &str)]) -> Result<u64, JournalError> {
-    let graph = nine_cells(alloc)?;
+    let graph = AbsGraph::of(alloc, &open_square(alloc)?, 256)?;
     let text = changed(alloc, changes)?;
     check_journal(alloc, &graph, text.as_bytes())
 }
@@ -188,7 +162,7 @@ fn a_line_is_read_exactly(rt: HostRuntime) {
 // A journal that is cut off is refused in the line that it ends in.
 #[test]
 fn every_beginning_of_a_journal_is_refused(rt: HostRuntime) -> Result<(), Fail> {
-    let graph = nine_cells(rt.alloc())?;
+    let graph = AbsGraph::of(rt.alloc(), &open_square(rt.alloc())?, 256)?;
     let text = changed(rt.alloc(), &[])?;
     let bytes = text.as_bytes();
     let mut line = 1u64;
@@ -268,7 +242,7 @@ fn what_is_written_is_accepted(rt: HostRuntime) -> Result<(), Fail> {
     assert!(rt; shelf.has("j"));
     let text = shelf.file("j");
     assert!(rt; text == WRITTEN.as_bytes());
-    let graph = solved_board(rt.alloc())?;
+    let graph = AbsGraph::of(rt.alloc(), &solved_board(rt.alloc())?, 256)?;
     assert!(rt; check_journal(rt.alloc(), &graph, text) == Ok(4));
     assert!(rt;
         read_header(text)

@@ -6,12 +6,12 @@ ghost use Rattle.pb_lease.specs.LeaseValue.{LeaseValue};
 ghost use Rattle.pb_lease.specs.Tables.{blocks};
 ghost use Rattle.pb_lease.specs.GraphValue.{counts_in, IsOfGraph};
 
-use crate::tables::{corridor, nine_cells};
 use pb_abstract::AbsGraph;
 use pb_estimate::Estimator;
 use pb_lease::{Lease, LeaseGraph, LeaseReply, Renewed};
 use pb_machine::{End, Settings};
 use pb_task::Task;
+use pb_test_examples::{corridor, open_square};
 use std::alloc::{AllocError, Global};
 use std::sync::Arc;
 use std::test::Fail;
@@ -162,7 +162,7 @@ fn mark_with_lease(graph: &mut LeaseGraph) -> Option<(u32, Option<u32>, [bool; 6
 
 #[test]
 fn a_better_hot_block_outranks(rt: HostRuntime) -> Result<(), Fail> {
-    let task = nine_cells(rt.alloc())?;
+    let task = open_square(rt.alloc())?;
     if let Some(mut graph) = graph(rt.alloc(), task, 1000, 256)? {
         let answers = [true, false, false, false, true, false];
         let seen = mark_with_lease(&mut graph);
@@ -209,7 +209,7 @@ fn spend_one(graph: &mut LeaseGraph, lease: Lease) -> bool
 #[test]
 fn a_lease_goes_on_while_something_is_left(rt: HostRuntime) -> Result<(), Fail> {
     for (budget, goes_on) in [(1, false), (2, true)] {
-        let task = nine_cells(rt.alloc())?;
+        let task = open_square(rt.alloc())?;
         if let Some(mut graph) = graph(rt.alloc(), task, budget, 1)? {
             assert_eq!(rt; use_up(&mut graph), Some((goes_on, None)));
         } else {

@@ -8,7 +8,6 @@ ghost use Rattle.pb_estimate.specs.Tables.{IsOfTask};
 ghost use Rattle.pb_lease.specs.GraphValue.{setup_in, counts_in};
 ghost use Rattle.pb_lease.specs.Moments.{IsMoment};
 
-use crate::tables::nine_cells;
 use pb_abstract::AbsGraph;
 use pb_estimate::Estimator;
 use pb_expand::{Worked, work};
@@ -16,6 +15,7 @@ use pb_lease::{LeaseGraph, LeaseReply, SwitchReply};
 use pb_machine::{Event, Settings};
 use pb_model::Succ;
 use pb_task::Task;
+use pb_test_examples::open_square;
 use std::sync::Arc;
 use std::test::Fail;
 
@@ -79,7 +79,7 @@ fn release(used: u64) -> Event {
 #[test]
 fn a_worker_goes_on_to_another_block(rt: HostRuntime) -> Result<(), Fail> {
     let alloc = rt.alloc();
-    let task = Arc::new(alloc, nine_cells(alloc)?)?;
+    let task = Arc::new(alloc, open_square(alloc)?)?;
     let start = task.initial();
     if !task.is_state(&start) {
         assert!(rt; false);

@@ -2,43 +2,11 @@
 use pb_abstract::AbsGraph;
 use pb_lease::{MachineTables, ROOM};
 use pb_machine::{End, Settings};
-use pb_task::{Cells, Class, GridParts, Swamp, Task};
+use pb_task::Task;
+use pb_test_examples::{corridor, open_square};
 use std::alloc::{AllocError, Global};
 use std::sync::Arc;
 use std::test::Fail;
-
-// A map of 3 by 3 cells of land.
-pub fn nine_cells(alloc: Global) -> Result<Task, AllocError> {
-    let land = Class::Land;
-    let classes = vec![in alloc; land, land, land, land, land, land, land, land, land]?;
-    let task = Task::of_grid(GridParts {
-        width: 3,
-        height: 3,
-        cells: Cells::of(classes),
-        swamp: Swamp::of(vec![in alloc; false; 9]?),
-        start: (0, 0),
-        goal: (2, 2),
-    });
-    Ok(task)
-}
-
-// A map of 9 by 3 cells: one cell of land in the middle of the first row, a row of walls, and a row of land.
-pub fn corridor(alloc: Global) -> Result<Task, AllocError> {
-    let (wall, land) = (Class::Blocked, Class::Land);
-    let classes = vec![in alloc;
-        wall, wall, wall, wall, land, wall, wall, wall, wall, wall, wall, wall, wall, wall, wall,
-        wall, wall, wall, land, land, land, land, land, land, land, land, land,
-    ]?;
-    let task = Task::of_grid(GridParts {
-        width: 9,
-        height: 3,
-        cells: Cells::of(classes),
-        swamp: Swamp::of(vec![in alloc; false; 27]?),
-        start: (4, 2),
-        goal: (4, 0),
-    });
-    Ok(task)
-}
 
 // The tables of a search of the task by two workers.
 fn tables(
@@ -209,7 +177,7 @@ fn near(tables: &MachineTables, block: u32) -> Option<(u32, u32)> {
 
 #[test]
 fn a_hot_block_waits_for_its_neighbours(rt: HostRuntime) -> Result<(), Fail> {
-    let task = nine_cells(rt.alloc())?;
+    let task = open_square(rt.alloc())?;
     let calls = [
         (Call::Lease(0, 0), Some(256)),
         (Call::Lease(1, 1), None),

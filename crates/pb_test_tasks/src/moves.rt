@@ -4,37 +4,9 @@ ghost use Rattle.pb_task.specs.Parts.{max_degree_of};
 use pb_model::Succ;
 use pb_packed::Packed;
 use pb_task::{Board, Cells, Class, GridParts, PlanFault, Swamp, Task, TaskParts, TilesParts};
+use pb_test_examples::{one_step_board, open_square, other_ring, shore};
 use std::alloc::{AllocError, Global};
 use std::test::Fail;
-
-// A map of 3 by 3 cells of land, from its upper left to its lower right cell.
-fn open_square(alloc: Global) -> Result<Task, AllocError> {
-    let land = Class::Land;
-    let classes = vec![in alloc; land, land, land, land, land, land, land, land, land]?;
-    let task = Task::of_grid(GridParts {
-        width: 3,
-        height: 3,
-        cells: Cells::of(classes),
-        swamp: Swamp::of(vec![in alloc; false; 9]?),
-        start: (0, 0),
-        goal: (2, 2),
-    });
-    Ok(task)
-}
-
-// A map of two cells, land and water, from the one to the other.
-fn shore(alloc: Global) -> Result<Task, AllocError> {
-    let classes = vec![in alloc; Class::Land, Class::Water]?;
-    let task = Task::of_grid(GridParts {
-        width: 2,
-        height: 1,
-        cells: Cells::of(classes),
-        swamp: Swamp::of(vec![in alloc; false; 2]?),
-        start: (0, 0),
-        goal: (1, 0),
-    });
-    Ok(task)
-}
 
 // A map of three cells of land side by side, the middle one of which is swamp, from left to right.
 fn marsh(alloc: Global) -> Result<Task, AllocError> {
@@ -175,28 +147,6 @@ fn threads_may_share_a_task(rt: HostRuntime) -> Result<(), Fail> {
     Ok(())
 }
 
-// A board of 2 by 2 cells, one step before its goal: 1 0 / 2 3.
-fn one_step(alloc: Global) -> Result<Task, AllocError> {
-    let task = Task::of_tiles(TilesParts {
-        rows: 2,
-        cols: 2,
-        start: Board::of(vec![in alloc; 1, 0, 2, 3]?),
-        goal: Board::of(vec![in alloc; 0, 1, 2, 3]?),
-    });
-    Ok(task)
-}
-
-// A board of 2 by 2 cells that never becomes its goal: 0 2 / 1 3.
-fn other_ring(alloc: Global) -> Result<Task, AllocError> {
-    let task = Task::of_tiles(TilesParts {
-        rows: 2,
-        cols: 2,
-        start: Board::of(vec![in alloc; 0, 2, 1, 3]?),
-        goal: Board::of(vec![in alloc; 0, 1, 2, 3]?),
-    });
-    Ok(task)
-}
-
 // A board of 2 rows and 3 columns with its blank at the end of the upper row: 1 2 0 / 3 4 5.
 fn two_by_three(alloc: Global) -> Result<Task, AllocError> {
     let task = Task::of_tiles(TilesParts {
@@ -215,7 +165,7 @@ fn tiled(digits: u64) -> Packed {
 
 #[test]
 fn the_blank_changes_places_with_its_neighbours(rt: HostRuntime) -> Result<(), Fail> {
-    let task = one_step(rt.alloc())?;
+    let task = one_step_board(rt.alloc())?;
     assert!(rt; task.initial() == tiled(0x3201));
     assert!(rt; task.is_goal(&tiled(0x3210)));
     let found = successors(&task, &task.initial(), rt.alloc())?;
@@ -293,7 +243,7 @@ fn boards_of_two_by_two_form_rings_of_twelve(rt: HostRuntime) -> Result<(), Fail
 
 #[test]
 fn only_boards_are_states_of_tiles(rt: HostRuntime) -> Result<(), Fail> {
-    let task = one_step(rt.alloc())?;
+    let task = one_step_board(rt.alloc())?;
     assert!(rt; task.is_state(&tiled(0x0123)));
     for other in [0x3211, 0x32110, 0x4210, 0x1_3210, 0x32, 0] {
         assert!(rt; !task.is_state(&tiled(other)));

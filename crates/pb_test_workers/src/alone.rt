@@ -5,33 +5,14 @@ use pb_estimate::Estimator;
 use pb_lease::LeaseGraph;
 use pb_machine::{End, Event, Settings};
 use pb_outside::{Gate, OpenGate};
-use pb_task::{Board, Cells, Class, GridParts, Swamp, Task, TilesParts};
+use pb_task::{Board, Task, TilesParts};
+use pb_test_examples::{open_square, other_ring, solved_board};
 use pb_workers::run_alone;
 use std::alloc::{AllocError, Global};
 use std::process::Abort;
 use std::sync::Arc;
 use std::sync::atomic::{AtomicU64, Ordering};
 use std::test::Fail;
-
-// A board of 2 by 2 cells that is its goal.
-pub(crate) fn goal_board(alloc: Global) -> Result<Task, AllocError> {
-    Ok(Task::of_tiles(TilesParts {
-        rows: 2,
-        cols: 2,
-        start: Board::of(vec![in alloc; 0, 1, 2, 3]?),
-        goal: Board::of(vec![in alloc; 0, 1, 2, 3]?),
-    }))
-}
-
-// A board of 2 by 2 cells from which no goal is reached.
-pub(crate) fn far_board(alloc: Global) -> Result<Task, AllocError> {
-    Ok(Task::of_tiles(TilesParts {
-        rows: 2,
-        cols: 2,
-        start: Board::of(vec![in alloc; 0, 2, 1, 3]?),
-        goal: Board::of(vec![in alloc; 0, 1, 2, 3]?),
-    }))
-}
 
 // A board of 3 by 3 cells from which no goal is reached.
 pub(crate) fn board(alloc: Global) -> Result<Task, AllocError> {
@@ -40,19 +21,6 @@ pub(crate) fn board(alloc: Global) -> Result<Task, AllocError> {
         cols: 3,
         start: Board::of(vec![in alloc; 0, 2, 1, 3, 4, 5, 6, 7, 8]?),
         goal: Board::of(vec![in alloc; 0, 1, 2, 3, 4, 5, 6, 7, 8]?),
-    }))
-}
-
-// A map of 3 by 3 cells of land, from corner to corner.
-pub(crate) fn open_square(alloc: Global) -> Result<Task, AllocError> {
-    let land = Class::Land;
-    Ok(Task::of_grid(GridParts {
-        width: 3,
-        height: 3,
-        cells: Cells::of(vec![in alloc; land, land, land, land, land, land, land, land, land]?),
-        swamp: Swamp::of(vec![in alloc; false; 9]?),
-        start: (0, 0),
-        goal: (2, 2),
     }))
 }
 
@@ -168,7 +136,7 @@ const OFF: Event = Event::Off {
 
 #[test]
 fn a_board_that_is_its_goal_takes_one_lease(rt: HostRuntime) -> Result<(), Fail> {
-    let task = goal_board(rt.alloc())?;
+    let task = solved_board(rt.alloc())?;
     let graph = searched(rt.alloc(), task, DEFAULTS, &OpenGate)?;
     let journal = [lease(0, 256), release(0), Event::Ended(End::Quiet), OFF];
     expect(&rt, graph, &journal, Some(0));
@@ -205,7 +173,7 @@ fn an_open_square_takes_a_lease_of_each_block_on_the_way(rt: HostRuntime) -> Res
 #[test]
 fn a_search_ends_by_its_budget(rt: HostRuntime) -> Result<(), Fail> {
     for (budget, end) in [(11, End::Budget), (12, End::Quiet)] {
-        let task = far_board(rt.alloc())?;
+        let task = other_ring(rt.alloc())?;
         let words = Words {
             budget,
             lot: 1,

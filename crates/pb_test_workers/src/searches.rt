@@ -4,7 +4,8 @@ use pb_lease::LeaseGraph;
 use pb_machine::{End, Settings};
 use pb_outside::OpenGate;
 use pb_search::search;
-use pb_task::{Board, Cells, Class, GridParts, Swamp, Task, TilesParts};
+use pb_task::Task;
+use pb_test_examples::{near_board, open_square};
 use std::alloc::{AllocError, Global};
 use std::process::Abort;
 use std::sync::{Arc, Wait};
@@ -20,29 +21,6 @@ const ONE_WORKER: Settings = Settings {
     wish: 256,
     plain: false,
 };
-
-// A board of 3 by 3 cells whose one cheapest plan costs 4.
-fn board(alloc: Global) -> Result<Task, AllocError> {
-    Ok(Task::of_tiles(TilesParts {
-        rows: 3,
-        cols: 3,
-        start: Board::of(vec![in alloc; 1, 4, 2, 3, 5, 8, 6, 7, 0]?),
-        goal: Board::of(vec![in alloc; 0, 1, 2, 3, 4, 5, 6, 7, 8]?),
-    }))
-}
-
-// A map of 3 by 3 cells of land, from corner to corner: the cheapest plans cost 4.
-fn map(alloc: Global) -> Result<Task, AllocError> {
-    let land = Class::Land;
-    Ok(Task::of_grid(GridParts {
-        width: 3,
-        height: 3,
-        cells: Cells::of(vec![in alloc; land, land, land, land, land, land, land, land, land]?),
-        swamp: Swamp::of(vec![in alloc; false; 9]?),
-        start: (0, 0),
-        goal: (2, 2),
-    }))
-}
 
 // The graph after a search by so many workers at the weight num/2, or None if a number isn't in
 // range.
@@ -87,10 +65,10 @@ fn searches_end_quietly_with_a_cost_within_the_weight(rt: HostRuntime) -> Result
                 plain,
                 ..ONE_WORKER
             };
-            let task = board(rt.alloc())?;
+            let task = near_board(rt.alloc())?;
             let graph = searched(&rt, rt.alloc(), task, workers, num, settings)?;
             expect(&rt, graph, most);
-            let task = map(rt.alloc())?;
+            let task = open_square(rt.alloc())?;
             let graph = searched(&rt, rt.alloc(), task, workers, num, settings)?;
             expect(&rt, graph, most);
         }
@@ -106,7 +84,7 @@ fn searches_stop_by_their_budget(rt: HostRuntime) -> Result<(), Fail> {
             budget: 3,
             ..ONE_WORKER
         };
-        let task = board(rt.alloc())?;
+        let task = near_board(rt.alloc())?;
         let graph = searched(&rt, rt.alloc(), task, workers, 2, settings)?;
         assert_eq!(rt; graph.map(|graph| graph.end()), Some(Some(End::Budget)));
     }

@@ -1,14 +1,13 @@
 //! Worked rows: whole searches by several workers, each in a thread of its own.
 
-use crate::alone::{
-    DEFAULTS, Words, board, far_board, goal_board, leases, marks, open_square, releases, renewals,
-};
+use crate::alone::{DEFAULTS, Words, board, leases, marks, releases, renewals};
 use pb_abstract::AbsGraph;
 use pb_estimate::Estimator;
 use pb_lease::LeaseGraph;
 use pb_machine::{End, Event, Settings};
 use pb_outside::{Gate, OpenGate};
-use pb_task::{Board, Cells, Class, GridParts, Swamp, Task, TilesParts};
+use pb_task::Task;
+use pb_test_examples::{corridor, near_board, open_square, other_ring, solved_board};
 use pb_workers::run_workers;
 use pb_yard::Yard;
 use std::alloc::{AllocError, Global};
@@ -107,10 +106,10 @@ fn any_number_of_workers_finds_the_same_cost(rt: HostRuntime) -> Result<(), Fail
                 wish,
                 ..DEFAULTS
             };
-            let task = goal_board(rt.alloc())?;
+            let task = solved_board(rt.alloc())?;
             let graph = searched_by(&rt, rt.alloc(), task, words, workers, &OpenGate)?;
             expect_end(&rt, graph, workers, End::Quiet, Some(0));
-            let task = far_board(rt.alloc())?;
+            let task = other_ring(rt.alloc())?;
             let graph = searched_by(&rt, rt.alloc(), task, words, workers, &OpenGate)?;
             expect_end(&rt, graph, workers, End::Quiet, None);
             let task = open_square(rt.alloc())?;
@@ -119,16 +118,6 @@ fn any_number_of_workers_finds_the_same_cost(rt: HostRuntime) -> Result<(), Fail
         }
     }
     Ok(())
-}
-
-// A board of 3 by 3 cells whose one cheapest plan costs 4.
-fn near_board(alloc: Global) -> Result<Task, AllocError> {
-    Ok(Task::of_tiles(TilesParts {
-        rows: 3,
-        cols: 3,
-        start: Board::of(vec![in alloc; 1, 4, 2, 3, 5, 8, 6, 7, 0]?),
-        goal: Board::of(vec![in alloc; 0, 1, 2, 3, 4, 5, 6, 7, 8]?),
-    }))
 }
 
 #[test]
@@ -158,7 +147,7 @@ fn a_budget_ends_the_search_of_all(rt: HostRuntime) -> Result<(), Fail> {
                 lot,
                 ..DEFAULTS
             };
-            let task = far_board(rt.alloc())?;
+            let task = other_ring(rt.alloc())?;
             let graph = searched_by(&rt, rt.alloc(), task, words, workers, &OpenGate)?;
             expect_end(&rt, graph, workers, End::Budget, None);
         }
@@ -284,23 +273,6 @@ impl Gate for PairGate {
             own.store(0, Ordering::SeqCst);
         }
     }
-}
-
-// A map of 9 by 3 cells: a corridor, and a goal that isn't reached from it.
-fn corridor(alloc: Global) -> Result<Task, AllocError> {
-    let land = Class::Land;
-    let wall = Class::Blocked;
-    Ok(Task::of_grid(GridParts {
-        width: 9,
-        height: 3,
-        cells: Cells::of(vec![in alloc;
-            wall, wall, wall, wall, land, wall, wall, wall, wall, wall, wall, wall, wall, wall,
-            wall, wall, wall, wall, land, land, land, land, land, land, land, land, land,
-        ]?),
-        swamp: Swamp::of(vec![in alloc; false; 27]?),
-        start: (4, 2),
-        goal: (4, 0),
-    }))
 }
 
 // The expansions that the events settle.

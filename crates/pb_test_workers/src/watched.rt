@@ -14,24 +14,13 @@ use pb_expand::{Worked, work_watched};
 use pb_lease::{Lease, LeaseGraph, LeaseReply};
 use pb_machine::Settings;
 use pb_model::Succ;
-use pb_task::{Cells, Class, GridParts, Swamp, Task};
+use pb_task::Task;
+use pb_test_examples::two_cells;
 use pb_workers::YardWatch;
 use pb_yard::{Pass, Yard};
 use std::alloc::{AllocError, Global};
 use std::sync::{Arc, Wait};
 use std::test::Fail;
-
-// A map of two cells of water, from the one to the other.
-fn two_cells(alloc: Global) -> Result<Task, AllocError> {
-    Ok(Task::of_grid(GridParts {
-        width: 2,
-        height: 1,
-        cells: Cells::of(vec![in alloc; Class::Water, Class::Water]?),
-        swamp: Swamp::of(vec![in alloc; false, false]?),
-        start: (0, 0),
-        goal: (1, 0),
-    }))
-}
 
 // Whether the pass is told to wait where it asks for a lease. If it gets one, that comes back at
 // once, with a report of out of memory.

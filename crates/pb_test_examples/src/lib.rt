@@ -1,0 +1,8 @@
+//! Small tasks that the crates of tests share.
+#![tactic(auto)]
+
+mod boards;
+mod maps;
+
+pub use boards::{near_board, one_step_board, other_ring, solved_board};
+pub use maps::{corridor, open_square, shore, two_cells};
