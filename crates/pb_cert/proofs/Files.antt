@@ -4,9 +4,10 @@ use Rattle.std.proofs.lemmas.List.{length-append, take-append-drop}
 use Rattle.std.proofs.Math.Seq.{take-suc}
 use Rattle.std.proofs.lemmas.Option.{get_or_from_slice_get, slice_get_within}
 use Rattle.pb_model.specs.Texts.{line, lines}
-use Rattle.pb_outside.specs.Outside.{Files, IfTold, KeepsOthers}
+use Rattle.pb_outside.specs.Outside.{Files, IfTold}
 use Rattle.pb_outside.specs.Calls.{HasBytes}
 use Rattle.pb_outside.specs.Saves.{HoldsPart, IsWritten}
+use Rattle.pb_outside.proofs.Told.{told_both}
 use Rattle.pb_outside.proofs.Saves.{added_written, part_of_more}
 use Rattle.pb_cert.specs.Stated.{PutsLine}
 use Rattle.pb_cert.specs.Saved.{AreLines, AddsLine}
@@ -18,36 +19,14 @@ pub on_err : {T E P : Type 0} (result : Result T E) → P → OnErr result P
 on_err (Ok x) p = tt
 on_err (Err e) p = p
 
-pub on_ok_as : {T E P Q : Type 0} (result : Result T E) → OnOk result P → (P → Q) → OnOk result Q
-on_ok_as (Ok x) p f = f p
-on_ok_as (Err e) p f = tt
-
-pub on_err_as : {T E P Q : Type 0} (result : Result T E) → OnErr result P → (P → Q) → OnErr result Q
-on_err_as (Ok x) p f = tt
-on_err_as (Err e) p f = f p
-
 pub on_ok_both : {T E P Q R : Type 0} (result : Result T E) → OnOk result P → OnOk result Q → (P → Q → R) → OnOk result R
 on_ok_both (Ok x) p q f = f p q
 on_ok_both (Err e) p q f = tt
 
 -- ---- what is told over two calls
 
-pub told_then : (a b c : Option Files) (P Q R : Files → Files → Type 0) → IfTold a b P → IfTold b c Q → ((x y z : Files) → P x y → Q y z → R x z) → IfTold a c R
-told_then None None None P Q R p q f = tt
-told_then (Some x) (Some y) (Some z) P Q R p q f = f x y z p q
-told_then None None (Some z) P Q R p q f = q
-told_then (Some x) (Some y) None P Q R p q f = q
-told_then None (Some y) c P Q R p q f = absurd p
-told_then (Some x) None c P Q R p q f = absurd p
-
 pub told_as : (a b : Option Files) (P R : Files → Files → Type 0) → IfTold a b P → ((x y : Files) → P x y → R x y) → IfTold a b R
-told_as None None P R p f = tt
-told_as (Some x) (Some y) P R p f = f x y p
-told_as None (Some y) P R p f = absurd p
-told_as (Some x) None P R p f = absurd p
-
-pub others_then : (x y z : Files) (name : List ℕ) → KeepsOthers x y name → KeepsOthers y z name → KeepsOthers x z name
-others_then x y z name one two other ne = two other ne ∙ one other ne
+told_as a b P R p f = told_both a b P P R p p (λ x y one two. f x y one)
 
 -- ---- line after line
 

@@ -1,5 +1,5 @@
 -- The whole way of a call of the program, exit by exit.
-use Rattle.std.proofs.Common.{◌≡◌, ◌⊎◌, inl, inr, ℕ, Option, None, Some, IsSome, List, [], ◌∷◌, ◌++◌, length, take, Result, Ok, Err, OnOk, OnErr, refl, sym, ap, subst, ◌∙◌, append_assoc, append-nil}
+use Rattle.std.proofs.Common.{◌≡◌, ◌⊎◌, inl, inr, ℕ, Option, None, Some, IsSome, List, [], ◌∷◌, ◌++◌, length, take, refl, sym, ap, subst, ◌∙◌, append_assoc, append-nil}
 use Rattle.pb_outside.specs.Outside.{Files, IfTold, Appends, KeepsAll, KeepsOthers, KeepsHolds}
 use Rattle.pb_outside.specs.Calls.{Call, Put, PutFailed}
 use Rattle.pb_outside.proofs.Told.{told_then, told_both}
@@ -23,14 +23,6 @@ use Rattle.pb_run.proofs.CallLists.{ended_few, ended_no_fault}
 use Rattle.pb_run.proofs.Told as told
 
 -- ---- one file that is saved
-
-pub on_ok_as : {T E P Q : Type 0} (result : Result T E) → OnOk result P → (P → Q) → OnOk result Q
-on_ok_as (Ok x) p f = f p
-on_ok_as (Err e) p f = tt
-
-pub on_err_as : {T E P Q : Type 0} (result : Result T E) → OnErr result P → (P → Q) → OnErr result Q
-on_err_as (Ok x) p f = tt
-on_err_as (Err e) p f = f p
 
 pub saved_one : (files files' : Option Files) (name text : List ℕ) → IfTold files files' (λ before after. after name ≡ Some text) → IfTold files files' (λ before after. KeepsOthers before after name)
     → IfTold files files' (SavesIn (output name text ∷ []))

@@ -5,7 +5,9 @@ use Rattle.pb_outside.specs.Outside.{KeepsOthers}
 use Rattle.pb_journal.specs.Texts.{event_line, journal_text}
 use Rattle.pb_outside.specs.Saves.{IsPartSaved, HoldsPart, IsWritten, HaveBegun}
 use Rattle.pb_outside.proofs.Saves.{all_written, all_called, told_now}
-use Rattle.pb_journal.proofs.Files.{on_err, on_ok_as, on_err_as, told_then, others_then, text_before, one_event, part_of_text, failed_of_text, text_within, whole_text}
+use Rattle.std.proofs.lemmas.Result.{on_ok_weaker, on_err_weaker}
+use Rattle.pb_outside.proofs.Told.{told_then, others_then}
+use Rattle.pb_journal.proofs.Files.{on_err, text_before, one_event, part_of_text, failed_of_text, text_within, whole_text}
 use Rattle.pb_journal.proofs.writing.write_journal.Goals as goal
 
 pub returns-in_err-add_event-clause-err : goal.returns-in_err-add_event-clause-err
@@ -72,7 +74,7 @@ returns-clause-ok g c =
     let journal = c.args.journal.now in
     let at = c.loop-event.event-index in
     let all = whole_text settings journal at c.loop-event-test.false in
-    on_ok_as c.append_piece.result c.append_piece.ensures.ok (λ ok.
+    on_ok_weaker c.append_piece.result (λ ok.
     told_then (g.H.Shelf.files c.args.shelf.now) (g.H.Shelf.files c.loop-event.shelf)
     (g.H.Shelf.files c.append_piece.new.shelf)
     (λ old new. IsWritten new c.args.name.now c.loop-event.piece (text_before settings journal at))
@@ -81,14 +83,14 @@ returns-clause-ok g c =
     (λ old new. new c.args.name.now ≡ Some (journal_text settings journal))
     c.loop-event.invariant.written ok
     (λ x y z written done. all_written z c.args.name.now (text_before settings journal at)
-    (journal_text settings journal) all (done (text_before settings journal at) written)))
+    (journal_text settings journal) all (done (text_before settings journal at) written))) c.append_piece.ensures.ok
 
 pub returns-clause-err : goal.returns-clause-err
 returns-clause-err g c =
     let settings = c.args.settings.now in
     let journal = c.args.journal.now in
     let at = c.loop-event.event-index in
-    on_err_as c.append_piece.result c.append_piece.ensures.err (λ err.
+    on_err_weaker c.append_piece.result (λ err.
     told_then (g.H.Shelf.files c.args.shelf.now) (g.H.Shelf.files c.loop-event.shelf)
     (g.H.Shelf.files c.append_piece.new.shelf)
     (λ old new. IsWritten new c.args.name.now c.loop-event.piece (text_before settings journal at))
@@ -98,7 +100,7 @@ returns-clause-err g c =
     c.loop-event.invariant.written err
     (λ x y z written part. inr
     (part_of_text z c.args.name.now settings journal at
-    (part (text_before settings journal at) written))))
+    (part (text_before settings journal at) written)))) c.append_piece.ensures.err
 
 pub returns-in_err-add_event-clause-failed : goal.returns-in_err-add_event-clause-failed
 returns-in_err-add_event-clause-failed g c =
@@ -130,23 +132,23 @@ returns-clause-calls g c =
     let settings = c.args.settings.now in
     let journal = c.args.journal.now in
     let at = c.loop-event.event-index in
-    on_ok_as c.append_piece.result c.append_piece.ensures.begun (λ begun.
+    on_ok_weaker c.append_piece.result (λ begun.
     all_called (g.H.Shelf.calls c.args.shelf.now) (g.H.Shelf.calls c.append_piece.new.shelf)
     c.args.name.now (text_before settings journal at) (journal_text settings journal)
     (whole_text settings journal at c.loop-event-test.false)
     (begun (g.H.Shelf.calls c.args.shelf.now) (text_before settings journal at)
-    c.loop-event.invariant.calls))
+    c.loop-event.invariant.calls)) c.append_piece.ensures.begun
 
 pub returns-clause-failed : goal.returns-clause-failed
 returns-clause-failed g c =
     let settings = c.args.settings.now in
     let journal = c.args.journal.now in
     let at = c.loop-event.event-index in
-    on_err_as c.append_piece.result c.append_piece.ensures.failed (λ failed.
+    on_err_weaker c.append_piece.result (λ failed.
     failed_of_text (g.H.Shelf.calls c.args.shelf.now) (g.H.Shelf.calls c.append_piece.new.shelf)
     c.args.name.now settings journal at
     (failed (g.H.Shelf.calls c.args.shelf.now) (text_before settings journal at)
-    c.loop-event.invariant.calls))
+    c.loop-event.invariant.calls)) c.append_piece.ensures.failed
 
 pub returns-clause-sure : goal.returns-clause-sure
 returns-clause-sure g c = λ some can.

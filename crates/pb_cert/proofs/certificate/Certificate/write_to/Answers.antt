@@ -6,7 +6,9 @@ use Rattle.pb_outside.specs.Saves.{IsPartSaved, HoldsPart, IsWritten}
 use Rattle.pb_outside.proofs.Saves.{all_written, all_called, told_now}
 use Rattle.pb_cert.specs.Saved.{AddsLine}
 use Rattle.pb_cert.proofs.LineTexts.{lines_are_text}
-use Rattle.pb_cert.proofs.Files.{on_err, on_ok_as, on_err_as, told_then, others_then, added_next, part_of_lines, all_lines}
+use Rattle.std.proofs.lemmas.Result.{on_ok_weaker, on_err_weaker}
+use Rattle.pb_outside.proofs.Told.{told_then, others_then}
+use Rattle.pb_cert.proofs.Files.{on_err, added_next, part_of_lines, all_lines}
 use Rattle.pb_cert.proofs.SavedCalls.{calls_next, failed_of_lines, lines_within, some_lines}
 use Rattle.pb_cert.proofs.certificate.Certificate.write_to.Goals as goal
 
@@ -46,23 +48,23 @@ pub returns-clause-ok : goal.returns-clause-ok
 returns-clause-ok g c =
     let whole : length (lines_of c.args.self.now) ≤ c.lines.at = omega (arith, c.lines-test.false, c.count-count.ensures.count) in
     let all : lines (take c.lines.at (lines_of c.args.self.now)) ≡ text_of c.args.self.now = all_lines (lines_of c.args.self.now) c.lines.at whole ∙ lines_are_text c.args.self.now in
-    on_ok_as c.append_piece.result c.append_piece.ensures.ok (λ ok.
+    on_ok_weaker c.append_piece.result (λ ok.
     told_then (g.H.Shelf.files c.args.shelf.now) (g.H.Shelf.files c.lines.shelf) (g.H.Shelf.files c.append_piece.new.shelf)
     (λ old new. IsWritten new c.args.name.now c.lines.piece (lines (take c.lines.at (lines_of c.args.self.now))))
     (λ old new. (text : List ℕ) → IsWritten old c.args.name.now c.lines.piece text → IsWritten new c.args.name.now [] text)
     (λ old new. new c.args.name.now ≡ Some (text_of c.args.self.now))
     c.lines.invariant.written ok
-    (λ x y z written done. all_written z c.args.name.now (lines (take c.lines.at (lines_of c.args.self.now))) (text_of c.args.self.now) all (done (lines (take c.lines.at (lines_of c.args.self.now))) written)))
+    (λ x y z written done. all_written z c.args.name.now (lines (take c.lines.at (lines_of c.args.self.now))) (text_of c.args.self.now) all (done (lines (take c.lines.at (lines_of c.args.self.now))) written))) c.append_piece.ensures.ok
 
 pub returns-clause-err : goal.returns-clause-err
 returns-clause-err g c =
-    on_err_as c.append_piece.result c.append_piece.ensures.err (λ err.
+    on_err_weaker c.append_piece.result (λ err.
     told_then (g.H.Shelf.files c.args.shelf.now) (g.H.Shelf.files c.lines.shelf) (g.H.Shelf.files c.append_piece.new.shelf)
     (λ old new. IsWritten new c.args.name.now c.lines.piece (lines (take c.lines.at (lines_of c.args.self.now))))
     (λ old new. (text : List ℕ) → IsWritten old c.args.name.now c.lines.piece text → HoldsPart new c.args.name.now text)
     (λ old new. IsPartSaved old new c.args.name.now (text_of c.args.self.now))
     c.lines.invariant.written err
-    (λ x y z written part. inr (part_of_lines z c.args.name.now (text_of c.args.self.now) (lines_of c.args.self.now) c.lines.at (lines_are_text c.args.self.now) (part (lines (take c.lines.at (lines_of c.args.self.now))) written))))
+    (λ x y z written part. inr (part_of_lines z c.args.name.now (text_of c.args.self.now) (lines_of c.args.self.now) c.lines.at (lines_are_text c.args.self.now) (part (lines (take c.lines.at (lines_of c.args.self.now))) written)))) c.append_piece.ensures.err
 
 pub returns-in_err-add_line-clause-failed : goal.returns-in_err-add_line-clause-failed
 returns-in_err-add_line-clause-failed g c =
@@ -81,15 +83,15 @@ pub returns-clause-calls : goal.returns-clause-calls
 returns-clause-calls g c =
     let whole : length (lines_of c.args.self.now) ≤ c.lines.at = omega (arith, c.lines-test.false, c.count-count.ensures.count) in
     let all : lines (take c.lines.at (lines_of c.args.self.now)) ≡ text_of c.args.self.now = all_lines (lines_of c.args.self.now) c.lines.at whole ∙ lines_are_text c.args.self.now in
-    on_ok_as c.append_piece.result c.append_piece.ensures.begun (λ begun.
+    on_ok_weaker c.append_piece.result (λ begun.
     all_called (g.H.Shelf.calls c.args.shelf.now) (g.H.Shelf.calls c.append_piece.new.shelf) c.args.name.now (lines (take c.lines.at (lines_of c.args.self.now))) (text_of c.args.self.now) all
-    (begun (g.H.Shelf.calls c.args.shelf.now) (lines (take c.lines.at (lines_of c.args.self.now))) c.lines.invariant.calls))
+    (begun (g.H.Shelf.calls c.args.shelf.now) (lines (take c.lines.at (lines_of c.args.self.now))) c.lines.invariant.calls)) c.append_piece.ensures.begun
 
 pub returns-clause-failed : goal.returns-clause-failed
 returns-clause-failed g c =
-    on_err_as c.append_piece.result c.append_piece.ensures.failed (λ failed.
+    on_err_weaker c.append_piece.result (λ failed.
     failed_of_lines (g.H.Shelf.calls c.args.shelf.now) (g.H.Shelf.calls c.append_piece.new.shelf) c.args.name.now (text_of c.args.self.now) (lines_of c.args.self.now) c.lines.at (lines_are_text c.args.self.now)
-    (failed (g.H.Shelf.calls c.args.shelf.now) (lines (take c.lines.at (lines_of c.args.self.now))) c.lines.invariant.calls))
+    (failed (g.H.Shelf.calls c.args.shelf.now) (lines (take c.lines.at (lines_of c.args.self.now))) c.lines.invariant.calls)) c.append_piece.ensures.failed
 
 pub returns-clause-sure : goal.returns-clause-sure
 returns-clause-sure g c = λ some can.
