@@ -1,12 +1,9 @@
 -- The top of the first bucket is the first Opened row.
-use Rattle.std.proofs.Common.{◌≡◌, ◌≤◌, ℕ, Bool, true, false, Option, Some, None, List, [], ◌∷◌, ◌&&◌, ◌||◌, ◌⊎◌, inl, inr, refl, sym, ap, ◌∙◌, subst, arith, nat_eq, nat_lt, true≢false, is_some, IfSome, slice_get}
-use Rattle.std.proofs.lemmas.Bool.Decides.{nat_tests}
-use Rattle.std.specs.List.{AllByRecursion}
-use Rattle.std.specs.Ordering.{nat_cmp, is_lt, is_gt}
-use Rattle.std.specs.declared.cmp.Reverse.{Reverse}
+use Rattle.std.proofs.Common.{◌≡◌, ◌≤◌, ◌<◌, ℕ, Bool, true, Option, Some, None, List, [], ◌∷◌, ◌&&◌, ◌⊎◌, inl, inr, refl, sym, ap, ◌∙◌, subst, arith, nat_lt, true≢false, is_some, IfSome, slice_get}
+use Rattle.std.specs.Ordering.{is_gt}
 use Rattle.std.specs.BTreeMap.{get, IsLowerBound}
-use Rattle.std.specs.BinaryHeap.{lt_by_cmp}
 use Rattle.pb_model.specs.declared.key.Key.{Key}
+use Rattle.pb_model.specs.declared.key.Key.TheVariants.{Sum, Dead}
 use Rattle.pb_model.specs.declared.row.Row.{Row}
 use Rattle.pb_model.specs.declared.row.Status.{Status}
 use Rattle.pb_model.specs.declared.row.Status.TheVariants.{Opened, Closed, Cut}
@@ -16,26 +13,13 @@ use Rattle.pb_model.specs.Weight.{Weight}
 use Rattle.pb_model.proofs.Keys.{key_cases}
 use Rattle.pb_model.proofs.Tests.{by_cases, below, not_below}
 use Rattle.pb_lists.specs.Bundle.{row_in}
-use Rattle.pb_lists.specs.Fields.{key_at, is_opened, is_open_at}
-use Rattle.pb_lists.specs.Buckets.{Buckets, later, is_among, states_of, states_in, has_state, top_of, IsOrdered, HasHeaps, HasFiled, is_led, is_tidy, IsTidy}
+use Rattle.pb_lists.specs.Fields.{key_at, is_opened, is_open_at, sum_of, estimate_in, key_with}
+use Rattle.pb_lists.specs.Buckets.{Buckets, Entry, IsNoLater, has_entry, has_in, has_at, top_of, IsOrdered, HasHeaps, HasFiled, is_led, is_tidy, IsTidy}
 use Rattle.pb_lists.specs.declared.bucket.Bucket.{Bucket}
-use Rattle.pb_lists.proofs.Order.{less, key_found, key_above}
+use Rattle.pb_lists.proofs.Order.{key_found, key_above}
 
--- ---- the top of a heap
-
-not_less : (a b : ℕ) → is_lt (nat_cmp a b) ≡ false → b ≤ a
-not_less a b e = by_cases (nat_lt a b) (λ t. absurd (true≢false (sym (ap is_lt (less a b (below a b t))) ∙ e))) (λ f. not_below a b f)
-
-pub least_among : (item : Reverse ℕ) (states : List (Reverse ℕ)) → AllByRecursion (λ other. lt_by_cmp later item other ≡ false) states → (state : ℕ) → is_among state states ≡ true → item.0 ≤ state
-least_among item [] above state among = absurd (true≢false (sym among))
-least_among item (other ∷ states) above state among = which (nat_eq state other.0) refl among (λ m. least_among item states above.1 state m)
-  where
-    which : (b : Bool) → nat_eq state other.0 ≡ b → (b || is_among state states) ≡ true → (is_among state states ≡ true → item.0 ≤ state) → item.0 ≤ state
-    which true e m rest = let same : state ≡ other.0 = grind (arith, nat_tests) in let le = not_less other.0 item.0 above.0 in omega arith
-    which false e m rest = rest m
-
-pub heap_at : (buckets : Buckets) (key : Key) (bucket : Bucket) → get key_cmp buckets key ≡ Some bucket → HasHeaps buckets → IsOrdered bucket
-heap_at buckets key bucket value heaps = subst (λ found. IfSome found IsOrdered) value (heaps key)
+pub heap_at : (buckets : Buckets) (sum : Key) (bucket : Bucket) → get key_cmp buckets sum ≡ Some bucket → HasHeaps buckets → IsOrdered bucket
+heap_at buckets sum bucket value heaps = subst (λ found. IfSome found IsOrdered) value (heaps sum)
 
 -- ---- the first bucket
 
@@ -54,64 +38,119 @@ open_row_at weight (Some row) key e =
     let two : (row.status ≡ Opened) × (same_key (key_at weight row) key ≡ true) = opened_status row.status (same_key (key_at weight row) key) e in
     (row, refl, two.0, key_found (key_at weight row) key two.1)
 
-has_bucket : (state : ℕ) (found : Option Bucket) → is_among state (states_in found) ≡ true → is_some found ≡ true
-has_bucket state None e = absurd (true≢false (sym e))
-has_bucket state (Some bucket) e = refl
+has_bucket : (entry : Entry) (found : Option Bucket) → has_in found entry ≡ true → is_some found ≡ true
+has_bucket entry None e = absurd (true≢false (sym e))
+has_bucket entry (Some bucket) e = refl
 
-led_first : (weight : Weight) (entries : List (ℕ × Row)) (list : List (Key × Bucket)) (key : Key) (bucket : Bucket) → slice_get list 0 ≡ Some (key, bucket) → is_tidy weight entries list ≡ true
-    → is_led weight entries key (states_of bucket) ≡ true
-led_first weight entries [] key bucket first tidy = cc
-led_first weight entries (entry ∷ list) key bucket first tidy =
-    let same : entry ≡ (key, bucket) = cc in
-    subst (λ (e : Key × Bucket). is_led weight entries e.0 (states_of e.1) ≡ true) same tidy
+led_first : (weight : Weight) (entries : List (ℕ × Row)) (list : List (Key × Bucket)) (sum : Key) (bucket : Bucket) → slice_get list 0 ≡ Some (sum, bucket) → is_tidy weight entries list ≡ true
+    → is_led weight entries sum (top_of bucket) ≡ true
+led_first weight entries [] sum bucket first tidy = cc
+led_first weight entries (entry ∷ list) sum bucket first tidy =
+    let same : entry ≡ (sum, bucket) = cc in
+    subst (λ (e : Key × Bucket). is_led weight entries e.0 (top_of e.1) ≡ true) same tidy
+
+-- ---- keys of one sum
+
+-- of two keys at one sum the one of the lesser estimate is below
+below_at_sum : (key : Key) (h : ℕ) → IsKeyBelow key (key_with (sum_of key) h) → estimate_in key < h
+below_at_sum (Sum sum k) h (inl l) = absurd (omega arith)
+below_at_sum (Sum sum k) h (inr l) = l.1
+below_at_sum Dead h low = absurd low
+
+-- a key of a greater sum isn't below
+not_below_sum : (key sum : Key) (h : ℕ) → IsKeyBelow sum (sum_of key) → IsKeyBelow key (key_with sum h) → ⊥
+not_below_sum (Sum a k) (Sum b n) h (inl above) (inl l) = absurd (omega arith)
+not_below_sum (Sum a k) (Sum b n) h (inl above) (inr l) = let e = l.0 in absurd (omega arith)
+not_below_sum (Sum a k) (Sum b n) h (inr above) low = let e = above.1 in absurd (omega arith)
+not_below_sum (Sum a k) Dead h above low = absurd above
+not_below_sum Dead sum h above low = absurd low
+
+not_above_sum : (key sum : Key) (h : ℕ) → IsKeyBelow sum (sum_of key) → key ≡ key_with sum h → ⊥
+not_above_sum key (Sum b n) h above same = which (subst (λ k. IsKeyBelow (Sum b n) (sum_of k)) same above)
+  where
+    which : IsKeyBelow (Sum b n) (Sum b 0) → ⊥
+    which (inl l) = absurd (omega arith)
+    which (inr l) = let e = l.1 in absurd (omega arith)
+not_above_sum key Dead h above same = absurd above
+
+estimate_with : (sum : Key) (h : ℕ) → estimate_in (key_with sum h) ≤ h
+estimate_with (Sum sum k) h = omega arith
+estimate_with Dead h = omega arith
+
+-- ---- the first row
 
 module _ (weight : Weight) (entries : List (ℕ × Row)) (buckets : Buckets) (filed : HasFiled weight entries buckets) (tidy : IsTidy weight entries buckets)
-    (key : Key) (bucket : Bucket) (first : slice_get buckets.entries 0 ≡ Some (key, bucket)) (value : get key_cmp buckets key ≡ Some bucket) (least : IsLowerBound key_cmp buckets key) where
-  led : is_led weight entries key (states_of bucket) ≡ true
-  led = led_first weight entries buckets.entries key bucket first tidy
+    (sum : Key) (bucket : Bucket) (first : slice_get buckets.entries 0 ≡ Some (sum, bucket)) (value : get key_cmp buckets sum ≡ Some bucket) (least : IsLowerBound key_cmp buckets sum) where
+  led : is_led weight entries sum (top_of bucket) ≡ true
+  led = led_first weight entries buckets.entries sum bucket first tidy
 
-  -- no Opened row has a lesser key
-  not_above : (state : ℕ) (row : Row) → row_in entries state ≡ Some row → row.status ≡ Opened → IsKeyBelow (key_at weight row) key → ⊥
+  -- no Opened row has a lesser sum
+  not_above : (state : ℕ) (row : Row) → row_in entries state ≡ Some row → row.status ≡ Opened → IsKeyBelow (sum_of (key_at weight row)) sum → ⊥
   not_above state row found opened low =
-      true≢false (sym (ap is_gt (key_above key (key_at weight row) low))
-      ∙ least (key_at weight row) (has_bucket state (get key_cmp buckets (key_at weight row)) (filed state row found opened)))
+      true≢false (sym (ap is_gt (key_above sum (sum_of (key_at weight row)) low))
+      ∙ least (sum_of (key_at weight row)) (has_bucket (estimate_in (key_at weight row), state) (get key_cmp buckets (sum_of (key_at weight row))) (filed state row found opened)))
 
-  pub best_of : IsBest weight (row_in entries) (Some key)
-  best_of = top (states_of bucket) led
-    where
-      top : (states : List (Reverse ℕ)) → is_led weight entries key states ≡ true → IsBest weight (row_in entries) (Some key)
-      top [] e = absurd (true≢false (sym e))
-      top (state ∷ states) e =
-          let here = open_row_at weight (row_in entries state.0) key e in (
-            (state.0, here.0, here.1, here.2, here.3),
-            λ other has low. not_above has.0 has.1 has.2 has.3 (subst (λ k. IsKeyBelow k key) (sym has.4) low),
-          )
+  -- the first bucket has a top
+  pub has_top : top_of bucket ≡ None → ⊥
+  has_top none = true≢false (sym led ∙ ap (λ top. is_led weight entries sum top) none)
 
-  first_row : (state : ℕ) → HasKey weight (row_in entries state) key → ((other : ℕ) → is_among other (states_of bucket) ≡ true → state ≤ other) → (row : Row) × IsFirstRow weight (row_in entries) state row
-  first_row state here low = (here.0, record { found = here.1; opened = here.2; first = before })
-    where
-      at_key : (other : ℕ) (other_row : Row) → row_in entries other ≡ Some other_row → other_row.status ≡ Opened → key ≡ key_at weight other_row
-          → (other ≡ state) ⊎ IsBefore (key_at weight here.0) state (key_at weight other_row) other
-      at_key other other_row found opened same =
-          let member : is_among other (states_of bucket) ≡ true =
-          sym (ap (λ f. is_among other (states_in f)) value) ∙ subst (λ k. has_state buckets k other ≡ true) (sym same) (filed other other_row found opened) in
-          let le : state ≤ other = low other member in
-          by_cases (nat_lt state other) (λ t. inr (inr (here.3 ∙ same, below state other t))) (λ f. let ge = not_below state other f in inl (omega arith))
+  module _ (top : Entry) (is_top : Some top ≡ top_of bucket) (low : (other : Entry) → has_entry bucket other ≡ true → IsNoLater top other) where
+    here : HasKey weight (row_in entries top.1) (key_with sum top.0)
+    here = open_row_at weight (row_in entries top.1) (key_with sum top.0) (ap (λ found. is_led weight entries sum found) is_top ∙ led)
 
-      before : (other : ℕ) (other_row : Row) → row_in entries other ≡ Some other_row → other_row.status ≡ Opened → (other ≡ state) ⊎ IsBefore (key_at weight here.0) state (key_at weight other_row) other
-      before other other_row found opened = which (key_cases key (key_at weight other_row))
-        where
-          which : (IsKeyBelow key (key_at weight other_row) ⊎ ((key ≡ key_at weight other_row) ⊎ IsKeyBelow (key_at weight other_row) key))
-              → (other ≡ state) ⊎ IsBefore (key_at weight here.0) state (key_at weight other_row) other
-          which (inl l) = inr (inl (subst (λ k. IsKeyBelow k (key_at weight other_row)) (sym here.3) l))
-          which (inr (inl same)) = at_key other other_row found opened same
-          which (inr (inr g)) = absurd (not_above other other_row found opened g)
+    -- a row of this sum is in the bucket
+    at_sum : (state : ℕ) (row : Row) → row_in entries state ≡ Some row → row.status ≡ Opened → sum_of (key_at weight row) ≡ sum → IsNoLater top (estimate_in (key_at weight row), state)
+    at_sum state row found opened same =
+        low (estimate_in (key_at weight row), state)
+        (sym (ap (λ f. has_in f (estimate_in (key_at weight row), state)) value)
+        ∙ subst (λ k. has_at buckets k (estimate_in (key_at weight row), state) ≡ true) same (filed state row found opened))
 
-  pub first_of : (result : Option ℕ) → result ≡ top_of (states_of bucket) → IfSome result (λ state. (other : ℕ) → is_among other (states_of bucket) ≡ true → state ≤ other)
-      → IfSome result (λ state. (row : Row) × IsFirstRow weight (row_in entries) state row)
-  first_of None is low = tt
-  first_of (Some state) is low = top (states_of bucket) is led
-    where
-      top : (states : List (Reverse ℕ)) → Some state ≡ top_of states → is_led weight entries key states ≡ true → (row : Row) × IsFirstRow weight (row_in entries) state row
-      top [] e l = absurd (true≢false (sym l))
-      top (other ∷ states) e l = let same : other.0 ≡ state = cc in first_row state (open_row_at weight (row_in entries state) key (subst (λ s. is_open_at weight (row_in entries s) key ≡ true) same l)) low
+    -- no Opened row has a lesser key
+    not_below_top : (state : ℕ) (row : Row) → row_in entries state ≡ Some row → row.status ≡ Opened → IsKeyBelow (key_at weight row) (key_with sum top.0) → ⊥
+    not_below_top state row found opened below = which (key_cases (sum_of (key_at weight row)) sum)
+      where
+        at_least : IsNoLater top (estimate_in (key_at weight row), state) → top.0 ≤ estimate_in (key_at weight row)
+        at_least (inl l) = omega arith
+        at_least (inr l) = let e = l.0 in omega arith
+
+        which : (IsKeyBelow (sum_of (key_at weight row)) sum ⊎ ((sum_of (key_at weight row) ≡ sum) ⊎ IsKeyBelow sum (sum_of (key_at weight row)))) → ⊥
+        which (inl l) = not_above state row found opened l
+        which (inr (inl same)) =
+            let le = at_least (at_sum state row found opened same) in
+            let lt = below_at_sum (key_at weight row) top.0 (subst (λ k. IsKeyBelow (key_at weight row) (key_with k top.0)) (sym same) below) in
+            absurd (omega arith)
+        which (inr (inr g)) = not_below_sum (key_at weight row) sum top.0 g below
+
+    pub best_of : IsBest weight (row_in entries) (Some (key_with sum top.0))
+    best_of = (
+      (top.1, here.0, here.1, here.2, here.3),
+      λ other has low. not_below_top has.0 has.1 has.2 has.3 (subst (λ k. IsKeyBelow k (key_with sum top.0)) (sym has.4) low),
+    )
+
+    pub first_row : (row : Row) × IsFirstRow weight (row_in entries) top.1 row
+    first_row = (here.0, record { found = here.1; opened = here.2; first = before })
+      where
+        no_more : (state : ℕ) (row : Row) → key_with sum top.0 ≡ key_at weight row → IsNoLater top (estimate_in (key_at weight row), state) → top.1 ≤ state
+        no_more state row same (inl l) =
+            let le = subst (λ k. estimate_in k ≤ top.0) same (estimate_with sum top.0) in
+            absurd (omega arith)
+        no_more state row same (inr l) = l.1
+
+        at_key : (other : ℕ) (row : Row) → row_in entries other ≡ Some row → row.status ≡ Opened → key_with sum top.0 ≡ key_at weight row → top.1 ≤ other
+        at_key other row found opened same = which (key_cases (sum_of (key_at weight row)) sum)
+          where
+            which : (IsKeyBelow (sum_of (key_at weight row)) sum ⊎ ((sum_of (key_at weight row) ≡ sum) ⊎ IsKeyBelow sum (sum_of (key_at weight row)))) → top.1 ≤ other
+            which (inl l) = absurd (not_above other row found opened l)
+            which (inr (inl e)) = no_more other row same (at_sum other row found opened e)
+            which (inr (inr g)) = absurd (not_above_sum (key_at weight row) sum top.0 g (sym same))
+
+        before : (other : ℕ) (row : Row) → row_in entries other ≡ Some row → row.status ≡ Opened → (other ≡ top.1) ⊎ IsBefore (key_at weight here.0) top.1 (key_at weight row) other
+        before other row found opened = which (key_cases (key_with sum top.0) (key_at weight row))
+          where
+            which : (IsKeyBelow (key_with sum top.0) (key_at weight row) ⊎ ((key_with sum top.0 ≡ key_at weight row) ⊎ IsKeyBelow (key_at weight row) (key_with sum top.0)))
+                → (other ≡ top.1) ⊎ IsBefore (key_at weight here.0) top.1 (key_at weight row) other
+            which (inl l) = inr (inl (subst (λ k. IsKeyBelow k (key_at weight row)) (sym here.3) l))
+            which (inr (inl same)) =
+                let le = at_key other row found opened same in
+                by_cases (nat_lt top.1 other) (λ t. inr (inr (here.3 ∙ same, below top.1 other t))) (λ f. let ge = not_below top.1 other f in inl (omega arith))
+            which (inr (inr g)) = absurd (not_below_top other row found opened g)

@@ -13,10 +13,10 @@ use Rattle.pb_model.proofs.Tests.{below}
 pub less : (a b : ℕ) → a < b → nat_cmp a b ≡ Less
 less a b h = sym (nat_cmp_is a b Less h)
 
-equal : (a b : ℕ) → a ≡ b → nat_cmp a b ≡ Equal
+pub equal : (a b : ℕ) → a ≡ b → nat_cmp a b ≡ Equal
 equal a b h = sym (nat_cmp_is a b Equal h)
 
-greater : (a b : ℕ) → b < a → nat_cmp a b ≡ Greater
+pub greater : (a b : ℕ) → b < a → nat_cmp a b ≡ Greater
 greater a b h = sym (nat_cmp_is a b Greater h)
 
 pub key_below : (key other : Key) → IsKeyBelow key other → key_cmp key other ≡ Less

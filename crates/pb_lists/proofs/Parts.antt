@@ -1,13 +1,24 @@
--- The states of a bucket, in two parts, after one came or left.
-use Rattle.std.proofs.Common.{◌≡◌, ◌≤◌, ◌<◌, ℕ, Bool, true, false, Some, List, [], ◌∷◌, ◌++◌, ◌||◌, ◌⊎◌, inl, inr, refl, sym, ap, ◌∙◌, subst, arith, nat_eq, true≢false, IfSome, slice_index_or, length}
-use Rattle.std.proofs.lemmas.List.Folds.{list_any-append}
+-- The entries of a bucket, in two parts, after one came or left.
+use Rattle.std.proofs.Common.{◌≡◌, ◌<◌, ℕ, Bool, true, false, Option, Some, None, List, [], ◌∷◌, ◌||◌, ◌&&◌, ◌⊎◌, inl, inr, refl, sym, ap, ◌∙◌, subst, arith, nat_eq, nat_lt, true≢false, IfSome, IfNone, slice_index_or, length, if◌then◌else◌}
+use Rattle.std.proofs.lemmas.Bool.Decides.{nat_tests}
 use Rattle.std.proofs.lemmas.List.Sorted.{list_any-IsPermutation}
+use Rattle.std.specs.List.{AllByRecursion}
 use Rattle.std.specs.List.Sorted.{IsPermutation}
+use Rattle.std.specs.Ordering.{nat_cmp, ordering_then, is_lt}
+use Rattle.std.specs.BinaryHeap.{heap_items, lt_by_cmp}
 use Rattle.std.specs.declared.cmp.Reverse.{Reverse}
-use Rattle.pb_lists.specs.Buckets.{is_among, top_of}
-use Rattle.pb_lists.proofs.Filing.{nat_same, nat_found}
+use Rattle.pb_model.proofs.Tests.{below, not_below}
+use Rattle.pb_lists.specs.declared.bucket.Bucket.{Bucket}
+use Rattle.pb_lists.specs.Buckets.{Entry, entry_cmp, later, IsNoLater, is_same, is_among, has_entry, first_of, is_wide_before, top_of}
+use Rattle.pb_lists.proofs.Order.{less, equal, greater}
 
-or_true : (b : Bool) → (b || true) ≡ true
+pub nat_same : (n m : ℕ) → n ≡ m → nat_eq n m ≡ true
+nat_same n m e = grind (arith, nat_tests)
+
+pub nat_found : (n m : ℕ) → nat_eq n m ≡ true → n ≡ m
+nat_found n m e = grind (arith, nat_tests)
+
+pub or_true : (b : Bool) → (b || true) ≡ true
 or_true true = refl
 or_true false = refl
 
@@ -20,135 +31,250 @@ or_swaps true true c = refl
 or_swaps true false c = refl
 or_swaps false b c = refl
 
-abbrev is_state : ℕ → Reverse ℕ → Bool
-is_state q other = nat_eq q other.0
+pub or_cases : (a b : Bool) → (a || b) ≡ true → (a ≡ true) ⊎ (b ≡ true)
+or_cases true b e = inl refl
+or_cases false b e = inr e
 
--- the states of the parts together
-among_parts : (q : ℕ) (words wide : List (Reverse ℕ)) → is_among q (words ++ wide) ≡ (is_among q words || is_among q wide)
-among_parts q words wide = list_any-append (is_state q) words wide
+-- ---- entries
 
--- ---- a state that comes
+pub same_self : (entry : Entry) → is_same entry entry ≡ true
+same_self entry = ap (λ b. b && nat_eq entry.1 entry.1) (nat_same entry.0 entry.0 refl) ∙ nat_same entry.1 entry.1 refl
 
-among_more : (q : ℕ) (item : Reverse ℕ) (old new : List (Reverse ℕ)) → IsPermutation (item ∷ old) new → is_among q new ≡ (nat_eq q item.0 || is_among q old)
-among_more q item old new moved = sym (list_any-IsPermutation (is_state q) (item ∷ old) new moved)
-
-pub words_more : (item : Reverse ℕ) (old new wide : List (Reverse ℕ)) → IsPermutation (item ∷ old) new → (q : ℕ) → is_among q (new ++ wide) ≡ (nat_eq q item.0 || is_among q (old ++ wide))
-words_more item old new wide moved q =
-    among_parts q new wide
-    ∙ (ap (λ b. b || is_among q wide) (among_more q item old new moved)
-    ∙ (or_joins (nat_eq q item.0) (is_among q old) (is_among q wide) ∙ ap (λ b. nat_eq q item.0 || b) (sym (among_parts q old wide))))
-
-pub wide_more : (item : Reverse ℕ) (words old new : List (Reverse ℕ)) → IsPermutation (item ∷ old) new → (q : ℕ) → is_among q (words ++ new) ≡ (nat_eq q item.0 || is_among q (words ++ old))
-wide_more item words old new moved q =
-    among_parts q words new
-    ∙ (ap (λ b. is_among q words || b) (among_more q item old new moved)
-    ∙ (or_swaps (is_among q words) (nat_eq q item.0) (is_among q old) ∙ ap (λ b. nat_eq q item.0 || b) (sym (among_parts q words old))))
-
-pub apart_more : (bound : ℕ) (item : Reverse ℕ) (old new : List (Reverse ℕ)) → IsPermutation (item ∷ old) new → bound ≤ item.0
-    → ((q : ℕ) → is_among q old ≡ true → bound ≤ q) → (q : ℕ) → is_among q new ≡ true → bound ≤ q
-apart_more bound item old new moved here apart q member = which (nat_eq q item.0) refl (sym (among_more q item old new moved) ∙ member)
+pub same_found : (entry other : Entry) → is_same entry other ≡ true → entry ≡ other
+same_found entry other same = which (nat_eq entry.0 other.0) refl same
   where
-    which : (b : Bool) → nat_eq q item.0 ≡ b → (b || is_among q old) ≡ true → bound ≤ q
-    which true e m = subst (λ n. bound ≤ n) (sym (nat_found q item.0 e)) here
-    which false e m = apart q m
+    which : (b : Bool) → nat_eq entry.0 other.0 ≡ b → (b && nat_eq entry.1 other.1) ≡ true → entry ≡ other
+    which true e m =
+        let h : entry.0 ≡ other.0 = nat_found entry.0 other.0 e in
+        let state : entry.1 ≡ other.1 = nat_found entry.1 other.1 m in
+        ap (λ n. (n, entry.1)) h ∙ ap (λ s. (other.0, s)) state
+    which false e m = absurd (true≢false (sym m))
 
-module _ (state : ℕ) (old new : List (Reverse ℕ)) (more : (q : ℕ) → is_among q new ≡ (nat_eq q state || is_among q old)) where
-  pub pushed_member : is_among state new ≡ true
-  pushed_member = more state ∙ ap (λ b. b || is_among state old) (nat_same state state refl)
-
-  pub pushed_keeps : (q : ℕ) → is_among q old ≡ true → is_among q new ≡ true
-  pushed_keeps q had = more q ∙ (ap (λ b. nat_eq q state || b) had ∙ or_true (nat_eq q state))
-
--- the top after a push
-pub pushed_top : (state : ℕ) (old new : List (Reverse ℕ)) → ((q : ℕ) → is_among q new ≡ (nat_eq q state || is_among q old))
-    → IfSome (top_of old) (λ least. (other : ℕ) → is_among other old ≡ true → least ≤ other)
-    → IfSome (top_of new) (λ least. (other : ℕ) → is_among other new ≡ true → least ≤ other)
-    → top_of new ≡ top_of old ⊎ (top_of new ≡ Some state)
-pushed_top state old [] more low least = absurd (true≢false (sym (pushed_member state old [] more)))
-pushed_top state old (top ∷ new) more low least =
-    which (nat_eq top.0 state) refl (sym (more top.0) ∙ ap (λ b. b || is_among top.0 new) (nat_same top.0 top.0 refl)) (pushed_keeps state old (top ∷ new) more)
+-- an entry that no other comes before
+not_before : (entry other : Entry) → is_lt (entry_cmp other entry) ≡ false → IsNoLater entry other
+not_before entry other e = low (nat_lt entry.0 other.0) refl
   where
-    among : (states : List (Reverse ℕ)) → is_among top.0 states ≡ true → IfSome (top_of states) (λ least. (other : ℕ) → is_among other states ≡ true → least ≤ other)
-        → ((q : ℕ) → is_among q states ≡ true → is_among q (top ∷ new) ≡ true) → Some top.0 ≡ top_of states
-    among [] m l k = absurd (true≢false (sym m))
-    among (first ∷ rest) m l k =
-        let le : first.0 ≤ top.0 = l top.0 m in
-        let ge : top.0 ≤ first.0 = least first.0 (k first.0 (ap (λ b. b || is_among first.0 rest) (nat_same first.0 first.0 refl))) in
-        let same : top.0 ≡ first.0 = omega arith in
-        ap (λ s. Some s) same
+    at_one : entry.0 ≡ other.0 → (b : Bool) → nat_lt other.1 entry.1 ≡ b → IsNoLater entry other
+    at_one same true lt =
+        let both : entry_cmp other entry ≡ nat_cmp other.1 entry.1 = ap (λ o. ordering_then o (nat_cmp other.1 entry.1)) (equal other.0 entry.0 (sym same)) in
+        absurd (true≢false (sym (ap is_lt (both ∙ less other.1 entry.1 (below other.1 entry.1 lt))) ∙ e))
+    at_one same false ge = inr (same, not_below other.1 entry.1 ge)
 
-    which : (b : Bool) → nat_eq top.0 state ≡ b → (b || is_among top.0 old) ≡ true → ((q : ℕ) → is_among q old ≡ true → is_among q (top ∷ new) ≡ true)
-        → Some top.0 ≡ top_of old ⊎ (Some top.0 ≡ Some state)
-    which true e m k = inr (ap (λ s. Some s) (nat_found top.0 state e))
-    which false e m k = inl (among old m low k)
+    high : (b : Bool) → nat_lt other.0 entry.0 ≡ b → nat_lt entry.0 other.0 ≡ false → IsNoLater entry other
+    high true lt ge = absurd (true≢false (sym (ap is_lt (ap (λ o. ordering_then o (nat_cmp other.1 entry.1)) (less other.0 entry.0 (below other.0 entry.0 lt)))) ∙ e))
+    high false le ge =
+        let first = not_below other.0 entry.0 le in
+        let second = not_below entry.0 other.0 ge in
+        let same : entry.0 ≡ other.0 = omega arith in
+        at_one same (nat_lt other.1 entry.1) refl
+
+    low : (b : Bool) → nat_lt entry.0 other.0 ≡ b → IsNoLater entry other
+    low true lt = inl (below entry.0 other.0 lt)
+    low false ge = high (nat_lt other.0 entry.0) refl ge
+
+-- an entry that comes before another
+before : (entry other : Entry) → is_lt (entry_cmp entry other) ≡ true → IsNoLater entry other
+before entry other e = low (nat_lt entry.0 other.0) refl
+  where
+    at_one : entry.0 ≡ other.0 → (b : Bool) → nat_lt entry.1 other.1 ≡ b → IsNoLater entry other
+    at_one same true lt = let state = below entry.1 other.1 lt in inr (same, omega arith)
+    at_one same false ge = last (nat_lt other.1 entry.1) refl
+      where
+        both : entry_cmp entry other ≡ nat_cmp entry.1 other.1
+        both = ap (λ o. ordering_then o (nat_cmp entry.1 other.1)) (equal entry.0 other.0 same)
+
+        last : (b : Bool) → nat_lt other.1 entry.1 ≡ b → IsNoLater entry other
+        last true lt = absurd (true≢false (sym e ∙ ap is_lt (both ∙ greater entry.1 other.1 (below other.1 entry.1 lt))))
+        last false le = inr (same, not_below other.1 entry.1 le)
+
+    high : (b : Bool) → nat_lt other.0 entry.0 ≡ b → nat_lt entry.0 other.0 ≡ false → IsNoLater entry other
+    high true lt ge = absurd (true≢false (sym e ∙ ap is_lt (ap (λ o. ordering_then o (nat_cmp entry.1 other.1)) (greater entry.0 other.0 (below other.0 entry.0 lt)))))
+    high false le ge =
+        let first = not_below other.0 entry.0 le in
+        let second = not_below entry.0 other.0 ge in
+        let same : entry.0 ≡ other.0 = omega arith in
+        at_one same (nat_lt entry.1 other.1) refl
+
+    low : (b : Bool) → nat_lt entry.0 other.0 ≡ b → IsNoLater entry other
+    low true lt = inl (below entry.0 other.0 lt)
+    low false ge = high (nat_lt other.0 entry.0) refl ge
+
+no_later_trans : (a b c : Entry) → IsNoLater a b → IsNoLater b c → IsNoLater a c
+no_later_trans a b c (inl l) (inl m) = inl (omega arith)
+no_later_trans a b c (inl l) (inr m) = let e = m.0 in inl (omega arith)
+no_later_trans a b c (inr l) (inl m) = let e = l.0 in inl (omega arith)
+no_later_trans a b c (inr l) (inr m) = let d = l.1 in let e = m.1 in inr (l.0 ∙ m.0, omega arith)
+
+no_later_both : (a b : Entry) → IsNoLater a b → IsNoLater b a → a ≡ b
+no_later_both a b (inl l) (inl m) = absurd (omega arith)
+no_later_both a b (inl l) (inr m) = let e = m.0 in absurd (omega arith)
+no_later_both a b (inr l) (inl m) = let e = l.0 in absurd (omega arith)
+no_later_both a b (inr l) (inr m) =
+    let d = l.1 in
+    let e = m.1 in
+    let state : a.1 ≡ b.1 = omega arith in
+    ap (λ n. (n, a.1)) l.0 ∙ ap (λ s. (b.0, s)) state
+
+-- the top of a heap is before all others
+pub least_among : (item : Reverse Entry) (items : List (Reverse Entry)) → AllByRecursion (λ other. lt_by_cmp later item other ≡ false) items → (entry : Entry) → is_among entry items ≡ true → IsNoLater item.0 entry
+least_among item [] above entry among = absurd (true≢false (sym among))
+least_among item (other ∷ items) above entry among = which (is_same entry other.0) refl among (λ m. least_among item items above.1 entry m)
+  where
+    which : (b : Bool) → is_same entry other.0 ≡ b → (b || is_among entry items) ≡ true → (is_among entry items ≡ true → IsNoLater item.0 entry) → IsNoLater item.0 entry
+    which true e m rest = subst (λ p. IsNoLater item.0 p) (sym (same_found entry other.0 e)) (not_before item.0 other.0 above.0)
+    which false e m rest = rest m
+
+-- ---- an entry that comes
+
+among_more : (entry : Entry) (item : Reverse Entry) (old new : List (Reverse Entry)) → IsPermutation (item ∷ old) new → is_among entry new ≡ (is_same entry item.0 || is_among entry old)
+among_more entry item old new moved = sym (list_any-IsPermutation (λ other. is_same entry other.0) (item ∷ old) new moved)
+
+pub words_more : (item : Reverse Entry) (old new wide : List (Reverse Entry)) → IsPermutation (item ∷ old) new
+    → (entry : Entry) → (is_among entry new || is_among entry wide) ≡ (is_same entry item.0 || (is_among entry old || is_among entry wide))
+words_more item old new wide moved entry =
+    ap (λ b. b || is_among entry wide) (among_more entry item old new moved) ∙ or_joins (is_same entry item.0) (is_among entry old) (is_among entry wide)
+
+pub wide_more : (item : Reverse Entry) (words old new : List (Reverse Entry)) → IsPermutation (item ∷ old) new
+    → (entry : Entry) → (is_among entry words || is_among entry new) ≡ (is_same entry item.0 || (is_among entry words || is_among entry old))
+wide_more item words old new moved entry =
+    ap (λ b. is_among entry words || b) (among_more entry item old new moved) ∙ or_swaps (is_among entry words) (is_same entry item.0) (is_among entry old)
+
+first_member : (items : List (Reverse Entry)) (entry : Entry) → first_of items ≡ Some entry → is_among entry items ≡ true
+first_member [] entry first = cc
+first_member (item ∷ items) entry first =
+    let is : item.0 ≡ entry = cc in
+    ap (λ b. b || is_among entry items) (subst (λ e. is_same entry e ≡ true) (sym is) (same_self entry))
+
+pub top_member : (bucket : Bucket) (entry : Entry) → top_of bucket ≡ Some entry → has_entry bucket entry ≡ true
+top_member bucket entry top = which (is_wide_before (first_of (heap_items bucket.words)) (first_of (heap_items bucket.wide))) top
+  where
+    which : (b : Bool) → (if b then first_of (heap_items bucket.wide) else first_of (heap_items bucket.words)) ≡ Some entry → has_entry bucket entry ≡ true
+    which true e = ap (λ b. is_among entry (heap_items bucket.words) || b) (first_member (heap_items bucket.wide) entry e) ∙ or_true (is_among entry (heap_items bucket.words))
+    which false e = ap (λ b. b || is_among entry (heap_items bucket.wide)) (first_member (heap_items bucket.words) entry e)
+
+module _ (entry : Entry) (old new : Bucket) (more : (other : Entry) → has_entry new other ≡ (is_same other entry || has_entry old other)) where
+  pub pushed_member : has_entry new entry ≡ true
+  pushed_member = more entry ∙ ap (λ b. b || has_entry old entry) (same_self entry)
+
+  pub pushed_keeps : (other : Entry) → has_entry old other ≡ true → has_entry new other ≡ true
+  pushed_keeps other had = more other ∙ (ap (λ b. is_same other entry || b) had ∙ or_true (is_same other entry))
+
+  -- the top after a push
+  pub pushed_top : (was is : Option Entry) → top_of old ≡ was → top_of new ≡ is
+      → IfSome was (λ least. (other : Entry) → has_entry old other ≡ true → IsNoLater least other) → IfNone was ((other : Entry) → has_entry old other ≡ false)
+      → IfSome is (λ least. (other : Entry) → has_entry new other ≡ true → IsNoLater least other) → IfNone is ((other : Entry) → has_entry new other ≡ false)
+      → (is ≡ was) ⊎ (is ≡ Some entry)
+  pushed_top was None e f low none least empty = absurd (true≢false (sym pushed_member ∙ empty entry))
+  pushed_top was (Some top) e f low none least empty = which (is_same top entry) refl (sym (more top) ∙ top_member new top f)
+    where
+      among : (found : Option Entry) → top_of old ≡ found → IfSome found (λ least. (other : Entry) → has_entry old other ≡ true → IsNoLater least other)
+          → IfNone found ((other : Entry) → has_entry old other ≡ false) → has_entry old top ≡ true → Some top ≡ found
+      among None d l n m = absurd (true≢false (sym m ∙ n top))
+      among (Some first) d l n m = ap (λ t. Some t) (no_later_both top first (least first (pushed_keeps first (top_member old first d))) (l top m))
+
+      which : (b : Bool) → is_same top entry ≡ b → (b || has_entry old top) ≡ true → (Some top ≡ was) ⊎ (Some top ≡ Some entry)
+      which true s m = inr (ap (λ t. Some t) (same_found top entry s))
+      which false s m = inl (among was e low none m)
 
 -- ---- the top
 
-pub least_of_parts : (bound state : ℕ) (words wide : List (Reverse ℕ)) → state < bound → ((q : ℕ) → is_among q words ≡ true → state ≤ q) → ((q : ℕ) → is_among q wide ≡ true → bound ≤ q)
-    → (q : ℕ) → is_among q (words ++ wide) ≡ true → state ≤ q
-least_of_parts bound state words wide fits least apart q member = which (is_among q words) refl (sym (among_parts q words wide) ∙ member)
+pub least_of_parts : (entry : Entry) (words wide : List (Reverse Entry)) → ((other : Entry) → is_among other words ≡ true → IsNoLater entry other)
+    → ((other : Entry) → is_among other wide ≡ true → IsNoLater entry other) → (other : Entry) → (is_among other words || is_among other wide) ≡ true → IsNoLater entry other
+least_of_parts entry words wide low under other member = which (or_cases (is_among other words) (is_among other wide) member)
   where
-    which : (b : Bool) → is_among q words ≡ b → (b || is_among q wide) ≡ true → state ≤ q
-    which true e m = least q e
-    which false e m = let le = apart q m in omega arith
+    which : (is_among other words ≡ true) ⊎ (is_among other wide ≡ true) → IsNoLater entry other
+    which (inl m) = low other m
+    which (inr m) = under other m
+
+pub least_before : (first second : Entry) (items : List (Reverse Entry)) → is_lt (entry_cmp first second) ≡ true → ((other : Entry) → is_among other items ≡ true → IsNoLater second other)
+    → (other : Entry) → is_among other items ≡ true → IsNoLater first other
+least_before first second items lt low other member = no_later_trans first second other (before first second lt) (low other member)
+
+pub least_not_after : (first second : Entry) (items : List (Reverse Entry)) → is_lt (entry_cmp second first) ≡ false → ((other : Entry) → is_among other items ≡ true → IsNoLater second other)
+    → (other : Entry) → is_among other items ≡ true → IsNoLater first other
+least_not_after first second items ge low other member = no_later_trans first second other (not_before first second ge) (low other member)
+
+pub least_of_none : (entry : Entry) (items : List (Reverse Entry)) → items ≡ [] → (other : Entry) → is_among other items ≡ true → IsNoLater entry other
+least_of_none entry [] none other member = absurd (true≢false (sym member))
+least_of_none entry (item ∷ items) none other member = cc
 
 -- ---- the top leaves
 
-top_none : (words : List (Reverse ℕ)) (item : Reverse ℕ) → item ≡ slice_index_or words 0 item → is_among item.0 words ≡ true → top_of words ≡ Some item.0
-top_none [] item first member = absurd (true≢false (sym member))
-top_none (other ∷ words) item first member = ap (λ (r : Reverse ℕ). Some r.0) (sym first)
-
-top_joins : (words wide : List (Reverse ℕ)) (state : ℕ) → top_of words ≡ Some state → top_of (words ++ wide) ≡ Some state
-top_joins [] wide state top = cc
-top_joins (item ∷ words) wide state top = top
+top_first : (items : List (Reverse Entry)) (item : Reverse Entry) → item ≡ slice_index_or items 0 item → is_among item.0 items ≡ true → first_of items ≡ Some item.0
+top_first [] item first member = absurd (true≢false (sym member))
+top_first (other ∷ items) item first member = ap (λ (r : Reverse Entry). Some r.0) (sym first)
 
 -- a part loses its first
-part_less : (item : Reverse ℕ) (old new : List (Reverse ℕ)) → item ≡ slice_index_or old 0 item → IsPermutation old (item ∷ new) → (q : ℕ) → is_among q old ≡ true → (top_of old ≡ Some q) ⊎ (is_among q new ≡ true)
-part_less item old new first moved q had = which (nat_eq q item.0) refl (sym (is q) ∙ had)
+pub part_less : (item : Reverse Entry) (old new : List (Reverse Entry)) → item ≡ slice_index_or old 0 item → IsPermutation old (item ∷ new)
+    → (entry : Entry) → is_among entry old ≡ true → (first_of old ≡ Some entry) ⊎ (is_among entry new ≡ true)
+part_less item old new first moved entry had = which (is_same entry item.0) refl (sym (is entry) ∙ had)
   where
-    is : (p : ℕ) → is_among p old ≡ (nat_eq p item.0 || is_among p new)
-    is p = list_any-IsPermutation (is_state p) old (item ∷ new) moved
+    is : (other : Entry) → is_among other old ≡ (is_same other item.0 || is_among other new)
+    is other = list_any-IsPermutation (λ it. is_same other it.0) old (item ∷ new) moved
 
-    which : (b : Bool) → nat_eq q item.0 ≡ b → (b || is_among q new) ≡ true → (top_of old ≡ Some q) ⊎ (is_among q new ≡ true)
+    which : (b : Bool) → is_same entry item.0 ≡ b → (b || is_among entry new) ≡ true → (first_of old ≡ Some entry) ⊎ (is_among entry new ≡ true)
     which true e m =
-        let member : is_among item.0 old ≡ true = is item.0 ∙ ap (λ b. b || is_among item.0 new) (nat_same item.0 item.0 refl) in
-        inl (top_none old item first member ∙ ap (λ s. Some s) (sym (nat_found q item.0 e)))
+        let member : is_among item.0 old ≡ true = is item.0 ∙ ap (λ b. b || is_among item.0 new) (same_self item.0) in
+        inl (top_first old item first member ∙ ap (λ s. Some s) (sym (same_found entry item.0 e)))
     which false e m = inr m
 
-pub words_less : (item : Reverse ℕ) (old new wide : List (Reverse ℕ)) → item ≡ slice_index_or old 0 item → IsPermutation old (item ∷ new)
-    → (q : ℕ) → is_among q (old ++ wide) ≡ true → (top_of (old ++ wide) ≡ Some q) ⊎ (is_among q (new ++ wide) ≡ true)
-words_less item old new wide first moved q had = which (is_among q old) refl (sym (among_parts q old wide) ∙ had)
-  where
-    kept : (b : Bool) → is_among q new ≡ b → b ≡ true → is_among q (new ++ wide) ≡ true
-    kept b e t = among_parts q new wide ∙ ap (λ c. c || is_among q wide) (e ∙ t)
+-- ---- a part without an entry
 
-    part : (top_of old ≡ Some q) ⊎ (is_among q new ≡ true) → (top_of (old ++ wide) ≡ Some q) ⊎ (is_among q (new ++ wide) ≡ true)
-    part (inl top) = inl (top_joins old wide q top)
-    part (inr m) = inr (kept (is_among q new) refl m)
-
-    which : (b : Bool) → is_among q old ≡ b → (b || is_among q wide) ≡ true → (top_of (old ++ wide) ≡ Some q) ⊎ (is_among q (new ++ wide) ≡ true)
-    which true e m = part (part_less item old new first moved q e)
-    which false e m = inr (among_parts q new wide ∙ (ap (λ c. is_among q new || c) m ∙ or_true (is_among q new)))
-
-pub wide_less : (item : Reverse ℕ) (words old new : List (Reverse ℕ)) → words ≡ [] → item ≡ slice_index_or old 0 item → IsPermutation old (item ∷ new)
-    → (q : ℕ) → is_among q (words ++ old) ≡ true → (top_of (words ++ old) ≡ Some q) ⊎ (is_among q (words ++ new) ≡ true)
-wide_less item [] old new none first moved q had = part_less item old new first moved q had
-wide_less item (word ∷ words) old new none first moved q had = cc
-
-pub apart_less : (bound : ℕ) (item : Reverse ℕ) (old new : List (Reverse ℕ)) → IsPermutation old (item ∷ new) → ((q : ℕ) → is_among q old ≡ true → bound ≤ q) → (q : ℕ) → is_among q new ≡ true → bound ≤ q
-apart_less bound item old new moved apart q member =
-    apart q (list_any-IsPermutation (is_state q) old (item ∷ new) moved ∙ (ap (λ b. nat_eq q item.0 || b) member ∙ or_true (nat_eq q item.0)))
-
--- ---- a part without a state
-
-pub none_left : (states : List (Reverse ℕ)) → length states ≡ 0 → states ≡ []
-none_left [] none = refl
-none_left (state ∷ states) none = absurd (omega arith)
-
-pub none_first : (states : List (Reverse ℕ)) (count : ℕ) → length states ≡ count → (0 < count → ⊥) → states ≡ []
+pub none_first : (items : List (Reverse Entry)) (count : ℕ) → length items ≡ count → (0 < count → ⊥) → items ≡ []
 none_first [] count is none = refl
-none_first (state ∷ states) count is none = absurd (none (omega arith))
+none_first (item ∷ items) count is none = absurd (none (omega arith))
 
-pub least_of_wide : (words wide : List (Reverse ℕ)) (state : ℕ) → words ≡ [] → ((q : ℕ) → is_among q wide ≡ true → state ≤ q) → (q : ℕ) → is_among q (words ++ wide) ≡ true → state ≤ q
-least_of_wide [] wide state none least q member = least q member
-least_of_wide (word ∷ words) wide state none least q member = cc
+pub none_left : (items : List (Reverse Entry)) → length items ≡ 0 → items ≡ []
+none_left [] none = refl
+none_left (item ∷ items) none = absurd (omega arith)
+
+pub none_among : (entry : Entry) (items : List (Reverse Entry)) → items ≡ [] → is_among entry items ≡ false
+none_among entry items none = ap (λ found. is_among entry found) none
+
+-- ---- the top is taken out
+
+pub pop_wide : (words old new : List (Reverse Entry)) (popped : Option (Reverse Entry)) → is_wide_before (first_of words) (first_of old) ≡ true
+    → IfSome popped (λ item. item ≡ slice_index_or old 0 item) → IfSome popped (λ item. IsPermutation old (item ∷ new)) → IfNone popped (new ≡ old)
+    → (entry : Entry) → (is_among entry words || is_among entry old) ≡ true
+    → ((if is_wide_before (first_of words) (first_of old) then first_of old else first_of words) ≡ Some entry) ⊎ ((is_among entry words || is_among entry new) ≡ true)
+pop_wide words old new None first top moved same entry had = inr (ap (λ items. is_among entry words || is_among entry items) same ∙ had)
+pop_wide words old new (Some item) first top moved same entry had = which (or_cases (is_among entry words) (is_among entry old) had)
+  where
+    part : (first_of old ≡ Some entry) ⊎ (is_among entry new ≡ true)
+        → ((if is_wide_before (first_of words) (first_of old) then first_of old else first_of words) ≡ Some entry) ⊎ ((is_among entry words || is_among entry new) ≡ true)
+    part (inl e) = inl (ap (λ b. if b then first_of old else first_of words) first ∙ e)
+    part (inr m) = inr (ap (λ b. is_among entry words || b) m ∙ or_true (is_among entry words))
+
+    which : (is_among entry words ≡ true) ⊎ (is_among entry old ≡ true)
+        → ((if is_wide_before (first_of words) (first_of old) then first_of old else first_of words) ≡ Some entry) ⊎ ((is_among entry words || is_among entry new) ≡ true)
+    which (inl m) = inr (ap (λ b. b || is_among entry new) m)
+    which (inr m) = part (part_less item old new top moved entry m)
+
+pub pop_words : (old new wide : List (Reverse Entry)) (popped : Option (Reverse Entry)) → is_wide_before (first_of old) (first_of wide) ≡ false
+    → IfSome popped (λ item. item ≡ slice_index_or old 0 item) → IfSome popped (λ item. IsPermutation old (item ∷ new)) → IfNone popped (new ≡ old)
+    → (entry : Entry) → (is_among entry old || is_among entry wide) ≡ true
+    → ((if is_wide_before (first_of old) (first_of wide) then first_of wide else first_of old) ≡ Some entry) ⊎ ((is_among entry new || is_among entry wide) ≡ true)
+pop_words old new wide None first top moved same entry had = inr (ap (λ items. is_among entry items || is_among entry wide) same ∙ had)
+pop_words old new wide (Some item) first top moved same entry had = which (or_cases (is_among entry old) (is_among entry wide) had)
+  where
+    part : (first_of old ≡ Some entry) ⊎ (is_among entry new ≡ true)
+        → ((if is_wide_before (first_of old) (first_of wide) then first_of wide else first_of old) ≡ Some entry) ⊎ ((is_among entry new || is_among entry wide) ≡ true)
+    part (inl e) = inl (ap (λ b. if b then first_of wide else first_of old) first ∙ e)
+    part (inr m) = inr (ap (λ b. b || is_among entry wide) m)
+
+    which : (is_among entry old ≡ true) ⊎ (is_among entry wide ≡ true)
+        → ((if is_wide_before (first_of old) (first_of wide) then first_of wide else first_of old) ≡ Some entry) ⊎ ((is_among entry new || is_among entry wide) ≡ true)
+    which (inl m) = part (part_less item old new top moved entry m)
+    which (inr m) = inr (ap (λ b. is_among entry new || b) m ∙ or_true (is_among entry new))
+
+-- a bucket without a top is empty
+pub top_empty : (words wide : List (Reverse Entry)) → (if is_wide_before (first_of words) (first_of wide) then first_of wide else first_of words) ≡ None
+    → (entry : Entry) → (is_among entry words || is_among entry wide) ≡ false
+top_empty [] [] none entry = refl
+top_empty [] (item ∷ wide) none entry = cc
+top_empty (word ∷ words) [] none entry = cc
+top_empty (word ∷ words) (item ∷ wide) none entry = absurd (which (is_lt (entry_cmp item.0 word.0)) none)
+  where
+    which : (b : Bool) → (if b then Some item.0 else Some word.0) ≡ None → ⊥
+    which true e = cc
+    which false e = cc

@@ -1,8 +1,9 @@
--- The buckets of a bundle: of each key the states in order, the least on top. The state of an Opened
--- row is in the bucket of the row's key. A state may stay in a bucket that isn't its row's any more.
-use Rattle.std.specs.Prelude.{◌≡◌, ◌≤◌, ◌+◌, ◌^◌, ◌++◌, ℕ, Bool, true, false, Option, None, Some, List, [], ◌∷◌, IfSome, nat_eq}
+-- The buckets of a bundle: of each sum the estimates and states of Opened rows whose keys have that
+-- sum, the least on top. The state of an Opened row is in the bucket of its key's sum, with its
+-- key's estimate. A state may stay in a bucket that isn't its row's any more.
+use Rattle.std.specs.Prelude.{◌≡◌, ◌≤◌, ◌<◌, ◌+◌, ◌⊎◌, ◌&&◌, ◌||◌, ℕ, Bool, true, false, Option, None, Some, List, [], ◌∷◌, IfSome, nat_eq, if◌then◌else◌}
 use Rattle.std.specs.List.{list_any}
-use Rattle.std.specs.Ordering.{nat_cmp}
+use Rattle.std.specs.Ordering.{nat_cmp, ordering_then, is_lt}
 use Rattle.std.specs.declared.cmp.Ordering.{Ordering}
 use Rattle.std.specs.declared.cmp.Reverse.{Reverse}
 use Rattle.std.specs.BTreeMap.{BTreeMap, get}
@@ -13,80 +14,110 @@ use Rattle.pb_model.specs.declared.row.Status.TheVariants.{Opened}
 use Rattle.pb_model.specs.Weight.{Weight, IsWeight}
 use Rattle.pb_model.specs.KeyOrder.{key_cmp}
 use Rattle.pb_lists.specs.Bundle.{row_in}
-use Rattle.pb_lists.specs.Fields.{key_at, is_open_at}
+use Rattle.pb_lists.specs.Fields.{key_at, is_open_at, sum_of, estimate_in, key_with}
 use Rattle.pb_lists.specs.declared.bucket.Bucket.{Bucket}
 
 abbrev pub Buckets : Type 0
 Buckets = BTreeMap Key Bucket
 
--- the greatest of a heap comes first, so the lesser state is the greater
-abbrev pub later : Reverse ℕ → Reverse ℕ → Ordering
-later state other = nat_cmp other.0 state.0
+-- an estimate and a state
+abbrev pub Entry : Type 0
+Entry = ℕ × ℕ
 
-abbrev pub is_among : ℕ → List (Reverse ℕ) → Bool
-is_among state states = list_any (λ other. nat_eq state other.0) states
+-- by the estimate, and at one estimate by the state
+abbrev pub entry_cmp : Entry → Entry → Ordering
+entry_cmp entry other = ordering_then (nat_cmp entry.0 other.0) (nat_cmp entry.1 other.1)
 
--- the states of a bucket: those that fit one word, and then the others
-abbrev pub states_of : Bucket → List (Reverse ℕ)
-states_of bucket = heap_items bucket.words ++ heap_items bucket.wide
+-- the greatest of a heap comes first, so the lesser entry is the greater
+abbrev pub later : Reverse Entry → Reverse Entry → Ordering
+later item other = entry_cmp other.0 item.0
+
+-- the entry is the other, or comes before it
+abbrev pub IsNoLater : Entry → Entry → Type 0
+IsNoLater entry other = (entry.0 < other.0) ⊎ ((entry.0 ≡ other.0) × (entry.1 ≤ other.1))
+
+abbrev pub is_same : Entry → Entry → Bool
+is_same entry other = nat_eq entry.0 other.0 && nat_eq entry.1 other.1
+
+abbrev pub is_among : Entry → List (Reverse Entry) → Bool
+is_among entry items = list_any (λ item. is_same entry item.0) items
+
+abbrev pub has_entry : Bucket → Entry → Bool
+has_entry bucket entry = is_among entry (heap_items bucket.words) || is_among entry (heap_items bucket.wide)
 
 abbrev pub count_of : Bucket → ℕ
 count_of bucket = heap_len bucket.words + heap_len bucket.wide
 
-abbrev pub states_in : Option Bucket → List (Reverse ℕ)
-states_in None = []
-states_in (Some bucket) = states_of bucket
+abbrev pub first_of : List (Reverse Entry) → Option Entry
+first_of [] = None
+first_of (item ∷ items) = Some item.0
 
--- whether the state is in the bucket of the key
+-- whether the first of the wide entries comes before that of the words
+abbrev pub is_wide_before : Option Entry → Option Entry → Bool
+is_wide_before word None = false
+is_wide_before None (Some wide) = true
+is_wide_before (Some word) (Some wide) = is_lt (entry_cmp wide word)
+
+-- the first entry of a bucket
+abbrev pub top_of : Bucket → Option Entry
+top_of bucket =
+    if is_wide_before (first_of (heap_items bucket.words)) (first_of (heap_items bucket.wide))
+    then first_of (heap_items bucket.wide)
+    else first_of (heap_items bucket.words)
+
+abbrev pub has_in : Option Bucket → Entry → Bool
+has_in None entry = false
+has_in (Some bucket) entry = has_entry bucket entry
+
+-- whether the entry is in the bucket of the sum
+abbrev pub has_at : Buckets → Key → Entry → Bool
+has_at buckets sum entry = has_in (get key_cmp buckets sum) entry
+
+-- whether the state is in the bucket of the key's sum, with the key's estimate
 abbrev pub has_state : Buckets → Key → (state : ℕ) → Bool
-has_state buckets key state = is_among state (states_in (get key_cmp buckets key))
-
-abbrev pub top_of : List (Reverse ℕ) → Option ℕ
-top_of [] = None
-top_of (state ∷ states) = Some state.0
+has_state buckets key state = has_at buckets (sum_of key) (estimate_in key, state)
 
 abbrev pub first_key_of : List (Key × Bucket) → Option Key
 first_key_of [] = None
-first_key_of (entry ∷ entries) = Some entry.0
+first_key_of (first ∷ others) = Some first.0
 
--- both parts of a bucket are heaps, and a state of the second doesn't fit one word
+-- both parts of a bucket are heaps
 pub record IsOrdered (bucket : Bucket) : Type 0 where
   pub words : IsHeap later (heap_items bucket.words)
   pub wide : IsHeap later (heap_items bucket.wide)
-  pub apart : (state : ℕ) → is_among state (heap_items bucket.wide) ≡ true → 2 ^ 64 ≤ state
 
 -- each bucket is in order
 abbrev pub HasHeaps : Buckets → Type 0
-HasHeaps buckets = (key : Key) → IfSome (get key_cmp buckets key) IsOrdered
+HasHeaps buckets = (sum : Key) → IfSome (get key_cmp buckets sum) IsOrdered
 
--- each Opened row is in the bucket of its key
+-- each Opened row is in the bucket of its key's sum
 abbrev pub HasFiled : Weight → List (ℕ × Row) → Buckets → Type 0
 HasFiled weight entries buckets = (state : ℕ) (row : Row) → row_in entries state ≡ Some row
     → row.status ≡ Opened → has_state buckets (key_at weight row) state ≡ true
 
--- what a bucket has on top is an Opened row of this key
-abbrev pub is_led : Weight → List (ℕ × Row) → Key → List (Reverse ℕ) → Bool
-is_led weight entries key [] = false
-is_led weight entries key (state ∷ states) = is_open_at weight (row_in entries state.0) key
+-- what a bucket has on top is an Opened row of this sum and the entry's estimate
+abbrev pub is_led : Weight → List (ℕ × Row) → Key → Option Entry → Bool
+is_led weight entries sum None = false
+is_led weight entries sum (Some top) = is_open_at weight (row_in entries top.1) (key_with sum top.0)
 
 abbrev pub is_tidy : Weight → List (ℕ × Row) → List (Key × Bucket) → Bool
 is_tidy weight entries [] = true
-is_tidy weight entries (first ∷ others) = is_led weight entries first.0 (states_of first.1)
+is_tidy weight entries (first ∷ others) = is_led weight entries first.0 (top_of first.1)
 
--- the first bucket has an Opened row of its key on top
+-- the first bucket has an Opened row of its sum on top
 abbrev pub IsTidy : Weight → List (ℕ × Row) → Buckets → Type 0
 IsTidy weight entries buckets = is_tidy weight entries buckets.entries ≡ true
 
--- each bucket has the states that it had
-abbrev pub KeepsStates : Buckets → Buckets → Type 0
-KeepsStates old new = (key : Key) (state : ℕ) → has_state old key state ≡ true
-    → has_state new key state ≡ true
+-- each bucket has the entries that it had
+abbrev pub KeepsEntries : Buckets → Buckets → Type 0
+KeepsEntries old new = (sum : Key) (entry : Entry) → has_at old sum entry ≡ true
+    → has_at new sum entry ≡ true
 
--- the states that are left have all that are Opened at this key
-abbrev pub KeepsLive : Weight → List (ℕ × Row) → Key → (states left : List (Reverse ℕ)) → Type 0
-KeepsLive weight entries key states left = (state : ℕ)
-    → is_open_at weight (row_in entries state) key ≡ true
-    → is_among state states ≡ true → is_among state left ≡ true
+-- the entries that are left have all whose rows are Opened at this sum and the entry's estimate
+abbrev pub KeepsLive : Weight → List (ℕ × Row) → Key → (bucket left : Bucket) → Type 0
+KeepsLive weight entries sum bucket left = (entry : Entry)
+    → is_open_at weight (row_in entries entry.1) (key_with sum entry.0) ≡ true
+    → has_entry bucket entry ≡ true → has_entry left entry ≡ true
 
 -- what holds between the weight, the rows and the buckets of a bundle
 pub record AreFields (weight : Weight) (entries : List (ℕ × Row)) (buckets : Buckets) : Type 0 where

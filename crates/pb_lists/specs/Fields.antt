@@ -1,6 +1,7 @@
 -- The key of a row in a bundle, and the rows that are Opened.
 use Rattle.std.specs.Prelude.{ℕ, Bool, true, false, Option, None, Some, ◌&&◌}
 use Rattle.pb_model.specs.declared.key.Key.{Key}
+use Rattle.pb_model.specs.declared.key.Key.TheVariants.{Sum, Dead}
 use Rattle.pb_model.specs.declared.row.Row.{Row}
 use Rattle.pb_model.specs.declared.row.Status.{Status}
 use Rattle.pb_model.specs.declared.row.Status.TheVariants.{Opened, Closed, Cut}
@@ -23,3 +24,18 @@ is_opened Cut = false
 abbrev pub is_open_at : Weight → Option Row → Key → Bool
 is_open_at weight None key = false
 is_open_at weight (Some row) key = is_opened row.status && same_key (key_at weight row) key
+
+-- the sum of a key, as the key with that sum and the estimate 0
+abbrev pub sum_of : Key → Key
+sum_of (Sum sum h) = Sum sum 0
+sum_of Dead = Dead
+
+-- the estimate of a key
+abbrev pub estimate_in : Key → ℕ
+estimate_in (Sum sum h) = h
+estimate_in Dead = 0
+
+-- the key with this sum and this estimate
+abbrev pub key_with : Key → ℕ → Key
+key_with (Sum sum h) estimate = Sum sum estimate
+key_with Dead estimate = Dead

@@ -1,25 +1,28 @@
-//! The states of the Opened rows at one key.
-ghost use Rattle.std.specs.Prelude.{◌≡◌, ◌⊎◌, ◌≤◌, ◌<◌, ◌^◌, ◌||◌, true, [], ℕ, Some, IsSome, IfSome, IfNone, OnOk, OnErr, nat_eq};
-ghost use Rattle.std.specs.BinaryHeap.{heap_items};
-ghost use Rattle.pb_lists.specs.Buckets.{states_of, count_of, top_of, is_among, IsOrdered};
+//! The states of the Opened rows at one sum, each with its estimate.
+ghost use Rattle.std.specs.Prelude.{◌≡◌, ◌⊎◌, ◌≤◌, ◌<◌, ◌^◌, ◌||◌, [], true, false, ℕ, Some, None, IsSome, IfSome, IfNone, OnOk, OnErr};
+ghost use Rattle.std.specs.BinaryHeap.{heap_items, HeapUnchanged, IsHeap};
+ghost use Rattle.std.specs.Ordering.{is_lt};
+ghost use Rattle.pb_lists.specs.Buckets.{Entry, entry_cmp, later, is_same, is_among, has_entry, count_of, first_of};
+ghost use Rattle.pb_lists.specs.Buckets.{is_wide_before, top_of, IsNoLater, IsOrdered};
 
 use pb_packed::Packed;
 use std::alloc::{AllocError, Global};
-use std::cmp::Reverse;
+use std::cmp::{Ordering, Reverse};
 use std::collections::BinaryHeap;
 
-// The states at one key, in two heaps, the least on top of each. A state whose number fits a word
-// is kept as that word, and all such states come before the others.
+// The entries at one sum, each an estimate and a state, in two heaps. The least of each, by the
+// estimate and then by the state, is on top. A state whose number fits a word is kept as that word.
 #[derive(Drop)]
 pub(crate) struct Bucket {
-    pub(crate) words: BinaryHeap<Reverse<u64>>,
-    pub(crate) wide: BinaryHeap<Reverse<Packed>>,
+    pub(crate) words: BinaryHeap<Reverse<(u64, u64)>>,
+    pub(crate) wide: BinaryHeap<Reverse<(u64, Packed)>>,
 }
 
 impl Bucket {
-    // A bucket without a state. It takes no memory.
+    // A bucket without an entry. It takes no memory.
     pub(crate) fn new(alloc: Global) -> Bucket
-        ensures empty { states_of result ≡ [] }
+        ensures empty { (entry : Entry) → has_entry result entry ≡ false }
+        ensures top { top_of result ≡ None }
         ensures ordered { IsOrdered result }
     {
         Bucket {
@@ -28,67 +31,108 @@ impl Bucket {
         }
     }
 
-    // Puts a state into the bucket. Its top is then the state, or what it was: the calls of `top`
+    // Puts an entry into the bucket. Its top is then the entry, or what it was: the calls of `top`
     // are for their clauses alone.
-    pub(crate) fn push(&mut self, state: Packed) -> Result<(), AllocError>
+    pub(crate) fn push(&mut self, h: u64, state: Packed) -> Result<(), AllocError>
         ensures ordered { IsOrdered self.old → IsOrdered self.new }
-        ensures member { OnOk result (is_among state (states_of self.new) ≡ true) }
-        ensures kept { (other : ℕ) → is_among other (states_of self.old) ≡ true
-            → is_among other (states_of self.new) ≡ true }
+        ensures member { OnOk result (has_entry self.new (h, state) ≡ true) }
+        ensures kept { (other : Entry) → has_entry self.old other ≡ true
+            → has_entry self.new other ≡ true }
         ensures top { OnOk result (IsOrdered self.old
-            → top_of (states_of self.new) ≡ top_of (states_of self.old)
-            ⊎ (top_of (states_of self.new) ≡ Some state)) }
-        ensures err { OnErr result (states_of self.new ≡ states_of self.old) }
+            → (top_of self.new ≡ top_of self.old) ⊎ (top_of self.new ≡ Some (h, state))) }
+        ensures err { OnErr result (top_of self.new ≡ top_of self.old) }
     {
         let _ = self.top();
-        self.add(state)?;
+        self.add(h, state)?;
         let _ = self.top();
         Ok(())
     }
 
-    fn add(&mut self, state: Packed) -> Result<(), AllocError>
+    fn add(&mut self, h: u64, state: Packed) -> Result<(), AllocError>
         ensures ordered { IsOrdered self.old → IsOrdered self.new }
-        ensures added { OnOk result ((other : ℕ) → is_among other (states_of self.new)
-            ≡ (nat_eq other state || is_among other (states_of self.old))) }
-        ensures err { OnErr result (states_of self.new ≡ states_of self.old) }
+        ensures added { OnOk result ((other : Entry) → has_entry self.new other
+            ≡ (is_same other (h, state) || has_entry self.old other)) }
+        ensures err { OnErr result (HeapUnchanged self.old.words self.new.words
+            × HeapUnchanged self.old.wide self.new.wide) }
     {
         match word_of(&state) {
-            Some(word) => self.words.push(Reverse(word))?,
-            None => self.wide.push(Reverse(state))?,
+            Some(word) => self.words.push(Reverse((h, word)))?,
+            None => self.wide.push(Reverse((h, state)))?,
         }
         Ok(())
     }
 
-    // The least state.
-    pub(crate) fn top(&self) -> Option<Packed>
-        ensures top { result ≡ top_of (states_of self.now) }
-        ensures least { IsOrdered self.now → IfSome result (λ state. (other : ℕ)
-            → is_among other (states_of self.now) ≡ true → state ≤ other) }
+    // The first entry: that of the least estimate, and at one estimate that of the least state.
+    pub(crate) fn top(&self) -> Option<(u64, Packed)>
+        ensures top { result ≡ top_of self.now }
+        ensures least { IsOrdered self.now → IfSome result (λ entry. (other : Entry)
+            → has_entry self.now other ≡ true → IsNoLater entry other) }
+        ensures none { IfNone result ((entry : Entry) → has_entry self.now entry ≡ false) }
     {
-        match self.words.peek() {
-            Some(word) => Some(state_of(word.0)),
-            None => match self.wide.peek() {
-                Some(state) => Some(state.0),
-                None => None,
+        match self.wide.peek() {
+            Some(item) => match first_word(&self.words) {
+                Some(entry) => {
+                    if is_before(&item.0, &entry) {
+                        Some(item.0)
+                    } else {
+                        Some(entry)
+                    }
+                }
+                None => Some(item.0),
             },
+            None => first_word(&self.words),
         }
     }
 
-    // Takes the least state out.
+    // Whether the first entry is one of a state that doesn't fit a word.
+    fn is_wide_first(&self) -> bool
+        ensures { result
+            ≡ is_wide_before (first_of (heap_items self.now.words)) (first_of (heap_items self.now.wide)) }
+    {
+        match self.wide.peek() {
+            Some(item) => match first_word(&self.words) {
+                Some(entry) => is_before(&item.0, &entry),
+                None => true,
+            },
+            None => false,
+        }
+    }
+
+    // Takes the first entry out.
     pub(crate) fn pop(&mut self)
         ensures ordered { IsOrdered self.old → IsOrdered self.new }
-        ensures left { (other : ℕ) → is_among other (states_of self.old) ≡ true
-            → (top_of (states_of self.old) ≡ Some other)
-            ⊎ (is_among other (states_of self.new) ≡ true) }
-        ensures fewer { IsSome (top_of (states_of self.old)) → count_of self.new < count_of self.old }
+        ensures left { (other : Entry) → has_entry self.old other ≡ true
+            → (top_of self.old ≡ Some other) ⊎ (has_entry self.new other ≡ true) }
+        ensures fewer { IsSome (top_of self.old) → count_of self.new < count_of self.old }
     {
-        match self.words.pop() {
-            Some(_) => {}
-            None => match self.wide.pop() {
-                Some(_) => {}
-                None => {}
-            },
+        if self.is_wide_first() {
+            let _ = self.wide.pop();
+        } else {
+            let _ = self.words.pop();
         }
+    }
+}
+
+// The entry on top of a heap of words.
+fn first_word(words: &BinaryHeap<Reverse<(u64, u64)>>) -> Option<(u64, Packed)>
+    ensures first { result ≡ first_of (heap_items words.now) }
+    ensures least { IsHeap later (heap_items words.now) → IfSome result (λ entry. (other : Entry)
+        → is_among other (heap_items words.now) ≡ true → IsNoLater entry other) }
+    ensures none { IfNone result (heap_items words.now ≡ []) }
+{
+    match words.peek() {
+        Some(item) => Some((item.0.0, state_of(item.0.1))),
+        None => None,
+    }
+}
+
+// Whether an entry comes before another: by the estimate, and at one estimate by the state.
+fn is_before(entry: &(u64, Packed), other: &(u64, Packed)) -> bool
+    ensures { result ≡ is_lt (entry_cmp entry.now other.now) }
+{
+    match entry.cmp(other) {
+        Ordering::Less => true,
+        _ => false,
     }
 }
 
@@ -107,8 +151,7 @@ fn word_of(state: &Packed) -> Option<u64>
 
 // The state whose number is this word.
 fn state_of(word: u64) -> Packed
-    ensures number { result ≡ word }
-    ensures fits { result < 2 ^ 64 }
+    ensures { result ≡ word }
 {
     Packed::zero().with_bits(0, 64, word)
 }

@@ -1,12 +1,12 @@
-//! The Opened rows of a bundle, in buckets by key.
-ghost use Rattle.std.specs.Prelude.{◌≡◌, ◌≤◌, true, false, [], ℕ, List, Some, OnOk, OnErr};
+//! The Opened rows of a bundle, in buckets by the sum of their keys.
+ghost use Rattle.std.specs.Prelude.{◌≡◌, ◌≤◌, ◌∷◌, true, false, ℕ, List, Some, OnOk, OnErr};
 ghost use Rattle.std.specs.BTreeMap.{btree_map_len};
 ghost use Rattle.pb_lists.specs.Bundle.{row_in};
-ghost use Rattle.pb_lists.specs.Fields.{weight_of, key_at, is_open_at};
+ghost use Rattle.pb_lists.specs.Fields.{weight_of, key_at, is_open_at, sum_of, estimate_in, key_with};
 ghost use Rattle.pb_model.specs.Weight.{Weight};
 ghost use Rattle.pb_model.specs.declared.row.Row.{Row};
-ghost use Rattle.pb_lists.specs.Buckets.{states_of, has_state, first_key_of};
-ghost use Rattle.pb_lists.specs.Buckets.{KeepsLive, KeepsStates, IsOrdered, HasHeaps, HasFiled, IsTidy, is_led};
+ghost use Rattle.pb_lists.specs.Buckets.{Entry, has_entry, has_at, has_state, first_key_of, top_of};
+ghost use Rattle.pb_lists.specs.Buckets.{KeepsLive, KeepsEntries, IsOrdered, HasHeaps, HasFiled, IsTidy, is_led};
 
 use crate::bucket::Bucket;
 use indexmap::IndexMap;
@@ -15,7 +15,7 @@ use pb_packed::Packed;
 use std::alloc::{AllocError, Global};
 use std::collections::BTreeMap;
 
-// Of each key its bucket.
+// Of each sum its bucket. A sum stands here as the key with that sum and the estimate 0.
 pub(crate) type Buckets = BTreeMap<Key, Bucket>;
 
 // The key of a row, at the weight num / den.
@@ -33,32 +33,64 @@ pub(crate) fn key_of(num: u64, den: u64, row: &Row) -> Key
     }
 }
 
-// Puts a state into the bucket of a key. If memory runs out, each bucket has the states that it
-// had.
+// The sum of a key, by which its bucket is found.
+fn sum_in(key: &Key) -> Key
+    ensures { result ≡ sum_of key.now }
+{
+    match key {
+        Key::Sum { sum, .. } => Key::Sum { sum: *sum, h: 0 },
+        Key::Dead => Key::Dead,
+    }
+}
+
+// The estimate of a key, by which a bucket is ordered.
+fn h_in(key: &Key) -> u64
+    ensures { result ≡ estimate_in key.now }
+{
+    match key {
+        Key::Sum { h, .. } => *h,
+        Key::Dead => 0,
+    }
+}
+
+// The key of this sum and estimate.
+pub(crate) fn key_from(sum: &Key, h: u64) -> Key
+    ensures { result ≡ key_with sum.now h }
+{
+    match sum {
+        Key::Sum { sum, .. } => Key::Sum { sum: *sum, h },
+        Key::Dead => Key::Dead,
+    }
+}
+
+// Puts a state into the bucket of its key's sum. If memory runs out, each bucket has the entries
+// that it had.
 pub(crate) fn file(
     alloc: Global,
     buckets: &mut Buckets,
-    key: Key,
+    key: &Key,
     state: Packed,
 ) -> Result<(), AllocError>
     ensures heaps { HasHeaps buckets.old → HasHeaps buckets.new }
-    ensures kept { KeepsStates buckets.old buckets.new }
-    ensures filed { OnOk result (has_state buckets.new key state ≡ true) }
+    ensures kept { KeepsEntries buckets.old buckets.new }
+    ensures filed { OnOk result (has_state buckets.new key.now state ≡ true) }
     ensures led { OnOk result ((weight : Weight) (entries : List (ℕ × Row))
-        → HasHeaps buckets.old → is_open_at weight (row_in entries state) key ≡ true
+        → HasHeaps buckets.old → is_open_at weight (row_in entries state) key.now ≡ true
         → IsTidy weight entries buckets.old → IsTidy weight entries buckets.new) }
     ensures err { OnErr result ((weight : Weight) (entries : List (ℕ × Row))
         → IsTidy weight entries buckets.old → IsTidy weight entries buckets.new) }
 {
-    match buckets.get_mut(&key) {
+    let sum = sum_in(key);
+    let h = h_in(key);
+    match buckets.get_mut(&sum) {
         Some(bucket) => {
-            bucket.push(state)?;
+            bucket.push(h, state)?;
             Ok(())
         }
         None => {
             let mut bucket = Bucket::new(alloc);
-            bucket.push(state)?;
-            buckets.insert(key, bucket)?;
+            bucket.push(h, state)?;
+            buckets.insert(sum, bucket)?;
             Ok(())
         }
     }
@@ -75,64 +107,64 @@ pub(crate) fn tidy(buckets: &mut Buckets, rows: &IndexMap<Packed, Row>, num: u64
         → HasFiled (weight_of num den) rows.now.entries buckets.new }
     ensures tidy { IsTidy (weight_of num den) rows.now.entries buckets.new }
 {
-    while let Some(key) = first_key(buckets) {
-        if clear_first(buckets, rows, num, den, &key) {
+    while let Some(sum) = first_sum(buckets) {
+        if clear_first(buckets, rows, num, den, &sum) {
             return;
         }
         buckets.pop_first();
     }
 }
 
-fn first_key(buckets: &Buckets) -> Option<Key>
+fn first_sum(buckets: &Buckets) -> Option<Key>
     ensures { result ≡ first_key_of buckets.now.entries }
 {
     match buckets.first_key_value() {
-        Some((key, _)) => Some(*key),
+        Some((sum, _)) => Some(*sum),
         None => None,
     }
 }
 
-// Clears the first bucket, that of this key. Answers whether a state is left in it.
+// Clears the first bucket, that of this sum. Answers whether an entry is left in it.
 fn clear_first(
     buckets: &mut Buckets,
     rows: &IndexMap<Packed, Row>,
     num: u64,
     den: u64,
-    key: &Key,
+    sum: &Key,
 ) -> bool
     requires num { num ≤ 1000 }
     requires den { den ≤ 1000 }
-    requires first { first_key_of buckets.old.entries ≡ Some key.now }
+    requires first { first_key_of buckets.old.entries ≡ Some sum.now }
     requires heaps { HasHeaps buckets.old }
     ensures heaps { HasHeaps buckets.new }
     ensures filed { HasFiled (weight_of num den) rows.now.entries buckets.old
         → HasFiled (weight_of num den) rows.now.entries buckets.new }
     ensures tidy { result ≡ true → IsTidy (weight_of num den) rows.now.entries buckets.new }
-    ensures first { first_key_of buckets.new.entries ≡ Some key.now }
-    ensures empty { result ≡ false → (state : ℕ) → has_state buckets.new key.now state ≡ false }
+    ensures first { first_key_of buckets.new.entries ≡ Some sum.now }
+    ensures empty { result ≡ false → (entry : Entry) → has_at buckets.new sum.now entry ≡ false }
     ensures len { btree_map_len buckets.new ≡ btree_map_len buckets.old }
 {
-    match buckets.get_mut(key) {
-        Some(bucket) => clear(bucket, rows, num, den, key),
+    match buckets.get_mut(sum) {
+        Some(bucket) => clear(bucket, rows, num, den, sum),
         None => unreachable!(),
     }
 }
 
-// Takes states from the top of a bucket until a row on top is Opened at the bucket's key. Answers
-// whether a state is left.
-fn clear(bucket: &mut Bucket, rows: &IndexMap<Packed, Row>, num: u64, den: u64, key: &Key) -> bool
+// Takes entries from the top of a bucket until the row of the one on top is Opened at the bucket's
+// sum and the entry's estimate. Answers whether an entry is left.
+fn clear(bucket: &mut Bucket, rows: &IndexMap<Packed, Row>, num: u64, den: u64, sum: &Key) -> bool
     requires num { num ≤ 1000 }
     requires den { den ≤ 1000 }
     requires heap { IsOrdered bucket.old }
     ensures heap { IsOrdered bucket.new }
-    ensures kept { KeepsLive (weight_of num den) rows.now.entries key.now
-        (states_of bucket.old) (states_of bucket.new) }
+    ensures kept { KeepsLive (weight_of num den) rows.now.entries sum.now bucket.old bucket.new }
     ensures led { result ≡ true
-        → is_led (weight_of num den) rows.now.entries key.now (states_of bucket.new) ≡ true }
-    ensures none { result ≡ false → states_of bucket.new ≡ [] }
+        → is_led (weight_of num den) rows.now.entries sum.now (top_of bucket.new) ≡ true }
+    ensures none { result ≡ false → (entry : Entry) → has_entry bucket.new entry ≡ false }
 {
-    while let Some(state) = bucket.top() {
-        if is_opened_at(rows, num, den, key, &state) {
+    while let Some(top) = bucket.top() {
+        let key = key_from(sum, top.0);
+        if is_opened_at(rows, num, den, &key, &top.1) {
             return true;
         }
         bucket.pop();

@@ -10,7 +10,7 @@ ghost use Rattle.pb_lists.specs.Bundle.{Content, row_in, row_of, put, SetsRow, S
 ghost use Rattle.pb_lists.specs.Offers.{offer_of};
 ghost use Rattle.pb_lists.specs.Fields.{is_opened};
 
-use crate::buckets::{Buckets, file, key_of, tidy};
+use crate::buckets::{Buckets, file, key_from, key_of, tidy};
 use indexmap::IndexMap;
 use pb_model::{Estimate, Key, Row, Status};
 use pb_packed::Packed;
@@ -23,7 +23,7 @@ use std::marker::Model;
 #[derive(Drop)]
 pub struct Bundle {
     rows: IndexMap<Packed, Row>,
-    // each Opened row in the bucket of its key
+    // each Opened row in the bucket of its key's sum
     opened: Buckets,
     num: u64,
     den: u64,
@@ -102,7 +102,10 @@ impl Bundle {
         ensures none { IfNone result (HasOpened (row_of self.now) → ⊥) }
     {
         match self.opened.first_key_value() {
-            Some((_, bucket)) => bucket.top(),
+            Some((_, bucket)) => match bucket.top() {
+                Some(top) => Some(top.1),
+                None => None,
+            },
             None => None,
         }
     }
@@ -112,7 +115,10 @@ impl Bundle {
         ensures { IsBest self.now.weight (row_of self.now) result }
     {
         match self.opened.first_key_value() {
-            Some((key, _)) => Some(*key),
+            Some((sum, bucket)) => match bucket.top() {
+                Some(top) => Some(key_from(sum, top.0)),
+                None => None,
+            },
             None => None,
         }
     }
@@ -180,7 +186,7 @@ impl Bundle {
     {
         let key = key_of(self.num, self.den, &row);
         self.rows.reserve(1)?;
-        file(self.alloc, &mut self.opened, key, state)?;
+        file(self.alloc, &mut self.opened, &key, state)?;
         match self.rows.insert(state, row) {
             Ok(_) => Ok(()),
             Err(_) => unreachable!(),
@@ -197,7 +203,7 @@ impl Bundle {
         ensures err { OnErr result (self.new ≡ self.old) }
     {
         let key = key_of(self.num, self.den, &row);
-        file(self.alloc, &mut self.opened, key, state)?;
+        file(self.alloc, &mut self.opened, &key, state)?;
         match self.rows.insert(state, row) {
             Ok(_) => {
                 tidy(&mut self.opened, &self.rows, self.num, self.den);

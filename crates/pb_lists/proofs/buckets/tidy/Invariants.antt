@@ -3,11 +3,11 @@ use Rattle.pb_lists.specs.Fields.{weight_of}
 use Rattle.pb_lists.specs.Buckets.{HasHeaps, HasFiled}
 use Rattle.pb_lists.proofs.buckets.tidy.Given as goal
 
-abbrev pub invariant-loop-key : goal.invariant-loop-key
-invariant-loop-key l = record {
+abbrev pub invariant-loop-sum : goal.invariant-loop-sum
+invariant-loop-sum l = record {
   heaps : HasHeaps l.buckets;
   filed : HasFiled (weight_of l.num l.den) l.rows.entries l.initial.buckets → HasFiled (weight_of l.num l.den) l.rows.entries l.buckets;
 }
 
-abbrev pub decreases-loop-key : goal.decreases-loop-key
-decreases-loop-key l = btree_map_len l.buckets
+abbrev pub decreases-loop-sum : goal.decreases-loop-sum
+decreases-loop-sum l = btree_map_len l.buckets

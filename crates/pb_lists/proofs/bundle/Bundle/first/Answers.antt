@@ -1,9 +1,15 @@
-use Rattle.pb_lists.proofs.First.{first_of, heap_at}
+use Rattle.pb_lists.specs.Fields.{weight_of}
+use Rattle.pb_lists.proofs.First.{first_row, heap_at}
 use Rattle.pb_lists.proofs.bundle.Bundle.first.Goals as goal
 
-pub returns-in-Some-clause-some : goal.returns-in-Some-clause-some
-returns-in-Some-clause-some c =
-    let heap = heap_at c.self.inside.opened c.in-Some.field-0-0.now c.in-Some.bucket.now c.in-Some.ensures.value c.self.invariant.heaps in
+pub returns-in-Some-top-clause-some : goal.returns-in-Some-top-clause-some
+returns-in-Some-top-clause-some c =
+    let buckets = c.self.inside.opened in
+    let sum = c.in-Some.field-0-0.now in
+    let bucket = c.in-Some.bucket.now in
+    let weight = weight_of c.self.inside.num c.self.inside.den in
+    let entries = c.self.inside.rows.entries in
+    let heap = heap_at buckets sum bucket c.in-Some.ensures.value c.self.invariant.heaps in
     rw (← c.self.view_is)
-    (first_of _ _ c.self.inside.opened c.self.invariant.filed c.self.invariant.tidy c.in-Some.field-0-0.now c.in-Some.bucket.now
-    c.in-Some.ensures.first c.in-Some.ensures.value c.in-Some.ensures.least c.top.result c.top.ensures.top (c.top.ensures.least heap))
+    (first_row weight entries buckets c.self.invariant.filed c.self.invariant.tidy sum bucket c.in-Some.ensures.first c.in-Some.ensures.value c.in-Some.ensures.least
+    c.in-Some-top.top c.in-Some-top.ensures.top (c.in-Some-top.ensures.least heap))
