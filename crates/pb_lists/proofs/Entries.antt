@@ -4,7 +4,7 @@ use Rattle.std.proofs.lemmas.Bool.Decides.{nat_tests}
 use Rattle.std.proofs.lemmas.Cmp.{nat_eq_equiv}
 use Rattle.std.proofs.lemmas.Map.Entries.{place_from_lookup, lookup_from_place}
 use Rattle.std.specs.List.{slice_get}
-use Rattle.std.specs.Map.{set_value}
+use Rattle.std.specs.Map.{lookup_key, set_value}
 use Rattle.indexmap.specs.IndexMap.{insert_entry}
 use Rattle.pb_model.specs.declared.row.Estimate.{Estimate}
 use Rattle.pb_model.specs.declared.row.Row.{Row}
@@ -78,3 +78,16 @@ status_sets entries after state row status found updates = record {
     differ : (other : ℕ) → (other ≡ state → ⊥) → (b : Bool) → nat_eq state other ≡ b → nat_eq state other ≡ false
     differ other apart true e = absurd (apart (sym (equal state other e)))
     differ other apart false e = e
+
+-- the key that is found by a state is the state
+pub key_by_state : (state : ℕ) (entries : List (ℕ × Row)) (key : ℕ) → lookup_key (nat_eq state) entries ≡ Some key → state ≡ key
+key_by_state state [] key found = cc
+key_by_state state (entry ∷ entries) key found = at (nat_eq state entry.0) refl found (λ f. key_by_state state entries key f)
+  where
+    equal : (n m : ℕ) → nat_eq n m ≡ true → n ≡ m
+    equal n m e = grind (arith, nat_tests)
+
+    at : (here : Bool) → nat_eq state entry.0 ≡ here → cond here (Some entry.0) (lookup_key (nat_eq state) entries) ≡ Some key
+        → (lookup_key (nat_eq state) entries ≡ Some key → state ≡ key) → state ≡ key
+    at true e f next = let same : entry.0 ≡ key = cc in equal state entry.0 e ∙ same
+    at false e f next = next f

@@ -13,7 +13,7 @@ use Rattle.pb_model.specs.Weight.{Weight}
 use Rattle.pb_model.specs.KeyOrder.{key_cmp, same_key}
 use Rattle.pb_lists.specs.Bundle.{row_in}
 use Rattle.pb_lists.specs.Fields.{key_at, is_opened, is_open_at, sum_of, estimate_in, key_with}
-use Rattle.pb_lists.specs.Buckets.{Buckets, Entry, has_entry, has_in, has_at, has_state, top_of, first_key_of, IsOrdered, HasHeaps, HasFiled, is_led, is_tidy, IsTidy, KeepsEntries, KeepsLive}
+use Rattle.pb_lists.specs.Buckets.{Buckets, Entry, has_entry, has_in, has_at, has_state, top_of, first_key_of, is_of, is_on_top, IsOrdered, HasHeaps, HasFiled, is_led, is_tidy, IsTidy, KeepsEntries, KeepsLive}
 use Rattle.pb_lists.specs.declared.bucket.Bucket.{Bucket}
 use Rattle.pb_lists.proofs.Order.{key_self, key_found}
 use Rattle.pb_lists.proofs.Parts.{nat_same, nat_found, top_empty}
@@ -254,3 +254,17 @@ module _ (weight : Weight) (entries after : List (ℕ × Row)) (here : ℕ) (row
   live_row key is opened =
       ap (λ found. is_open_at weight found key) (sets here ∙ ap (λ b. cond b (Some row) (row_in entries here)) (nat_same here here refl))
       ∙ (ap (λ status. is_opened status && same_key (key_at weight row) key) opened ∙ subst (λ k. same_key k key ≡ true) is (key_same key))
+
+-- the row of a state that isn't on top of the first bucket was changed
+pub tidy_other : (weight : Weight) (entries after : List (ℕ × Row)) (here : ℕ) (row : Row) → ((state : ℕ) → row_in after state ≡ cond (nat_eq here state) (Some row) (row_in entries state))
+    → (list : List (Key × Bucket)) → is_tidy weight entries list ≡ true → is_on_top list here ≡ false → is_tidy weight after list ≡ true
+tidy_other weight entries after here row sets [] tidy off = refl
+tidy_other weight entries after here row sets (first ∷ list) tidy off = led (top_of first.1) tidy off
+  where
+    other : (state : ℕ) → nat_eq state here ≡ false → (b : Bool) → nat_eq here state ≡ b → cond b (Some row) (row_in entries state) ≡ row_in entries state
+    other state apart true e = absurd (true≢false (sym (nat_same state here (sym (nat_found here state e))) ∙ apart))
+    other state apart false e = refl
+
+    led : (top : Option Entry) → is_led weight entries first.0 top ≡ true → is_of top here ≡ false → is_led weight after first.0 top ≡ true
+    led None l o = absurd (true≢false (sym l))
+    led (Some top) l o = ap (λ found. is_open_at weight found (key_with first.0 top.0)) (sets top.1 ∙ other top.1 o (nat_eq here top.1) refl) ∙ l

@@ -81,6 +81,15 @@ abbrev pub first_key_of : List (Key × Bucket) → Option Key
 first_key_of [] = None
 first_key_of (first ∷ others) = Some first.0
 
+abbrev pub is_of : Option Entry → (state : ℕ) → Bool
+is_of None state = false
+is_of (Some entry) state = nat_eq entry.1 state
+
+-- whether the first bucket has this state on top
+abbrev pub is_on_top : List (Key × Bucket) → (state : ℕ) → Bool
+is_on_top [] state = false
+is_on_top (first ∷ others) state = is_of (top_of first.1) state
+
 -- both parts of a bucket are heaps
 pub record IsOrdered (bucket : Bucket) : Type 0 where
   pub words : IsHeap later (heap_items bucket.words)

@@ -5,7 +5,7 @@ ghost use Rattle.pb_lists.specs.Bundle.{row_in};
 ghost use Rattle.pb_lists.specs.Fields.{weight_of, key_at, is_open_at, sum_of, estimate_in, key_with};
 ghost use Rattle.pb_model.specs.Weight.{Weight};
 ghost use Rattle.pb_model.specs.declared.row.Row.{Row};
-ghost use Rattle.pb_lists.specs.Buckets.{Entry, has_entry, has_at, has_state, first_key_of, top_of};
+ghost use Rattle.pb_lists.specs.Buckets.{Entry, has_entry, has_at, has_state, first_key_of, is_on_top, top_of};
 ghost use Rattle.pb_lists.specs.Buckets.{KeepsLive, KeepsEntries, IsOrdered, HasHeaps, HasFiled, IsTidy, is_led};
 
 use crate::bucket::Bucket;
@@ -93,6 +93,42 @@ pub(crate) fn file(
             buckets.insert(sum, bucket)?;
             Ok(())
         }
+    }
+}
+
+// Tidies the first bucket if what it has on top is this state, whose row alone was changed.
+pub(crate) fn tidy_after(
+    buckets: &mut Buckets,
+    rows: &IndexMap<Packed, Row>,
+    num: u64,
+    den: u64,
+    state: &Packed,
+)
+    requires num { num ≤ 1000 }
+    requires den { den ≤ 1000 }
+    requires heaps { HasHeaps buckets.old }
+    requires tidy { is_on_top buckets.old.entries state.now ≡ false
+        → IsTidy (weight_of num den) rows.now.entries buckets.old }
+    ensures heaps { HasHeaps buckets.new }
+    ensures filed { HasFiled (weight_of num den) rows.now.entries buckets.old
+        → HasFiled (weight_of num den) rows.now.entries buckets.new }
+    ensures tidy { IsTidy (weight_of num den) rows.now.entries buckets.new }
+{
+    if is_first(buckets, state) {
+        tidy(buckets, rows, num, den);
+    }
+}
+
+// Whether the first bucket has this state on top.
+fn is_first(buckets: &Buckets, state: &Packed) -> bool
+    ensures { result ≡ is_on_top buckets.now.entries state.now }
+{
+    match buckets.first_key_value() {
+        Some((_, bucket)) => match bucket.top() {
+            Some(top) => top.1 == *state,
+            None => false,
+        },
+        None => false,
     }
 }
 

@@ -1,4 +1,4 @@
-ghost use Rattle.std.specs.Prelude.{◌≡◌, false, ◌<◌, ◌≤◌, Option, Some, None, [], IfOk, IsSome, IfSome, IfNone, OnOk, OnErr, option_copied, nat_eq, slice_get, length, if◌then◌else◌};
+ghost use Rattle.std.specs.Prelude.{◌≡◌, false, ℕ, ◌<◌, ◌≤◌, Option, Some, None, [], IfOk, IsSome, IfSome, IfNone, OnOk, OnErr, option_copied, nat_eq, slice_get, length, if◌then◌else◌};
 ghost use Rattle.std.specs.Map.{keys_of};
 ghost use Rattle.std.specs.List.{IsDistinct};
 ghost use Rattle.pb_model.specs.Key.{IsBest, IsFirstRow};
@@ -10,7 +10,7 @@ ghost use Rattle.pb_lists.specs.Bundle.{Content, row_in, row_of, put, SetsRow, S
 ghost use Rattle.pb_lists.specs.Offers.{offer_of};
 ghost use Rattle.pb_lists.specs.Fields.{is_opened};
 
-use crate::buckets::{Buckets, file, key_from, key_of, tidy};
+use crate::buckets::{Buckets, file, key_from, key_of, tidy, tidy_after};
 use indexmap::IndexMap;
 use pb_model::{Estimate, Key, Row, Status};
 use pb_packed::Packed;
@@ -96,6 +96,19 @@ impl Bundle {
         }
     }
 
+    /// The place of a state's row, at which `at` and `offer_at` find it without a look-up. None where the state has no row. A row
+    /// keeps its place.
+    pub fn place_of(&self, state: &Packed) -> Option<u64>
+        ensures some { IfSome result (λ place. (row : _) × (row_of self.now state.now ≡ Some row) × (slice_get self.now.entries place ≡ Some (state.now, row))) }
+        ensures within { IfSome result (λ place. place < length self.now.entries) }
+        ensures none { IfNone result (row_of self.now state.now ≡ None) }
+    {
+        match self.rows.get_full(state) {
+            Some(found) => Some(found.0 as u64),
+            None => None,
+        }
+    }
+
     /// The state of the first Opened row: that of the least key, and at one key that of the least state. None where no row is Opened.
     pub fn first(&self) -> Option<Packed>
         ensures some { IfSome result (λ state. (row : _) × IsFirstRow self.now.weight (row_of self.now) state row) }
@@ -145,14 +158,46 @@ impl Bundle {
                 self.add(state, opened_row(g, estimate, parent, action))?;
                 Ok(Offer::New)
             }
-            Some(was) => {
-                if was.g <= g {
-                    return Ok(Offer::Worse);
-                }
-                self.open_again(state, opened_row(g, was.estimate, parent, action))?;
-                Ok(Offer::Better)
-            }
+            Some(was) => self.lower(state, &was, g, parent, action),
         }
+    }
+
+    /// Offers the state at a place a row, as `offer` does, without a look-up. The row keeps its estimate.
+    pub fn offer_at(
+        &mut self,
+        place: u64,
+        g: u64,
+        parent: Option<Packed>,
+        action: u32,
+    ) -> Result<Offer, AllocError>
+        requires { place < length self.old.entries }
+        ensures put { OnOk result ((state : _) (row : _) → slice_get self.old.entries place ≡ Some (state, row) → self.new ≡ put self.old state (offered_row g row.estimate parent action (Some row))) }
+        ensures sets { OnOk result ((state : _) (row : _) → slice_get self.old.entries place ≡ Some (state, row) → SetsRow (row_of self.old) (row_of self.new) state (offered_row g row.estimate parent action (Some row))) }
+        ensures answer { IfOk result (λ answer. (state : ℕ) (row : _) → slice_get self.old.entries place ≡ Some (state, row) → answer ≡ offer_of (Some row) g) }
+        ensures err { OnErr result (self.new ≡ self.old) }
+    {
+        let _ = self.len();
+        let found = self.at(place);
+        let state = *found.0;
+        let was = *found.1;
+        self.lower(state, &was, g, parent, action)
+    }
+
+    /// Offers a state that has no row one, as `offer` does, with one look-up less.
+    pub fn offer_new(
+        &mut self,
+        state: Packed,
+        g: u64,
+        estimate: Estimate,
+        parent: Option<Packed>,
+        action: u32,
+    ) -> Result<(), AllocError>
+        requires { row_of self.old state ≡ None }
+        ensures put { OnOk result (self.new ≡ put self.old state (offered_row g estimate parent action None)) }
+        ensures sets { OnOk result (SetsRow (row_of self.old) (row_of self.new) state (offered_row g estimate parent action None)) }
+        ensures err { OnErr result (self.new ≡ self.old) }
+    {
+        self.add(state, opened_row(g, estimate, parent, action))
     }
 
     /// Closes an Opened row: its state was expanded. It takes no memory.
@@ -193,6 +238,28 @@ impl Bundle {
         }
     }
 
+    // Offers a state its row with this g, if that is lower.
+    fn lower(
+        &mut self,
+        state: Packed,
+        was: &Row,
+        g: u64,
+        parent: Option<Packed>,
+        action: u32,
+    ) -> Result<Offer, AllocError>
+        requires { row_of self.old state ≡ Some was.now }
+        ensures put { OnOk result (self.new ≡ put self.old state (offered_row g was.now.estimate parent action (Some was.now))) }
+        ensures sets { OnOk result (SetsRow (row_of self.old) (row_of self.new) state (offered_row g was.now.estimate parent action (Some was.now))) }
+        ensures answer { IfOk result (λ answer. answer ≡ offer_of (Some was.now) g) }
+        ensures err { OnErr result (self.new ≡ self.old) }
+    {
+        if was.g <= g {
+            return Ok(Offer::Worse);
+        }
+        self.open_again(state, opened_row(g, was.estimate, parent, action))?;
+        Ok(Offer::Better)
+    }
+
     // Replaces the row of a state by an Opened one, which enters its new bucket first. The state is
     // still in its old bucket, and leaves it when it comes first there.
     fn open_again(&mut self, state: Packed, row: Row) -> Result<(), AllocError>
@@ -222,7 +289,7 @@ impl Bundle {
         ensures weight { self.new.weight ≡ self.old.weight }
     {
         set_status(&mut self.rows, state, status);
-        tidy(&mut self.opened, &self.rows, self.num, self.den);
+        tidy_after(&mut self.opened, &self.rows, self.num, self.den, state);
     }
 }
 
