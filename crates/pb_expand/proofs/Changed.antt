@@ -1,5 +1,5 @@
 -- What becomes of a lease's rows where one of its bundles changes.
-use Rattle.std.proofs.Common.{◌≡◌, ◌≢◌, ℕ, ◌<◌, true, false, cond, ◌&&◌, ◌==◌, nat_eq, List, Option, Some, IsSome, is_some, Result, Ok, Err, OnErr, refl, sym, ap, ◌∙◌, subst}
+use Rattle.std.proofs.Common.{◌≡◌, ◌≢◌, ℕ, ◌<◌, true, false, cond, ◌&&◌, ◌==◌, nat_eq, List, Option, Some, None, IsSome, is_some, Result, Ok, Err, OnOk, OnErr, refl, sym, ap, ◌∙◌, subst}
 use Rattle.std.proofs.lemmas.Cmp.{nat_eq_equiv}
 use Rattle.std.proofs.lemmas.Map.{lookup-set_value, keys-set_value}
 use Rattle.std.proofs.lemmas.Map.Steps.{set_value_same}
@@ -20,6 +20,18 @@ use Rattle.pb_expand.proofs.Fewer.{opened_fall}
 pub on_err : {X E : Type 0} (r : Result X E) (P : Type 0) → P → OnErr r P
 on_err (Ok x) P h = tt
 on_err (Err e) P h = h
+
+pub on_ok : {X E : Type 0} (r : Result X E) (P Q : Type 0) → (P → Q) → OnOk r P → OnOk r Q
+on_ok (Ok x) P Q gives h = gives h
+on_ok (Err e) P Q gives h = tt
+
+pub if_err : {X E : Type 0} (r : Result X E) (P Q : Type 0) → (P → Q) → OnErr r P → OnErr r Q
+if_err (Ok x) P Q gives h = tt
+if_err (Err e) P Q gives h = gives h
+
+pub if_ok : {X E : Type 0} (r : Result X E) (P Q : Type 0) {R : Type 0} → (P → R) → (Q → R) → OnOk r P → OnErr r Q → R
+if_ok (Ok x) P Q one other ok err = one ok
+if_ok (Err e) P Q one other ok err = other err
 
 pub has_opened : (part : Part) (state : ℕ) → IsOpened (part state) → HasOpened part
 has_opened part state is = (state, is.0, is.1, is.2)
@@ -88,6 +100,18 @@ module _ (lease : LeaseValue) (block : ℕ) (was now : Content) (there : content
   pub offered : (state g : ℕ) (estimate : Estimate) (parent : Option ℕ) (action : ℕ) → SetsRow (row_of was) (row_of now) state (offered_row g estimate parent action (row_of was state))
       → OffersAt lease (with_bundle lease block now) block state g estimate parent action
   offered state g estimate parent action set = row_changed lease.parts block was now there (λ old. Some (offered_row g estimate parent action old)) state set.here set.others
+
+  -- a row keeps its estimate, so any may stand here
+  pub known_offered : (state g : ℕ) (estimate : Estimate) (parent : Option ℕ) (action : ℕ) (row : Row) → row_of was state ≡ Some row
+      → SetsRow (row_of was) (row_of now) state (offered_row g row.estimate parent action (Some row)) → OffersAt lease (with_bundle lease block now) block state g estimate parent action
+  known_offered state g estimate parent action row found set = offered state g estimate parent action (subst (λ old. SetsRow (row_of was) (row_of now) state (offered_row g estimate parent action old)) (sym found) set)
+
+  pub new_offered : (state g : ℕ) (one other : Estimate) (parent : Option ℕ) (action : ℕ) → row_of was state ≡ None → one ≡ other
+      → SetsRow (row_of was) (row_of now) state (offered_row g one parent action None) → OffersAt lease (with_bundle lease block now) block state g other parent action
+  new_offered state g one other parent action absent same set =
+      offered state g other parent action
+      (subst (λ old. SetsRow (row_of was) (row_of now) state (offered_row g other parent action old)) (sym absent)
+      (subst (λ estimate. SetsRow (row_of was) (row_of now) state (offered_row g estimate parent action None)) same set))
 
   pub fewer_opened : lease.block ≡ block → (state : ℕ) (row : Row) → row_of was state ≡ Some row → row.status ≡ Opened → now ≡ put was state (record row { status = Cut })
       → own_opened (with_bundle lease block now) < own_opened lease

@@ -5,5 +5,4 @@ pub mod Turned
 pub mod Known
 pub mod Listed
 pub mod Far
-pub mod Estimates
 pub mod Watched

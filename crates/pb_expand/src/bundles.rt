@@ -1,17 +1,22 @@
 //! What a worker does to the bundles of its lease.
-ghost use Rattle.std.specs.Prelude.{◌≡◌, ◌<◌, Some, IsSome, IfSome, IfNone, OnOk, OnErr, option_map};
+ghost use Rattle.std.specs.Prelude.{◌≡◌, ◌<◌, Some, IsTrue, IsSome, IfSome, IfNone, OnOk, OnErr};
 ghost use Rattle.pb_model.specs.Store.{HasOpened};
 ghost use Rattle.pb_model.specs.Key.{IsFirstRow};
 ghost use Rattle.pb_model.specs.declared.row.Status.TheVariants.{Closed, Cut};
+ghost use Rattle.pb_task.specs.Parts.{space_of};
+ghost use Rattle.pb_estimate.specs.Estimates.{estimate_of};
+ghost use Rattle.pb_estimate.specs.Tables.{IsOfTask};
 ghost use Rattle.pb_lists.specs.Bundle.{IsOpened};
-ghost use Rattle.pb_bundles.specs.Parts.{content_in, away_rows};
+ghost use Rattle.pb_bundles.specs.Parts.{content_in};
 ghost use Rattle.pb_lease.specs.LeaseValue.{HasWeights};
 ghost use Rattle.pb_expand.specs.Turned.{own_rows};
 ghost use Rattle.pb_expand.specs.Rows.{ChangesRows, SetsStatusAt, OffersAt, own_opened};
 
+use pb_estimate::Estimator;
 use pb_lease::Lease;
-use pb_model::{Estimate, Row};
+use pb_model::{Row, Succ};
 use pb_packed::Packed;
+use pb_task::Task;
 use std::alloc::AllocError;
 
 /// The first Opened row of the lease's block, and its state.
@@ -26,17 +31,6 @@ pub fn first(lease: &Lease) -> Option<(Packed, Row)>
     match bundle.row(&state) {
         Some(row) => Some((state, *row)),
         None => unreachable!(),
-    }
-}
-
-/// The estimate that a state's row has in the bundle of a block. None where the state has no row there.
-pub fn known_estimate(lease: &Lease, block: u32, state: &Packed) -> Option<Estimate>
-    requires { IsSome (content_in lease.now.parts block) }
-    ensures { result ≡ option_map (λ row. row.estimate) (away_rows lease.now.parts block state.now) }
-{
-    match lease.bundle(block).row(state) {
-        Some(row) => Some(row.estimate),
-        None => None,
     }
 }
 
@@ -61,23 +55,34 @@ pub fn close(lease: &mut Lease, state: &Packed)
     lease.bundle_mut(block).close_row(state);
 }
 
-/// Offers a state to the bundle of a block. After want of memory the lease is as it was.
+/// Offers a successor with this g, that of the walk to it by its parent, to the bundle of a block. A state that has a row there keeps that
+/// row's estimate, and any other gets the task's. After want of memory the lease is as it was.
 pub fn offer(
+    task: &Task,
+    estimator: &mut Estimator,
     lease: &mut Lease,
     block: u32,
-    state: Packed,
+    succ: &Succ,
+    parent: &Packed,
     g: u64,
-    estimate: Estimate,
-    parent: Packed,
-    action: u32,
 ) -> Result<(), AllocError>
-    requires { IsSome (content_in lease.old.parts block) }
-    ensures rows { OnOk result (OffersAt lease.old lease.new block state g estimate (Some parent) action) }
+    requires tables { IsOfTask estimator.old task.now }
+    requires state { IsTrue ((space_of task.now).is_state succ.now.state) }
+    requires there { IsSome (content_in lease.old.parts block) }
+    ensures rows { OnOk result (OffersAt lease.old lease.new block succ.now.state g (estimate_of task.now succ.now.state) (Some parent.now) succ.now.action) }
     ensures changes { ChangesRows lease.old lease.new }
     ensures err { OnErr result (lease.new ≡ lease.old) }
+    ensures tables { IsOfTask estimator.new task.now }
 {
-    lease
-        .bundle_mut(block)
-        .offer(state, g, estimate, Some(parent), action)?;
-    Ok(())
+    let bundle = lease.bundle_mut(block);
+    match bundle.place_of(&succ.state) {
+        Some(place) => {
+            bundle.offer_at(place, g, Some(*parent), succ.action)?;
+            Ok(())
+        }
+        None => {
+            let estimate = estimator.estimate(task, &succ.state);
+            bundle.offer_new(succ.state, g, estimate, Some(*parent), succ.action)
+        }
+    }
 }

@@ -1,43 +1,20 @@
 //! The offers of an expansion.
-ghost use Rattle.std.specs.Prelude.{◌≡◌, ◌<◌, ◌^◌, IsTrue, IsSome, IfSome, IfNone, OnOk, OnErr};
+ghost use Rattle.std.specs.Prelude.{◌≡◌, ◌<◌, ◌^◌, OnOk, OnErr};
 ghost use Rattle.pb_model.specs.Space.{steps, IsProper};
 ghost use Rattle.pb_task.specs.Parts.{space_of, greatest_cost};
-ghost use Rattle.pb_estimate.specs.Estimates.{estimate_of};
 ghost use Rattle.pb_estimate.specs.Tables.{IsOfTask};
 ghost use Rattle.pb_abstract.specs.Graph.{IsGraphOf};
-ghost use Rattle.pb_bundles.specs.Parts.{content_in, away_rows};
 ghost use Rattle.pb_lease.specs.Leased.{guide_of};
 ghost use Rattle.pb_expand.specs.Rows.{ChangesRows, HasOffers, IsBrokenOff, LeadsInto};
 
-use crate::bundles::{known_estimate, offer};
+use crate::bundles::offer;
 use pb_abstract::AbsGraph;
 use pb_estimate::Estimator;
 use pb_lease::Lease;
-use pb_model::{Estimate, Succ};
+use pb_model::Succ;
 use pb_packed::Packed;
 use pb_task::Task;
 use std::alloc::AllocError;
-
-// The estimate that a state is offered with to the bundle of a block: that of its row there, if it has one, since a row keeps its estimate.
-fn offered_estimate(
-    task: &Task,
-    estimator: &mut Estimator,
-    lease: &Lease,
-    block: u32,
-    state: &Packed,
-) -> Estimate
-    requires tables { IsOfTask estimator.old task.now }
-    requires state { IsTrue ((space_of task.now).is_state state.now) }
-    requires there { IsSome (content_in lease.now.parts block) }
-    ensures known { IfSome (away_rows lease.now.parts block state.now) (λ row. result ≡ row.estimate) }
-    ensures new { IfNone (away_rows lease.now.parts block state.now) (result ≡ estimate_of task.now state.now) }
-    ensures tables { IsOfTask estimator.new task.now }
-{
-    match known_estimate(lease, block, state) {
-        Some(estimate) => estimate,
-        None => estimator.estimate(task, state),
-    }
-}
 
 /// Offers the successors of a row with this g, one after another, each to the bundle of its own block. After want of memory the first of
 /// them were offered.
@@ -64,16 +41,7 @@ pub fn offer_all(
     for succ in succs {
         let cost = g + succ.cost;
         let block = graph.block(task, &succ.state);
-        let estimate = offered_estimate(task, estimator, lease, block, &succ.state);
-        offer(
-            lease,
-            block,
-            succ.state,
-            cost,
-            estimate,
-            *parent,
-            succ.action,
-        )?;
+        offer(task, estimator, lease, block, succ, parent, cost)?;
     }
     Ok(())
 }

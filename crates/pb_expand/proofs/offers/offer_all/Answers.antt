@@ -1,12 +1,10 @@
-use Rattle.std.proofs.Common.{◌≤◌, ◌+◌, ℕ, Option, Some, sym, subst, arith, IsSome}
-use Rattle.pb_model.specs.declared.row.Estimate.{Estimate}
+use Rattle.std.proofs.Common.{◌≤◌, ◌+◌, Some, sym, subst, arith, IsSome}
 use Rattle.pb_model.specs.declared.row.Succ.{Succ}
 use Rattle.pb_task.specs.Parts.{space_of, greatest_cost}
 use Rattle.pb_estimate.specs.Estimates.{estimate_of}
 use Rattle.pb_bundles.specs.Parts.{content_in}
 use Rattle.pb_lease.specs.Leased.{guide_of}
 use Rattle.pb_expand.specs.Rows.{OffersAt}
-use Rattle.pb_expand.proofs.Estimates.{same_offer}
 use Rattle.pb_expand.proofs.Listed.{step_at}
 use Rattle.pb_expand.proofs.Same.{still_there, changes_on}
 use Rattle.pb_expand.proofs.Turned.{offers_next}
@@ -18,12 +16,12 @@ overflow_add-cost c =
     c.requires.proper.bounded _ _ _ _ (step_at (space_of c.args.task.now) c.args.parent.now c.args.succs.now c.loop-succ.succ-index c.succ-item.result c.requires.succs c.loop-succ-test.true c.succ-item.is) in
     omega (arith, low, c.requires.cheap)
 
-pub offered_estimate-estimate-requires-clause-state : goal.offered_estimate-estimate-requires-clause-state
-offered_estimate-estimate-requires-clause-state c =
+pub offer-requires-clause-state : goal.offer-requires-clause-state
+offer-requires-clause-state c =
     c.requires.proper.to_state _ _ _ _ (step_at (space_of c.args.task.now) c.args.parent.now c.args.succs.now c.loop-succ.succ-index c.succ-item.result c.requires.succs c.loop-succ-test.true c.succ-item.is)
 
-pub offered_estimate-estimate-requires-clause-there : goal.offered_estimate-estimate-requires-clause-there
-offered_estimate-estimate-requires-clause-there c =
+pub offer-requires-clause-there : goal.offer-requires-clause-there
+offer-requires-clause-there c =
     subst (λ block. IsSome (content_in c.loop-succ.lease.parts block)) (sym c.block-block.ensures.block)
     (still_there c.args.lease.now.parts c.loop-succ.lease.parts _ c.loop-succ.invariant.changes.places
     (c.requires.there _ _ _ (step_at (space_of c.args.task.now) c.args.parent.now c.args.succs.now c.loop-succ.succ-index c.succ-item.result c.requires.succs c.loop-succ-test.true c.succ-item.is)))
@@ -32,25 +30,13 @@ pub block-block-requires-clause-state : goal.block-block-requires-clause-state
 block-block-requires-clause-state c =
     c.requires.proper.to_state _ _ _ _ (step_at (space_of c.args.task.now) c.args.parent.now c.args.succs.now c.loop-succ.succ-index c.succ-item.result c.requires.succs c.loop-succ-test.true c.succ-item.is)
 
-pub offer-requires : goal.offer-requires
-offer-requires c =
-    subst (λ block. IsSome (content_in c.loop-succ.lease.parts block)) (sym c.block-block.ensures.block)
-    (still_there c.args.lease.now.parts c.loop-succ.lease.parts _ c.loop-succ.invariant.changes.places
-    (c.requires.there _ _ _ (step_at (space_of c.args.task.now) c.args.parent.now c.args.succs.now c.loop-succ.succ-index c.succ-item.result c.requires.succs c.loop-succ-test.true c.succ-item.is)))
-
 pub loop-succ-preserved : goal.loop-succ-preserved
 loop-succ-preserved c =
     let succ : Succ = c.succ-item.result in
-    let cost : ℕ = c.args.g + succ.cost in
-    let parent : Option ℕ = Some c.args.parent.now in
-    let estimate : Estimate = estimate_of c.args.task.now succ.state in
-    let offered : OffersAt c.loop-succ.lease c.offer.new.lease c.block-block.result succ.state cost estimate parent succ.action =
-    same_offer cost c.offered_estimate-estimate.result estimate parent succ.action c.loop-succ.lease c.offer.new.lease c.block-block.result succ.state c.offered_estimate-estimate.ensures.new
-    c.in_ok-offer.ensures.rows in
     record {
       offers = offers_next (guide_of c.args.task.now c.args.graph.now) c.args.parent.now c.args.g c.args.succs.now c.loop-succ.succ-index succ c.args.lease.now c.loop-succ.lease c.offer.new.lease
           c.loop-succ-test.true c.succ-item.is c.loop-succ.invariant.offers
-          (subst (λ block. OffersAt c.loop-succ.lease c.offer.new.lease block succ.state cost estimate parent succ.action) c.block-block.ensures.block offered);
+          (subst (λ block. OffersAt c.loop-succ.lease c.offer.new.lease block succ.state (c.args.g + succ.cost) (estimate_of c.args.task.now succ.state) (Some c.args.parent.now) succ.action) c.block-block.ensures.block c.in_ok-offer.ensures.rows);
       changes = changes_on c.args.lease.now c.loop-succ.lease c.offer.new.lease c.loop-succ.invariant.changes c.in_ok-offer.ensures.changes;
-      tables = c.offered_estimate-estimate.ensures.tables;
+      tables = c.in_ok-offer.ensures.tables;
     }
