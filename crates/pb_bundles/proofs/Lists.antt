@@ -196,3 +196,26 @@ found_by_len {X = X} test (f ∷ es) e is = go (found_by_len test es e) (test f.
 -- what stands at the place of a key is what is found by it
 pub found_by_place : {X : Type 0} (test : ℕ → Bool) (es : List (ℕ × X)) (i : ℕ) (e : ℕ × X) → position test (keys_of es) ≡ Some i → slice_get es i ≡ Some e → lookup test es ≡ Some e.1
 found_by_place test es i e at is = found_by_len test es e (ap (slice_get es) (placed_at test es i at) ∙ is)
+
+absent_by_len : {X : Type 0} (test : ℕ → Bool) (es : List (ℕ × X)) → nat_lt (position_or_len test (keys_of es)) (length (keys_of es)) ≡ false → lookup test es ≡ None
+absent_by_len test [] e = refl
+absent_by_len {X = X} test (e ∷ es) beyond = go (absent_by_len test es) (test e.0) refl beyond
+  where
+    go : (nat_lt (position_or_len test (keys_of es)) (length (keys_of es)) ≡ false → lookup test es ≡ None) → (b : Bool) → test e.0 ≡ b
+        → nat_lt (cond (not (test e.0)) (1 + position_or_len test (keys_of es)) 0) (length (keys_of (e ∷ es))) ≡ false → cond (test e.0) (Some e.1) (lookup test es) ≡ None
+    go rest true t at = absurd (never (rw t at at))
+      where
+        never : nat_lt 0 (length (keys_of (e ∷ es))) ≡ false → ⊥
+        never h = grind (arith, nat_tests)
+    go rest false t at = rw t (rest (inner (rw t at at)))
+      where
+        inner : nat_lt (1 + position_or_len test (keys_of es)) (length (keys_of (e ∷ es))) ≡ false → nat_lt (position_or_len test (keys_of es)) (length (keys_of es)) ≡ false
+        inner h = grind (arith, nat_tests)
+
+-- what has no place among the keys isn't found
+pub absent_by_place : {X : Type 0} (test : ℕ → Bool) (es : List (ℕ × X)) → position test (keys_of es) ≡ None → lookup test es ≡ None
+absent_by_place {X = X} test es none = absent_by_len test es (beyond (nat_lt (position_or_len test (keys_of es)) (length (keys_of es))) (position_or_len test (keys_of es)) none)
+  where
+    beyond : (b : Bool) (n : ℕ) → ◌≡◌ {A = Option ℕ} (cond b (Some n) None) None → b ≡ false
+    beyond true n e = absurd (nothing (sym e))
+    beyond false n e = refl

@@ -1,5 +1,5 @@
 -- The tree of winners: what a node has, how games are played anew, and that a node has the best of the blocks below it.
-use Rattle.std.proofs.Common.{◌≡◌, ◌≢◌, ℕ, zero, suc, ◌+◌, ◌-◌, ◌*◌, ◌/◌, ◌<◌, ◌≤◌, ◌==◌, nat_lt, Bool, true, false, IsTrue, cond, List, Option, Some, None, IsSome, get_or, set, length, refl, sym, ap, subst, ◌∙◌, ◌⊎◌, inl, inr, arith, true≢false, get_or-set_same, get_or-set_other}
+use Rattle.std.proofs.Common.{◌≡◌, ◌≢◌, ℕ, zero, suc, ◌+◌, ◌-◌, ◌*◌, ◌/◌, ◌<◌, ◌≤◌, ◌==◌, nat_lt, Bool, false, IsTrue, cond, List, Option, Some, None, IsSome, get_or, set, length, refl, sym, ap, subst, ◌∙◌, ◌⊎◌, inl, inr, arith, true≢false, get_or-set_same, get_or-set_other}
 use Rattle.pb_model.specs.declared.key.Key.{Key}
 use Rattle.pb_model.proofs.Tests.{by_cases, below, not_below, equal}
 use Rattle.pb_machine.specs.Choice.{ComesBefore}

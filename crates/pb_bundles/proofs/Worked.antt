@@ -1,5 +1,5 @@
 -- The moves on a few rows.
-use Rattle.std.proofs.Common.{◌≡◌, ℕ, List, [], ◌∷◌, Option, Some, None, refl, true, false}
+use Rattle.std.proofs.Common.{◌≡◌, [], ◌∷◌, Some, None, refl, true, false}
 use Rattle.pb_lists.specs.Bundle.{Content}
 use Rattle.pb_bundles.specs.Parts.{content_in, with_content}
 use Rattle.pb_bundles.specs.Moves.{is_among, vacated, moved, put_back}

@@ -10,6 +10,9 @@ use pb_lists::Bundle;
 use std::alloc::{AllocError, Global};
 use std::marker::Model;
 
+// Up to so many blocks are looked through one after another.
+const FEW: usize = 8;
+
 /// The bundles of some blocks that are away from home, as those of a lease are: each with its block, in the order in which they left.
 #[derive(Drop)]
 pub struct LentBundles {
@@ -69,8 +72,9 @@ impl LentBundles {
         requires { IsSome (content_in self.now block) }
         ensures { content_in self.now block ≡ Some result.now }
     {
-        match self.bundles.get(&block) {
-            Some(bundle) => bundle,
+        let at = self.place(block);
+        match self.bundles.get_index(at) {
+            Some(found) => found.1,
             None => unreachable!(),
         }
     }
@@ -85,15 +89,29 @@ impl LentBundles {
         self.bundles.pair_mut(at).1
     }
 
-    // Where a block that is among these stands.
+    // Where a block that is among these stands. A few blocks are looked through, which is faster than a hash.
     fn place(&self, block: u32) -> usize
         requires { IsSome (content_in self.now block) }
         ensures place { position (nat_eq block) (keys_of self.now) ≡ Some result }
         ensures within { result < length self.now }
     {
-        match self.bundles.get_index_of(&block) {
-            Some(at) => at,
-            None => unreachable!(),
+        if self.bundles.len() <= FEW {
+            match find(self.bundles.keys().as_slice(), block) {
+                Some(at) => at,
+                None => unreachable!(),
+            }
+        } else {
+            match self.bundles.get_index_of(&block) {
+                Some(at) => at,
+                None => unreachable!(),
+            }
         }
     }
+}
+
+// Where a block first stands in a list.
+fn find(blocks: &[u32], block: u32) -> Option<usize>
+    ensures { result ≡ position (nat_eq block) blocks.now }
+{
+    blocks.iter().position(|other| block == *other)
 }

@@ -1,6 +1,6 @@
-use Rattle.std.proofs.Common.{◌≡◌, ℕ, ◌+◌, ◌-◌, ◌*◌, ◌<◌, ◌≤◌, true, false, Some, IsSome, length, sym, ap, subst, ◌∙◌, arith}
+use Rattle.std.proofs.Common.{◌≡◌, ◌<◌, true, false, Some, IsSome, length, sym, ap, subst, ◌∙◌}
 use Rattle.pb_bundles.specs.declared.winner.Winner.{Winner}
-use Rattle.pb_bundles.specs.Tree.{leaf, node, IsAhead, IsBestBelow}
+use Rattle.pb_bundles.specs.Tree.{leaf, IsAhead, IsBestBelow}
 use Rattle.pb_bundles.proofs.Trees.{leaf_of, own_leaf, stays, takes, ends, both}
 use Rattle.pb_bundles.proofs.tree.+best_below.Goals as goal
 

@@ -1,5 +1,5 @@
-use Rattle.std.proofs.Common.{◌≡◌, ◌≢◌, ℕ, ◌+◌, ◌-◌, ◌*◌, ◌/◌, ◌<◌, ◌≤◌, length, set, sym, ap, subst, ◌∙◌, arith, length-set}
-use Rattle.pb_bundles.specs.Tree.{IsWon, IsWonBy, node}
+use Rattle.std.proofs.Common.{◌+◌, ◌*◌, ◌<◌, subst, ◌∙◌, arith, length-set}
+use Rattle.pb_bundles.specs.Tree.{IsWonBy, node}
 use Rattle.pb_bundles.proofs.Trees.{won_set}
 use Rattle.pb_bundles.proofs.tree.climb.Goals as goal
 

@@ -1,8 +1,6 @@
-use Rattle.std.proofs.Common.{◌≡◌, ℕ, ◌+◌, ◌*◌, ◌<◌, ◌≤◌, Bool, List, Option, Some, None, IsSome, IsTrue, get_or, length, sym, ap, subst, ◌∙◌, arith}
+use Rattle.std.proofs.Common.{◌<◌, List, Option, None, length, subst, ◌∙◌}
 use Rattle.pb_model.specs.declared.key.Key.{Key}
-use Rattle.pb_bundles.specs.declared.winner.Winner.{Winner}
 use Rattle.pb_bundles.specs.Tree.{IsBestBelow}
-use Rattle.pb_bundles.specs.Choosing.{IsFirstBy}
 use Rattle.pb_bundles.proofs.Trees.{found_first, found_none}
 use Rattle.pb_bundles.proofs.tree.KeyTree.first.Goals as goal
 
