@@ -1,8 +1,8 @@
 -- A field of bits that is replaced.
-use Rattle.std.proofs.Common.{◌≡◌, ℕ, ◌+◌, ◌-◌, ◌*◌, ◌/◌, ◌%◌, ◌^◌, ◌<◌, ◌≤◌, sym, ap, ◌∙◌, arith}
+use Rattle.std.proofs.Common.{◌≡◌, ℕ, ◌+◌, ◌*◌, ◌/◌, ◌%◌, ◌^◌, ◌<◌, sym, ap, ◌∙◌, arith}
 use Rattle.std.proofs.lemmas.Nat.{pow-add, pow_pos, mod_below, mod-mul-add, div-mul-add, shr_split, shr-shr, mod-pow-add}
 use Rattle.std.proofs.Math.Nat.{mul_assoc, add-mul}
-use Rattle.pb_packed.specs.Bits.{bits_of, with_bits_of}
+use Rattle.pb_packed.specs.Bits.{with_bits_of}
 use Rattle.pb_packed.specs.Laws.{FieldsAreReplaced}
 
 -- the bits above the field, the value, and the bits below it

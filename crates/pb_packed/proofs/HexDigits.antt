@@ -1,5 +1,5 @@
 -- The hexadecimal digits of a number, one after another.
-use Rattle.std.proofs.Common.{lit<, length, get_or, slice_set, ◌≡◌, ℕ, zero, suc, ◌+◌, ◌-◌, ◌*◌, ◌/◌, ◌%◌, ◌^◌, ◌<◌, ◌≤◌, List, [], ◌∷◌, ◌++◌, take, refl, sym, ap, subst, ◌∙◌, arith}
+use Rattle.std.proofs.Common.{lit<, length, get_or, slice_set, ◌≡◌, ℕ, suc, ◌+◌, ◌-◌, ◌*◌, ◌/◌, ◌%◌, ◌^◌, ◌<◌, ◌≤◌, List, [], ◌∷◌, ◌++◌, take, refl, sym, ap, ◌∙◌, arith}
 use Rattle.std.proofs.lemmas.Nat.{shr-shr, div-mul-add, mod-mul-add, pow-add}
 use Rattle.std.proofs.Math.Nat.{mul-le-mul_right, pow-le-pow_right}
 use Rattle.std.proofs.Math.Seq.{take-suc}

@@ -1,25 +1,55 @@
-ghost use Rattle.std.specs.Prelude.{◌≡◌, ◌+◌, ◌^◌, ◌<◌, ◌≤◌, ◌↔◌, IsTrue, IsBitSet};
+ghost use Rattle.std.specs.Prelude.{◌≡◌, ◌+◌, ◌%◌, ◌^◌, ◌<◌, ◌≤◌, ◌↔◌, IsTrue, IsBitSet};
 ghost use Rattle.pb_packed.specs.Bits.{bits_of, with_bits_of, bit_number};
 
 use crate::Packed;
+use crate::parts::{bits_of_half, bits_of_word, mask, with_bits_of_half, with_bits_of_word};
+
+// How many values a word has.
+const WORDS: u128 = 1 << 64;
 
 impl Packed {
     /// The number in the `len` bits from bit `at` on.
+    #[inline]
     pub fn bits(&self, at: u32, len: u32) -> u64
         requires short { len ≤ 64 }
         requires within { at + len ≤ 256 }
         ensures { result ≡ bits_of self.now at len }
     {
-        let mask = if len < 64 {
-            (1u64 << len) - 1
+        let _in_range = self.high;
+        if len == 0 {
+            0
+        } else if at + len <= 64 {
+            bits_of_word(self.low_word(), at, len)
+        } else if at + len <= 128 {
+            bits_of_half(self.low, at, len)
+        } else if 128 <= at {
+            bits_of_half(self.high, at - 128, len)
         } else {
-            u64::MAX
-        };
+            self.bits_across(at, len)
+        }
+    }
+
+    // The lowest 64 bits.
+    #[inline]
+    fn low_word(&self) -> u64
+        ensures { result ≡ self.now % 2 ^ 64 }
+    {
+        (self.low % WORDS) as u64
+    }
+
+    // The number in a field of any place, also in one that begins in the low half and ends in the high one.
+    fn bits_across(&self, at: u32, len: u32) -> u64
+        requires some { 0 < len }
+        requires short { len ≤ 64 }
+        requires within { at + len ≤ 256 }
+        ensures { result ≡ bits_of self.now at len }
+    {
         let quotient = self.quotient(at);
-        (quotient.low & u128::from(mask)) as u64
+        (quotient.low & u128::from(mask(len))) as u64
     }
 
     /// The same state with the `len` bits from bit `at` on replaced by the value.
+    #[inline]
     pub fn with_bits(&self, at: u32, len: u32, value: u64) -> Packed
         requires short { len ≤ 64 }
         requires within { at + len ≤ 256 }
@@ -28,14 +58,56 @@ impl Packed {
     {
         let _in_range = self.high;
         if len == 0 {
-            return *self;
+            *self
+        } else if at + len <= 64 {
+            self.with_bits_low(at, len, value)
+        } else if at + len <= 128 {
+            Packed {
+                high: self.high,
+                low: with_bits_of_half(self.low, at, len, value),
+            }
+        } else if 128 <= at {
+            Packed {
+                high: with_bits_of_half(self.high, at - 128, len, value),
+                low: self.low,
+            }
+        } else {
+            self.with_bits_across(at, len, value)
         }
-        let old = Packed::multiple(self.bits(at, len), at);
+    }
+
+    // The same with a field of the lowest word replaced: no other bits are touched.
+    #[inline]
+    fn with_bits_low(&self, at: u32, len: u32, value: u64) -> Packed
+        requires some { 0 < len }
+        requires within { at + len ≤ 64 }
+        requires fits { value < 2 ^ len }
+        ensures { result ≡ with_bits_of self.now at len value }
+    {
+        let word = self.low_word();
+        let new = with_bits_of_word(word, at, len, value);
+        Packed {
+            high: self.high,
+            low: self.low - u128::from(word) + u128::from(new),
+        }
+    }
+
+    // The same with a field of any place replaced, also with one that begins in the low half and ends in the high one.
+    fn with_bits_across(&self, at: u32, len: u32, value: u64) -> Packed
+        requires some { 0 < len }
+        requires short { len ≤ 64 }
+        requires within { at + len ≤ 256 }
+        requires fits { value < 2 ^ len }
+        ensures { result ≡ with_bits_of self.now at len value }
+    {
+        let _in_range = self.high;
+        let old = Packed::multiple(self.bits_across(at, len), at);
         let new = Packed::multiple(value, at);
         self.minus(&old).plus(&new)
     }
 
     /// Whether bit `i` is 1.
+    #[inline]
     pub fn has(&self, i: u32) -> bool
         requires { i < 256 }
         ensures { IsTrue result ↔ (bits_of self.now i 1 ≡ 1) }
@@ -44,6 +116,7 @@ impl Packed {
     }
 
     /// The same state with bit `i` on (1) or off (0).
+    #[inline]
     pub fn with(&self, i: u32, on: bool) -> Packed
         requires { i < 256 }
         ensures { result ≡ with_bits_of self.now i 1 (bit_number on) }

@@ -10,6 +10,7 @@ mod digits;
 mod laws;
 mod order;
 mod packed;
+mod parts;
 
 pub use laws::{digits_are_hex, digits_tell_numbers, fields_are_replaced};
 pub use packed::Packed;

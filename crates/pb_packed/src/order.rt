@@ -14,7 +14,7 @@ impl PartialEq for Packed {
     ghost laws = { Prim.search rules };
 
     fn eq(&self, other: &Packed) -> bool {
-        self.high == other.high && self.low == other.low
+        (self.high == other.high) & (self.low == other.low)
     }
 }
 

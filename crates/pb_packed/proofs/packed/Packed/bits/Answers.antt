@@ -1,16 +1,18 @@
-use Rattle.std.proofs.Common.{◌≡◌, ap, ◌∙◌, ◌-◌, ◌^◌, ◌%◌, ◌/◌, ◌+◌, ◌*◌, ◌≤◌, ℕ, bit_and, arith, sym}
-use Rattle.std.proofs.lemmas.Nat.{and_mask, one_shl}
-use Rattle.pb_packed.proofs.Shifts.{field_of_half}
+use Rattle.std.proofs.Common.{ap, ◌∙◌}
+use Rattle.pb_packed.specs.Bits.{bits_of}
+use Rattle.pb_packed.proofs.Shifts.{field_of_word, field_of_low, field_of_high}
 use Rattle.pb_packed.proofs.packed.Packed.bits.Goals as goal
-use Rattle.pb_packed.proofs.packed.Packed.bits.Goals.{then-len-lt64, else-len-lt64}
 
-pub returns : goal.returns
-returns c =
-    let mask : c.from.result ≡ 2 ^ c.args.len - 1 = elim c.if-len-lt64.branch [
-      | then-len-lt64 w ↦ c.from.ensures ∙ w.mask-is ∙ ap (λ n. n - 1) (one_shl c.args.len 64 w.if-len-lt64.true)
-      | else-len-lt64 w ↦
-          let whole : 64 ≡ c.args.len = omega (arith, w.if-len-lt64.false, c.requires.short) in
-          c.from.ensures ∙ w.mask-is ∙ ap (λ k. 2 ^ k - 1) whole
-    ] in
-    let low : bit_and c.quotient.inside.low c.from.result ≡ c.quotient.inside.low % 2 ^ c.args.len = ap (λ m. bit_and c.quotient.inside.low m) mask ∙ and_mask _ _ in
-    low ∙ field_of_half c.quotient.inside.high c.quotient.inside.low c.args.len c.requires.short ∙ ap (λ n. n % 2 ^ c.args.len) (c.quotient.view_is ∙ c.quotient-quotient.ensures)
+pub returns-then-at-len-le64 : goal.returns-then-at-len-le64
+returns-then-at-len-le64 c =
+    c.bits_of_word.ensures ∙ ap (λ n. bits_of n c.args.at c.args.len) c.low_word.ensures ∙ field_of_word c.args.self.now c.args.at c.args.len c.if-at-len-le64.true
+
+pub returns-then-at-len-le128 : goal.returns-then-at-len-le128
+returns-then-at-len-le128 c =
+    c.bits_of_half.ensures ∙ field_of_low c.self.inside.high c.self.inside.low 128 c.args.at c.args.len c.if-at-len-le128.true
+    ∙ ap (λ n. bits_of n c.args.at c.args.len) c.self.view_is
+
+pub returns-then-at-ge128 : goal.returns-then-at-ge128
+returns-then-at-ge128 c =
+    c.bits_of_half-then-at-ge128.ensures ∙ field_of_high c.self.inside.high c.self.inside.low c.args.at c.args.len c.self.invariant.1 c.if-at-ge128.true
+    ∙ ap (λ n. bits_of n c.args.at c.args.len) c.self.view_is

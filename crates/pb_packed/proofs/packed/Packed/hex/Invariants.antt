@@ -1,4 +1,4 @@
-use Rattle.std.proofs.Common.{◌≡◌, ◌+◌, ◌-◌, ◌*◌, ◌/◌, ◌^◌, length, take}
+use Rattle.std.proofs.Common.{◌≡◌, ◌-◌, ◌*◌, ◌/◌, ◌^◌, length, take}
 use Rattle.pb_packed.specs.Digits.{hex_digits}
 use Rattle.pb_packed.proofs.packed.Packed.hex.Given as goal
 

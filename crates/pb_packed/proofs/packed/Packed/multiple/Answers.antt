@@ -1,4 +1,3 @@
-use Rattle.std.proofs.Common.{ap, ◌∙◌, subst, ◌≡◌, ◌*◌, ◌^◌, ℕ, ◌<◌, sym}
 use Rattle.pb_packed.proofs.Shifts.{multiple_low, multiple_high}
 use Rattle.pb_packed.proofs.packed.Packed.multiple.Goals as goal
 

@@ -1,4 +1,4 @@
-use Rattle.std.proofs.Common.{sym, ◌∙◌, arith}
+use Rattle.std.proofs.Common.{sym, arith}
 use Rattle.pb_packed.proofs.HexDigits.{no_digits, read, grows, has_room}
 use Rattle.pb_packed.proofs.packed.Packed.of_hex.Goals as goal
 

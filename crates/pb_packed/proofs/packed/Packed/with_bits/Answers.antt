@@ -1,24 +1,20 @@
-use Rattle.std.proofs.Common.{◌≡◌, ◌<◌, ◌≤◌, ◌*◌, ◌^◌, ◌+◌, ◌-◌, arith, ap, ◌∙◌}
-use Rattle.pb_packed.specs.Bits.{bits_of}
-use Rattle.pb_packed.proofs.Shifts.{field_within, value_below, replaced_below}
+use Rattle.std.proofs.Common.{◌∙◌, ◌+◌, ◌*◌, ◌^◌, ap}
+use Rattle.pb_packed.specs.Bits.{with_bits_of}
+use Rattle.pb_packed.proofs.Shifts.{replaced_low, replaced_high}
 use Rattle.pb_packed.proofs.packed.Packed.with_bits.Goals as goal
+use Rattle.pb_packed.proofs.packed.Packed.with_bits.Goals.{then-at-ge128, else-at-ge128}
 
-pub multiple-old-requires-clause-room : goal.multiple-old-requires-clause-room
-multiple-old-requires-clause-room c =
-    let below : c.args.self.now < 2 ^ 256 = omega (arith, c.self.view_is, c.self.invariant.0, c.self.invariant.1) in
-    omega (arith, below, ap (λ n. n * 2 ^ c.args.at) c.bits.ensures, field_within c.args.self.now c.args.at c.args.len)
+pub returns-then-at-len-le128 : goal.returns-then-at-len-le128
+returns-then-at-len-le128 c =
+    ap (λ half. c.self.inside.high * 2 ^ 128 + half) c.with_bits_of_half.ensures
+    ∙ replaced_low c.self.inside.high c.self.inside.low 128 c.args.at c.args.len c.args.value c.if-at-len-le128.true
+    ∙ ap (λ n. with_bits_of n c.args.at c.args.len c.args.value) c.self.view_is
 
-pub multiple-new-requires-clause-room : goal.multiple-new-requires-clause-room
-multiple-new-requires-clause-room c = value_below c.args.at c.args.len c.args.value c.requires.within c.requires.fits
-
-pub plus-requires : goal.plus-requires
-plus-requires c =
-    let below : c.args.self.now < 2 ^ 256 = omega (arith, c.self.view_is, c.self.invariant.0, c.self.invariant.1) in
-    omega (
-      arith,
-      replaced_below c.args.self.now c.args.at c.args.len c.args.value below c.requires.within c.requires.fits,
-      ap (λ n. n * 2 ^ c.args.at) c.bits.ensures,
-      c.minus.ensures,
-      c.multiple-old.ensures,
-      c.multiple-new.ensures,
-    )
+pub returns-after-at-ge128 : goal.returns-after-at-ge128
+returns-after-at-ge128 c = elim c.if-at-ge128.branch [
+  | then-at-ge128 w ↦
+      c.result.view_is ∙ w.result-is ∙ ap (λ half. half * 2 ^ 128 + c.self.inside.low) w.with_bits_of_half-then-at-ge128.ensures
+      ∙ replaced_high c.self.inside.high c.self.inside.low c.args.at c.args.len c.args.value c.self.invariant.1 w.if-at-ge128.true
+      ∙ ap (λ n. with_bits_of n c.args.at c.args.len c.args.value) c.self.view_is
+  | else-at-ge128 w ↦ c.result.view_is ∙ w.result-is ∙ w.with_bits_across.ensures
+]
