@@ -1,5 +1,6 @@
 pub mod Boards
 pub mod Sliding
+pub mod Exchanges
 pub mod Slides
 pub mod AtomSets
 pub mod Acting

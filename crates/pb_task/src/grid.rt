@@ -1,9 +1,12 @@
-ghost use Rattle.std.specs.Prelude.{◌≡◌, ◌≢◌, ◌+◌, ◌*◌, ◌<◌, ◌≤◌, ◌^◌};
+ghost use Rattle.std.specs.Prelude.{◌≡◌, ◌≢◌, ◌+◌, ◌*◌, ◌<◌, ◌≤◌, ◌^◌, vec_capacity};
 ghost use Rattle.pb_packed.specs.Bits.{bits_of};
-ghost use Rattle.pb_task.specs.Grid.{class_at, is_swamp, entry_cost, cell_state, class_of_state, is_passable, are_connected, cell_beside, step_to, grid_step, direction};
+ghost use Rattle.pb_model.specs.Space.{steps};
+ghost use Rattle.pb_task.specs.Grid.{class_at, is_swamp, entry_cost, cell_state, class_of_state, is_passable, are_connected, cell_beside, step_to, grid_step, grid_space, direction};
 ghost use Rattle.pb_task.specs.declared.parts.Class.TheVariants.{Blocked};
 
 use crate::parts::{Class, GridParts};
+use crate::steps::push_step;
+use pb_model::Succ;
 use pb_packed::Packed;
 
 /// How many actions a grid and a board of tiles have: up, down, left and right.
@@ -15,15 +18,16 @@ const SWAMP_COST: u64 = 2;
 // How many bits of a state hold a coordinate.
 const BITS: u32 = 11;
 
+// How many columns these bits can tell apart.
+const COLUMNS: u64 = 1 << BITS;
+
 /// The state that stands for a cell.
 pub fn pack(x: u32, y: u32) -> Packed
     requires x { x < 2048 }
     requires y { y < 2048 }
     ensures { result ≡ cell_state x y }
 {
-    Packed::zero()
-        .with_bits(0, BITS, u64::from(x))
-        .with_bits(BITS, BITS, u64::from(y))
+    Packed::zero().with_bits(0, 2 * BITS, u64::from(y) * COLUMNS + u64::from(x))
 }
 
 // The column and the row in a state's bits.
@@ -33,7 +37,8 @@ fn unpack(state: &Packed) -> (u32, u32)
     ensures small_x { result.0 < 2048 }
     ensures small_y { result.1 < 2048 }
 {
-    (state.bits(0, BITS) as u32, state.bits(BITS, BITS) as u32)
+    let cell = state.bits(0, 2 * BITS);
+    ((cell % COLUMNS) as u32, (cell / COLUMNS) as u32)
 }
 
 impl GridParts {
@@ -76,6 +81,17 @@ pub fn class_of_state(grid: &GridParts, state: &Packed) -> Class
     ensures { result ≡ class_of_state grid.now state.now }
 {
     let (x, y) = unpack(state);
+    class_of_cell(grid, state, x, y)
+}
+
+// The same, with the column and the row in the state's bits.
+fn class_of_cell(grid: &GridParts, state: &Packed, x: u32, y: u32) -> Class
+    requires x { x ≡ bits_of state.now 0 11 }
+    requires y { y ≡ bits_of state.now 11 11 }
+    requires small_x { x < 2048 }
+    requires small_y { y < 2048 }
+    ensures { result ≡ class_of_state grid.now state.now }
+{
     if pack(x, y) == *state {
         grid.class_at(x, y)
     } else {
@@ -139,8 +155,25 @@ pub fn step(grid: &GridParts, from: &Packed, action: u32) -> Option<(Packed, u64
     ensures { result ≡ grid_step grid.now from.now action }
 {
     let (x, y) = unpack(from);
-    let class = class_of_state(grid, from);
+    let class = class_of_cell(grid, from, x, y);
     step_to(grid, class, cell_beside(x, y, action))
+}
+
+/// Puts all successors of a state, in order of the actions, in the place of what the list holds. The state is read once.
+pub fn successors(grid: &GridParts, from: &Packed, out: &mut Vec<Succ>)
+    requires width { grid.now.width ≤ 2048 }
+    requires height { grid.now.height ≤ 2048 }
+    requires room { 4 ≤ vec_capacity out.old }
+    ensures successors { out.new.items ≡ steps (grid_space grid.now) from.now }
+    ensures room { vec_capacity out.old ≤ vec_capacity out.new }
+{
+    out.clear();
+    let (x, y) = unpack(from);
+    let class = class_of_cell(grid, from, x, y);
+    for action in 0..DIRECTIONS {
+        let step = step_to(grid, class, cell_beside(x, y, action));
+        push_step(out, action, step);
+    }
 }
 
 /// The name of an action.

@@ -8,6 +8,7 @@ mod laws;
 mod parts;
 mod plan;
 mod sets;
+mod steps;
 mod strips;
 mod task;
 mod tiles;

@@ -1,8 +1,11 @@
-ghost use Rattle.std.specs.Prelude.{◌≡◌, ◌<◌, ◌≤◌, IsTrue, length};
-ghost use Rattle.pb_task.specs.Strips.{IsStrips, is_atom_set, is_strips_goal, strips_step, name_in};
+ghost use Rattle.std.specs.Prelude.{◌≡◌, ◌<◌, ◌≤◌, IsTrue, length, vec_capacity};
+ghost use Rattle.pb_model.specs.Space.{steps};
+ghost use Rattle.pb_task.specs.Strips.{IsStrips, is_atom_set, is_strips_goal, strips_step, strips_space, name_in};
 
 use crate::parts::StripsParts;
 use crate::sets;
+use crate::steps::push_step;
+use pb_model::Succ;
 use pb_packed::Packed;
 
 /// Whether a state is a set of the task's atoms.
@@ -41,6 +44,21 @@ pub fn step(strips: &StripsParts, from: &Packed, action: u32) -> Option<(Packed,
         Some((sets::after(action, from), action.cost))
     } else {
         None
+    }
+}
+
+/// Puts all successors of a state, in order of the actions, in the place of what the list holds.
+pub fn successors(strips: &StripsParts, from: &Packed, out: &mut Vec<Succ>)
+    requires strips { IsStrips strips.now }
+    requires state { IsTrue (is_atom_set strips.now.atoms from.now) }
+    requires room { length strips.now.actions ≤ vec_capacity out.old }
+    ensures successors { out.new.items ≡ steps (strips_space strips.now) from.now }
+    ensures room { vec_capacity out.old ≤ vec_capacity out.new }
+{
+    out.clear();
+    for action in 0..actions(strips) {
+        let step = step(strips, from, action);
+        push_step(out, action, step);
     }
 }
 

@@ -1,5 +1,5 @@
-ghost use Rattle.std.specs.Prelude.{◌≡◌, ◌<◌, ◌≤◌, ◌+◌, ◌++◌, IsTrue, IfOk, vec_capacity, vec_len, string_bytes};
-ghost use Rattle.pb_model.specs.Space.{steps, successor_list};
+ghost use Rattle.std.specs.Prelude.{◌≡◌, ◌<◌, ◌≤◌, IsTrue, IfOk, vec_capacity, string_bytes};
+ghost use Rattle.pb_model.specs.Space.{steps};
 ghost use Rattle.pb_task.specs.Grid.{IsGrid};
 ghost use Rattle.pb_task.specs.Tiles.{IsTiles};
 ghost use Rattle.pb_task.specs.Strips.{IsStrips};
@@ -98,7 +98,7 @@ impl Task {
     {
         match &self.parts {
             TaskParts::Grid(parts) => *state == grid::pack(parts.goal.0, parts.goal.1),
-            TaskParts::Tiles(parts) => *state == tiles::pack(parts.goal.numbers()),
+            TaskParts::Tiles(parts) => tiles::is_at(parts.goal.numbers(), state),
             TaskParts::Strips(parts) => strips::is_goal(parts, state),
         }
     }
@@ -142,10 +142,10 @@ impl Task {
         ensures successors { out.new.items ≡ steps (space_of self.now) from.now }
         ensures room { vec_capacity out.old ≤ vec_capacity out.new }
     {
-        out.clear();
-        for action in 0..self.actions() {
-            let step = self.apply(from, action);
-            push_step(out, action, step);
+        match &self.parts {
+            TaskParts::Grid(parts) => grid::successors(parts, from, out),
+            TaskParts::Tiles(parts) => tiles::successors(parts, from, out),
+            TaskParts::Strips(parts) => strips::successors(parts, from, out),
         }
     }
 
@@ -160,25 +160,5 @@ impl Task {
         };
         let text = String::from_str(alloc, name)?;
         Ok(text)
-    }
-}
-
-// Adds the successor by an action, if it is applicable, to a list that has room for it.
-fn push_step(out: &mut Vec<Succ>, action: u32, step: Option<(Packed, u64)>)
-    requires { vec_len out.old < vec_capacity out.old }
-    ensures items { out.new.items ≡ out.old.items ++ successor_list action step }
-    ensures len { vec_len out.new ≤ vec_len out.old + 1 }
-    ensures room { vec_capacity out.old ≤ vec_capacity out.new }
-{
-    if let Some((state, cost)) = step {
-        let successor = Succ {
-            action,
-            state,
-            cost,
-        };
-        match out.push(successor) {
-            Ok(()) => {}
-            Err(_) => unreachable!(),
-        }
     }
 }

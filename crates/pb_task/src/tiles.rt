@@ -1,9 +1,13 @@
-ghost use Rattle.std.specs.Prelude.{◌≡◌, ◌+◌, ◌*◌, ◌<◌, ◌≤◌, ◌^◌, true, IsTrue, length, take, nat_lt};
+ghost use Rattle.std.specs.Prelude.{◌≡◌, ◌+◌, ◌*◌, ◌/◌, ◌%◌, ◌<◌, ◌≤◌, ◌^◌, ◌==◌, true, IsTrue, Some, length, take, swap, nat_lt, vec_capacity};
 ghost use Rattle.std.specs.List.{list_all};
-ghost use Rattle.pb_task.specs.Tiles.{IsTiles, cell_count, are_distinct, is_board, board_state, board_of, is_board_state, neighbour, blank_of, slide_on, tiles_step};
+ghost use Rattle.pb_task.specs.Tiles.{IsTiles, cell_count, are_distinct, is_board, board_state, board_of, is_board_state, cell_on, blank_of, slide_on, tiles_step, tiles_space};
+ghost use Rattle.pb_task.specs.Grid.{cell_beside};
+ghost use Rattle.pb_model.specs.Space.{steps};
 
 use crate::grid;
 use crate::parts::TilesParts;
+use crate::steps::push_step;
+use pb_model::Succ;
 use pb_packed::Packed;
 
 // The greatest number of cells that a board has.
@@ -79,13 +83,14 @@ fn are_distinct(numbers: &[u8]) -> bool
     true
 }
 
-// The cell beside a cell in an action's direction, where the board has one.
-fn neighbour(tiles: &TilesParts, cell: u32, action: u32) -> Option<u32>
+// The cell beside that in a column and a row in an action's direction, where the board has one.
+fn neighbour(tiles: &TilesParts, column: u32, row: u32, action: u32) -> Option<u32>
     requires tiles { IsTiles tiles.now }
-    requires cell { cell < 16 }
-    ensures { result ≡ neighbour tiles.now.rows tiles.now.cols cell action }
+    requires column { column < 16 }
+    requires row { row < 16 }
+    ensures { result ≡ cell_on tiles.now.rows tiles.now.cols (cell_beside column row action) }
 {
-    let (x, y) = grid::cell_beside(cell % tiles.cols, cell / tiles.cols, action)?;
+    let (x, y) = grid::cell_beside(column, row, action)?;
     if x < tiles.cols && y < tiles.rows {
         Some(y * tiles.cols + x)
     } else {
@@ -107,7 +112,8 @@ fn slide(tiles: &TilesParts, board: &mut [u8], action: u32) -> Option<(Packed, u
     ensures { result ≡ slide_on tiles.now.rows tiles.now.cols board.old action }
 {
     let from = blank(board)?;
-    let to = neighbour(tiles, from as u32, action)?;
+    let cell = from as u32;
+    let to = neighbour(tiles, cell % tiles.cols, cell / tiles.cols, action)?;
     board.swap(from, to as usize);
     Some((pack(board), 1))
 }
@@ -121,4 +127,100 @@ pub fn step(tiles: &TilesParts, from: &Packed, action: u32) -> Option<(Packed, u
     let count = tiles.rows * tiles.cols;
     let mut cells = unpack(from.bits(0, BITS * count), count as usize);
     slide(tiles, &mut cells[..count as usize], action)
+}
+
+// The cell that the blank is in, in the board that a word stands for.
+fn blank_in(word: u64, count: u32) -> Option<u32>
+    requires { count ≤ 16 }
+    ensures { result ≡ blank_of (board_of count word) }
+{
+    let mut rest = word;
+    for cell in 0..count {
+        if rest % 16 == 0 {
+            return Some(cell);
+        }
+        rest /= 16;
+    }
+    None
+}
+
+// The word in which the blank and the number in another cell have changed places.
+fn exchanged(word: u64, count: u32, blank: u32, other: u32) -> u64
+    requires count { count ≤ 16 }
+    requires word { word < 16 ^ count }
+    requires blank { blank_of (board_of count word) ≡ Some blank }
+    requires other { other < count }
+    requires fits { board_state (swap (board_of count word) blank other) < 2 ^ 64 }
+    ensures { result ≡ board_state (swap (board_of count word) blank other) }
+{
+    let _ = count;
+    let number = (word >> (BITS * other)) % 16;
+    word - (number << (BITS * other)) + (number << (BITS * blank))
+}
+
+// The step that moves the blank of the board that a word stands for.
+fn slide_word(
+    tiles: &TilesParts,
+    word: u64,
+    blank: u32,
+    column: u32,
+    row: u32,
+    action: u32,
+) -> Option<(Packed, u64)>
+    requires tiles { IsTiles tiles.now }
+    requires state { IsTrue (is_board_state (cell_count tiles.now) word) }
+    requires blank { blank_of (board_of (cell_count tiles.now) word) ≡ Some blank }
+    requires column { column ≡ blank % tiles.now.cols }
+    requires row { row ≡ blank / tiles.now.cols }
+    ensures { result ≡ slide_on tiles.now.rows tiles.now.cols (board_of (cell_count tiles.now) word) action }
+{
+    let other = neighbour(tiles, column, row, action)?;
+    let moved = exchanged(word, tiles.rows * tiles.cols, blank, other);
+    Some((Packed::zero().with_bits(0, 64, moved), 1))
+}
+
+/// Puts all successors of a state, in order of the actions, in the place of what the list holds. The state is read once.
+pub fn successors(tiles: &TilesParts, from: &Packed, out: &mut Vec<Succ>)
+    requires tiles { IsTiles tiles.now }
+    requires state { IsTrue (is_board_state (cell_count tiles.now) from.now) }
+    requires room { 4 ≤ vec_capacity out.old }
+    ensures successors { out.new.items ≡ steps (tiles_space tiles.now) from.now }
+    ensures room { vec_capacity out.old ≤ vec_capacity out.new }
+{
+    out.clear();
+    let word = from.bits(0, 64);
+    let Some(blank) = blank_in(word, tiles.rows * tiles.cols) else {
+        return;
+    };
+    let column = blank % tiles.cols;
+    let row = blank / tiles.cols;
+    for action in 0..grid::DIRECTIONS {
+        let step = slide_word(tiles, word, blank, column, row, action);
+        push_step(out, action, step);
+    }
+}
+
+/// Whether a state stands for a board.
+pub fn is_at(board: &[u8], state: &Packed) -> bool
+    requires few { length board.now ≤ 16 }
+    requires small { list_all (λ number. nat_lt number 16) board.now ≡ true }
+    ensures { result ≡ (state.now == board_state board.now) }
+{
+    let word = state.bits(0, 64);
+    has_numbers(word, board) && Packed::zero().with_bits(0, 64, word) == *state
+}
+
+// Whether a word stands for a board. It is read as far as the first cell that differs.
+fn has_numbers(word: u64, board: &[u8]) -> bool
+    requires small { list_all (λ number. nat_lt number 16) board.now ≡ true }
+    ensures { result ≡ (word == board_state board.now) }
+{
+    let mut rest = word;
+    for cell in 0..board.len() {
+        if rest % 16 != u64::from(board[cell]) {
+            return false;
+        }
+        rest /= 16;
+    }
+    rest == 0
 }
