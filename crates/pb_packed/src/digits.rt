@@ -42,6 +42,7 @@ impl Packed {
     /// The number that 64 digits spell, or None where the text isn't 64 digits of `0123456789abcdef`.
     pub fn of_hex(digits: &[u8]) -> Option<Packed>
         ensures some { IfSome result (λ number. digits.now ≡ hex_digits 64 number) }
+        ensures small { IfSome result (λ number. number < 2 ^ 256) }
         ensures none { IfNone result (¬ AreHexDigits digits.now) }
     {
         if digits.len() != 64 {
