@@ -1,4 +1,4 @@
-pub mod Halves
+pub mod Words
 pub mod Bits
 pub mod Digits
 pub mod Laws

@@ -8,7 +8,7 @@ impl Packed {
         requires { at ≤ 256 }
         ensures { result ≡ self.now / 2 ^ at }
     {
-        let _in_range = self.high;
+        let _ = self.halves();
         if at < 128 {
             self.quotient_low(at)
         } else if at < 256 {
@@ -22,24 +22,17 @@ impl Packed {
         requires { at < 128 }
         ensures { result ≡ self.now / 2 ^ at }
     {
-        let high = self.high;
-        let low = self.low;
+        let (high, low) = self.halves();
         let carried = (high << (127 - at)) << 1;
-        Packed {
-            high: high >> at,
-            low: carried + (low >> at),
-        }
+        Packed::of_halves(high >> at, carried + (low >> at))
     }
 
     fn quotient_high(&self, at: u32) -> Packed
         requires { at < 128 }
         ensures { result ≡ self.now / 2 ^ (at + 128) }
     {
-        let high = self.high;
-        Packed {
-            high: 0,
-            low: high >> at,
-        }
+        let (high, _low) = self.halves();
+        Packed::of_halves(0, high >> at)
     }
 
     // The number whose bits from `at` on are those of the value, and whose other bits are 0.
@@ -50,15 +43,9 @@ impl Packed {
     {
         let value = u128::from(value);
         if at < 128 {
-            Packed {
-                high: (value >> (127 - at)) >> 1,
-                low: value << at,
-            }
+            Packed::of_halves((value >> (127 - at)) >> 1, value << at)
         } else {
-            Packed {
-                high: value << (at - 128),
-                low: 0,
-            }
+            Packed::of_halves(value << (at - 128), 0)
         }
     }
 
@@ -67,17 +54,13 @@ impl Packed {
         requires { self.now + other.now < 2 ^ 256 }
         ensures { result ≡ self.now + other.now }
     {
-        let room = u128::MAX - self.low;
-        if other.low <= room {
-            Packed {
-                high: self.high + other.high,
-                low: self.low + other.low,
-            }
+        let (high, low) = self.halves();
+        let (other_high, other_low) = other.halves();
+        let room = u128::MAX - low;
+        if other_low <= room {
+            Packed::of_halves(high + other_high, low + other_low)
         } else {
-            Packed {
-                high: self.high + other.high + 1,
-                low: other.low - room - 1,
-            }
+            Packed::of_halves(high + other_high + 1, other_low - room - 1)
         }
     }
 
@@ -86,16 +69,12 @@ impl Packed {
         requires { other.now ≤ self.now }
         ensures { result ≡ self.now - other.now }
     {
-        if other.low <= self.low {
-            Packed {
-                high: self.high - other.high,
-                low: self.low - other.low,
-            }
+        let (high, low) = self.halves();
+        let (other_high, other_low) = other.halves();
+        if other_low <= low {
+            Packed::of_halves(high - other_high, low - other_low)
         } else {
-            Packed {
-                high: self.high - other.high - 1,
-                low: u128::MAX - (other.low - self.low) + 1,
-            }
+            Packed::of_halves(high - other_high - 1, u128::MAX - (other_low - low) + 1)
         }
     }
 }

@@ -4,9 +4,6 @@ ghost use Rattle.pb_packed.specs.Bits.{bits_of, with_bits_of, bit_number};
 use crate::Packed;
 use crate::parts::{bits_of_half, bits_of_word, mask, with_bits_of_half, with_bits_of_word};
 
-// How many values a word has.
-const WORDS: u128 = 1 << 64;
-
 impl Packed {
     /// The number in the `len` bits from bit `at` on.
     #[inline]
@@ -15,26 +12,20 @@ impl Packed {
         requires within { at + len ≤ 256 }
         ensures { result ≡ bits_of self.now at len }
     {
-        let _in_range = self.high;
         if len == 0 {
-            0
-        } else if at + len <= 64 {
-            bits_of_word(self.low_word(), at, len)
-        } else if at + len <= 128 {
-            bits_of_half(self.low, at, len)
+            return 0;
+        }
+        if at + len <= 64 {
+            return bits_of_word(self.low_word(), at, len);
+        }
+        let (high, low) = self.halves();
+        if at + len <= 128 {
+            bits_of_half(low, at, len)
         } else if 128 <= at {
-            bits_of_half(self.high, at - 128, len)
+            bits_of_half(high, at - 128, len)
         } else {
             self.bits_across(at, len)
         }
-    }
-
-    // The lowest 64 bits.
-    #[inline]
-    fn low_word(&self) -> u64
-        ensures { result ≡ self.now % 2 ^ 64 }
-    {
-        (self.low % WORDS) as u64
     }
 
     // The number in a field of any place, also in one that begins in the low half and ends in the high one.
@@ -44,8 +35,8 @@ impl Packed {
         requires within { at + len ≤ 256 }
         ensures { result ≡ bits_of self.now at len }
     {
-        let quotient = self.quotient(at);
-        (quotient.low & u128::from(mask(len))) as u64
+        let (_high, low) = self.quotient(at).halves();
+        (low & u128::from(mask(len))) as u64
     }
 
     /// The same state with the `len` bits from bit `at` on replaced by the value.
@@ -56,39 +47,20 @@ impl Packed {
         requires fits { value < 2 ^ len }
         ensures { result ≡ with_bits_of self.now at len value }
     {
-        let _in_range = self.high;
         if len == 0 {
-            *self
-        } else if at + len <= 64 {
-            self.with_bits_low(at, len, value)
-        } else if at + len <= 128 {
-            Packed {
-                high: self.high,
-                low: with_bits_of_half(self.low, at, len, value),
-            }
+            return *self;
+        }
+        if at + len <= 64 {
+            let word = with_bits_of_word(self.low_word(), at, len, value);
+            return self.with_low_word(word);
+        }
+        let (high, low) = self.halves();
+        if at + len <= 128 {
+            Packed::of_halves(high, with_bits_of_half(low, at, len, value))
         } else if 128 <= at {
-            Packed {
-                high: with_bits_of_half(self.high, at - 128, len, value),
-                low: self.low,
-            }
+            Packed::of_halves(with_bits_of_half(high, at - 128, len, value), low)
         } else {
             self.with_bits_across(at, len, value)
-        }
-    }
-
-    // The same with a field of the lowest word replaced: no other bits are touched.
-    #[inline]
-    fn with_bits_low(&self, at: u32, len: u32, value: u64) -> Packed
-        requires some { 0 < len }
-        requires within { at + len ≤ 64 }
-        requires fits { value < 2 ^ len }
-        ensures { result ≡ with_bits_of self.now at len value }
-    {
-        let word = self.low_word();
-        let new = with_bits_of_word(word, at, len, value);
-        Packed {
-            high: self.high,
-            low: self.low - u128::from(word) + u128::from(new),
         }
     }
 
@@ -100,7 +72,7 @@ impl Packed {
         requires fits { value < 2 ^ len }
         ensures { result ≡ with_bits_of self.now at len value }
     {
-        let _in_range = self.high;
+        let _ = self.halves();
         let old = Packed::multiple(self.bits_across(at, len), at);
         let new = Packed::multiple(value, at);
         self.minus(&old).plus(&new)

@@ -64,11 +64,7 @@ impl Packed {
         requires room { self.now * 16 < 2 ^ 256 }
         ensures { result ≡ self.now * 16 + digit }
     {
-        let high = self.high;
-        let low = self.low;
-        Packed {
-            high: high * 16 + (low >> 124),
-            low: (low << 4) + u128::from(digit),
-        }
+        let (high, low) = self.halves();
+        Packed::of_halves(high * 16 + (low >> 124), (low << 4) + u128::from(digit))
     }
 }

@@ -14,7 +14,9 @@ impl PartialEq for Packed {
     ghost laws = { Prim.search rules };
 
     fn eq(&self, other: &Packed) -> bool {
-        (self.high == other.high) & (self.low == other.low)
+        let (high, low) = self.halves();
+        let (other_high, other_low) = other.halves();
+        (high == other_high) & (low == other_low)
     }
 }
 
@@ -28,8 +30,9 @@ impl Hash for Packed {
     ghost respects_eq = { Prim.search (hashing, rules) };
 
     fn hash<H: Hasher>(&self, state: &mut H) {
-        self.high.hash(state);
-        self.low.hash(state);
+        let (high, low) = self.halves();
+        high.hash(state);
+        low.hash(state);
     }
 }
 
@@ -53,9 +56,11 @@ impl Ord for Packed {
     ghost matches_eq = { Prim.search rules };
 
     fn cmp(&self, other: &Packed) -> Ordering {
-        if self.high == other.high {
-            self.low.cmp(&other.low)
-        } else if self.high < other.high {
+        let (high, low) = self.halves();
+        let (other_high, other_low) = other.halves();
+        if high == other_high {
+            low.cmp(&other_low)
+        } else if high < other_high {
             Ordering::Less
         } else {
             Ordering::Greater

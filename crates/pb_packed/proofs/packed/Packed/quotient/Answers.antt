@@ -4,5 +4,5 @@ use Rattle.pb_packed.proofs.packed.Packed.quotient.Goals as goal
 
 pub returns-else-at-lt256 : goal.returns-else-at-lt256
 returns-else-at-lt256 c =
-    let below : c.args.self.now < 2 ^ 256 = omega (arith, c.self.view_is, c.self.invariant.0, c.self.invariant.1) in
+    let below : c.args.self.now < 2 ^ 256 = omega (arith, c.halves.ensures, c.halves.type_inv) in
     c.zero.ensures ∙ nothing_left c.args.self.now c.args.at below c.if-at-lt256.false

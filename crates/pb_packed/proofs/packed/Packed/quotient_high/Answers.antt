@@ -1,5 +1,8 @@
+use Rattle.std.proofs.Common.{◌∙◌, arith}
 use Rattle.pb_packed.proofs.Shifts.{quotient_high}
 use Rattle.pb_packed.proofs.packed.Packed.quotient_high.Goals as goal
 
 pub returns : goal.returns
-returns c = quotient_high c.self.inside.high c.self.inside.low c.args.at c.args.self.now c.self.invariant.1 c.self.view_is
+returns c =
+    c.of_halves.ensures
+    ∙ quotient_high c.halves-high.result.0 c.halves-high.result.1 c.args.at c.args.self.now (omega (arith, c.halves-high.type_inv)) c.halves-high.ensures
