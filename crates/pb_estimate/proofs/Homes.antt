@@ -1,23 +1,21 @@
--- The table of the numbers' cells on the goal board.
-use Rattle.std.proofs.Common.{◌≡◌, ◌≢◌, ℕ, suc, ◌+◌, ◌<◌, ◌*◌, false, List, length, get_or, ◌==◌, if◌then◌else◌, ext_get_or, zero-add, sym, ap, arith, ◌∙◌}
+-- The table of the numbers' ways to their cells on the goal board.
+use Rattle.std.proofs.Common.{◌≡◌, ◌≢◌, ℕ, zero, suc, ◌+◌, ◌*◌, ◌/◌, ◌%◌, ◌^◌, ◌<◌, ◌≤◌, false, List, get_or, ◌==◌, ◌∷◌, if◌then◌else◌, refl, sym, ap, arith, ◌∙◌}
+use Rattle.std.proofs.Math.Nat.{div-div-eq-div-mul, pow-suc}
 use Rattle.std.proofs.lemmas.Bool.Decides.{nat_tests}
-use Rattle.std.proofs.lemmas.List.{get_or-map}
-use Rattle.std.proofs.lemmas.List.FromFn.{get_or-range_with_len}
-use Rattle.std.specs.List.{range_with_len}
+use Rattle.std.proofs.lemmas.Nat.{pow-add}
 use Rattle.pb_packed.specs.Bits.{bits_of}
 use Rattle.pb_task.specs.Tiles.{board_of}
 use Rattle.pb_task.proofs.Boards.{number_at}
 use Rattle.pb_estimate.specs.Estimates.{manhattan, place_of, cell_with, way_home, ways_home}
-use Rattle.pb_estimate.specs.Tables.{goal_cells}
+use Rattle.pb_estimate.specs.Tables.{AreWaysHome}
 
--- the cell of a number stands in the table at that number
-pub known_cell : (goal : List ℕ) (number : ℕ) → number < 16 → get_or (goal_cells goal) number 0 ≡ cell_with goal number
-known_cell goal number less = get_or-map (cell_with goal) (range_with_len 0 16) number 0 0 less ∙ ap (cell_with goal) (get_or-range_with_len 0 16 number 0 less ∙ zero-add number)
+-- ---- the table
 
-pub table_is : (goal cells : List ℕ) → length cells ≡ 16 → ((number : ℕ) → number < 16 → get_or cells number 0 ≡ cell_with goal number) → cells ≡ goal_cells goal
-table_is goal cells long known = ext_get_or 0 cells (goal_cells goal) long (λ number less. each number (omega (arith, long, less))) where
-  each : (number : ℕ) → number < 16 → get_or cells number 0 ≡ get_or (goal_cells goal) number 0
-  each number less = known number less ∙ sym (known_cell goal number less)
+pub table_is : (cols : ℕ) (goal ways : List ℕ) → ((place : ℕ) → place < 256 → get_or ways place 0 ≡ way_home cols goal (place / 16) (place % 16)) → AreWaysHome cols goal ways
+table_is cols goal ways known cell number cell_less number_less =
+    known (16 * cell + number) (omega (arith, cell_less, number_less))
+    ∙ ap (λ c. way_home cols goal c ((16 * cell + number) % 16)) (let e : (16 * cell + number) / 16 ≡ cell = omega (arith, number_less) in e)
+    ∙ ap (way_home cols goal cell) (let e : (16 * cell + number) % 16 ≡ number = omega (arith, number_less) in e)
 
 -- a tile's way to its cell
 pub way_is : (cols cell number home : ℕ) (goal : List ℕ) → number ≢ 0 → home ≡ cell_with goal number → manhattan (place_of cols cell) (place_of cols home) ≡ way_home cols goal cell number
@@ -25,10 +23,47 @@ way_is cols cell number home goal tile is =
     ap (λ c. manhattan (place_of cols cell) (place_of cols c)) is
     ∙ ap (λ test. if test then 0 else manhattan (place_of cols cell) (place_of cols (cell_with goal number))) (let off : false ≡ (number == 0) = grind (arith, nat_tests) in off)
 
+-- ---- the numbers in a state's lowest bits
+
+-- what stands above so many cells doesn't change their numbers
+above : (count most more word : ℕ) → count ≤ most → board_of count (more * 16 ^ most + word) ≡ board_of count word
+above zero most more word few = refl
+above (suc count) zero more word few = absurd (omega (arith, few))
+above (suc count) (suc most) more word few =
+    let up : more * 16 ^ suc most ≡ more * 16 ^ most * 16 = ap (λ n. more * n) (pow-suc 16 most) ∙ turned more (16 ^ most) in
+    let first : (more * 16 ^ suc most + word) % 16 ≡ word % 16 = omega (arith, up) in
+    let rest : (more * 16 ^ suc most + word) / 16 ≡ more * 16 ^ most + word / 16 = omega (arith, up) in
+    ap (λ n. n ∷ board_of count ((more * 16 ^ suc most + word) / 16)) first
+    ∙ ap (λ n. word % 16 ∷ board_of count n) rest
+    ∙ ap (λ board. word % 16 ∷ board) (above count most more (word / 16) (omega (arith, few)))
+  where
+    turned : (n m : ℕ) → n * (m * 16) ≡ n * m * 16
+    turned n m = grind arith
+
+-- the lowest 64 bits have the numbers of up to 16 cells
+low_cells : (count state : ℕ) → count ≤ 16 → board_of count (bits_of state 0 64) ≡ board_of count state
+low_cells count state few =
+    sym (above count 16 (state / 2 ^ 64) (bits_of state 0 64) few)
+    ∙ ap (board_of count) (let whole : state / 2 ^ 64 * 16 ^ 16 + bits_of state 0 64 ≡ state = omega arith in whole)
+
+-- the number in a cell is the lowest digit once those of the cells before are gone
+pub digit_is : (count state cell : ℕ) → count ≤ 16 → cell < count → (bits_of state 0 64 / 2 ^ (4 * cell)) % 16 ≡ get_or (board_of count state) cell 0
+digit_is count state cell few less = sym (number_at count (bits_of state 0 64) cell less) ∙ ap (λ board. get_or board cell 0) (low_cells count state few)
+
+-- one more digit is gone
+pub next_digit : (word cell : ℕ) → word / 2 ^ (4 * cell) / 16 ≡ word / 2 ^ (4 * (cell + 1))
+next_digit word cell =
+    div-div-eq-div-mul word (2 ^ (4 * cell)) 16
+    ∙ ap (λ n. word / n) (sym (pow-add 2 (4 * cell) 4) ∙ ap (λ k. 2 ^ k) (let e : 4 * cell + 4 ≡ 4 * (cell + 1) = omega arith in e))
+
 -- one more cell of a board
-pub one_more : (cols count state cell number sum way : ℕ) (goal : List ℕ) → cell < count → sum ≡ ways_home cols goal (board_of count state) cell → number ≡ bits_of state (4 * cell) 4
-    → way ≡ way_home cols goal cell number → sum + way ≡ ways_home cols goal (board_of count state) (cell + 1)
-one_more cols count state cell number sum way goal less before read here =
+pub one_more : (cols count state cell number sum way rest : ℕ) (goal ways : List ℕ) → count ≤ 16 → cell < count → AreWaysHome cols goal ways
+    → sum ≡ ways_home cols goal (board_of count state) cell → rest ≡ bits_of state 0 64 / 2 ^ (4 * cell) → number ≡ rest % 16
+    → way ≡ get_or ways (16 * cell + number) 0 → sum + way ≡ ways_home cols goal (board_of count state) (cell + 1)
+one_more cols count state cell number sum way rest goal ways few less table before rest_is number_is way_is' =
+    let small : number < 16 = omega (arith, number_is) in
     ap (λ n. n + way) before
-    ∙ ap (λ n. ways_home cols goal (board_of count state) cell + n) (here ∙ ap (way_home cols goal cell) (read ∙ sym (number_at count state cell less)))
+    ∙ ap (λ n. ways_home cols goal (board_of count state) cell + n)
+    (way_is' ∙ table cell number (omega (arith, few, less)) small
+    ∙ ap (way_home cols goal cell) (number_is ∙ ap (λ n. n % 16) rest_is ∙ digit_is count state cell few less))
     ∙ ap (ways_home cols goal (board_of count state)) (let e : suc cell ≡ cell + 1 = omega arith in e)

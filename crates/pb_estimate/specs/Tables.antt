@@ -1,12 +1,12 @@
 -- What the estimator of a task keeps. A further kind of task is one case more.
-use Rattle.std.specs.Prelude.{◌≡◌, ℕ, zero, suc, ◌+◌, ◌<◌, ◌≤◌, ◌^◌, Bool, true, false, not, List, [], ◌∷◌, ◌++◌, map, length, All, Contains, slice_index, slice_index_or, if◌then◌else◌}
-use Rattle.std.specs.List.{range_with_len, filter, list_any}
+use Rattle.std.specs.Prelude.{◌≡◌, ℕ, zero, suc, ◌+◌, ◌*◌, ◌<◌, ◌≤◌, ◌^◌, Bool, true, false, not, List, [], ◌∷◌, ◌++◌, map, length, All, Contains, slice_index, slice_index_or, if◌then◌else◌}
+use Rattle.std.specs.List.{filter, list_any}
 use Rattle.pb_task.specs.declared.parts.GroundAction.{GroundAction}
 use Rattle.pb_task.specs.declared.parts.StripsParts.{StripsParts}
 use Rattle.pb_task.specs.declared.parts.TaskParts.{TaskParts}
 use Rattle.pb_task.specs.declared.parts.TaskParts.TheVariants as parts
 use Rattle.pb_task.specs.Strips.{has_atom}
-use Rattle.pb_estimate.specs.Estimates.{cell_with}
+use Rattle.pb_estimate.specs.Estimates.{way_home}
 use Rattle.pb_estimate.specs.Hmax.{IsAtMost}
 use Rattle.pb_estimate.specs.Exploring.{count, cost_in, IsExploration}
 use Rattle.pb_estimate.specs.declared.exploration.AtomCost.{AtomCost}
@@ -16,9 +16,9 @@ use Rattle.pb_estimate.specs.declared.strips.Counters.{Counters}
 use Rattle.pb_estimate.specs.declared.estimator.Tables.{Tables}
 use Rattle.pb_estimate.specs.declared.estimator.Tables.TheVariants as tables
 
--- the cell of each number from 0 to 15 on the goal board; 0 for a number that it doesn't have
-abbrev pub goal_cells : (goal : List ℕ) → List ℕ
-goal_cells goal = map (cell_with goal) (range_with_len 0 16)
+-- the distance of each number in each cell from its cell on the goal board: at 16 times the cell, plus the number
+abbrev pub AreWaysHome : (cols : ℕ) → (goal ways : List ℕ) → Type 0
+AreWaysHome cols goal ways = (cell number : ℕ) → cell < 16 → number < 16 → slice_index ways (16 * cell + number) ≡ way_home cols goal cell number
 
 -- ---- actions without what they delete
 
@@ -104,6 +104,6 @@ pub record AreCounters (strips : StripsParts) (counters : Counters) : Type 0 whe
 -- An estimator is of this task: it keeps what the task's estimates need. What more it keeps is its own.
 unfoldable pub IsOfTask : Tables → TaskParts → Type 0
 IsOfTask tables.Grid (parts.Grid grid) = Unit {0}
-IsOfTask (tables.Tiles cells) (parts.Tiles tiles) = cells ≡ goal_cells tiles.goal
+IsOfTask (tables.Tiles ways) (parts.Tiles tiles) = AreWaysHome tiles.cols tiles.goal ways
 IsOfTask (tables.Strips counters) (parts.Strips strips) = AreCounters strips counters
 IsOfTask estimator task = ⊥

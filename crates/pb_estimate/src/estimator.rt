@@ -16,8 +16,8 @@ use std::marker::Model;
 pub enum Tables {
     /// Nothing: the distance on a grid is known from the cells alone.
     Grid,
-    /// The cell of each number from 0 to 15 on the goal board, and 0 for a number that it doesn't have.
-    Tiles([u8; 16]),
+    /// The distance of each number in each cell from its cell on the goal board, in steps, and 0 for the blank.
+    Tiles([u8; 256]),
     /// The task without what its actions delete, and room for counters and costs.
     Strips(Counters),
 }
@@ -44,7 +44,7 @@ impl Estimator {
     {
         let tables = match task.parts() {
             TaskParts::Grid(_) => Tables::Grid,
-            TaskParts::Tiles(parts) => Tables::Tiles(tiles::goal_cells(parts.goal.numbers())),
+            TaskParts::Tiles(parts) => Tables::Tiles(tiles::ways_home(parts)),
             TaskParts::Strips(parts) => Tables::Strips(strips::counters_of(alloc, parts)?),
         };
         Ok(Estimator { tables })
@@ -59,8 +59,8 @@ impl Estimator {
     {
         match (task.parts(), &mut self.tables) {
             (TaskParts::Grid(parts), _) => Estimate::Cost(grid::distance(parts, state)),
-            (TaskParts::Tiles(parts), Tables::Tiles(cells)) => {
-                Estimate::Cost(tiles::distance(parts, cells, state))
+            (TaskParts::Tiles(parts), Tables::Tiles(ways)) => {
+                Estimate::Cost(tiles::distance(parts, ways, state))
             }
             (TaskParts::Strips(parts), Tables::Strips(counters)) => {
                 strips::estimate(parts, counters, state)

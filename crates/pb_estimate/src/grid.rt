@@ -6,15 +6,19 @@ use crate::distance::manhattan;
 use pb_packed::Packed;
 use pb_task::GridParts;
 
-// How many bits of a state hold a coordinate.
-const BITS: u32 = 11;
+// How many bits of a state hold its two coordinates.
+const BITS: u32 = 22;
 
-// The column and the row in a state's bits.
+// How many columns, or rows, a state can tell apart.
+const SIDE: u32 = 2048;
+
+// The column and the row in a state's bits, which are read as one number.
 fn unpack(state: &Packed) -> (u32, u32)
     ensures x { result.0 ≡ bits_of state.now 0 11 }
     ensures y { result.1 ≡ bits_of state.now 11 11 }
 {
-    (state.bits(0, BITS) as u32, state.bits(BITS, BITS) as u32)
+    let word = state.bits(0, BITS) as u32;
+    (word % SIDE, word / SIDE)
 }
 
 /// The distance in x plus the distance in y from a state's cell to the goal, in steps.

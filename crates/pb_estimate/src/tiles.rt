@@ -1,25 +1,42 @@
 ghost use Rattle.std.specs.Prelude.{◌≡◌, ◌<◌, ◌≤◌, ◌==◌, length, position, IfSome};
 ghost use Rattle.pb_task.specs.Tiles.{IsTiles, board_of, cell_count};
 ghost use Rattle.pb_estimate.specs.Estimates.{cell_with, place_of, way_home, ways_home};
-ghost use Rattle.pb_estimate.specs.Tables.{goal_cells};
+ghost use Rattle.pb_estimate.specs.Tables.{AreWaysHome};
 
 use crate::distance::manhattan;
 use pb_packed::Packed;
 use pb_task::TilesParts;
 
-// How many bits of a state hold the number in a cell.
-const BITS: u32 = 4;
+// How many numbers a state can have in a cell.
+const NUMBERS: usize = 16;
 
-/// The cell of each number from 0 to 15 on a goal board.
-pub fn goal_cells(goal: &[u8]) -> [u8; 16]
-    requires { length goal.now ≤ 16 }
-    ensures { result ≡ goal_cells goal.now }
+// How many distances there are: one for each number from 0 to 15 in each cell from 0 to 15.
+const WAYS: usize = 256;
+
+/// The distance of each number in each cell from the number's cell on the goal board, in steps. That of a number in a
+/// cell stands at 16 times the cell, plus the number. The blank's are 0.
+pub fn ways_home(tiles: &TilesParts) -> [u8; WAYS]
+    requires { IsTiles tiles.now }
+    ensures { AreWaysHome tiles.now.cols tiles.now.goal result }
 {
-    let mut cells = [0; 16];
-    for number in 0..16u8 {
-        cells[number as usize] = cell_with(goal, number);
+    let mut ways = [0; WAYS];
+    for place in 0..WAYS {
+        ways[place] = way_home(tiles, (place / NUMBERS) as u32, (place % NUMBERS) as u8);
     }
-    cells
+    ways
+}
+
+// The distance of the tile in a cell from its cell on the goal board, in steps.
+fn way_home(tiles: &TilesParts, cell: u32, number: u8) -> u8
+    requires tiles { IsTiles tiles.now }
+    requires cell { cell < 16 }
+    ensures { result ≡ way_home tiles.now.cols tiles.now.goal cell number }
+{
+    if number == 0 {
+        return 0;
+    }
+    let home = u32::from(cell_with(tiles.goal.numbers(), number));
+    manhattan(place(tiles.cols, cell), place(tiles.cols, home)) as u8
 }
 
 // The cell of a board that a number is in. 0 where it is in none.
@@ -50,33 +67,20 @@ fn place(cols: u32, cell: u32) -> (u32, u32)
     (cell % cols, cell / cols)
 }
 
-// The distance of the tile in a cell from its cell on the goal board, in steps.
-fn way_home(tiles: &TilesParts, cells: &[u8; 16], cell: u32, number: usize) -> u64
+/// The distances of a state's tiles from their cells on the goal board, summed, in steps. The blank is not counted. `ways` has
+/// the distance of each number in each cell.
+pub fn distance(tiles: &TilesParts, ways: &[u8; WAYS], state: &Packed) -> u64
     requires tiles { IsTiles tiles.now }
-    requires cells { cells.now ≡ goal_cells tiles.now.goal }
-    requires cell { cell < 16 }
-    requires number { number < 16 }
-    ensures way { result ≡ way_home tiles.now.cols tiles.now.goal cell number }
-    ensures small { result ≤ 300 }
-{
-    if number == 0 {
-        return 0;
-    }
-    let home = u32::from(cells[number]);
-    manhattan(place(tiles.cols, cell), place(tiles.cols, home))
-}
-
-/// The distances of a state's tiles from their cells on the goal board, summed, in steps. The blank is not counted. `cells` has
-/// the cell of each number on the goal board.
-pub fn distance(tiles: &TilesParts, cells: &[u8; 16], state: &Packed) -> u64
-    requires tiles { IsTiles tiles.now }
-    requires cells { cells.now ≡ goal_cells tiles.now.goal }
+    requires ways { AreWaysHome tiles.now.cols tiles.now.goal ways.now }
     ensures { result ≡ ways_home tiles.now.cols tiles.now.goal (board_of (cell_count tiles.now) state.now) (cell_count tiles.now) }
 {
+    let count = (tiles.rows * tiles.cols) as usize;
+    let mut rest = state.bits(0, 64);
     let mut sum = 0;
-    for cell in 0..tiles.rows * tiles.cols {
-        let number = state.bits(BITS * cell, BITS);
-        sum += way_home(tiles, cells, cell, number as usize);
+    for cell in 0..count {
+        let number = (rest % 16) as usize;
+        sum += u64::from(ways[NUMBERS * cell + number]);
+        rest /= 16;
     }
     sum
 }

@@ -8,9 +8,9 @@ use Rattle.pb_estimate.specs.Tables.{IsOfTask}
 use Rattle.pb_estimate.proofs.estimator.Estimator.estimate.Goals as goal
 use Rattle.pb_estimate.proofs.estimator.Estimator.estimate.Goals.{in-Grid-default, in-Tiles-Tiles, in-Strips-Strips}
 
-pub distance-requires-in-Tiles-Tiles-clause-cells : goal.distance-requires-in-Tiles-Tiles-clause-cells
+pub distance-requires-in-Tiles-Tiles-clause-ways : goal.distance-requires-in-Tiles-Tiles-clause-ways
 unfolding IsOfTask
-distance-requires-in-Tiles-Tiles-clause-cells c =
+distance-requires-in-Tiles-Tiles-clause-ways c =
     subst (λ (e : Tables). IsOfTask e (parts.Tiles c.in-Tiles-Tiles.parts)) (sym c.self.view_is ∙ c.in-Tiles-Tiles.is-1)
     (subst (λ (task : TaskParts). IsOfTask c.args.self.now task) (sym c.parts.ensures.parts ∙ c.in-Tiles-Tiles.is-0) c.requires.task)
 
