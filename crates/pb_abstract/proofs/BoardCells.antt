@@ -1,5 +1,8 @@
 -- The cells of a board that numbers are in, and how they change when two numbers change places.
-use Rattle.std.proofs.Common.{◌≡◌, ◌≢◌, ℕ, ◌*◌, ◌^◌, ◌<◌, ◌≤◌, Bool, true, false, not, ◌&&◌, ◌||◌, ◌==◌, eqb, IsTrue, None, Some, List, [], ◌∷◌, length, get_or, nat_lt, if◌then◌else◌, unwrap_or, refl, sym, subst, ap, arith, ◌∙◌, ◌⊎◌, inl, inr, true≢false}
+use Rattle.std.proofs.Common.{◌≡◌, ◌≢◌, ℕ, ◌+◌, ◌*◌, ◌/◌, ◌^◌, ◌<◌, ◌≤◌, Bool, true, false, not, ◌&&◌, ◌||◌, ◌==◌, eqb, IsTrue, None, Some, List, [], ◌∷◌, length, get_or, set, nat_lt, if◌then◌else◌, unwrap_or, refl, sym, subst, ap, arith, ◌∙◌, ◌⊎◌, inl, inr, true≢false}
+use Rattle.std.proofs.Math.Nat.{div-div-eq-div-mul}
+use Rattle.std.proofs.lemmas.Nat.{pow-add}
+use Rattle.std.proofs.lemmas.List.{get_or-set_same, get_or-set_other}
 use Rattle.std.specs.List.{list_any, list_all, position_or_len, Any, IsDistinct}
 use Rattle.std.proofs.lemmas.Bool.Decides.{nat_tests}
 use Rattle.std.proofs.lemmas.List.Sums.{position_or_len_is, passes_at_first, fails_before_first}
@@ -11,6 +14,7 @@ use Rattle.pb_packed.specs.Bits.{bits_of}
 use Rattle.pb_task.specs.Tiles.{are_distinct, is_board, is_board_state, board_of}
 use Rattle.pb_task.proofs.Boards.{Listed, to_distinct, whole}
 use Rattle.pb_abstract.specs.Placings.{cell_with, IsPlacing, placing_of}
+use Rattle.pb_abstract.proofs.Ranks.{placing_same}
 
 is_below : (a b : ℕ) → a < b → nat_lt a b ≡ true
 is_below a b e = grind (arith, nat_tests)
@@ -114,3 +118,42 @@ is_placing_of count board l many = record {
 -- the lowest bits of a state that is a board are all of it
 pub word_is : (count state word : ℕ) → IsTrue (is_board_state count state) → word ≡ bits_of state 0 (4 * count) → word ≡ state
 word_is count state word is read = read ∙ whole count state (below state (16 ^ count) (and_true (nat_lt state (16 ^ count)) (is_board count (board_of count state)) is).0)
+
+-- ---- the table of the numbers' cells
+
+-- a state without the numbers of its first cells, and without one more
+pub next_digit : (word cell : ℕ) → word / 2 ^ (4 * cell) / 16 ≡ word / 2 ^ (4 * (cell + 1))
+next_digit word cell =
+    div-div-eq-div-mul word (2 ^ (4 * cell)) 16
+    ∙ ap (λ n. word / n) (sym (pow-add 2 (4 * cell) 4) ∙ ap (λ k. 2 ^ k) (let e : 4 * cell + 4 ≡ 4 * (cell + 1) = omega arith in e))
+
+-- one more number gets its cell
+pub one_more_cell : (count cell number : ℕ) (board cells : List ℕ) → Listed count board → cell < count → number ≡ get_or board cell 0 → number < length cells
+    → ((k : ℕ) → k < cell → get_or cells (get_or board k 0) 0 ≡ k) → (k : ℕ) → k < cell + 1 → get_or (set cells number cell) (get_or board k 0) 0 ≡ k
+one_more_cell count cell number board cells l less here room known k k_less = go (cases k cell) where
+  cases : (n m : ℕ) → (n ≡ m) ⊎ (n ≢ m)
+  cases n m = grind arith
+
+  go : (k ≡ cell) ⊎ (k ≢ cell) → get_or (set cells number cell) (get_or board k 0) 0 ≡ k
+  go (inl same) =
+      ap (λ n. get_or (set cells number cell) n 0) (ap (λ n. get_or board n 0) same ∙ sym here)
+      ∙ get_or-set_same cells number cell 0 room ∙ sym same
+  go (inr other) =
+      get_or-set_other cells number (get_or board k 0) cell 0
+      (λ e. other (sym (cell_is count number k board l (omega (arith, k_less, less)) e) ∙ cell_is count number cell board l less (sym here)))
+      ∙ known k (omega (arith, k_less, other))
+
+-- a table that has the cell of what stands in each cell has the cell of each number
+pub cells_known : (count number : ℕ) (board cells : List ℕ) → Listed count board → number < count → ((k : ℕ) → k < count → get_or cells (get_or board k 0) 0 ≡ k)
+    → get_or cells number 0 ≡ cell_with board number
+cells_known count number board cells l less known =
+    let at = is_in count number board l less in
+    ap (λ n. get_or cells n 0) (sym at.there) ∙ known (cell_with board number) at.within
+
+-- the cells that were read are those of the state's placing
+pub placing_read : (count state word blank first second : ℕ) → word ≡ state → blank ≡ cell_with (board_of count word) 0 → first ≡ cell_with (board_of count word) 1 → second ≡ cell_with (board_of count word) 2
+    → placing_of (board_of count state) ≡ record { blank = blank; first = first; second = second }
+placing_read count state word blank first second whole_word zeroth one two =
+    let board = ap (board_of count) (sym whole_word) in
+    placing_same (cell_with (board_of count state) 0) (cell_with (board_of count state) 1) (cell_with (board_of count state) 2) blank first second
+    (ap (λ b. cell_with b 0) board ∙ sym zeroth) (ap (λ b. cell_with b 1) board ∙ sym one) (ap (λ b. cell_with b 2) board ∙ sym two)

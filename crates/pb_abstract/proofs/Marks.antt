@@ -1,12 +1,12 @@
 -- The blocks of a grid are the same whatever its marks of swamp: squares and edges ask for sizes and classes alone.
-use Rattle.std.proofs.Common.{◌≡◌, ℕ, ◌<◌, Bool, IsTrue, ◌↔◌, ◌⊎◌, inl, inr, List}
+use Rattle.std.proofs.Common.{◌≡◌, ℕ, Bool, ◌⊎◌, inl, inr, List}
 use Rattle.pb_task.specs.declared.parts.GridParts.{GridParts}
 use Rattle.pb_task.specs.declared.parts.TaskParts.TheVariants.{Grid}
 use Rattle.pb_abstract.specs.declared.projection.Projection.{Projection}
 use Rattle.pb_abstract.specs.declared.projection.Projection.TheVariants.{Squares, Blank, BlankAndOne, BlankAndTwo, Atoms}
-use Rattle.pb_abstract.specs.Squares.{square_count, IsSquareEdge, IsLeastSide}
-use Rattle.pb_abstract.specs.Projection.{IsFinest, IsEdge}
-use Rattle.pb_abstract.specs.Graph.{AbstractGraph, IsGraphOf}
+use Rattle.pb_abstract.specs.Squares.{IsSquareEdge, IsLeastSide}
+use Rattle.pb_abstract.specs.Projection.{IsFinest}
+use Rattle.pb_abstract.specs.Graph.{IsGraphOf}
 use Rattle.pb_abstract.specs.Laws.{BlocksAskForNoCosts}
 
 -- a grid with other marks

@@ -40,7 +40,7 @@ fn rank_beside(taken: u32, cell: u32) -> u32
     ensures rank { result ≡ rank_beside taken cell }
     ensures small { result ≤ cell }
 {
-    if taken < cell { cell - 1 } else { cell }
+    cell - u32::from(taken < cell)
 }
 
 // The rank of a cell among the cells other than two that are taken.
@@ -49,11 +49,7 @@ fn rank_beside_two(taken: u32, other: u32, cell: u32) -> u32
     ensures rank { result ≡ rank_beside_two taken other cell }
     ensures small { result ≤ cell }
 {
-    match (taken < cell, other < cell) {
-        (true, true) => cell - 2,
-        (true, false) | (false, true) => cell - 1,
-        (false, false) => cell,
-    }
+    cell - (u32::from(taken < cell) + u32::from(other < cell))
 }
 
 /// The block of a placing, where a board has `count` cells.

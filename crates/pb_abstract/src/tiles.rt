@@ -1,5 +1,5 @@
-ghost use Rattle.std.specs.Prelude.{◌≡◌, ◌*◌, ◌+◌, ◌<◌, ◌≤◌, ◌^◌, ◌↔◌, ◌⊎◌, ℕ, [], IsTrue, IfOk, IfSome, length, slice_index_or};
-ghost use Rattle.pb_task.specs.Tiles.{IsTiles, cell_count, board_of, is_board_state, neighbour};
+ghost use Rattle.std.specs.Prelude.{◌≡◌, ◌*◌, ◌+◌, ◌<◌, ◌≤◌, ◌^◌, ◌↔◌, ◌⊎◌, ℕ, [], IsTrue, IfOk, IfSome, length, slice_index, slice_index_or};
+ghost use Rattle.pb_task.specs.Tiles.{IsTiles, cell_count, board_of, is_board, is_board_state, neighbour};
 ghost use Rattle.pb_abstract.specs.Placings.{IsPlacing, placing_count, placing_number, placing_of, placing_after, tile_after, number_after, cell_with, IsTileEdge};
 ghost use Rattle.pb_abstract.specs.Graph.{has};
 
@@ -14,6 +14,9 @@ use std::alloc::{AllocError, Global};
 
 // How many bits of a state hold the number in a cell.
 const BITS: u32 = 4;
+
+// How many numbers a state can have in a cell.
+const NUMBERS: usize = 16;
 
 // The cell beside a cell in an action's direction, where the board has one.
 fn neighbour(tiles: &TilesParts, cell: u32, action: u32) -> Option<u32>
@@ -102,17 +105,19 @@ pub fn scopes(
     Ok(scopes)
 }
 
-// The cell of a board that a number is in, where the number in cell i is the one in the bits 4i to 4i+3. 0 where it is in none.
-fn cell_with(board: u64, count: u32, number: u64) -> u32
-    requires { count ≤ 16 }
-    ensures { result ≡ cell_with (board_of count board) number }
+// The cell of each number of a board, where the number in cell i is the one in the bits 4i to 4i+3.
+fn cells_of(board: u64, count: u32) -> [u8; NUMBERS]
+    requires few { count ≤ 16 }
+    requires board { IsTrue (is_board count (board_of count board)) }
+    ensures { (number : ℕ) → number < count → slice_index result number ≡ cell_with (board_of count board) number }
 {
+    let mut cells = [0; NUMBERS];
+    let mut rest = board;
     for cell in 0..count {
-        if (board >> (BITS * cell)) % 16 == number {
-            return cell;
-        }
+        cells[(rest % 16) as usize] = cell as u8;
+        rest /= 16;
     }
-    0
+    cells
 }
 
 /// The block of a state.
@@ -122,11 +127,11 @@ pub fn block(tiles: &TilesParts, projection: Projection, state: &Packed) -> u32
     ensures { result ≡ placing_number (cell_count tiles.now) projection (placing_of (board_of (cell_count tiles.now) state.now)) }
 {
     let count = tiles.rows * tiles.cols;
-    let board = state.bits(0, BITS * count);
+    let cells = cells_of(state.bits(0, BITS * count), count);
     let placing = Placing {
-        blank: cell_with(board, count, 0),
-        first: cell_with(board, count, 1),
-        second: cell_with(board, count, 2),
+        blank: u32::from(cells[0]),
+        first: u32::from(cells[1]),
+        second: u32::from(cells[2]),
     };
     placing_number(count, projection, &placing)
 }
