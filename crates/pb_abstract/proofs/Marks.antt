@@ -34,14 +34,14 @@ module _ (grid : GridParts) (marks : List Bool) where
   by_projection : (wish : ℕ) (scopes : List (List ℕ)) (projection : Projection) → IsGraphOf (Grid grid) (record { projection = projection; scopes = scopes })
       → IsFinest (Grid grid) wish projection
       → IsGraphOf (Grid (marked grid marks)) (record { projection = projection; scopes = scopes }) × IsFinest (Grid (marked grid marks)) wish projection
-  by_projection wish scopes (Squares side) is finest = (
+  by_projection wish scopes (Squares side columns) is finest = (
     record {
       fits = is.fits;
       count = is.count;
       scope = λ block other less.
           (λ h. there side block other ((is.scope block other less).0 h), λ h. (is.scope block other less).1 (back side block other h));
     },
-    least_there wish side finest,
+    (least_there wish side finest.0, finest.1),
   )
   by_projection wish scopes Blank is finest = absurd is.fits
   by_projection wish scopes BlankAndOne is finest = absurd is.fits

@@ -47,7 +47,7 @@ digits_below w h q r a b = let up : q * w + r < w * h = mul-add-lt q w r h a b i
 
 -- the cells that a number tells of are the same
 abbrev pub Agree : Projection → (one two : Placing) → Type 0
-Agree (Squares side) one two = Unit {0}
+Agree (Squares side columns) one two = Unit {0}
 Agree Blank one two = one.blank ≡ two.blank
 Agree BlankAndOne one two = (one.blank ≡ two.blank) × (one.first ≡ two.first)
 Agree BlankAndTwo one two = (one.blank ≡ two.blank) × (one.first ≡ two.first) × (one.second ≡ two.second)
@@ -55,7 +55,7 @@ Agree (Atoms atoms) one two = Unit {0}
 
 -- the projection is one of boards
 abbrev pub IsOfBoards : Projection → Type 0
-IsOfBoards (Squares side) = ⊥
+IsOfBoards (Squares side columns) = ⊥
 IsOfBoards Blank = Unit {0}
 IsOfBoards BlankAndOne = Unit {0}
 IsOfBoards BlankAndTwo = Unit {0}
@@ -72,7 +72,7 @@ pair_once count one two p q e =
 
 pub number_once : (count : ℕ) (projection : Projection) (one two : Placing) → IsPlacing count one → IsPlacing count two → placing_number count projection one ≡ placing_number count projection two
     → Agree projection one two
-number_once count (Squares side) one two p q e = tt
+number_once count (Squares side columns) one two p q e = tt
 number_once count Blank one two p q e = e
 number_once count (Atoms atoms) one two p q e = tt
 number_once count BlankAndOne one two p q e = pair_once count one two p q e
@@ -92,7 +92,7 @@ number_once count BlankAndTwo one two p q e =
 -- placings that agree still do after the same move
 pub moves_agree : (count : ℕ) (projection : Projection) (one two : Placing) (cell : ℕ) → Agree projection one two
     → placing_number count projection (placing_after one cell) ≡ placing_number count projection (placing_after two cell)
-moves_agree count (Squares side) one two cell a = refl
+moves_agree count (Squares side columns) one two cell a = refl
 moves_agree count Blank one two cell a = refl
 moves_agree count (Atoms atoms) one two cell a = refl
 moves_agree count BlankAndOne one two cell a =
@@ -104,7 +104,7 @@ moves_agree count BlankAndTwo one two cell a =
 
 -- placings that agree have the blank in one cell
 pub blanks_agree : (projection : Projection) (one two : Placing) → IsOfBoards projection → Agree projection one two → one.blank ≡ two.blank
-blanks_agree (Squares side) one two tiles a = absurd tiles
+blanks_agree (Squares side columns) one two tiles a = absurd tiles
 blanks_agree (Atoms atoms) one two tiles a = absurd tiles
 blanks_agree Blank one two tiles a = a
 blanks_agree BlankAndOne one two tiles a = a.0
@@ -112,7 +112,7 @@ blanks_agree BlankAndTwo one two tiles a = a.0
 
 pub number_small : (count : ℕ) (projection : Projection) (placing : Placing) → IsPlacing count placing → IsOfBoards projection
     → placing_number count projection placing < placing_count count projection
-number_small count (Squares side) placing p tiles = absurd tiles
+number_small count (Squares side columns) placing p tiles = absurd tiles
 number_small count (Atoms atoms) placing p tiles = absurd tiles
 number_small count Blank placing p tiles = p.blank
 number_small count BlankAndOne placing p tiles =

@@ -57,7 +57,7 @@ pub record IsSized (count wish : ℕ) : Type 0 where
   pub few : count ≤ wish
 
 pub sized : (parts : TaskParts) → IsTask parts → (wish : ℕ) → 16 ≤ wish → (projection : Projection) → IsFinest parts wish projection → IsSized (block_count parts projection) wish
-sized (Grid grid) is wish least (Squares side) finest = record { some = some_squares grid side is finest.positive; few = finest.enough }
+sized (Grid grid) is wish least (Squares side columns) finest = record { some = some_squares grid side is finest.0.positive; few = finest.0.enough }
 sized (Grid grid) is wish least Blank finest = absurd finest
 sized (Grid grid) is wish least BlankAndOne finest = absurd finest
 sized (Grid grid) is wish least BlankAndTwo finest = absurd finest
@@ -66,7 +66,7 @@ sized (Tiles tiles) is wish least projection finest =
     let w : IsWithin (cell_count tiles) wish projection =
     subst (IsWithin (cell_count tiles) wish) (sym finest) (within (cell_count tiles) wish (four_cells tiles is) (let few : cell_count tiles ≤ 16 = few_cells tiles is in omega (arith, few, least))) in
     record { some = w.some; few = w.few }
-sized (Strips strips) is wish least (Squares side) finest = absurd finest
+sized (Strips strips) is wish least (Squares side columns) finest = absurd finest
 sized (Strips strips) is wish least Blank finest = absurd finest
 sized (Strips strips) is wish least BlankAndOne finest = absurd finest
 sized (Strips strips) is wish least BlankAndTwo finest = absurd finest

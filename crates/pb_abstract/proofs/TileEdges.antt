@@ -21,7 +21,7 @@ four_moves rows cols cell (suc (suc (suc (suc more)))) to e = cc
 
 -- a projection that has a block of boards is one of boards
 pub of_boards : (count : ℕ) (projection : Projection) (block : ℕ) → block < placing_count count projection → IsOfBoards projection
-of_boards count (Squares side) block less = absurd (omega arith)
+of_boards count (Squares side columns) block less = absurd (omega arith)
 of_boards count Blank block less = tt
 of_boards count BlankAndOne block less = tt
 of_boards count BlankAndTwo block less = tt

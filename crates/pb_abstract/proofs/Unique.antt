@@ -6,7 +6,7 @@ use Rattle.pb_task.specs.declared.parts.TaskParts.TheVariants.{Grid, Tiles, Stri
 use Rattle.pb_task.specs.declared.parts.GridParts.{GridParts}
 use Rattle.pb_abstract.specs.declared.projection.Projection.{Projection}
 use Rattle.pb_abstract.specs.declared.projection.Projection.TheVariants.{Squares, Blank, BlankAndOne, BlankAndTwo, Atoms}
-use Rattle.pb_abstract.specs.Squares.{square_count, IsLeastSide}
+use Rattle.pb_abstract.specs.Squares.{column_count, square_count, IsLeastSide}
 use Rattle.pb_abstract.specs.Projection.{block_count, IsEdge, IsFinest}
 use Rattle.pb_abstract.specs.Graph.{has, blocks_of}
 use Rattle.pb_abstract.specs.Laws.{GraphsAreUnique}
@@ -24,21 +24,23 @@ one_least grid wish side other a b = go (cases side other) where
   go (inr (inr more)) = let less : wish < square_count grid other = a.least other b.positive more in absurd (omega (arith, less, b.enough))
 
 projections_are_unique : (parts : TaskParts) (wish : ℕ) (one other : Projection) → IsFinest parts wish one → IsFinest parts wish other → one ≡ other
-projections_are_unique (Grid grid) wish (Squares side) (Squares other) a b = ap (λ n. Squares n) (one_least grid wish side other a b)
-projections_are_unique (Grid grid) wish (Squares side) Blank a b = absurd b
-projections_are_unique (Grid grid) wish (Squares side) BlankAndOne a b = absurd b
-projections_are_unique (Grid grid) wish (Squares side) BlankAndTwo a b = absurd b
-projections_are_unique (Grid grid) wish (Squares side) (Atoms atoms) a b = absurd b
+projections_are_unique (Grid grid) wish (Squares side columns) (Squares other others) a b =
+    let same : side ≡ other = one_least grid wish side other a.0 b.0 in
+    ap (λ n. Squares n columns) same ∙ ap (λ n. Squares other n) (a.1 ∙ ap (column_count grid) same ∙ sym b.1)
+projections_are_unique (Grid grid) wish (Squares side columns) Blank a b = absurd b
+projections_are_unique (Grid grid) wish (Squares side columns) BlankAndOne a b = absurd b
+projections_are_unique (Grid grid) wish (Squares side columns) BlankAndTwo a b = absurd b
+projections_are_unique (Grid grid) wish (Squares side columns) (Atoms atoms) a b = absurd b
 projections_are_unique (Grid grid) wish Blank other a b = absurd a
 projections_are_unique (Grid grid) wish BlankAndOne other a b = absurd a
 projections_are_unique (Grid grid) wish BlankAndTwo other a b = absurd a
 projections_are_unique (Grid grid) wish (Atoms atoms) other a b = absurd a
 projections_are_unique (Tiles tiles) wish one other a b = a ∙ sym b
-projections_are_unique (Strips strips) wish (Squares side) other a b = absurd a
+projections_are_unique (Strips strips) wish (Squares side columns) other a b = absurd a
 projections_are_unique (Strips strips) wish Blank other a b = absurd a
 projections_are_unique (Strips strips) wish BlankAndOne other a b = absurd a
 projections_are_unique (Strips strips) wish BlankAndTwo other a b = absurd a
-projections_are_unique (Strips strips) wish (Atoms atoms) (Squares side) a b = absurd b
+projections_are_unique (Strips strips) wish (Atoms atoms) (Squares side columns) a b = absurd b
 projections_are_unique (Strips strips) wish (Atoms atoms) Blank a b = absurd b
 projections_are_unique (Strips strips) wish (Atoms atoms) BlankAndOne a b = absurd b
 projections_are_unique (Strips strips) wish (Atoms atoms) BlankAndTwo a b = absurd b

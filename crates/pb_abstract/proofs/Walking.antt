@@ -29,26 +29,26 @@ Step parts projection block other =
 -- a step is an edge
 pub step_edge : (parts : TaskParts) → IsTask parts → (projection : Projection) → Fits parts projection → (from action to cost : ℕ) → Steps (space_of parts) from action to cost
     → IsEdge parts projection (block_of parts projection from) (block_of parts projection to)
-step_edge (Grid grid) is (Squares side) fits from action to cost e = grids.step_edge grid is side from action to cost e
+step_edge (Grid grid) is (Squares side columns) fits from action to cost e = grids.step_edge grid is side from action to cost e
 step_edge (Grid grid) is Blank fits from action to cost e = absurd fits
 step_edge (Grid grid) is BlankAndOne fits from action to cost e = absurd fits
 step_edge (Grid grid) is BlankAndTwo fits from action to cost e = absurd fits
 step_edge (Grid grid) is (Atoms atoms) fits from action to cost e = absurd fits
 step_edge (Tiles tiles) is projection fits from action to cost e = tiles_steps.step_edge tiles is projection from action to cost e
-step_edge (Strips strips) is (Squares side) fits from action to cost e = absurd fits
+step_edge (Strips strips) is (Squares side columns) fits from action to cost e = absurd fits
 step_edge (Strips strips) is Blank fits from action to cost e = absurd fits
 step_edge (Strips strips) is BlankAndOne fits from action to cost e = absurd fits
 step_edge (Strips strips) is BlankAndTwo fits from action to cost e = absurd fits
 step_edge (Strips strips) is (Atoms atoms) fits from action to cost e = sets.step_edge strips atoms fits from action to cost e
 
 pub edge_step : (parts : TaskParts) → IsTask parts → (projection : Projection) → Fits parts projection → (block other : ℕ) → IsEdge parts projection block other → Step parts projection block other
-edge_step (Grid grid) is (Squares side) fits block other edge = grids.edge_step grid is side block other edge
+edge_step (Grid grid) is (Squares side columns) fits block other edge = grids.edge_step grid is side block other edge
 edge_step (Grid grid) is Blank fits block other edge = absurd fits
 edge_step (Grid grid) is BlankAndOne fits block other edge = absurd fits
 edge_step (Grid grid) is BlankAndTwo fits block other edge = absurd fits
 edge_step (Grid grid) is (Atoms atoms) fits block other edge = absurd fits
 edge_step (Tiles tiles) is projection fits block other edge = tiles_steps.edge_step tiles is projection block other edge
-edge_step (Strips strips) is (Squares side) fits block other edge = absurd fits
+edge_step (Strips strips) is (Squares side columns) fits block other edge = absurd fits
 edge_step (Strips strips) is Blank fits block other edge = absurd fits
 edge_step (Strips strips) is BlankAndOne fits block other edge = absurd fits
 edge_step (Strips strips) is BlankAndTwo fits block other edge = absurd fits
@@ -68,7 +68,7 @@ edges_are_steps parts is projection fits block other = (edge_step parts is proje
 -- the block of a state is one that there is
 pub block_small : (parts : TaskParts) → IsTask parts → (projection : Projection) → Fits parts projection → (state : ℕ) → IsTrue ((space_of parts).is_state state)
     → block_of parts projection state < block_count parts projection
-block_small (Grid grid) is (Squares side) fits state e = grids.square_small grid side state (omega (arith, fits)) e
+block_small (Grid grid) is (Squares side columns) fits state e = grids.square_small grid side state (omega (arith, fits.0)) e
 block_small (Grid grid) is Blank fits state e = absurd fits
 block_small (Grid grid) is BlankAndOne fits state e = absurd fits
 block_small (Grid grid) is BlankAndTwo fits state e = absurd fits
@@ -79,12 +79,12 @@ block_small (Tiles tiles) is projection fits state e =
     number_small count projection _ (is_placing_of count (board_of count state) (listed count (board_of count state) (board_in count state e)) (omega (arith, many))) (boards projection fits)
   where
     boards : (projection : Projection) → Fits (Tiles tiles) projection → IsOfBoards projection
-    boards (Squares side) fits = absurd fits
+    boards (Squares side columns) fits = absurd fits
     boards Blank fits = tt
     boards BlankAndOne fits = tt
     boards BlankAndTwo fits = tt
     boards (Atoms atoms) fits = absurd fits
-block_small (Strips strips) is (Squares side) fits state e = absurd fits
+block_small (Strips strips) is (Squares side columns) fits state e = absurd fits
 block_small (Strips strips) is Blank fits state e = absurd fits
 block_small (Strips strips) is BlankAndOne fits state e = absurd fits
 block_small (Strips strips) is BlankAndTwo fits state e = absurd fits

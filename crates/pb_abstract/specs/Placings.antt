@@ -25,7 +25,7 @@ placing_of board = record { blank = cell_with board 0; first = cell_with board 1
 
 -- how many blocks there are, where a board has `count` cells; 0 where the projection is of another kind
 abbrev pub placing_count : (count : ℕ) → Projection → ℕ
-placing_count count (Squares side) = 0
+placing_count count (Squares side columns) = 0
 placing_count count Blank = count
 placing_count count BlankAndOne = count * (count - 1)
 placing_count count BlankAndTwo = count * (count - 1) * (count - 2)
@@ -41,7 +41,7 @@ rank_beside_two taken other cell = cell - (one_if (nat_lt taken cell) + one_if (
 
 -- the block of a placing, where a board has `count` cells; 0 where the projection is of another kind
 abbrev pub placing_number : (count : ℕ) → Projection → Placing → ℕ
-placing_number count (Squares side) placing = 0
+placing_number count (Squares side columns) placing = 0
 placing_number count Blank placing = placing.blank
 placing_number count BlankAndOne placing = placing.blank * (count - 1) + rank_beside placing.blank placing.first
 placing_number count BlankAndTwo placing =

@@ -4,13 +4,17 @@ use Rattle.std.specs.Int.{div_ceil}
 use Rattle.pb_task.specs.declared.parts.GridParts.{GridParts}
 use Rattle.pb_task.specs.Grid.{class_at, are_connected, cell_beside}
 
+-- how many squares stand side by side, where each side has this many cells
+abbrev pub column_count : GridParts → (side : ℕ) → ℕ
+column_count grid side = div_ceil grid.width side
+
 -- how many squares there are, where each side has this many cells; at the right and at the lower end they may be cut off
 abbrev pub square_count : GridParts → (side : ℕ) → ℕ
-square_count grid side = div_ceil grid.width side * div_ceil grid.height side
+square_count grid side = column_count grid side * div_ceil grid.height side
 
 -- the square that a cell lies in
 abbrev pub square_of : GridParts → (side x y : ℕ) → ℕ
-square_of grid side x y = (y / side) * div_ceil grid.width side + x / side
+square_of grid side x y = (y / side) * column_count grid side + x / side
 
 -- Two cells that lie side by side and are both land or both water: the one in the one square, the other in the other.
 pub record IsSquareEdge (grid : GridParts) (side block other : ℕ) : Type 0 where

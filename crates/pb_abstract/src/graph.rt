@@ -60,8 +60,8 @@ impl AbsGraph {
         ensures below { result < (blocks_of self.now).count }
     {
         match (task.parts(), self.projection) {
-            (TaskParts::Grid(grid), Projection::Squares { side }) => squares::square(
-                grid, side, state,
+            (TaskParts::Grid(grid), Projection::Squares { side, columns }) => squares::square(
+                grid, side, columns, state,
             ),
             (TaskParts::Grid(_), _) => unreachable!(),
             (TaskParts::Tiles(parts), projection) => tiles::block(parts, projection, state),

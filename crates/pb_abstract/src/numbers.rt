@@ -12,7 +12,7 @@ pub fn placing_count(count: u32, projection: Projection) -> u32
     ensures small { result ≤ 3360 }
 {
     match projection {
-        Projection::Squares { side: _ } => 0,
+        Projection::Squares { .. } => 0,
         Projection::Blank => count,
         Projection::BlankAndOne => count * (count - 1),
         Projection::BlankAndTwo => count * (count - 1) * (count - 2),
@@ -61,7 +61,7 @@ pub fn placing_number(count: u32, projection: Projection, placing: &Placing) -> 
 {
     let pair = placing.blank * (count - 1) + rank_beside(placing.blank, placing.first);
     match projection {
-        Projection::Squares { side: _ } => 0,
+        Projection::Squares { .. } => 0,
         Projection::Blank => placing.blank,
         Projection::BlankAndOne => pair,
         Projection::BlankAndTwo => {
@@ -123,7 +123,7 @@ pub fn placing_at(count: u32, projection: Projection, block: u32) -> Placing
     ensures number { placing_number count projection result ≡ block }
 {
     match projection {
-        Projection::Squares { side: _ } => unreachable!(),
+        Projection::Squares { .. } => unreachable!(),
         Projection::Blank => with_ranks(count, block, 0, 0),
         Projection::BlankAndOne => with_ranks(count, block / (count - 1), block % (count - 1), 0),
         Projection::BlankAndTwo => {

@@ -17,12 +17,14 @@ pub fn finest(alloc: Global, parts: &TaskParts, wish: u32) -> Result<Projection,
     requires greatest { wish ≤ 4096 }
     ensures finest { IfOk result (IsFinest parts.now wish) }
     ensures fits { IfOk result (Fits parts.now) }
-    ensures side { IfOk result (λ projection. (side : ℕ) → projection ≡ Squares side → side ≤ 2048) }
+    ensures side { IfOk result (λ projection. (side columns : ℕ) → projection ≡ Squares side columns → side ≤ 2048) }
 {
     match parts {
-        TaskParts::Grid(grid) => Ok(Projection::Squares {
-            side: squares::least_side(grid, wish),
-        }),
+        TaskParts::Grid(grid) => {
+            let side = squares::least_side(grid, wish);
+            let columns = grid.width.div_ceil(side);
+            Ok(Projection::Squares { side, columns })
+        }
         TaskParts::Tiles(tiles) => Ok(numbers::finest(tiles.rows * tiles.cols, wish)),
         TaskParts::Strips(strips) => {
             let atoms = tracking::tracked(alloc, strips, wish)?;
@@ -39,13 +41,13 @@ pub fn scopes(
 ) -> Result<Vec<BlockList>, AllocError>
     requires task { IsTask parts.now }
     requires fits { Fits parts.now projection.now }
-    requires side { (side : ℕ) → projection.now ≡ Squares side → side ≤ 2048 }
+    requires side { (side columns : ℕ) → projection.now ≡ Squares side columns → side ≤ 2048 }
     requires few { block_count parts.now projection.now ≤ 4096 }
     ensures count { IfOk result (λ scopes. length scopes.items ≡ block_count parts.now projection.now) }
     ensures scope { IfOk result (λ scopes. (block other : ℕ) → block < block_count parts.now projection.now → IsTrue (has (slice_index_or scopes.items block []) other) ↔ ((block ≡ other) ⊎ IsEdge parts.now projection.now block other)) }
 {
     match (parts, projection) {
-        (TaskParts::Grid(grid), Projection::Squares { side }) => squares::scopes(
+        (TaskParts::Grid(grid), Projection::Squares { side, .. }) => squares::scopes(
             alloc, grid, *side,
         ),
         (TaskParts::Grid(_), _) => unreachable!(),

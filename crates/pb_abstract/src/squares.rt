@@ -2,7 +2,7 @@ ghost use Rattle.std.specs.Prelude.{◌≡◌, ◌<◌, ◌≤◌, ◌^◌, ◌*
 ghost use Rattle.std.specs.Int.{div_ceil};
 ghost use Rattle.pb_packed.specs.Bits.{bits_of};
 ghost use Rattle.pb_task.specs.Grid.{IsGrid, are_connected, cell_beside, class_of_state, is_passable};
-ghost use Rattle.pb_abstract.specs.Squares.{square_count, square_of, IsSquareEdge, IsLeastSide};
+ghost use Rattle.pb_abstract.specs.Squares.{column_count, square_count, square_of, IsSquareEdge, IsLeastSide};
 ghost use Rattle.pb_abstract.specs.Borders.{border_cell, are_joined, crosses, beyond};
 ghost use Rattle.pb_abstract.specs.Graph.{has};
 
@@ -12,8 +12,11 @@ use pb_packed::Packed;
 use pb_task::{Class, GridParts};
 use std::alloc::{AllocError, Global};
 
-// How many bits of a state hold a coordinate.
-const BITS: u32 = 11;
+// How many bits of a state hold its two coordinates.
+const BITS: u32 = 22;
+
+// How many columns, or rows, of cells a state can tell apart.
+const SIDE: u32 = 2048;
 
 /// How many squares with this side there are.
 pub fn square_count(grid: &GridParts, side: u32) -> u32
@@ -38,15 +41,16 @@ pub fn least_side(grid: &GridParts, wish: u32) -> u32
     side
 }
 
-/// The square that the cell of a state lies in.
-pub fn square(grid: &GridParts, side: u32, state: &Packed) -> u32
+/// The square that the cell of a state lies in, where so many squares stand side by side.
+pub fn square(grid: &GridParts, side: u32, columns: u32, state: &Packed) -> u32
     requires grid { IsGrid grid.now }
     requires side { 1 ≤ side }
+    requires columns { columns ≡ column_count grid.now side }
     ensures { result ≡ square_of grid.now side (bits_of state.now 0 11) (bits_of state.now 11 11) }
 {
-    let x = state.bits(0, BITS) as u32;
-    let y = state.bits(BITS, BITS) as u32;
-    (y / side) * grid.width.div_ceil(side) + x / side
+    let word = state.bits(0, BITS) as u32;
+    let (x, y) = (word % SIDE, word / SIDE);
+    (y / side) * columns + x / side
 }
 
 // Whether a cell of the one class can be left for one of the other that lies beside it.
