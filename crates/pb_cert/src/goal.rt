@@ -40,7 +40,7 @@ fn first_in(task: &Task, so_far: Option<Goal>, bundle: &Bundle) -> Option<Goal>
     let mut first = so_far;
     'rows: for i in 0..bundle.len() {
         let (state, row) = bundle.at(i);
-        first = first_of(task, first, state, row);
+        first = first_of(task, first, &state, &row);
     }
     first
 }

@@ -43,7 +43,7 @@ fn line_in(bundle: &Bundle, at: u64) -> Line
 {
     if at < bundle.len() {
         let (state, row) = bundle.at(at);
-        line_for(state, row)
+        line_for(&state, &row)
     } else {
         Line {
             state: Packed::zero(),

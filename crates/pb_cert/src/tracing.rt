@@ -1,4 +1,4 @@
-ghost use Rattle.std.specs.Prelude.{◌≡◌, ◌≢◌, ◌≤◌, ℕ, IsTrue, None, Some, IfOk, option_copied};
+ghost use Rattle.std.specs.Prelude.{◌≡◌, ◌≢◌, ◌≤◌, ℕ, IsTrue, None, Some, IfOk};
 ghost use Rattle.pb_model.specs.declared.row.Row.{Row};
 ghost use Rattle.pb_model.specs.Plan.{IsPlan};
 ghost use Rattle.pb_task.specs.Parts.{space_of, IsTask};
@@ -21,11 +21,11 @@ struct Step {
 }
 
 // The row of a state in the part that is its home, or None where it has none.
-fn row_at_home<'a, S: Store>(task: &Task, store: &'a S, state: &Packed) -> Option<&'a Row>
+fn row_at_home<S: Store>(task: &Task, store: &S, state: &Packed) -> Option<Row>
     requires whole { S.is_whole store.now }
     requires of_task { S.is_of store.now task.now }
     requires is_state { IsTrue ((space_of task.now).is_state state.now) }
-    ensures { option_copied result ≡ rows_at_home (S.home store.now task.now) (S.rows store.now) state.now }
+    ensures { result ≡ rows_at_home (S.home store.now task.now) (S.rows store.now) state.now }
 {
     let home = store.home(task, state);
     store.part(home).row(state)

@@ -29,7 +29,7 @@ pub fn first(lease: &Lease) -> Option<(Packed, Row)>
     let bundle = lease.bundle(lease.block());
     let state = bundle.first()?;
     match bundle.row(&state) {
-        Some(row) => Some((state, *row)),
+        Some(row) => Some((state, row)),
         None => unreachable!(),
     }
 }

@@ -4,14 +4,14 @@ use Rattle.std.proofs.lemmas.Bool.Decides.{nat_tests}
 use Rattle.std.proofs.lemmas.Cmp.{nat_eq_equiv}
 use Rattle.std.proofs.lemmas.Map.Entries.{place_from_lookup, lookup_from_place}
 use Rattle.std.specs.List.{slice_get}
-use Rattle.std.specs.Map.{lookup_key, set_value}
+use Rattle.std.specs.Map.{lookup, lookup_key, set_value}
 use Rattle.indexmap.specs.IndexMap.{insert_entry}
 use Rattle.pb_model.specs.declared.row.Estimate.{Estimate}
 use Rattle.pb_model.specs.declared.row.Row.{Row}
 use Rattle.pb_model.specs.declared.row.Status.{Status}
 use Rattle.pb_model.specs.declared.row.Status.TheVariants.{Opened}
 use Rattle.pb_model.specs.Work.{offered_row, with_status}
-use Rattle.pb_lists.specs.Bundle.{Content, row_in, row_of, put, SetsStatus}
+use Rattle.pb_lists.specs.Bundle.{Content, row_in, row_of, put, SetsRow, SetsStatus}
 use Rattle.pb_lists.specs.Laws.{EntriesAreRows}
 
 pub entries_are_rows : EntriesAreRows
@@ -36,29 +36,38 @@ put_same state row (entry ∷ entries) found = at (nat_eq state entry.0) found (
     at true f next = let same : entry.1 ≡ row = cc in ap (λ r. (entry.0, r) ∷ entries) (sym same)
     at false f next = ap (λ rest. entry ∷ rest) (next f)
 
--- a row that is there is put by writing it where it stands
-pub put_there : (state : ℕ) (row : Row) (entries : List (ℕ × Row)) → is_some (row_in entries state) ≡ true → insert_entry nat_eq entries state row ≡ set_value (nat_eq state) entries row
-put_there state row [] there = absurd (true≢false (sym there))
-put_there state row (entry ∷ entries) there = at (nat_eq state entry.0) there (λ t. put_there state row entries t)
+-- a value that is there is put by writing it where it stands
+pub put_there : {V : Type 0} → (state : ℕ) (value : V) (entries : List (ℕ × V)) → is_some (lookup (nat_eq state) entries) ≡ true → insert_entry nat_eq entries state value ≡ set_value (nat_eq state) entries value
+put_there state value [] there = absurd (true≢false (sym there))
+put_there state value (entry ∷ entries) there = at (nat_eq state entry.0) there (λ t. put_there state value entries t)
   where
-    at : (here : Bool) → is_some (cond here (Some entry.1) (row_in entries state)) ≡ true → (is_some (row_in entries state) ≡ true → insert_entry nat_eq entries state row ≡ set_value (nat_eq state) entries row)
-        → cond here ((entry.0, row) ∷ entries) (entry ∷ insert_entry nat_eq entries state row) ≡ cond here ((entry.0, row) ∷ entries) (entry ∷ set_value (nat_eq state) entries row)
+    at : (here : Bool) → is_some (cond here (Some entry.1) (lookup (nat_eq state) entries)) ≡ true → (is_some (lookup (nat_eq state) entries) ≡ true → insert_entry nat_eq entries state value ≡ set_value (nat_eq state) entries value)
+        → cond here ((entry.0, value) ∷ entries) (entry ∷ insert_entry nat_eq entries state value) ≡ cond here ((entry.0, value) ∷ entries) (entry ∷ set_value (nat_eq state) entries value)
     at true t next = refl
     at false t next = ap (λ rest. entry ∷ rest) (next t)
 
--- an offer that is no cheaper changes nothing
-pub put_worse : (content : Content) (state g : ℕ) (estimate : Estimate) (parent : Option ℕ) (action : ℕ) (was : Row) → row_of content state ≡ Some was → was.g ≤ g
-    → content ≡ put content state (offered_row g estimate parent action (row_of content state))
-put_worse content state g estimate parent action was found le =
-    ap (λ entries. record content { entries = entries }) (sym (ap (λ row. insert_entry nat_eq content.entries state row) same ∙ put_same state was content.entries found))
+-- an offer that is no cheaper leaves the row
+pub worse_row : (g : ℕ) (estimate : Estimate) (parent : Option ℕ) (action : ℕ) (was : Row) → was.g ≤ g → offered_row g estimate parent action (Some was) ≡ was
+worse_row g estimate parent action was le = kept (nat_lt g was.g) (record { g = g; estimate = was.estimate; parent = parent; action = action; status = Opened }) (grind (arith, nat_tests))
   where
     kept : (lower : Bool) (row : Row) → lower ≡ false → (if lower then row else was) ≡ was
     kept true row e = cc
     kept false row e = refl
 
-    same : offered_row g estimate parent action (row_of content state) ≡ was
-    same = ap (λ old. offered_row g estimate parent action old) found
-        ∙ kept (nat_lt g was.g) (record { g = g; estimate = was.estimate; parent = parent; action = action; status = Opened }) (grind (arith, nat_tests))
+-- and changes nothing
+pub put_worse : (content : Content) (state g : ℕ) (estimate : Estimate) (parent : Option ℕ) (action : ℕ) (was : Row) → row_of content state ≡ Some was → was.g ≤ g
+    → content ≡ put content state (offered_row g estimate parent action (Some was))
+put_worse content state g estimate parent action was found le =
+    ap (λ entries. record content { entries = entries })
+    (sym (ap (λ row. insert_entry nat_eq content.entries state row) (worse_row g estimate parent action was le) ∙ put_same state was content.entries found))
+
+-- and sets the row that is there
+pub sets_worse : (content : Content) (state g : ℕ) (estimate : Estimate) (parent : Option ℕ) (action : ℕ) (was : Row) → row_of content state ≡ Some was → was.g ≤ g
+    → SetsRow (row_of content) (row_of content) state (offered_row g estimate parent action (Some was))
+sets_worse content state g estimate parent action was found le = record {
+  here = found ∙ ap (λ row. Some row) (sym (worse_row g estimate parent action was le));
+  others = λ other apart. refl;
+}
 
 -- a status that is written is set, and all else stays
 pub status_sets : (entries after : List (ℕ × Row)) (state : ℕ) (row : Row) (status : Status) → row_in entries state ≡ Some row
@@ -80,7 +89,7 @@ status_sets entries after state row status found updates = record {
     differ other apart false e = e
 
 -- the key that is found by a state is the state
-pub key_by_state : (state : ℕ) (entries : List (ℕ × Row)) (key : ℕ) → lookup_key (nat_eq state) entries ≡ Some key → state ≡ key
+pub key_by_state : {V : Type 0} → (state : ℕ) (entries : List (ℕ × V)) (key : ℕ) → lookup_key (nat_eq state) entries ≡ Some key → state ≡ key
 key_by_state state [] key found = cc
 key_by_state state (entry ∷ entries) key found = at (nat_eq state entry.0) refl found (λ f. key_by_state state entries key f)
   where

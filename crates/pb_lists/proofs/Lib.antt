@@ -3,3 +3,4 @@ pub mod Parts
 pub mod Filing
 pub mod First
 pub mod Entries
+pub mod Tables

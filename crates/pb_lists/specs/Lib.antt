@@ -3,3 +3,5 @@ pub mod Offers
 pub mod Laws
 pub mod Buckets
 pub mod Fields
+pub mod SmallRow
+pub mod Rows

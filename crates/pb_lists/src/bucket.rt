@@ -5,6 +5,7 @@ ghost use Rattle.std.specs.Ordering.{is_lt};
 ghost use Rattle.pb_lists.specs.Buckets.{Entry, entry_cmp, later, is_same, is_among, has_entry, count_of, first_of};
 ghost use Rattle.pb_lists.specs.Buckets.{is_wide_before, top_of, IsNoLater, IsOrdered};
 
+use crate::word::{state_of, word_of};
 use pb_packed::Packed;
 use std::alloc::{AllocError, Global};
 use std::cmp::{Ordering, Reverse};
@@ -134,24 +135,4 @@ fn is_before(entry: &(u64, Packed), other: &(u64, Packed)) -> bool
         Ordering::Less => true,
         _ => false,
     }
-}
-
-// The word that is a state's number, if it fits one.
-fn word_of(state: &Packed) -> Option<u64>
-    ensures some { IfSome result (λ word. word ≡ state.now) }
-    ensures none { IfNone result (2 ^ 64 ≤ state.now) }
-{
-    let word = state.bits(0, 64);
-    if state_of(word) == *state {
-        Some(word)
-    } else {
-        None
-    }
-}
-
-// The state whose number is this word.
-fn state_of(word: u64) -> Packed
-    ensures { result ≡ word }
-{
-    Packed::zero().with_bits(0, 64, word)
 }

@@ -2,15 +2,16 @@
 ghost use Rattle.std.specs.Prelude.{◌≡◌, ◌≤◌, ◌∷◌, true, false, ℕ, List, Some, OnOk, OnErr};
 ghost use Rattle.std.specs.BTreeMap.{btree_map_len};
 ghost use Rattle.pb_lists.specs.Bundle.{row_in};
-ghost use Rattle.pb_lists.specs.Fields.{weight_of, key_at, is_open_at, sum_of, estimate_in, key_with};
+ghost use Rattle.pb_lists.specs.Fields.{weight_of, is_open_at, sum_of, estimate_in, key_with};
+ghost use Rattle.pb_model.specs.Key.{key_of};
 ghost use Rattle.pb_model.specs.Weight.{Weight};
 ghost use Rattle.pb_model.specs.declared.row.Row.{Row};
 ghost use Rattle.pb_lists.specs.Buckets.{Entry, has_entry, has_at, has_state, first_key_of, is_on_top, top_of};
 ghost use Rattle.pb_lists.specs.Buckets.{KeepsLive, KeepsEntries, IsOrdered, HasHeaps, HasFiled, IsTidy, is_led};
 
 use crate::bucket::Bucket;
-use indexmap::IndexMap;
-use pb_model::{Estimate, Key, Row, Status};
+use crate::rows::Rows;
+use pb_model::{Estimate, Key};
 use pb_packed::Packed;
 use std::alloc::{AllocError, Global};
 use std::collections::BTreeMap;
@@ -18,17 +19,17 @@ use std::collections::BTreeMap;
 // Of each sum its bucket. A sum stands here as the key with that sum and the estimate 0.
 pub(crate) type Buckets = BTreeMap<Key, Bucket>;
 
-// The key of a row, at the weight num / den.
-pub(crate) fn key_of(num: u64, den: u64, row: &Row) -> Key
+// The key of a row with this g and this estimate, at the weight num / den.
+pub(crate) fn key_of(num: u64, den: u64, g: u64, estimate: &Estimate) -> Key
     requires num { num ≤ 1000 }
     requires den { den ≤ 1000 }
-    ensures { result ≡ key_at (weight_of num den) row.now }
+    ensures { result ≡ key_of (weight_of num den) g estimate.now }
 {
-    match row.estimate {
+    match estimate {
         Estimate::Dead => Key::Dead,
         Estimate::Cost(h) => Key::Sum {
-            sum: den as u128 * row.g as u128 + num as u128 * h as u128,
-            h,
+            sum: den as u128 * g as u128 + num as u128 * *h as u128,
+            h: *h,
         },
     }
 }
@@ -97,13 +98,7 @@ pub(crate) fn file(
 }
 
 // Tidies the first bucket if what it has on top is this state, whose row alone was changed.
-pub(crate) fn tidy_after(
-    buckets: &mut Buckets,
-    rows: &IndexMap<Packed, Row>,
-    num: u64,
-    den: u64,
-    state: &Packed,
-)
+pub(crate) fn tidy_after(buckets: &mut Buckets, rows: &Rows, num: u64, den: u64, state: &Packed)
     requires num { num ≤ 1000 }
     requires den { den ≤ 1000 }
     requires heaps { HasHeaps buckets.old }
@@ -134,7 +129,7 @@ fn is_first(buckets: &Buckets, state: &Packed) -> bool
 
 // Takes what is no longer Opened at its key from the first bucket, until a row that is stands on
 // top, and takes out buckets that become empty.
-pub(crate) fn tidy(buckets: &mut Buckets, rows: &IndexMap<Packed, Row>, num: u64, den: u64)
+pub(crate) fn tidy(buckets: &mut Buckets, rows: &Rows, num: u64, den: u64)
     requires num { num ≤ 1000 }
     requires den { den ≤ 1000 }
     requires heaps { HasHeaps buckets.old }
@@ -161,13 +156,7 @@ fn first_sum(buckets: &Buckets) -> Option<Key>
 }
 
 // Clears the first bucket, that of this sum. Answers whether an entry is left in it.
-fn clear_first(
-    buckets: &mut Buckets,
-    rows: &IndexMap<Packed, Row>,
-    num: u64,
-    den: u64,
-    sum: &Key,
-) -> bool
+fn clear_first(buckets: &mut Buckets, rows: &Rows, num: u64, den: u64, sum: &Key) -> bool
     requires num { num ≤ 1000 }
     requires den { den ≤ 1000 }
     requires first { first_key_of buckets.old.entries ≡ Some sum.now }
@@ -188,7 +177,7 @@ fn clear_first(
 
 // Takes entries from the top of a bucket until the row of the one on top is Opened at the bucket's
 // sum and the entry's estimate. Answers whether an entry is left.
-fn clear(bucket: &mut Bucket, rows: &IndexMap<Packed, Row>, num: u64, den: u64, sum: &Key) -> bool
+fn clear(bucket: &mut Bucket, rows: &Rows, num: u64, den: u64, sum: &Key) -> bool
     requires num { num ≤ 1000 }
     requires den { den ≤ 1000 }
     requires heap { IsOrdered bucket.old }
@@ -209,17 +198,14 @@ fn clear(bucket: &mut Bucket, rows: &IndexMap<Packed, Row>, num: u64, den: u64, 
 }
 
 // Whether the state's row is Opened, with this key.
-fn is_opened_at(rows: &IndexMap<Packed, Row>, num: u64, den: u64, key: &Key, state: &Packed) -> bool
+fn is_opened_at(rows: &Rows, num: u64, den: u64, key: &Key, state: &Packed) -> bool
     requires num { num ≤ 1000 }
     requires den { den ≤ 1000 }
     ensures { result
         ≡ is_open_at (weight_of num den) (row_in rows.now.entries state.now) key.now }
 {
-    match rows.get(state) {
-        Some(row) => match row.status {
-            Status::Opened => key_of(num, den, row) == *key,
-            _ => false,
-        },
+    match rows.opened(state) {
+        Some(costs) => key_of(num, den, costs.0, &costs.1) == *key,
         None => false,
     }
 }

@@ -1,4 +1,4 @@
-ghost use Rattle.std.specs.Prelude.{◌≡◌, false, ℕ, ◌<◌, ◌≤◌, Option, Some, None, [], IfOk, IsSome, IfSome, IfNone, OnOk, OnErr, option_copied, nat_eq, slice_get, length, if◌then◌else◌};
+ghost use Rattle.std.specs.Prelude.{◌≡◌, false, ℕ, ◌<◌, ◌≤◌, Option, Some, None, [], IfOk, IsSome, IfSome, IfNone, OnOk, OnErr, nat_eq, slice_get, length};
 ghost use Rattle.std.specs.Map.{keys_of};
 ghost use Rattle.std.specs.List.{IsDistinct};
 ghost use Rattle.pb_model.specs.Key.{IsBest, IsFirstRow};
@@ -11,7 +11,7 @@ ghost use Rattle.pb_lists.specs.Offers.{offer_of};
 ghost use Rattle.pb_lists.specs.Fields.{is_opened};
 
 use crate::buckets::{Buckets, file, key_from, key_of, tidy, tidy_after};
-use indexmap::IndexMap;
+use crate::rows::Rows;
 use pb_model::{Estimate, Key, Row, Status};
 use pb_packed::Packed;
 use std::alloc::{AllocError, Global};
@@ -22,7 +22,7 @@ use std::marker::Model;
 /// the order in which the states got one, and the weight of the search.
 #[derive(Drop)]
 pub struct Bundle {
-    rows: IndexMap<Packed, Row>,
+    rows: Rows,
     // each Opened row in the bucket of its key's sum
     opened: Buckets,
     num: u64,
@@ -62,7 +62,7 @@ impl Bundle {
         ensures { IfOk result (λ b. b ≡ record { entries = []; weight = record { num = num; den = den } }) }
     {
         Ok(Bundle {
-            rows: IndexMap::new(alloc),
+            rows: Rows::new(alloc),
             opened: BTreeMap::new(alloc),
             num,
             den,
@@ -71,10 +71,10 @@ impl Bundle {
     }
 
     /// The row of a state, or None where it has none.
-    pub fn row(&self, state: &Packed) -> Option<&Row>
-        ensures { option_copied result ≡ row_of self.now state.now }
+    pub fn row(&self, state: &Packed) -> Option<Row>
+        ensures { result ≡ row_of self.now state.now }
     {
-        self.rows.get(state)
+        self.rows.row(state)
     }
 
     /// How many states have a row.
@@ -82,18 +82,15 @@ impl Bundle {
         ensures count { result ≡ length self.now.entries }
         ensures distinct { IsDistinct nat_eq (keys_of self.now.entries) }
     {
-        self.rows.len() as u64
+        self.rows.len()
     }
 
     /// The state that got its row after i others, with that row.
-    pub fn at(&self, i: u64) -> (&Packed, &Row)
+    pub fn at(&self, i: u64) -> (Packed, Row)
         requires { i < length self.now.entries }
-        ensures { slice_get self.now.entries i ≡ Some (result.0.now, result.1.now) }
+        ensures { slice_get self.now.entries i ≡ Some result }
     {
-        match self.rows.get_index(i as usize) {
-            Some(entry) => entry,
-            None => unreachable!(),
-        }
+        self.rows.at(i)
     }
 
     /// The place of a state's row, at which `at` and `offer_at` find it without a look-up. None where the state has no row. A row
@@ -103,10 +100,7 @@ impl Bundle {
         ensures within { IfSome result (λ place. place < length self.now.entries) }
         ensures none { IfNone result (row_of self.now state.now ≡ None) }
     {
-        match self.rows.get_full(state) {
-            Some(found) => Some(found.0 as u64),
-            None => None,
-        }
+        self.rows.place_of(state)
     }
 
     /// The state of the first Opened row: that of the least key, and at one key that of the least state. None where no row is Opened.
@@ -153,7 +147,7 @@ impl Bundle {
         ensures answer { IfOk result (λ answer. answer ≡ offer_of (row_of self.old state) g) }
         ensures err { OnErr result (self.new ≡ self.old) }
     {
-        match self.row(&state).copied() {
+        match self.row(&state) {
             None => {
                 self.add(state, opened_row(g, estimate, parent, action))?;
                 Ok(Offer::New)
@@ -177,9 +171,10 @@ impl Bundle {
         ensures err { OnErr result (self.new ≡ self.old) }
     {
         let _ = self.len();
-        let found = self.at(place);
-        let state = *found.0;
-        let was = *found.1;
+        if self.rows.g_at(place) <= g {
+            return Ok(Offer::Worse);
+        }
+        let (state, was) = self.at(place);
         self.lower(state, &was, g, parent, action)
     }
 
@@ -220,8 +215,8 @@ impl Bundle {
         self.settle(state, Status::Cut);
     }
 
-    // Adds an Opened row for a state that has none. Room is taken in the map, then the state enters
-    // its bucket, then the map has its row: what may fail comes first.
+    // Adds an Opened row for a state that has none. Room is taken in the table, then the state enters
+    // its bucket, then the table has its row: what may fail comes first.
     fn add(&mut self, state: Packed, row: Row) -> Result<(), AllocError>
         requires absent { row_of self.old state ≡ None }
         requires opened { row.status ≡ Opened }
@@ -229,13 +224,12 @@ impl Bundle {
         ensures sets { OnOk result (SetsRow (row_of self.old) (row_of self.new) state row) }
         ensures err { OnErr result (self.new ≡ self.old) }
     {
-        let key = key_of(self.num, self.den, &row);
-        self.rows.reserve(1)?;
+        let key = key_of(self.num, self.den, row.g, &row.estimate);
+        self.rows.make_place(&state, &row)?;
+        self.rows.reserve()?;
         file(self.alloc, &mut self.opened, &key, state)?;
-        match self.rows.insert(state, row) {
-            Ok(_) => Ok(()),
-            Err(_) => unreachable!(),
-        }
+        self.rows.insert(state, row);
+        Ok(())
     }
 
     // Offers a state its row with this g, if that is lower.
@@ -269,15 +263,12 @@ impl Bundle {
         ensures sets { OnOk result (SetsRow (row_of self.old) (row_of self.new) state row) }
         ensures err { OnErr result (self.new ≡ self.old) }
     {
-        let key = key_of(self.num, self.den, &row);
+        let key = key_of(self.num, self.den, row.g, &row.estimate);
+        self.rows.make_place(&state, &row)?;
         file(self.alloc, &mut self.opened, &key, state)?;
-        match self.rows.insert(state, row) {
-            Ok(_) => {
-                tidy(&mut self.opened, &self.rows, self.num, self.den);
-                Ok(())
-            }
-            Err(_) => unreachable!(),
-        }
+        self.rows.insert(state, row);
+        tidy(&mut self.opened, &self.rows, self.num, self.den);
+        Ok(())
     }
 
     // Gives an Opened row another status.
@@ -288,20 +279,8 @@ impl Bundle {
         ensures sets { SetsStatus (row_of self.old) (row_of self.new) state.now status }
         ensures weight { self.new.weight ≡ self.old.weight }
     {
-        set_status(&mut self.rows, state, status);
+        self.rows.set_status(state, status);
         tidy_after(&mut self.opened, &self.rows, self.num, self.den, state);
-    }
-}
-
-// Writes the status of a state's row, by one look-up.
-fn set_status(rows: &mut IndexMap<Packed, Row>, state: &Packed, status: Status)
-    requires found { IsSome (row_in rows.old.entries state.now) }
-    ensures entries { (row : _) → row_in rows.old.entries state.now ≡ Some row → rows.new.entries ≡ insert_entry nat_eq rows.old.entries state.now (record row { status = status }) }
-    ensures updates { (row : _) → row_in rows.old.entries state.now ≡ Some row → (other : _) → row_in rows.new.entries other ≡ (if nat_eq state.now other then Some (record row { status = status }) else row_in rows.old.entries other) }
-{
-    match rows.get_mut(state) {
-        Some(row) => row.status = status,
-        None => unreachable!(),
     }
 }
 

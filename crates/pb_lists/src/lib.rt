@@ -5,6 +5,9 @@ mod bucket;
 mod buckets;
 mod bundle;
 mod laws;
+mod rows;
+mod small_row;
+mod word;
 
 pub use bundle::{Bundle, Offer};
 pub use laws::{entries_are_rows, keys_are_ordered};

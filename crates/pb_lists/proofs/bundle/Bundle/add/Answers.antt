@@ -1,4 +1,4 @@
-use Rattle.std.proofs.Common.{◌≡◌, None, sym, subst}
+use Rattle.std.proofs.Common.{◌≡◌, ◌∙◌, None, sym, subst}
 use Rattle.pb_lists.specs.Bundle.{row_in}
 use Rattle.pb_lists.specs.Fields.{weight_of}
 use Rattle.pb_lists.specs.Buckets.{AreFields, HasFiled, IsTidy}
@@ -8,7 +8,7 @@ use Rattle.pb_lists.proofs.bundle.Bundle.add.Goals as goal
 pub invariant_of-self-in_err-file : goal.invariant_of-self-in_err-file
 invariant_of-self-in_err-file c =
     let weight = weight_of c.self.inside.num c.self.inside.den in
-    subst (λ entries. AreFields weight entries c.file.new.buckets) (sym c.reserve.ensures.entries) (record {
+    subst (λ entries. AreFields weight entries c.file.new.buckets) (sym (c.reserve.ensures.entries ∙ c.make_place.ensures.entries)) (record {
       filed = kept_filed weight c.self.inside.rows.entries c.self.inside.opened c.file.new.buckets c.file.ensures.kept c.self.invariant.filed;
       heaps = c.file.ensures.heaps c.self.invariant.heaps;
       tidy = c.in_err-file.ensures.err weight c.self.inside.rows.entries c.self.invariant.tidy;
@@ -20,8 +20,8 @@ invariant_of-self-2 c =
     let weight = weight_of c.self.inside.num c.self.inside.den in
     let rows = c.reserve.new.self.entries in
     let after = c.insert.new.self.entries in
-    let sets = c.in-Ok.ensures.updates.0 in
-    let same = sym c.reserve.ensures.entries in
+    let sets = c.insert.ensures.updates in
+    let same = sym (c.reserve.ensures.entries ∙ c.make_place.ensures.entries) in
     let none = rw (← c.self.view_is) at c.requires.absent in
     let absent = subst (λ entries. row_in entries c.args.state ≡ None) same none in
     let filed = subst (λ entries. HasFiled weight entries c.self.inside.opened) same c.self.invariant.filed in

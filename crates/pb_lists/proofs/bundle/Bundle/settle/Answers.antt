@@ -8,7 +8,7 @@ invariant_of-self c =
     let opened = rw (← c.self.view_is) at c.requires.opened in
     record {
       filed = c.tidy_after.ensures.filed
-          (settled_filed (weight_of c.self.inside.num c.self.inside.den) c.self.inside.rows.entries c.set_status.new.rows.entries c.args.state.now _
+          (settled_filed (weight_of c.self.inside.num c.self.inside.den) c.self.inside.rows.entries c.set_status.new.self.entries c.args.state.now _
           (c.set_status.ensures.updates opened.0 opened.1) c.self.inside.opened c.requires.settled c.self.invariant.filed);
       heaps = c.tidy_after.ensures.heaps;
       tidy = c.tidy_after.ensures.tidy;
@@ -19,10 +19,10 @@ pub returns-clause-sets : goal.returns-clause-sets
 returns-clause-sets c =
     let opened = rw (← c.self.view_is) at c.requires.opened in
     rw (← c.self.view_is)
-    (status_sets c.self.inside.rows.entries c.set_status.new.rows.entries c.args.state.now opened.0 c.args.status opened.1 (c.set_status.ensures.updates opened.0 opened.1))
+    (status_sets c.self.inside.rows.entries c.set_status.new.self.entries c.args.state.now opened.0 c.args.status opened.1 (c.set_status.ensures.updates opened.0 opened.1))
 
 pub tidy_after-requires-clause-tidy : goal.tidy_after-requires-clause-tidy
 tidy_after-requires-clause-tidy c =
     let opened = rw (← c.self.view_is) at c.requires.opened in
-    tidy_other (weight_of c.self.inside.num c.self.inside.den) c.self.inside.rows.entries c.set_status.new.rows.entries c.args.state.now _
+    tidy_other (weight_of c.self.inside.num c.self.inside.den) c.self.inside.rows.entries c.set_status.new.self.entries c.args.state.now _
     (c.set_status.ensures.updates opened.0 opened.1) c.self.inside.opened.entries c.self.invariant.tidy
