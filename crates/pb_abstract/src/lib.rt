@@ -18,7 +18,6 @@ mod placing;
 mod projection;
 mod scopes;
 mod squares;
-mod steps;
 mod tiles;
 mod tracked;
 mod tracking;

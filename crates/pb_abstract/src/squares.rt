@@ -7,9 +7,8 @@ ghost use Rattle.pb_abstract.specs.Borders.{border_cell, are_joined, crosses, be
 ghost use Rattle.pb_abstract.specs.Graph.{has};
 
 use crate::lists::{BlockList, scope_of};
-use crate::steps::cell_beside;
 use pb_packed::Packed;
-use pb_task::{Class, GridParts};
+use pb_task::{GridParts, are_connected, cell_beside};
 use std::alloc::{AllocError, Global};
 
 // How many bits of a state hold its two coordinates.
@@ -51,16 +50,6 @@ pub fn square(grid: &GridParts, side: u32, columns: u32, state: &Packed) -> u32
     let word = state.bits(0, BITS) as u32;
     let (x, y) = (word % SIDE, word / SIDE);
     (y / side) * columns + x / side
-}
-
-// Whether a cell of the one class can be left for one of the other that lies beside it.
-fn are_connected(from: Class, to: Class) -> bool
-    ensures { result ≡ are_connected from to }
-{
-    match (from, to) {
-        (Class::Land, Class::Land) | (Class::Water, Class::Water) => true,
-        _ => false,
-    }
 }
 
 // Whether a cell can be left in the action's direction.

@@ -7,7 +7,6 @@ use crate::lists::{BlockList, scope_of};
 use crate::numbers::{placing_at, placing_count, placing_number};
 use crate::placing::Placing;
 use crate::projection::Projection;
-use crate::steps::cell_beside;
 use pb_packed::Packed;
 use pb_task::TilesParts;
 use std::alloc::{AllocError, Global};
@@ -17,21 +16,6 @@ const BITS: u32 = 4;
 
 // How many numbers a state can have in a cell.
 const NUMBERS: usize = 16;
-
-// The cell beside a cell in an action's direction, where the board has one.
-fn neighbour(tiles: &TilesParts, cell: u32, action: u32) -> Option<u32>
-    requires tiles { IsTiles tiles.now }
-    requires cell { cell < 16 }
-    ensures cell { result ≡ neighbour tiles.now.rows tiles.now.cols cell action }
-    ensures within { IfSome result (λ to. to < cell_count tiles.now) }
-{
-    let (x, y) = cell_beside(cell % tiles.cols, cell / tiles.cols, action)?;
-    if x < tiles.cols && y < tiles.rows {
-        Some(y * tiles.cols + x)
-    } else {
-        None
-    }
-}
 
 // The cell of a tile after the blank moved: that of the blank before, where the two met.
 fn tile_after(blank: u32, to: u32, tile: u32) -> u32
@@ -62,7 +46,7 @@ fn beyond(
     requires placing { IsPlacing (cell_count tiles.now) placing.now }
     ensures { result ≡ number_after (cell_count tiles.now) projection.now placing.now (neighbour tiles.now.rows tiles.now.cols placing.now.blank action) }
 {
-    let to = neighbour(tiles, placing.blank, action)?;
+    let to = tiles.neighbour(placing.blank, action)?;
     let after = placing_after(placing, to);
     Some(placing_number(tiles.rows * tiles.cols, *projection, &after))
 }

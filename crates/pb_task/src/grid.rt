@@ -1,4 +1,4 @@
-ghost use Rattle.std.specs.Prelude.{◌≡◌, ◌≢◌, ◌+◌, ◌*◌, ◌<◌, ◌≤◌, ◌^◌, vec_capacity};
+ghost use Rattle.std.specs.Prelude.{◌≡◌, ◌≢◌, ◌+◌, ◌*◌, ◌<◌, ◌≤◌, ◌^◌, vec_capacity, IfSome};
 ghost use Rattle.pb_packed.specs.Bits.{bits_of};
 ghost use Rattle.pb_model.specs.Space.{steps};
 ghost use Rattle.pb_task.specs.Grid.{class_at, is_swamp, entry_cost, cell_state, class_of_state, is_passable, are_connected, cell_beside, step_to, grid_step, grid_space, direction};
@@ -109,8 +109,8 @@ pub fn is_passable(class: Class) -> bool
     }
 }
 
-// Whether a cell of the one class can be left for one of the other that lies beside it.
-fn are_connected(from: Class, to: Class) -> bool
+/// Whether a cell of the one class can be left for one of the other that lies beside it.
+pub fn are_connected(from: Class, to: Class) -> bool
     ensures { result ≡ are_connected from to }
 {
     match (from, to) {
@@ -119,11 +119,12 @@ fn are_connected(from: Class, to: Class) -> bool
     }
 }
 
-/// The cell beside a cell in the action's direction, be it on the map or not.
+/// The cell beside that in a column and a row in the action's direction, be it on the map or not: 0 is up, 1 down, 2 left, 3 right.
 pub fn cell_beside(x: u32, y: u32, action: u32) -> Option<(u32, u32)>
-    requires x { x < 2048 }
-    requires y { y < 2048 }
-    ensures { result ≡ cell_beside x y action }
+    requires x { x < 2 ^ 24 }
+    requires y { y < 2 ^ 24 }
+    ensures cell { result ≡ cell_beside x y action }
+    ensures near { IfSome result (λ cell. (cell.0 ≤ x + 1) × (cell.1 ≤ y + 1)) }
 {
     match action {
         0 if 0 < y => Some((x, y - 1)),

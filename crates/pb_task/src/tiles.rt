@@ -1,6 +1,6 @@
-ghost use Rattle.std.specs.Prelude.{◌≡◌, ◌+◌, ◌*◌, ◌/◌, ◌%◌, ◌<◌, ◌≤◌, ◌^◌, ◌==◌, true, IsTrue, Some, length, take, swap, nat_lt, vec_capacity};
+ghost use Rattle.std.specs.Prelude.{◌≡◌, ◌+◌, ◌*◌, ◌/◌, ◌%◌, ◌<◌, ◌≤◌, ◌^◌, ◌==◌, true, IsTrue, IfSome, Some, length, take, swap, nat_lt, vec_capacity};
 ghost use Rattle.std.specs.List.{list_all};
-ghost use Rattle.pb_task.specs.Tiles.{IsTiles, cell_count, are_distinct, is_board, board_state, board_of, is_board_state, cell_on, blank_of, slide_on, tiles_step, tiles_space};
+ghost use Rattle.pb_task.specs.Tiles.{IsTiles, cell_count, are_distinct, is_board, board_state, board_of, is_board_state, cell_on, neighbour, blank_of, slide_on, tiles_step, tiles_space};
 ghost use Rattle.pb_task.specs.Grid.{cell_beside};
 ghost use Rattle.pb_model.specs.Space.{steps};
 
@@ -95,6 +95,18 @@ fn neighbour(tiles: &TilesParts, column: u32, row: u32, action: u32) -> Option<u
         Some(y * tiles.cols + x)
     } else {
         None
+    }
+}
+
+impl TilesParts {
+    /// The cell beside a cell in an action's direction, if the board has one. Cells are numbered row by row from 0.
+    pub fn neighbour(&self, cell: u32, action: u32) -> Option<u32>
+        requires tiles { IsTiles self.now }
+        requires cell { cell < 16 }
+        ensures cell { result ≡ neighbour self.now.rows self.now.cols cell action }
+        ensures within { IfSome result (λ to. to < cell_count self.now) }
+    {
+        neighbour(self, cell % self.cols, cell / self.cols, action)
     }
 }
 
