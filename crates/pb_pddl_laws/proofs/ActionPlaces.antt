@@ -1,5 +1,5 @@
 -- Parts of an action and actions: where their reading stops.
-use Rattle.std.proofs.Common.{◌≡◌, ℕ, Bool, true, false, not, ◌&&◌, ◌||◌, List, [], ◌∷◌, ◌++◌, Ok, Err, refl, sym, ap, ◌∙◌, inl, inr}
+use Rattle.std.proofs.Common.{◌≡◌, ℕ, Bool, true, false, not, ◌&&◌, ◌||◌, List, [], ◌∷◌, ◌++◌, Ok, Err, refl, sym, ap, ◌∙◌, inl, inr, true≢false}
 use Rattle.std.specs.Prelude.{codes, Some, is_some, if◌then◌else◌}
 use Rattle.std.specs.Str.{bytes_eq}
 use Rattle.pb_pddl.specs.declared.token.TokenKind.TheVariants as kinds
@@ -30,12 +30,9 @@ use Rattle.pb_pddl_laws.proofs.Keys.{as_key}
 use Rattle.pb_pddl_laws.proofs.Rooms.{any_cond, any_effect}
 use Rattle.pb_pddl_laws.proofs.PartKeys.{part_key_refused, part_which}
 
-true_false : true ≡ false → ⊥
-true_false e = cc
-
 or_first_of : (a b : Bool) → b ≡ false → a || b ≡ true → a ≡ true
 or_first_of true b none e = refl
-or_first_of false b none e = absurd (true_false (sym e ∙ none))
+or_first_of false b none e = absurd (true≢false (sym e ∙ none))
 
 key_close : same_kind kinds.Key kinds.Close ≡ false
 unfolding same_kind kind_number

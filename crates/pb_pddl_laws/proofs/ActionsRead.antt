@@ -118,15 +118,6 @@ part_sound s ts now rest m e = (
   ],
 )
 
-pre_not_params : bytes_eq (codes ":precondition") (codes ":parameters") ≡ false
-pre_not_params = refl
-
-effect_not_params : bytes_eq (codes ":effect") (codes ":parameters") ≡ false
-effect_not_params = refl
-
-effect_not_pre : bytes_eq (codes ":effect") (codes ":precondition") ≡ false
-effect_not_pre = refl
-
 pub part_complete : IsComplete begins_key (part_at unlimited) IsPart
 unfolding begins_key part_at params_part pre_part effect_part unlimited
 part_complete s ts now rest (first, cases) =
@@ -145,7 +136,7 @@ part_complete s ts now rest (first, cases) =
           let w = says_spells kinds.Key (codes ":precondition") ts first says in
           let c = cond_complete true (length first) [] first pre rest cond_here in (
             says_key (codes ":precondition") ts first says,
-            if_false (spells kinds.Key (codes ":parameters") ts) _ _ (other_word kinds.Key (codes ":precondition") (codes ":parameters") ts first pre_not_params says)
+            if_false (spells kinds.Key (codes ":parameters") ts) _ _ (other_word kinds.Key (codes ":precondition") (codes ":parameters") ts first refl says)
                 ∙ if_true (spells kinds.Key (codes ":precondition") ts) _ _ w.0 ∙ if_false (is_some s.pre) _ _ (none_is s.pre none)
                 ∙ bind_again (cond_at true (length (drop 1 ts)) [] (drop 1 ts)) _ (pre, rest) _ (ap (λ (us : List Token). cond_at true (length us) [] us) w.1 ∙ c.1) (ap (λ (x : ActionParts). Ok (x, rest)) (sym is)),
             omega (arith, w.2, c.2),
@@ -154,8 +145,8 @@ part_complete s ts now rest (first, cases) =
           let w = says_spells kinds.Key (codes ":effect") ts first says in
           let c = effect_complete (length first) no_effects first effect rest effect_here in (
             says_key (codes ":effect") ts first says,
-            if_false (spells kinds.Key (codes ":parameters") ts) _ _ (other_word kinds.Key (codes ":effect") (codes ":parameters") ts first effect_not_params says)
-                ∙ if_false (spells kinds.Key (codes ":precondition") ts) _ _ (other_word kinds.Key (codes ":effect") (codes ":precondition") ts first effect_not_pre says)
+            if_false (spells kinds.Key (codes ":parameters") ts) _ _ (other_word kinds.Key (codes ":effect") (codes ":parameters") ts first refl says)
+                ∙ if_false (spells kinds.Key (codes ":precondition") ts) _ _ (other_word kinds.Key (codes ":effect") (codes ":precondition") ts first refl says)
                 ∙ if_true (spells kinds.Key (codes ":effect") ts) _ _ w.0 ∙ if_false (is_some s.effect) _ _ (none_is s.effect none)
                 ∙ bind_again (effect_at (length (drop 1 ts)) no_effects (drop 1 ts)) _ (effect, rest) _ (ap (λ (us : List Token). effect_at (length us) no_effects us) w.1 ∙ c.1) (ap (λ (x : ActionParts). Ok (x, rest)) (sym is)),
             omega (arith, w.2, c.2),

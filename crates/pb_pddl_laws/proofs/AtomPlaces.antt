@@ -1,5 +1,5 @@
 -- Atoms: where their reading stops.
-use Rattle.std.proofs.Common.{◌≡◌, ℕ, Bool, true, false, ◌&&◌, ◌||◌, List, [], ◌∷◌, ◌++◌, Ok, Err, refl, sym, ap, ◌∙◌, cond}
+use Rattle.std.proofs.Common.{◌≡◌, ℕ, Bool, true, false, ◌&&◌, ◌||◌, List, [], ◌∷◌, ◌++◌, Ok, Err, refl, sym, ap, ◌∙◌, cond, true≢false}
 use Rattle.pb_pddl.specs.declared.token.TokenKind.TheVariants as kinds
 use Rattle.pb_pddl.specs.declared.token.Token.{Token}
 use Rattle.pb_pddl.specs.declared.tree.Name.{Name}
@@ -18,9 +18,6 @@ use Rattle.pb_pddl_laws.proofs.Closing.{takes_piece, can_closed, reads_closed, d
 use Rattle.pb_pddl_laws.specs.Table
 use Rattle.pb_pddl_laws.specs.Table.{Symbol, after}
 use Rattle.pb_pddl_laws.proofs.Following.{Does, nothing, does_same, does_done, does_as}
-
-true_false : true ≡ false → ⊥
-true_false e = cc
 
 module _ (variables : Bool) where
   abbrev is_term : Token → Bool
@@ -47,7 +44,7 @@ module _ (variables : Bool) where
   term_fits t v e = ap (λ b. b || same_kind t.kind kinds.Close) e
 
   term_refused : (s : List Term) (t : Token) (us : List Token) → is_term t ≡ true → fits (Places.MoreTerms variables) t ≡ false → add_term s (t ∷ us) ≡ Err (refused (Places.MoreTerms variables) t)
-  term_refused s t us e misfit = absurd (true_false (sym (term_fits t true e) ∙ misfit))
+  term_refused s t us e misfit = absurd (true≢false (sym (term_fits t true e) ∙ misfit))
 
   term_last : (s : List Term) (t : Token) → is_term t ≡ false → fits (Places.MoreTerms variables) t ≡ same_kind t.kind kinds.Close
   term_last s t e = term_fits t false e

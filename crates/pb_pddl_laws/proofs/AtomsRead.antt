@@ -12,9 +12,6 @@ use Rattle.pb_pddl.specs.Grammar.{Takes, Many, IsTerm, IsHead, IsAtom}
 use Rattle.pb_pddl_laws.proofs.Singles.{ok_pair, close_token, word_token, variable_token, bind_ok, bind_again, guard_ok, begins_takes, takes_begins, takes_less, need_takes, takes_need}
 use Rattle.pb_pddl_laws.proofs.ManyRead.{IsSound, IsComplete, all_sound, all_complete, steps_less}
 
-true_false : true ≡ false → ⊥
-true_false e = cc
-
 pub or_cases : (a b : Bool) → a || b ≡ true → (a ≡ true) ⊎ ((a ≡ false) × (b ≡ true))
 or_cases true b e = inl refl
 or_cases false b e = inr (refl, e)

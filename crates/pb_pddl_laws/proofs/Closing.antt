@@ -1,5 +1,5 @@
 -- Loops over pieces that end with a ).
-use Rattle.std.proofs.Common.{◌≡◌, ℕ, ◌<◌, Bool, true, false, ◌||◌, List, [], ◌∷◌, Result, Ok, Err, refl, sym, ap, ◌∙◌, arith, cond, ◌++◌}
+use Rattle.std.proofs.Common.{◌≡◌, ℕ, ◌<◌, Bool, true, false, ◌||◌, List, [], ◌∷◌, Result, Ok, Err, refl, sym, ap, ◌∙◌, arith, cond, ◌++◌, true≢false}
 use Rattle.pb_pddl.specs.declared.token.TokenKind.TheVariants as kinds
 use Rattle.pb_pddl.specs.declared.token.Token.{Token}
 use Rattle.pb_pddl.specs.declared.error.SyntaxError.{SyntaxError}
@@ -14,9 +14,6 @@ use Rattle.pb_pddl_laws.proofs.Loops.{Takes, all_stop, loop, reads_loop}
 use Rattle.pb_pddl_laws.proofs.Refusals.{plain, need_misfit, need_fit}
 use Rattle.pb_pddl_laws.specs.Table.{Symbol, after}
 use Rattle.pb_pddl_laws.proofs.Following.{Does, SamePlace, nothing, does_same, does_done, does_as, does_more, does_loop}
-
-true_false : true ≡ false → ⊥
-true_false e = cc
 
 pub or_none : (a b : Bool) → a || b ≡ false → (a ≡ false) × (b ≡ false)
 or_none true b e = absurd cc
@@ -104,7 +101,7 @@ module _ {S Y : Type 0} (step : S → List Token → Read S) (body : S → List 
   form_fits t e = ap (λ b. b || same_kind t.kind kinds.Close) e
 
   form_refused : (s : S) (t : Token) (us : List Token) → opens t ≡ true → fits Places.MoreForms t ≡ false → step s (t ∷ us) ≡ Err (refused Places.MoreForms t)
-  form_refused s t us goes misfit = absurd (true_false (sym (form_fits t goes) ∙ misfit))
+  form_refused s t us goes misfit = absurd (true≢false (sym (form_fits t goes) ∙ misfit))
 
   form_last : (s : S) (t : Token) → opens t ≡ false → fits Places.MoreForms t ≡ same_kind t.kind kinds.Close
   unfolding fits

@@ -1,5 +1,5 @@
 -- Conditions: what is read is what the grammar has, and the other way round.
-use Rattle.std.proofs.Common.{◌≡◌, ℕ, zero, suc, ◌<◌, ◌≤◌, Bool, true, false, cond, List, [], ◌∷◌, ◌++◌, length, drop, Ok, refl, sym, ap, subst, ◌∙◌, arith, ◌⊎◌, inl, inr}
+use Rattle.std.proofs.Common.{◌≡◌, ℕ, zero, suc, ◌<◌, ◌≤◌, Bool, true, false, cond, List, [], ◌∷◌, ◌++◌, length, drop, Ok, refl, sym, ap, subst, ◌∙◌, arith, ◌⊎◌, inl, inr, true≢false}
 use Rattle.std.specs.Prelude.{codes}
 use Rattle.pb_pddl.specs.declared.token.TokenKind.TheVariants as kinds
 use Rattle.pb_pddl.specs.declared.token.Token.{Token}
@@ -11,9 +11,6 @@ use Rattle.pb_pddl.specs.Grammar.{Takes, Many, IsAtom, IsCond}
 use Rattle.pb_pddl_laws.proofs.Singles.{ok_pair, bind_ok, bind_again, begins_takes, takes_begins, takes_less, need_takes, takes_need, open_token, close_token, word_token, spells_says, says_spells, takes_other, close_no_open, word_no_close}
 use Rattle.pb_pddl_laws.proofs.ManyRead.{IsSound, IsComplete, all_sound, all_complete, steps_less}
 use Rattle.pb_pddl_laws.proofs.AtomsRead.{atom_sound, atom_complete, atom_less}
-
-true_false : true ≡ false → ⊥
-true_false e = cc
 
 pub if_cases : {A : Type 0} (b : Bool) (x y z : A) → cond b x y ≡ z → ((b ≡ true) × (x ≡ z)) ⊎ ((b ≡ false) × (y ≡ z))
 if_cases true x y z e = inl (refl, e)
@@ -41,7 +38,7 @@ head_no_word variables text ts rest atom taken is =
           let b = takes_begins kinds.Word ts head.0 is.inside head.1 in
           let c = takes_begins kinds.Word ts said.0 (drop 1 ts) said.1 in
           let text_is : atom.predicate.text ≡ text = ap (λ (n : Name). n.text) head.2 ∙ ap (λ (x : Token). x.text) (sym b.1 ∙ c.1) ∙ said.2 in
-          absurd (true_false (sym taken ∙ ap is_reserved (sym text_is) ∙ is.head.1))
+          absurd (true≢false (sym taken ∙ ap is_reserved (sym text_is) ∙ is.head.1))
       | false ↦ λ e. e
     ] in
     cases s refl

@@ -16,7 +16,7 @@ use Rattle.pb_pddl.specs.Numbers.{is_number, number_of}
 use Rattle.pb_pddl.specs.Reading.{◌>>=◌, Read, kind_number, same_kind, front, begins, spells, is_reserved, no_token, refusal, fault_at, left_at, need, begins_reserved, only_word, total_cost_at, begins_number, number_at, cost_at, number_type, function_type, one_function, functions_at}
 use Rattle.pb_pddl.specs.Places
 use Rattle.pb_pddl.specs.Places.{Place, fits, is_kind, is_word, is_numeral, sample, takes_section, takes_part, first_fit, reserved_head, left_out, wanted, refused_token, refused}
-use Rattle.pb_pddl_laws.proofs.Singles.{kinds_same}
+use Rattle.pb_pddl_laws.proofs.Singles.{kinds_same, bind_bind, bind_failed}
 use Rattle.pb_pddl_laws.proofs.CondsRead.{if_true, if_false}
 use Rattle.pb_pddl_laws.proofs.Keys.{and_both}
 use Rattle.pb_pddl_laws.proofs.Readers.{Reads, Can, reads_done, can_done, reads_same, can_same, reads_then, can_then, reads_one, can_one}
@@ -26,13 +26,6 @@ use Rattle.pb_pddl_laws.proofs.ConditionPlaces.{can_either, reads_either, or_las
 use Rattle.pb_pddl_laws.specs.Table
 use Rattle.pb_pddl_laws.specs.Table.{Symbol, after, total_cost_then, cost_due}
 use Rattle.pb_pddl_laws.proofs.Following.{Does, nothing, does_same, does_done, does_as, does_either, does_then, does_more, does_one}
-
-bind_failed : {A B : Type 0} (r : Result A SyntaxError) (f : A → Result B SyntaxError) (e : SyntaxError) → r ≡ Err e → (r >>= f) ≡ Err e
-bind_failed r f e is = ap (λ q. q >>= f) is
-
-bind_bind : {A B C : Type 0} (r : Result A SyntaxError) (f : A → Result B SyntaxError) (g : B → Result C SyntaxError) → ((r >>= f) >>= g) ≡ (r >>= λ x. f x >>= g)
-bind_bind (Ok x) f g = refl
-bind_bind (Err e) f g = refl
 
 -- ---- what is left out
 

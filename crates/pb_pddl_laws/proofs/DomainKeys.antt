@@ -1,5 +1,5 @@
 -- The keywords of the sections of a domain.
-use Rattle.std.proofs.Common.{◌≡◌, ℕ, true, false, not, ◌&&◌, ◌||◌, List, ◌∷◌, Err, sym, ap, ◌∙◌, ◌⊎◌, inl, inr}
+use Rattle.std.proofs.Common.{◌≡◌, ℕ, true, false, not, ◌&&◌, ◌||◌, List, ◌∷◌, Err, sym, ap, ◌∙◌, ◌⊎◌, inl, inr, true≢false}
 use Rattle.std.specs.Prelude.{codes, is_some, if◌then◌else◌}
 use Rattle.std.specs.Str.{bytes_eq}
 use Rattle.pb_pddl.specs.declared.token.TokenKind.TheVariants as kinds
@@ -15,9 +15,6 @@ use Rattle.pb_pddl_laws.proofs.CondsRead.{if_true, if_false}
 use Rattle.pb_pddl_laws.proofs.Refusals.{told}
 use Rattle.pb_pddl_laws.proofs.Closing.{or_none}
 use Rattle.pb_pddl_laws.proofs.Keys.{as_key, no_text, not_free, free, or_either, decide, keyed}
-
-true_false : true ≡ false → ⊥
-true_false e = cc
 
 domain_once_0 : (s : DomainParts) (t : Token) (us : List Token) → is_key (codes ":requirements") t ≡ true → s.requirements ≡ true → domain_key unlimited s (t ∷ us) ≡ Err (refused (Places.ADomainSection s) t)
 unfolding domain_key requirements_section types_section constants_section predicates_section functions_section action_section spells begins front same_kind kind_number once refused refused_token left_out wanted
@@ -76,7 +73,7 @@ domain_key_refused s t us key misfit =
     let a3 = or_none (is_key (codes ":requirements") t && not s.requirements || is_key (codes ":types") t && not (is_some s.types) || is_key (codes ":constants") t && not (is_some s.constants)) (is_key (codes ":predicates") t && not (is_some s.predicates)) a4.0 in
     let a2 = or_none (is_key (codes ":requirements") t && not s.requirements || is_key (codes ":types") t && not (is_some s.types)) (is_key (codes ":constants") t && not (is_some s.constants)) a3.0 in
     let a1 = or_none (is_key (codes ":requirements") t && not s.requirements) (is_key (codes ":types") t && not (is_some s.types)) a2.0 in
-    decide (is_key (codes ":requirements") t) (λ e. domain_once_0 s t us e (not_free (is_key (codes ":requirements") t) (s.requirements) e (a1.0))) (λ n0. decide (is_key (codes ":types") t) (λ e. domain_once_1 s t us e (not_free (is_key (codes ":types") t) (is_some s.types) e (a1.1))) (λ n1. decide (is_key (codes ":constants") t) (λ e. domain_once_2 s t us e (not_free (is_key (codes ":constants") t) (is_some s.constants) e (a2.1))) (λ n2. decide (is_key (codes ":predicates") t) (λ e. domain_once_3 s t us e (not_free (is_key (codes ":predicates") t) (is_some s.predicates) e (a3.1))) (λ n3. decide (is_key (codes ":functions") t) (λ e. domain_once_4 s t us e (not_free (is_key (codes ":functions") t) (s.functions) e (a4.1))) (λ n4. decide (is_key (codes ":action") t) (λ e. absurd (true_false (sym e ∙ a5.1))) (λ n5. domain_none s t us key n0 n1 n2 n3 n4 n5))))))
+    decide (is_key (codes ":requirements") t) (λ e. domain_once_0 s t us e (not_free (is_key (codes ":requirements") t) (s.requirements) e (a1.0))) (λ n0. decide (is_key (codes ":types") t) (λ e. domain_once_1 s t us e (not_free (is_key (codes ":types") t) (is_some s.types) e (a1.1))) (λ n1. decide (is_key (codes ":constants") t) (λ e. domain_once_2 s t us e (not_free (is_key (codes ":constants") t) (is_some s.constants) e (a2.1))) (λ n2. decide (is_key (codes ":predicates") t) (λ e. domain_once_3 s t us e (not_free (is_key (codes ":predicates") t) (is_some s.predicates) e (a3.1))) (λ n3. decide (is_key (codes ":functions") t) (λ e. domain_once_4 s t us e (not_free (is_key (codes ":functions") t) (s.functions) e (a4.1))) (λ n4. decide (is_key (codes ":action") t) (λ e. absurd (true≢false (sym e ∙ a5.1))) (λ n5. domain_none s t us key n0 n1 n2 n3 n4 n5))))))
 
 pub domain_which : (s : DomainParts) (t : Token) → (is_key (codes ":requirements") t && not s.requirements || is_key (codes ":types") t && not (is_some s.types) || is_key (codes ":constants") t && not (is_some s.constants) || is_key (codes ":predicates") t && not (is_some s.predicates) || is_key (codes ":functions") t && not s.functions || is_key (codes ":action") t) ≡ true → ((is_key (codes ":requirements") t ≡ true) × (s.requirements ≡ false)) ⊎ ((is_key (codes ":types") t ≡ true) × (is_some s.types ≡ false)) ⊎ ((is_key (codes ":constants") t ≡ true) × (is_some s.constants ≡ false)) ⊎ ((is_key (codes ":predicates") t ≡ true) × (is_some s.predicates ≡ false)) ⊎ ((is_key (codes ":functions") t ≡ true) × (s.functions ≡ false)) ⊎ (is_key (codes ":action") t ≡ true)
 domain_which s t fit =

@@ -1,5 +1,5 @@
 -- Sections of a domain: where their reading stops.
-use Rattle.std.proofs.Common.{◌≡◌, ℕ, Bool, true, false, cond, not, ◌&&◌, ◌||◌, List, [], ◌∷◌, Result, Ok, Err, refl, sym, ap, ◌∙◌, inl, inr}
+use Rattle.std.proofs.Common.{◌≡◌, ℕ, Bool, true, false, cond, not, ◌&&◌, ◌||◌, List, [], ◌∷◌, Result, Ok, Err, refl, sym, ap, ◌∙◌, inl, inr, true≢false}
 use Rattle.std.specs.Prelude.{codes, Some, is_some, if◌then◌else◌}
 use Rattle.std.specs.Str.{bytes_eq}
 use Rattle.pb_pddl.specs.declared.token.TokenKind.TheVariants as kinds
@@ -27,9 +27,6 @@ use Rattle.pb_pddl_laws.proofs.PiecePlaces.{keys_then, can_predicates, reads_pre
 use Rattle.pb_pddl_laws.proofs.Keys.{as_key, decide}
 use Rattle.pb_pddl_laws.proofs.DomainKeys.{domain_key_refused, domain_which}
 use Rattle.pb_pddl_laws.proofs.ActionPlaces.{can_action, reads_action}
-
-true_false : true ≡ false → ⊥
-true_false e = cc
 
 abbrev pub domain_body_0 : DomainParts → List Token → Read DomainParts
 domain_body_0 s = keys_then (record { requirements = true; types = s.types; constants = s.constants; predicates = s.predicates; functions = s.functions; has_cost = s.has_cost; actions = s.actions })
@@ -176,7 +173,7 @@ no_key = refl
 
 domain_keyed : (s : DomainParts) (ts : List Token) → is_kind kinds.Key (front ts) ≡ true → fits (Places.ADomainSection s) (front ts) ≡ false → domain_key unlimited s ts ≡ Err (refused (Places.ADomainSection s) (front ts))
 unfolding front
-domain_keyed s [] key misfit = absurd (true_false (sym key ∙ no_key))
+domain_keyed s [] key misfit = absurd (true≢false (sym key ∙ no_key))
 domain_keyed s (t ∷ us) key misfit = domain_key_refused s t us key misfit
 
 pub domain_misfit : (s : DomainParts) (ts : List Token) → fits (Places.ADomainSection s) (front ts) ≡ false → domain_key unlimited s ts ≡ Err (refused (Places.ADomainSection s) (front ts))
@@ -185,7 +182,7 @@ domain_misfit s ts misfit = decide (is_kind kinds.Key (front ts)) (λ key. domai
 pub domain_is_key : (s : DomainParts) (t : Token) → fits (Places.ADomainSection s) t ≡ true → is_kind kinds.Key t ≡ true
 unfolding fits
 domain_is_key s t fit =
-    decide (is_kind kinds.Key t) (λ key. key) (λ other. absurd (true_false (sym fit ∙ ap (λ b. b && bytes_eq t.text (codes ":requirements") && not s.requirements || b && bytes_eq t.text (codes ":types") && not (is_some s.types) || b && bytes_eq t.text (codes ":constants") && not (is_some s.constants) || b && bytes_eq t.text (codes ":predicates") && not (is_some s.predicates) || b && bytes_eq t.text (codes ":functions") && not s.functions || b && bytes_eq t.text (codes ":action")) other)))
+    decide (is_kind kinds.Key t) (λ key. key) (λ other. absurd (true≢false (sym fit ∙ ap (λ b. b && bytes_eq t.text (codes ":requirements") && not s.requirements || b && bytes_eq t.text (codes ":types") && not (is_some s.types) || b && bytes_eq t.text (codes ":constants") && not (is_some s.constants) || b && bytes_eq t.text (codes ":predicates") && not (is_some s.predicates) || b && bytes_eq t.text (codes ":functions") && not s.functions || b && bytes_eq t.text (codes ":action")) other)))
 
 pub domain_take : (s : DomainParts) (t : Token) (us : List Token) → fits (Places.ADomainSection s) t ≡ true → domain_key unlimited s (t ∷ us) ≡ domain_key unlimited s (t ∷ us)
 domain_take s t us fit = refl

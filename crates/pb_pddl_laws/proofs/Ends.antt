@@ -1,5 +1,5 @@
 -- The table and the end of a text: nothing that is due but the end itself is an end.
-use Rattle.std.proofs.Common.{◌≡◌, ℕ, Bool, true, false, cond, List, [], ◌∷◌, ◌++◌, Option, Some, None, Result, Ok, Err, refl, sym, ap, ◌∙◌}
+use Rattle.std.proofs.Common.{◌≡◌, ℕ, Bool, true, false, cond, List, [], ◌∷◌, ◌++◌, Option, Some, None, Result, Ok, Err, refl, sym, ap, ◌∙◌, true≢false}
 use Rattle.pb_pddl.specs.declared.token.TokenKind.{TokenKind}
 use Rattle.pb_pddl.specs.declared.token.TokenKind.TheVariants as kinds
 use Rattle.pb_pddl.specs.declared.token.Token.{Token}
@@ -15,9 +15,6 @@ use Rattle.pb_pddl_laws.specs.Table.{Symbol, place_of, after, Leads, IsWhole, pl
 use Rattle.pb_pddl_laws.proofs.Singles.{kinds_same}
 use Rattle.pb_pddl_laws.proofs.Refusals.{told}
 use Rattle.pb_pddl_laws.proofs.Following.{misfit, misfit_stuck, misfit_goes, leads_misfit}
-
-true_false : true ≡ false → ⊥
-true_false e = cc
 
 abbrev none : Option SyntaxError
 none = None
@@ -202,4 +199,4 @@ only_end (s ∷ due) t e fit always is_end = at (after s t ++ due) (sym (misfit_
     at : (rest : List Symbol) → misfit rest [] ≡ Some e → ⊥
     at [] is = some_none e (sym is ∙ ap (λ b. cond b None (Some (refused Places.TheEnd (front [])))) end_is_end)
     at (next ∷ rest) is =
-        let unclosed : e ≡ errors.Unclosed 0 = sym (some_same (refused (place_of next) no_token) e is) ∙ none_unclosed (place_of next) in true_false (sym fit ∙ no_end_fits s t (is_end 0 unclosed))
+        let unclosed : e ≡ errors.Unclosed 0 = sym (some_same (refused (place_of next) no_token) e is) ∙ none_unclosed (place_of next) in true≢false (sym fit ∙ no_end_fits s t (is_end 0 unclosed))

@@ -1,5 +1,5 @@
 -- Whole forms: the first token that can't go on.
-use Rattle.std.proofs.Common.{◌≡◌, ℕ, Bool, true, false, cond, List, [], ◌∷◌, ◌++◌, length, Result, Ok, Err, refl, sym, ap, subst, ◌∙◌, arith, inl, inr, Some, None}
+use Rattle.std.proofs.Common.{◌≡◌, ℕ, Bool, true, false, cond, List, [], ◌∷◌, ◌++◌, length, Result, Ok, Err, refl, sym, ap, subst, ◌∙◌, arith, inl, inr, Some, None, true≢false}
 use Rattle.std.proofs.lemmas.List.{append_assoc}
 use Rattle.std.specs.Prelude.{codes}
 use Rattle.std.specs.Str.{bytes_eq}
@@ -31,9 +31,7 @@ use Rattle.pb_pddl_laws.proofs.Following.{Does, nothing, seen, misfit, leads_mis
 use Rattle.pb_pddl_laws.proofs.Ends.{outcome, outcome_err, outcome_ok, whole_of, whole_misfit, due_stuck, due_fits, leading, only_end, ends_not}
 use Rattle.pb_pddl_laws.proofs.DomainFollows.{does_domain_sections}
 use Rattle.pb_pddl_laws.proofs.ProblemFollows.{does_problem_sections}
-
-true_false : true ≡ false → ⊥
-true_false e = cc
+use Rattle.pb_pddl_laws.proofs.Singles.{bind_bind}
 
 abbrev failed : {X : Type 0} → SyntaxError → Result X SyntaxError
 failed e = Err e
@@ -153,7 +151,7 @@ module _ {X : Type 0} (body : List Token → Read X) (reads : (n : ℕ) → Read
           | kinds.Key ↦ λ e. refl
           | kinds.Deep ↦ λ e. refl
           | kinds.Byte ↦ λ e. refl
-          | kinds.End ↦ λ e. absurd (true_false e)
+          | kinds.End ↦ λ e. absurd (true≢false e)
         ] other
 
   fits_end : (t : Token) (us : List Token) → fits Places.TheEnd t ≡ true → is_kind kinds.End (front (t ∷ us)) ≡ true
@@ -287,10 +285,6 @@ domain_same = refl
 
 pub problem_same : bytes_eq (codes "problem") (codes "problem") ≡ true
 problem_same = refl
-
-bind_bind : {A B C : Type 0} (r : Result A SyntaxError) (f : A → Result B SyntaxError) (g : B → Result C SyntaxError) → ((r >>= f) >>= g) ≡ (r >>= λ x. f x >>= g)
-bind_bind (Ok x) f g = refl
-bind_bind (Err e) f g = refl
 
 bind_same : {A B : Type 0} (r : Result A SyntaxError) (f g : A → Result B SyntaxError) → ((x : A) → f x ≡ g x) → (r >>= f) ≡ (r >>= g)
 bind_same (Ok x) f g same = same x

@@ -1,5 +1,5 @@
 -- Reading beside the table: each reader tells what the table does not let stand.
-use Rattle.std.proofs.Common.{◌≡◌, ℕ, zero, suc, ◌+◌, ◌<◌, ◌≤◌, Bool, true, false, cond, List, [], ◌∷◌, ◌++◌, length, Option, Some, None, Result, Ok, Err, refl, sym, ap, ◌∙◌, arith}
+use Rattle.std.proofs.Common.{◌≡◌, ℕ, zero, suc, ◌+◌, ◌<◌, ◌≤◌, Bool, true, false, cond, List, [], ◌∷◌, ◌++◌, length, Option, Some, None, Result, Ok, Err, refl, sym, ap, ◌∙◌, arith, true≢false}
 use Rattle.std.proofs.lemmas.List.{append_assoc}
 use Rattle.std.proofs.Common.{length-append}
 use Rattle.pb_pddl.specs.declared.token.Token.{Token}
@@ -10,9 +10,7 @@ use Rattle.pb_pddl.specs.Places.{Place, fits, refused}
 use Rattle.pb_pddl_laws.specs.Table.{Symbol, place_of, after, Leads}
 use Rattle.pb_pddl_laws.proofs.Readers.{Reads, then_read}
 use Rattle.pb_pddl_laws.proofs.Loops.{Takes, loop, all_more, all_stop}
-
-true_false : true ≡ false → ⊥
-true_false e = cc
+use Rattle.pb_pddl_laws.proofs.Singles.{bind_bind}
 
 -- the error of the first token that does not fit, where this is due
 abbrev pub misfit : List Symbol → List Token → Option SyntaxError
@@ -125,17 +123,13 @@ module _ {X : Type 0} (f : List Token → Read X) (h : Token → List Token → 
       at : (due : List Symbol) (ts : List Token) → length ts ≤ n → (v : Bool) → fits place (front ts) ≡ v → seen rest due (f ts) ≡ misfit (s ∷ (symbols ++ due)) ts
       at due ts few false misfits =
           ap (seen rest due) (refuse ts misfits) ∙ sym (misfit_stuck s (symbols ++ due) ts ((is (front ts)).0 ∙ misfits) ∙ ap (λ (e : SyntaxError). Some e) (is (front ts)).1)
-      at due [] few true goes = absurd (true_false (sym goes ∙ ap (fits place) front_none ∙ no_end))
+      at due [] few true goes = absurd (true≢false (sym goes ∙ ap (fits place) front_none ∙ no_end))
       at due (t ∷ us) few true goes =
           let fit : fits place t ≡ true = sym (ap (fits place) (front_cons t us)) ∙ goes in
           ap (seen rest due) (take t us fit) ∙ d (length us) (omega (arith, few)) t fit due us (omega arith)
           ∙ ap (λ (x : List Symbol). misfit x us) (append_assoc (after s t) symbols due) ∙ sym (misfit_goes s (symbols ++ due) t us ((is t).0 ∙ fit))
 
 -- ---- loops
-
-bind_bind : {A B C : Type 0} (r : Result A SyntaxError) (f : A → Result B SyntaxError) (g : B → Result C SyntaxError) → ((r >>= f) >>= g) ≡ (r >>= λ x. f x >>= g)
-bind_bind (Ok x) f g = refl
-bind_bind (Err e) f g = refl
 
 module _ {S Y : Type 0} (more : List Token → Bool) (step : S → List Token → Read S) (ends : S → List Token → Read Y) (test : Token → Bool) (place : S → Place)
     (more_is : (ts : List Token) → more ts ≡ test (front ts)) (none : more [] ≡ false) (takes : Takes more step)
@@ -152,7 +146,7 @@ module _ {S Y : Type 0} (more : List Token → Bool) (step : S → List Token �
 
   refuse_more : (s : S) (ts : List Token) → more ts ≡ true → fits (place s) (front ts) ≡ false → loop more step ends s ts ≡ Err (refused (place s) (front ts))
   unfolding front
-  refuse_more s [] goes misfits = absurd (true_false (sym goes ∙ none))
+  refuse_more s [] goes misfits = absurd (true≢false (sym goes ∙ none))
   refuse_more s (t ∷ us) goes misfits = loop_more s (t ∷ us) goes ∙ ap (λ r. r >>= λ next. loop more step ends next.0 next.1) (refuse_step s t us (sym (more_is (t ∷ us)) ∙ goes) misfits)
 
   refuse_loop : (s : S) (ts : List Token) (v : Bool) → more ts ≡ v → fits (place s) (front ts) ≡ false → loop more step ends s ts ≡ Err (refused (place s) (front ts))
@@ -181,7 +175,7 @@ module _ {S Y : Type 0} (more : List Token → Bool) (step : S → List Token �
       at : (due : List Symbol) (ts : List Token) → length ts ≤ n → (v : Bool) → fits (place s) (front ts) ≡ v → seen rest due (loop more step ends s ts) ≡ misfit (symbol s ∷ due) ts
       at due ts few false misfits =
           ap (seen rest due) (refuse_loop s ts (more ts) refl misfits) ∙ sym (misfit_stuck (symbol s) due ts ((is s (front ts)).0 ∙ misfits) ∙ ap (λ (e : SyntaxError). Some e) (is s (front ts)).1)
-      at due [] few true goes = absurd (true_false (sym goes ∙ ap (fits (place s)) front_none ∙ no_end s))
+      at due [] few true goes = absurd (true≢false (sym goes ∙ ap (fits (place s)) front_none ∙ no_end s))
       at due (t ∷ us) few true goes =
           let fit : fits (place s) t ≡ true = sym (ap (fits (place s)) (front_cons t us)) ∙ goes in
           behind due t us few fit (test t) refl ∙ sym (misfit_goes (symbol s) due t us ((is s t).0 ∙ fit))

@@ -1,5 +1,5 @@
 -- Keywords: which one a token is.
-use Rattle.std.proofs.Common.{◌≡◌, ℕ, Bool, true, false, not, ◌&&◌, ◌||◌, List, refl, sym, ap, ◌∙◌, ◌⊎◌, inl, inr}
+use Rattle.std.proofs.Common.{◌≡◌, ℕ, Bool, true, false, not, ◌&&◌, ◌||◌, List, refl, sym, ap, ◌∙◌, ◌⊎◌, inl, inr, true≢false}
 use Rattle.std.specs.Str.{bytes_eq}
 use Rattle.pb_pddl.specs.declared.token.TokenKind.{TokenKind}
 use Rattle.pb_pddl.specs.declared.token.TokenKind.TheVariants as kinds
@@ -10,9 +10,6 @@ use Rattle.pb_pddl.specs.Reading.{same_kind}
 use Rattle.pb_pddl.specs.Places.{is_kind, is_key}
 use Rattle.pb_pddl_laws.proofs.Singles.{kinds_same}
 use Rattle.std.proofs.lemmas.Slice.Eq.{bytes_eq-Decides}
-
-true_false : true ≡ false → ⊥
-true_false e = cc
 
 -- a token that is this keyword
 abbrev pub key_token : List ℕ → Token → Token
@@ -33,10 +30,10 @@ no_text text t key e = ap (λ b. b && bytes_eq t.text text) (sym key) ∙ e
 
 pub not_free : (a b : Bool) → a ≡ true → a && not b ≡ false → b ≡ true
 not_free a true e f = refl
-not_free a false e f = absurd (true_false (sym (ap (λ c. c && true) e) ∙ f))
+not_free a false e f = absurd (true≢false (sym (ap (λ c. c && true) e) ∙ f))
 
 pub free : (a b : Bool) → a && not b ≡ true → (a ≡ true) × (b ≡ false)
-free a true e = absurd (true_false (sym (and_both a false e).1))
+free a true e = absurd (true≢false (sym (and_both a false e).1))
 free a false e = ((and_both a true e).0, refl)
 
 pub or_either : (a b : Bool) → a || b ≡ true → (a ≡ true) ⊎ (b ≡ true)

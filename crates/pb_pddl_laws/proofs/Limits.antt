@@ -1,5 +1,5 @@
 -- In the tokens of a text, the limit on nested parentheses never decides: what is read within it is what is read without.
-use Rattle.std.proofs.Common.{◌≡◌, ℕ, Bool, true, false, cond, List, [], ◌∷◌, ◌++◌, length, drop, Result, Ok, Err, refl, sym, ap, subst, ◌∙◌, arith, inl, inr}
+use Rattle.std.proofs.Common.{◌≡◌, ℕ, Bool, true, false, cond, List, [], ◌∷◌, ◌++◌, length, drop, Result, Ok, Err, refl, sym, ap, subst, ◌∙◌, arith, inl, inr, true≢false}
 use Rattle.std.specs.Prelude.{codes, Some, is_some}
 use Rattle.pb_pddl.specs.declared.token.TokenKind.TheVariants as kinds
 use Rattle.pb_pddl.specs.declared.token.Token.{Token}
@@ -27,9 +27,6 @@ use Rattle.pb_pddl_laws.proofs.ProblemPlaces
 use Rattle.pb_pddl_laws.proofs.Nesting.{Shallow, text_shallow, shallow_behind, takes_shallow, all_agree}
 use Rattle.pb_pddl_laws.proofs.Rooms.{cond_agree, effect_agree}
 use Rattle.pb_pddl_laws.proofs.Faults.{reads_title, domain_same, problem_same}
-
-true_false : true ≡ false → ⊥
-true_false e = cc
 
 abbrev failed : {X : Type 0} → SyntaxError → Result X SyntaxError
 failed e = Err e
@@ -88,7 +85,7 @@ part_same s ts is =
     (cond (spells kinds.Key (codes ":effect") ts) (cond (is_some s.effect) (Err (once ts)) (r >>= λ all. Ok (record { params = s.params; pre = s.pre; effect = Some all.0.literals; costs = all.0.costs }, all.1))) (Err (left_at left.Part ts))))) (effect_same (drop 1 ts) (drop_shallow ts is))
 
 part_keeps : (s : ActionParts) (ts : List Token) (now : ActionParts) (rest : List Token) → begins_key ts ≡ true → Shallow 0 ts → part_at unlimited s ts ≡ Ok (now, rest) → Shallow 0 rest
-part_keeps s [] now rest goes is e = absurd (true_false (sym goes ∙ no_key))
+part_keeps s [] now rest goes is e = absurd (true≢false (sym goes ∙ no_key))
 part_keeps s (t ∷ us) now rest goes is e =
     let key = is_key t us goes in
     decide (fits (Places.MoreParts s) t) (λ fit. rest_shallow (λ vs. part_at unlimited s (t ∷ vs)) us now rest (reads_part_key (length us) s t key fit) (drop_shallow (t ∷ us) is) e)
@@ -129,7 +126,7 @@ unfolding domain_section
 domain_section_same s ts is = then_agree (need kinds.Open wants.Paren ts) _ _ (λ inside e. domain_key_same s inside (inside_shallow ts inside e is))
 
 domain_keeps : (s : DomainParts) (ts : List Token) (now : DomainParts) (rest : List Token) → begins_open ts ≡ true → Shallow 0 ts → domain_section unlimited s ts ≡ Ok (now, rest) → Shallow 0 rest
-domain_keeps s [] now rest goes is e = absurd (true_false (sym goes ∙ no_open))
+domain_keeps s [] now rest goes is e = absurd (true≢false (sym goes ∙ no_open))
 domain_keeps s (t ∷ us) now rest goes is e =
     rest_shallow (domain_key unlimited s) us now rest (reads_domain_section (length us) s) (drop_shallow (t ∷ us) is) (sym (section_step s t us (is_open t us goes)) ∙ e)
 
@@ -166,7 +163,7 @@ problem_section_same s ts is =
     ap (λ (r : Read ProblemParts). cond (stood_all s) (Err (fault_at wants.Close ts)) r) (then_agree (need kinds.Open wants.Paren ts) _ _ (λ inside e. goal_same s inside (inside_shallow ts inside e is)))
 
 problem_keeps : (s : ProblemParts) (ts : List Token) (now : ProblemParts) (rest : List Token) → begins_open ts ≡ true → Shallow 0 ts → problem_section unlimited s ts ≡ Ok (now, rest) → Shallow 0 rest
-problem_keeps s [] now rest goes is e = absurd (true_false (sym goes ∙ no_open))
+problem_keeps s [] now rest goes is e = absurd (true≢false (sym goes ∙ no_open))
 problem_keeps s (t ∷ us) now rest goes is e =
     let opens = is_open t us goes in
     decide (fits (Places.MoreSections s) t)

@@ -1,5 +1,5 @@
 -- Lists of names with types: where their reading stops.
-use Rattle.std.proofs.Common.{◌≡◌, ℕ, Bool, true, false, cond, not, ◌&&◌, ◌||◌, ◌==◌, List, [], ◌∷◌, ◌++◌, length, Ok, Err, refl, sym, ap, ◌∙◌, suc, arith}
+use Rattle.std.proofs.Common.{◌≡◌, ℕ, Bool, true, false, cond, not, ◌&&◌, ◌||◌, ◌==◌, List, [], ◌∷◌, ◌++◌, length, Ok, Err, refl, sym, ap, ◌∙◌, suc, arith, true≢false}
 use Rattle.std.specs.Prelude.{Some, None, if◌then◌else◌}
 use Rattle.std.proofs.lemmas.Bool.Decides.{nat_tests}
 use Rattle.pb_pddl.specs.declared.token.TokenKind.{TokenKind}
@@ -27,9 +27,6 @@ use Rattle.pb_pddl_laws.proofs.ConditionPlaces.{can_either, reads_either, or_las
 use Rattle.pb_pddl_laws.specs.Table
 use Rattle.pb_pddl_laws.specs.Table.{Symbol, after}
 use Rattle.pb_pddl_laws.proofs.Following.{Does, SamePlace, nothing, does_same, does_done, does_as, does_either, does_then, does_more, does_one}
-
-true_false : true ≡ false → ⊥
-true_false e = cc
 
 -- ---- the type behind a -
 
@@ -136,7 +133,7 @@ module _ (kind : TokenKind) (want : Want) (some : same_kind kinds.End kind ≡ f
       ∙ ap (λ (e : SyntaxError). Err e) (sym (group_refused t dash) ∙ ap (λ b. refused (Places.MoreNames kind (not b)) t) (sym none_waits)) where
         not_waits : (a b : Bool) → b ≡ true → not a && b ≡ false → a ≡ true
         not_waits true b holds e = refl
-        not_waits false b holds e = absurd (true_false (sym holds ∙ e))
+        not_waits false b holds e = absurd (true≢false (sym holds ∙ e))
 
   part_last : (g : Group) (t : Token) → is_part t ≡ false → fits (Places.MoreNames kind (waits g)) t ≡ same_kind t.kind kinds.Close
   unfolding fits
@@ -171,7 +168,7 @@ module _ (kind : TokenKind) (want : Want) (some : same_kind kinds.End kind ≡ f
       let no_end : is_kind kinds.Close t ≡ false = ap (λ k. same_kind k kinds.Close) (kinds_same t.kind kinds.Dash dash) ∙ dash_close in
       some_waits (length g.waiting == 0) (is_kind kinds.Dash t) (is_kind kinds.Close t) no_end (ap (λ b. b || not (length g.waiting == 0) && is_kind kinds.Dash t || is_kind kinds.Close t) (sym none) ∙ fit) where
         some_waits : (a b c : Bool) → c ≡ false → false || not a && b || c ≡ true → a ≡ false
-        some_waits true b c e is = absurd (true_false (sym is ∙ e))
+        some_waits true b c e is = absurd (true≢false (sym is ∙ e))
         some_waits false b c e is = refl
 
   part_take : (g : Group) (t : Token) (us : List Token) → is_part t ≡ true → fits (Places.MoreNames kind (waits g)) t ≡ true → group_step kind g (t ∷ us) ≡ part_behind g t us

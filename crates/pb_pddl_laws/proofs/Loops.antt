@@ -1,14 +1,11 @@
 -- Loops over pieces, and what is read behind the last.
-use Rattle.std.proofs.Common.{◌≡◌, ℕ, zero, suc, ◌<◌, ◌≤◌, Bool, true, false, cond, List, [], ◌∷◌, length, Result, Ok, Err, refl, sym, ap, ◌∙◌, arith}
+use Rattle.std.proofs.Common.{◌≡◌, ℕ, zero, suc, ◌<◌, ◌≤◌, Bool, true, false, cond, List, [], ◌∷◌, length, Result, Ok, Err, refl, sym, ap, ◌∙◌, arith, true≢false}
 use Rattle.pb_pddl.specs.declared.token.Token.{Token}
 use Rattle.pb_pddl.specs.declared.error.SyntaxError.{SyntaxError}
 use Rattle.pb_pddl.specs.Reading.{◌>>=◌, Read, front, no_token, folds, all_of}
 use Rattle.pb_pddl.specs.Places.{Place, fits, refused}
 use Rattle.pb_pddl_laws.proofs.Readers.{Reads, Can, reads_tokens, reads_same, reads_then, can_same, can_then, then_read}
-
-bind_bind : {A B C : Type 0} (r : Result A SyntaxError) (f : A → Result B SyntaxError) (g : B → Result C SyntaxError) → ((r >>= f) >>= g) ≡ (r >>= λ x. f x >>= g)
-bind_bind (Ok x) f g = refl
-bind_bind (Err e) f g = refl
+use Rattle.pb_pddl_laws.proofs.Singles.{bind_bind}
 
 -- a step takes a token at least
 abbrev pub Takes : {S : Type 0} → (List Token → Bool) → (S → List Token → Read S) → Type 0
@@ -78,9 +75,7 @@ module _ {S Y : Type 0} (more : List Token → Bool) (step : S → List Token �
 
   refuse_more : (s : S) (ts : List Token) → more ts ≡ true → fits (place s) (front ts) ≡ false → loop more step ends s ts ≡ Err (refused (place s) (front ts))
   unfolding front
-  refuse_more s [] goes misfit = absurd (let e : true ≡ false = sym goes ∙ none in true_false e) where
-    true_false : true ≡ false → ⊥
-    true_false e = cc
+  refuse_more s [] goes misfit = absurd (true≢false (sym goes ∙ none))
   refuse_more s (t ∷ us) goes misfit = loop_more s (t ∷ us) goes ∙ ap (λ r. r >>= λ next. loop more step ends next.0 next.1) (refuse_step s t us (sym (more_is (t ∷ us)) ∙ goes) misfit)
 
   refuse_loop : (s : S) (ts : List Token) → fits (place s) (front ts) ≡ false → loop more step ends s ts ≡ Err (refused (place s) (front ts))

@@ -14,9 +14,6 @@ use Rattle.pb_pddl.specs.Tokens.{gap_len, token_at, kind_of, kind_inside, word_f
 use Rattle.pb_pddl.specs.Reading.{◌>>=◌, Read, folds, all_of}
 use Rattle.pb_pddl.specs.Grammar.{Takes, Steps, IsTerm, IsAtom, IsCond, IsCost, IsEffect}
 
-true_false : true ≡ false → ⊥
-true_false e = cc
-
 -- how many are open behind a token of this kind
 abbrev pub nested : TokenKind → ℕ → ℕ
 nested kinds.Open n = suc n

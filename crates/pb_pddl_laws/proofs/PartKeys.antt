@@ -16,9 +16,6 @@ use Rattle.pb_pddl_laws.proofs.Refusals.{told}
 use Rattle.pb_pddl_laws.proofs.Closing.{or_none}
 use Rattle.pb_pddl_laws.proofs.Keys.{as_key, no_text, not_free, free, or_either, decide, keyed}
 
-true_false : true ≡ false → ⊥
-true_false e = cc
-
 part_once_0 : (s : ActionParts) (t : Token) (us : List Token) → is_key (codes ":parameters") t ≡ true → is_some s.params ≡ true → part_at unlimited s (t ∷ us) ≡ Err (refused (Places.MoreParts s) t)
 unfolding part_at params_part pre_part effect_part unlimited spells begins front same_kind kind_number once refused refused_token left_out wanted
 part_once_0 s t us e there =

@@ -1,5 +1,5 @@
 -- Predicates, the words of requirements and what stands in :init: where their reading stops.
-use Rattle.std.proofs.Common.{◌≡◌, ℕ, Bool, true, false, ◌||◌, List, [], ◌∷◌, ◌++◌, Result, Ok, Err, refl, sym, ap, ◌∙◌, cond}
+use Rattle.std.proofs.Common.{◌≡◌, ℕ, Bool, true, false, ◌||◌, List, [], ◌∷◌, ◌++◌, Result, Ok, Err, refl, sym, ap, ◌∙◌, cond, true≢false}
 use Rattle.pb_pddl.specs.declared.token.TokenKind.TheVariants as kinds
 use Rattle.pb_pddl.specs.declared.token.Token.{Token}
 use Rattle.pb_pddl.specs.declared.tree.Name.{Name}
@@ -27,9 +27,7 @@ use Rattle.pb_pddl_laws.proofs.ListPlaces.{can_variables, reads_variables, does_
 use Rattle.pb_pddl_laws.specs.Table
 use Rattle.pb_pddl_laws.specs.Table.{Symbol, after, cost_due}
 use Rattle.pb_pddl_laws.proofs.Following.{Does, nothing, does_same, does_done, does_as, does_either, does_then, does_more, does_one}
-
-true_false : true ≡ false → ⊥
-true_false e = cc
+use Rattle.pb_pddl_laws.proofs.Singles.{bind_bind}
 
 -- ---- predicates
 
@@ -247,7 +245,7 @@ module _ {Y : Type 0} (value : Y) where
   key_fits t v e = ap (λ b. b || same_kind t.kind kinds.Close) e
 
   key_refused : (s : List Name) (t : Token) (us : List Token) → is_key t ≡ true → fits Places.MoreKeys t ≡ false → add_key s (t ∷ us) ≡ Err (refused Places.MoreKeys t)
-  key_refused s t us e misfit = absurd (true_false (sym (key_fits t true e) ∙ misfit))
+  key_refused s t us e misfit = absurd (true≢false (sym (key_fits t true e) ∙ misfit))
 
   key_last : (s : List Name) (t : Token) → is_key t ≡ false → fits Places.MoreKeys t ≡ same_kind t.kind kinds.Close
   key_last s t e = key_fits t false e
@@ -272,10 +270,6 @@ module _ {Y : Type 0} (value : Y) where
 
   takes_key : Takes begins_key add_key
   takes_key = takes_piece begins_key add_key (AddsName kinds.Key) key_sound key_complete
-
-  bind_bind : {A B C : Type 0} (r : Result A SyntaxError) (f : A → Result B SyntaxError) (g : B → Result C SyntaxError) → ((r >>= f) >>= g) ≡ (r >>= λ x. f x >>= g)
-  bind_bind (Ok x) f g = refl
-  bind_bind (Err e) f g = refl
 
   keys_is : (ts : List Token) → keys_then ts ≡ (all_of begins_key add_key [] ts >>= λ all. need kinds.Close wants.Close all.1 >>= λ rest. Ok (value, rest))
   unfolding keys_at

@@ -16,9 +16,6 @@ use Rattle.pb_pddl_laws.proofs.Refusals.{told}
 use Rattle.pb_pddl_laws.proofs.Closing.{or_none}
 use Rattle.pb_pddl_laws.proofs.Keys.{as_key, no_text, not_free, free, or_either, decide, keyed}
 
-true_false : true ≡ false → ⊥
-true_false e = cc
-
 problem_once_0 : (s : ProblemParts) (t : Token) (us : List Token) → is_key (codes ":domain") t ≡ true → is_some s.domain ≡ true → problem_key unlimited s (t ∷ us) ≡ Err (refused (Places.AProblemSection s) t)
 unfolding problem_key domain_name_section problem_requirements objects_section init_section goal_section metric_section unlimited spells begins front same_kind kind_number once refused refused_token left_out wanted
 problem_once_0 s t us e there =

@@ -1,5 +1,5 @@
 -- Sections of a problem: where their reading stops.
-use Rattle.std.proofs.Common.{◌≡◌, ℕ, Bool, true, false, cond, not, ◌&&◌, ◌||◌, List, [], ◌∷◌, ◌++◌, Result, Ok, Err, refl, sym, ap, ◌∙◌, arith, ◌⊎◌, inl, inr}
+use Rattle.std.proofs.Common.{◌≡◌, ℕ, Bool, true, false, cond, not, ◌&&◌, ◌||◌, List, [], ◌∷◌, ◌++◌, Result, Ok, Err, refl, sym, ap, ◌∙◌, arith, ◌⊎◌, inl, inr, true≢false}
 use Rattle.std.specs.Prelude.{codes, Option, Some, None, is_some, if◌then◌else◌}
 use Rattle.std.specs.Str.{bytes_eq}
 use Rattle.pb_pddl.specs.declared.token.TokenKind.{TokenKind}
@@ -21,7 +21,7 @@ use Rattle.pb_pddl_laws.proofs.ActionsRead.{none_is}
 use Rattle.pb_pddl_laws.proofs.Keys.{and_both}
 use Rattle.pb_pddl.specs.Places
 use Rattle.pb_pddl.specs.Places.{fits, is_kind, is_key, sample, reserved_head, other_key, is_part_key, is_domain_key, is_problem_key, takes_section, takes_part, first_fit, left_out, wanted, refused_token, refused}
-use Rattle.pb_pddl_laws.proofs.Singles.{kinds_same}
+use Rattle.pb_pddl_laws.proofs.Singles.{kinds_same, bind_bind}
 use Rattle.pb_pddl_laws.proofs.CondsRead.{if_true, if_false}
 use Rattle.pb_pddl_laws.proofs.Readers.{Reads, Can, reads_done, can_done, reads_same, can_same, reads_then, can_then, reads_one, can_one}
 use Rattle.pb_pddl_laws.proofs.Loops.{Takes, loop, all_more, all_stop, reads_loop}
@@ -34,9 +34,6 @@ use Rattle.pb_pddl_laws.proofs.PiecePlaces.{keys_then, can_facts, reads_facts, c
 use Rattle.pb_pddl_laws.proofs.Keys.{as_key, decide}
 use Rattle.pb_pddl_laws.proofs.Rooms.{any_cond}
 use Rattle.pb_pddl_laws.proofs.ProblemKeys.{problem_key_refused, problem_which}
-
-true_false : true ≡ false → ⊥
-true_false e = cc
 
 -- a value, behind a )
 abbrev pub closed : ProblemParts → List Token → Read ProblemParts
@@ -206,7 +203,7 @@ no_key = refl
 
 problem_keyed : (s : ProblemParts) (ts : List Token) → is_kind kinds.Key (front ts) ≡ true → fits (Places.AProblemSection s) (front ts) ≡ false → problem_key unlimited s ts ≡ Err (refused (Places.AProblemSection s) (front ts))
 unfolding front
-problem_keyed s [] key misfit = absurd (true_false (sym key ∙ no_key))
+problem_keyed s [] key misfit = absurd (true≢false (sym key ∙ no_key))
 problem_keyed s (t ∷ us) key misfit = problem_key_refused s t us key misfit
 
 pub problem_misfit : (s : ProblemParts) (ts : List Token) → fits (Places.AProblemSection s) (front ts) ≡ false → problem_key unlimited s ts ≡ Err (refused (Places.AProblemSection s) (front ts))
@@ -215,7 +212,7 @@ problem_misfit s ts misfit = decide (is_kind kinds.Key (front ts)) (λ key. prob
 pub problem_is_key : (s : ProblemParts) (t : Token) → fits (Places.AProblemSection s) t ≡ true → is_kind kinds.Key t ≡ true
 unfolding fits
 problem_is_key s t fit =
-    decide (is_kind kinds.Key t) (λ key. key) (λ other. absurd (true_false (sym fit ∙ ap (λ b. b && bytes_eq t.text (codes ":domain") && not (is_some s.domain) || b && bytes_eq t.text (codes ":requirements") && not s.requirements || b && bytes_eq t.text (codes ":objects") && not (is_some s.objects) || b && bytes_eq t.text (codes ":init") && not (is_some s.init) || b && bytes_eq t.text (codes ":goal") && not (is_some s.goal) || b && bytes_eq t.text (codes ":metric") && not (is_some s.metric)) other)))
+    decide (is_kind kinds.Key t) (λ key. key) (λ other. absurd (true≢false (sym fit ∙ ap (λ b. b && bytes_eq t.text (codes ":domain") && not (is_some s.domain) || b && bytes_eq t.text (codes ":requirements") && not s.requirements || b && bytes_eq t.text (codes ":objects") && not (is_some s.objects) || b && bytes_eq t.text (codes ":init") && not (is_some s.init) || b && bytes_eq t.text (codes ":goal") && not (is_some s.goal) || b && bytes_eq t.text (codes ":metric") && not (is_some s.metric)) other)))
 
 abbrev key_of : List ℕ → Token
 key_of text = record { kind = kinds.Key; text = text; at = 0; head = false }
@@ -249,7 +246,7 @@ some_free : (s : ProblemParts) → stood_all s ≡ false → (t : Token) × (fit
 unfolding stood_all
 some_free s open_still =
     decide s.requirements (λ y1. decide (is_some s.domain) (λ y0. decide (is_some s.objects) (λ y2. decide (is_some s.init) (λ y3. decide (is_some s.goal) (λ y4. decide (is_some s.metric)
-    (λ y5. absurd (true_false (sym (all_of_them s.requirements (is_some s.domain) (is_some s.objects) (is_some s.init) (is_some s.goal) (is_some s.metric) y1 y0 y2 y3 y4 y5) ∙ open_still)))
+    (λ y5. absurd (true≢false (sym (all_of_them s.requirements (is_some s.domain) (is_some s.objects) (is_some s.init) (is_some s.goal) (is_some s.metric) y1 y0 y2 y3 y4 y5) ∙ open_still)))
     (λ n5. (key_of (codes ":metric"), free_5 s n5))) (λ n4. (key_of (codes ":goal"), free_4 s n4))) (λ n3. (key_of (codes ":init"), free_3 s n3))) (λ n2. (key_of (codes ":objects"), free_2 s n2)))
     (λ n0. (key_of (codes ":domain"), free_0 s n0)))
     (λ n1. (key_of (codes ":requirements"), free_1 s n1)) where
@@ -363,10 +360,6 @@ either_is : {A : Type 0} (o : Option A) → ((x : A) × (o ≡ Some x)) ⊎ (o �
 either_is None = inr refl
 either_is (Some x) = inl ((x, refl))
 
-bind_bind : {A B C : Type 0} (r : Result A SyntaxError) (f : A → Result B SyntaxError) (g : B → Result C SyntaxError) → ((r >>= f) >>= g) ≡ (r >>= λ x. f x >>= g)
-bind_bind (Ok x) f g = refl
-bind_bind (Err e) f g = refl
-
 abbrev a_token : TokenKind → List ℕ → Token
 a_token kind text = record { kind = kind; text = text; at = 0; head = false }
 
@@ -429,11 +422,11 @@ module _ {Y : Type 0} (value : ProblemParts → Name → List Atom → Y) where
   unfolding there
   lacking s ts rest None goal e = refl
   lacking s ts rest (Some d) None e = refl
-  lacking s ts rest (Some d) (Some g) e = absurd (true_false e)
+  lacking s ts rest (Some d) (Some g) e = absurd (true≢false e)
 
   lacks : (s : ProblemParts) (ts : List Token) → is_kind kinds.Close (front ts) ≡ true → is_some s.domain && is_some s.goal ≡ false → sections_end s ts ≡ Err (refused (Places.MoreSections s) (front ts))
   unfolding front missing
-  lacks s [] close e = absurd (true_false (sym close ∙ end_no_close))
+  lacks s [] close e = absurd (true≢false (sym close ∙ end_no_close))
   lacks s (t ∷ us) close e =
       ap (λ (r : Result (List Token) SyntaxError). r >>= λ rest. end_with s (t ∷ us) rest s.domain s.goal) (need_fit kinds.Close (sections_want s) t us close)
       ∙ lacking s (t ∷ us) us s.domain s.goal e ∙ ap (λ (x : SyntaxError). Err x) (sym (missing_refused s t close))

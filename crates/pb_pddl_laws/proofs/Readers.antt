@@ -1,5 +1,5 @@
 -- Readers of tokens: what they take, where they stop, and that they can end.
-use Rattle.std.proofs.Common.{◌≡◌, ℕ, zero, suc, ◌+◌, ◌<◌, ◌≤◌, Bool, true, false, List, [], ◌∷◌, ◌++◌, length, Result, Ok, Err, refl, sym, ap, ◌∙◌, arith, ◌⊎◌, inl, inr}
+use Rattle.std.proofs.Common.{◌≡◌, ℕ, zero, suc, ◌+◌, ◌<◌, ◌≤◌, Bool, true, false, List, [], ◌∷◌, ◌++◌, length, Result, Ok, Err, refl, sym, ap, ◌∙◌, arith, ◌⊎◌, inl, inr, true≢false}
 use Rattle.std.proofs.lemmas.List.{append_assoc}
 use Rattle.std.proofs.Common.{length-append}
 use Rattle.pb_pddl.specs.declared.token.Token.{Token}
@@ -7,9 +7,6 @@ use Rattle.pb_pddl.specs.declared.error.SyntaxError.{SyntaxError}
 use Rattle.pb_pddl.specs.Reading.{◌>>=◌, Read, front, no_token}
 use Rattle.pb_pddl.specs.Places.{Place, fits, refused}
 use Rattle.pb_pddl_laws.proofs.Singles.{bind_ok, bind_again, ok_pair}
-
-true_false : true ≡ false → ⊥
-true_false e = cc
 
 abbrev failed : {X : Type 0} → SyntaxError → Result X SyntaxError
 failed e = Err e
@@ -189,7 +186,7 @@ module _ {X : Type 0} (f : List Token → Read X) (place : Place) (no_end : fits
   frames_token : (n : ℕ) → ((t : Token) → fits place t ≡ true → Reads X n (λ us. f (t ∷ us))) → (ts : List Token) (x : X) (rest : List Token) → length ts ≤ suc n → f ts ≡ Ok (x, rest) → (v : Bool) → fits place (front ts) ≡ v
       → (used : List Token) × (ts ≡ used ++ rest) × ((more : List Token) → f (used ++ more) ≡ Ok (x, more))
   frames_token n r ts x rest few e false misfit = absurd (err_ok (refused place (front ts)) (x, rest) (sym e ∙ refuse ts misfit))
-  frames_token n r [] x rest few e true fit = absurd (true_false (sym fit ∙ ap (fits place) front_none ∙ no_end))
+  frames_token n r [] x rest few e true fit = absurd (true≢false (sym fit ∙ ap (fits place) front_none ∙ no_end))
   frames_token n r (t ∷ us) x rest few e true fit =
       let u = (r t (sym (ap (fits place) (front_cons t us)) ∙ fit)).frames us x rest (omega arith) e in
       (t ∷ u.0, ap (λ (vs : List Token). t ∷ vs) u.1, u.2)
@@ -197,7 +194,7 @@ module _ {X : Type 0} (f : List Token → Read X) (place : Place) (no_end : fits
   faults_token : (n : ℕ) → ((t : Token) → fits place t ≡ true → Reads X n (λ us. f (t ∷ us))) → (ts : List Token) (e : SyntaxError) → length ts ≤ suc n → f ts ≡ Err e → (v : Bool) → fits place (front ts) ≡ v
       → (before : List Token) × (after : List Token) × (next : Place) × (ts ≡ before ++ after) × (fits next (front after) ≡ false) × Stops X f before next
   faults_token n r ts e few err false misfit = ([], ts, place, refl, misfit, at_first)
-  faults_token n r [] e few err true fit = absurd (true_false (sym fit ∙ ap (fits place) front_none ∙ no_end))
+  faults_token n r [] e few err true fit = absurd (true≢false (sym fit ∙ ap (fits place) front_none ∙ no_end))
   faults_token n r (t ∷ us) e few err true fit =
       let u = (r t (sym (ap (fits place) (front_cons t us)) ∙ fit)).faults us e (omega arith) err in
       (t ∷ u.0, u.1, u.2, ap (λ (vs : List Token). t ∷ vs) u.3, u.4, stops_behind t u.0 u.2 u.5)

@@ -19,6 +19,7 @@ use Rattle.pb_pddl_laws.proofs.Readers.{Reads, Can, reads_one, can_one}
 use Rattle.pb_pddl_laws.specs.Table
 use Rattle.pb_pddl_laws.specs.Table.{Symbol, after}
 use Rattle.pb_pddl_laws.proofs.Following.{Does, does_one}
+use Rattle.pb_pddl_laws.proofs.Singles.{bind_failed}
 
 -- the error of what is left out, or of what must stand
 abbrev pub told : Option LeftOut → ℕ → Want → SyntaxError
@@ -105,9 +106,6 @@ unfolding refused_token left_out wanted first_fit takes_section takes_part fits 
 head_refused t = plain Places.AHead t wants.Name refl refl refl
 
 -- ---- what begins with one of these
-
-bind_failed : {A B : Type 0} (r : Result A SyntaxError) (f : A → Result B SyntaxError) (e : SyntaxError) → r ≡ Err e → (r >>= f) ≡ Err e
-bind_failed r f e is = ap (λ q. q >>= f) is
 
 module _ {X : Type 0} (h : List Token → Read X) (can : Can h) where
   open_no_end : fits Places.AnOpen no_token ≡ false

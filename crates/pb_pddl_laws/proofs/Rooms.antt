@@ -12,9 +12,6 @@ use Rattle.pb_pddl_laws.proofs.ActionsRead.{cond_is, cond_less, effect_is}
 use Rattle.pb_pddl_laws.proofs.EffectsRead.{effect_complete}
 use Rattle.pb_pddl_laws.proofs.Nesting.{Shallow, takes_shallow, cond_shallow, effect_shallow, all_agree}
 
-true_false : true ≡ false → ⊥
-true_false e = cc
-
 -- room enough for a form that begins here, inside n others: for all that may be inside one another, or for each token
 abbrev pub Enough : ℕ → ℕ → List Token → Type 0
 Enough room n ts = ((32 ≤ n + room) × Shallow n ts) ⊎ (length ts ≤ room)

@@ -81,51 +81,6 @@ domain_sound s ts now rest m e =
     let o = bind_ok (need kinds.Open wants.Paren ts) _ (now, rest) e in
     domain_key_sound s o.0 now rest ts (need_takes kinds.Open wants.Paren ts o.0 open_token o.1) o.2
 
-domain_1_0 : bytes_eq (codes ":types") (codes ":requirements") ≡ false
-domain_1_0 = refl
-
-domain_2_0 : bytes_eq (codes ":constants") (codes ":requirements") ≡ false
-domain_2_0 = refl
-
-domain_2_1 : bytes_eq (codes ":constants") (codes ":types") ≡ false
-domain_2_1 = refl
-
-domain_3_0 : bytes_eq (codes ":predicates") (codes ":requirements") ≡ false
-domain_3_0 = refl
-
-domain_3_1 : bytes_eq (codes ":predicates") (codes ":types") ≡ false
-domain_3_1 = refl
-
-domain_3_2 : bytes_eq (codes ":predicates") (codes ":constants") ≡ false
-domain_3_2 = refl
-
-domain_4_0 : bytes_eq (codes ":functions") (codes ":requirements") ≡ false
-domain_4_0 = refl
-
-domain_4_1 : bytes_eq (codes ":functions") (codes ":types") ≡ false
-domain_4_1 = refl
-
-domain_4_2 : bytes_eq (codes ":functions") (codes ":constants") ≡ false
-domain_4_2 = refl
-
-domain_4_3 : bytes_eq (codes ":functions") (codes ":predicates") ≡ false
-domain_4_3 = refl
-
-domain_5_0 : bytes_eq (codes ":action") (codes ":requirements") ≡ false
-domain_5_0 = refl
-
-domain_5_1 : bytes_eq (codes ":action") (codes ":types") ≡ false
-domain_5_1 = refl
-
-domain_5_2 : bytes_eq (codes ":action") (codes ":constants") ≡ false
-domain_5_2 = refl
-
-domain_5_3 : bytes_eq (codes ":action") (codes ":predicates") ≡ false
-domain_5_3 = refl
-
-domain_5_4 : bytes_eq (codes ":action") (codes ":functions") ≡ false
-domain_5_4 = refl
-
 pub domain_complete : IsComplete begins_open (domain_section unlimited) IsDomainSection
 unfolding domain_section domain_key requirements_section types_section constants_section predicates_section functions_section action_section
 domain_complete s ts now rest (first, cases) =
@@ -146,7 +101,7 @@ domain_complete s ts now rest (first, cases) =
           let less : length rest < length first = list_less kinds.Word first rest found words_listed is in (
             (takes_begins kinds.Open ts o inside opens).0,
             bind_again (need kinds.Open wants.Paren ts) _ inside _ (takes_need kinds.Open wants.Paren ts o inside opens)
-                (if_false (spells kinds.Key (codes ":requirements") inside) _ _ (other_word kinds.Key (codes ":types") (codes ":requirements") inside first domain_1_0 says)
+                (if_false (spells kinds.Key (codes ":requirements") inside) _ _ (other_word kinds.Key (codes ":types") (codes ":requirements") inside first refl says)
                 ∙ if_true (spells kinds.Key (codes ":types") inside) _ _ w.0 ∙ if_false (is_some s.types) _ _ (none_is s.types none)
                 ∙ bind_again (list_at kinds.Word wants.Name (drop 1 inside)) _ (found, rest) _ (ap (list_at kinds.Word wants.Name) w.1 ∙ list_complete kinds.Word wants.Name first rest found words_listed is) (ap (λ (x : DomainParts). Ok (x, rest)) (sym now_is))),
             omega (arith, w.2),
@@ -157,8 +112,8 @@ domain_complete s ts now rest (first, cases) =
           let less : length rest < length first = list_less kinds.Word first rest found words_listed is in (
             (takes_begins kinds.Open ts o inside opens).0,
             bind_again (need kinds.Open wants.Paren ts) _ inside _ (takes_need kinds.Open wants.Paren ts o inside opens)
-                (if_false (spells kinds.Key (codes ":requirements") inside) _ _ (other_word kinds.Key (codes ":constants") (codes ":requirements") inside first domain_2_0 says)
-                ∙ if_false (spells kinds.Key (codes ":types") inside) _ _ (other_word kinds.Key (codes ":constants") (codes ":types") inside first domain_2_1 says)
+                (if_false (spells kinds.Key (codes ":requirements") inside) _ _ (other_word kinds.Key (codes ":constants") (codes ":requirements") inside first refl says)
+                ∙ if_false (spells kinds.Key (codes ":types") inside) _ _ (other_word kinds.Key (codes ":constants") (codes ":types") inside first refl says)
                 ∙ if_true (spells kinds.Key (codes ":constants") inside) _ _ w.0 ∙ if_false (is_some s.constants) _ _ (none_is s.constants none)
                 ∙ bind_again (list_at kinds.Word wants.Name (drop 1 inside)) _ (found, rest) _ (ap (list_at kinds.Word wants.Name) w.1 ∙ list_complete kinds.Word wants.Name first rest found words_listed is) (ap (λ (x : DomainParts). Ok (x, rest)) (sym now_is))),
             omega (arith, w.2),
@@ -169,9 +124,9 @@ domain_complete s ts now rest (first, cases) =
           let less : length rest < length first = predicates_less first rest found is in (
             (takes_begins kinds.Open ts o inside opens).0,
             bind_again (need kinds.Open wants.Paren ts) _ inside _ (takes_need kinds.Open wants.Paren ts o inside opens)
-                (if_false (spells kinds.Key (codes ":requirements") inside) _ _ (other_word kinds.Key (codes ":predicates") (codes ":requirements") inside first domain_3_0 says)
-                ∙ if_false (spells kinds.Key (codes ":types") inside) _ _ (other_word kinds.Key (codes ":predicates") (codes ":types") inside first domain_3_1 says)
-                ∙ if_false (spells kinds.Key (codes ":constants") inside) _ _ (other_word kinds.Key (codes ":predicates") (codes ":constants") inside first domain_3_2 says)
+                (if_false (spells kinds.Key (codes ":requirements") inside) _ _ (other_word kinds.Key (codes ":predicates") (codes ":requirements") inside first refl says)
+                ∙ if_false (spells kinds.Key (codes ":types") inside) _ _ (other_word kinds.Key (codes ":predicates") (codes ":types") inside first refl says)
+                ∙ if_false (spells kinds.Key (codes ":constants") inside) _ _ (other_word kinds.Key (codes ":predicates") (codes ":constants") inside first refl says)
                 ∙ if_true (spells kinds.Key (codes ":predicates") inside) _ _ w.0 ∙ if_false (is_some s.predicates) _ _ (none_is s.predicates none)
                 ∙ bind_again (predicates_at (drop 1 inside)) _ (found, rest) _ (ap predicates_at w.1 ∙ predicates_complete first rest found is) (ap (λ (x : DomainParts). Ok (x, rest)) (sym now_is))),
             omega (arith, w.2),
@@ -182,10 +137,10 @@ domain_complete s ts now rest (first, cases) =
           let less : length rest < length first = functions_less first rest has_cost is in (
             (takes_begins kinds.Open ts o inside opens).0,
             bind_again (need kinds.Open wants.Paren ts) _ inside _ (takes_need kinds.Open wants.Paren ts o inside opens)
-                (if_false (spells kinds.Key (codes ":requirements") inside) _ _ (other_word kinds.Key (codes ":functions") (codes ":requirements") inside first domain_4_0 says)
-                ∙ if_false (spells kinds.Key (codes ":types") inside) _ _ (other_word kinds.Key (codes ":functions") (codes ":types") inside first domain_4_1 says)
-                ∙ if_false (spells kinds.Key (codes ":constants") inside) _ _ (other_word kinds.Key (codes ":functions") (codes ":constants") inside first domain_4_2 says)
-                ∙ if_false (spells kinds.Key (codes ":predicates") inside) _ _ (other_word kinds.Key (codes ":functions") (codes ":predicates") inside first domain_4_3 says)
+                (if_false (spells kinds.Key (codes ":requirements") inside) _ _ (other_word kinds.Key (codes ":functions") (codes ":requirements") inside first refl says)
+                ∙ if_false (spells kinds.Key (codes ":types") inside) _ _ (other_word kinds.Key (codes ":functions") (codes ":types") inside first refl says)
+                ∙ if_false (spells kinds.Key (codes ":constants") inside) _ _ (other_word kinds.Key (codes ":functions") (codes ":constants") inside first refl says)
+                ∙ if_false (spells kinds.Key (codes ":predicates") inside) _ _ (other_word kinds.Key (codes ":functions") (codes ":predicates") inside first refl says)
                 ∙ if_true (spells kinds.Key (codes ":functions") inside) _ _ w.0 ∙ if_false (s.functions) _ _ none
                 ∙ bind_again (functions_at (drop 1 inside)) _ (has_cost, rest) _ (ap functions_at w.1 ∙ functions_complete first rest has_cost is) (ap (λ (x : DomainParts). Ok (x, rest)) (sym now_is))),
             omega (arith, w.2),
@@ -196,11 +151,11 @@ domain_complete s ts now rest (first, cases) =
           let less : length rest < length first = action_less first rest action is in (
             (takes_begins kinds.Open ts o inside opens).0,
             bind_again (need kinds.Open wants.Paren ts) _ inside _ (takes_need kinds.Open wants.Paren ts o inside opens)
-                (if_false (spells kinds.Key (codes ":requirements") inside) _ _ (other_word kinds.Key (codes ":action") (codes ":requirements") inside first domain_5_0 says)
-                ∙ if_false (spells kinds.Key (codes ":types") inside) _ _ (other_word kinds.Key (codes ":action") (codes ":types") inside first domain_5_1 says)
-                ∙ if_false (spells kinds.Key (codes ":constants") inside) _ _ (other_word kinds.Key (codes ":action") (codes ":constants") inside first domain_5_2 says)
-                ∙ if_false (spells kinds.Key (codes ":predicates") inside) _ _ (other_word kinds.Key (codes ":action") (codes ":predicates") inside first domain_5_3 says)
-                ∙ if_false (spells kinds.Key (codes ":functions") inside) _ _ (other_word kinds.Key (codes ":action") (codes ":functions") inside first domain_5_4 says)
+                (if_false (spells kinds.Key (codes ":requirements") inside) _ _ (other_word kinds.Key (codes ":action") (codes ":requirements") inside first refl says)
+                ∙ if_false (spells kinds.Key (codes ":types") inside) _ _ (other_word kinds.Key (codes ":action") (codes ":types") inside first refl says)
+                ∙ if_false (spells kinds.Key (codes ":constants") inside) _ _ (other_word kinds.Key (codes ":action") (codes ":constants") inside first refl says)
+                ∙ if_false (spells kinds.Key (codes ":predicates") inside) _ _ (other_word kinds.Key (codes ":action") (codes ":predicates") inside first refl says)
+                ∙ if_false (spells kinds.Key (codes ":functions") inside) _ _ (other_word kinds.Key (codes ":action") (codes ":functions") inside first refl says)
                 ∙ if_true (spells kinds.Key (codes ":action") inside) _ _ w.0
                 ∙ bind_again (add_action unlimited s.actions (drop 1 inside)) _ (s.actions ++ action ∷ [], rest) _ (ap (add_action unlimited s.actions) w.1 ∙ action_complete s.actions first rest action is) (ap (λ (x : DomainParts). Ok (x, rest)) (sym now_is))),
             omega (arith, w.2),
@@ -282,51 +237,6 @@ problem_sound s ts now rest m e =
     let o = bind_ok (need kinds.Open wants.Paren ts) _ (now, rest) w.1 in
     problem_key_sound s o.0 now rest ts (need_takes kinds.Open wants.Paren ts o.0 open_token o.1) o.2
 
-problem_1_0 : bytes_eq (codes ":requirements") (codes ":domain") ≡ false
-problem_1_0 = refl
-
-problem_2_0 : bytes_eq (codes ":objects") (codes ":domain") ≡ false
-problem_2_0 = refl
-
-problem_2_1 : bytes_eq (codes ":objects") (codes ":requirements") ≡ false
-problem_2_1 = refl
-
-problem_3_0 : bytes_eq (codes ":init") (codes ":domain") ≡ false
-problem_3_0 = refl
-
-problem_3_1 : bytes_eq (codes ":init") (codes ":requirements") ≡ false
-problem_3_1 = refl
-
-problem_3_2 : bytes_eq (codes ":init") (codes ":objects") ≡ false
-problem_3_2 = refl
-
-problem_4_0 : bytes_eq (codes ":goal") (codes ":domain") ≡ false
-problem_4_0 = refl
-
-problem_4_1 : bytes_eq (codes ":goal") (codes ":requirements") ≡ false
-problem_4_1 = refl
-
-problem_4_2 : bytes_eq (codes ":goal") (codes ":objects") ≡ false
-problem_4_2 = refl
-
-problem_4_3 : bytes_eq (codes ":goal") (codes ":init") ≡ false
-problem_4_3 = refl
-
-problem_5_0 : bytes_eq (codes ":metric") (codes ":domain") ≡ false
-problem_5_0 = refl
-
-problem_5_1 : bytes_eq (codes ":metric") (codes ":requirements") ≡ false
-problem_5_1 = refl
-
-problem_5_2 : bytes_eq (codes ":metric") (codes ":objects") ≡ false
-problem_5_2 = refl
-
-problem_5_3 : bytes_eq (codes ":metric") (codes ":init") ≡ false
-problem_5_3 = refl
-
-problem_5_4 : bytes_eq (codes ":metric") (codes ":goal") ≡ false
-problem_5_4 = refl
-
 -- where a section did not stand, not each did
 and_no : (a : Bool) → a && false ≡ false
 and_no true = refl
@@ -384,7 +294,7 @@ problem_complete s ts now rest (first, cases) =
           let less : length rest < length first = keys_less first rest found is in (
             (takes_begins kinds.Open ts o inside opens).0,
             if_false (stood_all s) _ _ (no_requirements_yet s none) ∙ bind_again (need kinds.Open wants.Paren ts) _ inside _ (takes_need kinds.Open wants.Paren ts o inside opens)
-                (if_false (spells kinds.Key (codes ":domain") inside) _ _ (other_word kinds.Key (codes ":requirements") (codes ":domain") inside first problem_1_0 says)
+                (if_false (spells kinds.Key (codes ":domain") inside) _ _ (other_word kinds.Key (codes ":requirements") (codes ":domain") inside first refl says)
                 ∙ if_true (spells kinds.Key (codes ":requirements") inside) _ _ w.0 ∙ if_false (s.requirements) _ _ none
                 ∙ bind_again (keys_at (drop 1 inside)) _ rest _ (ap keys_at w.1 ∙ keys_complete first rest found is) (ap (λ (x : ProblemParts). Ok (x, rest)) (sym now_is))),
             omega (arith, w.2),
@@ -395,8 +305,8 @@ problem_complete s ts now rest (first, cases) =
           let less : length rest < length first = list_less kinds.Word first rest found words_listed is in (
             (takes_begins kinds.Open ts o inside opens).0,
             if_false (stood_all s) _ _ (no_objects_yet s none) ∙ bind_again (need kinds.Open wants.Paren ts) _ inside _ (takes_need kinds.Open wants.Paren ts o inside opens)
-                (if_false (spells kinds.Key (codes ":domain") inside) _ _ (other_word kinds.Key (codes ":objects") (codes ":domain") inside first problem_2_0 says)
-                ∙ if_false (spells kinds.Key (codes ":requirements") inside) _ _ (other_word kinds.Key (codes ":objects") (codes ":requirements") inside first problem_2_1 says)
+                (if_false (spells kinds.Key (codes ":domain") inside) _ _ (other_word kinds.Key (codes ":objects") (codes ":domain") inside first refl says)
+                ∙ if_false (spells kinds.Key (codes ":requirements") inside) _ _ (other_word kinds.Key (codes ":objects") (codes ":requirements") inside first refl says)
                 ∙ if_true (spells kinds.Key (codes ":objects") inside) _ _ w.0 ∙ if_false (is_some s.objects) _ _ (none_is s.objects none)
                 ∙ bind_again (list_at kinds.Word wants.Name (drop 1 inside)) _ (found, rest) _ (ap (list_at kinds.Word wants.Name) w.1 ∙ list_complete kinds.Word wants.Name first rest found words_listed is) (ap (λ (x : ProblemParts). Ok (x, rest)) (sym now_is))),
             omega (arith, w.2),
@@ -407,9 +317,9 @@ problem_complete s ts now rest (first, cases) =
           let less : length rest < length first = facts_less first rest found is in (
             (takes_begins kinds.Open ts o inside opens).0,
             if_false (stood_all s) _ _ (no_init_yet s none) ∙ bind_again (need kinds.Open wants.Paren ts) _ inside _ (takes_need kinds.Open wants.Paren ts o inside opens)
-                (if_false (spells kinds.Key (codes ":domain") inside) _ _ (other_word kinds.Key (codes ":init") (codes ":domain") inside first problem_3_0 says)
-                ∙ if_false (spells kinds.Key (codes ":requirements") inside) _ _ (other_word kinds.Key (codes ":init") (codes ":requirements") inside first problem_3_1 says)
-                ∙ if_false (spells kinds.Key (codes ":objects") inside) _ _ (other_word kinds.Key (codes ":init") (codes ":objects") inside first problem_3_2 says)
+                (if_false (spells kinds.Key (codes ":domain") inside) _ _ (other_word kinds.Key (codes ":init") (codes ":domain") inside first refl says)
+                ∙ if_false (spells kinds.Key (codes ":requirements") inside) _ _ (other_word kinds.Key (codes ":init") (codes ":requirements") inside first refl says)
+                ∙ if_false (spells kinds.Key (codes ":objects") inside) _ _ (other_word kinds.Key (codes ":init") (codes ":objects") inside first refl says)
                 ∙ if_true (spells kinds.Key (codes ":init") inside) _ _ w.0 ∙ if_false (is_some s.init) _ _ (none_is s.init none)
                 ∙ bind_again (facts_at (drop 1 inside)) _ (found, rest) _ (ap facts_at w.1 ∙ facts_complete first rest found is) (ap (λ (x : ProblemParts). Ok (x, rest)) (sym now_is))),
             omega (arith, w.2),
@@ -422,10 +332,10 @@ problem_complete s ts now rest (first, cases) =
           let last_less : length rest < length last = takes_less kinds.Close last c rest closes in (
             (takes_begins kinds.Open ts o inside opens).0,
             if_false (stood_all s) _ _ (no_goal_yet s none) ∙ bind_again (need kinds.Open wants.Paren ts) _ inside _ (takes_need kinds.Open wants.Paren ts o inside opens)
-                (if_false (spells kinds.Key (codes ":domain") inside) _ _ (other_word kinds.Key (codes ":goal") (codes ":domain") inside first problem_4_0 says)
-                ∙ if_false (spells kinds.Key (codes ":requirements") inside) _ _ (other_word kinds.Key (codes ":goal") (codes ":requirements") inside first problem_4_1 says)
-                ∙ if_false (spells kinds.Key (codes ":objects") inside) _ _ (other_word kinds.Key (codes ":goal") (codes ":objects") inside first problem_4_2 says)
-                ∙ if_false (spells kinds.Key (codes ":init") inside) _ _ (other_word kinds.Key (codes ":goal") (codes ":init") inside first problem_4_3 says)
+                (if_false (spells kinds.Key (codes ":domain") inside) _ _ (other_word kinds.Key (codes ":goal") (codes ":domain") inside first refl says)
+                ∙ if_false (spells kinds.Key (codes ":requirements") inside) _ _ (other_word kinds.Key (codes ":goal") (codes ":requirements") inside first refl says)
+                ∙ if_false (spells kinds.Key (codes ":objects") inside) _ _ (other_word kinds.Key (codes ":goal") (codes ":objects") inside first refl says)
+                ∙ if_false (spells kinds.Key (codes ":init") inside) _ _ (other_word kinds.Key (codes ":goal") (codes ":init") inside first refl says)
                 ∙ if_true (spells kinds.Key (codes ":goal") inside) _ _ w.0 ∙ if_false (is_some s.goal) _ _ (none_is s.goal none)
                 ∙ bind_again (cond_at false (length (drop 1 inside)) [] (drop 1 inside)) _ (found, last) _ (ap (λ (us : List Token). cond_at false (length us) [] us) w.1 ∙ cond.1)
                 (bind_again (need kinds.Close wants.Close last) _ rest _ (takes_need kinds.Close wants.Close last c rest closes) (ap (λ (x : ProblemParts). Ok (x, rest)) (sym now_is)))),
@@ -439,11 +349,11 @@ problem_complete s ts now rest (first, cases) =
           let last_less : length rest < length last = takes_less kinds.Close last c rest closes in (
             (takes_begins kinds.Open ts o inside opens).0,
             if_false (stood_all s) _ _ (no_metric_yet s none) ∙ bind_again (need kinds.Open wants.Paren ts) _ inside _ (takes_need kinds.Open wants.Paren ts o inside opens)
-                (if_false (spells kinds.Key (codes ":domain") inside) _ _ (other_word kinds.Key (codes ":metric") (codes ":domain") inside first problem_5_0 says)
-                ∙ if_false (spells kinds.Key (codes ":requirements") inside) _ _ (other_word kinds.Key (codes ":metric") (codes ":requirements") inside first problem_5_1 says)
-                ∙ if_false (spells kinds.Key (codes ":objects") inside) _ _ (other_word kinds.Key (codes ":metric") (codes ":objects") inside first problem_5_2 says)
-                ∙ if_false (spells kinds.Key (codes ":init") inside) _ _ (other_word kinds.Key (codes ":metric") (codes ":init") inside first problem_5_3 says)
-                ∙ if_false (spells kinds.Key (codes ":goal") inside) _ _ (other_word kinds.Key (codes ":metric") (codes ":goal") inside first problem_5_4 says)
+                (if_false (spells kinds.Key (codes ":domain") inside) _ _ (other_word kinds.Key (codes ":metric") (codes ":domain") inside first refl says)
+                ∙ if_false (spells kinds.Key (codes ":requirements") inside) _ _ (other_word kinds.Key (codes ":metric") (codes ":requirements") inside first refl says)
+                ∙ if_false (spells kinds.Key (codes ":objects") inside) _ _ (other_word kinds.Key (codes ":metric") (codes ":objects") inside first refl says)
+                ∙ if_false (spells kinds.Key (codes ":init") inside) _ _ (other_word kinds.Key (codes ":metric") (codes ":init") inside first refl says)
+                ∙ if_false (spells kinds.Key (codes ":goal") inside) _ _ (other_word kinds.Key (codes ":metric") (codes ":goal") inside first refl says)
                 ∙ if_true (spells kinds.Key (codes ":metric") inside) _ _ w.0 ∙ if_false (is_some s.metric) _ _ (none_is s.metric none)
                 ∙ bind_again (only_word (codes "minimize") left.Metric (drop 1 inside)) _ word _ (ap (only_word (codes "minimize") left.Metric) w.1 ∙ only_complete (codes "minimize") left.Metric first word minimize)
                 (bind_again (total_cost_at word) _ (at, last) _ (total_complete word last at total)

@@ -1,5 +1,5 @@
 -- Single tokens: what is taken is what the grammar has, and the other way round.
-use Rattle.std.proofs.Common.{◌≡◌, ℕ, zero, suc, ◌<◌, Bool, true, false, cond, ◌&&◌, List, [], ◌∷◌, length, drop, Result, Ok, Err, refl, sym, ap, subst, ◌∙◌, arith}
+use Rattle.std.proofs.Common.{◌≡◌, ℕ, zero, suc, ◌<◌, Bool, true, false, cond, ◌&&◌, List, [], ◌∷◌, length, drop, Result, Ok, Err, refl, sym, ap, subst, ◌∙◌, arith, true≢false}
 use Rattle.std.specs.Str.{bytes_eq}
 use Rattle.std.proofs.lemmas.Slice.Eq.{bytes_eq-Decides}
 use Rattle.pb_pddl.specs.declared.token.TokenKind.{TokenKind}
@@ -11,13 +11,18 @@ use Rattle.pb_pddl.specs.declared.error.Want.{Want}
 use Rattle.pb_pddl.specs.Reading.{◌>>=◌, kind_number, same_kind, front, begins, spells, fault_at, need, name_at, name_of}
 use Rattle.pb_pddl.specs.Grammar.{Takes, Says, Names}
 
-true_false : true ≡ false → ⊥
-true_false e = cc
-
 -- the value of a step that did not fail
 pub bind_ok : {A B : Type 0} (r : Result A SyntaxError) (f : A → Result B SyntaxError) (y : B) → (r >>= f) ≡ Ok y → (x : A) × (r ≡ Ok x) × (f x ≡ Ok y)
 bind_ok (Ok x) f y e = (x, refl, e)
 bind_ok (Err d) f y e = absurd cc
+
+pub bind_failed : {A B : Type 0} (r : Result A SyntaxError) (f : A → Result B SyntaxError) (e : SyntaxError) → r ≡ Err e → (r >>= f) ≡ Err e
+bind_failed r f e is = ap (λ q. q >>= f) is
+
+-- three steps, one after another
+pub bind_bind : {A B C : Type 0} (r : Result A SyntaxError) (f : A → Result B SyntaxError) (g : B → Result C SyntaxError) → ((r >>= f) >>= g) ≡ (r >>= λ x. f x >>= g)
+bind_bind (Ok x) f g = refl
+bind_bind (Err e) f g = refl
 
 -- a step that did not fail goes on
 pub bind_again : {A B : Type 0} (r : Result A SyntaxError) (f : A → Result B SyntaxError) (x : A) (y : Result B SyntaxError) → r ≡ Ok x → f x ≡ y → (r >>= f) ≡ y
@@ -118,7 +123,7 @@ key_token = refl
 
 pub begins_takes : (kind : TokenKind) (ts : List Token) → IsToken kind → begins kind ts ≡ true → Takes kind ts (front ts) (drop 1 ts)
 unfolding begins front
-begins_takes kind [] some e = absurd (true_false (sym e ∙ some))
+begins_takes kind [] some e = absurd (true≢false (sym e ∙ some))
 begins_takes kind (t ∷ ts) some e = (refl, kinds_same t.kind kind e)
 
 pub takes_begins : (kind : TokenKind) (ts : List Token) (t : Token) (rest : List Token) → Takes kind ts t rest → (begins kind ts ≡ true) × (front ts ≡ t) × (drop 1 ts ≡ rest)
@@ -161,7 +166,7 @@ takes_name kind want ts rest name (t, h, is) =
 pub spells_says : (kind : TokenKind) (text : List ℕ) (ts : List Token) → IsToken kind → spells kind text ts ≡ true → Says kind text ts (drop 1 ts)
 unfolding spells
 spells_says kind text ts some e =
-    let both : (a b : Bool) → a && b ≡ true → (a ≡ true) × (b ≡ true) = λ a b. elim a as (λ a. a && b ≡ true → (a ≡ true) × (b ≡ true)) [ true ↦ λ h. (refl, h) | false ↦ λ h. absurd (true_false (sym h)) ] in
+    let both : (a b : Bool) → a && b ≡ true → (a ≡ true) × (b ≡ true) = λ a b. elim a as (λ a. a && b ≡ true → (a ≡ true) × (b ≡ true)) [ true ↦ λ h. (refl, h) | false ↦ λ h. absurd (true≢false (sym h)) ] in
     let p = both (begins kind ts) (bytes_eq (front ts).text text) e in
     let h = begins_takes kind ts some p.0 in
     (front ts, h, (bytes_eq-Decides (front ts).text text).0 p.1)

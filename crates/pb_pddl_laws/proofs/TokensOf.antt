@@ -1,5 +1,5 @@
 -- A text has the tokens that are its tokens as a function, and no others.
-use Rattle.std.proofs.Common.{◌≡◌, ℕ, zero, suc, ◌-◌, ◌<◌, Bool, true, false, cond, List, [], ◌∷◌, length, take, drop, map, refl, sym, ap, subst, ◌∙◌, arith}
+use Rattle.std.proofs.Common.{◌≡◌, ℕ, zero, suc, ◌-◌, ◌<◌, Bool, true, false, cond, List, [], ◌∷◌, length, take, drop, map, refl, sym, ap, subst, ◌∙◌, arith, true≢false}
 use Rattle.std.proofs.lemmas.List.{length-drop}
 use Rattle.pb_pddl.specs.declared.token.TokenKind.{TokenKind}
 use Rattle.pb_pddl.specs.declared.token.TokenKind.TheVariants as kinds
@@ -8,9 +8,6 @@ use Rattle.pb_pddl.specs.declared.token.Cursor.{Cursor}
 use Rattle.pb_pddl.specs.Tokens.{lower, gap_len, kind_of, kind_inside, word_first, len_of, token_at, is_last, AreTokens, TextTokens, moved, start}
 use Rattle.pb_pddl.specs.Readings.{first_token, next_cursor, next_bytes, tokens_from, tokens_of}
 use Rattle.pb_pddl_laws.proofs.CondsRead.{if_true, if_false}
-
-true_false : true ≡ false → ⊥
-true_false e = cc
 
 -- ---- a token that isn't the last takes a byte at least
 
@@ -27,7 +24,7 @@ taken_some (suc n) b bs some = omega arith
 
 token_some : (h : Cursor) (bytes : List ℕ) → is_last (token_at h bytes).kind ≡ false → (0 < length bytes) × (0 < length (token_at h bytes).text)
 unfolding token_at is_last
-token_some h [] goes = absurd (true_false goes)
+token_some h [] goes = absurd (true≢false goes)
 token_some h (b ∷ bs) goes =
     let kind : TokenKind = kind_inside (length h.nest) (kind_of b (word_first bs)) in
     (omega arith, taken_some (len_of kind bs) b bs (len_some kind bs))
