@@ -1,5 +1,5 @@
 -- Parts of an action and actions, beside the table.
-use Rattle.std.proofs.Common.{◌≡◌, ℕ, true, false, cond, List, [], ◌∷◌, ◌++◌, refl, sym, ap, inl, inr}
+use Rattle.std.proofs.Common.{◌≡◌, ℕ, true, false, cond, List, [], ◌∷◌, ◌++◌, refl, sym, ap, inl, inr, append-nil}
 use Rattle.std.specs.Prelude.{codes}
 use Rattle.pb_pddl.specs.declared.token.TokenKind.TheVariants as kinds
 use Rattle.pb_pddl.specs.declared.token.Token.{Token}
@@ -12,7 +12,7 @@ use Rattle.pb_pddl.specs.Places
 use Rattle.pb_pddl.specs.Places.{fits, is_kind, is_key}
 use Rattle.pb_pddl_laws.specs.Table
 use Rattle.pb_pddl_laws.specs.Table.{Symbol, after, after_part}
-use Rattle.pb_pddl_laws.proofs.Following.{append_none, Does, nothing, does_same, does_as, does_make}
+use Rattle.pb_pddl_laws.proofs.Following.{Does, nothing, does_same, does_as, does_make}
 use Rattle.pb_pddl_laws.proofs.Refusals.{does_open, does_name}
 use Rattle.pb_pddl_laws.proofs.Closing.{does_closed}
 use Rattle.pb_pddl_laws.proofs.ConditionPlaces.{reads_cond, does_cond}
@@ -57,7 +57,7 @@ does_part_key n s t key fit =
     ]
 
 part_due : (s : ActionParts) (t : Token) → after (Table.Parts (noted_parts s)) t ≡ after (Table.Parts (noted_parts s)) t ++ []
-part_due s t = sym (append_none (after (Table.Parts (noted_parts s)) t))
+part_due s t = sym (append-nil (after (Table.Parts (noted_parts s)) t))
 
 does_parts : (n : ℕ) (said : List Action) (name : Name) → Does n (parts_behind said name) nothing (Table.Parts no_parts ∷ [])
 does_parts n said name =

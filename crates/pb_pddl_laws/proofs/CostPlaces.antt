@@ -16,7 +16,7 @@ use Rattle.pb_pddl.specs.Numbers.{is_number, number_of}
 use Rattle.pb_pddl.specs.Reading.{◌>>=◌, Read, kind_number, same_kind, front, begins, spells, is_reserved, no_token, refusal, fault_at, left_at, need, begins_reserved, only_word, total_cost_at, begins_number, number_at, cost_at, number_type, function_type, one_function, functions_at}
 use Rattle.pb_pddl.specs.Places
 use Rattle.pb_pddl.specs.Places.{Place, fits, is_kind, is_word, is_numeral, sample, takes_section, takes_part, first_fit, reserved_head, left_out, wanted, refused_token, refused}
-use Rattle.pb_pddl_laws.proofs.Singles.{kinds_same, bind_bind, bind_failed}
+use Rattle.pb_pddl_laws.proofs.Singles.{kinds_same, bind_bind, bind_failed, close_no_open, close_other}
 use Rattle.pb_pddl_laws.proofs.CondsRead.{if_true, if_false}
 use Rattle.pb_pddl_laws.proofs.Keys.{and_both}
 use Rattle.pb_pddl_laws.proofs.Readers.{Reads, Can, reads_done, can_done, reads_same, can_same, reads_then, can_then, reads_one, can_one}
@@ -442,13 +442,6 @@ function_due = total_cost_then (Table.FunctionType ∷ [])
 
 functions_due : (t : Token) (v : Bool) → is_kind kinds.Open t ≡ v → after Table.Functions t ++ [] ≡ cond v function_due [] ++ []
 functions_due t v e = ap (λ b. cond b function_due [] ++ []) e
-
-close_no_open : same_kind kinds.Close kinds.Open ≡ false
-unfolding same_kind kind_number
-close_no_open = refl
-
-close_other : (t : Token) → is_kind kinds.Close t ≡ true → is_kind kinds.Open t ≡ false
-close_other t e = ap (λ k. same_kind k kinds.Open) (kinds_same t.kind kinds.Close e) ∙ close_no_open
 
 pub does_functions : (n : ℕ) → Does n functions_at nothing (Table.Functions ∷ [])
 does_functions n =

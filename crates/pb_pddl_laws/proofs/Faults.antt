@@ -1,5 +1,5 @@
 -- Whole forms: the first token that can't go on.
-use Rattle.std.proofs.Common.{◌≡◌, ℕ, Bool, true, false, cond, List, [], ◌∷◌, ◌++◌, length, Result, Ok, Err, refl, sym, ap, subst, ◌∙◌, arith, inl, inr, Some, None, true≢false}
+use Rattle.std.proofs.Common.{◌≡◌, ℕ, Bool, true, false, cond, List, [], ◌∷◌, ◌++◌, length, Result, Ok, Err, refl, sym, ap, subst, ◌∙◌, arith, inl, inr, Some, None, true≢false, append-nil}
 use Rattle.std.proofs.lemmas.List.{append_assoc}
 use Rattle.std.specs.Prelude.{codes}
 use Rattle.std.specs.Str.{bytes_eq}
@@ -19,7 +19,7 @@ use Rattle.pb_pddl.specs.Places
 use Rattle.pb_pddl.specs.Places.{Place, fits, is_kind, sample, refused_token, refused, Begins, IsFault}
 use Rattle.pb_pddl.specs.Grammar.{IsDomain, IsProblem}
 use Rattle.pb_pddl_laws.proofs.CondsRead.{if_true}
-use Rattle.pb_pddl_laws.proofs.Readers.{bind_err, Stops, Reads, Can, reads_done, can_done, reads_same, can_same, reads_then, can_then}
+use Rattle.pb_pddl_laws.proofs.Readers.{bind_err, Stops, Reads, Can, reads_done, can_done, reads_same, can_same, reads_then, can_then, failed, err_ok}
 use Rattle.pb_pddl_laws.proofs.Refusals.{can_open, reads_open, does_open, can_close, reads_close, does_close, can_name, reads_name, does_name, can_word, reads_word, does_word}
 use Rattle.pb_pddl_laws.proofs.Keys.{decide}
 use Rattle.pb_pddl_laws.proofs.DomainPlaces.{domain_sections, can_domain_sections, reads_domain_sections}
@@ -27,17 +27,11 @@ use Rattle.pb_pddl_laws.proofs.ProblemPlaces.{sections_end, problem_sections, ca
 use Rattle.pb_pddl_laws.proofs.FormsRead.{domain_is, domain_again, problem_is, problem_again}
 use Rattle.pb_pddl_laws.specs.Table
 use Rattle.pb_pddl_laws.specs.Table.{Symbol, place_of, after, Leads, IsWhole, place_due, IsTold, domain_form, problem_form}
-use Rattle.pb_pddl_laws.proofs.Following.{Does, nothing, seen, misfit, leads_misfit, append_none, does_same, does_done, does_then, does_more}
+use Rattle.pb_pddl_laws.proofs.Following.{Does, nothing, seen, misfit, leads_misfit, does_same, does_done, does_then, does_more}
 use Rattle.pb_pddl_laws.proofs.Ends.{outcome, outcome_err, outcome_ok, whole_of, whole_misfit, due_stuck, due_fits, leading, only_end, ends_not}
 use Rattle.pb_pddl_laws.proofs.DomainFollows.{does_domain_sections}
 use Rattle.pb_pddl_laws.proofs.ProblemFollows.{does_problem_sections}
 use Rattle.pb_pddl_laws.proofs.Singles.{bind_bind}
-
-abbrev failed : {X : Type 0} → SyntaxError → Result X SyntaxError
-failed e = Err e
-
-err_ok : {X : Type 0} (e : SyntaxError) (x : X) → Ok x ≡ failed e → ⊥
-err_ok e x clash = cc
 
 -- ---- ( define ( WORD NAME )
 
@@ -224,7 +218,7 @@ module _ {X : Type 0} (body : List Token → Read X) (reads : (n : ℕ) → Read
     sees_read (Err e) = refl
 
     sees : (ts : List Token) → misfit form ts ≡ outcome (whole ts)
-    sees ts = ap (λ (s : List Symbol). misfit s ts) (sym (append_none form)) ∙ sym (does (length ts) [] ts (omega arith)) ∙ sees_read (body ts)
+    sees ts = ap (λ (s : List Symbol). misfit s ts) (sym (append-nil form)) ∙ sym (does (length ts) [] ts (omega arith)) ∙ sees_read (body ts)
 
     -- what the table tells is read
     pub stuck_is_read : (before after : List Token) (due : List Symbol) → Leads form before due → fits (place_due due) (front after) ≡ false → whole (before ++ after) ≡ Err (refused (place_due due) (front after))

@@ -8,7 +8,7 @@ use Rattle.pb_pddl.specs.Reading.{◌>>=◌, Read, front, no_token, all_of}
 use Rattle.pb_pddl.specs.Places
 use Rattle.pb_pddl.specs.Places.{Place, fits, refused}
 use Rattle.pb_pddl_laws.specs.Table.{Symbol, place_of, after, Leads}
-use Rattle.pb_pddl_laws.proofs.Readers.{Reads, then_read}
+use Rattle.pb_pddl_laws.proofs.Readers.{Reads, then_read, front_cons, front_none, part_less}
 use Rattle.pb_pddl_laws.proofs.Loops.{Takes, loop, all_more, all_stop}
 use Rattle.pb_pddl_laws.proofs.Singles.{bind_bind}
 
@@ -30,14 +30,6 @@ Does n f rest symbols = (due : List Symbol) (ts : List Token) → length ts ≤ 
 abbrev pub nothing : {X : Type 0} → X → List Symbol
 nothing x = []
 
-front_cons : (t : Token) (us : List Token) → front (t ∷ us) ≡ t
-unfolding front
-front_cons t us = refl
-
-front_none : front [] ≡ no_token
-unfolding front
-front_none = refl
-
 pub misfit_stuck : (s : Symbol) (due : List Symbol) (ts : List Token) → fits (place_of s) (front ts) ≡ false → misfit (s ∷ due) ts ≡ Some (refused (place_of s) (front ts))
 unfolding front
 misfit_stuck s due [] e = refl
@@ -58,10 +50,6 @@ pub leads_misfit : (whole : List Symbol) (before : List Token) (due : List Symbo
 leads_misfit whole [] due us e = ap (λ (d : List Symbol). misfit d us) (sym e)
 leads_misfit [] (t ∷ before) due us e = absurd e
 leads_misfit (s ∷ whole) (t ∷ before) due us e = misfit_goes s whole t (before ++ us) e.0 ∙ leads_misfit (after s t ++ whole) before due us e.1
-
-pub append_none : {A : Type 0} (list : List A) → list ++ [] ≡ list
-append_none [] = refl
-append_none (x ∷ list) = ap (λ (l : List _). x ∷ l) (append_none list)
 
 -- ---- readers that give the same, or read nothing
 
@@ -93,9 +81,6 @@ does_more n f symbols more d = λ due ts few. same_seen more due (f ts) ∙ d (m
 -- ---- one after another
 
 module _ {X Y : Type 0} (g : List Token → Read X) (h : X → List Token → Read Y) (mid : X → List Symbol) (rest : Y → List Symbol) (symbols : List Symbol) where
-  part_less : (n : ℕ) (ts used us : List Token) → length ts ≤ n → ts ≡ used ++ us → length us ≤ n
-  part_less n ts used us few is = let e : length ts ≡ length used + length us = ap length is ∙ length-append used us in omega (arith, e)
-
   pub does_then : (n : ℕ) → Reads X n g → Does n g mid symbols → ((x : X) → Does n (h x) rest (mid x)) → Does n (then_read g h) rest symbols
   does_then n r d k = λ due ts few. at due ts few (g ts) refl ∙ d due ts few
     where

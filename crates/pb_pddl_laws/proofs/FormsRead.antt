@@ -10,7 +10,7 @@ use Rattle.pb_pddl.specs.declared.tree.Predicate.{Predicate}
 use Rattle.pb_pddl.specs.declared.tree.Action.{Action}
 use Rattle.pb_pddl.specs.declared.tree.Cost.{Cost}
 use Rattle.pb_pddl.specs.declared.error.Want.TheVariants as wants
-use Rattle.pb_pddl_laws.proofs.Singles.{guard_ok, done, kinds_same, same_self, ok_pair, bind_ok, bind_again, need_takes, takes_need, name_takes, takes_name, open_token, close_token, word_token, spells_says, says_spells}
+use Rattle.pb_pddl_laws.proofs.Singles.{guard_ok, done, kinds_same, same_self, ok_pair, bind_ok, bind_again, need_takes, takes_need, name_takes, takes_name, open_token, close_token, word_token, spells_says, says_spells, ok_is}
 use Rattle.pb_pddl_laws.proofs.ManyRead.{all_sound, all_complete}
 use Rattle.pb_pddl_laws.proofs.CondsRead.{if_cases, if_true}
 use Rattle.pb_pddl.specs.declared.tree.Domain.{Domain}
@@ -76,9 +76,6 @@ end_sound ts us e =
 end_complete : (ts : List Token) → Ends ts → end_at ts ≡ Ok ts
 unfolding end_at begins
 end_complete ts is = if_true (begins kinds.End ts) _ _ (ap (λ k. same_kind k kinds.End) is ∙ same_self kinds.End)
-
-ok_is : {A : Type 0} (x y : A) → done x ≡ done y → x ≡ y
-ok_is x y e = cc
 
 abbrev domain_of : Name → DomainParts → Domain
 domain_of name all = record { name = name; types = or_empty all.types; constants = or_empty all.constants; predicates = or_empty all.predicates; actions = all.actions; has_cost = all.has_cost }

@@ -18,7 +18,7 @@ use Rattle.pb_pddl.specs.Reading.{◌>>=◌, Read, same_kind, kind_number, front
 use Rattle.pb_pddl.specs.Places
 use Rattle.pb_pddl.specs.Places.{fits, is_kind, refused}
 use Rattle.pb_pddl_laws.proofs.Singles.{need_takes, open_token, name_takes, word_token}
-use Rattle.pb_pddl_laws.proofs.Readers.{Reads}
+use Rattle.pb_pddl_laws.proofs.Readers.{Reads, failed, err_ok}
 use Rattle.pb_pddl_laws.proofs.Keys.{decide}
 use Rattle.pb_pddl_laws.proofs.PartKeys.{part_key_refused}
 use Rattle.pb_pddl_laws.proofs.ActionPlaces.{reads_part_key}
@@ -27,12 +27,6 @@ use Rattle.pb_pddl_laws.proofs.ProblemPlaces
 use Rattle.pb_pddl_laws.proofs.Nesting.{Shallow, text_shallow, shallow_behind, takes_shallow, all_agree}
 use Rattle.pb_pddl_laws.proofs.Rooms.{cond_agree, effect_agree}
 use Rattle.pb_pddl_laws.proofs.Faults.{reads_title, domain_same, problem_same}
-
-abbrev failed : {X : Type 0} → SyntaxError → Result X SyntaxError
-failed e = Err e
-
-err_ok : {X : Type 0} (e : SyntaxError) (x : X) → Ok x ≡ failed e → ⊥
-err_ok e x clash = cc
 
 -- what follows agrees
 then_agree : {X Y : Type 0} (r : Result X SyntaxError) (f g : X → Result Y SyntaxError) → ((x : X) → r ≡ Ok x → f x ≡ g x) → (r >>= f) ≡ (r >>= g)

@@ -21,7 +21,7 @@ use Rattle.pb_pddl_laws.proofs.ActionsRead.{none_is}
 use Rattle.pb_pddl_laws.proofs.Keys.{and_both}
 use Rattle.pb_pddl.specs.Places
 use Rattle.pb_pddl.specs.Places.{fits, is_kind, is_key, sample, reserved_head, other_key, is_part_key, is_domain_key, is_problem_key, takes_section, takes_part, first_fit, left_out, wanted, refused_token, refused}
-use Rattle.pb_pddl_laws.proofs.Singles.{kinds_same, bind_bind}
+use Rattle.pb_pddl_laws.proofs.Singles.{kinds_same, bind_bind, close_no_open, open_no_close, close_other}
 use Rattle.pb_pddl_laws.proofs.CondsRead.{if_true, if_false}
 use Rattle.pb_pddl_laws.proofs.Readers.{Reads, Can, reads_done, can_done, reads_same, can_same, reads_then, can_then, reads_one, can_one}
 use Rattle.pb_pddl_laws.proofs.Loops.{Takes, loop, all_more, all_stop, reads_loop}
@@ -300,19 +300,8 @@ unfolding refused_token left_out wanted
 section_plain s t e =
     plain (Places.MoreSections s) t (sections_want s) refl (ap (λ b. if b then None else reserved_head t) e) (ap (λ b. if b then wants.Missing else first_fit (Places.MoreSections s)) e ∙ sections_first s)
 
-open_no_close : same_kind kinds.Open kinds.Close ≡ false
-unfolding same_kind kind_number
-open_no_close = refl
-
-close_no_open : same_kind kinds.Close kinds.Open ≡ false
-unfolding same_kind kind_number
-close_no_open = refl
-
 open_other : (t : Token) → is_kind kinds.Open t ≡ true → is_kind kinds.Close t ≡ false
 open_other t e = ap (λ k. same_kind k kinds.Close) (kinds_same t.kind kinds.Open e) ∙ open_no_close
-
-close_other : (t : Token) → is_kind kinds.Close t ≡ true → is_kind kinds.Open t ≡ false
-close_other t e = ap (λ k. same_kind k kinds.Open) (kinds_same t.kind kinds.Close e) ∙ close_no_open
 
 open_fits : (s : ProblemParts) (t : Token) → is_kind kinds.Open t ≡ true → fits (Places.MoreSections s) t ≡ not (stood_all s) || false
 unfolding fits

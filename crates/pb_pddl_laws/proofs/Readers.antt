@@ -8,10 +8,10 @@ use Rattle.pb_pddl.specs.Reading.{◌>>=◌, Read, front, no_token}
 use Rattle.pb_pddl.specs.Places.{Place, fits, refused}
 use Rattle.pb_pddl_laws.proofs.Singles.{bind_ok, bind_again, ok_pair}
 
-abbrev failed : {X : Type 0} → SyntaxError → Result X SyntaxError
+abbrev pub failed : {X : Type 0} → SyntaxError → Result X SyntaxError
 failed e = Err e
 
-err_ok : {X : Type 0} (e : SyntaxError) (x : X) → Ok x ≡ failed e → ⊥
+pub err_ok : {X : Type 0} (e : SyntaxError) (x : X) → Ok x ≡ failed e → ⊥
 err_ok e x clash = cc
 
 pub bind_err : {A B : Type 0} (r : Result A SyntaxError) (f : A → Result B SyntaxError) (e : SyntaxError) → (r >>= f) ≡ Err e → (r ≡ Err e) ⊎ ((x : A) × (r ≡ Ok x) × (f x ≡ Err e))
@@ -82,6 +82,9 @@ can_done x = ([], x, λ rest. refl)
 
 -- ---- one after another
 
+pub part_less : (n : ℕ) (ts used rest : List Token) → length ts ≤ n → ts ≡ used ++ rest → length rest ≤ n
+part_less n ts used rest few is = let e : length ts ≡ length used + length rest = ap length is ∙ length-append used rest in omega (arith, e)
+
 module _ {X Y : Type 0} (g : List Token → Read X) (h : X → List Token → Read Y) where
   abbrev pub then_read : List Token → Read Y
   then_read ts = g ts >>= λ p. h p.0 p.1
@@ -139,9 +142,6 @@ module _ {X Y : Type 0} (g : List Token → Read X) (h : X → List Token → Re
         );
   }
 
-  part_less : (n : ℕ) (ts used rest : List Token) → length ts ≤ n → ts ≡ used ++ rest → length rest ≤ n
-  part_less n ts used rest few is = let e : length ts ≡ length used + length rest = ap length is ∙ length-append used rest in omega (arith, e)
-
   pub reads_then : (n : ℕ) → Reads X n g → ((x : X) → Reads Y n (h x)) → ((x : X) → Can (h x)) → Reads Y n then_read
   reads_then n r k can = record {
     frames = λ ts y rest few e.
@@ -160,11 +160,11 @@ module _ {X Y : Type 0} (g : List Token → Read X) (h : X → List Token → Re
 
 -- ---- one token, which fits a place, and then the rest
 
-front_cons : (t : Token) (us : List Token) → front (t ∷ us) ≡ t
+pub front_cons : (t : Token) (us : List Token) → front (t ∷ us) ≡ t
 unfolding front
 front_cons t us = refl
 
-front_none : front [] ≡ no_token
+pub front_none : front [] ≡ no_token
 unfolding front
 front_none = refl
 

@@ -31,7 +31,7 @@ bind_again r f x y e h = ap (λ q. q >>= f) e ∙ h
 abbrev pub done : {A : Type 0} → A → Result A SyntaxError
 done x = Ok x
 
-ok_is : {A : Type 0} (x y : A) → done x ≡ done y → x ≡ y
+pub ok_is : {A : Type 0} (x y : A) → done x ≡ done y → x ≡ y
 ok_is x y e = cc
 
 pub ok_pair : {S : Type 0} (a b : S) (ts us : List Token) → done {A = S × List Token} (a, ts) ≡ done {A = S × List Token} (b, us) → (a ≡ b) × (ts ≡ us)
@@ -213,3 +213,6 @@ word_no_equals = refl
 pub word_no_close : same_kind kinds.Word kinds.Close ≡ false
 unfolding same_kind kind_number
 word_no_close = refl
+
+pub close_other : (t : Token) → same_kind t.kind kinds.Close ≡ true → same_kind t.kind kinds.Open ≡ false
+close_other t e = ap (λ k. same_kind k kinds.Open) (kinds_same t.kind kinds.Close e) ∙ close_no_open
