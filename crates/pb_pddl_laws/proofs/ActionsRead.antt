@@ -19,7 +19,6 @@ use Rattle.pb_pddl_laws.proofs.ManyRead.{IsSound, IsComplete, all_sound, all_com
 use Rattle.pb_pddl_laws.proofs.CondsRead.{if_cases, if_true, if_false, cond_sound, cond_complete}
 use Rattle.pb_pddl_laws.proofs.EffectsRead.{other_word, effect_sound, effect_complete}
 use Rattle.pb_pddl_laws.proofs.ListsRead.{list_sound, list_complete, list_less, variables_listed}
-use Rattle.std.specs.Str.{bytes_eq}
 use Rattle.pb_pddl_laws.proofs.PiecesRead.{key_stops}
 
 pub is_none : {A : Type 0} (o : Option A) → is_some o ≡ false → o ≡ None

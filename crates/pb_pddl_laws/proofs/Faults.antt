@@ -14,89 +14,37 @@ use Rattle.pb_pddl.specs.declared.parts.ProblemParts.{ProblemParts}
 use Rattle.pb_pddl.specs.declared.error.SyntaxError.{SyntaxError}
 use Rattle.pb_pddl.specs.declared.error.SyntaxError.TheVariants as errors
 use Rattle.pb_pddl.specs.declared.error.Want.TheVariants as wants
-use Rattle.pb_pddl.specs.Reading.{◌>>=◌, Read, kind_number, same_kind, front, begins, begins_open, need, need_word, name_at, all_of, title_at, end_at, unlimited, or_empty, domain_section, no_domain, domain_at, problem_section, no_problem, sections_want, there, problem_at}
+use Rattle.pb_pddl.specs.Reading.{◌>>=◌, Read, kind_number, same_kind, front, begins, begins_open, need, all_of, title_at, end_at, unlimited, or_empty, domain_section, no_domain, domain_at, problem_section, no_problem, sections_want, there, problem_at}
 use Rattle.pb_pddl.specs.Places
 use Rattle.pb_pddl.specs.Places.{Place, fits, is_kind, sample, refused_token, refused, Begins, IsFault}
 use Rattle.pb_pddl.specs.Grammar.{IsDomain, IsProblem}
 use Rattle.pb_pddl_laws.proofs.CondsRead.{if_true}
-use Rattle.pb_pddl_laws.proofs.Readers.{bind_err, Stops, Reads, Can, reads_done, can_done, reads_same, can_same, reads_then, can_then, failed, err_ok}
-use Rattle.pb_pddl_laws.proofs.Refusals.{can_open, reads_open, does_open, can_close, reads_close, does_close, can_name, reads_name, does_name, can_word, reads_word, does_word}
+use Rattle.pb_pddl_laws.proofs.Readers.{failed, err_ok, bind_err, Stops}
 use Rattle.pb_pddl_laws.proofs.Keys.{decide}
-use Rattle.pb_pddl_laws.proofs.DomainPlaces.{domain_sections, can_domain_sections, reads_domain_sections}
-use Rattle.pb_pddl_laws.proofs.ProblemPlaces.{sections_end, problem_sections, can_problem_sections, reads_problem_sections}
 use Rattle.pb_pddl_laws.proofs.FormsRead.{domain_is, domain_again, problem_is, problem_again}
 use Rattle.pb_pddl_laws.specs.Table
 use Rattle.pb_pddl_laws.specs.Table.{Symbol, place_of, after, Leads, IsWhole, place_due, IsTold, domain_form, problem_form}
-use Rattle.pb_pddl_laws.proofs.Following.{Does, nothing, seen, misfit, leads_misfit, does_same, does_done, does_then, does_more}
+use Rattle.pb_pddl_laws.proofs.Following.{nothing, seen, misfit, leads_misfit}
 use Rattle.pb_pddl_laws.proofs.Ends.{outcome, outcome_err, outcome_ok, whole_of, whole_misfit, due_stuck, due_fits, leading, only_end, ends_not}
-use Rattle.pb_pddl_laws.proofs.DomainFollows.{does_domain_sections}
-use Rattle.pb_pddl_laws.proofs.ProblemFollows.{does_problem_sections}
 use Rattle.pb_pddl_laws.proofs.Singles.{bind_bind}
+use Rattle.pb_pddl_laws.proofs.Agreeing.{Agrees, agrees_then, agrees_more}
+use Rattle.pb_pddl_laws.proofs.Refusals.{agrees_open, agrees_word, agrees_name, agrees_closed_value}
+use Rattle.pb_pddl_laws.proofs.DomainPlaces.{domain_sections, agrees_domain_sections}
+use Rattle.pb_pddl_laws.proofs.ProblemPlaces.{sections_end, problem_sections, agrees_problem_sections}
 
 -- ---- ( define ( WORD NAME )
 
-define_same : bytes_eq (codes "define") (codes "define") ≡ true
-define_same = refl
-
 module _ (word : List ℕ) (same : bytes_eq word word ≡ true) where
-  abbrev name_end : Name → List Token → Read Name
-  name_end name ts = need kinds.Close wants.Close ts >>= λ rest. Ok (name, rest)
-
-  can_name_end : (name : Name) → Can (name_end name)
-  can_name_end name = can_close (λ rest. Ok (name, rest)) (can_done name)
-
-  abbrev at_name : List Token → Read Name
-  at_name ts = name_at kinds.Word wants.Name ts >>= λ p. name_end p.0 p.1
-
-  abbrev at_word : List Token → Read Name
-  at_word ts = need_word word ts >>= at_name
-
-  abbrev at_title : List Token → Read Name
-  at_title ts = need kinds.Open wants.Paren ts >>= at_word
-
-  abbrev at_define : List Token → Read Name
-  at_define ts = need_word (codes "define") ts >>= at_title
-
-  can_at_name : Can at_name
-  can_at_name = can_name name_end can_name_end
-
-  can_at_word : Can at_word
-  can_at_word = can_word at_name can_at_name word same
-
-  can_at_title : Can at_title
-  can_at_title = can_open at_word can_at_word
-
-  can_at_define : Can at_define
-  can_at_define = can_word at_title can_at_title (codes "define") define_same
-
-  title_is : (ts : List Token) → title_at word ts ≡ (need kinds.Open wants.Paren ts >>= at_define)
-  unfolding title_at
-  title_is ts = refl
-
-  pub can_title : Can (title_at word)
-  can_title = can_same (title_at word) _ title_is (can_open at_define can_at_define)
-
-  pub reads_title : (n : ℕ) → Reads Name n (title_at word)
-  reads_title n =
-      reads_same (title_at word) _ title_is n (reads_open at_define can_at_define n (λ a la.
-      reads_word at_title can_at_title (codes "define") define_same a (λ b lb.
-      reads_open at_word can_at_word b (λ c lc. reads_word at_name can_at_name word same c (λ d ld. reads_name name_end can_name_end d (λ e le name. reads_close (λ rest. Ok (name, rest)) (can_done name) e (λ f lf. reads_done f name)))))))
-
-  abbrev pub title_due : List Symbol
+  abbrev title_due : List Symbol
   title_due = Table.Opening ∷ Table.ThisWord (codes "define") ∷ Table.Opening ∷ Table.ThisWord word ∷ Table.AnyName ∷ Table.Closing ∷ []
 
-  pub does_title : (n : ℕ) → Does n (title_at word) nothing title_due
-  does_title n =
-      does_same n (title_at word) _ nothing title_due title_is
-      (does_open at_define can_at_define nothing (Table.ThisWord (codes "define") ∷ Table.Opening ∷ Table.ThisWord word ∷ Table.AnyName ∷ Table.Closing ∷ []) n (λ a la.
-      does_word at_title can_at_title (codes "define") define_same nothing (Table.Opening ∷ Table.ThisWord word ∷ Table.AnyName ∷ Table.Closing ∷ []) a (λ b lb.
-      does_open at_word can_at_word nothing (Table.ThisWord word ∷ Table.AnyName ∷ Table.Closing ∷ []) b (λ c lc.
-      does_word at_name can_at_name word same nothing (Table.AnyName ∷ Table.Closing ∷ []) c (λ d ld.
-      does_name name_end can_name_end nothing (Table.Closing ∷ []) d (λ e le name. does_close (λ rest. Ok (name, rest)) (can_done name) nothing [] e (λ f lf. does_done f nothing name)))))))
+  pub agrees_title : Agrees Name (title_at word) nothing title_due
+  unfolding title_at
+  agrees_title = agrees_open (agrees_word (codes "define") refl (agrees_open (agrees_word word same (agrees_name (λ name ts. need kinds.Close wants.Close ts >>= λ rest. Ok (name, rest)) agrees_closed_value))))
 
 -- ---- what is read, with nothing behind it
 
-module _ {X : Type 0} (body : List Token → Read X) (reads : (n : ℕ) → Reads X n body) (can : Can body) where
+module _ {X : Type 0} (body : List Token → Read X) (form : List Symbol) (agrees : Agrees X body nothing form) where
   abbrev pub whole : List Token → Result X SyntaxError
   whole ts = body ts >>= λ p. (end_at p.1 >>= λ e. Ok p.0)
 
@@ -166,9 +114,9 @@ module _ {X : Type 0} (body : List Token → Read X) (reads : (n : ℕ) → Read
   pub whole_faults : (ts : List Token) (e : SyntaxError) → whole ts ≡ Err e
       → (before : List Token) × (after : List Token) × (place : Place) × (ts ≡ before ++ after) × (fits place (front after) ≡ false) × Halts before place
   whole_faults ts e err = elim (bind_err (body ts) (λ p. (end_at p.1 >>= λ q. Ok p.0)) e err) [
-    | inl first ↦ let u = (reads (length ts)).faults ts e (omega arith) first in (u.0, u.1, u.2, u.3, u.4, halts_inside u.0 u.2 u.5)
+    | inl first ↦ let u = (agrees.reads (length ts)).faults ts e (omega arith) first in (u.0, u.1, u.2, u.3, u.4, halts_inside u.0 u.2 u.5)
     | inr (p, ok, second) ↦
-        let a = (reads (length ts)).frames ts p.0 p.1 (omega arith) ok in
+        let a = (agrees.reads (length ts)).frames ts p.0 p.1 (omega arith) ok in
         (a.0, p.1, Places.TheEnd, a.1, end_fault p.1 p.0 e second, halts_behind a.0 p.0 a.2)
   ]
 
@@ -199,86 +147,79 @@ module _ {X : Type 0} (body : List Token → Read X) (reads : (n : ℕ) → Read
 
   -- ---- beside the table
 
-  module _ (form : List Symbol) (does : (n : ℕ) → Does n body nothing form) where
-    is_end : (ts : List Token) → fits Places.TheEnd (front ts) ≡ true → is_kind kinds.End (front ts) ≡ true
-    unfolding fits
-    is_end ts e = e
+  is_end : (ts : List Token) → fits Places.TheEnd (front ts) ≡ true → is_kind kinds.End (front ts) ≡ true
+  unfolding fits
+  is_end ts e = e
 
-    abbrev ending : X × List Token → Result X SyntaxError
-    ending p = end_at p.1 >>= λ q. Ok p.0
+  abbrev ending : X × List Token → Result X SyntaxError
+  ending p = end_at p.1 >>= λ q. Ok p.0
 
-    sees_end : (p : X × List Token) (v : Bool) → fits Places.TheEnd (front p.1) ≡ v → misfit [] p.1 ≡ outcome (ending p)
-    sees_end p true e =
-        ap (λ b. cond b None (Some (refused Places.TheEnd (front p.1)))) e ∙ sym (ap (λ (r : Result (List Token) SyntaxError). outcome {X = X} (r >>= λ q. Ok p.0)) (end_fits p.1 (is_end p.1 e)))
-    sees_end p false e =
-        ap (λ b. cond b None (Some (refused Places.TheEnd (front p.1)))) e ∙ sym (ap (λ (r : Result (List Token) SyntaxError). outcome {X = X} (r >>= λ q. Ok p.0)) (end_refused p.1 e))
+  sees_end : (p : X × List Token) (v : Bool) → fits Places.TheEnd (front p.1) ≡ v → misfit [] p.1 ≡ outcome (ending p)
+  sees_end p true e =
+      ap (λ b. cond b None (Some (refused Places.TheEnd (front p.1)))) e ∙ sym (ap (λ (r : Result (List Token) SyntaxError). outcome {X = X} (r >>= λ q. Ok p.0)) (end_fits p.1 (is_end p.1 e)))
+  sees_end p false e =
+      ap (λ b. cond b None (Some (refused Places.TheEnd (front p.1)))) e ∙ sym (ap (λ (r : Result (List Token) SyntaxError). outcome {X = X} (r >>= λ q. Ok p.0)) (end_refused p.1 e))
 
-    sees_read : (r : Read X) → seen nothing [] r ≡ outcome (r >>= ending)
-    sees_read (Ok p) = sees_end p (fits Places.TheEnd (front p.1)) refl
-    sees_read (Err e) = refl
+  sees_read : (r : Read X) → seen nothing [] r ≡ outcome (r >>= ending)
+  sees_read (Ok p) = sees_end p (fits Places.TheEnd (front p.1)) refl
+  sees_read (Err e) = refl
 
-    sees : (ts : List Token) → misfit form ts ≡ outcome (whole ts)
-    sees ts = ap (λ (s : List Symbol). misfit s ts) (sym (append-nil form)) ∙ sym (does (length ts) [] ts (omega arith)) ∙ sees_read (body ts)
+  sees : (ts : List Token) → misfit form ts ≡ outcome (whole ts)
+  sees ts = ap (λ (s : List Symbol). misfit s ts) (sym (append-nil form)) ∙ sym (agrees.does (length ts) [] ts (omega arith)) ∙ sees_read (body ts)
 
-    -- what the table tells is read
-    pub stuck_is_read : (before after : List Token) (due : List Symbol) → Leads form before due → fits (place_due due) (front after) ≡ false → whole (before ++ after) ≡ Err (refused (place_due due) (front after))
-    stuck_is_read before after due leads stuck =
-        outcome_err (whole (before ++ after)) (refused (place_due due) (front after)) (sym (sees (before ++ after)) ∙ leads_misfit form before due after leads ∙ due_stuck due after stuck)
+  -- what the table tells is read
+  pub stuck_is_read : (before after : List Token) (due : List Symbol) → Leads form before due → fits (place_due due) (front after) ≡ false → whole (before ++ after) ≡ Err (refused (place_due due) (front after))
+  stuck_is_read before after due leads stuck =
+      outcome_err (whole (before ++ after)) (refused (place_due due) (front after)) (sym (sees (before ++ after)) ∙ leads_misfit form before due after leads ∙ due_stuck due after stuck)
 
-    pub told_is_read : (Is : List Token → X → Type 0) (ts : List Token) (e : SyntaxError) → IsTold X Is form ts e → whole ts ≡ Err e
-    told_is_read Is ts e t = ap whole t.split ∙ stuck_is_read t.before t.after t.due t.leads t.stuck ∙ ap (λ (d : SyntaxError). Err d) (sym t.error)
+  pub told_is_read : (Is : List Token → X → Type 0) (ts : List Token) (e : SyntaxError) → IsTold X Is form ts e → whole ts ≡ Err e
+  told_is_read Is ts e t = ap whole t.split ∙ stuck_is_read t.before t.after t.due t.leads t.stuck ∙ ap (λ (d : SyntaxError). Err d) (sym t.error)
 
-    -- the whole forms of the table are those that are read
-    pub whole_is : (Is : List Token → X → Type 0) → ((ts : List Token) (x : X) → whole ts ≡ Ok x → Is ts x) → (ts : List Token) → IsWhole form ts → (x : X) × Is ts x
-    whole_is Is sound ts w = let o = outcome_ok (whole ts) (sym (sees ts) ∙ whole_misfit form ts w) in (o.0, sound ts o.0 o.1)
+  -- the whole forms of the table are those that are read
+  pub whole_is : (Is : List Token → X → Type 0) → ((ts : List Token) (x : X) → whole ts ≡ Ok x → Is ts x) → (ts : List Token) → IsWhole form ts → (x : X) × Is ts x
+  whole_is Is sound ts w = let o = outcome_ok (whole ts) (sym (sees ts) ∙ whole_misfit form ts w) in (o.0, sound ts o.0 o.1)
 
-    pub is_whole : (Is : List Token → X → Type 0) → ((ts : List Token) (x : X) → Is ts x → whole ts ≡ Ok x) → (ts : List Token) (x : X) → Is ts x → IsWhole form ts
-    is_whole Is complete ts x is = whole_of form ts (sees ts ∙ ap outcome (complete ts x is))
+  pub is_whole : (Is : List Token → X → Type 0) → ((ts : List Token) (x : X) → Is ts x → whole ts ≡ Ok x) → (ts : List Token) (x : X) → Is ts x → IsWhole form ts
+  is_whole Is complete ts x is = whole_of form ts (sees ts ∙ ap outcome (complete ts x is))
 
-    -- a token that the place refuses does not fit what is due
-    not_due : (before : List Token) (place : Place) → Halts before place → (due : List Symbol) → Leads form before due → (t : Token) → fits place t ≡ false → fits (place_due due) t ≡ true → ⊥
-    not_due before place h due leads t misfits fit = only_end due t (refused place t) fit (λ us. sym (leads_misfit form before due (t ∷ us) leads) ∙ sees (before ++ t ∷ us) ∙ ap outcome (refuses_one before place h t us misfits)) (λ n is. refused_end n is)
-      where
-        refused_end : (n : ℕ) → refused place t ≡ errors.Unclosed n → is_kind kinds.End t ≡ true
-        refused_end n is = ends_not place t n is
+  -- a token that the place refuses does not fit what is due
+  not_due : (before : List Token) (place : Place) → Halts before place → (due : List Symbol) → Leads form before due → (t : Token) → fits place t ≡ false → fits (place_due due) t ≡ true → ⊥
+  not_due before place h due leads t misfits fit = only_end due t (refused place t) fit (λ us. sym (leads_misfit form before due (t ∷ us) leads) ∙ sees (before ++ t ∷ us) ∙ ap outcome (refuses_one before place h t us misfits)) (λ n is. refused_end n is)
+    where
+      refused_end : (n : ℕ) → refused place t ≡ errors.Unclosed n → is_kind kinds.End t ≡ true
+      refused_end n is = ends_not place t n is
 
-    same_fit : (before : List Token) (place : Place) → Halts before place → (due : List Symbol) → Leads form before due → (t : Token) (v : Bool) → fits place t ≡ v → fits (place_due due) t ≡ v
-    same_fit before place h due leads t true fit =
-        let c = h.goes_on t fit in due_fits due t c.0 (sym (leads_misfit form before due (t ∷ c.0) leads) ∙ sees (before ++ t ∷ c.0) ∙ ap outcome c.2)
-    same_fit before place h due leads t false misfits = decide (fits (place_due due) t) (λ fit. absurd (not_due before place h due leads t misfits fit)) (λ other. other)
+  same_fit : (before : List Token) (place : Place) → Halts before place → (due : List Symbol) → Leads form before due → (t : Token) (v : Bool) → fits place t ≡ v → fits (place_due due) t ≡ v
+  same_fit before place h due leads t true fit =
+      let c = h.goes_on t fit in due_fits due t c.0 (sym (leads_misfit form before due (t ∷ c.0) leads) ∙ sees (before ++ t ∷ c.0) ∙ ap outcome c.2)
+  same_fit before place h due leads t false misfits = decide (fits (place_due due) t) (λ fit. absurd (not_due before place h due leads t misfits fit)) (λ other. other)
 
-    pub told_fault : (Is : List Token → X → Type 0) → ((ts : List Token) (x : X) → whole ts ≡ Ok x → Is ts x) → ((ts : List Token) (x : X) → Is ts x → whole ts ≡ Ok x) → (ts : List Token) (e : SyntaxError) → whole ts ≡ Err e → IsTold X Is form ts e
-    told_fault Is sound complete ts e err =
-        let u = whole_faults ts e err in
-        let h = u.5 in
-        let l = leading form u.0 h.lives.0 u.1 e (sees (u.0 ++ h.lives.0) ∙ ap outcome h.lives.2) (sees (u.0 ++ u.1) ∙ ap outcome (ap whole (sym u.3) ∙ err)) in
-        let same : (t : Token) → fits (place_due l.0) t ≡ fits u.2 t = λ t. same_fit u.0 u.2 h l.0 l.1 t (fits u.2 t) refl in
-        let stuck : fits (place_due l.0) (front u.1) ≡ false = same (front u.1) ∙ u.4 in
-        record {
-          before = u.0;
-          after = u.1;
-          due = l.0;
-          split = u.3;
-          leads = l.1;
-          begins = (h.lives.0, h.lives.1, sound (u.0 ++ h.lives.0) h.lives.1 h.lives.2);
-          follows = λ t fit.
-              let c = h.goes_on t (sym (same t) ∙ fit) in (c.0, c.1, subst (λ (us : List Token). Is us c.1) (sym (append_assoc u.0 (t ∷ []) c.0)) (sound (u.0 ++ t ∷ c.0) c.1 c.2));
-          ends = λ t misfits begun.
-              err_ok (refused u.2 t) begun.1
-              (sym (complete ((u.0 ++ t ∷ []) ++ begun.0) begun.1 begun.2) ∙ ap whole (append_assoc u.0 (t ∷ []) begun.0) ∙ refuses_one u.0 u.2 h t begun.0 (sym (same t) ∙ misfits));
-          stuck = stuck;
-          error = equal e (refused (place_due l.0) (front u.1)) (sym err ∙ ap whole u.3 ∙ stuck_is_read u.0 u.1 l.0 l.1 stuck);
-        } where
-          equal : (a b : SyntaxError) → failed {X = X} a ≡ failed b → a ≡ b
-          equal a b is = cc
+  pub told_fault : (Is : List Token → X → Type 0) → ((ts : List Token) (x : X) → whole ts ≡ Ok x → Is ts x) → ((ts : List Token) (x : X) → Is ts x → whole ts ≡ Ok x) → (ts : List Token) (e : SyntaxError) → whole ts ≡ Err e → IsTold X Is form ts e
+  told_fault Is sound complete ts e err =
+      let u = whole_faults ts e err in
+      let h = u.5 in
+      let l = leading form u.0 h.lives.0 u.1 e (sees (u.0 ++ h.lives.0) ∙ ap outcome h.lives.2) (sees (u.0 ++ u.1) ∙ ap outcome (ap whole (sym u.3) ∙ err)) in
+      let same : (t : Token) → fits (place_due l.0) t ≡ fits u.2 t = λ t. same_fit u.0 u.2 h l.0 l.1 t (fits u.2 t) refl in
+      let stuck : fits (place_due l.0) (front u.1) ≡ false = same (front u.1) ∙ u.4 in
+      record {
+        before = u.0;
+        after = u.1;
+        due = l.0;
+        split = u.3;
+        leads = l.1;
+        begins = (h.lives.0, h.lives.1, sound (u.0 ++ h.lives.0) h.lives.1 h.lives.2);
+        follows = λ t fit.
+            let c = h.goes_on t (sym (same t) ∙ fit) in (c.0, c.1, subst (λ (us : List Token). Is us c.1) (sym (append_assoc u.0 (t ∷ []) c.0)) (sound (u.0 ++ t ∷ c.0) c.1 c.2));
+        ends = λ t misfits begun.
+            err_ok (refused u.2 t) begun.1
+            (sym (complete ((u.0 ++ t ∷ []) ++ begun.0) begun.1 begun.2) ∙ ap whole (append_assoc u.0 (t ∷ []) begun.0) ∙ refuses_one u.0 u.2 h t begun.0 (sym (same t) ∙ misfits));
+        stuck = stuck;
+        error = equal e (refused (place_due l.0) (front u.1)) (sym err ∙ ap whole u.3 ∙ stuck_is_read u.0 u.1 l.0 l.1 stuck);
+      } where
+        equal : (a b : SyntaxError) → failed {X = X} a ≡ failed b → a ≡ b
+        equal a b is = cc
 
 -- ---- domains and problems
-
-pub domain_same : bytes_eq (codes "domain") (codes "domain") ≡ true
-domain_same = refl
-
-pub problem_same : bytes_eq (codes "problem") (codes "problem") ≡ true
-problem_same = refl
 
 bind_same : {A B : Type 0} (r : Result A SyntaxError) (f g : A → Result B SyntaxError) → ((x : A) → f x ≡ g x) → (r >>= f) ≡ (r >>= g)
 bind_same (Ok x) f g same = same x
@@ -290,14 +231,10 @@ domain_of name all = record { name = name; types = or_empty all.types; constants
 abbrev domain_body : List Token → Read Domain
 domain_body ts = title_at (codes "domain") ts >>= λ p. domain_sections (domain_of p.0) no_domain p.1
 
-can_domain : Can domain_body
-can_domain = can_then (title_at (codes "domain")) (λ name. domain_sections (domain_of name) no_domain) (can_title (codes "domain") domain_same) (λ name. can_domain_sections (domain_of name) no_domain)
+agrees_domain : Agrees Domain domain_body nothing domain_form
+agrees_domain = agrees_then (λ name. domain_sections (domain_of name) no_domain) (agrees_more (Table.DomainSections no_domain ∷ []) (agrees_title (codes "domain") refl)) (λ name. agrees_domain_sections (domain_of name) no_domain)
 
-reads_domain : (n : ℕ) → Reads Domain n domain_body
-reads_domain n =
-    reads_then (title_at (codes "domain")) (λ name. domain_sections (domain_of name) no_domain) n (reads_title (codes "domain") domain_same n) (λ name. reads_domain_sections (domain_of name) n no_domain) (λ name. can_domain_sections (domain_of name) no_domain)
-
-domain_whole : (ts : List Token) → domain_at unlimited ts ≡ whole domain_body reads_domain can_domain ts
+domain_whole : (ts : List Token) → domain_at unlimited ts ≡ whole domain_body domain_form agrees_domain ts
 unfolding domain_at
 domain_whole ts =
     bind_same (title_at (codes "domain") ts) _ _ (λ name.
@@ -307,25 +244,20 @@ domain_whole ts =
 
 pub domain_fault : (ts : List Token) (e : SyntaxError) → domain_at unlimited ts ≡ Err e → IsFault Domain IsDomain ts e
 domain_fault ts e err =
-    fault_is domain_body reads_domain can_domain IsDomain (λ us x is. domain_is us x (domain_whole us ∙ is)) (λ us x is. sym (domain_whole us) ∙ domain_again us x is) ts e (sym (domain_whole ts) ∙ err)
-
-does_domain : (n : ℕ) → Does n domain_body nothing domain_form
-does_domain n =
-    does_then (title_at (codes "domain")) (λ name. domain_sections (domain_of name) no_domain) (λ name. Table.DomainSections no_domain ∷ []) nothing domain_form n (reads_title (codes "domain") domain_same n)
-    (does_more n (title_at (codes "domain")) (title_due (codes "domain") domain_same) (Table.DomainSections no_domain ∷ []) (does_title (codes "domain") domain_same n)) (λ name. does_domain_sections (domain_of name) n no_domain)
+    fault_is domain_body domain_form agrees_domain IsDomain (λ us x is. domain_is us x (domain_whole us ∙ is)) (λ us x is. sym (domain_whole us) ∙ domain_again us x is) ts e (sym (domain_whole ts) ∙ err)
 
 pub domain_told : (ts : List Token) (e : SyntaxError) → domain_at unlimited ts ≡ Err e → IsTold Domain IsDomain domain_form ts e
 domain_told ts e err =
-    told_fault domain_body reads_domain can_domain domain_form does_domain IsDomain (λ us x is. domain_is us x (domain_whole us ∙ is)) (λ us x is. sym (domain_whole us) ∙ domain_again us x is) ts e (sym (domain_whole ts) ∙ err)
+    told_fault domain_body domain_form agrees_domain IsDomain (λ us x is. domain_is us x (domain_whole us ∙ is)) (λ us x is. sym (domain_whole us) ∙ domain_again us x is) ts e (sym (domain_whole ts) ∙ err)
 
 pub domain_table : (ts : List Token) → IsWhole domain_form ts → (x : Domain) × IsDomain ts x
-domain_table = whole_is domain_body reads_domain can_domain domain_form does_domain IsDomain (λ us x is. domain_is us x (domain_whole us ∙ is))
+domain_table = whole_is domain_body domain_form agrees_domain IsDomain (λ us x is. domain_is us x (domain_whole us ∙ is))
 
 pub domain_in_table : (ts : List Token) (x : Domain) → IsDomain ts x → IsWhole domain_form ts
-domain_in_table = is_whole domain_body reads_domain can_domain domain_form does_domain IsDomain (λ us x is. sym (domain_whole us) ∙ domain_again us x is)
+domain_in_table = is_whole domain_body domain_form agrees_domain IsDomain (λ us x is. sym (domain_whole us) ∙ domain_again us x is)
 
 pub told_domain : (ts : List Token) (e : SyntaxError) → IsTold Domain IsDomain domain_form ts e → domain_at unlimited ts ≡ Err e
-told_domain ts e told = domain_whole ts ∙ told_is_read domain_body reads_domain can_domain domain_form does_domain IsDomain ts e told
+told_domain ts e told = domain_whole ts ∙ told_is_read domain_body domain_form agrees_domain IsDomain ts e told
 
 abbrev problem_of : Name → ProblemParts → Name → List Atom → Problem
 problem_of name all domain goal = record { name = name; domain = domain; objects = or_empty all.objects; init = or_empty all.init; goal = goal; costs = all.costs; metric = all.metric }
@@ -333,12 +265,8 @@ problem_of name all domain goal = record { name = name; domain = domain; objects
 abbrev problem_body : List Token → Read Problem
 problem_body ts = title_at (codes "problem") ts >>= λ p. problem_sections (problem_of p.0) no_problem p.1
 
-can_problem : Can problem_body
-can_problem = can_then (title_at (codes "problem")) (λ name. problem_sections (problem_of name) no_problem) (can_title (codes "problem") problem_same) (λ name. can_problem_sections (problem_of name) no_problem)
-
-reads_problem : (n : ℕ) → Reads Problem n problem_body
-reads_problem n =
-    reads_then (title_at (codes "problem")) (λ name. problem_sections (problem_of name) no_problem) n (reads_title (codes "problem") problem_same n) (λ name. reads_problem_sections (problem_of name) n no_problem) (λ name. can_problem_sections (problem_of name) no_problem)
+agrees_problem : Agrees Problem problem_body nothing problem_form
+agrees_problem = agrees_then (λ name. problem_sections (problem_of name) no_problem) (agrees_more (Table.ProblemSections no_problem ∷ []) (agrees_title (codes "problem") refl)) (λ name. agrees_problem_sections (problem_of name) no_problem)
 
 abbrev finish : Problem × List Token → Result Problem SyntaxError
 finish p = end_at p.1 >>= λ e. Ok p.0
@@ -351,7 +279,7 @@ problem_end name s ts =
     ∙ sym (bind_bind (there s.domain ts) (λ domain. there s.goal ts >>= λ goal. Ok (problem_of name s domain goal, rest)) finish))
     ∙ sym (bind_bind (need kinds.Close (sections_want s) ts) (λ rest. there s.domain ts >>= λ domain. (there s.goal ts >>= λ goal. Ok (problem_of name s domain goal, rest))) finish)
 
-problem_whole : (ts : List Token) → problem_at unlimited ts ≡ whole problem_body reads_problem can_problem ts
+problem_whole : (ts : List Token) → problem_at unlimited ts ≡ whole problem_body problem_form agrees_problem ts
 unfolding problem_at
 problem_whole ts =
     bind_same (title_at (codes "problem") ts) _ _ (λ name.
@@ -361,22 +289,17 @@ problem_whole ts =
 
 pub problem_fault : (ts : List Token) (e : SyntaxError) → problem_at unlimited ts ≡ Err e → IsFault Problem IsProblem ts e
 problem_fault ts e err =
-    fault_is problem_body reads_problem can_problem IsProblem (λ us x is. problem_is us x (problem_whole us ∙ is)) (λ us x is. sym (problem_whole us) ∙ problem_again us x is) ts e (sym (problem_whole ts) ∙ err)
-
-does_problem : (n : ℕ) → Does n problem_body nothing problem_form
-does_problem n =
-    does_then (title_at (codes "problem")) (λ name. problem_sections (problem_of name) no_problem) (λ name. Table.ProblemSections no_problem ∷ []) nothing problem_form n (reads_title (codes "problem") problem_same n)
-    (does_more n (title_at (codes "problem")) (title_due (codes "problem") problem_same) (Table.ProblemSections no_problem ∷ []) (does_title (codes "problem") problem_same n)) (λ name. does_problem_sections (problem_of name) n no_problem)
+    fault_is problem_body problem_form agrees_problem IsProblem (λ us x is. problem_is us x (problem_whole us ∙ is)) (λ us x is. sym (problem_whole us) ∙ problem_again us x is) ts e (sym (problem_whole ts) ∙ err)
 
 pub problem_told : (ts : List Token) (e : SyntaxError) → problem_at unlimited ts ≡ Err e → IsTold Problem IsProblem problem_form ts e
 problem_told ts e err =
-    told_fault problem_body reads_problem can_problem problem_form does_problem IsProblem (λ us x is. problem_is us x (problem_whole us ∙ is)) (λ us x is. sym (problem_whole us) ∙ problem_again us x is) ts e (sym (problem_whole ts) ∙ err)
+    told_fault problem_body problem_form agrees_problem IsProblem (λ us x is. problem_is us x (problem_whole us ∙ is)) (λ us x is. sym (problem_whole us) ∙ problem_again us x is) ts e (sym (problem_whole ts) ∙ err)
 
 pub problem_table : (ts : List Token) → IsWhole problem_form ts → (x : Problem) × IsProblem ts x
-problem_table = whole_is problem_body reads_problem can_problem problem_form does_problem IsProblem (λ us x is. problem_is us x (problem_whole us ∙ is))
+problem_table = whole_is problem_body problem_form agrees_problem IsProblem (λ us x is. problem_is us x (problem_whole us ∙ is))
 
 pub problem_in_table : (ts : List Token) (x : Problem) → IsProblem ts x → IsWhole problem_form ts
-problem_in_table = is_whole problem_body reads_problem can_problem problem_form does_problem IsProblem (λ us x is. sym (problem_whole us) ∙ problem_again us x is)
+problem_in_table = is_whole problem_body problem_form agrees_problem IsProblem (λ us x is. sym (problem_whole us) ∙ problem_again us x is)
 
 pub told_problem : (ts : List Token) (e : SyntaxError) → IsTold Problem IsProblem problem_form ts e → problem_at unlimited ts ≡ Err e
-told_problem ts e told = problem_whole ts ∙ told_is_read problem_body reads_problem can_problem problem_form does_problem IsProblem ts e told
+told_problem ts e told = problem_whole ts ∙ told_is_read problem_body problem_form agrees_problem IsProblem ts e told

@@ -1,7 +1,6 @@
 -- Reading beside the table: each reader tells what the table does not let stand.
-use Rattle.std.proofs.Common.{◌≡◌, ℕ, zero, suc, ◌+◌, ◌<◌, ◌≤◌, Bool, true, false, cond, List, [], ◌∷◌, ◌++◌, length, Option, Some, None, Result, Ok, Err, refl, sym, ap, ◌∙◌, arith, true≢false}
+use Rattle.std.proofs.Common.{◌≡◌, ℕ, zero, suc, ◌<◌, ◌≤◌, Bool, true, false, cond, List, [], ◌∷◌, ◌++◌, length, Option, Some, None, Ok, Err, refl, sym, ap, ◌∙◌, arith, true≢false}
 use Rattle.std.proofs.lemmas.List.{append_assoc}
-use Rattle.std.proofs.Common.{length-append}
 use Rattle.pb_pddl.specs.declared.token.Token.{Token}
 use Rattle.pb_pddl.specs.declared.error.SyntaxError.{SyntaxError}
 use Rattle.pb_pddl.specs.Reading.{◌>>=◌, Read, front, no_token, all_of}
@@ -64,9 +63,6 @@ pub does_either : {X : Type 0} (b : Bool) (n : ℕ) (f g : List Token → Read X
 does_either true n f g rest symbols yes_f no_g = yes_f refl
 does_either false n f g rest symbols yes_f no_g = no_g refl
 
-pub does_less : {X : Type 0} (m n : ℕ) (f : List Token → Read X) (rest : X → List Symbol) (symbols : List Symbol) → m ≤ n → Does n f rest symbols → Does m f rest symbols
-does_less m n f rest symbols le d = λ due ts few. d due ts (omega arith)
-
 pub does_as : {X : Type 0} (n : ℕ) (f : List Token → Read X) (rest : X → List Symbol) (a b : List Symbol) → b ≡ a → Does n f rest a → Does n f rest b
 does_as n f rest a b e d = λ due ts few. d due ts few ∙ ap (λ (s : List Symbol). misfit (s ++ due) ts) (sym e)
 
@@ -87,12 +83,6 @@ module _ {X Y : Type 0} (g : List Token → Read X) (h : X → List Token → Re
       at : (due : List Symbol) (ts : List Token) → length ts ≤ n → (q : Read X) → g ts ≡ q → seen rest due (q >>= λ p. h p.0 p.1) ≡ seen mid due q
       at due ts few (Ok p) e = let a = r.frames ts p.0 p.1 few e in k p.0 due p.1 (part_less n ts a.0 p.1 few a.1)
       at due ts few (Err e) is = refl
-
--- what is read makes a value, behind which more is due
-pub does_make : {A S : Type 0} (n : ℕ) (g : List Token → Read A) (make : A → S) (rest : S → List Symbol) (symbols more : List Symbol) → ((x : A) → rest (make x) ≡ more) → Reads A n g → Does n g nothing symbols
-    → Does n (then_read g (λ x ts. Ok (make x, ts))) rest (symbols ++ more)
-does_make n g make rest symbols more same r d =
-    does_then g (λ x ts. Ok (make x, ts)) (λ x. more) rest (symbols ++ more) n r (does_more n g symbols more d) (λ x. does_as n (λ ts. Ok (make x, ts)) rest (rest (make x)) more (sym (same x)) (does_done n rest (make x)))
 
 -- ---- one token, and then the rest
 

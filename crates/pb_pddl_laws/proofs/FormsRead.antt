@@ -10,7 +10,7 @@ use Rattle.pb_pddl.specs.declared.tree.Predicate.{Predicate}
 use Rattle.pb_pddl.specs.declared.tree.Action.{Action}
 use Rattle.pb_pddl.specs.declared.tree.Cost.{Cost}
 use Rattle.pb_pddl.specs.declared.error.Want.TheVariants as wants
-use Rattle.pb_pddl_laws.proofs.Singles.{guard_ok, done, kinds_same, same_self, ok_pair, bind_ok, bind_again, need_takes, takes_need, name_takes, takes_name, open_token, close_token, word_token, spells_says, says_spells, ok_is}
+use Rattle.pb_pddl_laws.proofs.Singles.{guard_ok, kinds_same, same_self, ok_pair, bind_ok, bind_again, need_takes, takes_need, name_takes, takes_name, open_token, close_token, word_token, spells_says, says_spells, ok_is}
 use Rattle.pb_pddl_laws.proofs.ManyRead.{all_sound, all_complete}
 use Rattle.pb_pddl_laws.proofs.CondsRead.{if_cases, if_true}
 use Rattle.pb_pddl.specs.declared.tree.Domain.{Domain}

@@ -18,15 +18,14 @@ use Rattle.pb_pddl.specs.Reading.{◌>>=◌, Read, same_kind, kind_number, front
 use Rattle.pb_pddl.specs.Places
 use Rattle.pb_pddl.specs.Places.{fits, is_kind, refused}
 use Rattle.pb_pddl_laws.proofs.Singles.{need_takes, open_token, name_takes, word_token}
-use Rattle.pb_pddl_laws.proofs.Readers.{Reads, failed, err_ok}
+use Rattle.pb_pddl_laws.proofs.Readers.{Reads, err_ok}
 use Rattle.pb_pddl_laws.proofs.Keys.{decide}
-use Rattle.pb_pddl_laws.proofs.PartKeys.{part_key_refused}
-use Rattle.pb_pddl_laws.proofs.ActionPlaces.{reads_part_key}
-use Rattle.pb_pddl_laws.proofs.DomainPlaces.{section_step, reads_domain_section}
+use Rattle.pb_pddl_laws.proofs.ActionPlaces.{part_refused, agrees_part}
+use Rattle.pb_pddl_laws.proofs.DomainPlaces.{section_step, agrees_domain_section}
 use Rattle.pb_pddl_laws.proofs.ProblemPlaces
 use Rattle.pb_pddl_laws.proofs.Nesting.{Shallow, text_shallow, shallow_behind, takes_shallow, all_agree}
 use Rattle.pb_pddl_laws.proofs.Rooms.{cond_agree, effect_agree}
-use Rattle.pb_pddl_laws.proofs.Faults.{reads_title, domain_same, problem_same}
+use Rattle.pb_pddl_laws.proofs.Faults.{agrees_title}
 
 -- what follows agrees
 then_agree : {X Y : Type 0} (r : Result X SyntaxError) (f g : X → Result Y SyntaxError) → ((x : X) → r ≡ Ok x → f x ≡ g x) → (r >>= f) ≡ (r >>= g)
@@ -82,8 +81,8 @@ part_keeps : (s : ActionParts) (ts : List Token) (now : ActionParts) (rest : Lis
 part_keeps s [] now rest goes is e = absurd (true≢false (sym goes ∙ no_key))
 part_keeps s (t ∷ us) now rest goes is e =
     let key = is_key t us goes in
-    decide (fits (Places.MoreParts s) t) (λ fit. rest_shallow (λ vs. part_at unlimited s (t ∷ vs)) us now rest (reads_part_key (length us) s t key fit) (drop_shallow (t ∷ us) is) e)
-    (λ misfit. absurd (err_ok (refused (Places.MoreParts s) t) (now, rest) (sym e ∙ part_key_refused s t us key misfit)))
+    decide (fits (Places.MoreParts s) t) (λ fit. rest_shallow (λ vs. part_at unlimited s (t ∷ vs)) us now rest ((agrees_part s t key fit).reads (length us)) (drop_shallow (t ∷ us) is) e)
+    (λ misfit. absurd (err_ok (refused (Places.MoreParts s) t) (now, rest) (sym e ∙ part_refused s t us key misfit)))
 
 name_shallow : (ts rest : List Token) (name : Name) → name_at kinds.Word wants.Name ts ≡ Ok (name, rest) → Shallow 0 ts → Shallow 0 rest
 name_shallow ts rest name e is = let n = name_takes kinds.Word wants.Name ts rest name word_token e in (takes_shallow 0 kinds.Word ts n.0 rest n.1 is).1
@@ -122,7 +121,7 @@ domain_section_same s ts is = then_agree (need kinds.Open wants.Paren ts) _ _ (�
 domain_keeps : (s : DomainParts) (ts : List Token) (now : DomainParts) (rest : List Token) → begins_open ts ≡ true → Shallow 0 ts → domain_section unlimited s ts ≡ Ok (now, rest) → Shallow 0 rest
 domain_keeps s [] now rest goes is e = absurd (true≢false (sym goes ∙ no_open))
 domain_keeps s (t ∷ us) now rest goes is e =
-    rest_shallow (domain_key unlimited s) us now rest (reads_domain_section (length us) s) (drop_shallow (t ∷ us) is) (sym (section_step s t us (is_open t us goes)) ∙ e)
+    rest_shallow (domain_key unlimited s) us now rest ((agrees_domain_section s).reads (length us)) (drop_shallow (t ∷ us) is) (sym (section_step s t us (is_open t us goes)) ∙ e)
 
 domain_same_at : (ts : List Token) → Shallow 0 ts → domain_at unlimited ts ≡ domain_at limited ts
 unfolding domain_at
@@ -131,7 +130,7 @@ domain_same_at ts is =
     ap (λ (r : Read DomainParts). r >>= λ all. need kinds.Close wants.Paren all.1 >>= λ rest. end_at rest >>= λ end.
     Ok (record { name = name.0; types = or_empty all.0.types; constants = or_empty all.0.constants; predicates = or_empty all.0.predicates; actions = all.0.actions; has_cost = all.0.has_cost }))
     (all_agree begins_open (domain_section unlimited) (domain_section limited) (Shallow 0) domain_keeps (λ s us goes shallow. domain_section_same s us shallow) no_domain name.1
-    (rest_shallow (title_at (codes "domain")) ts name.0 name.1 (reads_title (codes "domain") domain_same (length ts)) is e)))
+    (rest_shallow (title_at (codes "domain")) ts name.0 name.1 ((agrees_title (codes "domain") refl).reads (length ts)) is e)))
 
 pub domain_limit : (text : List ℕ) (ts : List Token) → TextTokens text ts → domain_at unlimited ts ≡ domain_at limited ts
 domain_limit text ts are = domain_same_at ts (text_shallow start text ts are)
@@ -161,7 +160,7 @@ problem_keeps s [] now rest goes is e = absurd (true≢false (sym goes ∙ no_op
 problem_keeps s (t ∷ us) now rest goes is e =
     let opens = is_open t us goes in
     decide (fits (Places.MoreSections s) t)
-    (λ fit. rest_shallow (problem_key unlimited s) us now rest (ProblemPlaces.reads_problem_section (length us) s (ProblemPlaces.not_all s t opens fit)) (drop_shallow (t ∷ us) is) (sym (ProblemPlaces.section_step s t us opens fit) ∙ e))
+    (λ fit. rest_shallow (problem_key unlimited s) us now rest ((ProblemPlaces.agrees_problem_section s (ProblemPlaces.not_all s t opens fit)).reads (length us)) (drop_shallow (t ∷ us) is) (sym (ProblemPlaces.section_step s t us opens fit) ∙ e))
     (λ misfit. absurd (err_ok (refused (Places.MoreSections s) t) (now, rest) (sym e ∙ ProblemPlaces.section_refused s t us opens misfit)))
 
 problem_same_at : (ts : List Token) → Shallow 0 ts → problem_at unlimited ts ≡ problem_at limited ts
@@ -171,7 +170,7 @@ problem_same_at ts is =
     ap (λ (r : Read ProblemParts). r >>= λ all. need kinds.Close (sections_want all.0) all.1 >>= λ rest. there all.0.domain all.1 >>= λ domain. there all.0.goal all.1 >>= λ goal. end_at rest >>= λ end.
     Ok (record { name = name.0; domain = domain; objects = or_empty all.0.objects; init = or_empty all.0.init; goal = goal; costs = all.0.costs; metric = all.0.metric }))
     (all_agree begins_open (problem_section unlimited) (problem_section limited) (Shallow 0) problem_keeps (λ s us goes shallow. problem_section_same s us shallow) no_problem name.1
-    (rest_shallow (title_at (codes "problem")) ts name.0 name.1 (reads_title (codes "problem") problem_same (length ts)) is e)))
+    (rest_shallow (title_at (codes "problem")) ts name.0 name.1 ((agrees_title (codes "problem") refl).reads (length ts)) is e)))
 
 pub problem_limit : (text : List ℕ) (ts : List Token) → TextTokens text ts → problem_at unlimited ts ≡ problem_at limited ts
 problem_limit text ts are = problem_same_at ts (text_shallow start text ts are)

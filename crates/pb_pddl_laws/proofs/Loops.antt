@@ -1,7 +1,6 @@
 -- Loops over pieces, and what is read behind the last.
-use Rattle.std.proofs.Common.{◌≡◌, ℕ, zero, suc, ◌<◌, ◌≤◌, Bool, true, false, cond, List, [], ◌∷◌, length, Result, Ok, Err, refl, sym, ap, ◌∙◌, arith, true≢false}
+use Rattle.std.proofs.Common.{◌≡◌, ℕ, zero, suc, ◌<◌, ◌≤◌, Bool, true, false, cond, List, [], ◌∷◌, length, Ok, Err, refl, sym, ap, ◌∙◌, arith, true≢false}
 use Rattle.pb_pddl.specs.declared.token.Token.{Token}
-use Rattle.pb_pddl.specs.declared.error.SyntaxError.{SyntaxError}
 use Rattle.pb_pddl.specs.Reading.{◌>>=◌, Read, front, no_token, folds, all_of}
 use Rattle.pb_pddl.specs.Places.{Place, fits, refused}
 use Rattle.pb_pddl_laws.proofs.Readers.{Reads, Can, reads_tokens, reads_same, reads_then, can_same, can_then, then_read}

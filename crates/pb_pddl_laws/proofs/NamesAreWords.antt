@@ -22,8 +22,8 @@ use Rattle.pb_pddl_laws.proofs.Singles.{bind_ok, need_takes, open_token}
 use Rattle.pb_pddl_laws.proofs.CondsRead.{if_cases}
 use Rattle.pb_pddl_laws.proofs.SectionsRead.{domain_complete, problem_complete}
 use Rattle.pb_pddl_laws.proofs.Readers.{Frames}
-use Rattle.pb_pddl_laws.proofs.DomainPlaces.{reads_domain_section}
-use Rattle.pb_pddl_laws.proofs.ProblemPlaces.{reads_problem_section}
+use Rattle.pb_pddl_laws.proofs.DomainPlaces.{agrees_domain_section}
+use Rattle.pb_pddl_laws.proofs.ProblemPlaces.{agrees_problem_section}
 use Rattle.pb_pddl_laws.proofs.WordTokens.{WordsIn, text_words}
 
 -- ---- behind what is taken
@@ -105,7 +105,7 @@ unfolding domain_section
 domain_behind s ts now rest is words =
     let inside = bind_ok (need kinds.Open wants.Paren ts) (λ us. domain_key unlimited s us) (now, rest) (domain_complete s ts now rest is).1 in
     let taken = need_takes kinds.Open wants.Paren ts inside.0 open_token inside.1 in
-    read_words (domain_key unlimited s) inside.0 now rest (reads_domain_section (length inside.0) s).frames inside.2 (takes_words kinds.Open ts taken.0 inside.0 taken.1 words)
+    read_words (domain_key unlimited s) inside.0 now rest ((agrees_domain_section s).reads (length inside.0)).frames inside.2 (takes_words kinds.Open ts taken.0 inside.0 taken.1 words)
 
 abbrev is_named : Action → Type 0
 is_named a = IsWord a.name.text
@@ -151,7 +151,7 @@ problem_behind s ts now rest is words =
       | inr w ↦
           let inside = bind_ok (need kinds.Open wants.Paren ts) (λ us. problem_key unlimited s us) (now, rest) w.1 in
           let taken = need_takes kinds.Open wants.Paren ts inside.0 open_token inside.1 in
-          read_words (problem_key unlimited s) inside.0 now rest (reads_problem_section (length inside.0) s w.0).frames inside.2 (takes_words kinds.Open ts taken.0 inside.0 taken.1 words)
+          read_words (problem_key unlimited s) inside.0 now rest ((agrees_problem_section s w.0).reads (length inside.0)).frames inside.2 (takes_words kinds.Open ts taken.0 inside.0 taken.1 words)
     ]
 
 abbrev ProblemSays : ProblemParts → Type 0

@@ -1,5 +1,5 @@
 -- Of a part or section that stood is noted that it did: the places are the same.
-use Rattle.std.proofs.Common.{◌≡◌, Bool, false, not, ◌&&◌, ◌||◌, [], refl, sym, ap, ◌∙◌}
+use Rattle.std.proofs.Common.{◌≡◌, Bool, true, false, not, ◌&&◌, ◌||◌, [], refl, sym, ap, ◌∙◌}
 use Rattle.std.specs.Prelude.{codes, Option, Some, None, is_some, if◌then◌else◌}
 use Rattle.pb_pddl.specs.declared.token.TokenKind.TheVariants as kinds
 use Rattle.pb_pddl.specs.declared.token.Token.{Token}
@@ -7,16 +7,13 @@ use Rattle.pb_pddl.specs.declared.parts.ActionParts.{ActionParts}
 use Rattle.pb_pddl.specs.declared.parts.DomainParts.{DomainParts}
 use Rattle.pb_pddl.specs.declared.parts.ProblemParts.{ProblemParts}
 use Rattle.pb_pddl.specs.declared.error.Want.TheVariants as wants
-use Rattle.pb_pddl.specs.Reading.{parts_want, stood_all, sections_want}
+use Rattle.pb_pddl.specs.Reading.{parts_want, stood_all, sections_want, same_kind, kind_number}
 use Rattle.pb_pddl.specs.Places
-use Rattle.pb_pddl.specs.Places.{fits, is_kind, is_key, first_fit, left_out, wanted, refused_token, refused}
+use Rattle.pb_pddl.specs.Places.{fits, is_kind, is_key, first_fit, takes_section, takes_part, left_out, wanted, refused_token, refused}
 use Rattle.pb_pddl_laws.specs.Table
 use Rattle.pb_pddl_laws.specs.Table.{Symbol, no_name}
 use Rattle.pb_pddl_laws.proofs.Following.{SamePlace}
 use Rattle.pb_pddl_laws.proofs.Refusals.{told_same}
-use Rattle.pb_pddl_laws.proofs.ActionPlaces.{parts_first}
-use Rattle.pb_pddl_laws.proofs.DomainPlaces.{domain_first}
-use Rattle.pb_pddl_laws.proofs.ProblemPlaces.{problem_first, sections_first}
 
 abbrev pub mark : {A : Type 0} → A → Option A → Option A
 mark x None = None
@@ -30,6 +27,13 @@ marked x (Some y) = refl
 
 abbrev pub noted_parts : ActionParts → ActionParts
 noted_parts s = record { params = mark [] s.params; pre = mark [] s.pre; effect = mark [] s.effect; costs = [] }
+
+pub parts_first : (s : ActionParts) → first_fit (Places.MoreParts s) ≡ parts_want s
+unfolding first_fit takes_section takes_part fits same_kind kind_number parts_want
+parts_first s = either (is_some s.params && is_some s.pre && is_some s.effect) where
+  either : (b : Bool) → (if not b then wants.Part else wants.Close) ≡ (if b then wants.Close else wants.Part)
+  either true = refl
+  either false = refl
 
 module _ (s : ActionParts) (t : Token) where
   parts_fit : fits (Places.MoreParts (noted_parts s)) t ≡ fits (Places.MoreParts s) t
@@ -74,10 +78,8 @@ module _ (s : DomainParts) (t : Token) where
       ∙ ap (λ a. domain_fits (is_some s.types) (is_some s.constants) a) (marked [] s.predicates)
 
   domain_refused : refused (Places.ADomainSection (noted_domain s)) t ≡ refused (Places.ADomainSection s) t
-  unfolding refused_token left_out wanted
-  domain_refused =
-      told_same (Places.ADomainSection (noted_domain s)) (Places.ADomainSection s) t refl refl refl
-      (ap (λ w. if is_kind kinds.Key t then wants.Once else w) (domain_first (noted_domain s) ∙ sym (domain_first s)))
+  unfolding refused_token left_out wanted first_fit takes_section fits same_kind kind_number
+  domain_refused = told_same (Places.ADomainSection (noted_domain s)) (Places.ADomainSection s) t refl refl refl refl
 
 pub same_domain : (s : DomainParts) → SamePlace (Table.DomainSection (noted_domain s)) (Places.ADomainSection s)
 same_domain s t = (domain_fit s t, domain_refused s t)
@@ -86,6 +88,13 @@ same_domain s t = (domain_fit s t, domain_refused s t)
 
 abbrev pub noted_problem : ProblemParts → ProblemParts
 noted_problem s = record { requirements = s.requirements; domain = mark no_name s.domain; objects = mark [] s.objects; init = mark [] s.init; goal = mark [] s.goal; costs = []; metric = mark 0 s.metric }
+
+pub sections_first : (s : ProblemParts) → first_fit (Places.MoreSections s) ≡ sections_want s
+unfolding first_fit takes_section takes_part fits same_kind kind_number sections_want
+sections_first s = either (stood_all s) where
+  either : (b : Bool) → (if not b || false then wants.Paren else wants.Close) ≡ (if b then wants.Close else wants.Paren)
+  either true = refl
+  either false = refl
 
 module _ (s : ProblemParts) (t : Token) where
   abbrev problem_fits : Bool → Bool → Bool → Bool → Bool → Bool
@@ -103,10 +112,8 @@ module _ (s : ProblemParts) (t : Token) where
       ∙ ap (λ a. problem_fits (is_some s.domain) (is_some s.objects) (is_some s.init) (is_some s.goal) a) (marked 0 s.metric)
 
   problem_refused : refused (Places.AProblemSection (noted_problem s)) t ≡ refused (Places.AProblemSection s) t
-  unfolding refused_token left_out wanted
-  problem_refused =
-      told_same (Places.AProblemSection (noted_problem s)) (Places.AProblemSection s) t refl refl refl
-      (ap (λ w. if is_kind kinds.Key t then wants.Once else w) (problem_first (noted_problem s) ∙ sym (problem_first s)))
+  unfolding refused_token left_out wanted first_fit takes_section fits same_kind kind_number
+  problem_refused = told_same (Places.AProblemSection (noted_problem s)) (Places.AProblemSection s) t refl refl refl refl
 
   abbrev all_stood : Bool → Bool → Bool → Bool → Bool → Bool
   all_stood a b c d e = s.requirements && a && b && c && d && e

@@ -44,12 +44,6 @@ pub record Reads (X : Type 0) (n : ℕ) (f : List Token → Read X) : Type 0 whe
   pub frames : Frames n f
   pub faults : Faults n f
 
-pub reads_less : {X : Type 0} (m n : ℕ) (f : List Token → Read X) → m ≤ n → Reads X n f → Reads X m f
-reads_less m n f le r = record {
-  frames = λ ts x rest few e. r.frames ts x rest (omega arith) e;
-  faults = λ ts e few err. r.faults ts e (omega arith) err;
-}
-
 -- ---- readers that give the same
 
 module _ {X : Type 0} (f g : List Token → Read X) (same : (ts : List Token) → f ts ≡ g ts) where

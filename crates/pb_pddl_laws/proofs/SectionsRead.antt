@@ -13,7 +13,6 @@ use Rattle.pb_pddl_laws.proofs.CondsRead.{if_cases, if_true, if_false, cond_comp
 use Rattle.pb_pddl_laws.proofs.EffectsRead.{other_word}
 use Rattle.pb_pddl_laws.proofs.CostsRead.{only_sound, only_complete, total_sound, total_complete, total_less, functions_sound, functions_complete, functions_less}
 use Rattle.pb_pddl_laws.proofs.ListsRead.{list_sound, list_complete, list_less, words_listed}
-use Rattle.std.specs.Str.{bytes_eq}
 use Rattle.pb_pddl.specs.declared.parts.DomainParts.{DomainParts}
 use Rattle.pb_pddl.specs.declared.parts.ProblemParts.{ProblemParts}
 use Rattle.pb_pddl.specs.Reading.{spells, need, name_at, begins_open, stood_all, unlimited, keys_at, list_at, predicates_at, no_init, facts_at, cond_at, only_word, total_cost_at, functions_at, add_action, requirements_section, types_section, constants_section, predicates_section, functions_section, action_section, domain_key, domain_section, domain_name_section, problem_requirements, objects_section, init_section, goal_section, metric_section, problem_key, problem_section}

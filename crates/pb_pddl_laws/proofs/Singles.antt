@@ -194,10 +194,6 @@ pub close_no_open : same_kind kinds.Close kinds.Open ≡ false
 unfolding same_kind kind_number
 close_no_open = refl
 
-pub close_no_word : same_kind kinds.Close kinds.Word ≡ false
-unfolding same_kind kind_number
-close_no_word = refl
-
 pub close_no_dash : same_kind kinds.Close kinds.Dash ≡ false
 unfolding same_kind kind_number
 close_no_dash = refl
