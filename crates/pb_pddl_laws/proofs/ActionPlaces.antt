@@ -1,5 +1,6 @@
 -- Parts of an action and actions: where their reading stops, and beside the table.
-use Rattle.std.proofs.Common.{◌≡◌, Bool, true, false, cond, not, ◌&&◌, ◌||◌, List, [], ◌∷◌, ◌++◌, Ok, Err, refl, sym, ap, ◌∙◌}
+use Rattle.std.proofs.Common.{◌≡◌, true, false, cond, not, ◌&&◌, ◌||◌, List, [], ◌∷◌, ◌++◌, Ok, Err, refl, sym, ap, ◌∙◌}
+use Rattle.std.proofs.Math.Bool.{or-false}
 use Rattle.std.specs.Prelude.{codes, Some, is_some, if◌then◌else◌}
 use Rattle.std.specs.Str.{bytes_eq}
 use Rattle.pb_pddl.specs.declared.token.TokenKind.TheVariants as kinds
@@ -80,14 +81,10 @@ effect = record {
 abbrev parts : List Part
 parts = parameters ∷ precondition ∷ effect ∷ []
 
-or_false : (b : Bool) → b || false ≡ b
-or_false true = refl
-or_false false = refl
-
 part_fits : (s : ActionParts) (t : Token) → is_kind kinds.Key t ≡ true → fits (place s) t ≡ fits_any (part_at unlimited) place symbol due false parts s t
 unfolding fits same_kind kind_number parameters precondition effect
 part_fits s t key =
-    ap (λ k. fits_any (part_at unlimited) place symbol due false parts s t || same_kind k kinds.Close) (kinds_same t.kind kinds.Key key) ∙ or_false (fits_any (part_at unlimited) place symbol due false parts s t)
+    ap (λ k. fits_any (part_at unlimited) place symbol due false parts s t || same_kind k kinds.Close) (kinds_same t.kind kinds.Key key) ∙ or-false (fits_any (part_at unlimited) place symbol due false parts s t)
 
 pub part_refused : (s : ActionParts) (t : Token) (us : List Token) → is_kind kinds.Key t ≡ true → fits (place s) t ≡ false → part_at unlimited s (t ∷ us) ≡ Err (refused (place s) t)
 unfolding part_at refused_token left_out left_at front parameters precondition effect

@@ -1,5 +1,6 @@
 -- Atoms: where their reading stops.
 use Rattle.std.proofs.Common.{◌≡◌, Bool, true, false, ◌&&◌, ◌||◌, List, [], ◌∷◌, ◌++◌, Ok, refl}
+use Rattle.std.proofs.Math.Bool.{and-false}
 use Rattle.pb_pddl.specs.declared.token.TokenKind.TheVariants as kinds
 use Rattle.pb_pddl.specs.declared.token.Token.{Token}
 use Rattle.pb_pddl.specs.declared.tree.Name.{Name}
@@ -24,10 +25,7 @@ module _ (variables : Bool) where
   is_term t = same_kind t.kind kinds.Word || variables && same_kind t.kind kinds.Variable
 
   no_term : false || variables && false ≡ false
-  no_term = none variables where
-    none : (b : Bool) → false || b && false ≡ false
-    none true = refl
-    none false = refl
+  no_term = and-false variables
 
   term_refused : (t : Token) → refused (Places.MoreTerms variables) t ≡ refusal wants.Name t
   unfolding refused_token left_out wanted first_fit takes_section takes_part fits same_kind kind_number

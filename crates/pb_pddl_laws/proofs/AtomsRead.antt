@@ -1,5 +1,6 @@
 -- Atoms: what is read is what the grammar has, and the other way round.
 use Rattle.std.proofs.Common.{◌≡◌, ◌<◌, ◌≤◌, Bool, true, false, cond, not, ◌&&◌, ◌||◌, List, [], ◌∷◌, ◌++◌, length, drop, Ok, Err, refl, sym, ap, subst, ◌∙◌, arith, ◌⊎◌, inl, inr}
+use Rattle.std.proofs.lemmas.Bool.{or_left, or_right, and_parts, not-true}
 use Rattle.pb_pddl.specs.declared.token.TokenKind.TheVariants as kinds
 use Rattle.pb_pddl.specs.declared.token.Token.{Token}
 use Rattle.pb_pddl.specs.declared.tree.Name.{Name}
@@ -16,24 +17,16 @@ pub or_cases : (a b : Bool) → a || b ≡ true → (a ≡ true) ⊎ ((a ≡ fal
 or_cases true b e = inl refl
 or_cases false b e = inr (refl, e)
 
-and_cases : (a b : Bool) → a && b ≡ true → (a ≡ true) × (b ≡ true)
-and_cases true b e = (refl, e)
-and_cases false b e = absurd cc
-
-not_true : (a : Bool) → not a ≡ true → a ≡ false
-not_true true e = absurd cc
-not_true false e = refl
-
 -- ---- the head
 
 pub head_sound : (ts rest : List Token) (name : Name) → head_at ts ≡ Ok (name, rest) → IsHead ts rest name
 unfolding head_at begins_head
 head_sound ts rest name e =
     let g = guard_ok (begins_head ts) (name_of (front ts), drop 1 ts) (name, rest) (fault_at wants.Name ts) e in
-    let b = and_cases (begins kinds.Word ts) (not (is_reserved (front ts).text)) g.0 in
+    let b = and_parts (begins kinds.Word ts) (not (is_reserved (front ts).text)) g.0 in
     let name_is : name_of (front ts) ≡ name = ap (λ (x : Name × List Token). x.0) g.1 in (
       (front ts, subst (Takes kinds.Word ts (front ts)) (ap (λ (x : Name × List Token). x.1) g.1) (begins_takes kinds.Word ts word_token b.0), sym name_is),
-      ap (λ (x : Name). is_reserved x.text) (sym name_is) ∙ not_true (is_reserved (front ts).text) b.1,
+      ap (λ (x : Name). is_reserved x.text) (sym name_is) ∙ not-true (is_reserved (front ts).text) b.1,
     )
 
 pub head_complete : (ts rest : List Token) (name : Name) → IsHead ts rest name → head_at ts ≡ Ok (name, rest)
@@ -63,17 +56,10 @@ term_sound variables s ts now rest m e =
           let h = begins_takes kinds.Word ts word_token w in
           (name_of (front ts), inl ((front ts, subst (Takes kinds.Word ts (front ts)) p.1 h, refl), sym p.0 ∙ ap (λ (x : Term). s ++ x ∷ []) (term_object (front ts) h.1)))
       | inr w ↦
-          let v = and_cases variables (begins kinds.Variable ts) w.1 in
+          let v = and_parts variables (begins kinds.Variable ts) w.1 in
           let h = begins_takes kinds.Variable ts variable_token v.1 in
           (name_of (front ts), inr (v.0, (front ts, subst (Takes kinds.Variable ts (front ts)) p.1 h, refl), sym p.0 ∙ ap (λ (x : Term). s ++ x ∷ []) (term_variable (front ts) h.1)))
     ]
-
-pub or_first : (a b : Bool) → a ≡ true → a || b ≡ true
-or_first a b e = ap (λ x. x || b) e
-
-pub or_second : (a b : Bool) → b ≡ true → a || b ≡ true
-or_second true b e = refl
-or_second false b e = e
 
 pub term_complete : (variables : Bool) → IsComplete (begins_term variables) add_term (IsTerm variables)
 unfolding begins_term add_term
@@ -82,14 +68,14 @@ term_complete variables s ts now rest (name, cases) =
       | inl ((t, h, is), now_is) ↦
           let b = takes_begins kinds.Word ts t rest h in
           let term_is : term_of (front ts) ≡ terms.Object name = ap term_of b.1 ∙ term_object t h.1 ∙ ap terms.Object (sym is) in (
-            or_first (begins kinds.Word ts) (variables && begins kinds.Variable ts) b.0,
+            or_left (begins kinds.Word ts) (variables && begins kinds.Variable ts) b.0,
             ap (λ (x : Term). Ok (s ++ x ∷ [], drop 1 ts)) term_is ∙ ap (λ (x : List Term). Ok (x, drop 1 ts)) (sym now_is) ∙ ap (λ (r : List Token). Ok (now, r)) b.2,
             takes_less kinds.Word ts t rest h,
           )
       | inr (allowed, (t, h, is), now_is) ↦
           let b = takes_begins kinds.Variable ts t rest h in
           let term_is : term_of (front ts) ≡ terms.Variable name = ap term_of b.1 ∙ term_variable t h.1 ∙ ap terms.Variable (sym is) in (
-            or_second (begins kinds.Word ts) (variables && begins kinds.Variable ts) (ap (λ v. v && begins kinds.Variable ts) allowed ∙ b.0),
+            or_right (begins kinds.Word ts) (variables && begins kinds.Variable ts) (ap (λ v. v && begins kinds.Variable ts) allowed ∙ b.0),
             ap (λ (x : Term). Ok (s ++ x ∷ [], drop 1 ts)) term_is ∙ ap (λ (x : List Term). Ok (x, drop 1 ts)) (sym now_is) ∙ ap (λ (r : List Token). Ok (now, r)) b.2,
             takes_less kinds.Variable ts t rest h,
           )

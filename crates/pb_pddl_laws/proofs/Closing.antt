@@ -17,10 +17,6 @@ use Rattle.pb_pddl_laws.proofs.Following.{Does, SamePlace, nothing, does_same, d
 use Rattle.pb_pddl_laws.proofs.Agreeing.{Agrees, agrees_done, agrees_same, agrees_as, agrees_more}
 use Rattle.pb_pddl_laws.proofs.Singles.{same_self}
 
-pub or_none : (a b : Bool) → a || b ≡ false → (a ≡ false) × (b ≡ false)
-or_none true b e = absurd cc
-or_none false b e = (refl, e)
-
 pub or_last : (a b : Bool) → a ≡ false → a || b ≡ true → b ≡ true
 or_last a b no_a e = ap (λ c. c || b) (sym no_a) ∙ e
 

@@ -1,5 +1,6 @@
 -- Conditions: where their reading stops, and beside the table.
 use Rattle.std.proofs.Common.{◌≡◌, true, false, Bool, cond, ◌||◌, List, [], ◌∷◌, ◌++◌, length, drop, Ok, Err, refl, sym, ap, ◌∙◌}
+use Rattle.std.proofs.lemmas.Bool.{or_parts}
 use Rattle.std.specs.Prelude.{codes}
 use Rattle.pb_pddl.specs.declared.token.TokenKind.TheVariants as kinds
 use Rattle.pb_pddl.specs.declared.token.Token.{Token}
@@ -14,7 +15,7 @@ use Rattle.pb_pddl_laws.proofs.ActionsRead.{cond_is, cond_less}
 use Rattle.pb_pddl_laws.proofs.Loops.{Takes}
 use Rattle.pb_pddl_laws.proofs.Agreeing.{Agrees, TakesOne, agrees_make}
 use Rattle.pb_pddl_laws.proofs.Refusals.{plain, head_misfit}
-use Rattle.pb_pddl_laws.proofs.Closing.{or_none, or_last}
+use Rattle.pb_pddl_laws.proofs.Closing.{or_last}
 use Rattle.pb_pddl_laws.proofs.NestedForms.{inside_behind, agrees_any}
 use Rattle.pb_pddl_laws.proofs.AtomPlaces.{agrees_atom_behind}
 use Rattle.pb_pddl_laws.proofs.Rooms.{cond_inside, any_cond, any_cond_shut, any_cond_open}
@@ -54,8 +55,8 @@ module _ (variables : Bool) where
   inside_misfit : (said : List Atom) (ts : List Token) → fits Places.InCondition (front ts) ≡ false → inside said ts ≡ Err (refused Places.InCondition (front ts))
   unfolding fits begins spells
   inside_misfit said ts e =
-      let a = or_none (is_kind kinds.Close (front ts) || is_word (codes "and") (front ts)) (is_head (front ts)) e in
-      let b = or_none (is_kind kinds.Close (front ts)) (is_word (codes "and") (front ts)) a.0 in
+      let a = or_parts (is_kind kinds.Close (front ts) || is_word (codes "and") (front ts)) (is_head (front ts)) e in
+      let b = or_parts (is_kind kinds.Close (front ts)) (is_word (codes "and") (front ts)) a.0 in
       ap (λ x. cond x (Ok (said, drop 1 ts)) (cond (is_word (codes "and") (front ts)) (conds said (drop 1 ts)) (add_atom variables said ts))) b.0
       ∙ ap (λ x. cond x (conds said (drop 1 ts)) (add_atom variables said ts)) b.1
       ∙ add_misfit said ts a.1

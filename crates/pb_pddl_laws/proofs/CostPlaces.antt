@@ -1,5 +1,6 @@
 -- Costs and :functions: where their reading stops, and beside the table.
 use Rattle.std.proofs.Common.{◌≡◌, ℕ, Bool, true, false, cond, not, ◌&&◌, List, [], ◌∷◌, ◌++◌, Result, Ok, Err, refl, sym, ap, ◌∙◌, append-nil}
+use Rattle.std.proofs.lemmas.Bool.{and_parts, or_parts}
 use Rattle.std.specs.Prelude.{codes, Option, Some, if◌then◌else◌}
 use Rattle.std.specs.Str.{bytes_eq}
 use Rattle.pb_pddl.specs.declared.token.TokenKind.{TokenKind}
@@ -18,10 +19,9 @@ use Rattle.pb_pddl.specs.Places
 use Rattle.pb_pddl.specs.Places.{Place, fits, is_kind, is_word, is_numeral, sample, takes_section, takes_part, first_fit, reserved_head, left_out, wanted, refused_token, refused}
 use Rattle.pb_pddl_laws.proofs.Singles.{kinds_same, bind_bind, bind_failed, close_other}
 use Rattle.pb_pddl_laws.proofs.CondsRead.{if_false}
-use Rattle.pb_pddl_laws.proofs.Keys.{and_both}
 use Rattle.pb_pddl_laws.proofs.Agreeing.{Agrees, TakesOne, takes_test, takes_then, agrees_one, agrees_done, agrees_as, agrees_then, agrees_more, agrees_either, agrees_choice}
 use Rattle.pb_pddl_laws.proofs.Refusals.{plain, told, need_misfit, need_fit, agrees_open, agrees_closed_value}
-use Rattle.pb_pddl_laws.proofs.Closing.{or_none, or_first, or_last}
+use Rattle.pb_pddl_laws.proofs.Closing.{or_first, or_last}
 use Rattle.pb_pddl_laws.specs.Table
 use Rattle.pb_pddl_laws.specs.Table.{Symbol, after, total_cost_then, cost_due}
 use Rattle.pb_pddl_laws.proofs.Following.{nothing}
@@ -68,7 +68,7 @@ is_other t = is_kind kinds.Word t && not (t.head && is_reserved t.text)
 word_left : (text : List ℕ) (what : LeftOut) (t : Token) → is_other t ≡ true → refused (Places.OnlyWord text what) t ≡ errors.LeftOut t.at what
 unfolding refused_token left_out
 word_left text what t e =
-    left_told kinds.Word (Places.OnlyWord text what) t what (λ other. refl) (and_both (is_kind kinds.Word t) (not (t.head && is_reserved t.text)) e).0 refl (ap (λ b. if b then Some what else reserved_head t) e)
+    left_told kinds.Word (Places.OnlyWord text what) t what (λ other. refl) (and_parts (is_kind kinds.Word t) (not (t.head && is_reserved t.text)) e).0 refl (ap (λ b. if b then Some what else reserved_head t) e)
 
 word_plain : (text : List ℕ) (what : LeftOut) (t : Token) → is_other t ≡ false → refused (Places.OnlyWord text what) t ≡ refusal wants.Word t
 unfolding refused_token left_out wanted
@@ -166,7 +166,7 @@ more_refused t = plain Places.MoreFunction t wants.Close refl refl refl
 more_misfit : (at : ℕ) (ts : List Token) → fits Places.MoreFunction (front ts) ≡ false → declared at ts ≡ Err (refused Places.MoreFunction (front ts))
 unfolding fits function_type begins
 more_misfit at ts e =
-    let a = or_none (is_kind kinds.Dash (front ts)) (is_kind kinds.Close (front ts)) e in
+    let a = or_parts (is_kind kinds.Dash (front ts)) (is_kind kinds.Close (front ts)) e in
     bind_failed (function_type ts) (λ rest. Ok (true, rest)) (refused Places.MoreFunction (front ts))
     (if_false (is_kind kinds.Dash (front ts)) _ _ a.0 ∙ need_misfit kinds.Close wants.Close ts a.1 ∙ ap (λ (x : SyntaxError). Err x) (sym (more_refused (front ts))))
 
@@ -209,7 +209,7 @@ functions_behind t us = cond (is_kind kinds.Close t) (Ok (false, us)) (function_
 functions_misfit : (ts : List Token) → fits Places.MoreForms (front ts) ≡ false → functions_at ts ≡ Err (refused Places.MoreForms (front ts))
 unfolding fits functions_at one_function total_cost_at begins
 functions_misfit ts e =
-    let a = or_none (is_kind kinds.Open (front ts)) (is_kind kinds.Close (front ts)) e in
+    let a = or_parts (is_kind kinds.Open (front ts)) (is_kind kinds.Close (front ts)) e in
     if_false (is_kind kinds.Close (front ts)) _ _ a.1
     ∙ ap (λ (r : Result (List Token) SyntaxError). (r >>= total_inside) >>= λ p. declared p.0 p.1) (need_misfit kinds.Open wants.Paren ts a.0)
     ∙ ap (λ (x : SyntaxError). Err x) (sym (forms_refused (front ts)))

@@ -1,5 +1,6 @@
 -- Costs and :functions: what is read is what the grammar has, and the other way round.
 use Rattle.std.proofs.Common.{◌≡◌, ℕ, ◌<◌, Bool, true, false, ◌&&◌, List, length, drop, Ok, refl, sym, ap, subst, ◌∙◌, arith, inl, inr}
+use Rattle.std.proofs.lemmas.Bool.{and_parts}
 use Rattle.std.specs.Prelude.{codes}
 use Rattle.pb_pddl.specs.declared.token.TokenKind.{TokenKind}
 use Rattle.pb_pddl.specs.declared.token.TokenKind.TheVariants as kinds
@@ -13,7 +14,6 @@ use Rattle.pb_pddl.specs.Reading.{front, begins, spells, need, only_word, total_
 use Rattle.pb_pddl.specs.Grammar.{Takes, Says, SaysAt, IsTotalCost, IsNumber, IsCost, IsFunctions}
 use Rattle.pb_pddl_laws.proofs.Singles.{ok_pair, bind_ok, bind_again, guard_ok, begins_takes, takes_begins, takes_less, need_takes, takes_need, IsToken, open_token, close_token, dash_token, word_token, spells_says, says_spells, takes_other, close_no_dash, open_no_close}
 use Rattle.pb_pddl_laws.proofs.CondsRead.{if_cases, if_true, if_false}
-use Rattle.pb_pddl_laws.proofs.Keys.{and_both}
 
 -- ---- a word, and its place
 
@@ -80,7 +80,7 @@ number_sound : (ts rest : List Token) (n : ℕ) → number_at ts ≡ Ok (n, rest
 unfolding number_at begins_number
 number_sound ts rest n e =
     let g = guard_ok (begins kinds.Word ts && is_number (front ts).text) (number_of (front ts).text, drop 1 ts) (n, rest) _ e in
-    let b = and_both (begins kinds.Word ts) (is_number (front ts).text) g.0 in
+    let b = and_parts (begins kinds.Word ts) (is_number (front ts).text) g.0 in
     (front ts, subst (Takes kinds.Word ts (front ts)) (ap (λ (x : ℕ × List Token). x.1) g.1) (begins_takes kinds.Word ts word_token b.0), b.1, sym (ap (λ (x : ℕ × List Token). x.0) g.1), refl)
 
 number_complete : (ts rest : List Token) (n at : ℕ) → IsNumber ts rest n at → (number_at ts ≡ Ok (n, rest)) × ((front ts).at ≡ at)

@@ -1,5 +1,6 @@
 -- Sections of a domain: where their reading stops, and beside the table.
-use Rattle.std.proofs.Common.{◌≡◌, Bool, true, false, cond, ◌&&◌, ◌||◌, List, [], ◌∷◌, Result, Ok, refl, sym, ap, true≢false}
+use Rattle.std.proofs.Common.{◌≡◌, true, false, cond, ◌||◌, List, [], ◌∷◌, Result, Ok, refl, sym, ap, true≢false}
+use Rattle.std.proofs.Math.Bool.{and-true}
 use Rattle.std.specs.Prelude.{codes, Some, is_some, if◌then◌else◌}
 use Rattle.pb_pddl.specs.declared.token.TokenKind.TheVariants as kinds
 use Rattle.pb_pddl.specs.declared.token.Token.{Token}
@@ -118,13 +119,9 @@ once_each = requirements ∷ types ∷ constants ∷ predicates ∷ functions �
 abbrev sections : List DomainSection
 sections = requirements ∷ types ∷ constants ∷ predicates ∷ functions ∷ action ∷ []
 
-and_true : (b : Bool) → b && true ≡ b
-and_true true = refl
-and_true false = refl
-
 section_fits : (s : DomainParts) (t : Token) → fits (place s) t ≡ fits_any (domain_key unlimited) place symbol domain_due false sections s t
 unfolding fits requirements types constants predicates functions action
-section_fits s t = ap (λ b. fits_any (domain_key unlimited) place symbol domain_due false once_each s t || b) (sym (and_true (is_key (codes ":action") t)))
+section_fits s t = ap (λ b. fits_any (domain_key unlimited) place symbol domain_due false once_each s t || b) (sym (and-true (is_key (codes ":action") t)))
 
 section_plain : (s : DomainParts) (t : Token) → is_kind kinds.Key t ≡ false → refused (place s) t ≡ refusal wants.Section t
 unfolding refused_token left_out wanted first_fit takes_section fits same_kind kind_number

@@ -1,5 +1,6 @@
 -- Effects: where their reading stops, and beside the table.
 use Rattle.std.proofs.Common.{◌≡◌, Bool, true, false, cond, ◌||◌, List, [], ◌∷◌, ◌++◌, length, drop, Ok, Err, refl, sym, ap, ◌∙◌}
+use Rattle.std.proofs.lemmas.Bool.{or_parts}
 use Rattle.std.specs.Prelude.{codes}
 use Rattle.pb_pddl.specs.declared.token.TokenKind.TheVariants as kinds
 use Rattle.pb_pddl.specs.declared.token.Token.{Token}
@@ -17,7 +18,7 @@ use Rattle.pb_pddl_laws.proofs.Rooms.{effect_less, effect_inside, any_effect, an
 use Rattle.pb_pddl_laws.specs.Table
 use Rattle.pb_pddl_laws.specs.Table.{Symbol, after, cost_due}
 use Rattle.pb_pddl_laws.proofs.Refusals.{plain, head_misfit, agrees_open, agrees_closed_value}
-use Rattle.pb_pddl_laws.proofs.Closing.{or_none, or_last}
+use Rattle.pb_pddl_laws.proofs.Closing.{or_last}
 use Rattle.pb_pddl_laws.proofs.NestedForms.{inside_behind, agrees_any}
 use Rattle.pb_pddl_laws.proofs.AtomPlaces.{agrees_atom, agrees_atom_behind}
 use Rattle.pb_pddl_laws.proofs.CostPlaces.{agrees_cost}
@@ -75,10 +76,10 @@ inside_refused t = plain Places.InEffect t wants.Name refl refl refl
 inside_misfit : (said : EffectParts) (ts : List Token) → fits Places.InEffect (front ts) ≡ false → inside said ts ≡ Err (refused Places.InEffect (front ts))
 unfolding fits begins spells
 inside_misfit said ts e =
-    let a = or_none (is_kind kinds.Close (front ts) || is_word (codes "and") (front ts) || is_word (codes "not") (front ts) || is_word (codes "increase") (front ts)) (is_head (front ts)) e in
-    let d = or_none (is_kind kinds.Close (front ts) || is_word (codes "and") (front ts) || is_word (codes "not") (front ts)) (is_word (codes "increase") (front ts)) a.0 in
-    let b = or_none (is_kind kinds.Close (front ts) || is_word (codes "and") (front ts)) (is_word (codes "not") (front ts)) d.0 in
-    let c = or_none (is_kind kinds.Close (front ts)) (is_word (codes "and") (front ts)) b.0 in
+    let a = or_parts (is_kind kinds.Close (front ts) || is_word (codes "and") (front ts) || is_word (codes "not") (front ts) || is_word (codes "increase") (front ts)) (is_head (front ts)) e in
+    let d = or_parts (is_kind kinds.Close (front ts) || is_word (codes "and") (front ts) || is_word (codes "not") (front ts)) (is_word (codes "increase") (front ts)) a.0 in
+    let b = or_parts (is_kind kinds.Close (front ts) || is_word (codes "and") (front ts)) (is_word (codes "not") (front ts)) d.0 in
+    let c = or_parts (is_kind kinds.Close (front ts)) (is_word (codes "and") (front ts)) b.0 in
     ap (λ x. cond x (Ok (said, drop 1 ts)) (cond (is_word (codes "and") (front ts)) (effects_at any_effect said (drop 1 ts)) (cond (is_word (codes "not") (front ts)) (negative_at said (drop 1 ts)) (cond (is_word (codes "increase") (front ts)) (add_increase said ts) (add_literal false said ts))))) c.0
     ∙ ap (λ x. cond x (effects_at any_effect said (drop 1 ts)) (cond (is_word (codes "not") (front ts)) (negative_at said (drop 1 ts)) (cond (is_word (codes "increase") (front ts)) (add_increase said ts) (add_literal false said ts)))) c.1
     ∙ ap (λ x. cond x (negative_at said (drop 1 ts)) (cond (is_word (codes "increase") (front ts)) (add_increase said ts) (add_literal false said ts))) b.1

@@ -2,7 +2,7 @@
 use Rattle.std.proofs.Common.{◌≡◌, ℕ, Bool, true, false, cond, not, ◌&&◌, ◌||◌, List, [], ◌∷◌, Err, refl, sym, ap, ◌∙◌, ◌⊎◌, inl, inr, append-nil, true≢false}
 use Rattle.std.specs.Prelude.{Option}
 use Rattle.std.specs.Str.{bytes_eq}
-use Rattle.std.proofs.lemmas.Bool.{or_right}
+use Rattle.std.proofs.lemmas.Bool.{or_right, and_parts, or_parts}
 use Rattle.std.proofs.lemmas.Slice.Eq.{bytes_eq-Decides}
 use Rattle.pb_pddl.specs.declared.token.TokenKind.TheVariants as kinds
 use Rattle.pb_pddl.specs.declared.token.Token.{Token}
@@ -18,8 +18,7 @@ use Rattle.pb_pddl_laws.proofs.CondsRead.{if_true, if_false}
 use Rattle.pb_pddl_laws.proofs.Following.{SamePlace}
 use Rattle.pb_pddl_laws.proofs.Agreeing.{Agrees, agrees_one, agrees_same, agrees_as}
 use Rattle.pb_pddl_laws.proofs.Refusals.{told}
-use Rattle.pb_pddl_laws.proofs.Closing.{or_none}
-use Rattle.pb_pddl_laws.proofs.Keys.{key_token, and_both, as_key, no_text, not_free, free, or_either, decide, keyed}
+use Rattle.pb_pddl_laws.proofs.Keys.{key_token, as_key, no_text, not_free, free, or_either, decide, keyed}
 
 -- what f reads at this place, where this symbol is due, and behind it this
 module _ {S : Type 0} (f : S → List Token → Read S) (place : S → Place) (symbol : S → Symbol) (due : S → List Symbol) where
@@ -67,7 +66,7 @@ module _ {S : Type 0} (f : S → List Token → Read S) (place : S → Place) (s
   stood_or_none [] b s t e = (e, inr refl)
   stood_or_none (c ∷ cs) b s t e =
       let r = stood_or_none cs (b || fits_one c s t) s t e in
-      let o = or_none b (fits_one c s t) r.0 in (
+      let o = or_parts b (fits_one c s t) r.0 in (
         o.0,
         elim r.1 [
           | inl later ↦ inl later
@@ -152,7 +151,7 @@ module _ {S : Type 0} (f : S → List Token → Read S) (place : S → Place) (s
     is_a_key : (s : S) (t : Token) → fits (place s) t ≡ true → is_kind kinds.Key t ≡ true
     is_a_key s t fit = elim (which cs false s t (sym (fits_is s t) ∙ fit)) [
       | inl never ↦ absurd (true≢false (sym never))
-      | inr (c, here, free_still) ↦ (and_both (is_kind kinds.Key t) (bytes_eq t.text c.key) here).0
+      | inr (c, here, free_still) ↦ (and_parts (is_kind kinds.Key t) (bytes_eq t.text c.key) here).0
     ]
 
     misfits : (s : S) (ts : List Token) → fits (place s) (front ts) ≡ false → f s ts ≡ Err (refused (place s) (front ts))

@@ -1,5 +1,6 @@
 -- Keywords: which one a token is.
 use Rattle.std.proofs.Common.{◌≡◌, ℕ, Bool, true, false, not, ◌&&◌, ◌||◌, List, refl, sym, ap, ◌∙◌, ◌⊎◌, inl, inr, true≢false}
+use Rattle.std.proofs.lemmas.Bool.{and_parts}
 use Rattle.std.specs.Str.{bytes_eq}
 use Rattle.pb_pddl.specs.declared.token.TokenKind.{TokenKind}
 use Rattle.pb_pddl.specs.declared.token.TokenKind.TheVariants as kinds
@@ -15,13 +16,9 @@ use Rattle.std.proofs.lemmas.Slice.Eq.{bytes_eq-Decides}
 abbrev pub key_token : List ℕ → Token → Token
 key_token text t = record { kind = kinds.Key; text = text; at = t.at; head = t.head }
 
-pub and_both : (a b : Bool) → a && b ≡ true → (a ≡ true) × (b ≡ true)
-and_both true b e = (refl, e)
-and_both false b e = absurd cc
-
 pub as_key : (text : List ℕ) (t : Token) → is_key text t ≡ true → t ≡ key_token text t
 as_key text t e =
-    let a = and_both (same_kind t.kind kinds.Key) (bytes_eq t.text text) e in
+    let a = and_parts (same_kind t.kind kinds.Key) (bytes_eq t.text text) e in
     ap (λ (k : TokenKind). let x : Token = record { kind = k; text = t.text; at = t.at; head = t.head } in x) (kinds_same t.kind kinds.Key a.0)
     ∙ ap (λ (c : List ℕ). let x : Token = record { kind = kinds.Key; text = c; at = t.at; head = t.head } in x) ((bytes_eq-Decides t.text text).0 a.1)
 
@@ -33,8 +30,8 @@ not_free a true e f = refl
 not_free a false e f = absurd (true≢false (sym (ap (λ c. c && true) e) ∙ f))
 
 pub free : (a b : Bool) → a && not b ≡ true → (a ≡ true) × (b ≡ false)
-free a true e = absurd (true≢false (sym (and_both a false e).1))
-free a false e = ((and_both a true e).0, refl)
+free a true e = absurd (true≢false (sym (and_parts a false e).1))
+free a false e = ((and_parts a true e).0, refl)
 
 pub or_either : (a b : Bool) → a || b ≡ true → (a ≡ true) ⊎ (b ≡ true)
 or_either true b e = inl refl

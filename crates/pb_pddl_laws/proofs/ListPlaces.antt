@@ -1,5 +1,7 @@
 -- Lists of names with types: where their reading stops, and beside the table.
 use Rattle.std.proofs.Common.{◌≡◌, ℕ, Bool, true, false, cond, not, ◌&&◌, ◌||◌, ◌==◌, List, [], ◌∷◌, ◌++◌, length, Ok, Err, refl, sym, ap, ◌∙◌, suc, arith, true≢false}
+use Rattle.std.proofs.lemmas.Bool.{or_parts}
+use Rattle.std.proofs.Math.Bool.{and-false}
 use Rattle.std.specs.Prelude.{Some, None, if◌then◌else◌}
 use Rattle.std.proofs.lemmas.Bool.Decides.{nat_tests}
 use Rattle.pb_pddl.specs.declared.token.TokenKind.{TokenKind}
@@ -22,7 +24,7 @@ use Rattle.pb_pddl_laws.proofs.Loops.{Takes}
 use Rattle.pb_pddl_laws.specs.Table
 use Rattle.pb_pddl_laws.specs.Table.{Symbol, after}
 use Rattle.pb_pddl_laws.proofs.Refusals.{plain}
-use Rattle.pb_pddl_laws.proofs.Closing.{or_none, or_last, Pieces, takes_piece, agrees_closed}
+use Rattle.pb_pddl_laws.proofs.Closing.{or_last, Pieces, takes_piece, agrees_closed}
 use Rattle.pb_pddl_laws.proofs.CostPlaces.{opens_left, open_left}
 use Rattle.pb_pddl_laws.proofs.Following.{SamePlace, nothing}
 use Rattle.pb_pddl_laws.proofs.Agreeing.{Agrees, TakesOne, takes_test, agrees_one, agrees_done, agrees_same, agrees_as, agrees_either, agrees_make}
@@ -61,10 +63,6 @@ module _ (kind : TokenKind) (want : Want) (some : same_kind kinds.End kind ≡ f
   abbrev waits : Group → Bool
   waits g = not (length g.waiting == 0)
 
-  and_none : (b : Bool) → b && false ≡ false
-  and_none true = refl
-  and_none false = refl
-
   -- a -, where none waits
   group_refused : (t : Token) → is_kind kinds.Dash t ≡ true → refused (Places.MoreNames kind false) t ≡ refusal wants.Group t
   unfolding refused_token left_out wanted
@@ -73,8 +71,8 @@ module _ (kind : TokenKind) (want : Want) (some : same_kind kinds.End kind ≡ f
   part_refused : (g : Group) (t : Token) (us : List Token) → is_part t ≡ true → fits (Places.MoreNames kind (waits g)) t ≡ false → group_step kind g (t ∷ us) ≡ Err (refused (Places.MoreNames kind (waits g)) t)
   unfolding fits group_step begins front fault_at
   part_refused g t us goes misfit =
-      let a = or_none (is_kind kind t || waits g && is_kind kinds.Dash t) (is_kind kinds.Close t) misfit in
-      let b = or_none (is_kind kind t) (waits g && is_kind kinds.Dash t) a.0 in
+      let a = or_parts (is_kind kind t || waits g && is_kind kinds.Dash t) (is_kind kinds.Close t) misfit in
+      let b = or_parts (is_kind kind t) (waits g && is_kind kinds.Dash t) a.0 in
       let dash : is_kind kinds.Dash t ≡ true = or_last (is_kind kind t) (is_kind kinds.Dash t) b.0 goes in
       let none_waits : length g.waiting == 0 ≡ true = not_waits (length g.waiting == 0) (is_kind kinds.Dash t) dash b.1 in
       if_false (is_kind kind t) _ _ b.0 ∙ if_true (length g.waiting == 0) _ _ none_waits
@@ -86,13 +84,13 @@ module _ (kind : TokenKind) (want : Want) (some : same_kind kinds.End kind ≡ f
   part_last : (g : Group) (t : Token) → is_part t ≡ false → fits (Places.MoreNames kind (waits g)) t ≡ same_kind t.kind kinds.Close
   unfolding fits
   part_last g t e =
-      let a = or_none (is_kind kind t) (is_kind kinds.Dash t) e in
-      ap (λ b. b || waits g && is_kind kinds.Dash t || is_kind kinds.Close t) a.0 ∙ ap (λ b. waits g && b || is_kind kinds.Close t) a.1 ∙ ap (λ b. b || is_kind kinds.Close t) (and_none (waits g))
+      let a = or_parts (is_kind kind t) (is_kind kinds.Dash t) e in
+      ap (λ b. b || waits g && is_kind kinds.Dash t || is_kind kinds.Close t) a.0 ∙ ap (λ b. waits g && b || is_kind kinds.Close t) a.1 ∙ ap (λ b. b || is_kind kinds.Close t) (and-false (waits g))
 
   part_end : (g : Group) (t : Token) → is_part t ≡ false → refused (Places.MoreNames kind (waits g)) t ≡ refusal want t
   unfolding refused_token left_out wanted
   part_end g t e =
-      let a = or_none (is_kind kind t) (is_kind kinds.Dash t) e in
+      let a = or_parts (is_kind kind t) (is_kind kinds.Dash t) e in
       plain (Places.MoreNames kind (waits g)) t want refl refl (ap (λ b. if b then wants.Group else first_fit (Places.MoreNames kind (waits g))) a.1 ∙ first (waits g))
 
   abbrev waiting : Group → Token → Group
@@ -137,7 +135,7 @@ module _ (kind : TokenKind) (want : Want) (some : same_kind kinds.End kind ≡ f
     more_is = λ ts. refl;
     none = ap (λ b. b || false) some;
     takes = takes_part_of;
-    no_end = λ g. ap (λ b. b || waits g && false || false) some ∙ ap (λ b. b || false) (and_none (waits g));
+    no_end = λ g. ap (λ b. b || waits g && false || false) some ∙ ap (λ b. b || false) (and-false (waits g));
     refuse_step = part_refused;
     close_last = part_last;
     end_refused = part_end;
@@ -167,7 +165,7 @@ module _ (kind : TokenKind) (want : Want) (some : same_kind kinds.End kind ≡ f
 
     none_due : (g : Group) (t : Token) → is_part t ≡ false → after (names (waits g)) t ≡ []
     none_due g t stops =
-        let a = or_none (is_kind kind t) (is_kind kinds.Dash t) stops in
+        let a = or_parts (is_kind kind t) (is_kind kinds.Dash t) stops in
         after_is (waits g) t ∙ ap (λ b. choice b (is_kind kinds.Dash t)) a.0 ∙ ap (λ b. cond b typed_due []) a.1
 
     pub agrees_list : Agrees (List Typed) (list_at kind want) nothing (names false ∷ [])

@@ -1,5 +1,6 @@
 -- Lists of names with types: what is read is what the grammar has, and the other way round.
 use Rattle.std.proofs.Common.{◌≡◌, ◌≢◌, ℕ, zero, suc, ◌<◌, ◌≤◌, true, false, ◌||◌, ◌==◌, List, [], ◌∷◌, ◌++◌, length, drop, Ok, refl, sym, ap, subst, ◌∙◌, arith, ◌⊎◌, inl, inr}
+use Rattle.std.proofs.lemmas.Bool.{or_left, or_right}
 use Rattle.std.specs.Prelude.{Some, None}
 use Rattle.pb_pddl.specs.declared.token.TokenKind.{TokenKind}
 use Rattle.pb_pddl.specs.declared.token.TokenKind.TheVariants as kinds
@@ -12,7 +13,7 @@ use Rattle.pb_pddl.specs.Reading.{front, begins, kind_number, same_kind, need, n
 use Rattle.pb_pddl.specs.Grammar.{Takes, Names, Dashes, Steps, Many, AddsName, IsGroup, IsList}
 use Rattle.pb_pddl_laws.proofs.Singles.{ok_pair, bind_ok, bind_again, guard_ok, begins_takes, takes_begins, takes_less, need_takes, takes_need, IsToken, dash_token, close_token, word_token, takes_other}
 use Rattle.pb_pddl_laws.proofs.ManyRead.{IsSound, IsComplete, all_sound, all_complete, steps_less}
-use Rattle.pb_pddl_laws.proofs.AtomsRead.{or_cases, or_first, or_second}
+use Rattle.pb_pddl_laws.proofs.AtomsRead.{or_cases}
 use Rattle.pb_pddl_laws.proofs.CondsRead.{if_cases, if_true, if_false}
 
 -- ---- pieces one after another
@@ -90,7 +91,7 @@ step_complete kind apart g ts now rest cases =
       | inl (name, (t, h, is), now_is) ↦
           let b = takes_begins kind ts t rest h in
           let name_is : name_of (front ts) ≡ name = ap name_of b.1 ∙ sym is in (
-            or_first (begins kind ts) (begins kinds.Dash ts) b.0,
+            or_left (begins kind ts) (begins kinds.Dash ts) b.0,
             if_true (begins kind ts) _ _ b.0 ∙ ap (λ (n : Name). Ok (record { done = g.done; waiting = g.waiting ++ n ∷ [] }, drop 1 ts)) name_is ∙ ap (λ (x : Group). Ok (x, drop 1 ts)) (sym now_is)
                 ∙ ap (λ (r : List Token). Ok (now, r)) b.2,
             takes_less kind ts t rest h,
@@ -99,7 +100,7 @@ step_complete kind apart g ts now rest cases =
           let b = takes_begins kinds.Dash ts d word dash in
           let one : length word < length ts = takes_less kinds.Dash ts d word dash in
           let two : length rest < length word = takes_less kinds.Word word named.0 rest named.1 in (
-            or_second (begins kind ts) (begins kinds.Dash ts) b.0,
+            or_right (begins kind ts) (begins kinds.Dash ts) b.0,
             if_false (begins kind ts) _ _ (takes_other kinds.Dash kind ts d word apart dash) ∙ if_false (length g.waiting == 0) _ _ (zero_not g.waiting some)
                 ∙ bind_again (type_at (drop 1 ts)) _ (type, rest) _ (ap type_at b.2 ∙ type_complete word rest type named) (ap (λ (x : Group). Ok (x, rest)) (sym now_is)),
             omega arith,

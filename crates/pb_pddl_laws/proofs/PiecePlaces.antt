@@ -1,5 +1,6 @@
 -- Predicates, the words of requirements and what stands in :init: where their reading stops, and beside the table.
 use Rattle.std.proofs.Common.{◌≡◌, Bool, true, false, List, [], ◌∷◌, ◌++◌, Result, Ok, Err, refl, sym, ap, ◌∙◌, cond, append-nil}
+use Rattle.std.proofs.lemmas.Bool.{or_parts}
 use Rattle.pb_pddl.specs.declared.token.TokenKind.TheVariants as kinds
 use Rattle.pb_pddl.specs.declared.token.Token.{Token}
 use Rattle.pb_pddl.specs.declared.tree.Name.{Name}
@@ -19,7 +20,7 @@ use Rattle.pb_pddl_laws.specs.Table
 use Rattle.pb_pddl_laws.specs.Table.{Symbol, after, cost_due}
 use Rattle.pb_pddl_laws.proofs.Singles.{bind_bind}
 use Rattle.pb_pddl_laws.proofs.Refusals.{plain, head_misfit, need_fit, agrees_name}
-use Rattle.pb_pddl_laws.proofs.Closing.{or_none, or_last, takes_piece, agrees_tokens, agrees_each}
+use Rattle.pb_pddl_laws.proofs.Closing.{or_last, takes_piece, agrees_tokens, agrees_each}
 use Rattle.pb_pddl_laws.proofs.AtomPlaces.{agrees_atom_behind}
 use Rattle.pb_pddl_laws.proofs.CostPlaces.{agrees_cost}
 use Rattle.pb_pddl_laws.proofs.ListPlaces.{agrees_variables}
@@ -80,7 +81,7 @@ module _ (said : InitParts) where
   fact_misfit : (ts : List Token) → fits Places.InFact (front ts) ≡ false → fact_inside ts ≡ Err (refused Places.InFact (front ts))
   unfolding fits begins spells
   fact_misfit ts e =
-      let a = or_none (is_equals (front ts)) (is_head (front ts)) e in
+      let a = or_parts (is_equals (front ts)) (is_head (front ts)) e in
       ap (λ x. cond x (add_equal said ts) (add_held said ts)) a.0 ∙ held_misfit ts a.1 ∙ ap (λ (x : SyntaxError). Err x) (sym (fact_refused (front ts)))
 
   fact_head : (t : Token) → fits Places.InFact t ≡ true → is_equals t ≡ false → is_head t ≡ true

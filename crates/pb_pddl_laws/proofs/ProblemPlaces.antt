@@ -1,5 +1,6 @@
 -- Sections of a problem: where their reading stops, and beside the table.
 use Rattle.std.proofs.Common.{◌≡◌, ℕ, Bool, true, false, cond, not, ◌&&◌, ◌||◌, List, [], ◌∷◌, ◌++◌, Result, Ok, Err, refl, sym, ap, ◌∙◌, arith, ◌⊎◌, inl, inr, true≢false}
+use Rattle.std.proofs.lemmas.Bool.{and_parts}
 use Rattle.std.specs.Prelude.{codes, Option, Some, None, is_some, if◌then◌else◌}
 use Rattle.pb_pddl.specs.declared.token.TokenKind.{TokenKind}
 use Rattle.pb_pddl.specs.declared.token.TokenKind.TheVariants as kinds
@@ -32,7 +33,7 @@ use Rattle.pb_pddl_laws.proofs.ConditionPlaces.{agrees_cond}
 use Rattle.pb_pddl_laws.proofs.CostPlaces.{agrees_only, agrees_total}
 use Rattle.pb_pddl_laws.proofs.ListPlaces.{agrees_words}
 use Rattle.pb_pddl_laws.proofs.PiecePlaces.{agrees_facts, agrees_keys}
-use Rattle.pb_pddl_laws.proofs.Keys.{and_both, decide}
+use Rattle.pb_pddl_laws.proofs.Keys.{decide}
 use Rattle.pb_pddl_laws.proofs.KeyedSections.{Section, fits_any, agrees_section, all_stood, some_free}
 use Rattle.pb_pddl_laws.proofs.Noted.{noted_problem, same_problem, same_sections, sections_first}
 
@@ -318,8 +319,8 @@ module _ {Y : Type 0} (value : ProblemParts → Name → List Atom → Y) where
   -- where the ) fits, both stood
   both_stood : (s : ProblemParts) (t : Token) → section_test t ≡ false → fits (Places.MoreSections s) t ≡ true → (is_kind kinds.Close t ≡ true) × (is_some s.domain ≡ true) × (is_some s.goal ≡ true)
   both_stood s t last fit =
-      let a = and_both (is_kind kinds.Close t && is_some s.domain) (is_some s.goal) (sym (close_fits s t last) ∙ fit) in
-      let b = and_both (is_kind kinds.Close t) (is_some s.domain) a.0 in
+      let a = and_parts (is_kind kinds.Close t && is_some s.domain) (is_some s.goal) (sym (close_fits s t last) ∙ fit) in
+      let b = and_parts (is_kind kinds.Close t) (is_some s.domain) a.0 in
       (b.0, b.1, a.1)
 
   agrees_end : (s : ProblemParts) (t : Token) → section_test t ≡ false → fits (Places.MoreSections s) t ≡ true → Agrees Y (λ us. sections_end s (t ∷ us)) nothing (after (Table.ProblemSections (noted_problem s)) t)

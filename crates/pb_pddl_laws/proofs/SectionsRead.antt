@@ -1,5 +1,6 @@
 -- Sections and whole forms: what is read is what the grammar has, and the other way round.
 use Rattle.std.proofs.Common.{◌≡◌, ◌<◌, Bool, true, false, cond, ◌&&◌, Result, Err, List, [], ◌∷◌, ◌++◌, length, drop, Ok, refl, sym, ap, subst, ◌∙◌, arith, inl, inr}
+use Rattle.std.proofs.Math.Bool.{and-false}
 use Rattle.std.specs.Prelude.{Some, None, is_some, codes}
 use Rattle.pb_pddl.specs.declared.token.TokenKind.TheVariants as kinds
 use Rattle.pb_pddl.specs.declared.token.Token.{Token}
@@ -237,10 +238,6 @@ problem_sound s ts now rest m e =
     problem_key_sound s o.0 now rest ts (need_takes kinds.Open wants.Paren ts o.0 open_token o.1) o.2
 
 -- where a section did not stand, not each did
-and_no : (a : Bool) → a && false ≡ false
-and_no true = refl
-and_no false = refl
-
 module _ (p : ProblemParts) where
   no_requirements_yet : p.requirements ≡ false → stood_all p ≡ false
   unfolding stood_all
@@ -249,27 +246,27 @@ module _ (p : ProblemParts) where
   pub no_domain_yet : p.domain ≡ None → stood_all p ≡ false
   unfolding stood_all
   no_domain_yet e = ap (λ b. p.requirements && b && is_some p.objects && is_some p.init && is_some p.goal && is_some p.metric) (none_is p.domain e)
-      ∙ ap (λ b. b && is_some p.objects && is_some p.init && is_some p.goal && is_some p.metric) (and_no p.requirements)
+      ∙ ap (λ b. b && is_some p.objects && is_some p.init && is_some p.goal && is_some p.metric) (and-false p.requirements)
 
   no_objects_yet : p.objects ≡ None → stood_all p ≡ false
   unfolding stood_all
   no_objects_yet e = ap (λ b. p.requirements && is_some p.domain && b && is_some p.init && is_some p.goal && is_some p.metric) (none_is p.objects e)
-      ∙ ap (λ b. b && is_some p.init && is_some p.goal && is_some p.metric) (and_no (p.requirements && is_some p.domain))
+      ∙ ap (λ b. b && is_some p.init && is_some p.goal && is_some p.metric) (and-false (p.requirements && is_some p.domain))
 
   no_init_yet : p.init ≡ None → stood_all p ≡ false
   unfolding stood_all
   no_init_yet e = ap (λ b. p.requirements && is_some p.domain && is_some p.objects && b && is_some p.goal && is_some p.metric) (none_is p.init e)
-      ∙ ap (λ b. b && is_some p.goal && is_some p.metric) (and_no (p.requirements && is_some p.domain && is_some p.objects))
+      ∙ ap (λ b. b && is_some p.goal && is_some p.metric) (and-false (p.requirements && is_some p.domain && is_some p.objects))
 
   pub no_goal_yet : p.goal ≡ None → stood_all p ≡ false
   unfolding stood_all
   no_goal_yet e = ap (λ b. p.requirements && is_some p.domain && is_some p.objects && is_some p.init && b && is_some p.metric) (none_is p.goal e)
-      ∙ ap (λ b. b && is_some p.metric) (and_no (p.requirements && is_some p.domain && is_some p.objects && is_some p.init))
+      ∙ ap (λ b. b && is_some p.metric) (and-false (p.requirements && is_some p.domain && is_some p.objects && is_some p.init))
 
   no_metric_yet : p.metric ≡ None → stood_all p ≡ false
   unfolding stood_all
   no_metric_yet e = ap (λ b. p.requirements && is_some p.domain && is_some p.objects && is_some p.init && is_some p.goal && b) (none_is p.metric e)
-      ∙ and_no (p.requirements && is_some p.domain && is_some p.objects && is_some p.init && is_some p.goal)
+      ∙ and-false (p.requirements && is_some p.domain && is_some p.objects && is_some p.init && is_some p.goal)
 
 pub problem_complete : IsComplete begins_open (problem_section unlimited) IsProblemSection
 unfolding problem_section problem_key domain_name_section problem_requirements objects_section init_section goal_section metric_section unlimited

@@ -1,5 +1,6 @@
 -- A token that is a word has lower-case letters, digits, - and _ alone, and begins with a letter or a digit.
 use Rattle.std.proofs.Common.{◌≡◌, ℕ, suc, Bool, true, false, ◌||◌, ◌==◌, IsTrue, List, [], ◌∷◌, length, take, drop, map, refl, sym, subst, arith, inl, inr}
+use Rattle.std.proofs.lemmas.Bool.{or_left}
 use Rattle.std.specs.Prelude.{if◌then◌else◌}
 use Rattle.std.proofs.lemmas.List.Elements.{All-cons, All-nil}
 use Rattle.pb_pddl.specs.declared.token.TokenKind.{TokenKind}
@@ -8,7 +9,6 @@ use Rattle.pb_pddl.specs.declared.token.Token.{Token}
 use Rattle.pb_pddl.specs.declared.token.Cursor.{Cursor}
 use Rattle.pb_pddl.specs.Tokens.{begins_word, goes_on_word, lower, gap_len, run_len, kind_of, kind_inside, word_first, len_of, token_at, is_last, AreTokens, moved, behind}
 use Rattle.pb_pddl.specs.Words.{is_first_byte, is_word_byte, AreWordBytes, IsWord}
-use Rattle.pb_pddl_laws.proofs.AtomsRead.{or_first}
 use Rattle.pb_pddl_laws.proofs.CondsRead.{if_cases, if_true, if_false}
 
 -- ---- bytes
@@ -83,7 +83,7 @@ token_word h [] e = absurd cc
 token_word h (b ∷ bs) e =
     let begins : begins_word b ≡ true = word_begins b (word_first bs) (word_inside (length h.nest) (kind_of b (word_first bs)) e) in
     subst (λ (k : TokenKind). IsWord (map lower (take (len_of k bs) (b ∷ bs)))) (sym e)
-    (lower_first b begins, All-cons is_test (lower b) (map lower (take (run_len bs) bs)) (lower_word b (or_first (begins_word b || b == 45) (b == 95) (or_first (begins_word b) (b == 45) begins))) (run_words bs))
+    (lower_first b begins, All-cons is_test (lower b) (map lower (take (run_len bs) bs)) (lower_word b (or_left (begins_word b || b == 45) (b == 95) (or_left (begins_word b) (b == 45) begins))) (run_words bs))
 
 -- ---- the tokens of a text
 
