@@ -1,33 +1,27 @@
 -- Numbers as words of decimal digits: what is read of them, and that the digits of a number are
 -- read as it.
-use Rattle.std.proofs.Common.{◌≡◌, ℕ, suc, ◌+◌, ◌-◌, ◌*◌, ◌^◌, ◌<◌, ◌≤◌, Bool, true, false, ◌&&◌, not, cond, leb, eqb, ltb, Option, None, Some, List, [], ◌∷◌, length, get_or, refl, sym, ap, ◌∙◌, subst, arith}
+use Rattle.std.proofs.Common.{◌≡◌, ℕ, suc, ◌+◌, ◌-◌, ◌*◌, ◌^◌, ◌<◌, ◌≤◌, Bool, true, false, ◌&&◌, not, cond, leb, eqb, ltb, None, Some, List, [], ◌∷◌, length, get_or, refl, sym, ap, ◌∙◌, subst, arith}
+use Rattle.std.proofs.Math.Bool.{and-false}
+use Rattle.std.proofs.lemmas.Option.{same_Some}
 use Rattle.std.specs.List.{list_all}
 use Rattle.std.specs.Fmt.{decimal}
-use Rattle.std.proofs.lemmas.Bool.{leb-true, le-leb, lt-ltb, ltb-true}
+use Rattle.std.proofs.lemmas.Bool.{leb-true, le-leb, lt-ltb, ltb-true, and_parts, and_from}
 use Rattle.std.proofs.lemmas.Bool.Decides.{nat_tests}
 use Rattle.std.proofs.lemmas.Fmt.{digits_decimal, digits_value-decimal, decimal-digits_value, decimal_digit, decimal_nonempty, first_decimal}
 use Rattle.std.proofs.lemmas.Str.Parse.{IsDigitsTest, FoldsDigits, IsNumeralModel, numerals_by_fold}
 use Rattle.pb_lines.specs.Words.{is_digit, is_padded, number_after, number_of, has_none}
 use Rattle.pb_lines.proofs.NumberWords.{value_after, IsNumberWord}
-
-conjuncts : (a b : Bool) → (a && b) ≡ true → (a ≡ true) × (b ≡ true)
-conjuncts true b e = (refl, e)
-conjuncts false b e = absurd cc
-
-both : (a b : Bool) → a ≡ true → b ≡ true → (a && b) ≡ true
-both true true x y = refl
-both false b x y = absurd cc
-both true false x y = absurd cc
+use Rattle.pb_lines.proofs.Parts.{if_some, if_not_some}
 
 -- ---- these words for digits and their value are the usual ones
 
 digits_test : IsDigitsTest (λ word. list_all is_digit word ≡ true)
 digits_test = record {
   empty = refl;
-  parts = λ c cs e. let k = conjuncts (is_digit c) (list_all is_digit cs) e in let m =
-      conjuncts (leb 48 c) (leb c 57) k.0 in ((leb-true 48 c m.0, leb-true c 57 m.1), k.1);
-  more = λ c cs k e. both (is_digit c) (list_all is_digit cs)
-      (both (leb 48 c) (leb c 57) (le-leb 48 c k.0) (le-leb c 57 k.1)) e;
+  parts = λ c cs e. let k = and_parts (is_digit c) (list_all is_digit cs) e in let m =
+      and_parts (leb 48 c) (leb c 57) k.0 in ((leb-true 48 c m.0, leb-true c 57 m.1), k.1);
+  more = λ c cs k e. and_from (is_digit c) (list_all is_digit cs)
+      (and_from (leb 48 c) (leb c 57) (le-leb 48 c k.0) (le-leb c 57 k.1)) e;
 }
 
 value_folds : FoldsDigits value_after
@@ -40,11 +34,7 @@ own = numerals_by_fold (λ word. list_all is_digit word ≡ true) digits_test va
 
 not_padded : (word : List ℕ) (n : ℕ) → word ≡ decimal n → n < 2 ^ 63 → is_padded word ≡ false
 not_padded [] n e small = refl
-not_padded (b ∷ []) n e small = go (eqb b 48)
-  where
-    go : (t : Bool) → (t && false) ≡ false
-    go true = refl
-    go false = refl
+not_padded (b ∷ []) n e small = and-false (eqb b 48)
 not_padded (b ∷ c ∷ cs) n e small = grind (arith, nat_tests, above)
   where
     long : n ≡ 0 → ⊥
@@ -99,19 +89,6 @@ number_word_is word n is =
 
 -- ---- what is read
 
-some_is : {A : Type 0} (x y : A) → ◌≡◌ {A = Option A} (Some x) (Some y) → x ≡ y
-some_is x y e = cc
-
-if_some : {A : Type 0} (b : Bool) (o : Option A) (x : A) → cond b o None ≡ Some x → (b ≡ true)
-    × (o ≡ Some x)
-if_some true o x e = (refl, e)
-if_some false o x e = absurd cc
-
-if_not_some : {A : Type 0} (b : Bool) (o : Option A) (x : A) → cond b None o ≡ Some x → (b ≡ false)
-    × (o ≡ Some x)
-if_not_some true o x e = absurd cc
-if_not_some false o x e = (refl, e)
-
 grows : (n : ℕ) (word : List ℕ) → n ≤ value_after n word
 grows n [] = omega arith
 grows n (b ∷ bs) = let h = grows (n * 10 + (b - 48)) bs in omega (arith, h)
@@ -121,12 +98,12 @@ number_after_again : (n : ℕ) (word : List ℕ) → list_all is_digit word ≡ 
 unfolding number_after
 number_after_again n [] digits small = refl
 number_after_again n (b ∷ bs) digits small =
-    let c = conjuncts (is_digit b) (list_all is_digit bs) digits in
+    let c = and_parts (is_digit b) (list_all is_digit bs) digits in
     let h = grows (n * 10 + (b - 48)) bs in
     let s : value_after (n * 10 + (b - 48)) bs < 2 ^ 63 = small in
     let lt : ltb (n * 10 + (b - 48)) (2 ^ 63) ≡ true = lt-ltb _ _ (omega (arith, h, s)) in
     ap (λ t. cond t (number_after (n * 10 + (b - 48)) bs) None)
-    (both (is_digit b) (ltb (n * 10 + (b - 48)) (2 ^ 63)) c.0 lt)
+    (and_from (is_digit b) (ltb (n * 10 + (b - 48)) (2 ^ 63)) c.0 lt)
     ∙ number_after_again (n * 10 + (b - 48)) bs c.1 small
 
 pub number_word_read : (word : List ℕ) (n : ℕ) → IsNumberWord word n → number_of word ≡ Some n
@@ -141,13 +118,13 @@ number_word_read word n is =
 number_after_is : (n : ℕ) (word : List ℕ) (m : ℕ) → n < 2 ^ 63 → number_after n word ≡ Some m
     → (list_all is_digit word ≡ true) × (m ≡ value_after n word) × (m < 2 ^ 63)
 unfolding number_after
-number_after_is n [] m lt e = let s : n ≡ m = some_is n m e in (refl, sym s, omega (arith, lt, s))
+number_after_is n [] m lt e = let s : n ≡ m = same_Some n m e in (refl, sym s, omega (arith, lt, s))
 number_after_is n (b ∷ bs) m lt e =
     let h = if_some (is_digit b && ltb (n * 10 + (b - 48)) (2 ^ 63))
     (number_after (n * 10 + (b - 48)) bs) m e in
-    let c = conjuncts (is_digit b) (ltb (n * 10 + (b - 48)) (2 ^ 63)) h.0 in
+    let c = and_parts (is_digit b) (ltb (n * 10 + (b - 48)) (2 ^ 63)) h.0 in
     let r = number_after_is (n * 10 + (b - 48)) bs m (ltb-true _ _ c.1) h.1 in
-    (both (is_digit b) (list_all is_digit bs) c.0 r.0, r.1, r.2)
+    (and_from (is_digit b) (list_all is_digit bs) c.0 r.0, r.1, r.2)
 
 pub number_word_of : (word : List ℕ) (n : ℕ) → number_of word ≡ Some n → IsNumberWord word n
 number_word_of word n e =
@@ -170,14 +147,14 @@ number_again n small = number_word_read (decimal n) n (number_word (decimal n) n
 
 digit_is_none : (byte b : ℕ) → byte < 48 → is_digit b ≡ true → not (eqb b byte) ≡ true
 digit_is_none byte b small e = let c =
-    conjuncts (leb 48 b) (leb b 57) e in grind (arith, nat_tests, small, c)
+    and_parts (leb 48 b) (leb b 57) e in grind (arith, nat_tests, small, c)
 
 pub number_has_none : (byte : ℕ) (word : List ℕ) → byte < 48 → list_all is_digit word ≡ true
     → has_none byte word ≡ true
 number_has_none byte [] small e = refl
 number_has_none byte (b ∷ bs) small e = let c =
-    conjuncts (is_digit b) (list_all is_digit bs) e in
-    both (not (eqb b byte)) (has_none byte bs) (digit_is_none byte b small c.0)
+    and_parts (is_digit b) (list_all is_digit bs) e in
+    and_from (not (eqb b byte)) (has_none byte bs) (digit_is_none byte b small c.0)
     (number_has_none byte bs small c.1)
 
 pub number_none : (byte n : ℕ) → byte < 48 → n < 2 ^ 63 → has_none byte (decimal n) ≡ true

@@ -1,27 +1,22 @@
 -- Parts of a text: what is cut off, and that what was joined is cut again.
-use Rattle.std.proofs.Common.{◌≡◌, ℕ, suc, ◌+◌, ◌<◌, ◌≤◌, Bool, true, false, ◌&&◌, not, cond, eqb, ltb, Option, None, Some, List, [], ◌∷◌, ◌++◌, length, get_or, take, drop, refl, sym, ap, ◌∙◌, subst, arith, drop-cons, append-nil, append_assoc, length-append}
+use Rattle.std.proofs.Common.{◌≡◌, ℕ, suc, ◌+◌, ◌<◌, ◌≤◌, Bool, true, false, not, cond, eqb, ltb, Option, None, Some, List, [], ◌∷◌, ◌++◌, length, get_or, take, drop, refl, sym, ap, ◌∙◌, subst, arith, drop-cons, append-nil, append_assoc, length-append}
+use Rattle.std.proofs.lemmas.Option.{same_Some}
 use Rattle.std.proofs.lemmas.List.{take_at, drop_at, take-append-drop, nil_from_length}
-use Rattle.std.proofs.lemmas.Bool.{eqb-true, ltb-true, ltb-false, lt-ltb}
+use Rattle.std.proofs.lemmas.Bool.{eqb-true, ltb-true, ltb-false, lt-ltb, not-true, and_parts, and_from}
 use Rattle.std.proofs.lemmas.List.Sums.{sum_by-cons}
 use Rattle.std.proofs.lemmas.Bool.Decides.{nat_tests}
 use Rattle.pb_lines.specs.Words.{place_of, part, behind, is_all, is_text, has_none, line_feeds}
+pub use Rattle.std.proofs.lemmas.Bool.{and_parts as conjuncts, and_from as both}
 
-pub some_is : {A : Type 0} (x y : A) → ◌≡◌ {A = Option A} (Some x) (Some y) → x ≡ y
-some_is x y e = cc
-
-if_some : {A : Type 0} (b : Bool) (o : Option A) (x : A) → cond b o None ≡ Some x → (b ≡ true)
+pub if_some : {A : Type 0} (b : Bool) (o : Option A) (x : A) → cond b o None ≡ Some x → (b ≡ true)
     × (o ≡ Some x)
 if_some true o x e = (refl, e)
 if_some false o x e = absurd cc
 
-pub conjuncts : (a b : Bool) → (a && b) ≡ true → (a ≡ true) × (b ≡ true)
-conjuncts true b e = (refl, e)
-conjuncts false b e = absurd cc
-
-pub both : (a b : Bool) → a ≡ true → b ≡ true → (a && b) ≡ true
-both true true x y = refl
-both false b x y = absurd cc
-both true false x y = absurd cc
+pub if_not_some : {A : Type 0} (b : Bool) (o : Option A) (x : A) → cond b None o ≡ Some x → (b ≡ false)
+    × (o ≡ Some x)
+if_not_some true o x e = absurd cc
+if_not_some false o x e = (refl, e)
 
 at_place : (byte : ℕ) (text : List ℕ) → place_of byte text < length text
     → get_or text (place_of byte text) 0 ≡ byte
@@ -41,7 +36,7 @@ part_is byte text front rest e =
     let p = place_of byte text in
     let h = if_some (ltb p (length text)) (Some (take p text, drop (p + 1) text)) (front, rest) e in
     let lt : p < length text = ltb-true _ _ h.0 in
-    let pair = some_is (take p text, drop (p + 1) text) (front, rest) h.1 in
+    let pair = same_Some (take p text, drop (p + 1) text) (front, rest) h.1 in
     let s : p + 1 ≡ suc p = omega arith in
     let cut : drop p text ≡ byte ∷ drop (p + 1) text =
     drop-cons text p 0 lt ∙ ap (λ b. b ∷ drop (suc p) text) (at_place byte text lt)
@@ -52,7 +47,7 @@ part_is byte text front rest e =
 
 pub behind_is : (piece text rest : List ℕ) → behind piece text ≡ Some rest → text ≡ piece ++ rest
 unfolding behind
-behind_is [] text rest e = some_is text rest e
+behind_is [] text rest e = same_Some text rest e
 behind_is (p ∷ ps) [] rest e = absurd cc
 behind_is (p ∷ ps) (b ∷ bs) rest e =
     let h = if_some (eqb p b) (behind ps bs) rest e in
@@ -72,8 +67,8 @@ pub none_both : (byte : ℕ) (xs ys : List ℕ) → has_none byte xs ≡ true �
     → has_none byte (xs ++ ys) ≡ true
 none_both byte [] ys a b = b
 none_both byte (x ∷ xs) ys a b = let c =
-    conjuncts (not (eqb x byte)) (has_none byte xs) a in
-    both (not (eqb x byte)) (has_none byte (xs ++ ys)) c.0 (none_both byte xs ys c.1 b)
+    and_parts (not (eqb x byte)) (has_none byte xs) a in
+    and_from (not (eqb x byte)) (has_none byte (xs ++ ys)) c.0 (none_both byte xs ys c.1 b)
 
 place_is : (byte : ℕ) (front rest : List ℕ) → has_none byte front ≡ true
     → place_of byte (front ++ byte ∷ rest) ≡ length front
@@ -81,13 +76,9 @@ unfolding place_of
 place_is byte [] rest none = let e : eqb byte byte ≡ true =
     grind (arith, nat_tests) in ap (λ t. cond t 0 (suc (place_of byte rest))) e
 place_is byte (b ∷ front) rest none =
-    let c = conjuncts (not (eqb b byte)) (has_none byte front) none in
-    ap (λ t. cond t 0 (suc (place_of byte (front ++ byte ∷ rest)))) (is_not (eqb b byte) c.0)
+    let c = and_parts (not (eqb b byte)) (has_none byte front) none in
+    ap (λ t. cond t 0 (suc (place_of byte (front ++ byte ∷ rest)))) (not-true (eqb b byte) c.0)
     ∙ ap suc (place_is byte front rest c.1)
-  where
-    is_not : (t : Bool) → not t ≡ true → t ≡ false
-    is_not false e = refl
-    is_not true e = absurd cc
 
 pub part_again : (byte : ℕ) (front rest : List ℕ) → has_none byte front ≡ true
     → part byte (front ++ byte ∷ rest) ≡ Some (front, rest)
@@ -126,7 +117,7 @@ none_before byte (b ∷ bs) lt = go (none_before byte bs) (eqb b byte) refl lt
         → has_none byte (take (cond t 0 (suc (place_of byte bs))) (b ∷ bs)) ≡ true
     go rest true e lt = refl
     go rest false e lt =
-        both (not (eqb b byte)) (has_none byte (take (place_of byte bs) bs)) (ap not e)
+        and_from (not (eqb b byte)) (has_none byte (take (place_of byte bs) bs)) (ap not e)
         (rest (omega (arith, lt)))
 
 pub part_none : (byte : ℕ) (text front rest : List ℕ) → part byte text ≡ Some (front, rest)
@@ -134,7 +125,7 @@ pub part_none : (byte : ℕ) (text front rest : List ℕ) → part byte text ≡
 part_none byte text front rest e =
     let p = place_of byte text in
     let h = if_some (ltb p (length text)) (Some (take p text, drop (p + 1) text)) (front, rest) e in
-    let pair = some_is (take p text, drop (p + 1) text) (front, rest) h.1 in
+    let pair = same_Some (take p text, drop (p + 1) text) (front, rest) h.1 in
     subst (λ (x : List ℕ × List ℕ). has_none byte x.0 ≡ true) pair
     (none_before byte text (ltb-true _ _ h.0))
 
@@ -148,7 +139,7 @@ feeds_after [] rest none = feeds_cons 10 rest ∙ next (line_feeds rest)
     next : (n : ℕ) → 1 + n ≡ suc n
     next n = omega arith
 feeds_after (b ∷ front) rest none =
-    let c = conjuncts (not (eqb b 10)) (has_none 10 front) none in
+    let c = and_parts (not (eqb b 10)) (has_none 10 front) none in
     feeds_cons b (front ++ 10 ∷ rest) ∙ go (eqb b 10) c.0 (feeds_after front rest c.1)
   where
     go : (t : Bool) → not t ≡ true → line_feeds (front ++ 10 ∷ rest) ≡ suc (line_feeds rest)
