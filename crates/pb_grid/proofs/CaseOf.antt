@@ -1,7 +1,7 @@
 -- Each refusal is told only in its case.
 use Rattle.std.proofs.Common.{◌≡◌, ◌≢◌, ℕ, zero, suc, ◌+◌, ◌<◌, ◌≤◌, Bool, true, false, ◌&&◌, not, cond, Option, Some, None, Result, Ok, Err, List, [], ◌∷◌, ◌++◌, length, take, drop, map, reverse, eqb, codes, nat_eq, ◌⊎◌, inl, inr, refl, sym, subst, ap, ◌∙◌, arith}
 use Rattle.std.specs.List.{AllByRecursion, slice_get, starts_with, filter}
-use Rattle.std.proofs.lemmas.Bool.{eq-eqb, eqb-true}
+use Rattle.std.proofs.lemmas.Bool.{eq-eqb, eqb-true, and_parts, and_from, both_ways}
 use Rattle.std.proofs.lemmas.Bool.Decides.{Decides-eqb}
 use Rattle.std.proofs.lemmas.List.{take-append-drop, drop-drop}
 use Rattle.std.proofs.lemmas.Slice.Eq.{starts_is}
@@ -16,7 +16,7 @@ use Rattle.pb_grid.specs.Reading.{◌>>=◌, wanted, must, are_words, number_nam
 use Rattle.pb_grid.specs.Form.{SpellsMap, SpellsRow, SpellsScenario}
 use Rattle.pb_grid.specs.Cases.{NamesNumber, SaysType, SaysHeight, SaysWidth, HasHeader, IsSide, IsRow, IsRowFault, IsCellFault, BeginsWithVersion, count_of_rows, IsCaseOf}
 use Rattle.pb_grid.proofs.Chosen.{rows_from}
-use Rattle.pb_grid.proofs.Steps.{bind_ok, must_ok, wanted_ok, both_true, and_true, blank_is, is_blank_is, words_are, are_words_is, Named, named_is, number_named_is}
+use Rattle.pb_grid.proofs.Steps.{bind_ok, must_ok, wanted_ok, blank_is, is_blank_is, words_are, are_words_is, Named, named_is, number_named_is}
 use Rattle.pb_grid.proofs.SpelledMaps.{SaysSize, says_size, row_is, side_is, map_spelled}
 use Rattle.pb_grid.proofs.SpelledScenarios.{Picks, picked, scenario_spelled}
 use Rattle.pb_grid.proofs.ReadableMaps.{side_read}
@@ -40,13 +40,10 @@ wanted_case error other None e = (refl, cc)
 not_ok : {A : Type 0} → (x : A) (error : GridError) (P : Type 0) → Ok x ≡ Err error → P
 not_ok x error P e = cc
 
-true_false : (b : Bool) → b ≡ false → b ≡ true → ⊥
-true_false b no_it_is yes_it_is = cc
-
 -- ---- the first four lines
 
 not_words : (words want : List (List ℕ)) → are_words words want ≡ false → words ≡ want → ⊥
-not_words words want differs e = true_false (are_words words want) differs (ap (λ (ws : List (List ℕ)). are_words ws want) e ∙ are_words_is want)
+not_words words want differs e = both_ways (are_words words want) differs (ap (λ (ws : List (List ℕ)). are_words ws want) e ∙ are_words_is want)
 
 not_named : (name : List ℕ) (words : List (List ℕ)) → number_named name words ≡ None → (number : ℕ) → NamesNumber name words number → ⊥
 not_named name words none number (word, is, number_is) = let some : number_named name words ≡ Some number = ap (number_named name) is ∙ number_named_is name word number number_is in cc
@@ -132,7 +129,7 @@ row_case first height width row lines error e =
     let few : 0 < suc height = omega arith in
     bind_case (must (errors.Rows first) (eqb (length row) width)) _ error (RowsFault first (suc height) width (row ∷ lines) error)
     (λ h. let k = must_case (errors.Rows first) error (eqb (length row) width) h in
-    inl (first, k.1, record { before = []; rows = _; few = few; place = here; fault = inr (row, lines, refl, λ wide. true_false (eqb (length row) width) k.0 (eq-eqb (length row) width wide)) }))
+    inl (first, k.1, record { before = []; rows = _; few = few; place = here; fault = inr (row, lines, refl, λ wide. both_ways (eqb (length row) width) k.0 (eq-eqb (length row) width wide)) }))
     (λ found p q.
     let byte = cells_case first 1 row error q in
     let is : ByteFault 1 row byte.0 = byte.2 in
@@ -242,7 +239,7 @@ below_case first [] error e = cc
 below_case first (below ∷ lines) error e =
     bind_case (must (errors.Rows first) (is_blank_line below)) _ error ((line : ℕ) × (errors.Rows line ≡ error) × LineFault first (below ∷ lines) line)
     (λ h. let k = must_case (errors.Rows first) error (is_blank_line below) h in
-    (first, k.1, record { blanks = []; below = below; behind = lines; lines_are = refl; blank = _; place = omega arith; fault = λ none. true_false (is_blank_line below) k.0 (is_blank_is below none) }))
+    (first, k.1, record { blanks = []; below = below; behind = lines; lines_are = refl; blank = _; place = omega arith; fault = λ none. both_ways (is_blank_line below) k.0 (is_blank_is below none) }))
     (λ found p q.
     let more = below_case (first + 1) lines error q in
     let there : LineFault (first + 1) lines more.0 = more.2 in (
@@ -262,7 +259,7 @@ below_case first (below ∷ lines) error e =
 -- ---- the whole map
 
 not_sides : (height width : ℕ) → (is_side height && is_side width) ≡ false → IsSide height × IsSide width → ⊥
-not_sides height width differs within = true_false (is_side height && is_side width) differs (and_true (is_side height) (is_side width) (side_read height within.0) (side_read width within.1))
+not_sides height width differs within = both_ways (is_side height && is_side width) differs (and_from (is_side height) (is_side width) (side_read height within.0) (side_read width within.1))
 
 module _ (map_text scenario_text : List ℕ) (row : ℕ) (error : GridError) where
   map_case : map_reading (lines_of map_text) ≡ Err error → IsCaseOf map_text scenario_text row error
@@ -274,7 +271,7 @@ module _ (map_text scenario_text : List ℕ) (row : ℕ) (error : GridError) whe
       let head : HasHeader lines size.0 size.1 = header lines size.0 size.1 (says_size lines size p) in
       bind_case (must errors.Size (is_side size.0 && is_side size.1)) _ error (Case error)
       (λ h. let k = must_case errors.Size error (is_side size.0 && is_side size.1) h in subst Case k.1 (size.0, size.1, head, not_sides size.0 size.1 k.0)) (λ found q.
-      let sides = both_true (is_side size.0) (is_side size.1) (must_ok errors.Size (is_side size.0 && is_side size.1) found q) in
+      let sides = and_parts (is_side size.0) (is_side size.1) (must_ok errors.Size (is_side size.0 && is_side size.1) found q) in
       let high : IsSide size.0 = side_is size.0 sides.0 in
       let wide : IsSide size.1 = side_is size.1 sides.1 in
       bind_case (rows_of_map size.1 size.0 5 (drop 4 lines)) _ error (Case error) (λ h. of_rows size head high wide (rows_case 5 size.0 size.1 (drop 4 lines) error h)) (λ cells r.
@@ -325,7 +322,7 @@ past (x ∷ xs) (suc i) e = let le : length xs ≤ i = past xs i e in omega (ari
 
 no_version : (lines : List (List ℕ)) → starts_with nat_eq (line_at lines 1) (codes "version") ≡ false → BeginsWithVersion lines → ⊥
 no_version lines differs (version, e) =
-    true_false (starts_with nat_eq (line_at lines 1) (codes "version")) differs ((starts_is Decides-eqb (line_at lines 1) (codes "version") (starts_with nat_eq (line_at lines 1) (codes "version")) refl).1 version e)
+    both_ways (starts_with nat_eq (line_at lines 1) (codes "version")) differs ((starts_is Decides-eqb (line_at lines 1) (codes "version") (starts_with nat_eq (line_at lines 1) (codes "version")) refl).1 version e)
 
 has_version : (lines : List (List ℕ)) → starts_with nat_eq (line_at lines 1) (codes "version") ≡ true → BeginsWithVersion lines
 has_version lines e = (drop 7 (line_at lines 1), (starts_is Decides-eqb (line_at lines 1) (codes "version") (starts_with nat_eq (line_at lines 1) (codes "version")) refl).0 e)
@@ -357,7 +354,7 @@ module _ (map_text scenario_text : List ℕ) (row : ℕ) (error : GridError) (pa
           behind = pick.behind;
           lines_are = pick.lines_are;
           rows_before = pick.rows_before;
-          filled = λ none. true_false (is_blank_line chosen.1) pick.filled (is_blank_is chosen.1 none);
+          filled = λ none. both_ways (is_blank_line chosen.1) pick.filled (is_blank_is chosen.1 none);
           place = pick.place;
           fault = no_numbers chosen.1 k.0;
         }),
@@ -368,7 +365,7 @@ module _ (map_text scenario_text : List ℕ) (row : ℕ) (error : GridError) (pa
 -- ---- both
 
 not_both : (a b : Bool) → (a && b) ≡ false → a ≡ true → b ≡ true → ⊥
-not_both a b differs x y = true_false (a && b) differs (and_true a b x y)
+not_both a b differs x y = both_ways (a && b) differs (and_from a b x y)
 
 module _ (map_text scenario_text : List ℕ) (row : ℕ) (error : GridError) (map : MapParts) (spelled : SpellsMap map_text map.width map.height map.cells) (scenario : ScenarioParts)
     (scene : SpellsScenario scenario_text row scenario.width scenario.height scenario.start scenario.goal) (swamp : List Bool) where
@@ -391,14 +388,14 @@ module _ (map_text scenario_text : List ℕ) (row : ℕ) (error : GridError) (ma
         scene,
         λ same. not_both (eqb scenario.width map.width) (eqb scenario.height map.height) k.0 (eq-eqb scenario.width map.width same.0) (eq-eqb scenario.height map.height same.1),
       )) (λ a p.
-      let sizes = both_true (eqb scenario.width map.width) (eqb scenario.height map.height) (must_ok errors.ScenarioSize (eqb scenario.width map.width && eqb scenario.height map.height) a p) in
+      let sizes = and_parts (eqb scenario.width map.width) (eqb scenario.height map.height) (must_ok errors.ScenarioSize (eqb scenario.width map.width && eqb scenario.height map.height) a p) in
       let fits : SpellsScenario scenario_text row map.width map.height scenario.start scenario.goal =
       subst (λ w. SpellsScenario scenario_text row w map.height scenario.start scenario.goal) (eqb-true scenario.width map.width sizes.0)
       (subst (λ h. SpellsScenario scenario_text row scenario.width h scenario.start scenario.goal) (eqb-true scenario.height map.height sizes.1) scene) in
       bind_case (must errors.Outside (is_on_map map.width map.height scenario.start && is_on_map map.width map.height scenario.goal)) _ error (Case error)
       (λ h. let k = must_case errors.Outside error (is_on_map map.width map.height scenario.start && is_on_map map.width map.height scenario.goal) h in
       subst Case k.1 (grid, spelled, fits, λ on. not_both (is_on_map map.width map.height scenario.start) (is_on_map map.width map.height scenario.goal) k.0 (is_on map.width map.height scenario.start on.0) (is_on map.width map.height scenario.goal on.1))) (λ b q.
-      let on = both_true (is_on_map map.width map.height scenario.start) (is_on_map map.width map.height scenario.goal) (must_ok errors.Outside (is_on_map map.width map.height scenario.start && is_on_map map.width map.height scenario.goal) b q) in
+      let on = and_parts (is_on_map map.width map.height scenario.start) (is_on_map map.width map.height scenario.goal) (must_ok errors.Outside (is_on_map map.width map.height scenario.start && is_on_map map.width map.height scenario.goal) b q) in
       let start_on = on_map map.width map.height scenario.start on.0 in
       let goal_on = on_map map.width map.height scenario.goal on.1 in
       bind_case (must errors.StartBlocked (is_free grid scenario.start)) _ error (Case error)

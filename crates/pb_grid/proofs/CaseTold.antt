@@ -1,7 +1,7 @@
 -- In its case, each refusal is told.
 use Rattle.std.proofs.Common.{◌≡◌, ◌≢◌, ℕ, zero, suc, ◌+◌, ◌<◌, Bool, true, false, ◌&&◌, Option, Some, None, Ok, Err, List, [], ◌∷◌, ◌++◌, length, drop, map, reverse, eqb, codes, nat_eq, ◌⊎◌, inl, inr, refl, sym, ap, ◌∙◌, arith}
 use Rattle.std.specs.List.{AllByRecursion, slice_get, starts_with}
-use Rattle.std.proofs.lemmas.Bool.{eqb-true, eq-eqb}
+use Rattle.std.proofs.lemmas.Bool.{eqb-true, eq-eqb, and_parts, and_from, false_from_ne_true}
 use Rattle.std.proofs.lemmas.Bool.Decides.{Decides-eqb}
 use Rattle.std.proofs.lemmas.List.{append-nil, drop-drop, drop_at}
 use Rattle.std.proofs.lemmas.Option.{slice_get_past}
@@ -18,7 +18,7 @@ use Rattle.pb_grid.specs.Form.{SpellsMap, SpellsScenario}
 use Rattle.pb_grid.specs.Cases.{NamesNumber, IsHeaderFault, HasHeader, IsSide, IsSizeFault, IsRow, IsRowFault, IsCellFault, IsBelowFault, BeginsWithVersion, IsNoRow, IsChosenFault, IsOnMap, IsCaseOf}
 use Rattle.pb_grid.specs.Laws.{RefusalsHaveTheirCase}
 use Rattle.pb_grid.proofs.Chosen.{rows_from}
-use Rattle.pb_grid.proofs.Steps.{both_true, and_true, is_blank_is, blank_is, words_are, are_words_is, named_is, number_named_is}
+use Rattle.pb_grid.proofs.Steps.{is_blank_is, blank_is, words_are, are_words_is, named_is, number_named_is}
 use Rattle.pb_grid.proofs.SpelledMaps.{side_is}
 use Rattle.pb_grid.proofs.SpelledScenarios.{row_of}
 use Rattle.pb_grid.proofs.ReadableMaps.{said_size, row_read, side_read, map_read}
@@ -26,14 +26,10 @@ use Rattle.pb_grid.proofs.ReadableScenarios.{found, scenario_read}
 use Rattle.pb_grid.proofs.CaseOf.{names, count_of, case_of}
 use Rattle.pb_grid.proofs.Grids.{on_map, is_on}
 
-not_true : (b : Bool) → (b ≡ true → ⊥) → b ≡ false
-not_true true no_way = absurd (no_way refl)
-not_true false no_way = refl
-
 -- ---- the first four lines
 
 words_differ : (words want : List (List ℕ)) → (words ≡ want → ⊥) → are_words words want ≡ false
-words_differ words want differs = not_true (are_words words want) (λ e. differs (words_are words want e))
+words_differ words want differs = false_from_ne_true (are_words words want) (λ e. differs (words_are words want e))
 
 words_same : (words want : List (List ℕ)) → words ≡ want → are_words words want ≡ true
 words_same words want e = ap (λ (ws : List (List ℕ)). are_words ws want) e ∙ are_words_is want
@@ -109,7 +105,7 @@ wrong : (first height width : ℕ) (before : List (List ℕ)) (row : List ℕ) (
     → rows_of_map width height first (before ++ row ∷ behind) ≡ Err (errors.Rows (first + length before))
 unfolding rows_of_map row_of_map
 wrong first height width before row behind rows few differs =
-    let p : eqb (length row) width ≡ false = not_true (eqb (length row) width) (λ e. differs (eqb-true (length row) width e)) in
+    let p : eqb (length row) width ≡ false = false_from_ne_true (eqb (length row) width) (λ e. differs (eqb-true (length row) width e)) in
     rows_told before (row ∷ behind) first height width (errors.Rows (first + length before)) rows few (λ count. rw p refl)
 
 unknown : (first height width line col : ℕ) (lines : List (List ℕ)) → IsCellFault first lines height width line col → rows_of_map width height first lines ≡ Err (errors.Cell line col)
@@ -143,7 +139,7 @@ below_told : (first : ℕ) (blanks : List (List ℕ)) (below : List ℕ) (behind
 unfolding below_map
 below_told first [] below behind blank fault =
     let n : first ≡ first + 0 = omega arith in
-    let p : is_blank_line below ≡ false = not_true (is_blank_line below) (λ e. fault (blank_is below e)) in
+    let p : is_blank_line below ≡ false = false_from_ne_true (is_blank_line below) (λ e. fault (blank_is below e)) in
     rw p (ap (λ k. Err (errors.Rows k)) n)
 below_told first (line ∷ blanks) below behind blank fault =
     let n : first + 1 + length blanks ≡ first + suc (length blanks) = omega arith in
@@ -160,11 +156,11 @@ map_size : (lines : List (List ℕ)) → IsSizeFault lines → map_reading lines
 unfolding map_reading
 map_size lines (height, width, head, fault) =
     let p = said lines height width head in
-    let q : (is_side height && is_side width) ≡ false = not_true (is_side height && is_side width) (λ e. let parts = both_true (is_side height) (is_side width) e in fault (side_is height parts.0, side_is width parts.1)) in
+    let q : (is_side height && is_side width) ≡ false = false_from_ne_true (is_side height && is_side width) (λ e. let parts = and_parts (is_side height) (is_side width) e in fault (side_is height parts.0, side_is width parts.1)) in
     rw (p, q) refl
 
 sides : (height width : ℕ) → IsSide height → IsSide width → (is_side height && is_side width) ≡ true
-sides height width high wide = and_true (is_side height) (is_side width) (side_read height high) (side_read width wide)
+sides height width high wide = and_from (is_side height) (is_side width) (side_read height high) (side_read width wide)
 
 map_rows : (lines : List (List ℕ)) (height width : ℕ) (error : GridError) → HasHeader lines height width → IsSide height → IsSide width → rows_of_map width height 5 (drop 4 lines) ≡ Err error → map_reading lines ≡ Err error
 unfolding map_reading
@@ -186,7 +182,7 @@ map_below lines height width line head high wide is =
 
 version_missing : (lines : List (List ℕ)) → (BeginsWithVersion lines → ⊥) → starts_with nat_eq (line_at lines 1) (codes "version") ≡ false
 version_missing lines none =
-    not_true (starts_with nat_eq (line_at lines 1) (codes "version")) (λ e. none (drop 7 (line_at lines 1), (starts_is Decides-eqb (line_at lines 1) (codes "version") (starts_with nat_eq (line_at lines 1) (codes "version")) refl).0 e))
+    false_from_ne_true (starts_with nat_eq (line_at lines 1) (codes "version")) (λ e. none (drop 7 (line_at lines 1), (starts_is Decides-eqb (line_at lines 1) (codes "version") (starts_with nat_eq (line_at lines 1) (codes "version")) refl).0 e))
 
 version_there : (lines : List (List ℕ)) → BeginsWithVersion lines → starts_with nat_eq (line_at lines 1) (codes "version") ≡ true
 version_there lines (version, e) = (starts_is Decides-eqb (line_at lines 1) (codes "version") (starts_with nat_eq (line_at lines 1) (codes "version")) refl).1 version e
@@ -207,7 +203,7 @@ chosen_told : (lines : List (List ℕ)) (row line : ℕ) → IsChosenFault lines
 unfolding scenario_reading
 chosen_told lines row line is =
     let p = version_there lines is.version in
-    let filled : is_blank_line is.chosen ≡ false = not_true (is_blank_line is.chosen) (λ e. is.filled (blank_is is.chosen e)) in
+    let filled : is_blank_line is.chosen ≡ false = false_from_ne_true (is_blank_line is.chosen) (λ e. is.filled (blank_is is.chosen e)) in
     let q : slice_get (rows_of_scenario lines) row ≡ Some (line, is.chosen) =
     ap (λ (ls : List (List ℕ)). slice_get (rows_from 2 ls) row) is.lines_are ∙ ap (slice_get (rows_from 2 (is.before ++ is.chosen ∷ is.behind))) (sym is.rows_before) ∙ found 2 is.before is.behind is.chosen filled
     ∙ ap (λ k. Some (k, is.chosen)) (sym is.place) in
@@ -241,7 +237,7 @@ size_told : (map : MapParts) (swamp : List Bool) (scenario : ScenarioParts) → 
 unfolding grid_of_parts
 size_told map swamp scenario differs =
     let p : (eqb scenario.width map.width && eqb scenario.height map.height) ≡ false =
-    not_true (eqb scenario.width map.width && eqb scenario.height map.height) (λ e. let parts = both_true (eqb scenario.width map.width) (eqb scenario.height map.height) e in differs (eqb-true scenario.width map.width parts.0, eqb-true scenario.height map.height parts.1)) in
+    false_from_ne_true (eqb scenario.width map.width && eqb scenario.height map.height) (λ e. let parts = and_parts (eqb scenario.width map.width) (eqb scenario.height map.height) e in differs (eqb-true scenario.width map.width parts.0, eqb-true scenario.height map.height parts.1)) in
     rw p refl
 
 module _ (grid : GridParts) where
@@ -252,18 +248,18 @@ module _ (grid : GridParts) where
   scenario_of = record { width = grid.width; height = grid.height; start = grid.start; goal = grid.goal }
 
   same_size : (eqb grid.width grid.width && eqb grid.height grid.height) ≡ true
-  same_size = and_true (eqb grid.width grid.width) (eqb grid.height grid.height) (eq-eqb grid.width grid.width refl) (eq-eqb grid.height grid.height refl)
+  same_size = and_from (eqb grid.width grid.width) (eqb grid.height grid.height) (eq-eqb grid.width grid.width refl) (eq-eqb grid.height grid.height refl)
 
   both_on : IsOnMap grid grid.start → IsOnMap grid grid.goal → (is_on_map grid.width grid.height grid.start && is_on_map grid.width grid.height grid.goal) ≡ true
-  both_on start goal = and_true (is_on_map grid.width grid.height grid.start) (is_on_map grid.width grid.height grid.goal) (is_on grid.width grid.height grid.start start) (is_on grid.width grid.height grid.goal goal)
+  both_on start goal = and_from (is_on_map grid.width grid.height grid.start) (is_on_map grid.width grid.height grid.goal) (is_on grid.width grid.height grid.start start) (is_on grid.width grid.height grid.goal goal)
 
   outside_told : (swamp : List Bool) → (IsOnMap grid grid.start × IsOnMap grid grid.goal → ⊥) → grid_of_parts map_of swamp scenario_of ≡ Err errors.Outside
   unfolding grid_of_parts
   outside_told swamp fault =
       let p = same_size in
       let q : (is_on_map grid.width grid.height grid.start && is_on_map grid.width grid.height grid.goal) ≡ false =
-      not_true (is_on_map grid.width grid.height grid.start && is_on_map grid.width grid.height grid.goal)
-      (λ e. let parts = both_true (is_on_map grid.width grid.height grid.start) (is_on_map grid.width grid.height grid.goal) e in fault (on_map grid.width grid.height grid.start parts.0, on_map grid.width grid.height grid.goal parts.1)) in
+      false_from_ne_true (is_on_map grid.width grid.height grid.start && is_on_map grid.width grid.height grid.goal)
+      (λ e. let parts = and_parts (is_on_map grid.width grid.height grid.start) (is_on_map grid.width grid.height grid.goal) e in fault (on_map grid.width grid.height grid.start parts.0, on_map grid.width grid.height grid.goal parts.1)) in
       rw (p, q) refl
 
   start_told : (swamp : List Bool) → IsOnMap grid grid.start → IsOnMap grid grid.goal → is_free grid grid.start ≡ false → grid_of_parts map_of swamp scenario_of ≡ Err errors.StartBlocked

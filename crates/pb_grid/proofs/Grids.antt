@@ -1,7 +1,7 @@
 -- Grids: what is read is what is spelled.
 use Rattle.std.proofs.Common.{◌≡◌, ℕ, suc, ◌+◌, ◌*◌, ◌<◌, Bool, true, ◌&&◌, Some, Result, Ok, Err, List, [], ◌∷◌, ◌++◌, length, map, eqb, ltb, refl, sym, subst, ap, ◌∙◌, arith, length-append}
 use Rattle.std.specs.List.{concat, AllByRecursion}
-use Rattle.std.proofs.lemmas.Bool.{eqb-true, eq-eqb, ltb-true, lt-ltb}
+use Rattle.std.proofs.lemmas.Bool.{eqb-true, eq-eqb, ltb-true, lt-ltb, and_parts, and_from}
 use Rattle.pb_task.specs.declared.parts.Class.{Class}
 use Rattle.pb_task.specs.declared.parts.GridParts.{GridParts}
 use Rattle.pb_task.specs.Grid.{IsGrid}
@@ -13,7 +13,7 @@ use Rattle.pb_grid.specs.Lines.{lines_of}
 use Rattle.pb_grid.specs.Reading.{◌>>=◌, must, map_reading, scenario_reading, swamp_of, is_swamp_byte, is_on_map, is_free, grid_of_parts, grid_reading, class_of_byte}
 use Rattle.pb_grid.specs.Form.{AreRows, SpellsScenario, SpellsGrid}
 use Rattle.pb_grid.specs.Laws.{ReadAsSpelled, SpelledGridsAreUnique, SwampChangesMarksAlone, SpelledGridsAreGrids}
-use Rattle.pb_grid.proofs.Steps.{ok_is, bind_ok, must_ok, both_true, and_true}
+use Rattle.pb_grid.proofs.Steps.{ok_is, bind_ok, must_ok}
 use Rattle.pb_grid.proofs.Swamps.{marks_are}
 use Rattle.pb_grid.proofs.SpelledMaps.{map_spelled}
 use Rattle.pb_grid.proofs.SpelledScenarios.{scenario_spelled}
@@ -25,10 +25,10 @@ abbrev pub joined : MapParts → (swamp : List Bool) → ScenarioParts → GridP
 joined m swamp s = record { width = m.width; height = m.height; cells = m.cells; swamp = swamp; start = s.start; goal = s.goal }
 
 pub on_map : (width height : ℕ) (cell : ℕ × ℕ) → is_on_map width height cell ≡ true → (cell.0 < width) × (cell.1 < height)
-on_map width height cell e = let parts = both_true (ltb cell.0 width) (ltb cell.1 height) e in (ltb-true cell.0 width parts.0, ltb-true cell.1 height parts.1)
+on_map width height cell e = let parts = and_parts (ltb cell.0 width) (ltb cell.1 height) e in (ltb-true cell.0 width parts.0, ltb-true cell.1 height parts.1)
 
 pub is_on : (width height : ℕ) (cell : ℕ × ℕ) → (cell.0 < width) × (cell.1 < height) → is_on_map width height cell ≡ true
-is_on width height cell within = and_true (ltb cell.0 width) (ltb cell.1 height) (lt-ltb cell.0 width within.0) (lt-ltb cell.1 height within.1)
+is_on width height cell within = and_from (ltb cell.0 width) (ltb cell.1 height) (lt-ltb cell.0 width within.0) (lt-ltb cell.1 height within.1)
 
 -- ---- from a reading to the texts
 
@@ -43,8 +43,8 @@ spelled map_text scenario_text row swamp grid e =
     let d = bind_ok (must errors.Outside (is_on_map a.0.width a.0.height b.0.start && is_on_map a.0.width a.0.height b.0.goal)) _ grid c.2 in
     let f = bind_ok (must errors.StartBlocked (is_free (joined a.0 marks b.0) b.0.start)) _ grid d.2 in
     let g = bind_ok (must errors.GoalBlocked (is_free (joined a.0 marks b.0) b.0.goal)) _ grid f.2 in
-    let sizes = both_true (eqb b.0.width a.0.width) (eqb b.0.height a.0.height) (must_ok errors.ScenarioSize _ c.0 c.1) in
-    let cells = both_true (is_on_map a.0.width a.0.height b.0.start) (is_on_map a.0.width a.0.height b.0.goal) (must_ok errors.Outside _ d.0 d.1) in
+    let sizes = and_parts (eqb b.0.width a.0.width) (eqb b.0.height a.0.height) (must_ok errors.ScenarioSize _ c.0 c.1) in
+    let cells = and_parts (is_on_map a.0.width a.0.height b.0.start) (is_on_map a.0.width a.0.height b.0.goal) (must_ok errors.Outside _ d.0 d.1) in
     let scene : SpellsScenario scenario_text row a.0.width a.0.height b.0.start b.0.goal =
     subst (λ w. SpellsScenario scenario_text row w a.0.height b.0.start b.0.goal) (eqb-true b.0.width a.0.width sizes.0)
     (subst (λ h. SpellsScenario scenario_text row b.0.width h b.0.start b.0.goal) (eqb-true b.0.height a.0.height sizes.1) (scenario_spelled scenario_text row b.0 b.1)) in
@@ -76,8 +76,8 @@ readable map_text scenario_text row swamp grid is =
     let one : map_reading (lines_of map_text) ≡ Ok map = map_read map_text grid.width grid.height grid.cells is.map_is in
     let two : scenario_reading (lines_of scenario_text) row ≡ Ok scene = scenario_read scenario_text row grid.width grid.height grid.start grid.goal is.scenario_is in
     ap (λ (r : Result MapParts GridError). r >>= λ m. scenario_reading (lines_of scenario_text) row >>= λ s. grid_of_parts m (swamp_of swamp m.height (lines_of map_text)) s) one ∙ ap (λ (r : Result ScenarioParts GridError). r >>= λ s. grid_of_parts map marks s) two
-    ∙ ap (λ (m : List Bool). grid_of_parts map m scene) same ∙ steps map grid.swamp scene (and_true (eqb grid.width grid.width) (eqb grid.height grid.height) (eq-eqb grid.width grid.width refl) (eq-eqb grid.height grid.height refl))
-    (and_true (is_on_map grid.width grid.height grid.start) (is_on_map grid.width grid.height grid.goal) (is_on grid.width grid.height grid.start is.start_on_map) (is_on grid.width grid.height grid.goal is.goal_on_map))
+    ∙ ap (λ (m : List Bool). grid_of_parts map m scene) same ∙ steps map grid.swamp scene (and_from (eqb grid.width grid.width) (eqb grid.height grid.height) (eq-eqb grid.width grid.width refl) (eq-eqb grid.height grid.height refl))
+    (and_from (is_on_map grid.width grid.height grid.start) (is_on_map grid.width grid.height grid.goal) (is_on grid.width grid.height grid.start is.start_on_map) (is_on grid.width grid.height grid.goal is.goal_on_map))
     is.start_free is.goal_free
 
 -- ---- how many cells there are

@@ -1,7 +1,7 @@
 -- Parting a text into lines and a line into words.
 use Rattle.std.proofs.Common.{◌≡◌, ℕ, zero, suc, ◌+◌, ◌-◌, ◌<◌, ◌≤◌, Bool, true, false, cond, not, eqb, ltb, Some, None, List, [], ◌∷◌, ◌++◌, length, take, drop, get_or, map, reverse, refl, sym, ap, arith, ◌∙◌, length-drop}
 use Rattle.std.specs.List.{slice_split, onto_first, filter, position, position_or_len}
-use Rattle.std.proofs.lemmas.Bool.{lt-ltb}
+use Rattle.std.proofs.lemmas.Bool.{lt-ltb, not-true, not-false, both_ways}
 use Rattle.std.proofs.lemmas.Bool.Decides.{nat_tests}
 use Rattle.std.proofs.lemmas.List.{append-nil, take-append-drop, reverse-append, length-take-le, get_or-take, get_or-drop, drop_more, drop_all}
 use Rattle.std.proofs.lemmas.List.Elements.{filter-append}
@@ -12,20 +12,9 @@ use Rattle.pb_grid.specs.Lines.{is_line_feed, without_empty_last, lines_of, line
 
 -- ---- tests
 
-not_true : (b : Bool) → not b ≡ true → b ≡ false
-not_true true e = cc
-not_true false e = refl
-
-not_false : (b : Bool) → not b ≡ false → b ≡ true
-not_false true e = refl
-not_false false e = cc
-
-both_ways : (b : Bool) → b ≡ true → b ≡ false → ⊥
-both_ways b one other = cc
-
 -- where nothing is found, nothing passes
 pub position_none : (p : ℕ → Bool) (xs : List ℕ) → position p xs ≡ None → (k : ℕ) → k < length xs → p (get_or xs k 0) ≡ false
-position_none p xs none k less = not_true (p (get_or xs k 0)) (prefix_len_passes (λ x. not (p x)) xs k 0 (omega (arith, less, past (ltb (position_or_len p xs) (length xs)) refl none))) where
+position_none p xs none k less = not-true (p (get_or xs k 0)) (prefix_len_passes (λ x. not (p x)) xs k 0 (omega (arith, less, past (ltb (position_or_len p xs) (length xs)) refl none))) where
   past : (b : Bool) → ltb (position_or_len p xs) (length xs) ≡ b → cond b (Some (position_or_len p xs)) None ≡ None → length xs ≤ position_or_len p xs
   past true is e = cc
   past false is e = grind (arith, nat_tests, is)
@@ -135,7 +124,7 @@ words_before_blanks xs (y ∷ ys) all =
 -- ---- the first word
 
 pub none_behind : (line : List ℕ) → position (λ byte. not (is_blank byte)) line ≡ None → words_of line ≡ []
-none_behind line none = words_of_blanks line (λ k less. not_false (is_blank (get_or line k 0)) (position_none (λ byte. not (is_blank byte)) line none k less))
+none_behind line none = words_of_blanks line (λ k less. not-false (is_blank (get_or line k 0)) (position_none (λ byte. not (is_blank byte)) line none k less))
 
 -- the blanks before the first word may be left out, and it begins with no blank
 record Begins (line : List ℕ) (start : ℕ) : Type 0 where
@@ -149,9 +138,9 @@ begins line start found =
     let le : start ≤ length line = omega (arith, at.0) in
     record {
       words = ap words_of (sym (take-append-drop start line))
-          ∙ words_behind_blanks (take start line) (drop start line) (in_front is_blank true line start le (λ k less. not_false (is_blank (get_or line k 0)) (at.2 k less)));
+          ∙ words_behind_blanks (take start line) (drop start line) (in_front is_blank true line start le (λ k less. not-false (is_blank (get_or line k 0)) (at.2 k less)));
       some = let len : length (drop start line) ≡ length line - start = length-drop start line in omega (arith, len, at.0);
-      first = let here : start + 0 ≡ start = omega arith in ap is_blank (get_or-drop start line 0 0 ∙ ap (λ k. get_or line k 0) here) ∙ not_true (is_blank (get_or line start 0)) at.1;
+      first = let here : start + 0 ≡ start = omega arith in ap is_blank (get_or-drop start line 0 0 ∙ ap (λ k. get_or line k 0) here) ∙ not-true (is_blank (get_or line start 0)) at.1;
     }
 
 pub word_first : (line : List ℕ) (start end : ℕ) → position (λ byte. not (is_blank byte)) line ≡ Some start → position is_blank (drop start line) ≡ Some end
@@ -171,7 +160,7 @@ word_first line start end found ended = is.words ∙ split (drop start line) end
       ap words_of (cut word end at.0) ∙ words-append (take end word) (drop (end + 1) word) (get_or word end 0) at.1 ∙ ap (λ (ws : List (List ℕ)). ws ++ words_of (drop (end + 1) word)) one
       ∙ ap (λ (ws : List (List ℕ)). take end word ∷ ws) (sym behind) where
         positive : (end : ℕ) → is_blank (get_or word end 0) ≡ true → 0 < end
-        positive zero blank = absurd (both_ways (is_blank (get_or word 0 0)) blank first)
+        positive zero blank = absurd (both_ways (is_blank (get_or word 0 0)) first blank)
         positive (suc end) blank = omega arith
 
 pub word_alone : (line : List ℕ) (start : ℕ) → position (λ byte. not (is_blank byte)) line ≡ Some start → position is_blank (drop start line) ≡ None
@@ -184,7 +173,7 @@ word_alone line start found none =
 -- ---- the last word
 
 pub none_before : (line : List ℕ) → ((k : ℕ) → k < length line → not (is_blank (get_or line k 0)) ≡ false) → words_of line ≡ []
-none_before line all = words_of_blanks line (λ k less. not_false (is_blank (get_or line k 0)) (all k less))
+none_before line all = words_of_blanks line (λ k less. not-false (is_blank (get_or line k 0)) (all k less))
 
 -- the blanks behind the last word may be left out, and it ends with no blank
 record Ends (line : List ℕ) (last : ℕ) : Type 0 where
@@ -200,9 +189,9 @@ ends line last at =
     record {
       words = ap words_of (sym (take-append-drop (last + 1) line))
           ∙ words_before_blanks (take (last + 1) line) (drop (last + 1) line)
-          (λ k less. ap is_blank (get_or-drop (last + 1) line k 0) ∙ not_false (is_blank (get_or line (last + 1 + k) 0)) (at.others (last + 1 + k) (omega arith) (omega (arith, less, len))));
+          (λ k less. ap is_blank (get_or-drop (last + 1) line k 0) ∙ not-false (is_blank (get_or line (last + 1 + k) 0)) (at.others (last + 1 + k) (omega arith) (omega (arith, less, len))));
       long = length-take-le (last + 1) line (omega (arith, within));
-      ends = ap is_blank (get_or-take (last + 1) line last 0 small) ∙ not_true (is_blank (get_or line last 0)) at.passes;
+      ends = ap is_blank (get_or-take (last + 1) line last 0 small) ∙ not-true (is_blank (get_or line last 0)) at.passes;
     }
 
 turned : (line front word : List (List ℕ)) (w : List ℕ) → line ≡ front ++ word → word ≡ w ∷ [] → reverse line ≡ w ∷ reverse front
@@ -219,7 +208,7 @@ word_last line last blank found at = ap reverse is.words ∙ split (take (last +
   split front long ended at =
       let within : blank < length front = at.within in
       let len : length (drop (blank + 1) front) ≡ length front - (blank + 1) = length-drop (blank + 1) front in
-      let before : blank < last = earlier (λ same. both_ways (is_blank (get_or front last 0)) (ap (λ k. is_blank (get_or front k 0)) (sym same) ∙ at.passes) ended) in
+      let before : blank < last = earlier (λ same. both_ways (is_blank (get_or front last 0)) ended (ap (λ k. is_blank (get_or front k 0)) (sym same) ∙ at.passes)) in
       let word : words_of (drop (blank + 1) front) ≡ drop (blank + 1) front ∷ [] = words_one (drop (blank + 1) front) (omega (arith, len, long, before))
       (λ k less. ap is_blank (get_or-drop (blank + 1) front k 0) ∙ at.others (blank + 1 + k) (omega arith) (omega (arith, less, len))) in
       turned (words_of front) (words_of (take blank front)) (words_of (drop (blank + 1) front)) (drop (blank + 1) front)

@@ -1,7 +1,7 @@
 -- The map that a text spells is read.
 use Rattle.std.proofs.Common.{◌≡◌, ℕ, ◌+◌, ◌≤◌, true, ◌&&◌, Some, Ok, List, [], ◌∷◌, ◌++◌, length, drop, map, leb, codes, refl, sym, ap, ◌∙◌}
 use Rattle.std.specs.List.{concat, AllByRecursion}
-use Rattle.std.proofs.lemmas.Bool.{le-leb, eq-eqb}
+use Rattle.std.proofs.lemmas.Bool.{le-leb, eq-eqb, and_from}
 use Rattle.std.proofs.lemmas.List.{drop-drop, drop_at}
 use Rattle.pb_lines.specs.ShortNumbers.{IsShortNumber}
 use Rattle.pb_task.specs.declared.parts.Class.{Class}
@@ -9,7 +9,7 @@ use Rattle.pb_grid.specs.declared.error.GridError.TheVariants as errors
 use Rattle.pb_grid.specs.Lines.{lines_of, line_at, words_of}
 use Rattle.pb_grid.specs.Reading.{◌>>=◌, must, are_words, number_named, size_of_map, is_side, class_of_byte, cells_of, row_of_map, rows_of_map, below_map, map_reading}
 use Rattle.pb_grid.specs.Form.{SpellsMap}
-use Rattle.pb_grid.proofs.Steps.{and_true, is_blank_is, are_words_is, number_named_is}
+use Rattle.pb_grid.proofs.Steps.{is_blank_is, are_words_is, number_named_is}
 
 -- ---- the first four lines
 
@@ -84,7 +84,7 @@ below_read line [] blank = refl
 below_read line (below ∷ lines) blank = ap (λ b. must (errors.Rows line) b >>= λ found. below_map (line + 1) lines) (is_blank_is below blank.0) ∙ below_read (line + 1) lines blank.1
 
 pub side_read : (cells : ℕ) → (1 ≤ cells) × (cells ≤ 2048) → is_side cells ≡ true
-side_read cells within = and_true (leb 1 cells) (leb cells 2048) (le-leb 1 cells within.0) (le-leb cells 2048 within.1)
+side_read cells within = and_from (leb 1 cells) (leb cells 2048) (le-leb 1 cells within.0) (le-leb cells 2048 within.1)
 
 -- ---- the whole map
 
@@ -101,4 +101,4 @@ map_read text width height cells is =
     let below : drop (4 + height) lines ≡ is.below = sym (drop-drop height 4 lines) ∙ drop_at is.rows is.below height is.rows_are.count in
     ap map_reading is.lines
     ∙ steps lines height width cells (said_size lines is.height_word is.width_word height width is.type_words is.height_words is.width_words is.map_words is.height_is is.width_is)
-    (and_true (is_side height) (is_side width) (side_read height is.height_in) (side_read width is.width_in)) rows (ap (below_map (5 + height)) below ∙ below_read (5 + height) is.below is.blank)
+    (and_from (is_side height) (is_side width) (side_read height is.height_in) (side_read width is.width_in)) rows (ap (below_map (5 + height)) below ∙ below_read (5 + height) is.below is.blank)

@@ -1,7 +1,7 @@
 -- What is read of a map without a refusal is the map that its text spells.
 use Rattle.std.proofs.Common.{◌≡◌, ℕ, zero, suc, ◌+◌, ◌≤◌, Bool, true, ◌&&◌, Some, Ok, List, [], ◌∷◌, ◌++◌, length, take, drop, map, eqb, leb, codes, refl, sym, subst, ap, ◌∙◌}
 use Rattle.std.specs.List.{concat, AllByRecursion}
-use Rattle.std.proofs.lemmas.Bool.{leb-true, eqb-true}
+use Rattle.std.proofs.lemmas.Bool.{leb-true, eqb-true, and_parts}
 use Rattle.std.proofs.lemmas.List.{map-append, take-append-drop, drop-drop}
 use Rattle.pb_task.specs.declared.parts.Class.{Class}
 use Rattle.pb_grid.specs.declared.error.GridError.TheVariants as errors
@@ -10,7 +10,7 @@ use Rattle.pb_grid.specs.Lines.{lines_of, line_at, words_of, is_blank_line}
 use Rattle.pb_grid.specs.Reading.{wanted, must, are_words, number_named, size_of_map, is_side, class_of_byte, cells_of, row_of_map, rows_of_map, below_map, map_reading}
 use Rattle.pb_grid.specs.Form.{AreRows, SpellsMap}
 use Rattle.pb_grid.proofs.Parting.{no_words}
-use Rattle.pb_grid.proofs.Steps.{ok_is, bind_ok, must_ok, wanted_ok, both_true, blank_is, words_are, Named, named_is}
+use Rattle.pb_grid.proofs.Steps.{ok_is, bind_ok, must_ok, wanted_ok, blank_is, words_are, Named, named_is}
 
 -- ---- the first four lines
 
@@ -83,7 +83,7 @@ blank_below line (below ∷ lines) found e =
     (blank_is below (must_ok (errors.Rows line) (is_blank_line below) a.0 a.1), blank_below (line + 1) lines found a.2)
 
 pub side_is : (cells : ℕ) → is_side cells ≡ true → (1 ≤ cells) × (cells ≤ 2048)
-side_is cells e = let parts = both_true (leb 1 cells) (leb cells 2048) e in (leb-true 1 cells parts.0, leb-true cells 2048 parts.1)
+side_is cells e = let parts = and_parts (leb 1 cells) (leb cells 2048) e in (leb-true 1 cells parts.0, leb-true cells 2048 parts.1)
 
 -- ---- the whole map
 
@@ -97,7 +97,7 @@ map_spelled text parts e = go (lines_of text) refl e where
       let c = bind_ok (rows_of_map a.0.1 a.0.0 5 (drop 4 lines)) _ parts b.2 in
       let d = bind_ok (below_map (5 + a.0.0) (drop (4 + a.0.0) lines)) _ parts c.2 in
       let size : SaysSize lines a.0.0 a.0.1 = says_size lines a.0 a.1 in
-      let sides = both_true (is_side a.0.0) (is_side a.0.1) (must_ok errors.Size (is_side a.0.0 && is_side a.0.1) b.0 b.1) in
+      let sides = and_parts (is_side a.0.0) (is_side a.0.1) (must_ok errors.Size (is_side a.0.0 && is_side a.0.1) b.0 b.1) in
       let below : AllByRecursion (λ line. words_of line ≡ []) (drop a.0.0 (drop 4 lines)) =
       subst (AllByRecursion (λ line. words_of line ≡ [])) (sym (drop-drop a.0.0 4 lines)) (blank_below (5 + a.0.0) (drop (4 + a.0.0) lines) d.0 d.1) in
       subst (λ (p : MapParts). SpellsMap text p.width p.height p.cells) (ok_is (record { width = a.0.1; height = a.0.0; cells = c.0 }) parts d.2) (record {

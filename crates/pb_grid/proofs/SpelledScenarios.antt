@@ -1,5 +1,6 @@
 -- What is read of a scenario without a refusal is the scenario that its text spells.
 use Rattle.std.proofs.Common.{◌≡◌, ℕ, zero, suc, ◌+◌, Bool, true, false, not, cond, Option, Some, None, Ok, List, [], ◌∷◌, ◌++◌, length, drop, reverse, codes, nat_eq, refl, sym, subst, ap, ◌∙◌, arith}
+use Rattle.std.proofs.lemmas.Option.{same_Some}
 use Rattle.std.specs.List.{slice_get, starts_with, filter}
 use Rattle.std.proofs.lemmas.Bool.Decides.{Decides-eqb}
 use Rattle.std.proofs.lemmas.List.{reverse-append, reverse-reverse, length-reverse}
@@ -12,7 +13,7 @@ use Rattle.pb_grid.specs.Lines.{lines_of, line_at, words_of, is_blank_line}
 use Rattle.pb_grid.specs.Reading.{wanted, must, rows_of_scenario, pair_of, scenario_of, scenario_of_words, scenario_reading}
 use Rattle.pb_grid.specs.Form.{SpellsRow, SpellsScenario}
 use Rattle.pb_grid.proofs.Chosen.{rows_from, fewer, nine}
-use Rattle.pb_grid.proofs.Steps.{some_is, bind_ok, must_ok, wanted_ok}
+use Rattle.pb_grid.proofs.Steps.{bind_ok, must_ok, wanted_ok}
 
 -- ---- the numbers of a row
 
@@ -23,7 +24,7 @@ pairs_are x y pair e = go (short_number_of x) (short_number_of y) refl refl e wh
   go (Some m) None p q e = let no : pair_of x y ≡ None = rw (p, q) refl in cc
   go (Some m) (Some n) p q e =
       let is : pair_of x y ≡ Some (m, n) = rw (p, q) refl in
-      subst (λ (s : ℕ × ℕ). IsShortNumber x s.0 × IsShortNumber y s.1) (some_is (m, n) pair (sym is ∙ e)) (spells_short_number x m p, spells_short_number y n q)
+      subst (λ (s : ℕ × ℕ). IsShortNumber x s.0 × IsShortNumber y s.1) (same_Some (m, n) pair (sym is ∙ e)) (spells_short_number x m p, spells_short_number y n q)
 
 record AllPairs (size start goal : Option (ℕ × ℕ)) (parts : ScenarioParts) : Type 0 where
   pub size_is : size ≡ Some (parts.width, parts.height)
@@ -36,7 +37,7 @@ all_pairs (Some size) None goal parts e = cc
 all_pairs (Some size) (Some start) None parts e = cc
 all_pairs (Some size) (Some start) (Some goal) parts e =
     let made : ScenarioParts = record { width = size.0; height = size.1; start = start; goal = goal } in
-    subst (AllPairs (Some size) (Some start) (Some goal)) (some_is made parts e) (record { size_is = refl; start_is = refl; goal_is = refl })
+    subst (AllPairs (Some size) (Some start) (Some goal)) (same_Some made parts e) (record { size_is = refl; start_is = refl; goal_is = refl })
 
 -- the words from the left, where from the right they are these seven and others
 turned : (way goal_y goal_x start_y start_x height width : List ℕ) (others words : List (List ℕ)) → reverse words ≡ way ∷ goal_y ∷ goal_x ∷ start_y ∷ start_x ∷ height ∷ width ∷ others
@@ -120,7 +121,7 @@ picked (line ∷ lines) number row chosen e = go (λ row rest. picked lines (num
       more_blank row is (again row rest)
   go again false is zero e =
       let here : Some (number, line) ≡ Some chosen = sym (ap (λ b. slice_get (cond (not b) ((number, line) ∷ rows_from (number + 1) lines) (rows_from (number + 1) lines)) 0) is) ∙ e in
-      subst (Picks (line ∷ lines) number 0) (some_is (number, line) chosen here) (record { before = []; behind = lines; lines_are = refl; place = omega arith; filled = is; rows_before = refl })
+      subst (Picks (line ∷ lines) number 0) (same_Some (number, line) chosen here) (record { before = []; behind = lines; lines_are = refl; place = omega arith; filled = is; rows_before = refl })
   go again false is (suc row) e =
       let rest : slice_get (rows_from (number + 1) lines) row ≡ Some chosen = sym (ap (λ b. slice_get (cond (not b) ((number, line) ∷ rows_from (number + 1) lines) (rows_from (number + 1) lines)) (suc row)) is) ∙ e in
       more_row row is (again row rest)

@@ -1,10 +1,11 @@
 -- What lies behind a reading that went well, step by step.
-use Rattle.std.proofs.Common.{◌≡◌, ℕ, Bool, true, false, ◌&&◌, cond, Option, Some, None, Result, Ok, Err, List, [], ◌∷◌, length, eqb, refl, ap, ◌∙◌, arith}
+use Rattle.std.proofs.Common.{◌≡◌, ℕ, Bool, true, false, cond, Option, Some, None, Result, Ok, Err, List, [], ◌∷◌, length, eqb, refl, ap, ◌∙◌, arith}
 use Rattle.std.specs.Str.{bytes_eq}
-use Rattle.std.proofs.lemmas.Bool.{eqb-true}
+use Rattle.std.proofs.lemmas.Bool.{eqb-true, and_parts, and_from}
 use Rattle.std.proofs.lemmas.Slice.Eq.{bytes_eq-Decides}
 use Rattle.pb_grid.specs.declared.error.GridError.{GridError}
 use Rattle.pb_lines.specs.ShortNumbers.{short_number_of, IsShortNumber}
+use Rattle.pb_lines.proofs.Parts.{if_some}
 use Rattle.pb_lines.proofs.ShortNumbers.{spells_short_number, reads_short_number}
 use Rattle.pb_grid.specs.Lines.{words_of, is_blank_line}
 use Rattle.pb_grid.specs.Reading.{◌>>=◌, wanted, must, are_words, number_named}
@@ -13,9 +14,6 @@ use Rattle.pb_grid.specs.Reading.{◌>>=◌, wanted, must, are_words, number_nam
 
 pub ok_is : {A : Type 0} → (x y : A) → ◌≡◌ {A = Result A GridError} (Ok x) (Ok y) → x ≡ y
 ok_is x y e = cc
-
-pub some_is : {A : Type 0} → (x y : A) → Some x ≡ Some y → x ≡ y
-some_is x y e = cc
 
 pub bind_ok : {A B : Type 0} → (r : Result A GridError) (f : A → Result B GridError) (y : B) → (r >>= f) ≡ Ok y → (x : A) × (r ≡ Ok x) × (f x ≡ Ok y)
 bind_ok (Ok x) f y e = (x, refl, e)
@@ -34,18 +32,6 @@ wanted_ok error (Some y) x e = let same : y ≡ x = cc in ap Some same
 
 -- ---- tests
 
-pub both_true : (a b : Bool) → (a && b) ≡ true → (a ≡ true) × (b ≡ true)
-both_true true b e = (refl, e)
-both_true false b e = cc
-
-pub and_true : (a b : Bool) → a ≡ true → b ≡ true → (a && b) ≡ true
-and_true true b p q = q
-and_true false b p q = cc
-
-pub if_some : {A : Type 0} → (b : Bool) (o : Option A) (x : A) → cond b o None ≡ Some x → (b ≡ true) × (o ≡ Some x)
-if_some true o x e = (refl, e)
-if_some false o x e = cc
-
 pub nil_of : {A : Type 0} → (xs : List A) → eqb (length xs) 0 ≡ true → xs ≡ []
 nil_of [] e = refl
 nil_of (x ∷ xs) e = let zero_is : length (x ∷ xs) ≡ 0 = eqb-true (length (x ∷ xs)) 0 e in absurd (omega (arith, zero_is))
@@ -63,14 +49,14 @@ words_are [] [] e = refl
 words_are [] (want ∷ wanted) e = cc
 words_are (word ∷ words) [] e = cc
 words_are (word ∷ words) (want ∷ wanted) e =
-    let parts = both_true (bytes_eq word want) (are_words words wanted) e in
+    let parts = and_parts (bytes_eq word want) (are_words words wanted) e in
     let here : word ≡ want = (bytes_eq-Decides word want).0 parts.0 in
     let there : words ≡ wanted = words_are words wanted parts.1 in
     λ i. here i ∷ there i
 
 pub are_words_is : (words : List (List ℕ)) → are_words words words ≡ true
 are_words_is [] = refl
-are_words_is (word ∷ words) = and_true (bytes_eq word word) (are_words words words) ((bytes_eq-Decides word word).1 refl) (are_words_is words)
+are_words_is (word ∷ words) = and_from (bytes_eq word word) (are_words words words) ((bytes_eq-Decides word word).1 refl) (are_words_is words)
 
 -- ---- numbers
 
