@@ -1,9 +1,11 @@
 -- Boards, number by number.
-use Rattle.std.proofs.Common.{◌≡◌, ℕ, ◌+◌, ◌*◌, ◌≤◌, Bool, true, false, not, ◌&&◌, ◌||◌, ◌==◌, nat_lt, Option, None, Some, List, [], ◌∷◌, ◌++◌, length, if◌then◌else◌, refl, sym, ap, arith, ◌∙◌, append_assoc, append-nil, map-id, zero-add}
+use Rattle.std.proofs.Common.{◌≡◌, ℕ, ◌+◌, ◌*◌, ◌≤◌, Bool, true, false, not, ◌==◌, nat_lt, Option, None, Some, List, [], ◌∷◌, ◌++◌, length, if◌then◌else◌, refl, sym, ap, arith, ◌∙◌, append_assoc, append-nil, map-id, zero-add}
+use Rattle.std.proofs.lemmas.Bool.{and_parts, and_from, or_parts, or_from, not-true}
 use Rattle.std.proofs.lemmas.Bool.Decides.{nat_tests}
 use Rattle.std.proofs.lemmas.List.FromFn.{map-range_with_len_more}
 use Rattle.std.proofs.Math.Nat.{mul-le-mul_left}
 use Rattle.std.specs.List.{list_any, list_all, range_with_len}
+use Rattle.pb_model.proofs.Tests.{equal_swap}
 use Rattle.pb_task.specs.Tiles.{are_distinct, IsTiles}
 use Rattle.pb_task.proofs.Boards.{Listed, is_board_by, all_below_more}
 use Rattle.pb_tiles.specs.declared.error.TilesError.{TilesError}
@@ -15,59 +17,36 @@ pub range_more : (number : ℕ) (numbers : List ℕ) → numbers ≡ range_with_
 range_more number numbers is =
     ap (λ ns. ns ++ number ∷ []) (is ∙ sym (map-id (range_with_len 0 number))) ∙ sym (map-range_with_len_more (λ n. n) 0 number number (zero-add number)) ∙ map-id (range_with_len 0 (number + 1))
 
--- ---- tests
-
-both : (a b : Bool) → (a && b) ≡ true → (a ≡ true) × (b ≡ true)
-both true b e = (refl, e)
-both false b e = cc
-
-join : (a b : Bool) → a ≡ true → b ≡ true → (a && b) ≡ true
-join a b p q = cc
-
-neither : (a b : Bool) → (a || b) ≡ false → (a ≡ false) × (b ≡ false)
-neither true b e = cc
-neither false b e = (refl, e)
-
-join_false : (a b : Bool) → a ≡ false → b ≡ false → (a || b) ≡ false
-join_false a b p q = cc
-
-off : (a : Bool) → not a ≡ true → a ≡ false
-off true e = cc
-off false e = refl
-
-turned : (n m : ℕ) → (n == m) ≡ false → (m == n) ≡ false
-turned n m e = grind (arith, nat_tests)
-
 -- ---- a number among others
 
 -- a number that is in the middle of a list is not before it, where no number stands twice
 not_before : (before board : List ℕ) (number : ℕ) → are_distinct (before ++ number ∷ board) ≡ true → list_any (λ other. other == number) before ≡ false
 not_before [] board number e = refl
 not_before (first ∷ before) board number e =
-    let two = both (not (list_any (λ other. other == first) (before ++ number ∷ board))) (are_distinct (before ++ number ∷ board)) e in
-    join_false (first == number) (list_any (λ other. other == number) before)
-    (turned number first (passed before board number first (off (list_any (λ other. other == first) (before ++ number ∷ board)) two.0)))
+    let two = and_parts (not (list_any (λ other. other == first) (before ++ number ∷ board))) (are_distinct (before ++ number ∷ board)) e in
+    or_from (first == number) (list_any (λ other. other == number) before)
+    (equal_swap first number ∙ (passed before board number first (not-true (list_any (λ other. other == first) (before ++ number ∷ board)) two.0)))
     (not_before before board number two.1)
   where
     passed : (before board : List ℕ) (number first : ℕ) → list_any (λ other. other == first) (before ++ number ∷ board) ≡ false → (number == first) ≡ false
-    passed [] board number first e = (neither (number == first) (list_any (λ other. other == first) board) e).0
-    passed (one ∷ before) board number first e = passed before board number first (neither (one == first) (list_any (λ other. other == first) (before ++ number ∷ board)) e).1
+    passed [] board number first e = (or_parts (number == first) (list_any (λ other. other == first) board) e).0
+    passed (one ∷ before) board number first e = passed before board number first (or_parts (one == first) (list_any (λ other. other == first) (before ++ number ∷ board)) e).1
 
 -- a number that is not before is distinct from those
 distinct_more : (before : List ℕ) (number : ℕ) → are_distinct before ≡ true → list_any (λ other. other == number) before ≡ false → are_distinct (before ++ number ∷ []) ≡ true
 distinct_more [] number e apart = refl
 distinct_more (first ∷ before) number e apart =
-    let two = both (not (list_any (λ other. other == first) before)) (are_distinct before) e in
-    let parts = neither (first == number) (list_any (λ other. other == number) before) apart in
-    join (not (list_any (λ other. other == first) (before ++ number ∷ []))) (are_distinct (before ++ number ∷ []))
-    (ap not (one_more before number first (off (list_any (λ other. other == first) before) two.0) (turned first number parts.0)))
+    let two = and_parts (not (list_any (λ other. other == first) before)) (are_distinct before) e in
+    let parts = or_parts (first == number) (list_any (λ other. other == number) before) apart in
+    and_from (not (list_any (λ other. other == first) (before ++ number ∷ []))) (are_distinct (before ++ number ∷ []))
+    (ap not (one_more before number first (not-true (list_any (λ other. other == first) before) two.0) (equal_swap number first ∙ parts.0)))
     (distinct_more before number two.1 parts.1)
   where
     one_more : (before : List ℕ) (number first : ℕ) → list_any (λ other. other == first) before ≡ false → (number == first) ≡ false → list_any (λ other. other == first) (before ++ number ∷ []) ≡ false
-    one_more [] number first e apart = join_false (number == first) false apart refl
+    one_more [] number first e apart = or_from (number == first) false apart refl
     one_more (one ∷ before) number first e apart =
-        let parts = neither (one == first) (list_any (λ other. other == first) before) e in
-        join_false (one == first) (list_any (λ other. other == first) (before ++ number ∷ [])) parts.0 (one_more before number first parts.1 apart)
+        let parts = or_parts (one == first) (list_any (λ other. other == first) before) e in
+        or_from (one == first) (list_any (λ other. other == first) (before ++ number ∷ [])) parts.0 (one_more before number first parts.1 apart)
 
 -- ---- a board without a fault
 
@@ -75,7 +54,7 @@ distinct_more (first ∷ before) number e apart =
 pub no_fault : (count place : ℕ) (before board : List ℕ) → list_all (λ number. nat_lt number count) board ≡ true → are_distinct (before ++ board) ≡ true → board_fault count place before board ≡ None
 no_fault count place before [] small distinct = refl
 no_fault count place before (number ∷ board) small distinct =
-    let two = both (nat_lt number count) (list_all (λ n. nat_lt n count) board) small in
+    let two = and_parts (nat_lt number count) (list_all (λ n. nat_lt n count) board) small in
     ap (λ test. if test then (if list_any (λ other. other == number) before then Some (Twice number) else board_fault count (place + 1) (before ++ number ∷ []) board) else Some (Number place)) two.0
     ∙ ap (λ test. if test then Some (Twice number) else board_fault count (place + 1) (before ++ number ∷ []) board) (not_before before board number distinct)
     ∙ no_fault count (place + 1) (before ++ number ∷ []) board two.1 (ap are_distinct (append_assoc before (number ∷ []) board) ∙ distinct)
@@ -98,7 +77,7 @@ faultless count place before (number ∷ board) distinct e =
     go true false is fresh e rest =
         let others : Faultless count (before ++ number ∷ []) board = rest fresh e in
         record {
-          small = join (nat_lt number count) (list_all (λ n. nat_lt n count) board) is others.small;
+          small = and_from (nat_lt number count) (list_all (λ n. nat_lt n count) board) is others.small;
           distinct = ap are_distinct (sym (append_assoc before (number ∷ []) board)) ∙ others.distinct;
         }
 

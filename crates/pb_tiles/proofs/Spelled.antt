@@ -1,5 +1,6 @@
 -- What is read is what is spelled.
 use Rattle.std.proofs.Common.{◌≡◌, ◌≢◌, ℕ, ◌*◌, ◌≤◌, Bool, true, false, ◌&&◌, ◌⊎◌, inl, inr, nat_le, if◌then◌else◌, Option, None, Some, Result, Ok, Err, List, [], ◌∷◌, ◌++◌, length, map, codes, refl, sym, subst, ap, arith, ◌∙◌, append_assoc, append-nil}
+use Rattle.std.proofs.lemmas.Bool.{and_parts, and_from, leb-true, le-leb}
 use Rattle.std.proofs.lemmas.Bool.Decides.{nat_tests}
 use Rattle.std.proofs.lemmas.Slice.Eq.{bytes_eq-Decides}
 use Rattle.std.specs.List.{AllByRecursion, range_with_len}
@@ -203,31 +204,18 @@ were_taken said (t ∷ ts) after e = go (short_number_of t) refl e (λ n. were_t
 
 -- ---- tiles
 
-both : (a b : Bool) → (a && b) ≡ true → (a ≡ true) × (b ≡ true)
-both true b e = (refl, e)
-both false b e = cc
-
-join : (a b : Bool) → a ≡ true → b ≡ true → (a && b) ≡ true
-join a b p q = cc
-
-at_most : (a b : ℕ) → nat_le a b ≡ true → a ≤ b
-at_most a b e = grind (arith, nat_tests)
-
-is_at_most : (a b : ℕ) → a ≤ b → nat_le a b ≡ true
-is_at_most a b e = grind (arith, nat_tests)
-
 a_side : (cells : ℕ) → is_side cells ≡ true → (2 ≤ cells) × (cells ≤ 4)
-a_side cells e = let two = both (nat_le 2 cells) (nat_le cells 4) e in (at_most 2 cells two.0, at_most cells 4 two.1)
+a_side cells e = let two = and_parts (nat_le 2 cells) (nat_le cells 4) e in (leb-true 2 cells two.0, leb-true cells 4 two.1)
 
 is_a_side : (cells : ℕ) → (2 ≤ cells) × (cells ≤ 4) → is_side cells ≡ true
-is_a_side cells s = join (nat_le 2 cells) (nat_le cells 4) (is_at_most 2 cells s.0) (is_at_most cells 4 s.1)
+is_a_side cells s = and_from (nat_le 2 cells) (nat_le cells 4) (le-leb 2 cells s.0) (le-leb cells 4 s.1)
 
 -- the numbers of tiles are read as these tiles
 read_tiles : (tiles : TilesParts) → IsTiles tiles → (has_goal : Bool) (behind : List ℕ) → (if has_goal then behind else range_with_len 0 (tiles.rows * tiles.cols)) ≡ tiles.goal
     → numbers_reading (tiles.rows ∷ tiles.cols ∷ tiles.start) has_goal behind ≡ Ok tiles
 read_tiles tiles is has_goal behind goal =
     ap (λ test. if test then boards_reading tiles.rows tiles.cols tiles.start (if has_goal then behind else range_with_len 0 (tiles.rows * tiles.cols)) else Err Size)
-    (join (is_side tiles.rows) (is_side tiles.cols) (is_a_side tiles.rows is.rows) (is_a_side tiles.cols is.cols))
+    (and_from (is_side tiles.rows) (is_side tiles.cols) (is_a_side tiles.rows is.rows) (is_a_side tiles.cols is.cols))
     ∙ ap (boards_reading tiles.rows tiles.cols tiles.start) goal
     ∙ ap (λ fault. unless_fault fault tiles)
     (listed_have_no_fault (cell_count tiles) tiles.start tiles.goal (listed (cell_count tiles) tiles.start is.start) (listed (cell_count tiles) tiles.goal is.goal))
@@ -288,7 +276,7 @@ spelled text tiles has_goal behind (w ∷ v ∷ ws) gs (r ∷ c ∷ start) words
 
   go : (test : Bool) → (is_side r && is_side c) ≡ test
       → (if test then boards_reading r c start (if has_goal then behind else range_with_len 0 (r * c)) else Err Size) ≡ Ok tiles → SpellsTiles text tiles
-  go true is e = faultless (boards_fault (r * c) start (if has_goal then behind else range_with_len 0 (r * c))) refl (both (is_side r) (is_side c) is) e
+  go true is e = faultless (boards_fault (r * c) start (if has_goal then behind else range_with_len 0 (r * c))) refl (and_parts (is_side r) (is_side c) is) e
   go false is e = cc
 
 spells_read : (text : List ℕ) (tiles : TilesParts) → tiles_reading text ≡ Ok tiles → SpellsTiles text tiles

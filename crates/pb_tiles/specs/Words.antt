@@ -1,5 +1,5 @@
 -- The words of a text: its longest runs of bytes that are no blanks, each with the number of its line.
-use Rattle.std.specs.Prelude.{ℕ, ◌+◌, ◌-◌, Bool, ◌==◌, ◌||◌, List, [], ◌∷◌, ◌++◌, if◌then◌else◌}
+use Rattle.std.specs.Prelude.{ℕ, ◌+◌, Bool, ◌==◌, ◌||◌, List, [], ◌∷◌, ◌++◌, if◌then◌else◌}
 
 -- space, tab, carriage return and line feed part words
 abbrev pub is_blank : (byte : ℕ) → Bool
