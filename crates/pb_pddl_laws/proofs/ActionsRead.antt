@@ -1,5 +1,5 @@
 -- Actions: what is read is what the grammar has, and the other way round.
-use Rattle.std.proofs.Common.{◌≡◌, ℕ, zero, suc, ◌<◌, ◌≤◌, Bool, true, false, List, [], ◌∷◌, ◌++◌, length, drop, Ok, refl, sym, ap, subst, ◌∙◌, arith, inl, inr}
+use Rattle.std.proofs.Common.{◌≡◌, ℕ, zero, suc, ◌<◌, ◌≤◌, Bool, true, false, List, [], ◌∷◌, ◌++◌, length, drop, cond, Result, Ok, Err, refl, sym, ap, subst, ◌∙◌, arith, inl, inr}
 use Rattle.std.specs.Prelude.{Option, Some, None, is_some, codes}
 use Rattle.pb_pddl.specs.declared.token.TokenKind.TheVariants as kinds
 use Rattle.pb_pddl.specs.declared.token.Token.{Token}
@@ -11,6 +11,7 @@ use Rattle.pb_pddl.specs.declared.tree.Cost.{Cost}
 use Rattle.pb_pddl.specs.declared.parts.EffectParts.{EffectParts}
 use Rattle.pb_pddl.specs.declared.tree.Action.{Action}
 use Rattle.pb_pddl.specs.declared.parts.ActionParts.{ActionParts}
+use Rattle.pb_pddl.specs.declared.error.SyntaxError.{SyntaxError}
 use Rattle.pb_pddl.specs.declared.error.Want.TheVariants as wants
 use Rattle.pb_pddl.specs.Reading.{begins, spells, need, name_at, all_of, begins_open, begins_key, list_at, cond_at, effect_at, params_part, pre_part, effect_part, part_at, no_effects, no_parts, parts_want, unlimited, or_empty, add_action}
 use Rattle.pb_pddl.specs.Grammar.{Takes, Says, IsCond, IsEffect, IsList, IsPart, IsAction}
@@ -28,6 +29,11 @@ is_none (Some x) e = absurd cc
 pub none_is : {A : Type 0} (o : Option A) → o ≡ None → is_some o ≡ false
 none_is None e = refl
 none_is (Some x) e = absurd cc
+
+-- a step that does not refuse at once
+pub not_refused : {A : Type 0} (b : Bool) (d : SyntaxError) (r : Result A SyntaxError) (y : A) → cond b (Err d) r ≡ Ok y → (b ≡ false) × (r ≡ Ok y)
+not_refused true d r y e = absurd cc
+not_refused false d r y e = (refl, e)
 
 -- where a word stands, its first is a keyword
 pub says_key : (text : List ℕ) (ts rest : List Token) → Says kinds.Key text ts rest → begins kinds.Key ts ≡ true
@@ -67,50 +73,44 @@ unfolding part_at params_part pre_part effect_part unlimited
 part_sound s ts now rest m e = (
   drop 1 ts,
   elim (if_cases (spells kinds.Key (codes ":parameters") ts) _ _ (Ok (now, rest)) e) [
-    | inl w ↦ elim (if_cases (is_some s.params) _ _ (Ok (now, rest)) w.1) [
-      | inl z ↦ absurd cc
-      | inr z ↦
-          let o = bind_ok (need kinds.Open wants.Paren (drop 1 ts)) _ (now, rest) z.1 in
-          let l = bind_ok (list_at kinds.Variable wants.Variable o.0) _ (now, rest) o.2 in
-          let p = ok_pair (parts (Some l.0.0) s.pre s.effect s.costs) now l.0.1 rest l.2 in
-          inl (
-            o.0,
-            l.0.0,
-            spells_says kinds.Key (codes ":parameters") ts key_token w.0,
-            is_none s.params z.0,
-            need_takes kinds.Open wants.Paren (drop 1 ts) o.0 open_token o.1,
-            subst (λ r. IsList kinds.Variable o.0 r l.0.0) p.1 (list_sound kinds.Variable wants.Variable o.0 l.0.1 l.0.0 variables_listed l.1),
-            sym p.0,
-          )
-    ]
+    | inl w ↦
+        let z = not_refused (is_some s.params) _ _ (now, rest) w.1 in
+        let o = bind_ok (need kinds.Open wants.Paren (drop 1 ts)) _ (now, rest) z.1 in
+        let l = bind_ok (list_at kinds.Variable wants.Variable o.0) _ (now, rest) o.2 in
+        let p = ok_pair (parts (Some l.0.0) s.pre s.effect s.costs) now l.0.1 rest l.2 in
+        inl (
+          o.0,
+          l.0.0,
+          spells_says kinds.Key (codes ":parameters") ts key_token w.0,
+          is_none s.params z.0,
+          need_takes kinds.Open wants.Paren (drop 1 ts) o.0 open_token o.1,
+          subst (λ r. IsList kinds.Variable o.0 r l.0.0) p.1 (list_sound kinds.Variable wants.Variable o.0 l.0.1 l.0.0 variables_listed l.1),
+          sym p.0,
+        )
     | inr w ↦ elim (if_cases (spells kinds.Key (codes ":precondition") ts) _ _ (Ok (now, rest)) w.1) [
-      | inl v ↦ elim (if_cases (is_some s.pre) _ _ (Ok (now, rest)) v.1) [
-        | inl z ↦ absurd cc
-        | inr z ↦
-            let a = bind_ok (cond_at true (length (drop 1 ts)) [] (drop 1 ts)) _ (now, rest) z.1 in
-            let p = ok_pair (parts s.params (Some a.0.0) s.effect s.costs) now a.0.1 rest a.2 in
-            inr (inl (
+      | inl v ↦
+          let z = not_refused (is_some s.pre) _ _ (now, rest) v.1 in
+          let a = bind_ok (cond_at true (length (drop 1 ts)) [] (drop 1 ts)) _ (now, rest) z.1 in
+          let p = ok_pair (parts s.params (Some a.0.0) s.effect s.costs) now a.0.1 rest a.2 in
+          inr (inl (
+            a.0.0,
+            spells_says kinds.Key (codes ":precondition") ts key_token v.0,
+            is_none s.pre z.0,
+            subst (λ r. IsCond true (length (drop 1 ts)) [] (drop 1 ts) a.0.0 r) p.1 (cond_is true (length (drop 1 ts)) [] (drop 1 ts) a.0.0 a.0.1 a.1),
+            sym p.0,
+          ))
+      | inr v ↦ elim (if_cases (spells kinds.Key (codes ":effect") ts) _ _ (Ok (now, rest)) v.1) [
+        | inl u ↦
+            let z = not_refused (is_some s.effect) _ _ (now, rest) u.1 in
+            let a = bind_ok (effect_at (length (drop 1 ts)) no_effects (drop 1 ts)) _ (now, rest) z.1 in
+            let p = ok_pair (parts s.params s.pre (Some a.0.0.literals) a.0.0.costs) now a.0.1 rest a.2 in
+            inr (inr (
               a.0.0,
-              spells_says kinds.Key (codes ":precondition") ts key_token v.0,
-              is_none s.pre z.0,
-              subst (λ r. IsCond true (length (drop 1 ts)) [] (drop 1 ts) a.0.0 r) p.1 (cond_is true (length (drop 1 ts)) [] (drop 1 ts) a.0.0 a.0.1 a.1),
+              spells_says kinds.Key (codes ":effect") ts key_token u.0,
+              is_none s.effect z.0,
+              subst (λ r. IsEffect (length (drop 1 ts)) no_effects (drop 1 ts) a.0.0 r) p.1 (effect_is (length (drop 1 ts)) no_effects (drop 1 ts) a.0.0 a.0.1 a.1),
               sym p.0,
             ))
-      ]
-      | inr v ↦ elim (if_cases (spells kinds.Key (codes ":effect") ts) _ _ (Ok (now, rest)) v.1) [
-        | inl u ↦ elim (if_cases (is_some s.effect) _ _ (Ok (now, rest)) u.1) [
-          | inl z ↦ absurd cc
-          | inr z ↦
-              let a = bind_ok (effect_at (length (drop 1 ts)) no_effects (drop 1 ts)) _ (now, rest) z.1 in
-              let p = ok_pair (parts s.params s.pre (Some a.0.0.literals) a.0.0.costs) now a.0.1 rest a.2 in
-              inr (inr (
-                a.0.0,
-                spells_says kinds.Key (codes ":effect") ts key_token u.0,
-                is_none s.effect z.0,
-                subst (λ r. IsEffect (length (drop 1 ts)) no_effects (drop 1 ts) a.0.0 r) p.1 (effect_is (length (drop 1 ts)) no_effects (drop 1 ts) a.0.0 a.0.1 a.1),
-                sym p.0,
-              ))
-        ]
         | inr u ↦ absurd cc
       ]
     ]
