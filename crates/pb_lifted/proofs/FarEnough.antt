@@ -1,24 +1,18 @@
 -- More steps up than there are types change nothing: with each step further types come to one, until none does.
 use Rattle.std.proofs.Common.{◌≡◌, ◌⊎◌, ◌<◌, ◌≤◌, ◌+◌, ℕ, zero, suc, Bool, true, false, ◌||◌, nat_eq, nat_lt, List, length, get_or, inl, inr, refl, sym, ap, ◌∙◌, arith}
+use Rattle.std.proofs.lemmas.Bool.{or_left}
+use Rattle.std.proofs.Math.Bool.{or_self}
 use Rattle.std.proofs.lemmas.Bool.Decides.{nat_tests}
 use Rattle.std.proofs.lemmas.List.{get_or_past}
 use Rattle.pb_lifted.specs.Tree.{comes_to}
 use Rattle.pb_lifted.specs.WaysUp.{MoreStepsOfNumbersChangeNothing}
 use Rattle.pb_lifted.proofs.Counting.{count_below, count_bounded, Implies, count_same}
 
-or_same : (b : Bool) → (b || b) ≡ b
-or_same true = refl
-or_same false = refl
-
-or_left : (a b : Bool) → a ≡ true → (a || b) ≡ true
-or_left true b h = refl
-or_left false b h = cc
-
 -- above the root there is the root alone
 root_is : (parents : List ℕ) (n j : ℕ) → get_or parents 0 0 ≡ 0 → comes_to parents n 0 j ≡ nat_eq 0 j
 root_is parents zero j root = refl
 root_is parents (suc n) j root =
-    ap (λ i. nat_eq 0 j || comes_to parents n i j) root ∙ ap (λ b. nat_eq 0 j || b) (root_is parents n j root) ∙ or_same (nat_eq 0 j)
+    ap (λ i. nat_eq 0 j || comes_to parents n i j) root ∙ ap (λ b. nat_eq 0 j || b) (root_is parents n j root) ∙ or_self (nat_eq 0 j)
 
 -- behind the end there is the root above
 outside_is : (parents : List ℕ) (n i j : ℕ) → get_or parents 0 0 ≡ 0 → length parents ≤ i → comes_to parents (suc n) i j ≡ (nat_eq i j || nat_eq 0 j)

@@ -1,5 +1,5 @@
 -- Nothing is refused exactly where no cause has a place.
-use Rattle.std.proofs.Common.{◌≡◌, ◌<◌, ℕ, zero, suc, Bool, true, false, not, Option, Some, None, List, [], ◌∷◌, ◌++◌, length, flat_map, get_or, refl, ap, ◌∙◌, arith}
+use Rattle.std.proofs.Common.{◌≡◌, ◌<◌, ℕ, zero, suc, Bool, true, false, Option, Some, None, List, [], ◌∷◌, ◌++◌, length, flat_map, get_or, refl, ap, ◌∙◌, arith}
 use Rattle.pb_pddl.specs.declared.tree.Domain.{Domain}
 use Rattle.pb_pddl.specs.declared.tree.Problem.{Problem}
 use Rattle.pb_lifted.specs.declared.refusal.Cause.{Cause}
@@ -39,10 +39,6 @@ all_nil f (x ∷ xs) h = both_nil (f x) (flat_map f xs) (h 0 x (omega arith)) (a
 pub no_fault : (b : Bool) (at : ℕ) → fault_if b at ≡ [] → b ≡ false
 no_fault true at h = cc
 no_fault false at h = refl
-
-pub not_false : (b : Bool) → not b ≡ false → b ≡ true
-not_false true h = refl
-not_false false h = cc
 
 abbrev pub AllFaultless : List Cause → Domain → Problem → Type 0
 AllFaultless [] domain problem = too_many (length (objects_of domain problem)) ≡ None

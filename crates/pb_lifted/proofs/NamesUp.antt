@@ -1,5 +1,6 @@
 -- The way up by names is counted far enough.
 use Rattle.std.proofs.Common.{◌≡◌, ◌+◌, ℕ, zero, suc, Bool, true, false, cond, ◌||◌, Option, Some, None, List, length, refl, sym, ap, ◌∙◌, subst, arith}
+use Rattle.std.proofs.lemmas.Bool.{or_right, or_left}
 use Rattle.std.specs.Str.{bytes_eq}
 use Rattle.std.proofs.lemmas.List.{length-map}
 use Rattle.pb_pddl.specs.declared.tree.Typed.{Typed}
@@ -10,14 +11,6 @@ use Rattle.pb_lifted.specs.Lifted.{number}
 use Rattle.pb_lifted.specs.WaysUp.{MoreStepsChangeNothing, ObjectIsReached, BelowIsTransitive}
 use Rattle.pb_lifted.proofs.TypeTree.{same_text, within_is, within_unknown, within_object, above_unknown}
 use Rattle.pb_lifted.proofs.FarEnough.{more_steps_of_numbers_change_nothing}
-
-or_right : (a b : Bool) → b ≡ true → (a || b) ≡ true
-or_right true b h = refl
-or_right false b h = h
-
-or_left : (a b : Bool) → a ≡ true → (a || b) ≡ true
-or_left true b h = refl
-or_left false b h = cc
 
 pub more_steps_change_nothing : MoreStepsChangeNothing
 more_steps_change_nothing types n text high = at (number_of text (type_names types)) refl (number_of high (type_names types)) refl

@@ -1,5 +1,6 @@
 -- A fitting atom, by names and by numbers.
 use Rattle.std.proofs.Common.{◌≡◌, ◌<◌, ℕ, suc, Bool, true, false, cond, Option, Some, None, is_some, option_map, unwrap_or, List, [], ◌∷◌, ◌++◌, length, map, get_or, All, refl, sym, ap, ◌∙◌, arith}
+use Rattle.std.proofs.lemmas.Bool.{and_from}
 use Rattle.std.specs.Str.{bytes_eq}
 use Rattle.std.proofs.lemmas.List.{length-map}
 use Rattle.pb_pddl.specs.declared.tree.Typed.{Typed}
@@ -21,7 +22,7 @@ use Rattle.pb_lifted.proofs.Numbering.{among_number}
 use Rattle.pb_lifted.proofs.TypeTree.{known_number}
 use Rattle.pb_lifted.proofs.SameFacts.{same_object}
 use Rattle.pb_lifted.proofs.KnownNames.{known_terms, known_predicate}
-use Rattle.pb_lifted.proofs.TwinFacts.{and_both, are_among, Twin, Twins}
+use Rattle.pb_lifted.proofs.TwinFacts.{are_among, Twin, Twins}
 
 pub number_below : (text : List ℕ) (names : List (List ℕ)) (n : ℕ) → number_of text names ≡ Some n → n < length names
 number_below text [] n h = cc
@@ -70,7 +71,7 @@ twin_objects names params given (t ∷ terms) distinct below known count =
         → (are_among names os ≡ true) × (map (λ x. number x names) os ≡ map (λ a. value_of given a) (arguments_of names (map name_text params) terms))
         → (are_among names (o ∷ os) ≡ true) × (map (λ x. number x names) (o ∷ os) ≡ map (λ a. value_of given a) (arguments_of names (map name_text params) (t ∷ terms)))
     at one rest = (
-      and_both (is_among o names) (are_among names os) one.0 rest.0,
+      and_from (is_among o names) (are_among names os) one.0 rest.0,
       ap (λ n. n ∷ map (λ x. number x names) os) one.1 ∙ ap (λ ns. value_of given (argument_of names (map name_text params) t) ∷ ns) rest.1,
     )
 
@@ -81,7 +82,7 @@ pub twin_atom : (domain : Domain) (problem : Problem) (params : List Typed) (giv
 twin_atom domain problem params given atom distinct below count fit =
     let known : AreKnown (object_names domain problem) params atom.terms = known_terms domain problem params atom.terms fit.predicate.params fit.arguments in
     let both = twin_objects (object_names domain problem) params given atom.terms distinct below known count in (
-      and_both (is_among atom.predicate.text (predicate_names domain)) _ (known_predicate domain problem params atom fit) both.0,
+      and_from (is_among atom.predicate.text (predicate_names domain)) _ (known_predicate domain problem params atom fit) both.0,
       ap (λ os. let g : GroundFact = record { predicate = number atom.predicate.text (predicate_names domain); objects = os } in g) both.1,
     )
 

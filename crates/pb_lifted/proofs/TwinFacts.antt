@@ -1,5 +1,6 @@
 -- Facts by names and by numbers, and the states that they hold in.
 use Rattle.std.proofs.Common.{◌≡◌, ℕ, Bool, true, false, not, ◌&&◌, ◌||◌, nat_eq, List, [], ◌∷◌, map, refl, sym, ap, ◌∙◌}
+use Rattle.std.proofs.lemmas.Bool.{and_from}
 use Rattle.std.specs.List.{list_all}
 use Rattle.std.specs.Str.{bytes_eq}
 use Rattle.std.specs.Cmp.Lexicographic.{pointwise}
@@ -19,10 +20,6 @@ and_left false b h = h
 pub and_right : (a b : Bool) → (a && b) ≡ true → b ≡ true
 and_right true b h = h
 and_right false b h = cc
-
-pub and_both : (a b : Bool) → a ≡ true → b ≡ true → (a && b) ≡ true
-and_both true b p q = q
-and_both false b p q = p
 
 abbrev pub are_among : List (List ℕ) → List (List ℕ) → Bool
 are_among names texts = list_all (λ o. is_among o names) texts
@@ -121,7 +118,7 @@ hold_by_names domain problem now state [] [] same twins hold = tt
 hold_by_names domain problem now state [] (g ∷ grounds) same twins hold = absurd twins
 hold_by_names domain problem now state (f ∷ facts) [] same twins hold = absurd twins
 hold_by_names domain problem now state (f ∷ facts) (g ∷ grounds) same twins hold = (
-  same f ∙ and_both (is_of_task domain problem f) (now (by_number domain problem f)) twins.0.0 (ap now twins.0.1 ∙ hold.0),
+  same f ∙ and_from (is_of_task domain problem f) (now (by_number domain problem f)) twins.0.0 (ap now twins.0.1 ∙ hold.0),
   hold_by_names domain problem now state facts grounds same twins.1 hold.1,
 )
 

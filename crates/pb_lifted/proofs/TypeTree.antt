@@ -1,5 +1,6 @@
 -- The tree of types by names, and by numbers.
 use Rattle.std.proofs.Common.{◌≡◌, ◌<◌, ℕ, zero, suc, Bool, true, false, cond, not, ◌||◌, nat_eq, Option, Some, None, is_some, option_map, unwrap_or, List, [], ◌∷◌, ◌++◌, length, map, refl, sym, ap, ◌∙◌, arith, get_or}
+use Rattle.std.proofs.Math.Bool.{or_self}
 use Rattle.std.specs.Str.{bytes_eq}
 use Rattle.std.proofs.lemmas.Bool.Decides.{nat_tests}
 use Rattle.std.proofs.lemmas.Slice.Eq.{bytes_eq-Decides}
@@ -154,13 +155,9 @@ within_unknown types n q high i a b = by n q i a
 pub within_object : (types : List Typed) (n : ℕ) (high : List ℕ) → is_within types n object high ≡ is_object high
 within_object types n high = by n ∙ swap_text object high
   where
-    or_same : (b : Bool) → (b || b) ≡ b
-    or_same true = refl
-    or_same false = refl
-
     by : (n : ℕ) → is_within types n object high ≡ bytes_eq object high
     by zero = refl
-    by (suc n) = ap (λ c. bytes_eq object high || c) (by n) ∙ or_same (bytes_eq object high)
+    by (suc n) = ap (λ c. bytes_eq object high || c) (by n) ∙ or_self (bytes_eq object high)
 
 above_unknown_in : (types : List Typed) (ks : List (List ℕ)) (q : List ℕ) → number_of q (map name_text types ++ ks) ≡ None → above_in types q ≡ object
 above_unknown_in [] ks q h = refl

@@ -1,5 +1,6 @@
 -- What is not refused is well typed.
 use Rattle.std.proofs.Common.{◌≡◌, ◌≤◌, ℕ, zero, suc, Bool, true, false, not, nat_eq, nat_lt, cond, Option, Some, None, List, [], ◌∷◌, ◌++◌, length, map, get_or, All, true≢false, refl, sym, ap, ◌∙◌, arith}
+use Rattle.std.proofs.lemmas.Bool.{not-false}
 use Rattle.std.specs.Prelude.{is_none}
 use Rattle.std.specs.Str.{bytes_eq}
 use Rattle.std.proofs.lemmas.Bool.Decides.{nat_tests}
@@ -21,7 +22,7 @@ use Rattle.pb_lifted.specs.Objects.{objects_of, predicate_of, entry_of_term}
 use Rattle.pb_lifted.specs.Refusals as refusals
 use Rattle.pb_lifted.specs.Space.{FitsParameter}
 use Rattle.pb_lifted.specs.Typing.{AreDistinct, object_names, PredicateFits, ArgumentsFit, AtomFits, IsRooted, KindIsKnown, ActionFits, AcceptedIsWellTyped}
-use Rattle.pb_lifted.proofs.Faultless.{nil_left, nil_right, each_nil, no_fault, not_false, AllFaultless, faultless}
+use Rattle.pb_lifted.proofs.Faultless.{nil_left, nil_right, each_nil, no_fault, AllFaultless, faultless}
 use Rattle.pb_lifted.proofs.FittingCosts.{costs_fit}
 use Rattle.pb_lifted.proofs.DistinctNames.{objects_distinct, declared_once}
 use Rattle.pb_lifted.proofs.TypeTree.{same_text, self_text}
@@ -33,7 +34,7 @@ known_kind types t h = at t.kind h
   where
     at : (kind : Option Name) → unknown_kind types kind ≡ [] → is_among (kind_or kind) (type_names types) ≡ true
     at None h = refl
-    at (Some kind) h = not_false (is_among kind.text (type_names types)) (no_fault (not (is_among kind.text (type_names types))) kind.at h)
+    at (Some kind) h = not-false (is_among kind.text (type_names types)) (no_fault (not (is_among kind.text (type_names types))) kind.at h)
 
 known_kinds : (types list : List Typed) → unknown_kinds types list ≡ [] → All (KindIsKnown types) list
 known_kinds types list h k d less = known_kind types (get_or list k d) (each_nil (λ t. unknown_kind types t.kind) list h k d less)
@@ -61,7 +62,7 @@ fits : (types : List Typed) (entry : Option Typed) (w : Typed) (a b : ℕ) → f
     → FitsParameter types entry w
 fits types None w a b known fit = cc
 fits types (Some entry) w a b known fit =
-    not_false (refusals.fits_kind types (Some entry) (kind_text w)) (no_fault (not (refusals.fits_kind types (Some entry) (kind_text w))) b fit)
+    not-false (refusals.fits_kind types (Some entry) (kind_text w)) (no_fault (not (refusals.fits_kind types (Some entry) (kind_text w))) b fit)
 
 arguments_fit : (domain : Domain) (problem : Problem) (params : List Typed) (terms : List Term) (wanted : List Typed) → length terms ≡ length wanted
     → refusals.unknown_terms domain problem params terms ≡ [] → refusals.wrong_types domain problem params terms wanted ≡ [] → ArgumentsFit domain problem params terms wanted
@@ -184,11 +185,11 @@ comes_to_object types t h = at (is_object (name_text t)) refl h
   where
     at : (b : Bool) → is_object (name_text t) ≡ b → cond b (not (is_object (kind_text t))) (not (is_object (ancestor types (height types) (name_text t)))) ≡ false → IsRooted types t
     at true e h =
-        record { steps = 0; up = same_text (name_text t) object e; root = λ _. same_text (kind_text t) object (not_false (is_object (kind_text t)) h) }
+        record { steps = 0; up = same_text (name_text t) object e; root = λ _. same_text (kind_text t) object (not-false (is_object (kind_text t)) h) }
     at false e h =
         record {
           steps = height types;
-          up = same_text (ancestor types (height types) (name_text t)) object (not_false (is_object (ancestor types (height types) (name_text t))) h);
+          up = same_text (ancestor types (height types) (name_text t)) object (not-false (is_object (ancestor types (height types) (name_text t))) h);
           root = λ same. let it_is : is_object (name_text t) ≡ true = ap is_object same ∙ self_text object in absurd (true≢false (sym it_is ∙ e));
         }
 
@@ -201,7 +202,7 @@ rooted domain problem free k d less =
 same_domain : (domain : Domain) (problem : Problem) → fault_free domain problem → problem.domain.text ≡ domain.name.text
 same_domain domain problem free =
     same_text problem.domain.text domain.name.text
-    (not_false (bytes_eq problem.domain.text domain.name.text) (no_fault (not (bytes_eq problem.domain.text domain.name.text)) problem.domain.at free.0.1))
+    (not-false (bytes_eq problem.domain.text domain.name.text) (no_fault (not (bytes_eq problem.domain.text domain.name.text)) problem.domain.at free.0.1))
 
 pub accepted_is_well_typed : AcceptedIsWellTyped
 accepted_is_well_typed domain problem accepted =
