@@ -1,5 +1,6 @@
 -- Which instances and which ground atoms there are.
 use Rattle.std.proofs.Common.{◌≡◌, ◌+◌, ◌<◌, ℕ, zero, suc, Bool, true, false, cond, ◌&&◌, ◌||◌, nat_eq, nat_lt, List, [], ◌∷◌, map, length, get_or, slice_get, refl, sym, ap, ◌∙◌, arith}
+use Rattle.std.proofs.Math.Bool.{or-false}
 use Rattle.std.proofs.lemmas.Bool.Decides.{nat_tests}
 use Rattle.std.proofs.lemmas.List.Folds.{list_any-append}
 use Rattle.std.specs.List.{list_any, flat_map}
@@ -152,10 +153,6 @@ none_earlier lifted atom predicate (kinds ∷ later) h =
     ∙ no_fluent (is_fluent lifted predicate) (is_instance lifted kinds atom.objects)))
     ∙ none_earlier lifted atom (suc predicate) later (omega arith))
 
-or_nothing : (b : Bool) → (b || false) ≡ b
-or_nothing true = refl
-or_nothing false = refl
-
 -- the atom's predicate is k behind the first
 atoms_at : (lifted : Lifted) (atom : GroundAtom) (predicate k : ℕ) (later : List (List ℕ)) → atom.predicate ≡ predicate + k
     → is_in atom (atoms_from lifted predicate later) ≡ (is_fluent lifted atom.predicate && is_instance_of lifted (slice_get later k) atom.objects)
@@ -164,7 +161,7 @@ atoms_at lifted atom predicate zero (kinds ∷ later) e =
     let same : atom.predicate ≡ predicate = omega arith in
     list_any-append (same_atom atom) (atoms_of lifted predicate kinds) (atoms_from lifted (suc predicate) later)
     ∙ (ap (λ b. is_in atom (atoms_of lifted predicate kinds) || b) (none_earlier lifted atom (suc predicate) later (omega arith))
-    ∙ (or_nothing (is_in atom (atoms_of lifted predicate kinds)) ∙ (of_one lifted atom predicate kinds
+    ∙ (or-false (is_in atom (atoms_of lifted predicate kinds)) ∙ (of_one lifted atom predicate kinds
     ∙ (ap (λ b. is_fluent lifted predicate && (b && is_instance lifted kinds atom.objects)) (itself atom.predicate predicate same)
     ∙ ap (λ p. is_fluent lifted p && is_instance lifted kinds atom.objects) (sym same)))))
 atoms_at lifted atom predicate (suc k) (kinds ∷ later) e =

@@ -1,5 +1,6 @@
 -- Numbers that stand once: what some, and what all of them are is what some and all of the atoms' numbers are.
 use Rattle.std.proofs.Common.{◌≡◌, ℕ, Bool, true, false, cond, ◌&&◌, ◌||◌, nat_eq, List, [], ◌∷◌, ◌++◌, Option, Some, None, refl, sym, ap, ◌∙◌, arith}
+use Rattle.std.proofs.Math.Bool.{or_assoc, and_assoc}
 use Rattle.std.proofs.lemmas.Bool.Decides.{nat_tests}
 use Rattle.std.proofs.lemmas.List.Folds.{list_any-append}
 use Rattle.std.specs.List.{list_any, list_all, flat_map}
@@ -16,16 +17,12 @@ number_list (Some n) = n ∷ []
 abbrev pub repeated : List GroundAtom → List ℕ → List LiftedAtom → List ℕ
 repeated atoms given list = flat_map (λ a. number_list (number_in (grounded given a) atoms)) list
 
-nat_same : (m n : ℕ) → nat_eq m n ≡ true → m ≡ n
+pub nat_same : (m n : ℕ) → nat_eq m n ≡ true → m ≡ n
 nat_same m n e = grind (arith, nat_tests)
 
 pub all_append : (p : ℕ → Bool) (xs ys : List ℕ) → list_all p (xs ++ ys) ≡ (list_all p xs && list_all p ys)
 all_append p [] ys = refl
-all_append p (x ∷ xs) ys = ap (λ b. p x && b) (all_append p xs ys) ∙ and_again (p x) (list_all p xs) (list_all p ys)
-  where
-    and_again : (a b c : Bool) → (a && (b && c)) ≡ ((a && b) && c)
-    and_again true b c = refl
-    and_again false b c = refl
+all_append p (x ∷ xs) ys = ap (λ b. p x && b) (all_append p xs ys) ∙ sym (and_assoc (p x) (list_all p xs) (list_all p ys))
 
 -- a number that is there adds nothing
 any_among : (p : ℕ → Bool) (n : ℕ) (numbers : List ℕ) → list_any (nat_eq n) numbers ≡ true → list_any p numbers ≡ (list_any p numbers || p n)
@@ -37,13 +34,9 @@ any_among p n (x ∷ numbers) e = at (any_among p n numbers) (nat_eq n x) refl e
     once_more false true = refl
     once_more false false = refl
 
-    or_again : (a b c : Bool) → (a || (b || c)) ≡ ((a || b) || c)
-    or_again true b c = refl
-    or_again false b c = refl
-
     at : (list_any (nat_eq n) numbers ≡ true → list_any p numbers ≡ (list_any p numbers || p n)) → (same : Bool) → nat_eq n x ≡ same → (same || list_any (nat_eq n) numbers) ≡ true → (p x || list_any p numbers) ≡ ((p x || list_any p numbers) || p n)
     at later true q h = once_more (p x) (list_any p numbers) ∙ ap (λ k. (p x || list_any p numbers) || p k) (sym (nat_same n x q))
-    at later false q h = ap (λ b. p x || b) (later h) ∙ or_again (p x) (list_any p numbers) (p n)
+    at later false q h = ap (λ b. p x || b) (later h) ∙ sym (or_assoc (p x) (list_any p numbers) (p n))
 
 all_among : (p : ℕ → Bool) (n : ℕ) (numbers : List ℕ) → list_any (nat_eq n) numbers ≡ true → list_all p numbers ≡ (list_all p numbers && p n)
 all_among p n [] e = cc
@@ -54,13 +47,9 @@ all_among p n (x ∷ numbers) e = at (all_among p n numbers) (nat_eq n x) refl e
     once_more true false = refl
     once_more false b = refl
 
-    and_again : (a b c : Bool) → (a && (b && c)) ≡ ((a && b) && c)
-    and_again true b c = refl
-    and_again false b c = refl
-
     at : (list_any (nat_eq n) numbers ≡ true → list_all p numbers ≡ (list_all p numbers && p n)) → (same : Bool) → nat_eq n x ≡ same → (same || list_any (nat_eq n) numbers) ≡ true → (p x && list_all p numbers) ≡ ((p x && list_all p numbers) && p n)
     at later true q h = once_more (p x) (list_all p numbers) ∙ ap (λ k. (p x && list_all p numbers) && p k) (sym (nat_same n x q))
-    at later false q h = ap (λ b. p x && b) (later h) ∙ and_again (p x) (list_all p numbers) (p n)
+    at later false q h = ap (λ b. p x && b) (later h) ∙ sym (and_assoc (p x) (list_all p numbers) (p n))
 
 or_none : (b : Bool) → b ≡ (b || false)
 or_none true = refl
@@ -93,12 +82,8 @@ any_numbers p atoms given numbers (a ∷ list) =
     let number = number_in (grounded given a) atoms in
     any_numbers p atoms given (with_number_in numbers number) list
     ∙ (ap (λ b. b || list_any p (repeated atoms given list)) (any_with p numbers number)
-    ∙ (or_later (list_any p numbers) (list_any p (number_list number)) (list_any p (repeated atoms given list))
+    ∙ (or_assoc (list_any p numbers) (list_any p (number_list number)) (list_any p (repeated atoms given list))
     ∙ ap (λ b. list_any p numbers || b) (sym (list_any-append p (number_list number) (repeated atoms given list)))))
-  where
-    or_later : (a b c : Bool) → ((a || b) || c) ≡ (a || (b || c))
-    or_later true b c = refl
-    or_later false b c = refl
 
 all_numbers : (p : ℕ → Bool) (atoms : List GroundAtom) (given numbers : List ℕ) (list : List LiftedAtom)
     → list_all p (numbers_with atoms given numbers list) ≡ (list_all p numbers && list_all p (repeated atoms given list))
@@ -107,12 +92,8 @@ all_numbers p atoms given numbers (a ∷ list) =
     let number = number_in (grounded given a) atoms in
     all_numbers p atoms given (with_number_in numbers number) list
     ∙ (ap (λ b. b && list_all p (repeated atoms given list)) (all_with p numbers number)
-    ∙ (and_later (list_all p numbers) (list_all p (number_list number)) (list_all p (repeated atoms given list))
+    ∙ (and_assoc (list_all p numbers) (list_all p (number_list number)) (list_all p (repeated atoms given list))
     ∙ ap (λ b. list_all p numbers && b) (sym (all_append p (number_list number) (repeated atoms given list)))))
-  where
-    and_later : (a b c : Bool) → ((a && b) && c) ≡ (a && (b && c))
-    and_later true b c = refl
-    and_later false b c = refl
 
 pub any_once : (p : ℕ → Bool) (atoms : List GroundAtom) (given : List ℕ) (list : List LiftedAtom) → list_any p (numbers_of atoms given list) ≡ list_any p (repeated atoms given list)
 any_once p atoms given list = any_numbers p atoms given [] list

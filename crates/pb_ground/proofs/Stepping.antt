@@ -1,5 +1,6 @@
 -- Steps by atoms and by numbers.
 use Rattle.std.proofs.Common.{◌≡◌, ℕ, zero, suc, Bool, true, false, cond, not, ◌&&◌, ◌||◌, nat_eq, List, [], ◌∷◌, map, Option, Some, None, is_some, option_map, slice_get, refl, sym, ap, ◌∙◌, arith}
+use Rattle.std.proofs.lemmas.Bool.{and_parts, or_parts}
 use Rattle.std.proofs.lemmas.Bool.Decides.{nat_tests}
 use Rattle.std.proofs.lemmas.List.Folds.{list_any-append}
 use Rattle.std.proofs.lemmas.Slice.Eq.{bytes_eq-Decides}
@@ -12,23 +13,16 @@ use Rattle.pb_ground.specs.declared.atoms.GroundAtom.{GroundAtom}
 use Rattle.pb_ground.specs.Actions.{numbers_of}
 use Rattle.pb_ground.specs.Atoms.{is_fluent, same_atom, grounded, number_in, atom_of, predicate_of, changed_by}
 use Rattle.pb_ground.specs.Statics.{is_initial, statics_hold}
-use Rattle.pb_ground.proofs.Once.{number_list, repeated, all_append, any_once, all_once}
+use Rattle.pb_ground.proofs.Once.{nat_same, number_list, repeated, all_append, any_once, all_once}
 use Rattle.pb_ground.specs.Steps.{Facts, Bits, all_grounded, is_in, facts_after, Packs, KeepsStatics, AreNumbered, Corresponds}
-
-nat_same : (m n : ℕ) → nat_eq m n ≡ true → m ≡ n
-nat_same m n e = grind (arith, nat_tests)
 
 same_nat : (m n : ℕ) → m ≡ n → nat_eq m n ≡ true
 same_nat m n e = grind (arith, nat_tests)
 
-both_true : (a b : Bool) → (a && b) ≡ true → (a ≡ true) × (b ≡ true)
-both_true true b e = (refl, e)
-both_true false b e = cc
-
 -- atoms that are alike are the same
 pub one_atom : (f g : GroundAtom) → same_atom f g ≡ true → f ≡ g
 one_atom f g e =
-    let both = both_true (nat_eq f.predicate g.predicate) (bytes_eq f.objects g.objects) e in
+    let both = and_parts (nat_eq f.predicate g.predicate) (bytes_eq f.objects g.objects) e in
     ap (λ p. atom_of p f.objects) (nat_same f.predicate g.predicate both.0) ∙ ap (λ os. atom_of g.predicate os) ((bytes_eq-Decides f.objects g.objects).0 both.1)
 
 pub atom_itself : (f g : GroundAtom) → f ≡ g → same_atom f g ≡ true
@@ -145,15 +139,11 @@ correspond lifted atoms state bits i schema given packs keeps numbered = record 
 
 -- ---- static atoms
 
-either : (a b : Bool) → (a || b) ≡ false → (a ≡ false) × (b ≡ false)
-either true b e = cc
-either false b e = (refl, e)
-
 -- an atom of a predicate that is not among theirs is none of these
 not_among : (f : GroundAtom) (given : List ℕ) (list : List LiftedAtom) → list_any (nat_eq f.predicate) (map predicate_of list) ≡ false → is_in f (all_grounded given list) ≡ false
 not_among f given [] e = refl
 not_among f given (a ∷ list) e =
-    let both = either (nat_eq f.predicate a.predicate) (list_any (nat_eq f.predicate) (map predicate_of list)) e in
+    let both = or_parts (nat_eq f.predicate a.predicate) (list_any (nat_eq f.predicate) (map predicate_of list)) e in
     ap (λ b. (b && bytes_eq f.objects (grounded given a).objects) || is_in f (all_grounded given list)) both.0 ∙ not_among f given list both.1
 
 not_changed : (n i : ℕ) (schema : Schema) (actions : List Schema) → slice_get actions i ≡ Some schema → list_any (nat_eq n) (flat_map changed_by actions) ≡ false
@@ -161,10 +151,10 @@ not_changed : (n i : ℕ) (schema : Schema) (actions : List Schema) → slice_ge
 not_changed n i schema [] d e = cc
 not_changed n zero schema (first ∷ actions) d e =
     let same : first ≡ schema = cc in
-    let both = either (list_any (nat_eq n) (changed_by first)) (list_any (nat_eq n) (flat_map changed_by actions)) (sym (list_any-append (nat_eq n) (changed_by first) (flat_map changed_by actions)) ∙ e) in
+    let both = or_parts (list_any (nat_eq n) (changed_by first)) (list_any (nat_eq n) (flat_map changed_by actions)) (sym (list_any-append (nat_eq n) (changed_by first) (flat_map changed_by actions)) ∙ e) in
     ap (λ s. list_any (nat_eq n) (changed_by s)) (sym same) ∙ both.0
 not_changed n (suc i) schema (first ∷ actions) d e =
-    let both = either (list_any (nat_eq n) (changed_by first)) (list_any (nat_eq n) (flat_map changed_by actions)) (sym (list_any-append (nat_eq n) (changed_by first) (flat_map changed_by actions)) ∙ e) in
+    let both = or_parts (list_any (nat_eq n) (changed_by first)) (list_any (nat_eq n) (flat_map changed_by actions)) (sym (list_any-append (nat_eq n) (changed_by first) (flat_map changed_by actions)) ∙ e) in
     not_changed n i schema actions d both.1
 
 stays : (b : Bool) → b ≡ (false || (b && not false))
@@ -175,7 +165,7 @@ pub kept : (lifted : Lifted) (state : Facts) (i : ℕ) (schema : Schema) (given 
     → KeepsStatics lifted (facts_after state (all_grounded given schema.deletes) (all_grounded given schema.adds))
 kept lifted state i schema given declared keeps fact e =
     let none = not_changed fact.predicate i schema lifted.actions declared e in
-    let both = either (list_any (nat_eq fact.predicate) (map predicate_of schema.adds)) (list_any (nat_eq fact.predicate) (map predicate_of schema.deletes))
+    let both = or_parts (list_any (nat_eq fact.predicate) (map predicate_of schema.adds)) (list_any (nat_eq fact.predicate) (map predicate_of schema.deletes))
     (sym (list_any-append (nat_eq fact.predicate) (map predicate_of schema.adds) (map predicate_of schema.deletes)) ∙ none) in
     ap (λ b. b || (state fact && not (is_in fact (all_grounded given schema.deletes)))) (not_among fact given schema.adds both.0)
     ∙ (ap (λ b. false || (state fact && not b)) (not_among fact given schema.deletes both.1)
