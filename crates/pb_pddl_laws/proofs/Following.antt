@@ -3,13 +3,12 @@ use Rattle.std.proofs.Common.{◌≡◌, ℕ, zero, suc, ◌<◌, ◌≤◌, Boo
 use Rattle.std.proofs.lemmas.List.{append_assoc}
 use Rattle.pb_pddl.specs.declared.token.Token.{Token}
 use Rattle.pb_pddl.specs.declared.error.SyntaxError.{SyntaxError}
-use Rattle.pb_pddl.specs.Reading.{◌>>=◌, Read, front, no_token, all_of}
+use Rattle.pb_pddl.specs.Reading.{◌>>=◌, Read, front, no_token}
 use Rattle.pb_pddl.specs.Places
 use Rattle.pb_pddl.specs.Places.{Place, fits, refused}
 use Rattle.pb_pddl_laws.specs.Table.{Symbol, place_of, after, Leads}
 use Rattle.pb_pddl_laws.proofs.Readers.{Reads, then_read, front_cons, front_none, part_less}
-use Rattle.pb_pddl_laws.proofs.Loops.{Takes, loop, all_more, all_stop}
-use Rattle.pb_pddl_laws.proofs.Singles.{bind_bind}
+use Rattle.pb_pddl_laws.proofs.Loops.{Takes, loop, loop_more, loop_stop, refuse_loop, more_front}
 
 -- the error of the first token that does not fit, where this is due
 abbrev pub misfit : List Symbol → List Token → Option SyntaxError
@@ -112,26 +111,6 @@ module _ {S Y : Type 0} (more : List Token → Bool) (step : S → List Token �
     (refuse_step : (s : S) (t : Token) (us : List Token) → test t ≡ true → fits (place s) t ≡ false → step s (t ∷ us) ≡ Err (refused (place s) t))
     (refuse_end : (s : S) (ts : List Token) → test (front ts) ≡ false → fits (place s) (front ts) ≡ false → ends s ts ≡ Err (refused (place s) (front ts)))
     (symbol : S → Symbol) (is : (s : S) → SamePlace (symbol s) (place s)) (rest : Y → List Symbol) where
-  loop_more : (s : S) (ts : List Token) → more ts ≡ true → loop more step ends s ts ≡ (step s ts >>= λ next. loop more step ends next.0 next.1)
-  loop_more s ts goes =
-      ap (λ r. r >>= λ all. ends all.0 all.1) (all_more more step none takes s ts goes) ∙ bind_bind (step s ts) (λ next. all_of more step next.0 next.1) (λ all. ends all.0 all.1)
-
-  loop_stop : (s : S) (ts : List Token) → more ts ≡ false → loop more step ends s ts ≡ ends s ts
-  loop_stop s ts stops = ap (λ r. r >>= λ all. ends all.0 all.1) (all_stop more step none takes s ts stops)
-
-  refuse_more : (s : S) (ts : List Token) → more ts ≡ true → fits (place s) (front ts) ≡ false → loop more step ends s ts ≡ Err (refused (place s) (front ts))
-  unfolding front
-  refuse_more s [] goes misfits = absurd (true≢false (sym goes ∙ none))
-  refuse_more s (t ∷ us) goes misfits = loop_more s (t ∷ us) goes ∙ ap (λ r. r >>= λ next. loop more step ends next.0 next.1) (refuse_step s t us (sym (more_is (t ∷ us)) ∙ goes) misfits)
-
-  refuse_loop : (s : S) (ts : List Token) (v : Bool) → more ts ≡ v → fits (place s) (front ts) ≡ false → loop more step ends s ts ≡ Err (refused (place s) (front ts))
-  refuse_loop s ts true goes misfits = refuse_more s ts goes misfits
-  refuse_loop s ts false stops misfits = loop_stop s ts stops ∙ refuse_end s ts (sym (more_is ts) ∙ stops) misfits
-
-  more_front : (t : Token) (us : List Token) (v : Bool) → test t ≡ v → more (t ∷ us) ≡ v
-  unfolding front
-  more_front t us v e = more_is (t ∷ us) ∙ e
-
   does_next : (n : ℕ) → ((m : ℕ) → m < n → (s : S) (t : Token) → test t ≡ true → fits (place s) t ≡ true → Does m (λ us. step s (t ∷ us)) (λ x. symbol x ∷ []) (after (symbol s) t))
       → ((m : ℕ) → m < n → (s : S) (t : Token) → test t ≡ false → fits (place s) t ≡ true → Does m (λ us. ends s (t ∷ us)) rest (after (symbol s) t))
       → ((m : ℕ) → m < n → (s : S) → Does m (loop more step ends s) rest (symbol s ∷ [])) → (s : S) → Does n (loop more step ends s) rest (symbol s ∷ [])
@@ -140,16 +119,16 @@ module _ {S Y : Type 0} (more : List Token → Bool) (step : S → List Token �
       stepped : (due : List Symbol) (t : Token) (us : List Token) → suc (length us) ≤ n → (q : Read S) → step s (t ∷ us) ≡ q → test t ≡ true → seen rest due (q >>= λ next. loop more step ends next.0 next.1) ≡ seen (λ x. symbol x ∷ []) due q
       stepped due t us few (Err e) q_is goes = refl
       stepped due t us few (Ok p) q_is goes =
-          let shorter : length p.1 < suc (length us) = takes s (t ∷ us) p.0 p.1 (more_front t us true goes) q_is in again (length p.1) (omega (arith, shorter, few)) p.0 due p.1 (omega arith)
+          let shorter : length p.1 < suc (length us) = takes s (t ∷ us) p.0 p.1 (more_front more step ends none takes test place more_is refuse_step refuse_end t us true goes) q_is in again (length p.1) (omega (arith, shorter, few)) p.0 due p.1 (omega arith)
 
       behind : (due : List Symbol) (t : Token) (us : List Token) → suc (length us) ≤ n → fits (place s) t ≡ true → (v : Bool) → test t ≡ v → seen rest due (loop more step ends s (t ∷ us)) ≡ misfit (after (symbol s) t ++ due) us
       behind due t us few fit true goes =
-          ap (seen rest due) (loop_more s (t ∷ us) (more_front t us true goes)) ∙ stepped due t us few (step s (t ∷ us)) refl goes ∙ steps (length us) (omega (arith, few)) s t goes fit due us (omega arith)
-      behind due t us few fit false stops = ap (seen rest due) (loop_stop s (t ∷ us) (more_front t us false stops)) ∙ lasts (length us) (omega (arith, few)) s t stops fit due us (omega arith)
+          ap (seen rest due) (loop_more more step ends none takes s (t ∷ us) (more_front more step ends none takes test place more_is refuse_step refuse_end t us true goes)) ∙ stepped due t us few (step s (t ∷ us)) refl goes ∙ steps (length us) (omega (arith, few)) s t goes fit due us (omega arith)
+      behind due t us few fit false stops = ap (seen rest due) (loop_stop more step ends none takes s (t ∷ us) (more_front more step ends none takes test place more_is refuse_step refuse_end t us false stops)) ∙ lasts (length us) (omega (arith, few)) s t stops fit due us (omega arith)
 
       at : (due : List Symbol) (ts : List Token) → length ts ≤ n → (v : Bool) → fits (place s) (front ts) ≡ v → seen rest due (loop more step ends s ts) ≡ misfit (symbol s ∷ due) ts
       at due ts few false misfits =
-          ap (seen rest due) (refuse_loop s ts (more ts) refl misfits) ∙ sym (misfit_stuck (symbol s) due ts ((is s (front ts)).0 ∙ misfits) ∙ ap (λ (e : SyntaxError). Some e) (is s (front ts)).1)
+          ap (seen rest due) (refuse_loop more step ends none takes test place more_is refuse_step refuse_end s ts misfits) ∙ sym (misfit_stuck (symbol s) due ts ((is s (front ts)).0 ∙ misfits) ∙ ap (λ (e : SyntaxError). Some e) (is s (front ts)).1)
       at due [] few true goes = absurd (true≢false (sym goes ∙ ap (fits (place s)) front_none ∙ no_end s))
       at due (t ∷ us) few true goes =
           let fit : fits (place s) t ≡ true = sym (ap (fits (place s)) (front_cons t us)) ∙ goes in

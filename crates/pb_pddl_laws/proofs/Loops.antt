@@ -53,6 +53,33 @@ module _ {S : Type 0} (more : List Token → Bool) (step : S → List Token → 
 abbrev pub loop : {S Y : Type 0} → (List Token → Bool) → (S → List Token → Read S) → (S → List Token → Read Y) → S → List Token → Read Y
 loop more step ends s ts = all_of more step s ts >>= λ all. ends all.0 all.1
 
+module _ {S Y : Type 0} (more : List Token → Bool) (step : S → List Token → Read S) (ends : S → List Token → Read Y) (none : more [] ≡ false) (takes : Takes more step) where
+  pub loop_more : (s : S) (ts : List Token) → more ts ≡ true → loop more step ends s ts ≡ (step s ts >>= λ next. loop more step ends next.0 next.1)
+  loop_more s ts goes =
+      ap (λ r. r >>= λ all. ends all.0 all.1) (all_more more step none takes s ts goes) ∙ bind_bind (step s ts) (λ next. all_of more step next.0 next.1) (λ all. ends all.0 all.1)
+
+  pub loop_stop : (s : S) (ts : List Token) → more ts ≡ false → loop more step ends s ts ≡ ends s ts
+  loop_stop s ts stops = ap (λ r. r >>= λ all. ends all.0 all.1) (all_stop more step none takes s ts stops)
+
+  module _ (test : Token → Bool) (place : S → Place) (more_is : (ts : List Token) → more ts ≡ test (front ts))
+      (refuse_step : (s : S) (t : Token) (us : List Token) → test t ≡ true → fits (place s) t ≡ false → step s (t ∷ us) ≡ Err (refused (place s) t))
+      (refuse_end : (s : S) (ts : List Token) → test (front ts) ≡ false → fits (place s) (front ts) ≡ false → ends s ts ≡ Err (refused (place s) (front ts))) where
+    refuse_more : (s : S) (ts : List Token) → more ts ≡ true → fits (place s) (front ts) ≡ false → loop more step ends s ts ≡ Err (refused (place s) (front ts))
+    unfolding front
+    refuse_more s [] goes misfit = absurd (true≢false (sym goes ∙ none))
+    refuse_more s (t ∷ us) goes misfit = loop_more s (t ∷ us) goes ∙ ap (λ r. r >>= λ next. loop more step ends next.0 next.1) (refuse_step s t us (sym (more_is (t ∷ us)) ∙ goes) misfit)
+
+    refuse_at : (s : S) (ts : List Token) (v : Bool) → more ts ≡ v → fits (place s) (front ts) ≡ false → loop more step ends s ts ≡ Err (refused (place s) (front ts))
+    refuse_at s ts true goes misfit = refuse_more s ts goes misfit
+    refuse_at s ts false stops misfit = loop_stop s ts stops ∙ refuse_end s ts (sym (more_is ts) ∙ stops) misfit
+
+    pub refuse_loop : (s : S) (ts : List Token) → fits (place s) (front ts) ≡ false → loop more step ends s ts ≡ Err (refused (place s) (front ts))
+    refuse_loop s ts misfit = refuse_at s ts (more ts) refl misfit
+
+    pub more_front : (t : Token) (us : List Token) (v : Bool) → test t ≡ v → more (t ∷ us) ≡ v
+    unfolding front
+    more_front t us v e = more_is (t ∷ us) ∙ e
+
 module _ {S Y : Type 0} (more : List Token → Bool) (step : S → List Token → Read S) (ends : S → List Token → Read Y) (test : Token → Bool) (place : S → Place)
     (more_is : (ts : List Token) → more ts ≡ test (front ts)) (none : more [] ≡ false) (takes : Takes more step)
     (no_end : (s : S) → fits (place s) no_token ≡ false)
@@ -61,41 +88,13 @@ module _ {S Y : Type 0} (more : List Token → Bool) (step : S → List Token �
     (can_step : (s : S) (t : Token) → test t ≡ true → fits (place s) t ≡ true → Can (λ us. step s (t ∷ us)))
     (can_end : (s : S) (t : Token) → test t ≡ false → fits (place s) t ≡ true → Can (λ us. ends s (t ∷ us)))
     (can_loop : (s : S) → Can (loop more step ends s)) where
-  front_is : (t : Token) (us : List Token) → test (front (t ∷ us)) ≡ test t
-  unfolding front
-  front_is t us = refl
-
-  loop_more : (s : S) (ts : List Token) → more ts ≡ true → loop more step ends s ts ≡ (step s ts >>= λ next. loop more step ends next.0 next.1)
-  loop_more s ts goes =
-      ap (λ r. r >>= λ all. ends all.0 all.1) (all_more more step none takes s ts goes) ∙ bind_bind (step s ts) (λ next. all_of more step next.0 next.1) (λ all. ends all.0 all.1)
-
-  loop_stop : (s : S) (ts : List Token) → more ts ≡ false → loop more step ends s ts ≡ ends s ts
-  loop_stop s ts stops = ap (λ r. r >>= λ all. ends all.0 all.1) (all_stop more step none takes s ts stops)
-
-  refuse_more : (s : S) (ts : List Token) → more ts ≡ true → fits (place s) (front ts) ≡ false → loop more step ends s ts ≡ Err (refused (place s) (front ts))
-  unfolding front
-  refuse_more s [] goes misfit = absurd (true≢false (sym goes ∙ none))
-  refuse_more s (t ∷ us) goes misfit = loop_more s (t ∷ us) goes ∙ ap (λ r. r >>= λ next. loop more step ends next.0 next.1) (refuse_step s t us (sym (more_is (t ∷ us)) ∙ goes) misfit)
-
-  refuse_loop : (s : S) (ts : List Token) → fits (place s) (front ts) ≡ false → loop more step ends s ts ≡ Err (refused (place s) (front ts))
-  refuse_loop s ts misfit =
-      let cases : (v : Bool) → more ts ≡ v → loop more step ends s ts ≡ Err (refused (place s) (front ts)) =
-      λ v. elim v as (λ v. more ts ≡ v → loop more step ends s ts ≡ Err (refused (place s) (front ts))) [
-        | true ↦ λ goes. refuse_more s ts goes misfit
-        | false ↦ λ stops. loop_stop s ts stops ∙ refuse_end s ts (sym (more_is ts) ∙ stops) misfit
-      ] in
-      cases (more ts) refl
-
-  more_front : (t : Token) (us : List Token) (v : Bool) → test t ≡ v → more (t ∷ us) ≡ v
-  more_front t us v e = more_is (t ∷ us) ∙ front_is t us ∙ e
-
   pub can_behind : (s : S) (t : Token) → fits (place s) t ≡ true → Can (λ us. loop more step ends s (t ∷ us))
   can_behind s t fit =
       let cases : (v : Bool) → test t ≡ v → Can (λ us. loop more step ends s (t ∷ us)) = λ v. elim v as (λ v. test t ≡ v → Can (λ us. loop more step ends s (t ∷ us))) [
         | true ↦ λ e.
-            can_same (λ us. loop more step ends s (t ∷ us)) (then_read (λ us. step s (t ∷ us)) (loop more step ends)) (λ us. loop_more s (t ∷ us) (more_front t us true e))
+            can_same (λ us. loop more step ends s (t ∷ us)) (then_read (λ us. step s (t ∷ us)) (loop more step ends)) (λ us. loop_more more step ends none takes s (t ∷ us) (more_front more step ends none takes test place more_is refuse_step refuse_end t us true e))
             (can_then (λ us. step s (t ∷ us)) (loop more step ends) (can_step s t e fit) can_loop)
-        | false ↦ λ e. can_same (λ us. loop more step ends s (t ∷ us)) (λ us. ends s (t ∷ us)) (λ us. loop_stop s (t ∷ us) (more_front t us false e)) (can_end s t e fit)
+        | false ↦ λ e. can_same (λ us. loop more step ends s (t ∷ us)) (λ us. ends s (t ∷ us)) (λ us. loop_stop more step ends none takes s (t ∷ us) (more_front more step ends none takes test place more_is refuse_step refuse_end t us false e)) (can_end s t e fit)
       ] in
       cases (test t) refl
 
@@ -104,15 +103,15 @@ module _ {S Y : Type 0} (more : List Token → Bool) (step : S → List Token �
   reads_behind m s t fit one last others =
       let cases : (v : Bool) → test t ≡ v → Reads Y m (λ us. loop more step ends s (t ∷ us)) = λ v. elim v as (λ v. test t ≡ v → Reads Y m (λ us. loop more step ends s (t ∷ us))) [
         | true ↦ λ e.
-            reads_same (λ us. loop more step ends s (t ∷ us)) (then_read (λ us. step s (t ∷ us)) (loop more step ends)) (λ us. loop_more s (t ∷ us) (more_front t us true e)) m
+            reads_same (λ us. loop more step ends s (t ∷ us)) (then_read (λ us. step s (t ∷ us)) (loop more step ends)) (λ us. loop_more more step ends none takes s (t ∷ us) (more_front more step ends none takes test place more_is refuse_step refuse_end t us true e)) m
             (reads_then (λ us. step s (t ∷ us)) (loop more step ends) m (one e) others can_loop)
-        | false ↦ λ e. reads_same (λ us. loop more step ends s (t ∷ us)) (λ us. ends s (t ∷ us)) (λ us. loop_stop s (t ∷ us) (more_front t us false e)) m (last e)
+        | false ↦ λ e. reads_same (λ us. loop more step ends s (t ∷ us)) (λ us. ends s (t ∷ us)) (λ us. loop_stop more step ends none takes s (t ∷ us) (more_front more step ends none takes test place more_is refuse_step refuse_end t us false e)) m (last e)
       ] in
       cases (test t) refl
 
   pub reads_loop : (k n : ℕ) → n ≤ k → ((m : ℕ) → m < n → (s : S) (t : Token) → test t ≡ true → fits (place s) t ≡ true → Reads S m (λ us. step s (t ∷ us)))
       → ((m : ℕ) → m < n → (s : S) (t : Token) → test t ≡ false → fits (place s) t ≡ true → Reads Y m (λ us. ends s (t ∷ us))) → (s : S) → Reads Y n (loop more step ends s)
-  reads_loop zero n le steps lasts s = reads_tokens (loop more step ends s) (place s) (no_end s) (refuse_loop s) (can_behind s) (can_loop s) n (λ m less t fit. absurd (omega arith))
+  reads_loop zero n le steps lasts s = reads_tokens (loop more step ends s) (place s) (no_end s) (refuse_loop more step ends none takes test place more_is refuse_step refuse_end s) (can_behind s) (can_loop s) n (λ m less t fit. absurd (omega arith))
   reads_loop (suc k) n le steps lasts s =
-      reads_tokens (loop more step ends s) (place s) (no_end s) (refuse_loop s) (can_behind s) (can_loop s) n
+      reads_tokens (loop more step ends s) (place s) (no_end s) (refuse_loop more step ends none takes test place more_is refuse_step refuse_end s) (can_behind s) (can_loop s) n
       (λ m less t fit. reads_behind m s t fit (λ e. steps m less s t e fit) (λ e. lasts m less s t e fit) (reads_loop k m (omega arith) (λ l below. steps l (omega arith)) (λ l below. lasts l (omega arith))))
