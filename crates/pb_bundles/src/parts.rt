@@ -56,7 +56,7 @@ impl BundleRoom {
     }
 
     // The same room, made larger if fewer bundles fit. An error is want of memory.
-    pub(crate) fn enlarged(self, bundles: usize) -> Result<BundleRoom, AllocError>
+    pub(crate) fn enlarge(self, bundles: usize) -> Result<BundleRoom, AllocError>
         ensures room { IfOk result (λ room. bundles ≤ room) }
         ensures fits { bundles ≤ self → IsOk result }
     {

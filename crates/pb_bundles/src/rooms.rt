@@ -40,7 +40,7 @@ impl KeptRooms {
         ensures last { (rest : List ℕ) (last : ℕ) → self.old.rooms ≡ rest ++ last ∷ [] → (self.new ≡ record self.old { rooms = rest }) × (bundles ≤ last → IsOk result) }
     {
         match self.rooms.pop() {
-            Some(room) => room.enlarged(bundles),
+            Some(room) => room.enlarge(bundles),
             None => BundleRoom::new(alloc, bundles),
         }
     }
