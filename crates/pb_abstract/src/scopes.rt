@@ -27,7 +27,7 @@ pub fn finest(alloc: Global, parts: &TaskParts, wish: u32) -> Result<Projection,
         }
         TaskParts::Tiles(tiles) => Ok(numbers::finest(tiles.rows * tiles.cols, wish)),
         TaskParts::Strips(strips) => {
-            let atoms = tracking::tracked(alloc, strips, wish)?;
+            let atoms = tracking::choose_atoms(alloc, strips, wish)?;
             Ok(Projection::Atoms(atoms))
         }
     }

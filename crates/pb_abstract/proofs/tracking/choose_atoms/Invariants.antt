@@ -1,6 +1,6 @@
 use Rattle.std.proofs.Common.{◌≡◌, ◌≤◌, ◌-◌, ◌^◌, length}
 use Rattle.pb_abstract.specs.Ranking.{AreFirst}
-use Rattle.pb_abstract.proofs.tracking.tracked.Given as goal
+use Rattle.pb_abstract.proofs.tracking.choose_atoms.Given as goal
 
 abbrev pub invariant-loop-blocks : goal.invariant-loop-blocks
 invariant-loop-blocks l = record {

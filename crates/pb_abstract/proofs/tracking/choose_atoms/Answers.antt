@@ -3,7 +3,7 @@ use Rattle.std.proofs.Math.Nat.{pow-suc}
 use Rattle.std.proofs.lemmas.List.{length_push}
 use Rattle.pb_abstract.specs.Ranking.{AreFirst, IsNext, IsNone}
 use Rattle.pb_abstract.proofs.Ranking.{tracked_is, all_tracked, first_more, few_tracked}
-use Rattle.pb_abstract.proofs.tracking.tracked.Goals as goal
+use Rattle.pb_abstract.proofs.tracking.choose_atoms.Goals as goal
 
 pub returns-in_default : goal.returns-in_default
 returns-in_default c =
