@@ -13,3 +13,4 @@ pub mod Wording
 pub mod Passing
 pub mod Closing
 pub mod Told
+mod Worked

@@ -11,6 +11,7 @@ use Rattle.pb_machine.specs.History.{is_event_of, events_of, is_off, end_in}
 use Rattle.pb_machine.proofs.EndsTold.{ends_are_told}
 use Rattle.pb_lease.specs.declared.answer.LeaseReply.{LeaseReply}
 use Rattle.pb_lease.specs.declared.answer.LeaseReply.TheVariants.{Leased, NotYet, Over, Memory}
+use Rattle.pb_lease.specs.declared.answer.Renewed.TheVariants.{Given}
 use Rattle.pb_lease.specs.Tables.{blocks}
 use Rattle.pb_lease.specs.Events.{counts_along, ending}
 use Rattle.pb_lease.specs.LeaseValue.{LeaseValue}
@@ -18,9 +19,9 @@ use Rattle.pb_lease.specs.GraphValue.{GraphValue, counts_in}
 use Rattle.pb_lease.specs.Choices.{IsOver}
 use Rattle.pb_lease.specs.Steps.{IsEnded, end_events}
 use Rattle.pb_yard.specs.declared.view.View.{View}
-use Rattle.pb_yard.specs.Replies.{lease_events, lent_by, told_by}
+use Rattle.pb_yard.specs.Replies.{lease_events, lent_by, told_by, renewal_events}
 use Rattle.pb_yard.specs.Returning.{IsBrought}
-use Rattle.pb_yard.specs.Calls.{Holds, Leases, Releases, SignsOff, HasRead, IsActive, IsReady, KeepsWorkers}
+use Rattle.pb_yard.specs.Calls.{Holds, Leases, Releases, SignsOff, GivesAndLeases, HasRead, IsActive, IsReady, KeepsWorkers}
 use Rattle.pb_yard.specs.Laws.{LentLeasesMayComeBack, EndsAreSeen, ActiveStay, SigningOffIsSeen}
 use Rattle.pb_yard.proofs.Meaning.{history}
 
@@ -187,3 +188,12 @@ released_keeps lease trouble old new h = keeps_on old h.0 new (read_keeps old h.
 
 pub signed_keeps : (worker : ℕ) (trouble : Bool) (old new : View) → SignsOff worker trouble old new → KeepsWorkers old new
 signed_keeps worker trouble old new h = keeps_workers _ _ old new _ _ h
+
+-- after its lease came back, and it asked for another at once
+module _ (worker : ℕ) (old new : View) (lease : LeaseValue) (reply : LeaseReply) (h : GivesAndLeases lease worker old reply new) where
+  pub gave_active : IsActive old → IsActive new
+  gave_active active = leased_active worker h.0 new reply h.2
+      (active_stay h.1.2.found.table.journal (renewal_events lease Given) None None h.1.0 h.0 h.1.2.view refl (read_active old h.1.0 h.1.1 active))
+
+  pub gave_keeps : KeepsWorkers old new
+  gave_keeps = keeps_on old h.0 new (keeps_on old h.1.0 h.0 (read_keeps old h.1.0 h.1.1) (keeps_workers _ _ h.1.0 h.0 _ _ h.1.2)) (leased_keeps worker h.0 new reply h.2)

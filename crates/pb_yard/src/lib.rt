@@ -34,3 +34,6 @@ pub use rule::YardRule;
 pub use switch::Switch;
 pub use view::{JournalView, View};
 pub use yard::Yard;
+
+#[cfg(test)]
+mod tests;

@@ -1,0 +1,429 @@
+//! A worked row: a worker goes on to another block in one call, which never waits. While another pass
+//! holds the turn nothing is done, and the lease is as it was.
+ghost use Rattle.std.specs.Prelude.{◌≡◌, ◌+◌, ◌-◌, false, [], None};
+ghost use Rattle.std.specs.Arc.{arc_value};
+ghost use Rattle.pb_model.specs.Store.{HasOpened};
+ghost use Rattle.pb_task.specs.Parts.{space_of};
+ghost use Rattle.pb_abstract.specs.Graph.{IsGraphOf};
+ghost use Rattle.pb_lease.specs.declared.answer.LeaseReply.TheVariants.{Leased};
+ghost use Rattle.pb_lease.specs.LeaseValue.{leased_store, IsSameLease};
+ghost use Rattle.pb_lease.specs.Leased.{guide_of, HasScope};
+ghost use Rattle.pb_expand.specs.Turned.{own_rows, reads_none, IsAtWork, HasTurned};
+ghost use Rattle.pb_yard.specs.declared.switch.Switch.TheVariants.{Gave, Busy};
+ghost use Rattle.pb_yard.specs.Passes.{view_of, worker_of, parts_of, misses_of, all_parts, IsOf, IsFirstPass, KeepsPass};
+ghost use Rattle.pb_yard.specs.Order.{HasCause};
+ghost use Rattle.pb_yard.specs.Returning.{IsBrought};
+ghost use Rattle.pb_yard.specs.Calls.{IsReady, IsActive, IsAlone, HasSignedOff, KeepsWorkers, GivesAndLeases};
+
+use crate::{Pass, Switch, Yard, YardRule};
+use pb_abstract::AbsGraph;
+use pb_estimate::Estimator;
+use pb_expand::{Worked, work};
+use pb_lease::{Lease, LeaseGraph, LeaseReply};
+use pb_machine::{End, Event, Settings};
+use pb_task::{Cells, Class, GridParts, Swamp, Task};
+use pb_turn::Leaving;
+use std::alloc::{AllocError, Global};
+use std::process::Abort;
+use std::sync::atomic::{AtomicU64, Ordering};
+use std::sync::{Arc, Wait};
+use std::test::Fail;
+use std::thread::{Threads, join, yield_now};
+
+// How often a thread looks at most how far the other one came.
+const TURNS: u32 = 10_000_000;
+
+// How far both came: the worker has worked on its lease; the other pass holds the turn; the worker
+// was answered; the other pass left.
+const WORKED: u64 = 1;
+
+const HELD: u64 = 2;
+
+const ANSWERED: u64 = 3;
+
+const LEFT: u64 = 4;
+
+// Looks until both came this far, but not for ever.
+fn look_for(stage: &AtomicU64, wanted: u64) {
+    for _ in 0..TURNS {
+        if stage.load(Ordering::SeqCst) >= wanted {
+            return;
+        }
+        yield_now();
+    }
+}
+
+/// Leaving with the view as it was.
+struct AsBefore;
+
+impl Leaving<YardRule> for AsBefore {
+    type Said = ();
+
+    ghost after = { λ _ _ _ v. v };
+}
+
+// Holds the turn, by the lock's own calls, until the worker was answered.
+fn hold<W: Wait>(rt: &W, yard: &Yard, mut pass: Pass, stage: &AtomicU64) -> Pass
+    requires own { IsOf yard.now pass }
+    ensures same { KeepsPass pass result }
+    ensures view { view_of result ≡ view_of pass }
+{
+    look_for(stage, WORKED);
+    let held = yard.lock.enter(rt, &mut pass.turn);
+    stage.store(HELD, Ordering::SeqCst);
+    look_for(stage, ANSWERED);
+    yard.lock.leave::<AsBefore>(&mut pass.turn, held, &());
+    stage.store(LEFT, Ordering::SeqCst);
+    pass
+}
+
+// The lease of an answer.
+fn leased<R: Abort>(rt: &R, reply: LeaseReply) -> Lease
+    ensures { reply ≡ Leased result }
+{
+    match reply {
+        LeaseReply::Leased(lease) => lease,
+        LeaseReply::NotYet | LeaseReply::Over(_) | LeaseReply::Memory => { panic!(rt; "no lease") }
+    }
+}
+
+// The lease that a pass still has, as it was told that another one holds the turn.
+fn busy<R: Abort>(rt: &R, answer: Switch) -> Lease
+    ensures { answer ≡ Busy result }
+{
+    match answer {
+        Switch::Busy(lease) => lease,
+        Switch::Kept(_lease) => panic!(rt; "the turn was held"),
+        Switch::Gave(_reply) => panic!(rt; "the turn was held"),
+    }
+}
+
+// What a pass was answered whose lease came back.
+fn gave<R: Abort>(rt: &R, answer: Switch) -> LeaseReply
+    ensures { answer ≡ Gave result }
+{
+    match answer {
+        Switch::Gave(reply) => reply,
+        Switch::Kept(_lease) => panic!(rt; "the lease went on"),
+        Switch::Busy(_lease) => panic!(rt; "nobody held the turn"),
+    }
+}
+
+// Expands the rows of the lease's block until none is Opened. No goal is among them.
+fn expand_all<R: Abort>(
+    rt: &R,
+    alloc: Global,
+    task: &Task,
+    abstraction: &AbsGraph,
+    lease: &mut Lease,
+)
+    requires graph { IsGraphOf task.now abstraction.now }
+    requires at_work { IsAtWork task.now abstraction.now lease.old }
+    ensures turned { HasTurned (space_of task.now) (guide_of task.now abstraction.now) reads_none
+        lease.old.block (lease.new.used - lease.old.used) 0
+        (leased_store lease.old) (leased_store lease.new) }
+    ensures same { IsSameLease lease.old lease.new }
+    ensures scope { HasScope abstraction.now lease.new }
+    ensures empty { HasOpened (own_rows lease.new) → ⊥ }
+    ensures none { lease.new.incumbent ≡ None }
+{
+    let mut estimator = Estimator::of(alloc, task).expect(rt, "memory");
+    let mut succs = Vec::with_capacity(alloc, task.max_degree() as usize).expect(rt, "memory");
+    match work(task, &mut estimator, abstraction, lease, &mut succs) {
+        Worked::Empty => {}
+        Worked::Spent | Worked::Memory => panic!(rt; "rows are left"),
+    }
+    match lease.incumbent() {
+        None => {}
+        Some(_) => panic!(rt; "a goal"),
+    }
+}
+
+// The worker leases a block and works on it, until no row of it is Opened.
+fn lease_and_work<R: Wait + Abort>(
+    rt: &R,
+    alloc: Global,
+    yard: &Yard,
+    pass: &mut Pass,
+    task: &Task,
+    abstraction: &AbsGraph,
+) -> Lease
+    requires own { IsOf yard.now pass.old }
+    requires ready { IsReady (view_of pass.old) }
+    requires task { (view_of pass.old).task ≡ task.now }
+    requires abstraction { (view_of pass.old).graph ≡ abstraction.now }
+    requires graph { IsGraphOf task.now abstraction.now }
+    ensures same { KeepsPass pass.old pass.new }
+    ensures workers { KeepsWorkers (view_of pass.old) (view_of pass.new) }
+    ensures active { IsActive (view_of pass.new) }
+    ensures brought { IsBrought (view_of pass.new) 0 result }
+    ensures cause { HasCause result false }
+{
+    let reply = yard.lease(rt, pass);
+    let mut lease = leased(rt, reply);
+    expand_all(rt, alloc, task, abstraction, &mut lease);
+    lease
+}
+
+// Tries to go on while another pass holds the turn: the lease and what the pass knows are as they
+// were, and the pass counts the step.
+fn try_beside<R: Abort>(rt: &R, yard: &Yard, pass: &mut Pass, lease: Lease) -> Lease
+    requires own { IsOf yard.now pass.old }
+    requires brought { IsBrought (view_of pass.old) 0 lease }
+    requires cause { HasCause lease false }
+    ensures same { KeepsPass pass.old pass.new }
+    ensures lease { result ≡ lease }
+    ensures view { view_of pass.new ≡ view_of pass.old }
+    ensures held { misses_of pass.new ≡ misses_of pass.old + 1 }
+{
+    let answer = yard.try_switch(pass, lease);
+    busy(rt, answer)
+}
+
+// Tries to go on while nobody holds the turn: the lease comes back, and there is another one.
+fn go_over<R: Abort>(rt: &R, yard: &Yard, pass: &mut Pass, lease: Lease) -> Lease
+    requires own { IsOf yard.now pass.old }
+    requires brought { IsBrought (view_of pass.old) 0 lease }
+    requires cause { HasCause lease false }
+    ensures same { KeepsPass pass.old pass.new }
+    ensures gave { GivesAndLeases lease (worker_of pass.old)
+        (view_of pass.old) (Leased result) (view_of pass.new) }
+{
+    let answer = yard.try_switch(pass, lease);
+    let reply = gave(rt, answer);
+    leased(rt, reply)
+}
+
+// The block of a lease, its quota, and how much of that is used.
+fn numbers(lease: &Lease) -> (u32, u64, u64) {
+    (lease.block(), lease.quota(), lease.used())
+}
+
+// The pass's worker signs off.
+fn sign_off<W: Wait>(rt: &W, yard: &Yard, mut pass: Pass) -> Pass
+    requires own { IsOf yard.now pass }
+    requires ready { IsReady (view_of pass) }
+    ensures own { IsOf yard.now result }
+    ensures parts { parts_of result ≡ parts_of pass }
+    ensures workers { KeepsWorkers (view_of pass) (view_of result) }
+    ensures free { (view_of result).lent ≡ None }
+    ensures off { HasSignedOff (view_of result) }
+{
+    yard.sign_off(rt, &mut pass, true);
+    pass
+}
+
+// The worker: its first lease after the work and after the try beside the other pass, and its next
+// one. That comes back with a report of want of memory, and the worker signs off.
+fn switch_twice<R: Wait + Abort>(
+    rt: &R,
+    alloc: Global,
+    yard: &Yard,
+    mut pass: Pass,
+    task: &Task,
+    abstraction: &AbsGraph,
+    stage: &AtomicU64,
+) -> (Pass, [(u32, u64, u64); 3])
+    requires own { IsOf yard.now pass }
+    requires ready { IsReady (view_of pass) }
+    requires task { (view_of pass).task ≡ task.now }
+    requires abstraction { (view_of pass).graph ≡ abstraction.now }
+    requires graph { IsGraphOf task.now abstraction.now }
+    ensures own { IsOf yard.now result.0 }
+    ensures parts { parts_of result.0 ≡ parts_of pass }
+    ensures workers { KeepsWorkers (view_of pass) (view_of result.0) }
+    ensures off { HasSignedOff (view_of result.0) }
+{
+    let lease = lease_and_work(rt, alloc, yard, &mut pass, task, abstraction);
+    let worked = numbers(&lease);
+    stage.store(WORKED, Ordering::SeqCst);
+    look_for(stage, HELD);
+    let lease = try_beside(rt, yard, &mut pass, lease);
+    stage.store(ANSWERED, Ordering::SeqCst);
+    let kept = numbers(&lease);
+    look_for(stage, LEFT);
+    let next = go_over(rt, yard, &mut pass, lease);
+    let other = numbers(&next);
+    yard.release(rt, &mut pass, next, true);
+    (sign_off(rt, yard, pass), [worked, kept, other])
+}
+
+// The worker in one thread, and the pass that holds the turn in another one.
+fn in_two_threads<R: Threads + Wait + Abort + Sync>(
+    rt: &R,
+    alloc: Global,
+    yard: &Yard,
+    first: Pass,
+    second: Pass,
+    task: &Task,
+    abstraction: &AbsGraph,
+    stage: &AtomicU64,
+) -> (Pass, [(u32, u64, u64); 3], Pass)
+    requires own { IsOf yard.now first × IsOf yard.now second }
+    requires ready { IsReady (view_of first) }
+    requires task { (view_of first).task ≡ task.now }
+    requires abstraction { (view_of first).graph ≡ abstraction.now }
+    requires graph { IsGraphOf task.now abstraction.now }
+    ensures own { IsOf yard.now result.0 }
+    ensures parts { parts_of result.0 ≡ parts_of first }
+    ensures workers { KeepsWorkers (view_of first) (view_of result.0) }
+    ensures off { HasSignedOff (view_of result.0) }
+    ensures same { KeepsPass second result.2 }
+    ensures view { view_of result.2 ≡ view_of second }
+{
+    let (worked, second) = join(
+        rt,
+        || -> (Pass, [(u32, u64, u64); 3])
+            requires { IsOf yard.now first × IsReady (view_of first)
+                × ((view_of first).task ≡ task.now) × ((view_of first).graph ≡ abstraction.now)
+                × IsGraphOf task.now abstraction.now }
+            ensures own { IsOf yard.entry.now result.0 }
+            ensures parts { parts_of result.0 ≡ parts_of first }
+            ensures workers { KeepsWorkers (view_of first) (view_of result.0) }
+            ensures off { HasSignedOff (view_of result.0) }
+        { switch_twice(rt, alloc, yard, first, task, abstraction, stage) },
+        || -> Pass
+            requires { IsOf yard.now second }
+            ensures same { KeepsPass second result }
+            ensures view { view_of result ≡ view_of second }
+        { hold(rt, yard, second, stage) },
+    );
+    let (first, seen) = worked;
+    (first, seen, second)
+}
+
+// The second pass is taken in, and the yard closed.
+fn finish(yard: Yard, mut first: Pass, second: Pass) -> LeaseGraph
+    requires own { IsOf yard first × IsOf yard second }
+    requires free { (view_of second).lent ≡ None }
+    requires parts { parts_of first + parts_of second ≡ all_parts }
+    requires second { (view_of second).journal.made ≡ 0 }
+    requires all { ((view_of first).journal.made ≡ 2) × ((view_of first).settings.workers ≡ 2) }
+    requires alone { ((view_of first).journal.taken_in ≡ []) × ((view_of second).journal.taken_in ≡ []) }
+    requires off { HasSignedOff (view_of first) × HasSignedOff (view_of second) }
+{
+    yard.meet(&mut first, second);
+    yard.close(first)
+}
+
+// The same by the two passes of a new yard, which is closed then.
+fn search_by_two<R: Threads + Wait + Abort + Sync>(
+    rt: &R,
+    alloc: Global,
+    yard: Yard,
+    mut first: Pass,
+    task: &Task,
+    abstraction: &AbsGraph,
+) -> ([(u32, u64, u64); 3], LeaseGraph)
+    requires own { IsFirstPass yard first }
+    requires ready { IsReady (view_of first) }
+    requires view { IsAlone (view_of first) 2 }
+    requires task { (view_of first).task ≡ task.now }
+    requires abstraction { (view_of first).graph ≡ abstraction.now }
+    requires graph { IsGraphOf task.now abstraction.now }
+{
+    let second = yard.split(&mut first);
+    let stage = AtomicU64::new(0);
+    let (first, seen, second) = in_two_threads(
+        rt,
+        alloc,
+        &yard,
+        first,
+        second,
+        task,
+        abstraction,
+        &stage,
+    );
+    let second = sign_off(rt, &yard, second);
+    (seen, finish(yard, first, second))
+}
+
+// A map of 3 by 3 cells of land, from its upper left to its lower right cell.
+fn open_square(alloc: Global) -> Result<Task, AllocError> {
+    let land = Class::Land;
+    let task = Task::of_grid(GridParts {
+        width: 3,
+        height: 3,
+        cells: Cells::of(vec![in alloc; land, land, land, land, land, land, land, land, land]?),
+        swamp: Swamp::of(vec![in alloc; false; 9]?),
+        start: (0, 0),
+        goal: (2, 2),
+    });
+    Ok(task)
+}
+
+// A yard over a new graph for two workers, and its first pass.
+fn open<R: Abort>(
+    rt: &R,
+    alloc: Global,
+    task: &Arc<Task>,
+    abstraction: &Arc<AbsGraph>,
+) -> (Yard, Pass)
+    requires { IsGraphOf (arc_value task.now) (arc_value abstraction.now) }
+    ensures pass { IsFirstPass result.0 result.1 }
+    ensures ready { IsReady (view_of result.1) }
+    ensures view { IsAlone (view_of result.1) 2 }
+    ensures task { (view_of result.1).task ≡ arc_value task.now }
+    ensures abstraction { (view_of result.1).graph ≡ arc_value abstraction.now }
+{
+    let start = task.initial();
+    if !task.is_state(&start) {
+        panic!(rt; "no state");
+    }
+    let mut estimator = Estimator::of(alloc, task).expect(rt, "memory");
+    let estimate = estimator.estimate(task, &start);
+    let settings = Settings {
+        workers: 2,
+        num: 1,
+        den: 1,
+        budget: 1000,
+        lot: 256,
+        wish: 256,
+        plain: false,
+    };
+    let task = Arc::clone(task).expect(rt, "memory");
+    let abstraction = Arc::clone(abstraction).expect(rt, "memory");
+    let graph = LeaseGraph::new(alloc, task, abstraction, estimate, settings).expect(rt, "memory");
+    match Yard::new(alloc, graph) {
+        Ok(made) => made,
+        Err((_, graph)) => {
+            drop(graph);
+            panic!(rt; "no memory")
+        }
+    }
+}
+
+// Worker 0's events.
+fn lease(block: u32) -> Event {
+    Event::Lease {
+        worker: 0,
+        block,
+        quota: 256,
+    }
+}
+
+fn release(used: u64, memory: bool) -> Event {
+    Event::Release {
+        worker: 0,
+        used,
+        memory,
+    }
+}
+
+#[test]
+fn a_worker_goes_on_without_waiting(rt: HostRuntime) -> Result<(), Fail> {
+    let alloc = rt.alloc();
+    let task = Arc::new(alloc, open_square(alloc)?)?;
+    let abstraction = Arc::new(alloc, AbsGraph::of(alloc, &task, 256)?)?;
+    let (yard, first) = open(&rt, alloc, &task, &abstraction);
+    let (seen, graph) = search_by_two(&rt, alloc, yard, first, &task, &abstraction);
+    assert_eq!(rt; seen, [(0, 256, 1), (0, 256, 1), (1, 256, 0)]);
+    let journal = graph.journal();
+    assert_eq!(rt; journal.len(), 7);
+    assert_eq!(rt; journal[0], lease(0));
+    assert_eq!(rt; journal[1], release(1, false));
+    assert_eq!(rt; journal[2], lease(1));
+    assert_eq!(rt; journal[3], release(0, true));
+    assert_eq!(rt; journal[4], Event::Ended(End::Memory));
+    Ok(())
+}
