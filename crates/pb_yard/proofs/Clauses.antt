@@ -27,7 +27,7 @@ use Rattle.pb_yard.specs.Order.{HasCause}
 use Rattle.pb_yard.specs.Rule.{rows_of, YardFact, IsYard}
 use Rattle.pb_yard.specs.Replies.{NoneMayBeLeased, LeasesAs, lease_events, lent_by, told_by, RenewsAs, renewal_events, kept_by, ReleasesAs, release_events, ChangesMarkAs, mark_events, SignsOffAs, off_events}
 use Rattle.pb_yard.specs.Returning.{IsBrought}
-use Rattle.pb_yard.specs.Calls.{Holds}
+use Rattle.pb_yard.specs.Calls.{Holds, Looks}
 use Rattle.pb_yard.proofs.InTime.{GrantsNone, ending_grants_none, end_grants_none}
 use Rattle.pb_yard.proofs.Holding.{holding_keeps}
 use Rattle.pb_yard.proofs.Steps.{Steps, keeps_step, lease_step, release_step, renew_step, brought_of_graph, same_rest, first_by, end_by, ending_by}
@@ -82,6 +82,24 @@ module _ (f x y : GraphValue) (v : View) (live : v.journal.is_live ≡ true) (ta
   -- the pass has seen the whole journal then
   pub seen_is : (seat : ℕ) → Stands Fact seat v f → (view_left f y lent told v).journal.seen ≡ y.table.journal
   seen_is seat (number, (views, found, at)) = let t = may number views seat (take.1 number views seat found at) at in ap (λ (u : View). u.journal.seen) (left_is t.1.added) ∙ sym t.1.added
+
+-- The same for a call that takes no reading and leaves the pass its lease: the pass entered with its view as it was.
+module _ (x y : GraphValue) (v : View) (live : v.journal.is_live ≡ true) (list : GraphValue → List Event) (may : MayGo x y v live (list x) v.lent v.told) (entered : View) (same : entered ≡ v) where
+  abbrev AsLeft : View → View
+  AsLeft u = view_left x y u.lent u.told u
+
+  pub look_keeps : (seat : ℕ) → LeaveKeeps Fact seat entered x y (AsLeft entered)
+  look_keeps seat = subst (λ (u : View). LeaveKeeps Fact seat u x y (AsLeft u)) (sym same) (leave_keeps x x y v live (takes_none x v) list v.lent v.told may seat)
+
+  module _ (new : View) (left : new ≡ AsLeft entered) (seat : ℕ) (stands : Stands Fact seat v x) where
+    left_as : new ≡ AsLeft v
+    left_as = left ∙ ap AsLeft same
+
+    pub look_holds : (step : GraphValue → GraphValue → Type 0) → step x y → Looks step list v new
+    look_holds step is = subst (λ (u : View). Looks step list v u) (sym left_as) (holds x x y v live (takes_none x v) list v.lent v.told may seat stands step is)
+
+    pub look_seen : length new.journal.seen ≡ length y.table.journal
+    look_seen = ap (λ (u : View). length u.journal.seen) left_as ∙ ap length (seen_is x x y v live (takes_none x v) list v.lent v.told may seat stands)
 
 -- ---- the calls, by what the graph does
 

@@ -1,17 +1,15 @@
 use Rattle.std.proofs.Common.{◌≡◌, ◌<◌, IsSome, [], length, refl, sym, ap, ◌∙◌, subst}
-use Rattle.pb_turn.specs.Obligations.{LeaveKeeps}
 use Rattle.pb_turn.specs.Passes.{view, number, found}
 use Rattle.pb_machine.specs.declared.event.Event.TheVariants.{Cold}
 use Rattle.pb_lease.specs.Tables.{blocks}
 use Rattle.pb_lease.specs.Choices.{MayCool}
 use Rattle.pb_lease.specs.GraphValue.{GraphValue, counts_in}
-use Rattle.pb_yard.specs.declared.view.View.{View}
-use Rattle.pb_yard.specs.Views.{cost_of, view_left}
+use Rattle.pb_yard.specs.Views.{cost_of}
 use Rattle.pb_yard.specs.Replies.{CoolsAs, mark_events}
 use Rattle.pb_yard.specs.Calls.{Cools}
 use Rattle.pb_yard.proofs.Asks.{has_lease, block_known}
 use Rattle.pb_yard.proofs.Steps.{first_by}
-use Rattle.pb_yard.proofs.Clauses.{Fact, takes_none, leave_keeps, holds, seen_is, may_mark, marks_as}
+use Rattle.pb_yard.proofs.Clauses.{look_keeps, look_holds, look_seen, may_mark, marks_as}
 use Rattle.pb_yard.proofs.yard.Yard.cool.Goals as goal
 
 pub cool-done-requires-clause-leased : goal.cool-done-requires-clause-leased
@@ -42,8 +40,7 @@ leave-requires-clause-rule g c =
     let found_is : c.state_mut.result.now ≡ x = c.state_mut.ensures.value ∙ e.won.1 in
     let r : CoolsAs v.journal.own.worker b q x y = subst (λ w. CoolsAs w b q x y) (sym p.worker_is) (subst (λ (z : GraphValue). CoolsAs p.worker b q z y) found_is
     (marks_as c.state_mut.result.now y (MayCool c.state_mut.result.now p.worker b) p.worker (Cold p.worker b) q f.answer f.cooled f.refused f.moment)) in
-    subst (λ (u : View). LeaveKeeps Fact (number c.enter-held.new.pass) u x y (view_left x y (u.lent) (u.told) u)) (sym e.same.1)
-    (leave_keeps x x y v p.is_live (takes_none x v) (λ _. mark_events (Cold v.journal.own.worker b) q) (v.lent) (v.told) (may_mark x y v p.is_live (MayCool x v.journal.own.worker b) (Cold v.journal.own.worker b) q tt (first_by v.journal.own.worker (Cold v.journal.own.worker b) [] (λ _. refl) (λ _ _. refl)) r) (number c.enter-held.new.pass))
+    look_keeps x y v p.is_live (λ _. mark_events (Cold v.journal.own.worker b) q) (may_mark x y v p.is_live (MayCool x v.journal.own.worker b) (Cold v.journal.own.worker b) q tt (first_by v.journal.own.worker (Cold v.journal.own.worker b) [] (λ _. refl) (λ _ _. refl)) r) _ e.same.1 (number c.enter-held.new.pass)
 
 pub returns-clause-cooled : goal.returns-clause-cooled
 returns-clause-cooled g c =
@@ -58,11 +55,8 @@ returns-clause-cooled g c =
     let found_is : c.state_mut.result.now ≡ x = c.state_mut.ensures.value ∙ e.won.1 in
     let r : CoolsAs v.journal.own.worker b q x y = subst (λ w. CoolsAs w b q x y) (sym p.worker_is) (subst (λ (z : GraphValue). CoolsAs p.worker b q z y) found_is
     (marks_as c.state_mut.result.now y (MayCool c.state_mut.result.now p.worker b) p.worker (Cold p.worker b) q f.answer f.cooled f.refused f.moment)) in
-    let is : view c.leave.new.pass ≡ view_left x y (v.lent) (v.told) v =
-    c.leave.ensures.view ∙ ap (λ (u : View). view_left x y (u.lent) (u.told) u) e.same.1 in
     subst (λ w. Cools w b v q (view c.leave.new.pass)) p.worker_is
-    (subst (λ (u : View). Cools v.journal.own.worker b v q u) (sym is)
-    (holds x x y v p.is_live (takes_none x v) (λ _. mark_events (Cold v.journal.own.worker b) q) (v.lent) (v.told) (may_mark x y v p.is_live (MayCool x v.journal.own.worker b) (Cold v.journal.own.worker b) q tt (first_by v.journal.own.worker (Cold v.journal.own.worker b) [] (λ _. refl) (λ _ _. refl)) r) (number p.turn) e.rule (CoolsAs v.journal.own.worker b q) r))
+    (look_holds x y v p.is_live (λ _. mark_events (Cold v.journal.own.worker b) q) (may_mark x y v p.is_live (MayCool x v.journal.own.worker b) (Cold v.journal.own.worker b) q tt (first_by v.journal.own.worker (Cold v.journal.own.worker b) [] (λ _. refl) (λ _ _. refl)) r) _ e.same.1 (view c.leave.new.pass) c.leave.ensures.view (number p.turn) e.rule (CoolsAs v.journal.own.worker b q) r)
 
 pub invariant_of-pass-clause-seen_is : goal.invariant_of-pass-clause-seen_is
 invariant_of-pass-clause-seen_is g c =
@@ -77,8 +71,5 @@ invariant_of-pass-clause-seen_is g c =
     let found_is : c.state_mut.result.now ≡ x = c.state_mut.ensures.value ∙ e.won.1 in
     let r : CoolsAs v.journal.own.worker b q x y = subst (λ w. CoolsAs w b q x y) (sym p.worker_is) (subst (λ (z : GraphValue). CoolsAs p.worker b q z y) found_is
     (marks_as c.state_mut.result.now y (MayCool c.state_mut.result.now p.worker b) p.worker (Cold p.worker b) q f.answer f.cooled f.refused f.moment)) in
-    let is : view c.leave.new.pass ≡ view_left x y (v.lent) (v.told) v =
-    c.leave.ensures.view ∙ ap (λ (u : View). view_left x y (u.lent) (u.told) u) e.same.1 in
-    ap (λ (u : View). length u.journal.seen) is
-    ∙ ap length (seen_is x x y v p.is_live (takes_none x v) (λ _. mark_events (Cold v.journal.own.worker b) q) (v.lent) (v.told) (may_mark x y v p.is_live (MayCool x v.journal.own.worker b) (Cold v.journal.own.worker b) q tt (first_by v.journal.own.worker (Cold v.journal.own.worker b) [] (λ _. refl) (λ _ _. refl)) r) (number p.turn) e.rule)
+    look_seen x y v p.is_live (λ _. mark_events (Cold v.journal.own.worker b) q) (may_mark x y v p.is_live (MayCool x v.journal.own.worker b) (Cold v.journal.own.worker b) q tt (first_by v.journal.own.worker (Cold v.journal.own.worker b) [] (λ _. refl) (λ _ _. refl)) r) _ e.same.1 (view c.leave.new.pass) c.leave.ensures.view (number p.turn) e.rule
     ∙ ap length (ap (λ (z : GraphValue). z.table.journal) (sym c.state.ensures) ∙ sym c.journal.ensures.events)

@@ -1,14 +1,11 @@
 use Rattle.std.proofs.Common.{◌≡◌, Some, [], length, sym, ap, ◌∙◌, subst}
-use Rattle.pb_turn.specs.Obligations.{LeaveKeeps}
 use Rattle.pb_turn.specs.Passes.{view, number, found, state}
 use Rattle.pb_lease.specs.Leased.{grant_of}
 use Rattle.pb_lease.specs.GraphValue.{GraphValue, counts_in}
-use Rattle.pb_yard.specs.declared.view.View.{View}
-use Rattle.pb_yard.specs.Views.{cost_of, view_left}
+use Rattle.pb_yard.specs.Views.{cost_of}
 use Rattle.pb_yard.specs.Replies.{RivalsAs}
-use Rattle.pb_yard.specs.Calls.{AsksRival}
 use Rattle.pb_yard.proofs.Asks.{leased_as}
-use Rattle.pb_yard.proofs.Clauses.{Fact, takes_none, leave_keeps, holds, seen_is, stays}
+use Rattle.pb_yard.proofs.Clauses.{look_keeps, look_holds, look_seen, stays}
 use Rattle.pb_yard.proofs.yard.Yard.rival.Goals as goal
 
 pub rival-rival-requires : goal.rival-rival-requires
@@ -24,14 +21,8 @@ leave-requires-clause-rule g c =
     let e = c.enter-held.ensures in
     let x = found c.enter-held.result in
     let y = state c.enter-held.result in
-    let q = c.rival-rival.result in
-    let l = c.args.lease.now in
-    let f = c.rival-rival.ensures in
     let v = view p.turn in
-    let found_is : c.state.result.now ≡ x = c.state.ensures ∙ e.won.1 in
-    let r : RivalsAs l q x y = subst (λ (z : GraphValue). RivalsAs l q z y) found_is (f.rival, f.moment, sym c.state.ensures) in
-    subst (λ (u : View). LeaveKeeps Fact (number c.enter-held.new.pass) u x y (view_left x y (u.lent) (u.told) u)) (sym e.same.1)
-    (leave_keeps x x y v p.is_live (takes_none x v) (λ _. []) (v.lent) (v.told) (stays x y v p.is_live e.won.1) (number c.enter-held.new.pass))
+    look_keeps x y v p.is_live (λ _. []) (stays x y v p.is_live e.won.1) _ e.same.1 (number c.enter-held.new.pass)
 
 pub returns-clause-rival : goal.returns-clause-rival
 returns-clause-rival g c =
@@ -45,10 +36,7 @@ returns-clause-rival g c =
     let v = view p.turn in
     let found_is : c.state.result.now ≡ x = c.state.ensures ∙ e.won.1 in
     let r : RivalsAs l q x y = subst (λ (z : GraphValue). RivalsAs l q z y) found_is (f.rival, f.moment, sym c.state.ensures) in
-    let is : view c.leave.new.pass ≡ view_left x y (v.lent) (v.told) v =
-    c.leave.ensures.view ∙ ap (λ (u : View). view_left x y (u.lent) (u.told) u) e.same.1 in
-    (subst (λ (u : View). AsksRival l v q u) (sym is)
-    (holds x x y v p.is_live (takes_none x v) (λ _. []) (v.lent) (v.told) (stays x y v p.is_live e.won.1) (number p.turn) e.rule (RivalsAs l q) r))
+    look_holds x y v p.is_live (λ _. []) (stays x y v p.is_live e.won.1) _ e.same.1 (view c.leave.new.pass) c.leave.ensures.view (number p.turn) e.rule (RivalsAs l q) r
 
 pub invariant_of-pass-clause-seen_is : goal.invariant_of-pass-clause-seen_is
 invariant_of-pass-clause-seen_is g c =
@@ -56,14 +44,6 @@ invariant_of-pass-clause-seen_is g c =
     let e = c.enter-held.ensures in
     let x = found c.enter-held.result in
     let y = state c.enter-held.result in
-    let q = c.rival-rival.result in
-    let l = c.args.lease.now in
-    let f = c.rival-rival.ensures in
     let v = view p.turn in
-    let found_is : c.state.result.now ≡ x = c.state.ensures ∙ e.won.1 in
-    let r : RivalsAs l q x y = subst (λ (z : GraphValue). RivalsAs l q z y) found_is (f.rival, f.moment, sym c.state.ensures) in
-    let is : view c.leave.new.pass ≡ view_left x y (v.lent) (v.told) v =
-    c.leave.ensures.view ∙ ap (λ (u : View). view_left x y (u.lent) (u.told) u) e.same.1 in
-    ap (λ (u : View). length u.journal.seen) is
-    ∙ ap length (seen_is x x y v p.is_live (takes_none x v) (λ _. []) (v.lent) (v.told) (stays x y v p.is_live e.won.1) (number p.turn) e.rule)
+    look_seen x y v p.is_live (λ _. []) (stays x y v p.is_live e.won.1) _ e.same.1 (view c.leave.new.pass) c.leave.ensures.view (number p.turn) e.rule
     ∙ ap length (ap (λ (z : GraphValue). z.table.journal) (sym c.state-2.ensures) ∙ sym c.journal.ensures.events)

@@ -1,13 +1,11 @@
 use Rattle.std.proofs.Common.{◌≡◌, ◌<◌, ◌||◌, is_some, None, true, false, length, sym, ap, ◌∙◌, subst}
-use Rattle.pb_turn.specs.Obligations.{LeaveKeeps}
 use Rattle.pb_turn.specs.Passes.{view, number, found}
 use Rattle.pb_lease.specs.GraphValue.{GraphValue, counts_in}
-use Rattle.pb_yard.specs.declared.view.View.{View}
-use Rattle.pb_yard.specs.Views.{cost_of, view_left}
+use Rattle.pb_yard.specs.Views.{cost_of}
 use Rattle.pb_yard.specs.Replies.{SignsOffAs, off_events}
 use Rattle.pb_yard.specs.Calls.{SignsOff}
 use Rattle.pb_yard.proofs.Asks.{worker_known, vacant, active, cause}
-use Rattle.pb_yard.proofs.Clauses.{Fact, takes_none, leave_keeps, holds, seen_is, may_sign_off}
+use Rattle.pb_yard.proofs.Clauses.{look_keeps, look_holds, look_seen, may_sign_off}
 use Rattle.pb_yard.proofs.yard.Yard.sign_off.Goals as goal
 
 pub sign_off-requires-clause-worker : goal.sign_off-requires-clause-worker
@@ -52,8 +50,7 @@ leave-requires-clause-rule g c =
     let v = view p.turn in
     let found_is : c.state_mut.result.now ≡ x = c.state_mut.ensures.value ∙ e.won.1 in
     let r : SignsOffAs v.journal.own.worker t x y = subst (λ w. SignsOffAs w t x y) (sym p.worker_is) (subst (λ (z : GraphValue). SignsOffAs p.worker t z y) found_is (f.signed_off, f.moment)) in
-    subst (λ (u : View). LeaveKeeps Fact (number c.enter-held.new.pass) u x y (view_left x y (u.lent) (u.told) u)) (sym e.same.1)
-    (leave_keeps x x y v p.is_live (takes_none x v) (off_events v.journal.own.worker t) (v.lent) (v.told) (may_sign_off x y v p.is_live t r) (number c.enter-held.new.pass))
+    look_keeps x y v p.is_live (off_events v.journal.own.worker t) (may_sign_off x y v p.is_live t r) _ e.same.1 (number c.enter-held.new.pass)
 
 pub returns-clause-signed_off : goal.returns-clause-signed_off
 returns-clause-signed_off g c =
@@ -66,11 +63,8 @@ returns-clause-signed_off g c =
     let v = view p.turn in
     let found_is : c.state_mut.result.now ≡ x = c.state_mut.ensures.value ∙ e.won.1 in
     let r : SignsOffAs v.journal.own.worker t x y = subst (λ w. SignsOffAs w t x y) (sym p.worker_is) (subst (λ (z : GraphValue). SignsOffAs p.worker t z y) found_is (f.signed_off, f.moment)) in
-    let is : view c.leave.new.pass ≡ view_left x y (v.lent) (v.told) v =
-    c.leave.ensures.view ∙ ap (λ (u : View). view_left x y (u.lent) (u.told) u) e.same.1 in
     subst (λ w. SignsOff w t v (view c.leave.new.pass)) p.worker_is
-    (subst (λ (u : View). SignsOff v.journal.own.worker t v u) (sym is)
-    (holds x x y v p.is_live (takes_none x v) (off_events v.journal.own.worker t) (v.lent) (v.told) (may_sign_off x y v p.is_live t r) (number p.turn) e.rule (SignsOffAs v.journal.own.worker t) r))
+    (look_holds x y v p.is_live (off_events v.journal.own.worker t) (may_sign_off x y v p.is_live t r) _ e.same.1 (view c.leave.new.pass) c.leave.ensures.view (number p.turn) e.rule (SignsOffAs v.journal.own.worker t) r)
 
 pub invariant_of-pass-clause-seen_is : goal.invariant_of-pass-clause-seen_is
 invariant_of-pass-clause-seen_is g c =
@@ -83,8 +77,5 @@ invariant_of-pass-clause-seen_is g c =
     let v = view p.turn in
     let found_is : c.state_mut.result.now ≡ x = c.state_mut.ensures.value ∙ e.won.1 in
     let r : SignsOffAs v.journal.own.worker t x y = subst (λ w. SignsOffAs w t x y) (sym p.worker_is) (subst (λ (z : GraphValue). SignsOffAs p.worker t z y) found_is (f.signed_off, f.moment)) in
-    let is : view c.leave.new.pass ≡ view_left x y (v.lent) (v.told) v =
-    c.leave.ensures.view ∙ ap (λ (u : View). view_left x y (u.lent) (u.told) u) e.same.1 in
-    ap (λ (u : View). length u.journal.seen) is
-    ∙ ap length (seen_is x x y v p.is_live (takes_none x v) (off_events v.journal.own.worker t) (v.lent) (v.told) (may_sign_off x y v p.is_live t r) (number p.turn) e.rule)
+    look_seen x y v p.is_live (off_events v.journal.own.worker t) (may_sign_off x y v p.is_live t r) _ e.same.1 (view c.leave.new.pass) c.leave.ensures.view (number p.turn) e.rule
     ∙ ap length (ap (λ (z : GraphValue). z.table.journal) (sym c.state.ensures) ∙ sym c.journal.ensures.events)
