@@ -1,6 +1,5 @@
-use Rattle.std.proofs.Common.{◌≡◌, List, Some, ◌<◌, length, None, false, refl, sym, ap, ◌∙◌, subst}
+use Rattle.std.proofs.Common.{◌≡◌, List, Some, ◌<◌, length, None, false, sym, ap, ◌∙◌, subst}
 use Rattle.pb_machine.specs.declared.event.Event.{Event}
-use Rattle.pb_turn.specs.Obligations.{LeaveKeeps, Stands}
 use Rattle.pb_turn.specs.Passes.{view, number, found}
 use Rattle.pb_lease.specs.declared.answer.LeaseReply.{LeaseReply}
 use Rattle.pb_lease.specs.GraphValue.{GraphValue, counts_in}
@@ -9,8 +8,8 @@ use Rattle.pb_yard.specs.Views.{cost_of, bounded, view_read, view_left}
 use Rattle.pb_yard.specs.Replies.{LeasesAs, lease_events, lent_by, told_by}
 use Rattle.pb_yard.specs.Calls.{Leases}
 use Rattle.pb_yard.proofs.Asks.{worker_known, vacant, active}
-use Rattle.pb_yard.proofs.Reading.{entered, takes_read, bounded_is, bounded_journal}
-use Rattle.pb_yard.proofs.Clauses.{Fact, leave_keeps, holds, seen_is, may_lease, leases_as}
+use Rattle.pb_yard.proofs.Reading.{entered, bounded_is, bounded_journal, read_keeps, read_holds, read_seen}
+use Rattle.pb_yard.proofs.Clauses.{may_lease, leases_as}
 use Rattle.pb_yard.proofs.yard.Yard.lease.Goals as goal
 
 pub lease-reply-requires-clause-worker : goal.lease-reply-requires-clause-worker
@@ -59,12 +58,10 @@ leave-requires-clause-rule g c =
     let w = view_read (Some f) v o in
     let is_last : x.incumbent ≡ w.last = bounded_is f o e.falls.1 in
     let read_at : w.read_at ≡ Some (length x.table.journal) = ap (λ (l : List Event). Some (length l)) (sym (bounded_journal f o)) in
-    let take = takes_read f v (Some f) o p.is_live in
     let found_is : c.state_mut.result.now ≡ x = c.state_mut.ensures.value ∙ e.graph in
     let r : LeasesAs v.journal.own.worker q x y = subst (λ w. LeasesAs w q x y) (sym p.worker_is) (subst (λ (z : GraphValue). LeasesAs p.worker q z y) found_is
     (leases_as c.state_mut.result.now y p.worker q s.leased s.not_yet s.over s.ended s.same s.leased_moment s.ended_moment s.not_yet_moment)) in
-    subst (λ (u : View). LeaveKeeps Fact (number c.enter_reading-held.new.turn) u f y (view_left f y (lent_by q u.lent) (told_by q u.told) u)) (sym e.view)
-    (leave_keeps f x y w p.is_live take (lease_events v.journal.own.worker q) (lent_by q v.lent) (told_by q v.told) (may_lease x y w p.is_live is_last read_at q r) (number c.enter_reading-held.new.turn))
+    read_keeps f y v o p.is_live (lease_events v.journal.own.worker q) (λ u. lent_by q u.lent) (λ u. told_by q u.told) (may_lease x y w p.is_live is_last read_at q r) _ e.view (number c.enter_reading-held.new.turn)
 
 pub returns-clause-leased : goal.returns-clause-leased
 returns-clause-leased g c =
@@ -80,15 +77,11 @@ returns-clause-leased g c =
     let w = view_read (Some f) v o in
     let is_last : x.incumbent ≡ w.last = bounded_is f o e.falls.1 in
     let read_at : w.read_at ≡ Some (length x.table.journal) = ap (λ (l : List Event). Some (length l)) (sym (bounded_journal f o)) in
-    let take = takes_read f v (Some f) o p.is_live in
     let found_is : c.state_mut.result.now ≡ x = c.state_mut.ensures.value ∙ e.graph in
     let r : LeasesAs v.journal.own.worker q x y = subst (λ w. LeasesAs w q x y) (sym p.worker_is) (subst (λ (z : GraphValue). LeasesAs p.worker q z y) found_is
     (leases_as c.state_mut.result.now y p.worker q s.leased s.not_yet s.over s.ended s.same s.leased_moment s.ended_moment s.not_yet_moment)) in
-    let is : view c.leave.new.pass ≡ view_left f y (lent_by q v.lent) (told_by q v.told) w =
-    c.leave.ensures.view ∙ ap (λ (u : View). view_left f y (lent_by q u.lent) (told_by q u.told) u) e.view in
     subst (λ w. Leases w v q (view c.leave.new.pass)) p.worker_is
-    (subst (λ (u : View). Leases v.journal.own.worker v q u) (sym is)
-    (w, record { held = f; incumbent = o; falls = e.falls.0; view = refl }, holds f x y w p.is_live take (lease_events v.journal.own.worker q) (lent_by q v.lent) (told_by q v.told) (may_lease x y w p.is_live is_last read_at q r) (number p.turn) (subst (λ (u : View). Stands Fact (number p.turn) u f) e.view e.rule) (LeasesAs v.journal.own.worker q) r))
+    (read_holds f y v o p.is_live (lease_events v.journal.own.worker q) (λ u. lent_by q u.lent) (λ u. told_by q u.told) (may_lease x y w p.is_live is_last read_at q r) _ e.view (view c.leave.new.pass) c.leave.ensures.view (number p.turn) e.rule e.falls.0 (LeasesAs v.journal.own.worker q) r)
 
 pub returns-clause-copy : goal.returns-clause-copy
 returns-clause-copy g c =
@@ -124,12 +117,8 @@ invariant_of-pass-clause-seen_is g c =
     let w = view_read (Some f) v o in
     let is_last : x.incumbent ≡ w.last = bounded_is f o e.falls.1 in
     let read_at : w.read_at ≡ Some (length x.table.journal) = ap (λ (l : List Event). Some (length l)) (sym (bounded_journal f o)) in
-    let take = takes_read f v (Some f) o p.is_live in
     let found_is : c.state_mut.result.now ≡ x = c.state_mut.ensures.value ∙ e.graph in
     let r : LeasesAs v.journal.own.worker q x y = subst (λ w. LeasesAs w q x y) (sym p.worker_is) (subst (λ (z : GraphValue). LeasesAs p.worker q z y) found_is
     (leases_as c.state_mut.result.now y p.worker q s.leased s.not_yet s.over s.ended s.same s.leased_moment s.ended_moment s.not_yet_moment)) in
-    let is : view c.leave.new.pass ≡ view_left f y (lent_by q v.lent) (told_by q v.told) w =
-    c.leave.ensures.view ∙ ap (λ (u : View). view_left f y (lent_by q u.lent) (told_by q u.told) u) e.view in
-    ap (λ (u : View). length u.journal.seen) is
-    ∙ ap length (seen_is f x y w p.is_live take (lease_events v.journal.own.worker q) (lent_by q v.lent) (told_by q v.told) (may_lease x y w p.is_live is_last read_at q r) (number p.turn) (subst (λ (u : View). Stands Fact (number p.turn) u f) e.view e.rule))
+    read_seen f y v o p.is_live (lease_events v.journal.own.worker q) (λ u. lent_by q u.lent) (λ u. told_by q u.told) (may_lease x y w p.is_live is_last read_at q r) _ e.view (view c.leave.new.pass) c.leave.ensures.view (number p.turn) e.rule
     ∙ ap length (ap (λ (z : GraphValue). z.table.journal) (sym c.state.ensures) ∙ sym c.journal.ensures.events)

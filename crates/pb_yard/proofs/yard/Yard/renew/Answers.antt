@@ -1,6 +1,5 @@
-use Rattle.std.proofs.Common.{◌≡◌, List, Some, length, None, refl, sym, ap, ◌∙◌, subst}
+use Rattle.std.proofs.Common.{◌≡◌, List, Some, length, None, sym, ap, ◌∙◌, subst}
 use Rattle.pb_machine.specs.declared.event.Event.{Event}
-use Rattle.pb_turn.specs.Obligations.{LeaveKeeps, Stands}
 use Rattle.pb_turn.specs.Passes.{view, number, found}
 use Rattle.pb_model.specs.Store.{AtMost}
 use Rattle.pb_model.proofs.Incumbents.{lesser_same}
@@ -11,10 +10,9 @@ use Rattle.pb_lease.specs.GraphValue.{GraphValue, IsLeaseGraph, IsOfGraph}
 use Rattle.pb_yard.specs.declared.view.View.{View}
 use Rattle.pb_yard.specs.Views.{cost_of, bounded, view_read, view_left}
 use Rattle.pb_yard.specs.Replies.{RenewsAs, renewal_events, kept_by}
-use Rattle.pb_yard.specs.Calls.{Renews}
 use Rattle.pb_yard.proofs.Steps.{brought_of_graph}
-use Rattle.pb_yard.proofs.Reading.{entered, brought_on, takes_read, bounded_is, bounded_journal}
-use Rattle.pb_yard.proofs.Clauses.{Fact, leave_keeps, holds, seen_is, may_renew, renews_as}
+use Rattle.pb_yard.proofs.Reading.{entered, brought_on, bounded_is, bounded_journal, read_keeps, read_holds, read_seen}
+use Rattle.pb_yard.proofs.Clauses.{may_renew, renews_as}
 use Rattle.pb_yard.proofs.yard.Yard.renew.Goals as goal
 
 pub renew-reply-requires : goal.renew-reply-requires
@@ -43,13 +41,11 @@ leave-requires-clause-rule g c =
     let w = view_read (Some f) v o in
     let is_last : x.incumbent ≡ w.last = bounded_is f o e.falls.1 in
     let read_at : w.read_at ≡ Some (length x.table.journal) = ap (λ (l : List Event). Some (length l)) (sym (bounded_journal f o)) in
-    let take = takes_read f v (Some f) o p.is_live in
     let found_is : c.state_mut-graph.result.now ≡ x = c.state_mut-graph.ensures.value ∙ e.graph in
     let places : length x.homes.keys ≡ (blocks x.table).count = (subst IsLeaseGraph found_is c.abstraction.ensures.lawful).key_places in
     let r : RenewsAs l q x y = subst (λ (z : GraphValue). RenewsAs l q z y) found_is
     (renews_as c.state_mut-graph.result.now y l q s.kept s.given s.first s.kept_moment s.given_moment) in
-    subst (λ (u : View). LeaveKeeps Fact (number c.enter_reading-held.new.turn) u f y (view_left f y (kept_by q) (None) u)) (sym e.view)
-    (leave_keeps f x y w p.is_live take (λ _. renewal_events l q) (kept_by q) (None) (may_renew x y w p.is_live is_last read_at l q c.requires.spent places (brought_on v (Some f) o _ l e.falls.0 c.requires.brought) r) (number c.enter_reading-held.new.turn))
+    read_keeps f y v o p.is_live (λ _. renewal_events l q) (λ _. kept_by q) (λ _. None) (may_renew x y w p.is_live is_last read_at l q c.requires.spent places (brought_on v (Some f) o _ l e.falls.0 c.requires.brought) r) _ e.view (number c.enter_reading-held.new.turn)
 
 pub returns-clause-renewed : goal.returns-clause-renewed
 returns-clause-renewed g c =
@@ -66,15 +62,11 @@ returns-clause-renewed g c =
     let w = view_read (Some f) v o in
     let is_last : x.incumbent ≡ w.last = bounded_is f o e.falls.1 in
     let read_at : w.read_at ≡ Some (length x.table.journal) = ap (λ (l : List Event). Some (length l)) (sym (bounded_journal f o)) in
-    let take = takes_read f v (Some f) o p.is_live in
     let found_is : c.state_mut-graph.result.now ≡ x = c.state_mut-graph.ensures.value ∙ e.graph in
     let places : length x.homes.keys ≡ (blocks x.table).count = (subst IsLeaseGraph found_is c.abstraction.ensures.lawful).key_places in
     let r : RenewsAs l q x y = subst (λ (z : GraphValue). RenewsAs l q z y) found_is
     (renews_as c.state_mut-graph.result.now y l q s.kept s.given s.first s.kept_moment s.given_moment) in
-    let is : view c.leave.new.pass ≡ view_left f y (kept_by q) (None) w =
-    c.leave.ensures.view ∙ ap (λ (u : View). view_left f y (kept_by q) (None) u) e.view in
-    (subst (λ (u : View). Renews l v q u) (sym is)
-    (w, record { held = f; incumbent = o; falls = e.falls.0; view = refl }, holds f x y w p.is_live take (λ _. renewal_events l q) (kept_by q) (None) (may_renew x y w p.is_live is_last read_at l q c.requires.spent places (brought_on v (Some f) o _ l e.falls.0 c.requires.brought) r) (number p.turn) (subst (λ (u : View). Stands Fact (number p.turn) u f) e.view e.rule) (RenewsAs l q) r))
+    read_holds f y v o p.is_live (λ _. renewal_events l q) (λ _. kept_by q) (λ _. None) (may_renew x y w p.is_live is_last read_at l q c.requires.spent places (brought_on v (Some f) o _ l e.falls.0 c.requires.brought) r) _ e.view (view c.leave.new.pass) c.leave.ensures.view (number p.turn) e.rule e.falls.0 (RenewsAs l q) r
 
 pub returns-clause-copy : goal.returns-clause-copy
 returns-clause-copy g c =
@@ -114,13 +106,9 @@ invariant_of-pass-clause-seen_is g c =
     let w = view_read (Some f) v o in
     let is_last : x.incumbent ≡ w.last = bounded_is f o e.falls.1 in
     let read_at : w.read_at ≡ Some (length x.table.journal) = ap (λ (l : List Event). Some (length l)) (sym (bounded_journal f o)) in
-    let take = takes_read f v (Some f) o p.is_live in
     let found_is : c.state_mut-graph.result.now ≡ x = c.state_mut-graph.ensures.value ∙ e.graph in
     let places : length x.homes.keys ≡ (blocks x.table).count = (subst IsLeaseGraph found_is c.abstraction.ensures.lawful).key_places in
     let r : RenewsAs l q x y = subst (λ (z : GraphValue). RenewsAs l q z y) found_is
     (renews_as c.state_mut-graph.result.now y l q s.kept s.given s.first s.kept_moment s.given_moment) in
-    let is : view c.leave.new.pass ≡ view_left f y (kept_by q) (None) w =
-    c.leave.ensures.view ∙ ap (λ (u : View). view_left f y (kept_by q) (None) u) e.view in
-    ap (λ (u : View). length u.journal.seen) is
-    ∙ ap length (seen_is f x y w p.is_live take (λ _. renewal_events l q) (kept_by q) (None) (may_renew x y w p.is_live is_last read_at l q c.requires.spent places (brought_on v (Some f) o _ l e.falls.0 c.requires.brought) r) (number p.turn) (subst (λ (u : View). Stands Fact (number p.turn) u f) e.view e.rule))
+    read_seen f y v o p.is_live (λ _. renewal_events l q) (λ _. kept_by q) (λ _. None) (may_renew x y w p.is_live is_last read_at l q c.requires.spent places (brought_on v (Some f) o _ l e.falls.0 c.requires.brought) r) _ e.view (view c.leave.new.pass) c.leave.ensures.view (number p.turn) e.rule
     ∙ ap length (ap (λ (z : GraphValue). z.table.journal) (sym c.state.ensures) ∙ sym c.journal.ensures.events)
