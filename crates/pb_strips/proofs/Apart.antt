@@ -1,5 +1,6 @@
 -- Rows of numbers of which none stands twice.
 use Rattle.std.proofs.Common.{◌≡◌, ℕ, zero, suc, Bool, true, false, cond, ◌||◌, List, [], ◌∷◌, ◌++◌, Some, slice_get, refl, sym, ap, ◌∙◌}
+use Rattle.std.proofs.lemmas.Bool.{or_right, both_ways}
 use Rattle.std.specs.List.{list_any, filter}
 use Rattle.std.specs.Str.{bytes_eq}
 use Rattle.std.proofs.lemmas.Slice.Eq.{bytes_eq-Decides}
@@ -10,24 +11,16 @@ abbrev pub AreApart : List (List ℕ) → Type 0
 AreApart [] = Unit {0}
 AreApart (row ∷ rows) = (list_any (bytes_eq row) rows ≡ false) × AreApart rows
 
-or_true : (b c : Bool) → c ≡ true → (b || c) ≡ true
-or_true true c e = refl
-or_true false c e = e
-
-pub never : (b : Bool) → b ≡ true → b ≡ false → ⊥
-never true e f = cc
-never false e f = cc
-
 -- a row is among those where it stands
 pub stands_among : (rows : List (List ℕ)) (i : ℕ) (row : List ℕ) → slice_get rows i ≡ Some row → list_any (bytes_eq row) rows ≡ true
 stands_among [] i row e = cc
 stands_among (first ∷ rows) zero row e =
     let same : first ≡ row = cc in
     ap (λ b. b || list_any (bytes_eq row) rows) ((bytes_eq-Decides row first).1 (sym same))
-stands_among (first ∷ rows) (suc i) row e = or_true (bytes_eq row first) (list_any (bytes_eq row) rows) (stands_among rows i row e)
+stands_among (first ∷ rows) (suc i) row e = or_right (bytes_eq row first) (list_any (bytes_eq row) rows) (stands_among rows i row e)
 
 not_later : (first row : List ℕ) (rows : List (List ℕ)) (j : ℕ) → first ≡ row → list_any (bytes_eq first) rows ≡ false → slice_get rows j ≡ Some row → ⊥
-not_later first row rows j same apart e = never (list_any (bytes_eq row) rows) (stands_among rows j row e) (ap (λ r. list_any (bytes_eq r) rows) (sym same) ∙ apart)
+not_later first row rows j same apart e = both_ways (list_any (bytes_eq row) rows) (ap (λ r. list_any (bytes_eq r) rows) (sym same) ∙ apart) (stands_among rows j row e)
 
 -- so a row stands at one place
 pub same_place : (rows : List (List ℕ)) (i j : ℕ) (row : List ℕ) → AreApart rows → slice_get rows i ≡ Some row → slice_get rows j ≡ Some row → i ≡ j
@@ -52,7 +45,7 @@ joined (row ∷ rows) others h k none =
     here = ap (λ b. b || list_any (bytes_eq row) rows) ((bytes_eq-Decides row row).1 refl)
 
     later : (other : List ℕ) → list_any (bytes_eq other) rows ≡ true → list_any (bytes_eq other) others ≡ false
-    later other e = none other (or_true (bytes_eq other row) (list_any (bytes_eq other) rows) e)
+    later other e = none other (or_right (bytes_eq other row) (list_any (bytes_eq other) rows) e)
 
 -- What isn't among rows isn't among those of them that pass a test.
 absent_kept : (test : List ℕ → Bool) (row : List ℕ) (rows : List (List ℕ)) → list_any (bytes_eq row) rows ≡ false → list_any (bytes_eq row) (filter test rows) ≡ false

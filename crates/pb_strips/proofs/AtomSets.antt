@@ -1,5 +1,6 @@
 -- Sets of atoms from lists of their numbers.
 use Rattle.std.proofs.Common.{◌≡◌, ℕ, zero, suc, ◌+◌, ◌-◌, ◌*◌, ◌/◌, ◌%◌, ◌^◌, ◌<◌, ◌≤◌, Bool, true, false, ◌||◌, nat_eq, List, [], ◌∷◌, ◌++◌, refl, sym, ap, ◌∙◌, inl, inr, ◌⊎◌, le_trans, eq-or-lt_of_le, arith}
+use Rattle.std.proofs.Math.Bool.{or-false, or-true}
 use Rattle.std.specs.List.{list_any}
 use Rattle.std.proofs.lemmas.Bool.Decides.{nat_tests}
 use Rattle.std.proofs.lemmas.Nat.{pow-add, pow_pos, div-mul-add}
@@ -21,10 +22,6 @@ same_sets (suc m) p q same =
     ap (λ s. s + bit_number (p m) * 2 ^ m) (same_sets m p q (λ a less. same a (omega arith))) ∙ ap (λ b. set_of m q + bit_number b * 2 ^ m) (same m (omega arith))
 
 -- ---- one atom more
-
-plain : (b : Bool) → (b || false) ≡ b
-plain true = refl
-plain false = refl
 
 -- a bit below those that are added
 low_bit : (low b n m : ℕ) → n < m → bits_of (low + b * 2 ^ m) n 1 ≡ bits_of low n 1
@@ -70,17 +67,13 @@ one_more zero n p q less same = absurd (omega arith)
 one_more (suc m) n p q less same = at (λ below. one_more m n p q below (λ a small. same a (omega arith))) (eq-or-lt_of_le (let below : n ≤ m = omega arith in below))
   where
     other : (a : ℕ) → a < n → (p a || nat_eq a n) ≡ p a
-    other a below = let no : nat_eq a n ≡ false = grind (arith, nat_tests) in ap (λ b. p a || b) no ∙ plain (p a)
+    other a below = let no : nat_eq a n ≡ false = grind (arith, nat_tests) in ap (λ b. p a || b) no ∙ or-false (p a)
 
     higher : n < m → (p m || nat_eq m n) ≡ p m
-    higher below = let no : nat_eq m n ≡ false = grind (arith, nat_tests) in ap (λ b. p m || b) no ∙ plain (p m)
+    higher below = let no : nat_eq m n ≡ false = grind (arith, nat_tests) in ap (λ b. p m || b) no ∙ or-false (p m)
 
     here : n ≡ m → (p m || nat_eq m n) ≡ true
-    here e = let yes : nat_eq m n ≡ true = grind (arith, nat_tests) in ap (λ b. p m || b) yes ∙ sure (p m)
-      where
-        sure : (b : Bool) → (b || true) ≡ true
-        sure true = refl
-        sure false = refl
+    here e = let yes : nat_eq m n ≡ true = grind (arith, nat_tests) in ap (λ b. p m || b) yes ∙ or-true (p m)
 
     at : (n < m → with_bits_of (set_of m p) n 1 1 ≡ set_of m q) → (n ≡ m) ⊎ (n < m) → with_bits_of (set_of (suc m) p) n 1 1 ≡ set_of (suc m) q
     at lower (inl e) =
@@ -99,4 +92,4 @@ none_more (suc m) = ap (λ s. s + 0 * 2 ^ m) (none_more m) ∙ omega arith
 pub one_number_more : (count n : ℕ) (numbers : List ℕ) → n < count → with_bits_of (numbered_set count numbers) n 1 1 ≡ numbered_set count (numbers ++ n ∷ [])
 one_number_more count n numbers less =
     one_more count n (λ a. list_any (nat_eq a) numbers) (λ a. list_any (nat_eq a) (numbers ++ n ∷ [])) less
-    (λ a below. list_any-append (nat_eq a) numbers (n ∷ []) ∙ ap (λ b. list_any (nat_eq a) numbers || b) (plain (nat_eq a n)))
+    (λ a below. list_any-append (nat_eq a) numbers (n ∷ []) ∙ ap (λ b. list_any (nat_eq a) numbers || b) (or-false (nat_eq a n)))

@@ -1,5 +1,7 @@
 -- No two ground actions are of the same schema with the same objects.
 use Rattle.std.proofs.Common.{◌≡◌, ◌<◌, ℕ, suc, Bool, true, false, cond, ◌||◌, ◌&&◌, nat_eq, List, [], ◌∷◌, ◌++◌, length, map, refl, sym, ap, ◌∙◌, subst, arith}
+use Rattle.std.proofs.Math.Bool.{and-false, and-or_distrib_left}
+use Rattle.std.proofs.lemmas.Bool.{both_ways, eqb-true, or_parts, and_right, and_parts}
 use Rattle.std.proofs.lemmas.Bool.Decides.{nat_tests}
 use Rattle.std.proofs.lemmas.List.{map-append}
 use Rattle.std.proofs.lemmas.List.Folds.{list_any-append}
@@ -13,7 +15,7 @@ use Rattle.pb_ground.specs.declared.atoms.GroundAtom.{GroundAtom}
 use Rattle.pb_ground.specs.Actions.{action_of, rows_of, actions_of, actions_from, ground_actions}
 use Rattle.pb_ground.specs.Instances.{fitting_from, fitting, instances}
 use Rattle.pb_ground.specs.Statics.{statics_hold}
-use Rattle.pb_strips.proofs.Apart.{AreApart, never, joined, kept_apart}
+use Rattle.pb_strips.proofs.Apart.{AreApart, joined, kept_apart}
 
 -- ---- numbers
 
@@ -48,50 +50,27 @@ no_empty : (x : ℕ) (rows : List (List ℕ)) → list_any (bytes_eq []) (map (�
 no_empty x [] = refl
 no_empty x (row ∷ rows) = no_empty x rows
 
-nothing_and : (a : Bool) → false ≡ (a && false)
-nothing_and true = refl
-nothing_and false = refl
-
-spread : (a b c : Bool) → ((a && b) || (a && c)) ≡ (a && (b || c))
-spread true b c = refl
-spread false b c = refl
-
 pub with_first : (y x : ℕ) (ys : List ℕ) (rows : List (List ℕ)) → list_any (bytes_eq (y ∷ ys)) (map (λ xs. x ∷ xs) rows) ≡ (nat_eq y x && list_any (bytes_eq ys) rows)
-with_first y x ys [] = nothing_and (nat_eq y x)
-with_first y x ys (row ∷ rows) = ap (λ b. (nat_eq y x && bytes_eq ys row) || b) (with_first y x ys rows) ∙ spread (nat_eq y x) (bytes_eq ys row) (list_any (bytes_eq ys) rows)
-
-and_left : (a b : Bool) → (a && b) ≡ true → a ≡ true
-and_left true b e = refl
-and_left false b e = cc
-
-and_none : (a b : Bool) → b ≡ false → (a && b) ≡ false
-and_none true b e = e
-and_none false b e = refl
+with_first y x ys [] = sym (and-false (nat_eq y x))
+with_first y x ys (row ∷ rows) = ap (λ b. (nat_eq y x && bytes_eq ys row) || b) (with_first y x ys rows) ∙ sym (and-or_distrib_left (nat_eq y x) (bytes_eq ys row) (list_any (bytes_eq ys) rows))
 
 pub first_apart : (x : ℕ) (rows : List (List ℕ)) → AreApart rows → AreApart (map (λ xs. x ∷ xs) rows)
 first_apart x [] h = tt
-first_apart x (row ∷ rows) h = (with_first x x row rows ∙ and_none (nat_eq x x) (list_any (bytes_eq row) rows) h.0, first_apart x rows h.1)
+first_apart x (row ∷ rows) h = (with_first x x row rows ∙ and_right (nat_eq x x) (list_any (bytes_eq row) rows) h.0, first_apart x rows h.1)
 
 -- a row that is among those that begin with x begins with x, and so isn't among those that begin with others
 none_other : (x : ℕ) (rows others : List (List ℕ)) → ((y : ℕ) (ys : List ℕ) → nat_eq y x ≡ true → list_any (bytes_eq (y ∷ ys)) others ≡ false) → (row : List ℕ)
     → list_any (bytes_eq row) (map (λ xs. x ∷ xs) rows) ≡ true → list_any (bytes_eq row) others ≡ false
-none_other x rows others none [] e = absurd (never (list_any (bytes_eq []) (map (λ xs. x ∷ xs) rows)) e (no_empty x rows))
-none_other x rows others none (y ∷ ys) e = none y ys (and_left (nat_eq y x) (list_any (bytes_eq ys) rows) (sym (with_first y x ys rows) ∙ e))
+none_other x rows others none [] e = absurd (both_ways (list_any (bytes_eq []) (map (λ xs. x ∷ xs) rows)) (no_empty x rows) e)
+none_other x rows others none (y ∷ ys) e = none y ys (and_parts (nat_eq y x) (list_any (bytes_eq ys) rows) (sym (with_first y x ys rows) ∙ e)).0
 
 -- ---- instances
-
-same_number : (y x : ℕ) → nat_eq y x ≡ true → y ≡ x
-same_number y x h = grind (arith, nat_tests)
-
-apart_or : (a b : Bool) → (a || b) ≡ false → (a ≡ false) × (b ≡ false)
-apart_or true b e = cc
-apart_or false b e = (refl, e)
 
 none_spread : (y : ℕ) (ys : List ℕ) (rows : List (List ℕ)) (numbers : List ℕ) → list_any (nat_eq y) numbers ≡ false
     → list_any (bytes_eq (y ∷ ys)) (flat_map (λ x. map (λ xs. x ∷ xs) rows) numbers) ≡ false
 none_spread y ys rows [] h = refl
 none_spread y ys rows (x ∷ numbers) h =
-    let both = apart_or (nat_eq y x) (list_any (nat_eq y) numbers) h in
+    let both = or_parts (nat_eq y x) (list_any (nat_eq y) numbers) h in
     list_any-append (bytes_eq (y ∷ ys)) (map (λ xs. x ∷ xs) rows) (flat_map (λ z. map (λ xs. z ∷ xs) rows) numbers)
     ∙ (ap (λ b. b || list_any (bytes_eq (y ∷ ys)) (flat_map (λ z. map (λ xs. z ∷ xs) rows) numbers)) (with_first y x ys rows ∙ ap (λ b. b && list_any (bytes_eq ys) rows) both.0)
     ∙ none_spread y ys rows numbers both.1)
@@ -101,7 +80,7 @@ spread_apart rows [] h k = tt
 spread_apart rows (x ∷ numbers) h k =
     joined (map (λ xs. x ∷ xs) rows) (flat_map (λ z. map (λ xs. z ∷ xs) rows) numbers) (first_apart x rows h) (spread_apart rows numbers h k.1)
     (none_other x rows (flat_map (λ z. map (λ xs. z ∷ xs) rows) numbers)
-    (λ y ys e. none_spread y ys rows numbers (ap (λ n. list_any (nat_eq n) numbers) (same_number y x e) ∙ k.0)))
+    (λ y ys e. none_spread y ys rows numbers (ap (λ n. list_any (nat_eq n) numbers) (eqb-true y x e) ∙ k.0)))
 
 instances_apart : (lifted : Lifted) (kinds : List ℕ) → AreApart (instances lifted kinds)
 instances_apart lifted [] = (refl, tt)
@@ -144,7 +123,7 @@ actions_apart_from lifted atoms i (schema ∷ later) =
     (actions_apart_from lifted atoms (suc i) later) (none_other i (rows_of lifted schema) rest (λ y ys e. none_earlier lifted atoms y (suc i) ys later (below y i e))))
   where
     below : (y n : ℕ) → nat_eq y n ≡ true → y < suc n
-    below y n e = let same = same_number y n e in omega (arith, same)
+    below y n e = let same = eqb-true y n e in omega (arith, same)
 
 pub actions_apart : (lifted : Lifted) (atoms : List GroundAtom) → AreApart (map row_of (ground_actions lifted atoms))
 actions_apart lifted atoms = actions_apart_from lifted atoms 0 lifted.actions

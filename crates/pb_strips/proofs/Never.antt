@@ -1,7 +1,7 @@
 -- What is well typed and within the limits is not refused.
-use Rattle.std.proofs.Common.{◌≡◌, ◌≤◌, ℕ, false, cond, nat_lt, length, Option, Some, None, Result, Ok, Err, refl, ap, ◌∙◌, subst, arith}
+use Rattle.std.proofs.Common.{◌≡◌, ℕ, cond, nat_lt, length, Option, Some, None, Result, Ok, Err, refl, ap, ◌∙◌, subst}
+use Rattle.std.proofs.lemmas.Bool.{le-ltb}
 use Rattle.std.specs.Prelude.{IfErr}
-use Rattle.std.proofs.lemmas.Bool.Decides.{nat_tests}
 use Rattle.pb_pddl.specs.declared.tree.Domain.{Domain}
 use Rattle.pb_pddl.specs.declared.tree.Problem.{Problem}
 use Rattle.pb_lifted.specs.declared.refusal.TypingRefusal.{TypingRefusal}
@@ -15,9 +15,6 @@ use Rattle.pb_strips.specs.declared.error.StripsError.{StripsError}
 use Rattle.pb_strips.specs.declared.error.StripsError.TheVariants as errors
 use Rattle.pb_strips.specs.Refusals.{or_too_many, first_fault, Tells, IsWithinLimits}
 
-within : (limit n : ℕ) → n ≤ limit → nat_lt limit n ≡ false
-within limit n few = grind (arith, nat_tests)
-
 pub no_fault : (domain : Domain) (problem : Problem) → IsWellTyped domain problem → IsWithinLimits domain problem → first_fault domain problem ≡ None
 no_fault domain problem typed limits =
     let lifted = lifted_of domain problem in
@@ -26,7 +23,7 @@ no_fault domain problem typed limits =
     let more : Option StripsError = Some (errors.TooManyAtoms (ground.told atoms)) in
     let last : Option StripsError = Some errors.TooManyActions in
     ap (λ (r : Option TypingRefusal). or_too_many r lifted) (well_typed_is_accepted domain problem typed)
-    ∙ ap (λ b. cond b more (cond (nat_lt 65536 actions) last None)) (within 256 atoms limits.0) ∙ ap (λ b. cond b last None) (within 65536 actions limits.1)
+    ∙ ap (λ b. cond b more (cond (nat_lt 65536 actions) last None)) (le-ltb 256 atoms limits.0) ∙ ap (λ b. cond b last None) (le-ltb 65536 actions limits.1)
 
 memory_alone : (e : StripsError) → Tells None e → e ≡ errors.Memory
 memory_alone (errors.Refused refusal) told = cc

@@ -1,8 +1,7 @@
 -- Sets of numbered atoms, by their atoms.
-use Rattle.std.proofs.Common.{◌≡◌, ◌<◌, ℕ, Bool, true, false, not, ◌&&◌, ◌||◌, nat_eq, List, [], ◌∷◌, refl, sym, ap, ◌∙◌, arith}
+use Rattle.std.proofs.Common.{◌≡◌, ◌<◌, ℕ, Bool, true, false, not, ◌&&◌, ◌||◌, nat_eq, List, [], ◌∷◌, refl, sym, ap, ◌∙◌}
 use Rattle.std.specs.List.{list_any, list_all}
-use Rattle.std.proofs.lemmas.Bool.{and_parts, and_from}
-use Rattle.std.proofs.lemmas.Bool.Decides.{nat_tests}
+use Rattle.std.proofs.lemmas.Bool.{and_parts, and_from, eq-eqb, eqb-true, or_right}
 use Rattle.std.proofs.lemmas.List.Elements.{All-head, All-tail}
 use Rattle.pb_pddl.specs.declared.tree.Domain.{Domain}
 use Rattle.pb_pddl.specs.declared.tree.Problem.{Problem}
@@ -18,23 +17,13 @@ has_number count numbers n less = (sets_are_of_atoms.0 count (λ atom. list_any 
 
 -- ---- a set within a state
 
-itself : (n : ℕ) → nat_eq n n ≡ true
-itself n = grind (arith, nat_tests)
-
-same_nat : (m n : ℕ) → nat_eq m n ≡ true → m ≡ n
-same_nat m n e = grind (arith, nat_tests)
-
-right : (a b : Bool) → b ≡ true → (a || b) ≡ true
-right true b e = refl
-right false b e = e
-
 all_of : (count : ℕ) (holds : ℕ → Bool) (numbers : List ℕ) → AreAtoms count numbers → ((n : ℕ) → n < count → list_any (nat_eq n) numbers ≡ true → holds n ≡ true)
     → list_all holds numbers ≡ true
 all_of count holds [] below each = refl
 all_of count holds (n ∷ numbers) below each =
     and_from (holds n) (list_all holds numbers)
-    (each n (All-head (λ k. k < count) n numbers below) (ap (λ b. b || list_any (nat_eq n) numbers) (itself n)))
-    (all_of count holds numbers (All-tail (λ k. k < count) n numbers below) (λ k less among. each k less (right (nat_eq k n) (list_any (nat_eq k) numbers) among)))
+    (each n (All-head (λ k. k < count) n numbers below) (ap (λ b. b || list_any (nat_eq n) numbers) (eq-eqb n n refl)))
+    (all_of count holds numbers (All-tail (λ k. k < count) n numbers below) (λ k less among. each k less (or_right (nat_eq k n) (list_any (nat_eq k) numbers) among)))
 
 each_of : (holds : ℕ → Bool) (numbers : List ℕ) (n : ℕ) → list_all holds numbers ≡ true → list_any (nat_eq n) numbers ≡ true → holds n ≡ true
 each_of holds [] n all among = cc
@@ -44,7 +33,7 @@ each_of holds (k ∷ numbers) n all among = at (λ later found. each_of holds nu
     both = and_parts (holds k) (list_all holds numbers) all
 
     at : (list_all holds numbers ≡ true → list_any (nat_eq n) numbers ≡ true → holds n ≡ true) → (b : Bool) → nat_eq n k ≡ b → (b || list_any (nat_eq n) numbers) ≡ true → holds n ≡ true
-    at later true e found = ap holds (same_nat n k e) ∙ both.0
+    at later true e found = ap holds (eqb-true n k e) ∙ both.0
     at later false e found = later both.1 found
 
 pub all_within : (count : ℕ) (numbers : List ℕ) (state : ℕ) → AreAtoms count numbers → Within count (numbered_set count numbers) state → list_all (has_atom state) numbers ≡ true

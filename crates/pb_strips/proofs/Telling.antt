@@ -1,5 +1,7 @@
 -- The names of ground actions tell them apart, each in one line.
 use Rattle.std.proofs.Common.{◌≡◌, ◌≢◌, ◌<◌, ◌≤◌, ℕ, zero, suc, true, false, nat_lt, List, [], ◌∷◌, ◌++◌, All, length, map, Option, Some, None, slice_get, refl, sym, ap, ◌∙◌, subst, arith}
+use Rattle.std.proofs.lemmas.Bool.{ltb-true}
+use Rattle.std.proofs.lemmas.Option.{slice_get_within}
 use Rattle.std.proofs.lemmas.Bool.Decides.{nat_tests}
 use Rattle.std.proofs.lemmas.List.{length-map}
 use Rattle.std.proofs.lemmas.List.Elements.{All-nil, All-append}
@@ -42,11 +44,6 @@ element : {A : Type 0} (xs : List A) (k : ℕ) → k < length xs → (x : A) × 
 element [] k less = absurd (omega arith)
 element (x ∷ xs) zero less = (x, refl)
 element (x ∷ xs) (suc k) less = element xs k (omega arith)
-
-below : {A : Type 0} (xs : List A) (k : ℕ) (x : A) → slice_get xs k ≡ Some x → k < length xs
-below [] k x e = cc
-below (y ∷ xs) zero x e = omega arith
-below (y ∷ xs) (suc k) x e = let rest = below xs k x e in omega (arith, rest)
 
 -- ---- names are words
 
@@ -127,11 +124,8 @@ fitting_below lifted (kind ∷ kinds) [] h = cc
 fitting_below lifted (kind ∷ kinds) (i ∷ given) h =
     let both = and_true (is_fitting lifted kind i) (is_instance lifted kinds given) h in
     let there = and_true (nat_lt i (length lifted.objects)) _ both.0 in
-    first (fitting_below lifted kinds given both.1) (small i (length lifted.objects) there.0)
+    first (fitting_below lifted kinds given both.1) (ltb-true i (length lifted.objects) there.0)
   where
-    small : (n m : ℕ) → nat_lt n m ≡ true → n < m
-    small n m e = grind (arith, nat_tests)
-
     first : All (λ n. n < length lifted.objects) given → i < length lifted.objects → All (λ n. n < length lifted.objects) (i ∷ given)
     first rest less zero d within = less
     first rest less (suc k) d within = rest k d (omega arith)
@@ -177,7 +171,7 @@ module _ (domain : Domain) (problem : Problem) (accepted : first_fault domain pr
   schema_below : (k : ℕ) (a : instance.ActionInstance) → slice_get actions k ≡ Some a → a.schema < length (map action_word domain.actions)
   schema_below k a e =
       let is : IsInstance lifted (ground_atoms lifted) a = is_instance_at lifted (ground_atoms lifted) k a e in
-      let there = below lifted.actions is.i is.schema is.declared in
+      let there = slice_get_within lifted.actions is.i is.schema is.declared in
       let same : a.schema ≡ is.i = ap (λ (g : instance.ActionInstance). g.schema) is.is in
       omega (arith, there, same, schemas_agree domain problem)
 

@@ -1,5 +1,6 @@
 -- From the text of a ground action its name and its objects can be read off, where they are words.
 use Rattle.std.proofs.Common.{◌≡◌, ◌≢◌, ◌<◌, ℕ, suc, true, false, List, [], ◌∷◌, ◌++◌, All, refl, sym, ap, ◌∙◌, subst, append_assoc, arith}
+use Rattle.std.proofs.lemmas.Bool.{both_ways}
 use Rattle.std.proofs.lemmas.Bool.Decides.{nat_tests}
 use Rattle.std.proofs.lemmas.List.Elements.{All-nil, All-cons, All-append}
 use Rattle.std.proofs.lemmas.Str.{IsUtf8-from_ascii, utf8_lossy-IsUtf8}
@@ -7,7 +8,6 @@ use Rattle.std.proofs.lemmas.Str.Ascii.{IsAscii-from_all}
 use Rattle.std.specs.Str.Lossy.{utf8_lossy}
 use Rattle.pb_pddl.specs.Words.{is_word_byte, AreWordBytes}
 use Rattle.pb_strips.specs.Names.{spaced}
-use Rattle.pb_strips.proofs.Apart.{never}
 
 -- ---- words
 
@@ -35,11 +35,11 @@ split [] [] s t pa pb es et e = (refl, e)
 split [] (y ∷ b) [] t pa pb es et e = absurd es
 split [] (y ∷ b) (x ∷ s) t pa pb es et e =
     let same : x ≡ y = cc in
-    absurd (never (is_word_byte y) pb.0 (ap is_word_byte (sym same) ∙ es))
+    absurd (both_ways (is_word_byte y) (ap is_word_byte (sym same) ∙ es) pb.0)
 split (x ∷ a) [] s [] pa pb es et e = absurd et
 split (x ∷ a) [] s (y ∷ t) pa pb es et e =
     let same : x ≡ y = cc in
-    absurd (never (is_word_byte x) pa.0 (ap is_word_byte same ∙ et))
+    absurd (both_ways (is_word_byte x) (ap is_word_byte same ∙ et) pa.0)
 split (x ∷ a) (y ∷ b) s t pa pb es et e =
     let first : x ≡ y = cc in
     let rest : a ++ s ≡ b ++ t = cc in
@@ -84,7 +84,7 @@ word_small : (c : ℕ) → is_word_byte c ≡ true → c < 128
 word_small c h = grind (arith, nat_tests)
 
 no_feed : (c : ℕ) → is_word_byte c ≡ true → c ≢ 10
-no_feed c h e = never (is_word_byte c) h (ap is_word_byte e)
+no_feed c h e = both_ways (is_word_byte c) (ap is_word_byte e) h
 
 -- a byte of ASCII other than the line feed
 abbrev pub IsOfLine : ℕ → Type 0
