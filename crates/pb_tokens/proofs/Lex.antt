@@ -1,18 +1,16 @@
 -- The list of a text's tokens, one after another.
 use Rattle.std.proofs.Common.{◌≡◌, ℕ, true, false, List, [], ◌∷◌, length, drop, refl, sym, ap, subst, ◌∙◌}
+use Rattle.std.proofs.lemmas.Bool.{true≢false}
 use Rattle.pb_pddl.specs.Tokens.{gap_len, token_at, is_last, AreTokens, moved, behind}
 use Rattle.pb_pddl.specs.declared.token.Token.{Token}
 use Rattle.pb_pddl.specs.declared.token.Cursor.{Cursor}
-
-true_false : true ≡ false → ⊥
-true_false e = cc
 
 pub last_token : (h : Cursor) (bytes : List ℕ) (gap : ℕ) (t : Token) → gap ≡ gap_len false bytes → t ≡ token_at (moved gap h) (drop gap bytes) → is_last t.kind ≡ true → AreTokens h bytes (t ∷ [])
 unfolding AreTokens
 last_token h bytes gap t g is last = (
   subst (λ n. t ≡ token_at (moved n h) (drop n bytes)) g is,
   λ _. refl,
-  λ no. absurd (true_false (sym last ∙ no)),
+  λ no. absurd (true≢false (sym last ∙ no)),
 )
 
 pub next_token : (h : Cursor) (bytes : List ℕ) (gap : ℕ) (t : Token) (more : List Token) → gap ≡ gap_len false bytes → t ≡ token_at (moved gap h) (drop gap bytes) → is_last t.kind ≡ false
@@ -20,7 +18,7 @@ pub next_token : (h : Cursor) (bytes : List ℕ) (gap : ℕ) (t : Token) (more :
 unfolding AreTokens
 next_token h bytes gap t more g is last rest = (
   subst (λ n. t ≡ token_at (moved n h) (drop n bytes)) g is,
-  λ yes. absurd (true_false (sym yes ∙ last)),
+  λ yes. absurd (true≢false (sym yes ∙ last)),
   λ _. subst (λ n. AreTokens (behind (moved n h) t) (drop (length t.text) (drop n bytes)) more) g rest,
 )
 

@@ -19,9 +19,6 @@ token_slice h (b ∷ bs) =
     let n : ℕ = len_of (kind_inside (length h.nest) (kind_of b (word_first bs))) bs in
     inr (refl, ap (map lower) (sym (take_taken n (b ∷ bs))))
 
-true_false : true ≡ false → ⊥
-true_false e = cc
-
 end_last : is_last kinds.End ≡ true
 unfolding is_last
 end_last = refl

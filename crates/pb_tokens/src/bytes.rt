@@ -103,7 +103,7 @@ pub fn run_len(text: &[u8]) -> usize
 }
 
 // The bytes in lower case.
-pub fn lowered(alloc: Global, bytes: &[u8]) -> Result<Listed<u8>, AllocError>
+pub fn lower_bytes(alloc: Global, bytes: &[u8]) -> Result<Listed<u8>, AllocError>
     ensures { IfOk result (λ text. text ≡ map lower bytes.now) }
 {
     let mut out = Listed::new(alloc);

@@ -2,7 +2,7 @@ ghost use Rattle.std.specs.Prelude.{◌≡◌, ◌+◌, ◌≤◌, ◌<◌, ◌^
 ghost use Rattle.pb_pddl.specs.Spans.{Spans};
 ghost use Rattle.pb_pddl.specs.Tokens.{lower, kind_of, kind_inside, len_of, token_at, is_last, is_open, behind, unclosed, TextTokens};
 
-use crate::bytes::{begins_word, gap_len, lowered, run_len, word_first};
+use crate::bytes::{begins_word, gap_len, lower_bytes, run_len, word_first};
 use pb_pddl::{Cursor, Listed, Text, Token, TokenKind};
 use std::alloc::{AllocError, Global};
 
@@ -220,6 +220,6 @@ pub fn tokens(alloc: Global, text: &[u8]) -> Result<Listed<Token>, AllocError>
     // Each but the end is a slice of the text at its place, in lower case, and stands behind the one before it.
     ensures slices { IfOk result (Spans 0 text.now) }
 {
-    let source = Text::of(alloc, lowered(alloc, text)?)?;
+    let source = Text::of(alloc, lower_bytes(alloc, text)?)?;
     tokens_in(alloc, &source, text)
 }
