@@ -3,7 +3,7 @@ use Rattle.std.proofs.Common.{◌≡◌, ℕ, zero, suc, ◌+◌, ◌<◌, ◌�
 use Rattle.std.specs.List.Sorted.{IsStrictlySortedBy}
 use Rattle.std.specs.Ordering.{nat_cmp}
 use Rattle.std.specs.declared.cmp.Ordering.TheVariants.{Less}
-use Rattle.std.proofs.lemmas.Bool.{le-leb, lt-ltb}
+use Rattle.std.proofs.lemmas.Bool.{le-leb, lt-ltb, and_from}
 use Rattle.std.proofs.lemmas.Bool.Decides.{nat_tests}
 use Rattle.std.proofs.lemmas.List.Elements.{All-head, All-tail}
 use Rattle.pb_model.specs.declared.row.Estimate.{Estimate}
@@ -32,16 +32,8 @@ kind_same Grid = refl
 kind_same Tiles = refl
 kind_same Strips = refl
 
-both : (a b : Bool) → a ≡ true → b ≡ true → (a && b) ≡ true
-both true true x y = refl
-both false b x y = absurd cc
-both true false x y = absurd cc
-
 weight_ok : (weight : Weight) → IsWeight weight → is_weight weight ≡ true
-weight_ok weight w = both (leb 1 weight.den) (leb weight.den weight.num && leb weight.num 1000) (le-leb _ _ w.positive) (both (leb weight.den weight.num) (leb weight.num 1000) (le-leb _ _ w.at_least_one) (le-leb _ _ w.small))
-
-self : (n : ℕ) → eqb n n ≡ true
-self n = grind (arith, nat_tests)
+weight_ok weight w = and_from (leb 1 weight.den) (leb weight.den weight.num && leb weight.num 1000) (le-leb _ _ w.positive) (and_from (leb weight.den weight.num) (leb weight.num 1000) (le-leb _ _ w.at_least_one) (le-leb _ _ w.small))
 
 pair : (to from cost total : ℕ) → to ≡ from → cost ≡ total → ◌≡◌ {A = Result (ℕ × ℕ) CertificateFault} (Ok (from, cost)) (Ok (to, total))
 pair to from cost total a b = cc

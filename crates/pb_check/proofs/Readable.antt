@@ -1,5 +1,6 @@
 -- What is spelled so is read.
 use Rattle.std.proofs.Common.{◌≡◌, ℕ, ◌+◌, ◌*◌, ◌<◌, Bool, true, false, not, cond, eqb, ltb, Option, None, Some, List, [], ◌∷◌, ◌++◌, length, Result, Ok, Err, refl, sym, ap, ◌∙◌, arith}
+use Rattle.std.proofs.lemmas.Bool.{and_parts, and_from}
 use Rattle.std.specs.Prelude.{codes}
 use Rattle.std.specs.List.{list_all}
 use Rattle.std.proofs.lemmas.Bool.Decides.{nat_tests}
@@ -13,7 +14,7 @@ use Rattle.pb_check.specs.declared.fault.CertificateFault.TheVariants.{Syntax}
 use Rattle.pb_lines.specs.Words.{part, behind, is_text, number_of, has_none}
 use Rattle.pb_lines.proofs.NumberWords.{IsNumberWord}
 use Rattle.pb_lines.proofs.Numbers.{number_word_read, number_has_none}
-use Rattle.pb_lines.proofs.Parts.{conjuncts, both, none_both, part_again, behind_again, text_again}
+use Rattle.pb_lines.proofs.Parts.{none_both, part_again, behind_again, text_again}
 use Rattle.pb_check.specs.Words.{hex_value, hex_after, state_of}
 use Rattle.pb_check.specs.Faults.{◌>>=◌, wanted}
 use Rattle.pb_check.specs.Reading.{line_at, number_behind, kind_in, weight_in, closed_in, row_in, fixed_at, number_at, kind_at, weight_at, row_at, actions_at, rows_at, steps_at, plan_at, plan_lines, Text, end_at, body_at, text_of}
@@ -25,7 +26,7 @@ hex_after_again : (n : ℕ) (word : List ℕ) → list_all (λ b. ltb (hex_value
 unfolding hex_after
 hex_after_again n [] digits = refl
 hex_after_again n (b ∷ bs) digits =
-    let c = conjuncts (ltb (hex_value b) 16) (list_all (λ b. ltb (hex_value b) 16) bs) digits in
+    let c = and_parts (ltb (hex_value b) 16) (list_all (λ b. ltb (hex_value b) 16) bs) digits in
     ap (λ t. cond t (hex_after (n * 16 + hex_value b) bs) None) c.0 ∙ hex_after_again (n * 16 + hex_value b) bs c.1
 
 pub state_again : (word : List ℕ) (state : ℕ) → IsStateWord word state → state_of word ≡ Some state
@@ -40,7 +41,7 @@ hex_is_none byte b small e = grind (arith, nat_tests, small, e)
 
 state_has_none : (byte : ℕ) (word : List ℕ) → byte < 48 → list_all (λ b. ltb (hex_value b) 16) word ≡ true → has_none byte word ≡ true
 state_has_none byte [] small e = refl
-state_has_none byte (b ∷ bs) small e = let c = conjuncts (ltb (hex_value b) 16) (list_all (λ b. ltb (hex_value b) 16) bs) e in both (not (eqb b byte)) (has_none byte bs) (hex_is_none byte b small c.0) (state_has_none byte bs small c.1)
+state_has_none byte (b ∷ bs) small e = let c = and_parts (ltb (hex_value b) 16) (list_all (λ b. ltb (hex_value b) 16) bs) e in and_from (not (eqb b byte)) (has_none byte bs) (hex_is_none byte b small c.0) (state_has_none byte bs small c.1)
 
 -- ---- lines
 

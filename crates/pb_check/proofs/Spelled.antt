@@ -1,9 +1,10 @@
 -- What is read is spelled so.
 use Rattle.std.proofs.Common.{◌≡◌, ℕ, zero, suc, ◌+◌, ◌*◌, Bool, true, false, ◌&&◌, cond, eqb, ltb, Option, None, Some, List, [], ◌∷◌, ◌++◌, length, Result, Ok, Err, refl, sym, ap, ◌∙◌, subst}
+use Rattle.std.proofs.lemmas.Option.{same_Some}
 use Rattle.std.specs.Prelude.{codes}
 use Rattle.std.specs.List.{list_all}
 use Rattle.std.proofs.lemmas.List.{nil_from_length}
-use Rattle.std.proofs.lemmas.Bool.{eqb-true}
+use Rattle.std.proofs.lemmas.Bool.{eqb-true, and_from}
 use Rattle.pb_model.specs.Weight.{Weight}
 use Rattle.pb_model.specs.Plan.{Plan}
 use Rattle.pb_model.specs.Certificate.{Line}
@@ -14,7 +15,7 @@ use Rattle.pb_check.specs.declared.fault.CertificateFault.TheVariants.{Syntax}
 use Rattle.pb_lines.specs.Words.{part, behind, is_text, number_of}
 use Rattle.pb_lines.proofs.NumberWords.{IsNumberWord}
 use Rattle.pb_lines.proofs.Numbers.{number_word_of}
-use Rattle.pb_lines.proofs.Parts.{part_is, behind_is, text_is}
+use Rattle.pb_lines.proofs.Parts.{if_some, part_is, behind_is, text_is}
 use Rattle.pb_check.specs.Words.{hex_value, hex_after, state_of}
 use Rattle.pb_check.specs.Faults.{◌>>=◌, wanted}
 use Rattle.pb_check.specs.Reading.{line_at, number_behind, kind_in, weight_in, closed_in, row_in, fixed_at, number_at, kind_at, weight_at, row_at, actions_at, rows_at, steps_at, plan_at, plan_lines, Text, end_at, body_at, text_of}
@@ -34,39 +35,19 @@ wanted_ok {A} line (Some y) x e = ap (λ (z : A). Some z) (go y x e)
 pub ok_is : {A : Type 0} (x y : A) → ◌≡◌ {A = Result A CertificateFault} (Ok x) (Ok y) → x ≡ y
 ok_is x y e = cc
 
-some_is : {A : Type 0} (x y : A) → ◌≡◌ {A = Option A} (Some x) (Some y) → x ≡ y
-some_is x y e = cc
-
 pub guard_ok : {A : Type 0} (b : Bool) (d : CertificateFault) (x y : A) → cond b (Ok x) (Err d) ≡ Ok y → (b ≡ true) × (x ≡ y)
 guard_ok true d x y e = (refl, ok_is x y e)
 guard_ok false d x y e = absurd cc
-
-if_some : {A : Type 0} (b : Bool) (o : Option A) (x : A) → cond b o None ≡ Some x → (b ≡ true) × (o ≡ Some x)
-if_some true o x e = (refl, e)
-if_some false o x e = absurd cc
-
-if_not_some : {A : Type 0} (b : Bool) (o : Option A) (x : A) → cond b None o ≡ Some x → (b ≡ false) × (o ≡ Some x)
-if_not_some true o x e = absurd cc
-if_not_some false o x e = (refl, e)
-
-conjuncts : (a b : Bool) → (a && b) ≡ true → (a ≡ true) × (b ≡ true)
-conjuncts true b e = (refl, e)
-conjuncts false b e = absurd cc
-
-both : (a b : Bool) → a ≡ true → b ≡ true → (a && b) ≡ true
-both true true x y = refl
-both false b x y = absurd cc
-both true false x y = absurd cc
 
 -- ---- words
 
 hex_after_is : (n : ℕ) (word : List ℕ) (m : ℕ) → hex_after n word ≡ Some m → (list_all (λ b. ltb (hex_value b) 16) word ≡ true) × (m ≡ hex_value_after n word)
 unfolding hex_after
-hex_after_is n [] m e = (refl, sym (some_is n m e))
+hex_after_is n [] m e = (refl, sym (same_Some n m e))
 hex_after_is n (b ∷ bs) m e =
     let h = if_some (ltb (hex_value b) 16) (hex_after (n * 16 + hex_value b) bs) m e in
     let r = hex_after_is (n * 16 + hex_value b) bs m h.1 in
-    (both (ltb (hex_value b) 16) (list_all (λ b. ltb (hex_value b) 16) bs) h.0 r.0, r.1)
+    (and_from (ltb (hex_value b) 16) (list_all (λ b. ltb (hex_value b) 16) bs) h.0 r.0, r.1)
 
 pub state_is : (word : List ℕ) (state : ℕ) → state_of word ≡ Some state → IsStateWord word state
 state_is word state e =

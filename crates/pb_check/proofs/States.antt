@@ -3,7 +3,7 @@ use Rattle.std.proofs.Common.{lit<, ◌≡◌, ℕ, zero, suc, ◌+◌, ◌-◌,
 use Rattle.std.specs.List.{list_all}
 use Rattle.std.proofs.Math.Nat.{pow-suc, div-eq_of_lt, zero-mod}
 use Rattle.std.proofs.lemmas.Nat.{mod_below, div-add-mod', div_below}
-use Rattle.std.proofs.lemmas.Bool.{ltb-true, lt-ltb}
+use Rattle.std.proofs.lemmas.Bool.{ltb-true, lt-ltb, and_parts, and_from}
 use Rattle.std.proofs.lemmas.Bool.Decides.{nat_tests}
 use Rattle.std.proofs.lemmas.List.Folds.{list_all-append}
 use Rattle.pb_packed.specs.Bits.{bits_of, with_bits_of}
@@ -15,15 +15,6 @@ use Rattle.pb_check.proofs.Lines.{hex_value_after, IsStateWord}
 
 abbrev are_values : List ℕ → Bool
 are_values word = list_all (λ b. ltb (hex_value b) 16) word
-
-conjuncts : (a b : Bool) → (a && b) ≡ true → (a ≡ true) × (b ≡ true)
-conjuncts true b e = (refl, e)
-conjuncts false b e = absurd cc
-
-both : (a b : Bool) → a ≡ true → b ≡ true → (a && b) ≡ true
-both true true x y = refl
-both false b x y = absurd cc
-both true false x y = absurd cc
 
 -- ---- digits and their values
 
@@ -55,7 +46,7 @@ digits_are_values (suc count) n =
     let value : hex_value (hex_digit (n % 16)) ≡ n % 16 = value_of_digit (n % 16) small in
     let last : ltb (hex_value (hex_digit (n % 16))) 16 ≡ true = lt-ltb _ _ (omega (arith, small, value)) in
     ap are_values (one_more count n) ∙ list_all-append (λ b. ltb (hex_value b) 16) (hex_digits count (n / 16)) (hex_digit (n % 16) ∷ [])
-    ∙ both (are_values (hex_digits count (n / 16))) (ltb (hex_value (hex_digit (n % 16))) 16 && true) (digits_are_values count (n / 16)) (both (ltb (hex_value (hex_digit (n % 16))) 16) true last refl)
+    ∙ and_from (are_values (hex_digits count (n / 16))) (ltb (hex_value (hex_digit (n % 16))) 16 && true) (digits_are_values count (n / 16)) (and_from (ltb (hex_value (hex_digit (n % 16))) 16) true last refl)
 
 pub state_word : (word : List ℕ) (state : ℕ) → word ≡ hex_digits 64 state → state < 2 ^ 256 → IsStateWord word state
 state_word word state is small = subst (λ w. IsStateWord w state) (sym is) (record {
@@ -69,7 +60,7 @@ state_word word state is small = subst (λ w. IsStateWord w state) (sym is) (rec
 digits_of_value : (count n : ℕ) (word : List ℕ) → are_values word ≡ true → hex_digits (count + length word) (hex_value_after n word) ≡ hex_digits count n ++ word
 digits_of_value count n [] e = ap (λ k. hex_digits k n) (let same : count + 0 ≡ count = omega arith in same) ∙ sym (append-nil (hex_digits count n))
 digits_of_value count n (b ∷ bs) e =
-    let c = conjuncts (ltb (hex_value b) 16) (are_values bs) e in
+    let c = and_parts (ltb (hex_value b) 16) (are_values bs) e in
     let small : hex_value b < 16 = ltb-true _ _ c.0 in
     let longer : count + suc (length bs) ≡ suc count + length bs = omega arith in
     ap (λ k. hex_digits k (hex_value_after (n * 16 + hex_value b) bs)) longer
@@ -80,7 +71,7 @@ digits_of_value count n (b ∷ bs) e =
 value_is_small : (n : ℕ) (word : List ℕ) → are_values word ≡ true → hex_value_after n word < (n + 1) * 16 ^ length word
 value_is_small n [] e = omega arith
 value_is_small n (b ∷ bs) e =
-    let c = conjuncts (ltb (hex_value b) 16) (are_values bs) e in
+    let c = and_parts (ltb (hex_value b) 16) (are_values bs) e in
     let digit : hex_value b < 16 = ltb-true _ _ c.0 in
     let rest : hex_value_after (n * 16 + hex_value b) bs < (n * 16 + hex_value b + 1) * 16 ^ length bs = value_is_small (n * 16 + hex_value b) bs c.1 in
     let power : (n + 1) * 16 ^ suc (length bs) ≡ ((n + 1) * 16) * 16 ^ length bs = ap (λ p. (n + 1) * p) (pow-suc 16 (length bs) ∙ mul_comm (16 ^ length bs) 16) ∙ sym (mul_assoc (n + 1) 16 (16 ^ length bs)) in

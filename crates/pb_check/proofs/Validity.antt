@@ -1,11 +1,12 @@
 -- Where no fault is found, the certificate is valid, and the other way round.
 use Rattle.std.proofs.Common.{◌≡◌, ℕ, zero, suc, ◌+◌, ◌<◌, ◌≤◌, Bool, true, false, ◌&&◌, cond, eqb, leb, Option, None, Some, List, [], ◌∷◌, All, Contains, map, Result, Ok, Err, refl, sym, ap, ◌∙◌, subst, arith, ◌⊎◌, inl, inr, IsTrue, IsFalse}
+use Rattle.std.proofs.lemmas.Option.{same_Some}
 use Rattle.std.specs.List.{AllByRecursion}
 use Rattle.std.specs.List.Sorted.{IsStrictlySortedBy}
 use Rattle.std.specs.Ordering.{nat_cmp}
 use Rattle.std.specs.Cmp.{nat_cmp_is}
 use Rattle.std.specs.declared.cmp.Ordering.TheVariants.{Less}
-use Rattle.std.proofs.lemmas.Bool.{eqb-true, leb-true}
+use Rattle.std.proofs.lemmas.Bool.{eqb-true, leb-true, and_parts}
 use Rattle.std.proofs.lemmas.List.Elements.{All-nil, All-cons, Contains-append_right}
 use Rattle.pb_model.specs.declared.row.Estimate.{Estimate}
 use Rattle.pb_model.specs.declared.row.Estimate.TheVariants.{Cost, Dead}
@@ -27,14 +28,10 @@ use Rattle.pb_check.specs.Reading.{Text, text_of}
 use Rattle.pb_check.specs.Judging.{passes, or_then, unless, same_kind, is_weight, after_step, walk, plan_fault, plan_fault_if_any, AreAbove, Rise, rows_order_fault, first_fault_by, state_fault, g_of, is_zero, target_fault, step_fault, steps_fault, may_be_cut, row_fault, verdict_of, judged, checked}
 use Rattle.pb_check.proofs.Finding.{order_rises}
 use Rattle.pb_check.specs.Spelling.{IsSpelled}
-use Rattle.pb_check.proofs.Spelled.{spelled}
+use Rattle.pb_check.proofs.Spelled.{bind_ok, ok_is, spelled}
 use Rattle.pb_check.proofs.Written.{is_spelled}
 
 -- ---- steps of a chain that did not fail
-
-bind_ok : {A B : Type 0} (r : Result A CertificateFault) (f : A → Result B CertificateFault) (y : B) → (r >>= f) ≡ Ok y → (x : A) × (r ≡ Ok x) × (f x ≡ Ok y)
-bind_ok (Ok x) f y e = (x, refl, e)
-bind_ok (Err d) f y e = absurd cc
 
 passed : (fault : Option CertificateFault) (x : Bool) → passes fault ≡ Ok x → fault ≡ None
 passed None x e = refl
@@ -47,16 +44,6 @@ holds false f e = absurd cc
 first_none : (a b : Option CertificateFault) → or_then a b ≡ None → (a ≡ None) × (b ≡ None)
 first_none None b e = (refl, e)
 first_none (Some f) b e = absurd cc
-
-conjuncts : (a b : Bool) → (a && b) ≡ true → (a ≡ true) × (b ≡ true)
-conjuncts true b e = (refl, e)
-conjuncts false b e = absurd cc
-
-some_is : {A : Type 0} (x y : A) → ◌≡◌ {A = Option A} (Some x) (Some y) → x ≡ y
-some_is x y e = cc
-
-ok_is : {A : Type 0} (x y : A) → ◌≡◌ {A = Result A CertificateFault} (Ok x) (Ok y) → x ≡ y
-ok_is x y e = cc
 
 -- ---- kind and weight
 
@@ -73,8 +60,8 @@ kinds_same Strips Tiles e = absurd cc
 
 weighs : (weight : Weight) → is_weight weight ≡ true → IsWeight weight
 weighs weight e =
-    let a = conjuncts (leb 1 weight.den) (leb weight.den weight.num && leb weight.num 1000) e in
-    let b = conjuncts (leb weight.den weight.num) (leb weight.num 1000) a.1 in
+    let a = and_parts (leb 1 weight.den) (leb weight.den weight.num && leb weight.num 1000) e in
+    let b = and_parts (leb weight.den weight.num) (leb weight.num 1000) a.1 in
     record { positive = leb-true _ _ a.0; at_least_one = leb-true _ _ b.0; small = leb-true _ _ b.1 }
 
 -- ---- the plan
@@ -137,7 +124,7 @@ has_row [] state g e = absurd cc
 has_row (row ∷ rows) state g e = go (has_row rows state g) (eqb row.state state) refl e
   where
     go : (g_of rows state ≡ Some g → (line : Line) × Contains rows line × (line.state ≡ state) × (line.g ≡ g)) → (b : Bool) → eqb row.state state ≡ b → cond b (Some row.g) (g_of rows state) ≡ Some g → (line : Line) × Contains (row ∷ rows) line × (line.state ≡ state) × (line.g ≡ g)
-    go rest true is e = (row, (0, omega arith, refl), eqb-true _ _ is, some_is row.g g e)
+    go rest true is e = (row, (0, omega arith, refl), eqb-true _ _ is, same_Some row.g g e)
     go rest false is e = let h = rest e in (h.0, Contains-append_right (row ∷ []) rows h.0 h.1, h.2, h.3)
 
 within_is : (rows : List Line) (state most : ℕ) (g : Option ℕ) → g_of rows state ≡ g → ((k : ℕ) → g ≡ Some k → k ≤ most) → (g ≡ None → ⊥) → HasLineWithin rows state most
@@ -151,14 +138,14 @@ starts rows state e = go (g_of rows state) refl e
   where
     go : (g : Option ℕ) → g_of rows state ≡ g → is_zero g ≡ true → HasLineWithin rows state 0
     go None is e = absurd cc
-    go (Some k) is e = let z = eqb-true k 0 e in within_is rows state 0 (Some k) is (λ j same. let s = some_is k j same in omega (arith, z, s)) (λ none. cc)
+    go (Some k) is e = let z = eqb-true k 0 e in within_is rows state 0 (Some k) is (λ j same. let s = same_Some k j same in omega (arith, z, s)) (λ none. cc)
 
 on_target : (rows : List Line) (line action state most : ℕ) → target_fault line action most (g_of rows state) ≡ None → HasLineWithin rows state most
 on_target rows line action state most e = go (g_of rows state) refl e
   where
     go : (g : Option ℕ) → g_of rows state ≡ g → target_fault line action most g ≡ None → HasLineWithin rows state most
     go None is e = absurd cc
-    go (Some k) is e = let le = leb-true k most (holds (leb k most) (faults.TooDear line action) e) in within_is rows state most (Some k) is (λ j same. let s = some_is k j same in omega (arith, le, s)) (λ none. cc)
+    go (Some k) is e = let le = leb-true k most (holds (leb k most) (faults.TooDear line action) e) in within_is rows state most (Some k) is (λ j same. let s = same_Some k j same in omega (arith, le, s)) (λ none. cc)
 
 step_passes : (space : Space) (rows : List Line) (line g state count action : ℕ) → steps_fault space rows line g state count ≡ None → action < count → step_fault rows line g action (space.step state action) ≡ None
 unfolding steps_fault
