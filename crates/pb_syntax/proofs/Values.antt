@@ -1,11 +1,9 @@
 -- A short number is a number of a cost, and has the same value.
 use Rattle.std.proofs.Common.{◌≡◌, ℕ, ◌+◌, ◌-◌, ◌*◌, Bool, true, false, cond, List, [], ◌∷◌, Option, Some, None, refl, sym, ap, ◌∙◌}
+use Rattle.std.proofs.lemmas.Bool.{true≢false}
 use Rattle.std.specs.Prelude.{is_some}
 use Rattle.pb_pddl.specs.Numbers.{is_number, value_behind, number_of}
 use Rattle.pb_lines.specs.ShortNumbers as short
-
-true_false : true ≡ false → ⊥
-true_false e = cc
 
 same_value : (number : ℕ) (digits : List ℕ) → short.value_behind number digits ≡ value_behind number digits
 same_value number [] = refl
@@ -34,4 +32,4 @@ of_none true m e = absurd cc
 of_none false m e = refl
 
 pub none_is_no_number : (word : List ℕ) → short.short_number_of word ≡ None → is_number word ≡ true → ⊥
-none_is_no_number word e is = true_false (sym is ∙ of_none (is_number word) (number_of word) (sym (if_number word) ∙ e))
+none_is_no_number word e is = true≢false (sym is ∙ of_none (is_number word) (number_of word) (sym (if_number word) ∙ e))
