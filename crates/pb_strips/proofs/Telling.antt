@@ -21,7 +21,7 @@ use Rattle.pb_lifted.specs.Refusals.{first_refusal, causes_in_order, action_name
 use Rattle.pb_lifted.specs.Typing.{object_names, named, AreDistinct, IsWellTyped}
 use Rattle.pb_lifted.proofs.DistinctNames.{distinct_on, text_of}
 use Rattle.pb_lifted.proofs.Faultless.{faultless, nil_left, nil_right}
-use Rattle.pb_lifted.proofs.FittingObjects.{at_mapped}
+use Rattle.pb_lifted.proofs.FittingObjects.{at_mapped, there_at}
 use Rattle.pb_lifted.proofs.WellTyped.{accepted_is_well_typed}
 use Rattle.pb_ground.specs.declared.actions.ActionInstance as instance
 use Rattle.pb_ground.specs.Atoms.{ground_atoms}
@@ -37,13 +37,6 @@ use Rattle.pb_strips.specs.Naming.{AreTellingNames, NamesTellActions}
 use Rattle.pb_strips.proofs.Apart.{same_place}
 use Rattle.pb_strips.proofs.DifferentRows.{row_of, actions_apart}
 use Rattle.pb_strips.proofs.Texts.{IsPlain, ArePlain, plain, same_parts, IsOfLine, text_of_line, text_is}
-
--- ---- lists
-
-element : {A : Type 0} (xs : List A) (k : ℕ) → k < length xs → (x : A) × (slice_get xs k ≡ Some x)
-element [] k less = absurd (omega arith)
-element (x ∷ xs) zero less = (x, refl)
-element (x ∷ xs) (suc k) less = element xs k (omega arith)
 
 -- ---- names are words
 
@@ -195,8 +188,8 @@ module _ (domain : Domain) (problem : Problem) (accepted : first_fault domain pr
   same_action : (one other : ℕ) → one < length actions → other < length actions
       → name_in (strips_of domain problem).actions one ≡ name_in (strips_of domain problem).actions other → one ≡ other
   same_action one other less more e =
-      let a = element actions one less in
-      let b = element actions other more in
+      let a = there_at actions one less in
+      let b = there_at actions other more in
       let row = same_row one other a.0 b.0 a.1 b.1 (sym (name_is one a.0 a.1) ∙ (e ∙ name_is other b.0 b.1)) in
       same_place (map row_of actions) one other (row_of a.0) (actions_apart lifted (ground_atoms lifted)) (at_mapped row_of actions one a.0 a.1)
       (at_mapped row_of actions other b.0 b.1 ∙ ap (λ r. Some r) (sym row))
@@ -218,7 +211,7 @@ module _ (domain : Domain) (problem : Problem) (accepted : first_fault domain pr
       inside : nat_lt k (length actions) ≡ true → All (λ c. c ≢ 10) (name_in (strips_of domain problem).actions k)
       inside e =
           let less : k < length actions = grind (arith, nat_tests) in
-          let a = element actions k less in
+          let a = there_at actions k less in
           subst (λ text. All (λ c. c ≢ 10) text) (sym (name_is k a.0 a.1)) (λ n d within. (of_line a.0 n d within).1)
 
       outside : nat_lt k (length actions) ≡ false → All (λ c. c ≢ 10) (name_in (strips_of domain problem).actions k)
