@@ -1,5 +1,5 @@
 -- The keyword of a section of a domain, where those before it do not stand.
-use Rattle.std.proofs.Common.{◌≡◌, Bool, true, false, cond, List, Err, ◌∙◌}
+use Rattle.std.proofs.Common.{◌≡◌, true, false, List, Err, ◌∙◌}
 use Rattle.std.proofs.lemmas.Bool.{cond-true, cond-false}
 use Rattle.std.specs.Prelude.{codes}
 use Rattle.pb_pddl.specs.declared.token.TokenKind.TheVariants as kinds
