@@ -1,19 +1,16 @@
 -- A table of small rows, and the wide one with the same rows.
-use Rattle.std.proofs.Common.{◌≡◌, ◌<◌, ◌^◌, ℕ, zero, suc, drop, append_assoc, slice_get, Bool, true, false, cond, Option, Some, None, List, [], ◌∷◌, ◌++◌, map, refl, sym, ap, ◌∙◌, subst, arith, nat_eq, true≢false, IsSome, IfSome, IfNone, if◌then◌else◌}
+use Rattle.std.proofs.Common.{◌≡◌, ◌<◌, ◌^◌, ℕ, zero, suc, drop, append_assoc, slice_get, Bool, true, false, cond, Option, Some, None, List, [], ◌∷◌, ◌++◌, map, refl, sym, ap, ◌∙◌, subst, arith, nat_eq, true≢false, IsSome, IfSome, IfNone}
 use Rattle.std.proofs.lemmas.Option.{slice_get-map}
 use Rattle.std.specs.Map.{lookup, keys_of}
 use Rattle.std.specs.List.{AllByRecursion, IsDistinct}
 use Rattle.std.specs.Option.{option_map}
 use Rattle.indexmap.specs.IndexMap.{insert_entry}
-use Rattle.pb_model.specs.declared.row.Estimate.{Estimate}
 use Rattle.pb_model.specs.declared.row.Row.{Row}
 use Rattle.pb_model.specs.declared.row.Status.{Status}
-use Rattle.pb_model.specs.declared.row.Status.TheVariants.{Opened, Closed, Cut}
 use Rattle.pb_lists.specs.declared.small_row.SmallRow.{SmallRow}
 use Rattle.pb_lists.specs.Bundle.{row_in}
-use Rattle.pb_lists.specs.SmallRow.{wide_row, estimate_of}
-use Rattle.pb_lists.specs.Fields.{is_opened}
-use Rattle.pb_lists.specs.Rows.{wide_entry, HasWords, opened_costs}
+use Rattle.pb_lists.specs.SmallRow.{wide_row}
+use Rattle.pb_lists.specs.Rows.{wide_entry, HasWords}
 use Rattle.pb_lists.proofs.Parts.{nat_same, nat_found}
 
 -- ---- a value that is put
@@ -165,22 +162,3 @@ status_wide entries after state status writes row found = which (lookup (nat_eq 
         let same : wide_row small ≡ row = cc in
         ap (map wide_entry) (writes small is)
         ∙ (put_wide state (record small { status = status }) entries ∙ ap (λ (was : Row). insert_entry nat_eq (map wide_entry entries) state (record was { status = status })) same)
-
-pub opened_wide : (state : ℕ) (small : SmallRow) (entries : List (ℕ × SmallRow)) (g : ℕ) (estimate : Estimate) → lookup (nat_eq state) entries ≡ Some small → small.status ≡ Opened → g ≡ small.g
-    → estimate ≡ estimate_of small.is_dead small.estimate → Some (g, estimate) ≡ opened_costs (row_in (map wide_entry entries) state)
-opened_wide state small entries g estimate found opened is_g is_estimate =
-    sym (ap opened_costs (found_there state small entries found)
-    ∙ (ap (λ status. if is_opened status then Some (small.g, estimate_of small.is_dead small.estimate) else None) opened
-    ∙ (ap (λ n. Some (n, estimate_of small.is_dead small.estimate)) (sym is_g) ∙ ap (λ e. Some (g, e)) (sym is_estimate))))
-
-pub settled_wide : (state : ℕ) (small : SmallRow) (entries : List (ℕ × SmallRow)) → lookup (nat_eq state) entries ≡ Some small → (small.status ≡ Opened → ⊥)
-    → None ≡ opened_costs (row_in (map wide_entry entries) state)
-settled_wide state small entries found settled = sym (ap opened_costs (found_there state small entries found) ∙ which small.status settled)
-  where
-    which : (status : Status) → (status ≡ Opened → ⊥) → opened_costs (Some (record (wide_row small) { status = status })) ≡ None
-    which Opened off = absurd (off refl)
-    which Closed off = refl
-    which Cut off = refl
-
-pub unopened_wide : (state : ℕ) (entries : List (ℕ × SmallRow)) → lookup (nat_eq state) entries ≡ None → None ≡ opened_costs (row_in (map wide_entry entries) state)
-unopened_wide state entries found = sym (ap opened_costs (found_nowhere state entries found))

@@ -1,7 +1,8 @@
 -- The key of a row in a bundle, and the rows that are Opened.
-use Rattle.std.specs.Prelude.{ℕ, Bool, true, false, Option, None, Some, ◌&&◌}
+use Rattle.std.specs.Prelude.{ℕ, Bool, true, false, Option, None, Some, ◌&&◌, if◌then◌else◌}
 use Rattle.pb_model.specs.declared.key.Key.{Key}
 use Rattle.pb_model.specs.declared.key.Key.TheVariants.{Sum, Dead}
+use Rattle.pb_model.specs.declared.row.Estimate.{Estimate}
 use Rattle.pb_model.specs.declared.row.Row.{Row}
 use Rattle.pb_model.specs.declared.row.Status.{Status}
 use Rattle.pb_model.specs.declared.row.Status.TheVariants.{Opened, Closed, Cut}
@@ -24,6 +25,11 @@ is_opened Cut = false
 abbrev pub is_open_at : Weight → Option Row → Key → Bool
 is_open_at weight None key = false
 is_open_at weight (Some row) key = is_opened row.status && same_key (key_at weight row) key
+
+-- the g and the estimate of an Opened row
+abbrev pub opened_costs : Option Row → Option (ℕ × Estimate)
+opened_costs None = None
+opened_costs (Some row) = if is_opened row.status then Some (row.g, row.estimate) else None
 
 -- the sum of a key, as the key with that sum and the estimate 0
 abbrev pub sum_of : Key → Key

@@ -1,11 +1,9 @@
 -- The table of a bundle's rows. It is small at first: words of 64 bits and small rows. It is wide
 -- from the first state or row on that a small one has no place for.
-use Rattle.std.specs.Prelude.{◌≡◌, ◌≤◌, ◌<◌, ◌^◌, ℕ, Bool, true, false, List, Option, None, Some, nat_eq, map, if◌then◌else◌}
+use Rattle.std.specs.Prelude.{◌≡◌, ◌≤◌, ◌<◌, ◌^◌, ℕ, Bool, true, false, List, None, nat_eq, map}
 use Rattle.std.specs.Map.{lookup}
 use Rattle.indexmap.specs.IndexMap.{spare}
-use Rattle.pb_model.specs.declared.row.Estimate.{Estimate}
 use Rattle.pb_model.specs.declared.row.Row.{Row}
-use Rattle.pb_lists.specs.Fields.{is_opened}
 use Rattle.pb_lists.specs.SmallRow.{wide_row, is_small}
 use Rattle.pb_lists.specs.declared.small_row.SmallRow.{SmallRow}
 use Rattle.pb_lists.specs.declared.rows.Table.{Table}
@@ -35,8 +33,3 @@ IsTable (Wide rows) = Unit {0}
 -- the table has a place for a state with this row
 abbrev pub HasPlaceFor : Listed → ℕ → Row → Type 0
 HasPlaceFor rows state row = rows.is_wide ≡ false → (state < 2 ^ 64) × (is_small row ≡ true)
-
--- the g and the estimate of an Opened row
-abbrev pub opened_costs : Option Row → Option (ℕ × Estimate)
-opened_costs None = None
-opened_costs (Some row) = if is_opened row.status then Some (row.g, row.estimate) else None

@@ -4,7 +4,8 @@ ghost use Rattle.std.specs.List.{IsDistinct};
 ghost use Rattle.std.specs.Map.{keys_of, lookup};
 ghost use Rattle.indexmap.specs.IndexMap.{insert_entry, spare};
 ghost use Rattle.pb_lists.specs.Bundle.{row_in};
-ghost use Rattle.pb_lists.specs.Rows.{HasPlaceFor, HasWords, opened_costs, wide_entry};
+ghost use Rattle.pb_lists.specs.Fields.{opened_costs};
+ghost use Rattle.pb_lists.specs.Rows.{HasPlaceFor, HasWords, wide_entry};
 ghost use Rattle.pb_lists.specs.SmallRow.{is_small};
 
 use crate::small_row::SmallRow;
@@ -83,10 +84,7 @@ impl Rows {
     {
         match &self.table {
             Table::Small(rows) => match small_row_in(rows, state) {
-                Some(row) => match row.status {
-                    Status::Opened => Some((u64::from(row.g), row.estimate())),
-                    _ => None,
-                },
+                Some(row) => row.opened(),
                 None => None,
             },
             Table::Wide(rows) => match rows.get(state) {

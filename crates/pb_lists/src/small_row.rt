@@ -1,5 +1,6 @@
 //! Rows of a few numbers each, as those of maps and boards are.
-ghost use Rattle.std.specs.Prelude.{◌≡◌, ◌≤◌, ◌^◌, false, IfSome, IfNone};
+ghost use Rattle.std.specs.Prelude.{◌≡◌, ◌≤◌, ◌^◌, false, Some, IfSome, IfNone};
+ghost use Rattle.pb_lists.specs.Fields.{opened_costs};
 ghost use Rattle.pb_lists.specs.SmallRow.{parent_of, estimate_of, wide_row, is_small, is_small_parent, is_small_estimate};
 
 use crate::word::{state_of, word_of};
@@ -53,7 +54,17 @@ impl SmallRow {
         }
     }
 
-    pub(crate) fn estimate(&self) -> Estimate
+    // The g and the estimate, if the row is Opened.
+    pub(crate) fn opened(&self) -> Option<(u64, Estimate)>
+        ensures { result ≡ opened_costs (Some (wide_row self.now)) }
+    {
+        match self.status {
+            Status::Opened => Some((u64::from(self.g), self.estimate())),
+            _ => None,
+        }
+    }
+
+    fn estimate(&self) -> Estimate
         ensures { result ≡ estimate_of self.now.is_dead self.now.estimate }
     {
         if self.is_dead {
