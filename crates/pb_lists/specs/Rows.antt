@@ -10,7 +10,7 @@ use Rattle.pb_lists.specs.declared.rows.Table.{Table}
 use Rattle.pb_lists.specs.declared.rows.Table.TheVariants.{Small, Wide}
 
 -- What contracts see of a table.
-pub record Listed : Type 0 where
+pub record ListedRows : Type 0 where
   pub entries : List (ℕ × Row)  -- each state that has a row, with its row, in order of insertion
   pub is_wide : Bool  -- whether each state and row has a place, or small ones alone
   pub room : ℕ  -- at least so many more states get rows without more memory
@@ -18,7 +18,7 @@ pub record Listed : Type 0 where
 abbrev pub wide_entry : ℕ × SmallRow → ℕ × Row
 wide_entry entry = (entry.0, wide_row entry.1)
 
-abbrev pub listed_of : Table → Listed
+abbrev pub listed_of : Table → ListedRows
 listed_of (Small rows) = record { entries = map wide_entry rows.entries; is_wide = false; room = spare rows }
 listed_of (Wide rows) = record { entries = rows.entries; is_wide = true; room = spare rows }
 
@@ -31,5 +31,5 @@ IsTable (Small rows) = HasWords rows.entries
 IsTable (Wide rows) = Unit {0}
 
 -- the table has a place for a state with this row
-abbrev pub HasPlaceFor : Listed → ℕ → Row → Type 0
+abbrev pub HasPlaceFor : ListedRows → ℕ → Row → Type 0
 HasPlaceFor rows state row = rows.is_wide ≡ false → (state < 2 ^ 64) × (is_small row ≡ true)

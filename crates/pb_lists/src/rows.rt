@@ -34,9 +34,9 @@ pub(crate) struct Rows {
 }
 
 impl Model for Rows {
-    ghost use Rattle.pb_lists.specs.Rows.{Listed, listed_of, IsTable};
+    ghost use Rattle.pb_lists.specs.Rows.{ListedRows, listed_of, IsTable};
 
-    ghost Value = { Listed };
+    ghost Value = { ListedRows };
 
     ghost view = { λ r. listed_of r.table };
 
