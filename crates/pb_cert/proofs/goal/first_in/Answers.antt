@@ -8,7 +8,7 @@ rows-init c = none_so_far (space_of c.args.task.now) c.args.bundle.now.entries c
 
 pub rows-preserved : goal.rows-preserved
 rows-preserved c =
-    one_more (space_of c.args.task.now) c.args.bundle.now.entries c.args.so_far c.rows.i c.rows.first c.first_of-first.result c.at.result.0 c.at.result.1 c.at.ensures c.rows.invariant
+    one_more (space_of c.args.task.now) c.args.bundle.now.entries c.args.so_far c.rows.i c.rows.first c.first_of-first.result c.at-state.result.0 c.at-state.result.1 c.at-state.ensures c.rows.invariant
     c.first_of-first.ensures.kept c.first_of-first.ensures.small c.first_of-first.ensures.here c.first_of-first.ensures.from
 
 pub returns-clause-here : goal.returns-clause-here
