@@ -90,7 +90,11 @@ fn next(counts: &[u32], tracked: &TrackedAtoms) -> Option<u8>
 }
 
 /// The atoms that are tracked where at most so many blocks are wished for.
-pub fn choose_atoms(alloc: Global, strips: &StripsParts, wish: u32) -> Result<TrackedAtoms, AllocError>
+pub fn choose_atoms(
+    alloc: Global,
+    strips: &StripsParts,
+    wish: u32,
+) -> Result<TrackedAtoms, AllocError>
     requires strips { IsStrips strips.now }
     requires some { 1 ≤ wish }
     requires few { wish ≤ 4096 }

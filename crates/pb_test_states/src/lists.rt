@@ -90,8 +90,14 @@ fn rows_stay_after_one_that_is_not_small(rt: HostRuntime) -> Result<(), Fail> {
     let most = u64::from(u32::MAX);
     let small = [
         (word(7), row(4, Estimate::Cost(9), None, 0)),
-        (word(u64::MAX), row(most, Estimate::Dead, Some(word(7)), u32::MAX)),
-        (word(5), row(3, Estimate::Cost(most), Some(word(u64::MAX)), 2)),
+        (
+            word(u64::MAX),
+            row(most, Estimate::Dead, Some(word(7)), u32::MAX),
+        ),
+        (
+            word(5),
+            row(3, Estimate::Cost(most), Some(word(u64::MAX)), 2),
+        ),
     ];
     for (state, last) in [
         (wide, row(8, Estimate::Cost(1), None, 1)),
