@@ -82,53 +82,41 @@ fn row(g: u64, estimate: Estimate, parent: Option<Packed>, action: u32) -> Row {
     }
 }
 
-// The rows of three words, the first closed, and then a row that has no place among small ones. All
-// rows, places and the order of the first rows stay.
+// The rows of three words, and then a row that has no place among small ones. All rows and places
+// stay.
 #[test]
 fn rows_stay_after_one_that_is_not_small(rt: HostRuntime) -> Result<(), Fail> {
     let wide = Packed::zero().with_bits(64, 1, 1);
     let most = u64::from(u32::MAX);
-    let small = [
-        (word(7), row(4, Estimate::Cost(9), None, 0)),
-        (
-            word(u64::MAX),
-            row(most, Estimate::Dead, Some(word(7)), u32::MAX),
-        ),
-        (
-            word(5),
-            row(3, Estimate::Cost(most), Some(word(u64::MAX)), 2),
-        ),
-    ];
-    for (state, last) in [
-        (wide, row(8, Estimate::Cost(1), None, 1)),
-        (word(1), row(8, Estimate::Cost(1), Some(wide), 1)),
-        (word(1), row(most + 1, Estimate::Cost(1), None, 1)),
-        (word(1), row(8, Estimate::Cost(most + 1), None, 1)),
-        (word(1), row(8, Estimate::Dead, Some(wide), 1)),
+    for (state, g, estimate, parent) in [
+        (wide, 8, Estimate::Cost(1), None),
+        (word(1), 8, Estimate::Cost(1), Some(wide)),
+        (word(1), most + 1, Estimate::Cost(1), None),
+        (word(1), 8, Estimate::Cost(most + 1), None),
+        (word(1), 8, Estimate::Dead, Some(wide)),
     ] {
         let mut bundle = Bundle::new(rt.alloc(), 1, 1)?;
-        for (other, row) in small {
-            bundle.offer(other, row.g, row.estimate, row.parent, row.action)?;
-        }
-        bundle.close_row(&word(7));
-        bundle.offer(state, last.g, last.estimate, last.parent, last.action)?;
-        let closed = Row {
-            status: Status::Closed,
-            ..small[0].1
-        };
+        bundle.offer(word(7), 4, Estimate::Cost(9), None, 0)?;
+        bundle.offer(
+            word(u64::MAX),
+            most,
+            Estimate::Dead,
+            Some(word(7)),
+            u32::MAX,
+        )?;
+        bundle.offer(word(5), 3, Estimate::Cost(most), Some(word(u64::MAX)), 2)?;
+        bundle.offer(state, g, estimate, parent, 1)?;
         assert!(rt; bundle.len() == 4);
-        assert!(rt; bundle.at(0) == (word(7), closed) && bundle.row(&word(7)) == Some(closed));
-        assert!(rt; bundle.at(1) == small[1] && bundle.place_of(&word(u64::MAX)) == Some(1));
-        assert!(rt; bundle.at(2) == small[2] && bundle.row(&word(5)) == Some(small[2].1));
-        assert!(rt; bundle.at(3) == (state, last) && bundle.place_of(&state) == Some(3));
+        assert!(rt; bundle.row(&word(7)) == Some(row(4, Estimate::Cost(9), None, 0)));
+        assert!(rt;
+            bundle.row(&word(u64::MAX)) == Some(row(most, Estimate::Dead, Some(word(7)), u32::MAX))
+        );
+        assert!(rt;
+            bundle.row(&word(5)) == Some(row(3, Estimate::Cost(most), Some(word(u64::MAX)), 2))
+        );
+        assert!(rt; bundle.row(&state) == Some(row(g, estimate, parent, 1)));
         assert!(rt; bundle.row(&word(2)) == None && bundle.place_of(&word(2)) == None);
-        assert!(rt; bundle.row(&Packed::zero().with_bits(64, 64, 3)) == None);
-        assert!(rt; bundle.offer_at(2, 2, None, 6)? == Offer::Better);
-        assert!(rt; bundle.row(&word(5)) == Some(row(2, Estimate::Cost(most), None, 6)));
-        bundle.cut_row(&state);
-        assert!(rt; bundle.first() == Some(word(5)));
-        bundle.close_row(&word(5));
-        assert!(rt; bundle.first() == Some(word(u64::MAX)) && bundle.best() == Some(Key::Dead));
+        assert!(rt; bundle.place_of(&word(5)) == Some(2) && bundle.place_of(&state) == Some(3));
     }
     Ok(())
 }
@@ -140,10 +128,10 @@ fn a_small_row_is_lowered_by_a_wide_parent(rt: HostRuntime) -> Result<(), Fail> 
     let mut bundle = Bundle::new(rt.alloc(), 1, 1)?;
     bundle.offer(word(3), 9, Estimate::Cost(2), None, 0)?;
     bundle.offer(word(4), 9, Estimate::Cost(1), Some(word(3)), 1)?;
-    assert!(rt; bundle.offer_at(0, 9, Some(wide), 5)? == Offer::Worse);
-    assert!(rt; bundle.offer_at(0, 8, Some(wide), 5)? == Offer::Better);
-    assert!(rt; bundle.at(0) == (word(3), row(8, Estimate::Cost(2), Some(wide), 5)));
-    assert!(rt; bundle.at(1) == (word(4), row(9, Estimate::Cost(1), Some(word(3)), 1)));
+    assert!(rt; bundle.offer(word(3), 9, Estimate::Cost(2), Some(wide), 5)? == Offer::Worse);
+    assert!(rt; bundle.offer(word(3), 8, Estimate::Cost(2), Some(wide), 5)? == Offer::Better);
+    assert!(rt; bundle.row(&word(3)) == Some(row(8, Estimate::Cost(2), Some(wide), 5)));
+    assert!(rt; bundle.row(&word(4)) == Some(row(9, Estimate::Cost(1), Some(word(3)), 1)));
     assert!(rt; bundle.first() == Some(word(4)));
     Ok(())
 }
