@@ -6,7 +6,7 @@ use Rattle.pb_model.proofs.Keys.{not_both_before, best_keys_are_unique}
 use Rattle.pb_machine.specs.Choice.{ComesBefore, IsBetter}
 use Rattle.pb_machine.specs.JournalLaws.{FirstChoicesAreUnique, RivalsAreUnique}
 
-not_both_come : (j : Option Key) (b : ℕ) (k : Option Key) (c : ℕ) → ComesBefore j b k c → ComesBefore k c j b → ⊥
+pub not_both_come : (j : Option Key) (b : ℕ) (k : Option Key) (c : ℕ) → ComesBefore j b k c → ComesBefore k c j b → ⊥
 not_both_come None b None c h l = omega (arith, h, l)
 not_both_come None b (Some k) c h l = absurd h
 not_both_come (Some j) b None c h l = absurd l

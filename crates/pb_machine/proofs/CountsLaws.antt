@@ -17,6 +17,19 @@ use Rattle.pb_machine.specs.Legality.{first_true, tests, is_stranger, is_wrong_q
 use Rattle.pb_machine.specs.JournalLaws.{NoneOutNoneHot, LeasedAreNeverHot, ReleasesCoolNear}
 use Rattle.pb_machine.proofs.TableLaws.{entry_here, entry_else, any_same, any_none, any_some, any_at, sum_zero, sum_with_entry, none_counted, count_more}
 
+-- counts that agree in each part
+pub counts_same : (some other : Counts) → ((worker : ℕ) → some.leases worker ≡ other.leases worker) → ((block : ℕ) → some.hot block ≡ other.hot block)
+    → ((worker : ℕ) → some.signed_off worker ≡ other.signed_off worker) → some.spent ≡ other.spent → some.left ≡ other.left → some.end ≡ other.end → some.trouble ≡ other.trouble → some ≡ other
+counts_same some other leases hot off spent left end trouble = λ i. record {
+  leases = λ worker. leases worker i;
+  hot = λ block. hot block i;
+  signed_off = λ worker. off worker i;
+  spent = spent i;
+  left = left i;
+  end = end i;
+  trouble = trouble i;
+}
+
 -- where nothing refuses, no test is true
 pub none_true : (ts : List (Bool × EventRefusal)) → first_true ts ≡ None → AllByRecursion (λ t. t.0 ≡ false) ts
 none_true [] h = tt

@@ -1,4 +1,5 @@
 pub mod TableLaws
+pub mod ListTables
 pub mod CountsLaws
 pub mod Histories
 pub mod Choosing

@@ -18,7 +18,7 @@ use Rattle.pb_machine.proofs.TableLaws.{entry_here, entry_else, any_same, any_no
 use Rattle.pb_machine.proofs.CountsLaws.{some_is, none_true, rest_passes, none_leased, released_was, renewed_same, renewed_was}
 
 -- a lease whose block passes is there
-leased_block : (test : ℕ → Bool) (o : Option Grant) → is_lease_of test o ≡ true → (grant : Grant) × (o ≡ Some grant) × (test grant.block ≡ true)
+pub leased_block : (test : ℕ → Bool) (o : Option Grant) → is_lease_of test o ≡ true → (grant : Grant) × (o ≡ Some grant) × (test grant.block ≡ true)
 leased_block test None h = absurd (true≢false (sym h))
 leased_block test (Some grant) h = (grant, refl, h)
 
