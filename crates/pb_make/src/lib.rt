@@ -11,6 +11,3 @@ pub use boards::make_tiles;
 pub use domain::blocks_domain;
 pub use maps::{make_map, make_scen};
 pub use problems::make_problem;
-
-#[cfg(test)]
-mod tests;
