@@ -1,8 +1,10 @@
 -- Sets of atoms as numbers: by their bits, and by words of 64 bits.
 use Rattle.std.proofs.Common.{◌≡◌, ℕ, zero, suc, ◌+◌, ◌-◌, ◌*◌, ◌/◌, ◌%◌, ◌^◌, ◌<◌, ◌≤◌, Bool, true, false, not, IsTrue, nat_eq, ◌==◌, ◌&&◌, ◌||◌, inl, inr, refl, sym, subst, ap, arith, ◌∙◌, bit_and, bit_or, min, max, lit<, ◌↔◌}
 use Rattle.std.proofs.Math.Nat.{div-eq_of_lt, pow-le-pow_right, pow-suc}
-use Rattle.std.specs.Int.{bit_at, bit_not, w64}
+use Rattle.std.specs.Int.{Width, bit_at, bit_not, w64}
+use mir.Val.{bits}
 use Rattle.std.proofs.lemmas.Bool.{eqb-true, eq-eqb, cases_lt, false≢true, and_parts, and_from}
+use Rattle.std.proofs.lemmas.Bool.Decides.{same_from_decides}
 use Rattle.std.proofs.lemmas.Nat.{pow-add, pow_pos, mod_below, and_le_l, shr-shr, shr_split, mul-add-lt}
 use Rattle.std.proofs.lemmas.Nat.Bits.{bit_at_and, bit_at_or, bit_at_not, bit_at-lt, bit_at_above, bit_at_cat_low, bit_at_cat_high, same_from_bits_below}
 use Rattle.pb_packed.specs.Bits.{bits_of, with_bits_of, bit_number}
@@ -111,16 +113,13 @@ to_within (suc count) small large all =
     (told (has_atom small count) (has_atom large count) (all count (omega arith)))
 
 pub within_is : (answer : Bool) (count small large : ℕ) → count ≤ 256 → small < 2 ^ count → IsTrue answer ↔ Within 256 small large → answer ≡ is_within count small large
-within_is answer count small large few fits (forth, back) = same_answer answer (is_within count small large)
-    (λ e. to_within count small large (λ atom less. forth e atom (omega (arith, less, few))))
-    (λ e. back (λ atom less is. elim (cases_lt atom count) [
-      | inl lower ↦ from_within count small large e atom lower is
-      | inr above ↦ absurd (false≢true (sym (not_above small count atom fits above) ∙ is))
-    ])) where
-      same_answer : (one other : Bool) → (one ≡ true → other ≡ true) → (other ≡ true → one ≡ true) → one ≡ other
-      same_answer true other to from = sym (to refl)
-      same_answer false true to from = from refl
-      same_answer false false to from = refl
+within_is answer count small large few fits is = same_from_decides {P = Within 256 small large} answer (is_within count small large) is (
+  λ e atom less has. elim (cases_lt atom count) [
+    | inl lower ↦ from_within count small large e atom lower has
+    | inr above ↦ absurd (false≢true (sym (not_above small count atom fits above) ∙ has))
+  ],
+  λ all. to_within count small large (λ atom less. all atom (omega (arith, less, few))),
+)
 
 -- ---- words of 64 bits
 
@@ -149,19 +148,19 @@ turned : (one : Bool) → 1 - bit_number one ≡ bit_number (not one)
 turned true = refl
 turned false = refl
 
-both_atoms : (one other atom : ℕ) → has_atom (bit_and one other) atom ≡ (has_atom one atom && has_atom other atom)
+pub both_atoms : (one other atom : ℕ) → has_atom (bit_and one other) atom ≡ (has_atom one atom && has_atom other atom)
 both_atoms one other atom = number_tells _ _
     (sym (bit_is (bit_and one other) atom) ∙ bit_at_and one other atom ∙ ap (λ b. min b (bit_at other atom)) (bit_is one atom)
     ∙ ap (λ b. min (bit_number (has_atom one atom)) b) (bit_is other atom) ∙ least (has_atom one atom) (has_atom other atom))
 
-any_atom : (one other atom : ℕ) → has_atom (bit_or one other) atom ≡ (has_atom one atom || has_atom other atom)
+pub any_atom : (one other atom : ℕ) → has_atom (bit_or one other) atom ≡ (has_atom one atom || has_atom other atom)
 any_atom one other atom = number_tells _ _
     (sym (bit_is (bit_or one other) atom) ∙ bit_at_or one other atom ∙ ap (λ b. max b (bit_at other atom)) (bit_is one atom)
     ∙ ap (λ b. max (bit_number (has_atom one atom)) b) (bit_is other atom) ∙ greatest (has_atom one atom) (has_atom other atom))
 
-no_atom : (word atom : ℕ) → word < 2 ^ 64 → atom < 64 → has_atom (bit_not w64 word) atom ≡ not (has_atom word atom)
-no_atom word atom small less = number_tells _ _
-    (sym (bit_is (bit_not w64 word) atom) ∙ bit_at_not w64 word atom small less ∙ ap (λ b. 1 - b) (bit_is word atom) ∙ turned (has_atom word atom))
+pub no_atom : (width : Width) (word atom : ℕ) → word < 2 ^ bits width → atom < bits width → has_atom (bit_not width word) atom ≡ not (has_atom word atom)
+no_atom width word atom small less = number_tells _ _
+    (sym (bit_is (bit_not width word) atom) ∙ bit_at_not width word atom small less ∙ ap (λ b. 1 - b) (bit_is word atom) ∙ turned (has_atom word atom))
 
 -- the word of the set that has the atoms of one set, and those of another that are not in a third
 pub word_changed : (adds state deletes at atom : ℕ) → atom < 64
@@ -170,31 +169,36 @@ pub word_changed : (adds state deletes at atom : ℕ) → atom < 64
 word_changed adds state deletes at atom less =
     any_atom (bits_of adds at 64) _ atom
     ∙ ap (λ b. has_atom (bits_of adds at 64) atom || b) (both_atoms (bits_of state at 64) _ atom)
-    ∙ ap (λ b. has_atom (bits_of adds at 64) atom || (has_atom (bits_of state at 64) atom && b)) (no_atom (bits_of deletes at 64) atom (word_small deletes at) less)
+    ∙ ap (λ b. has_atom (bits_of adds at 64) atom || (has_atom (bits_of state at 64) atom && b)) (no_atom w64 (bits_of deletes at 64) atom (word_small deletes at) less)
     ∙ ap (λ b. b || (has_atom (bits_of state at 64) atom && not (has_atom (bits_of deletes at 64) atom))) (word_atom adds at atom less)
     ∙ ap (λ b. has_atom adds (at + atom) || (b && not (has_atom (bits_of deletes at 64) atom))) (word_atom state at atom less)
     ∙ ap (λ b. has_atom adds (at + atom) || (has_atom state (at + atom) && not b)) (word_atom deletes at atom less)
 
--- a word is within another where their common bits are its own
+-- a set is within another where their common atoms are its own
+pub common_all : (small large : ℕ) → bit_and small large ≡ small → (atom : ℕ) → IsTrue (has_atom small atom) → IsTrue (has_atom large atom)
+common_all small large same atom is =
+    (and_parts (has_atom small atom) (has_atom large atom) (sym (both_atoms small large atom) ∙ ap (λ set. has_atom set atom) same ∙ is)).1
+
+pub all_common : (count small large : ℕ) → small < 2 ^ count → Within count small large → bit_and small large ≡ small
+all_common count small large fits all =
+    same_atoms count (bit_and small large) small (omega (arith, and_le_l small large, fits)) fits
+    (λ atom less. both_atoms small large atom ∙ absorbed (has_atom small atom) (has_atom large atom) (all atom less)) where
+      absorbed : (one other : Bool) → (one ≡ true → other ≡ true) → (one && other) ≡ one
+      absorbed true other more = more refl
+      absorbed false other more = refl
+
+-- the same of the words of two sets
 abbrev pub WordWithin : (small large at : ℕ) → Type 0
 WordWithin small large at = (atom : ℕ) → atom < 64 → IsTrue (has_atom small (at + atom)) → IsTrue (has_atom large (at + atom))
 
 pub from_common : (small large at : ℕ) → bit_and (bits_of small at 64) (bits_of large at 64) ≡ bits_of small at 64 → WordWithin small large at
 from_common small large at same atom less is =
-    let first : has_atom (bits_of small at 64) atom ≡ true = word_atom small at atom less ∙ is in
-    let both : (has_atom (bits_of small at 64) atom && has_atom (bits_of large at 64) atom) ≡ true =
-    sym (both_atoms (bits_of small at 64) (bits_of large at 64) atom) ∙ ap (λ word. has_atom word atom) same ∙ first in
-    sym (word_atom large at atom less) ∙ (and_parts (has_atom (bits_of small at 64) atom) (has_atom (bits_of large at 64) atom) both).1
+    sym (word_atom large at atom less) ∙ common_all (bits_of small at 64) (bits_of large at 64) same atom (word_atom small at atom less ∙ is)
 
 pub to_common : (small large at : ℕ) → WordWithin small large at → bit_and (bits_of small at 64) (bits_of large at 64) ≡ bits_of small at 64
 to_common small large at all =
-    same_atoms 64 (bit_and (bits_of small at 64) (bits_of large at 64)) (bits_of small at 64) (omega (arith, and_le_l (bits_of small at 64) (bits_of large at 64), word_small small at))
-    (word_small small at) (λ atom less. both_atoms (bits_of small at 64) (bits_of large at 64) atom
-    ∙ absorbed (has_atom (bits_of small at 64) atom) (has_atom (bits_of large at 64) atom)
-    (λ is. word_atom large at atom less ∙ all atom less (sym (word_atom small at atom less) ∙ is))) where
-      absorbed : (one other : Bool) → (one ≡ true → other ≡ true) → (one && other) ≡ one
-      absorbed true other more = more refl
-      absorbed false other more = refl
+    all_common 64 (bits_of small at 64) (bits_of large at 64) (word_small small at)
+    (λ atom less is. word_atom large at atom less ∙ all atom less (sym (word_atom small at atom less) ∙ is))
 
 pub word_within_is : (small large at word other : ℕ) → word ≡ bits_of small at 64 → other ≡ bits_of large at 64 → IsTrue (nat_eq (bit_and word other) word) ↔ WordWithin small large at
 word_within_is small large at word other first second = (

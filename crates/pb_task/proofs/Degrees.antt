@@ -8,7 +8,7 @@ at_most_one : (action : ℕ) (step : Option (ℕ × ℕ)) → length (successor_
 at_most_one action None = omega arith
 at_most_one action (Some step) = omega arith
 
-few_below : (space : Space) (state count : ℕ) → length (steps_below space state count) ≤ count
+pub few_below : (space : Space) (state count : ℕ) → length (steps_below space state count) ≤ count
 few_below space state zero = omega arith
 few_below space state (suc action) =
     omega (arith, length-append (steps_below space state action) (successor_list action (space.step state action)), few_below space state action, at_most_one action (space.step state action))

@@ -1,18 +1,16 @@
 -- The blank and its exchange with another number, in the arithmetic of a board's state.
 use Rattle.std.proofs.Common.{lit<, ◌≡◌, ◌≢◌, ℕ, zero, suc, ◌+◌, ◌*◌, ◌/◌, ◌%◌, ◌-◌, ◌^◌, ◌<◌, ◌≤◌, Bool, true, false, not, ◌==◌, IsTrue, None, Some, List, [], ◌∷◌, ◌++◌, length, length-set, get_or, set, nat_lt, cond, refl, sym, subst, ap, arith, ◌∙◌}
-use Rattle.std.proofs.lemmas.Bool.{ltb-true, lt-ltb}
-use Rattle.std.proofs.lemmas.Bool.Decides.{nat_tests}
+use Rattle.std.proofs.lemmas.Bool.{and_parts, eqb-true, eq-eqb, ltb-true, lt-ltb, le-ltb, ne_eqb}
 use Rattle.std.proofs.lemmas.List.Edits.{swap_is}
-use Rattle.std.proofs.lemmas.List.Quantifiers.{position-Some}
-use Rattle.std.proofs.Math.Nat.{mul_comm, mul_assoc, add-mul, mul-le-mul_right, div-mul-le_self, mod-le, mod-lt, mod-eq_of_lt, pow-le-pow_right}
+use Rattle.std.proofs.Math.Nat.{mul_comm, mul_assoc, zero-mul, add-mul, mul-le-mul_right, div-mul-le_self, mod-le, mod-lt, mod-eq_of_lt, pow-le-pow_right}
 use Rattle.std.specs.Prelude.{swap}
 use Rattle.std.specs.List.{list_all, position_or_len}
 use Rattle.pb_packed.specs.Bits.{bits_of}
 use Rattle.pb_model.specs.Space.{steps_below, successor_list}
 use Rattle.pb_task.specs.Tiles.{cell_count, is_board, board_state, board_of, is_board_state, neighbour, slide, blank_of, slide_on, tiles_step, tiles_space, IsTiles}
 use Rattle.pb_task.specs.declared.parts.TilesParts.{TilesParts}
-use Rattle.pb_task.proofs.Boards.{both, Listed, listed, is_board_swapped, all_below_more, board_in, power, power_two, number_at, state_again, state_fits, whole, length-board_of}
-use Rattle.pb_task.proofs.Sliding.{few_cells, blank_within, neighbour_within, step_from}
+use Rattle.pb_task.proofs.Boards.{Listed, listed, is_board_swapped, all_below_more, board_in, power, power_two, number_at, state_again, state_fits, whole, length-board_of}
+use Rattle.pb_task.proofs.Sliding.{few_cells, blank_within, blank_at, neighbour_within, step_from}
 
 -- ---- where the blank is
 
@@ -25,7 +23,7 @@ blank_here number numbers e = ap (λ n. cond (not (n == 0)) (1 + before_blank nu
 
 blank_later : (number : ℕ) (numbers : List ℕ) → number ≢ 0 → before_blank (number ∷ numbers) ≡ 1 + before_blank numbers
 blank_later number numbers other =
-    let off : (number == 0) ≡ false = grind (arith, nat_tests) in ap (λ test. cond (not test) (1 + before_blank numbers) 0) off
+    ap (λ test. cond (not test) (1 + before_blank numbers) 0) (ne_eqb number 0 other)
 
 pub look_on : (count cell word rest : ℕ) → cell < count → rest % 16 ≢ 0 → before_blank (board_of count word) ≡ cell + before_blank (board_of (count - cell) rest)
     → before_blank (board_of count word) ≡ cell + 1 + before_blank (board_of (count - (cell + 1)) (rest / 16))
@@ -53,8 +51,7 @@ pub not_found : (count cell word rest : ℕ) → cell ≤ count → count ≤ ce
 not_found count cell word rest up down before =
     let none : count - cell ≡ 0 = omega arith in
     let all : before_blank (board_of (count - cell) rest) ≡ 0 = ap (λ k. before_blank (board_of k rest)) none in
-    let off : nat_lt cell count ≡ false = grind (arith, nat_tests) in
-    sym (blank_by count cell word false (omega (arith, before, all)) off)
+    sym (blank_by count cell word false (omega (arith, before, all)) (le-ltb cell count down))
 
 -- ---- numbers in their places
 
@@ -87,14 +84,12 @@ swapped_state board blank other less less' is =
     let long : length (set board blank (get_or board other 0)) ≡ length board = length-set board blank (get_or board other 0) in
     let two = replaced (set board blank (get_or board other 0)) other (get_or board blank 0) (omega (arith, long, less')) in
     let again = copied board blank other less in
-    let here : get_or board blank 0 * 16 ^ blank ≡ 0 = ap (λ n. n * 16 ^ blank) is ∙ nothing (16 ^ blank) in
-    let there : get_or board blank 0 * 16 ^ other ≡ 0 = ap (λ n. n * 16 ^ other) is ∙ nothing (16 ^ other) in
+    let here : get_or board blank 0 * 16 ^ blank ≡ 0 = ap (λ n. n * 16 ^ blank) is ∙ zero-mul (16 ^ blank) in
+    let there : get_or board blank 0 * 16 ^ other ≡ 0 = ap (λ n. n * 16 ^ other) is ∙ zero-mul (16 ^ other) in
     let carried : get_or (set board blank (get_or board other 0)) other 0 * 16 ^ other ≡ get_or board other 0 * 16 ^ other = ap (λ n. n * 16 ^ other) again in
     let swapped : board_state (set (set board blank (get_or board other 0)) other (get_or board blank 0)) ≡ board_state (swap board blank other) =
     ap board_state (swap_is board blank other 0 less less') in
-    omega (arith, one, two, here, there, carried, swapped) where
-      nothing : (n : ℕ) → 0 * n ≡ 0
-      nothing n = omega arith
+    omega (arith, one, two, here, there, carried, swapped)
 
 -- ---- the same on words
 
@@ -123,16 +118,14 @@ pub exchanged_word : (word count blank other : ℕ) → word < 16 ^ count → bl
 exchanged_word word count blank other few is less =
     let long : length (board_of count word) ≡ count = length-board_of count word in
     let first : blank < length (board_of count word) = blank_within (board_of count word) blank is in
-    let empty : get_or (board_of count word) blank 0 ≡ 0 = blank_number (board_of count word) blank is in
+    let empty : get_or (board_of count word) blank 0 ≡ 0 = blank_at (board_of count word) blank is in
     let state = swapped_state (board_of count word) blank other first (omega (arith, long, less)) empty in
     let number : get_or (board_of count word) other 0 ≡ word / 2 ^ (4 * other) % 16 = number_at count word other less in
     let leaves : get_or (board_of count word) other 0 * 16 ^ other ≡ word / 2 ^ (4 * other) % 16 * 2 ^ (4 * other) =
     ap (λ n. n * 16 ^ other) number ∙ ap (λ n. word / 2 ^ (4 * other) % 16 * n) (power_two other) in
     let comes : get_or (board_of count word) other 0 * 16 ^ blank ≡ word / 2 ^ (4 * other) % 16 * 2 ^ (4 * blank) =
     ap (λ n. n * 16 ^ blank) number ∙ ap (λ n. word / 2 ^ (4 * other) % 16 * n) (power_two blank) in
-    omega (arith, state, leaves, comes, state_again count word few) where
-      blank_number : (board : List ℕ) (cell : ℕ) → blank_of board ≡ Some cell → get_or board cell 0 ≡ 0
-      blank_number board cell e = let test = (position-Some (λ number. number == 0) board cell 0 e).1 in grind (arith, nat_tests)
+    omega (arith, state, leaves, comes, state_again count word few)
 
 pub blank_below : (count word blank : ℕ) → blank_of (board_of count word) ≡ Some blank → blank < count
 blank_below count word blank is = subst (λ n. blank < n) (length-board_of count word) (blank_within (board_of count word) blank is)
@@ -157,7 +150,7 @@ exchanged_is word count blank other few fits is less =
 -- the state of a board is its lowest 64 bits
 pub word_of_state : (count state : ℕ) → count ≤ 16 → IsTrue (is_board_state count state) → bits_of state 0 64 ≡ state
 word_of_state count state few e =
-    let less : state < 16 ^ count = ltb-true state (16 ^ count) (both (nat_lt state (16 ^ count)) (is_board count (board_of count state)) e).0 in
+    let less : state < 16 ^ count = ltb-true state (16 ^ count) (and_parts (nat_lt state (16 ^ count)) (is_board count (board_of count state)) e).0 in
     let up : 16 ^ count ≤ 16 ^ 16 = pow-le-pow_right {n = 16} (omega arith) {i = count} {j = 16} few in
     whole 16 state (omega (arith, less, up))
 
@@ -199,8 +192,8 @@ pub not_at : (state word : ℕ) (board : List ℕ) → length board ≤ 16 → l
 not_at state word board few small is off = go (state == board_state board) refl where
   go : (test : Bool) → (state == board_state board) ≡ test → false ≡ (state == board_state board)
   go true e =
-      let same : state ≡ board_state board = grind (arith, nat_tests) in
+      let same : state ≡ board_state board = eqb-true state (board_state board) e in
       let there : word ≡ board_state board = is ∙ ap (λ n. bits_of n 0 64) same ∙ whole 16 (board_state board) (state_fits board few small) in
-      let on : (word == board_state board) ≡ true = grind (arith, nat_tests) in
+      let on : (word == board_state board) ≡ true = eq-eqb word (board_state board) there in
       cc
   go false e = sym e

@@ -1,6 +1,6 @@
 -- A grid's steps lead from states to states, by four actions, at cost 1 or 2, and what that gives for tasks of every kind.
 use Rattle.std.proofs.Common.{◌≡◌, ℕ, zero, suc, ◌+◌, ◌*◌, ◌^◌, ◌<◌, ◌≤◌, Bool, true, false, IsTrue, Option, None, Some, unwrap_or, nat_lt, ◌&&◌, if◌then◌else◌, slice_get, refl, sym, subst, ap, arith, ◌∙◌}
-use Rattle.std.proofs.lemmas.Bool.Decides.{nat_tests}
+use Rattle.std.proofs.lemmas.Bool.{ltb-true, lt-ltb}
 use Rattle.pb_packed.specs.Bits.{bits_of}
 use Rattle.pb_model.specs.Space.{Space, Steps, IsProper}
 use Rattle.pb_task.specs.Grid.{is_passable, are_connected, class_at, is_swamp, entry_cost, cell_state, class_of_state, cell_beside, step_to, grid_space, IsGrid}
@@ -14,12 +14,12 @@ use Rattle.pb_task.specs.declared.parts.GridParts.{GridParts}
 use Rattle.pb_task.specs.declared.parts.Class.{Class}
 use Rattle.pb_task.specs.declared.parts.Class.TheVariants.{Land, Water, Blocked}
 
-passable_from : (from to : Class) → are_connected from to ≡ true → is_passable from ≡ true
+pub passable_from : (from to : Class) → are_connected from to ≡ true → is_passable from ≡ true
 passable_from Land to e = refl
 passable_from Water to e = refl
 passable_from Blocked to e = e
 
-passable_to : (from to : Class) → are_connected from to ≡ true → is_passable to ≡ true
+pub passable_to : (from to : Class) → are_connected from to ≡ true → is_passable to ≡ true
 passable_to from Land e = refl
 passable_to from Water e = refl
 passable_to Land Blocked e = e
@@ -32,23 +32,20 @@ both true true class e = (refl, refl)
 both true false class e = (refl, e)
 both false row class e = (e, cc)
 
-below : (a b : ℕ) → nat_lt a b ≡ true → a < b
-below a b e = grind (arith, nat_tests)
-
-on_map : (grid : GridParts) (x y : ℕ) → is_passable (class_at grid x y) ≡ true → (x < grid.width) × (y < grid.height)
+pub on_map : (grid : GridParts) (x y : ℕ) → is_passable (class_at grid x y) ≡ true → (x < grid.width) × (y < grid.height)
 on_map grid x y e =
     let tests : (nat_lt x grid.width ≡ true) × (nat_lt y grid.height ≡ true) = both (nat_lt x grid.width) (nat_lt y grid.height) (unwrap_or (slice_get grid.cells (y * grid.width + x)) Blocked) e in
-    (below x grid.width tests.0, below y grid.height tests.1)
+    (ltb-true x grid.width tests.0, ltb-true y grid.height tests.1)
 
 -- the state of a cell stands for that cell
-x_of : (x y : ℕ) → x < 2048 → bits_of (cell_state x y) 0 11 ≡ x
+pub x_of : (x y : ℕ) → x < 2048 → bits_of (cell_state x y) 0 11 ≡ x
 x_of x y h = omega arith
 
-y_of : (x y : ℕ) → x < 2048 → y < 2048 → bits_of (cell_state x y) 11 11 ≡ y
+pub y_of : (x y : ℕ) → x < 2048 → y < 2048 → bits_of (cell_state x y) 11 11 ≡ y
 y_of x y h k = omega arith
 
 small : (x y : ℕ) → x < 2048 → y < 2048 → nat_lt (cell_state x y) (2 ^ 22) ≡ true
-small x y h k = grind (arith, nat_tests)
+small x y h k = lt-ltb (cell_state x y) (2 ^ 22) (omega arith)
 
 pub class_of_cell : (grid : GridParts) (x y : ℕ) → x < 2048 → y < 2048 → class_of_state grid (cell_state x y) ≡ class_at grid x y
 class_of_cell grid x y h k =
@@ -114,7 +111,7 @@ has_few_bits true class e = refl
 has_few_bits false class e = e
 
 states_are_small : (grid : GridParts) (state : ℕ) → IsTrue ((grid_space grid).is_state state) → state < 2 ^ 22
-states_are_small grid state e = below state (2 ^ 22) (has_few_bits (nat_lt state (2 ^ 22)) (class_at grid (bits_of state 0 11) (bits_of state 11 11)) e)
+states_are_small grid state e = ltb-true state (2 ^ 22) (has_few_bits (nat_lt state (2 ^ 22)) (class_at grid (bits_of state 0 11) (bits_of state 11 11)) e)
 
 pub grids_are_proper : GridsAreProper
 grids_are_proper grid is = (grid_is_proper grid is, refl, states_are_small grid)

@@ -1,6 +1,6 @@
 -- The blank's moves lead from boards to boards, by four actions, at cost 1.
-use Rattle.std.proofs.Common.{◌≡◌, ℕ, zero, suc, ◌+◌, ◌*◌, ◌/◌, ◌%◌, ◌^◌, ◌<◌, ◌≤◌, Bool, true, false, IsTrue, Option, None, Some, List, nat_lt, ◌&&◌, if◌then◌else◌, length, ◌==◌, refl, sym, subst, ap, arith, ◌∙◌}
-use Rattle.std.proofs.lemmas.Bool.Decides.{nat_tests}
+use Rattle.std.proofs.Common.{◌≡◌, ℕ, zero, suc, ◌+◌, ◌*◌, ◌/◌, ◌%◌, ◌^◌, ◌<◌, ◌≤◌, Bool, true, false, IsTrue, Option, None, Some, List, get_or, nat_lt, ◌&&◌, if◌then◌else◌, length, ◌==◌, refl, sym, subst, ap, arith, ◌∙◌}
+use Rattle.std.proofs.lemmas.Bool.{and_parts, eqb-true, ltb-true}
 use Rattle.std.proofs.lemmas.List.Quantifiers.{position-Some}
 use Rattle.std.proofs.Math.Nat.{mul-le-mul_left}
 use Rattle.std.specs.Prelude.{swap}
@@ -10,15 +10,12 @@ use Rattle.pb_task.specs.Grid.{cell_beside}
 use Rattle.pb_task.specs.Tiles.{cell_count, is_board, board_state, board_of, is_board_state, cell_on, neighbour, exchange, slide, blank_of, slide_on, tiles_step, tiles_space, IsTiles}
 use Rattle.pb_task.specs.Laws.{TilesAreProper}
 use Rattle.pb_task.specs.declared.parts.TilesParts.{TilesParts}
-use Rattle.pb_task.proofs.Boards.{both, Listed, listed, all_below_more, is_board_swapped, board_in, state_of_board, sixteen}
+use Rattle.pb_task.proofs.Boards.{Listed, listed, all_below_more, is_board_swapped, board_in, state_of_board, sixteen}
 
 pub few_cells : (tiles : TilesParts) → IsTiles tiles → cell_count tiles ≤ 16
 few_cells tiles is = product tiles.rows tiles.cols is.rows.1 is.cols.1 where
   product : (rows cols : ℕ) → rows ≤ 4 → cols ≤ 4 → rows * cols ≤ 16
   product rows cols r c = let up : rows * cols ≤ rows * 4 = mul-le-mul_left rows c in omega arith
-
-below : (a b : ℕ) → nat_lt a b ≡ true → a < b
-below a b e = grind (arith, nat_tests)
 
 -- a cell that the board has
 pub cell_within : (rows cols : ℕ) (place : Option (ℕ × ℕ)) (cell : ℕ) → cell_on rows cols place ≡ Some cell → cell < rows * cols
@@ -28,7 +25,7 @@ cell_within rows cols (Some (x, y)) cell e = go (nat_lt x cols) (nat_lt y rows) 
   inside x y a b = grind arith
 
   go : (column row : Bool) → nat_lt x cols ≡ column → nat_lt y rows ≡ row → ◌≡◌ {A = Option ℕ} (if column && row then Some (y * cols + x) else None) (Some cell) → cell < rows * cols
-  go true true a b e = let same : y * cols + x ≡ cell = cc in subst (λ c. c < rows * cols) same (inside x y (below x cols a) (below y rows b))
+  go true true a b e = let same : y * cols + x ≡ cell = cc in subst (λ c. c < rows * cols) same (inside x y (ltb-true x cols a) (ltb-true y rows b))
   go true false a b e = cc
   go false row a b e = cc
 
@@ -37,6 +34,9 @@ neighbour_within rows cols cell action to e = cell_within rows cols (cell_beside
 
 pub blank_within : (board : List ℕ) (cell : ℕ) → blank_of board ≡ Some cell → cell < length board
 blank_within board cell e = (position-Some (λ number. number == 0) board cell 0 e).0
+
+pub blank_at : (board : List ℕ) (cell : ℕ) → blank_of board ≡ Some cell → get_or board cell 0 ≡ 0
+blank_at board cell e = eqb-true (get_or board cell 0) 0 (position-Some (λ number. number == 0) board cell 0 e).1
 
 -- ---- what a step is
 
@@ -87,18 +87,18 @@ to_state tiles is from action to cost s =
     subst (λ t. IsTrue (is_board_state (cell_count tiles) t)) (sym s.slides.to_is)
     (state_of_board (cell_count tiles) (swap board s.slides.blank s.slides.other) (few_cells tiles is) (swapped tiles is board action to cost l s.slides)).0
 
-by_four : (tiles : TilesParts) (cell action to : ℕ) → neighbour tiles.rows tiles.cols cell action ≡ Some to → action < 4
-by_four tiles cell zero to e = omega arith
-by_four tiles cell (suc zero) to e = omega arith
-by_four tiles cell (suc (suc zero)) to e = omega arith
-by_four tiles cell (suc (suc (suc zero))) to e = omega arith
-by_four tiles cell (suc (suc (suc (suc more)))) to e = cc
+pub four_moves : (rows cols cell action to : ℕ) → neighbour rows cols cell action ≡ Some to → action < 4
+four_moves rows cols cell zero to e = omega arith
+four_moves rows cols cell (suc zero) to e = omega arith
+four_moves rows cols cell (suc (suc zero)) to e = omega arith
+four_moves rows cols cell (suc (suc (suc zero))) to e = omega arith
+four_moves rows cols cell (suc (suc (suc (suc more)))) to e = cc
 
 pub tiles_is_proper : (tiles : TilesParts) → IsTiles tiles → IsProper (tiles_space tiles) 1
 tiles_is_proper tiles is = record {
   start = (state_of_board (cell_count tiles) tiles.start (few_cells tiles is) (listed (cell_count tiles) tiles.start is.start)).0;
   action = λ from action to cost step.
-      let s : IsStep tiles from action to cost = step_is tiles from action to cost step in by_four tiles s.slides.blank action s.slides.other s.slides.other_is;
+      let s : IsStep tiles from action to cost = step_is tiles from action to cost step in four_moves tiles.rows tiles.cols s.slides.blank action s.slides.other s.slides.other_is;
   from_state = λ from action to cost step. (step_is tiles from action to cost step).from_state;
   to_state = λ from action to cost step. to_state tiles is from action to cost (step_is tiles from action to cost step);
   positive = λ from action to cost step. let unit : cost ≡ 1 = (step_is tiles from action to cost step).slides.unit in omega arith;
@@ -107,7 +107,7 @@ tiles_is_proper tiles is = record {
 
 pub boards_are_small : (tiles : TilesParts) → IsTiles tiles → (state : ℕ) → IsTrue ((tiles_space tiles).is_state state) → state < 2 ^ 64
 boards_are_small tiles is state e =
-    let less : state < 16 ^ cell_count tiles = below state (16 ^ cell_count tiles) (both (nat_lt state (16 ^ cell_count tiles)) (is_board (cell_count tiles) (board_of (cell_count tiles) state)) e).0 in
+    let less : state < 16 ^ cell_count tiles = ltb-true state (16 ^ cell_count tiles) (and_parts (nat_lt state (16 ^ cell_count tiles)) (is_board (cell_count tiles) (board_of (cell_count tiles) state)) e).0 in
     let up : 16 ^ cell_count tiles ≤ 2 ^ 64 = sixteen (cell_count tiles) (few_cells tiles is) in
     omega (arith, less, up)
 

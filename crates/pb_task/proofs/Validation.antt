@@ -1,6 +1,7 @@
 -- A list of actions, read up to a place.
-use Rattle.std.proofs.Common.{◌≡◌, ℕ, suc, ◌+◌, ◌<◌, ◌≤◌, None, Some, List, ◌∷◌, ◌++◌, length, take, drop, take-take, get_or, drop-cons, slice_get, true, false, ◌⊎◌, inl, inr, refl, sym, subst, ap, arith, ◌∙◌}
+use Rattle.std.proofs.Common.{◌≡◌, ℕ, suc, ◌+◌, ◌<◌, ◌≤◌, None, Some, List, ◌∷◌, ◌++◌, length, take, drop, take-take, get_or, drop-cons, slice_get, true, false, inl, inr, refl, sym, subst, ap, arith, ◌∙◌}
 use Rattle.std.proofs.Math.Seq.{take-length}
+use Rattle.std.proofs.lemmas.Bool.{cases_order}
 use Rattle.std.proofs.lemmas.List.{take_more, take_all, take-append-drop, length-take, get_or-take}
 use Rattle.std.proofs.lemmas.Option.{slice_get-get_or, slice_get_within, get_or_from_slice_get}
 use Rattle.pb_model.specs.Space.{Space, Steps}
@@ -68,12 +69,9 @@ no_walk_through space plan at action cost state whole end here walk none past =
     let within : at < length plan = slice_get_within plan at action here in
     no_walk_past space plan at (length plan) action cost state whole end within here walk none (subst (λ actions. Walk space space.start actions whole end) (sym (take-length plan)) past)
 
-which : (n m : ℕ) → (n ≡ m) ⊎ ((n < m) ⊎ (m < n))
-which n m = grind arith
-
 pub faults_are_unique : FaultsAreUnique
 faults_are_unique space plan (Step at) (Step other) (state, action, (cost, walk), here, none) (state', action', (cost', walk'), here', none') =
-    elim (which at other) [
+    elim (cases_order at other) [
       | inl same ↦ ap Step same
       | inr (inl less) ↦ absurd (no_walk_past space plan at other action cost state cost' state' less here walk none walk')
       | inr (inr more) ↦ absurd (no_walk_past space plan other at action' cost' state' cost state more here' walk' none' walk)
