@@ -1,5 +1,6 @@
 -- When a cost is enough: the least and the greatest of costs, and what an atom costs by actions.
 use Rattle.std.proofs.Common.{◌≡◌, ℕ, zero, suc, ◌+◌, ◌<◌, ◌≤◌, min, Bool, true, false, List, [], ◌∷◌, length, Contains, Option, None, Some, option_map, if◌then◌else◌, refl, sym, subst, ap, arith, ◌⊎◌, inl, inr}
+use Rattle.std.proofs.Math.Nat.{eq-or-lt_of_le}
 use Rattle.pb_task.specs.declared.parts.GroundAction.{GroundAction}
 use Rattle.pb_task.specs.Strips.{has_atom}
 use Rattle.pb_estimate.specs.Hmax.{IsAtMost, lesser, greater, dearest, cost_by, cheapest_by}
@@ -54,10 +55,7 @@ same_cost (Some n) (Some m) h k = ap (λ (c : ℕ). Some c) (let le : m ≤ n = 
 
 pub dearest_at : (costs : ℕ → Option ℕ) (set count cost : ℕ) → IsAtMost (dearest costs set count) cost → (atom : ℕ) → atom < count → has_atom set atom ≡ true → IsAtMost (costs atom) cost
 dearest_at costs set zero cost h atom less has = absurd (omega (arith, less))
-dearest_at costs set (suc last) cost h atom less has = go (dearest_at costs set last cost (greater_left (dearest costs set last) (if has_atom set last then costs last else Some 0) cost h) atom) (cases_last atom last less) where
-  cases_last : (atom last : ℕ) → atom < suc last → (atom ≡ last) ⊎ (atom < last)
-  cases_last atom last less = grind arith
-
+dearest_at costs set (suc last) cost h atom less has = go (dearest_at costs set last cost (greater_left (dearest costs set last) (if has_atom set last then costs last else Some 0) cost h) atom) (eq-or-lt_of_le (let le : atom ≤ last = omega (arith, less) in le)) where
   here : (test : Bool) → test ≡ true → IsAtMost (if test then costs last else Some 0) cost → IsAtMost (costs last) cost
   here true e h = h
   here false e h = cc

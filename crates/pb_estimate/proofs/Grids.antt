@@ -1,13 +1,13 @@
 -- On a grid no step brings a cell nearer to the goal by more than its cost, so the Manhattan distance is admissible.
-use Rattle.std.proofs.Common.{◌≡◌, ℕ, zero, suc, ◌+◌, ◌-◌, ◌*◌, ◌<◌, ◌≤◌, Bool, true, false, IsTrue, Option, None, Some, List, unwrap_or, nat_lt, nat_eq, ◌&&◌, if◌then◌else◌, slice_get, refl, sym, subst, ap, arith, ◌∙◌}
-use Rattle.std.proofs.lemmas.Bool.Decides.{nat_tests}
+use Rattle.std.proofs.Common.{◌≡◌, ℕ, zero, suc, ◌+◌, ◌-◌, ◌<◌, ◌≤◌, Bool, true, false, IsTrue, Option, None, Some, List, nat_lt, if◌then◌else◌, refl, sym, subst, ap, arith, ◌∙◌}
+use Rattle.std.proofs.lemmas.Bool.{eqb-true}
 use Rattle.pb_packed.specs.Bits.{bits_of}
 use Rattle.pb_model.specs.Space.{Steps}
 use Rattle.pb_model.specs.Plan.{Walk}
 use Rattle.pb_task.specs.Grid.{is_passable, are_connected, class_at, is_swamp, entry_cost, cell_state, class_of_state, cell_beside, step_to, grid_space, IsGrid}
 use Rattle.pb_task.specs.declared.parts.GridParts.{GridParts}
 use Rattle.pb_task.specs.declared.parts.Class.{Class}
-use Rattle.pb_task.specs.declared.parts.Class.TheVariants.{Land, Water, Blocked}
+use Rattle.pb_task.proofs.Grids.{passable_to, on_map, x_of, y_of}
 use Rattle.pb_estimate.specs.Estimates.{apart, manhattan, cell_of}
 use Rattle.pb_estimate.proofs.Consistent.{no_walk_is_cheaper}
 
@@ -51,34 +51,7 @@ beside x y (suc (suc (suc zero))) cell goal e =
     let same : ◌≡◌ {A = ℕ × ℕ} (x + 1, y) cell = cc in subst (λ c. manhattan (x, y) goal ≤ 1 + manhattan c goal) same (near_in_x x (x + 1) y goal (omega arith) (omega arith))
 beside x y (suc (suc (suc (suc more)))) cell goal e = cc
 
--- a cell that can be entered is on the map
-both : (column row : Bool) (class : Class) → is_passable (if column && row then class else Blocked) ≡ true → (column ≡ true) × (row ≡ true)
-both true true class e = (refl, refl)
-both true false class e = (refl, e)
-both false row class e = (e, cc)
-
-below : (a b : ℕ) → nat_lt a b ≡ true → a < b
-below a b e = grind (arith, nat_tests)
-
-on_map : (grid : GridParts) (x y : ℕ) → is_passable (class_at grid x y) ≡ true → (x < grid.width) × (y < grid.height)
-on_map grid x y e =
-    let tests : (nat_lt x grid.width ≡ true) × (nat_lt y grid.height ≡ true) = both (nat_lt x grid.width) (nat_lt y grid.height) (unwrap_or (slice_get grid.cells (y * grid.width + x)) Blocked) e in
-    (below x grid.width tests.0, below y grid.height tests.1)
-
-passable_to : (from to : Class) → are_connected from to ≡ true → is_passable to ≡ true
-passable_to from Land e = refl
-passable_to from Water e = refl
-passable_to Land Blocked e = e
-passable_to Water Blocked e = e
-passable_to Blocked Blocked e = e
-
 -- a cell that can be entered is the one that its state stands for
-x_of : (x y : ℕ) → x < 2048 → bits_of (cell_state x y) 0 11 ≡ x
-x_of x y h = omega arith
-
-y_of : (x y : ℕ) → x < 2048 → y < 2048 → bits_of (cell_state x y) 11 11 ≡ y
-y_of x y h k = omega arith
-
 cell_is : (grid : GridParts) → IsGrid grid → (x y : ℕ) → is_passable (class_at grid x y) ≡ true → cell_of (cell_state x y) ≡ (x, y)
 cell_is grid is x y e =
     let within : (x < grid.width) × (y < grid.height) = on_map grid x y e in
@@ -120,12 +93,9 @@ nearer grid is from action to cost step = go (cell_beside (bits_of from 0 11) (b
 
 -- ---- walks
 
-same_number : (n m : ℕ) → nat_eq n m ≡ true → n ≡ m
-same_number n m e = grind (arith, nat_tests)
-
 at_goal : (grid : GridParts) → IsGrid grid → (state cost : ℕ) → IsTrue ((grid_space grid).is_goal state) → manhattan (cell_of state) grid.goal ≤ cost
 at_goal grid is state cost e =
-    let here : state ≡ cell_state grid.goal.0 grid.goal.1 = same_number state (cell_state grid.goal.0 grid.goal.1) e in
+    let here : state ≡ cell_state grid.goal.0 grid.goal.1 = eqb-true state (cell_state grid.goal.0 grid.goal.1) e in
     let cell : cell_of state ≡ grid.goal = ap cell_of here ∙ cell_is grid is grid.goal.0 grid.goal.1 is.goal in
     subst (λ c. manhattan c grid.goal ≤ cost) (sym cell) (none_apart grid.goal cost)
 

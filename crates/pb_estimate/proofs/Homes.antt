@@ -1,8 +1,7 @@
 -- The table of the numbers' ways to their cells on the goal board.
-use Rattle.std.proofs.Common.{◌≡◌, ◌≢◌, ℕ, zero, suc, ◌+◌, ◌*◌, ◌/◌, ◌%◌, ◌^◌, ◌<◌, ◌≤◌, false, List, get_or, ◌==◌, ◌∷◌, if◌then◌else◌, refl, sym, ap, arith, ◌∙◌}
-use Rattle.std.proofs.Math.Nat.{div-div-eq-div-mul, pow-suc}
-use Rattle.std.proofs.lemmas.Bool.Decides.{nat_tests}
-use Rattle.std.proofs.lemmas.Nat.{pow-add}
+use Rattle.std.proofs.Common.{◌≡◌, ◌≢◌, ℕ, zero, suc, ◌+◌, ◌*◌, ◌/◌, ◌%◌, ◌^◌, ◌<◌, ◌≤◌, List, get_or, ◌∷◌, if◌then◌else◌, refl, sym, ap, arith, ◌∙◌}
+use Rattle.std.proofs.Math.Nat.{mul_assoc, pow-suc}
+use Rattle.std.proofs.lemmas.Bool.{ne_eqb}
 use Rattle.pb_packed.specs.Bits.{bits_of}
 use Rattle.pb_task.specs.Tiles.{board_of}
 use Rattle.pb_task.proofs.Boards.{number_at}
@@ -21,7 +20,7 @@ table_is cols goal ways known cell number cell_less number_less =
 pub way_is : (cols cell number home : ℕ) (goal : List ℕ) → number ≢ 0 → home ≡ cell_with goal number → manhattan (place_of cols cell) (place_of cols home) ≡ way_home cols goal cell number
 way_is cols cell number home goal tile is =
     ap (λ c. manhattan (place_of cols cell) (place_of cols c)) is
-    ∙ ap (λ test. if test then 0 else manhattan (place_of cols cell) (place_of cols (cell_with goal number))) (let off : false ≡ (number == 0) = grind (arith, nat_tests) in off)
+    ∙ ap (λ test. if test then 0 else manhattan (place_of cols cell) (place_of cols (cell_with goal number))) (sym (ne_eqb number 0 tile))
 
 -- ---- the numbers in a state's lowest bits
 
@@ -30,15 +29,12 @@ above : (count most more word : ℕ) → count ≤ most → board_of count (more
 above zero most more word few = refl
 above (suc count) zero more word few = absurd (omega (arith, few))
 above (suc count) (suc most) more word few =
-    let up : more * 16 ^ suc most ≡ more * 16 ^ most * 16 = ap (λ n. more * n) (pow-suc 16 most) ∙ turned more (16 ^ most) in
+    let up : more * 16 ^ suc most ≡ more * 16 ^ most * 16 = ap (λ n. more * n) (pow-suc 16 most) ∙ sym (mul_assoc more (16 ^ most) 16) in
     let first : (more * 16 ^ suc most + word) % 16 ≡ word % 16 = omega (arith, up) in
     let rest : (more * 16 ^ suc most + word) / 16 ≡ more * 16 ^ most + word / 16 = omega (arith, up) in
     ap (λ n. n ∷ board_of count ((more * 16 ^ suc most + word) / 16)) first
     ∙ ap (λ n. word % 16 ∷ board_of count n) rest
     ∙ ap (λ board. word % 16 ∷ board) (above count most more (word / 16) (omega (arith, few)))
-  where
-    turned : (n m : ℕ) → n * (m * 16) ≡ n * m * 16
-    turned n m = grind arith
 
 -- the lowest 64 bits have the numbers of up to 16 cells
 low_cells : (count state : ℕ) → count ≤ 16 → board_of count (bits_of state 0 64) ≡ board_of count state
@@ -49,12 +45,6 @@ low_cells count state few =
 -- the number in a cell is the lowest digit once those of the cells before are gone
 pub digit_is : (count state cell : ℕ) → count ≤ 16 → cell < count → (bits_of state 0 64 / 2 ^ (4 * cell)) % 16 ≡ get_or (board_of count state) cell 0
 digit_is count state cell few less = sym (number_at count (bits_of state 0 64) cell less) ∙ ap (λ board. get_or board cell 0) (low_cells count state few)
-
--- one more digit is gone
-pub next_digit : (word cell : ℕ) → word / 2 ^ (4 * cell) / 16 ≡ word / 2 ^ (4 * (cell + 1))
-next_digit word cell =
-    div-div-eq-div-mul word (2 ^ (4 * cell)) 16
-    ∙ ap (λ n. word / n) (sym (pow-add 2 (4 * cell) 4) ∙ ap (λ k. 2 ^ k) (let e : 4 * cell + 4 ≡ 4 * (cell + 1) = omega arith in e))
 
 -- one more cell of a board
 pub one_more : (cols count state cell number sum way rest : ℕ) (goal ways : List ℕ) → count ≤ 16 → cell < count → AreWaysHome cols goal ways

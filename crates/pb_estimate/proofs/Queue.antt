@@ -1,5 +1,6 @@
 -- The atoms in the queue whose costs may be open.
 use Rattle.std.proofs.Common.{◌≡◌, ℕ, ◌+◌, ◌-◌, ◌<◌, ◌≤◌, true, false, List, length, get_or, take, drop, min, All, is_some, sym, subst, ap, arith, ◌∙◌, ◌⊎◌, inl, inr}
+use Rattle.std.proofs.lemmas.Bool.{cases_lt}
 use Rattle.std.proofs.lemmas.List.{get_or_default, get_or-take, get_or-drop, length-take, length-drop}
 use Rattle.pb_estimate.specs.declared.exploration.AtomCost.{AtomCost}
 use Rattle.pb_estimate.specs.declared.exploration.AtomCost.TheVariants.{Open}
@@ -42,11 +43,8 @@ module _ (costs : List AtomCost) (queue : List ℕ) (first reached : ℕ) (le : 
           let same : first + (k - first) ≡ k = omega arith in
           subst P (part_at queue first reached (k - first) 0 k_less ∙ ap (λ j. get_or queue j 0) same ∙ at) (each (k - first) 0 (omega arith))
 
-      place : (k : ℕ) → (k < first) ⊎ (first ≤ k)
-      place k = grind arith
-
       go : (k : ℕ) × (k < reached) × (get_or queue k 0 ≡ atom) → P atom
-      go (k, less, at) = either (place k) where
+      go (k, less, at) = either (cases_lt k first) where
         either : (k < first) ⊎ (first ≤ k) → P atom
         either (inl early) = absurd (late k at early)
         either (inr from) = here k less at from

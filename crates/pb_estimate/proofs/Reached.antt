@@ -1,6 +1,6 @@
 -- No walk to a goal costs less than hmax: by one round more, an atom costs before a step at most what it costs after the step and the step's cost.
-use Rattle.std.proofs.Common.{◌≡◌, ℕ, zero, suc, ◌+◌, ◌<◌, ◌≤◌, Bool, true, false, not, ◌&&◌, IsTrue, List, [], ◌∷◌, length, Contains, Option, None, Some, refl, sym, subst, arith, ◌∙◌, ◌⊎◌, inl, inr}
-use Rattle.std.proofs.lemmas.Bool.{and_parts, or_cases}
+use Rattle.std.proofs.Common.{◌≡◌, ℕ, zero, suc, ◌+◌, ◌<◌, ◌≤◌, Bool, true, false, not, ◌&&◌, IsTrue, List, [], ◌∷◌, length, Contains, Option, None, Some, sym, subst, arith, ◌∙◌, ◌⊎◌, inl, inr}
+use Rattle.std.proofs.lemmas.Bool.{and_parts, or_cases, not-true}
 use Rattle.std.proofs.lemmas.Option.{slice_get_within, get_or_from_slice_get}
 use Rattle.std.specs.List.{slice_get}
 use Rattle.pb_model.specs.Guide.{IsLowerBound}
@@ -79,11 +79,7 @@ pub no_walk_costs_less : (strips : StripsParts) (state : ℕ) (actions : List �
     → IsTrue ((strips_space strips).is_goal goal) → IsLowerBound (hmax strips state) cost
 no_walk_costs_less strips state actions cost goal walk e =
     let parts = and_parts (not strips.never) (is_within strips.atoms strips.goal goal) e in
-    lower_bound strips.never (goal_cost strips state) cost (not_never strips.never parts.0)
+    lower_bound strips.never (goal_cost strips state) cost (not-true strips.never parts.0)
     (dearest_from (atom_cost strips state strips.atoms) strips.goal strips.atoms cost (λ atom less wanted.
     no_cheaper strips state (length actions) atom cost less
     (along_walk strips state actions cost goal walk atom less (from_within strips.atoms strips.goal goal parts.1 atom less wanted))))
-  where
-    not_never : (never : Bool) → not never ≡ true → never ≡ false
-    not_never true e = cc
-    not_never false e = refl

@@ -2,7 +2,7 @@
 use Rattle.std.proofs.Common.{◌≡◌, ◌≢◌, ℕ, zero, suc, ◌+◌, ◌<◌, ◌≤◌, ◌==◌, Bool, true, false, List, [], ◌∷◌, ◌++◌, length, map, get_or, set, take, replicate, All, Contains, Vec, Global, if◌then◌else◌, refl, sym, subst, ap, arith, ◌∙◌, ◌⊎◌, inl, inr}
 use Rattle.std.proofs.lemmas.Bool.Decides.{nat_tests}
 use Rattle.std.proofs.lemmas.Bool.{cases_eq}
-use Rattle.std.proofs.lemmas.List.{get_or-set_same, get_or-set_other, length-map, map-append, append-nil}
+use Rattle.std.proofs.lemmas.List.{get_or_append_left, get_or_push, length_push, get_or-set_same, get_or-set_other, length-map, map-append, append-nil}
 use Rattle.std.proofs.lemmas.List.Elements.{All-push, All-more, All-weaker, All-contains, All-nil, filter-append, Contains-append_left, Contains-push}
 use Rattle.pb_task.specs.declared.parts.GroundAction.{GroundAction}
 use Rattle.pb_task.specs.Strips.{has_atom}
@@ -16,35 +16,22 @@ use Rattle.pb_estimate.proofs.Sets.{all_in, contains_in, is_in, many_in}
 
 -- ---- ascending lists
 
-get_last : {X : Type 0} (xs : List X) (x d : X) → get_or (xs ++ x ∷ []) (length xs) d ≡ x
-get_last [] x d = refl
-get_last (y ∷ xs) x d = get_last xs x d
-
-get_front : {X : Type 0} (xs : List X) (x d : X) (k : ℕ) → k < length xs → get_or (xs ++ x ∷ []) k d ≡ get_or xs k d
-get_front [] x d k less = absurd (omega (arith, less))
-get_front (y ∷ xs) x d zero less = refl
-get_front (y ∷ xs) x d (suc k) less = get_front xs x d k (omega (arith, less))
-
-one_longer : {X : Type 0} (xs : List X) (x : X) → length (xs ++ x ∷ []) ≡ suc (length xs)
-one_longer [] x = refl
-one_longer (y ∷ xs) x = ap suc (one_longer xs x)
-
 pub ascend_push : (xs : List ℕ) (x : ℕ) → Ascend xs → All (λ y. y < x) xs → Ascend (xs ++ x ∷ [])
 ascend_push xs x ascend small j k less within = go (cases_eq k (length xs)) where
-  long : length (xs ++ x ∷ []) ≡ suc (length xs)
-  long = one_longer xs x
+  long : length (xs ++ x ∷ []) ≡ length xs + 1
+  long = length_push xs x
 
   go : (k ≡ length xs) ⊎ (k ≢ length xs) → get_or (xs ++ x ∷ []) j 0 < get_or (xs ++ x ∷ []) k 0
   go (inl e) =
       let j_less : j < length xs = omega arith in
-      let last : get_or (xs ++ x ∷ []) k 0 ≡ x = ap (λ n. get_or (xs ++ x ∷ []) n 0) e ∙ get_last xs x 0 in
-      let front : get_or (xs ++ x ∷ []) j 0 ≡ get_or xs j 0 = get_front xs x 0 j j_less in
+      let last : get_or (xs ++ x ∷ []) k 0 ≡ x = ap (λ n. get_or (xs ++ x ∷ []) n 0) e ∙ get_or_push xs x 0 (length xs) refl in
+      let front : get_or (xs ++ x ∷ []) j 0 ≡ get_or xs j 0 = get_or_append_left xs (x ∷ []) 0 j j_less in
       let lower : get_or xs j 0 < x = small j 0 j_less in
       omega (arith, last, front, lower)
   go (inr apart) =
       let k_less : k < length xs = omega (arith, long, within, apart) in
-      let front : get_or (xs ++ x ∷ []) j 0 ≡ get_or xs j 0 = get_front xs x 0 j (omega arith) in
-      let back : get_or (xs ++ x ∷ []) k 0 ≡ get_or xs k 0 = get_front xs x 0 k k_less in
+      let front : get_or (xs ++ x ∷ []) j 0 ≡ get_or xs j 0 = get_or_append_left xs (x ∷ []) 0 j (omega arith) in
+      let back : get_or (xs ++ x ∷ []) k 0 ≡ get_or xs k 0 = get_or_append_left xs (x ∷ []) 0 k k_less in
       let lower : get_or xs j 0 < get_or xs k 0 = ascend j k less k_less in
       omega (arith, front, back, lower)
 
@@ -67,22 +54,22 @@ few_atoms set below = let e : length (atoms_in set below) ≡ count (has_atom se
 
 module _ (kept : List GroundAction) (action : GroundAction) where
   at_front : (user : ℕ) → user < length kept → action_at (kept ++ action ∷ []) user ≡ action_at kept user
-  at_front user less = get_front kept action (record { name = []; needs = 0; adds = 0; deletes = 0; cost = 1 }) user less
+  at_front user less = get_or_append_left kept (action ∷ []) (record { name = []; needs = 0; adds = 0; deletes = 0; cost = 1 }) user less
 
   at_last : action_at (kept ++ action ∷ []) (length kept) ≡ action
-  at_last = get_last kept action (record { name = []; needs = 0; adds = 0; deletes = 0; cost = 1 })
+  at_last = get_or_push kept action (record { name = []; needs = 0; adds = 0; deletes = 0; cost = 1 }) (length kept) refl
 
   place : (user : ℕ) → user < length (kept ++ action ∷ []) → (user < length kept) ⊎ (user ≡ length kept)
-  place user less = let long : length (kept ++ action ∷ []) ≡ suc (length kept) = one_longer kept action in go (cases_eq user (length kept)) long less where
-    go : (user ≡ length kept) ⊎ (user ≢ length kept) → length (kept ++ action ∷ []) ≡ suc (length kept) → user < length (kept ++ action ∷ []) → (user < length kept) ⊎ (user ≡ length kept)
+  place user less = let long : length (kept ++ action ∷ []) ≡ length kept + 1 = length_push kept action in go (cases_eq user (length kept)) long less where
+    go : (user ≡ length kept) ⊎ (user ≢ length kept) → length (kept ++ action ∷ []) ≡ length kept + 1 → user < length (kept ++ action ∷ []) → (user < length kept) ⊎ (user ≡ length kept)
     go (inl e) long within = inr e
     go (inr apart) long within = inl (omega arith)
 
   within_more : (user : ℕ) → user < length kept → user < length (kept ++ action ∷ [])
-  within_more user less = let long : length (kept ++ action ∷ []) ≡ suc (length kept) = one_longer kept action in omega arith
+  within_more user less = let long : length (kept ++ action ∷ []) ≡ length kept + 1 = length_push kept action in omega arith
 
   last_within : length kept < length (kept ++ action ∷ [])
-  last_within = let long : length (kept ++ action ∷ []) ≡ suc (length kept) = one_longer kept action in omega arith
+  last_within = let long : length (kept ++ action ∷ []) ≡ length kept + 1 = length_push kept action in omega arith
 
   module _ (atom : ℕ) (users : List ℕ) (are : AreUsers kept atom users) where
     need_still : (user : ℕ) → (user < length kept) × (has_atom (action_at kept user).needs atom ≡ true)

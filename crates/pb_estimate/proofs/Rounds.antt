@@ -1,5 +1,6 @@
 -- The rounds of hmax: costs fall from round to round, and after as many rounds as there are atoms they fall no more.
 use Rattle.std.proofs.Common.{◌≡◌, ℕ, zero, suc, ◌+◌, ◌<◌, ◌≤◌, Bool, true, false, nat_le, Option, None, Some, if◌then◌else◌, refl, subst, arith, ◌⊎◌, inl, inr}
+use Rattle.std.proofs.Math.Nat.{eq-or-lt_of_le}
 use Rattle.std.proofs.lemmas.Bool.{le-leb, leb-true, false_from_ne_true}
 use Rattle.pb_task.specs.declared.parts.StripsParts.{StripsParts}
 use Rattle.pb_estimate.specs.Hmax.{IsAtMost, cheapest_by, atom_cost}
@@ -28,10 +29,7 @@ count_grows accepts accepts' (suc n) more = go (accepts n) (accepts' n) (more n 
 pub count_rises : (accepts accepts' : ℕ → Bool) (below : ℕ) → ((k : ℕ) → k < below → accepts k ≡ true → accepts' k ≡ true) → (one : ℕ) → one < below → accepts one ≡ false → accepts' one ≡ true
     → suc (count accepts below) ≤ count accepts' below
 count_rises accepts accepts' zero more one less not_in in_other = absurd (omega (arith, less))
-count_rises accepts accepts' (suc n) more one less not_in in_other = go (count_rises accepts accepts' n (λ k k_less. more k (omega (arith, k_less))) one) (last one n less) where
-  last : (one n : ℕ) → one < suc n → (one ≡ n) ⊎ (one < n)
-  last one n less = grind arith
-
+count_rises accepts accepts' (suc n) more one less not_in in_other = go (count_rises accepts accepts' n (λ k k_less. more k (omega (arith, k_less))) one) (eq-or-lt_of_le (let le : one ≤ n = omega (arith, less) in le)) where
   here : (test test' : Bool) → test ≡ false → test' ≡ true → count accepts n ≤ count accepts' n → suc (count accepts n + (if test then 1 else 0)) ≤ count accepts' n + (if test' then 1 else 0)
   here true test' e e' rest = cc
   here false true e e' rest = omega arith
@@ -66,13 +64,10 @@ is_at_most_from (Some n) cost h = le-leb n cost h
 
 pub in_later_rounds : (strips : StripsParts) (state atom cost round later : ℕ) → round ≤ later → IsAtMost (atom_cost strips state round atom) cost → IsAtMost (atom_cost strips state later atom) cost
 in_later_rounds strips state atom cost round zero le h = subst (λ r. IsAtMost (atom_cost strips state r atom) cost) (let e : round ≡ 0 = omega (arith, le) in e) h
-in_later_rounds strips state atom cost round (suc later) le h = go (λ before. in_later_rounds strips state atom cost round later before h) (now round later le) where
-  now : (round later : ℕ) → round ≤ suc later → (round ≡ suc later) ⊎ (round ≤ later)
-  now round later le = grind arith
-
-  go : (round ≤ later → IsAtMost (atom_cost strips state later atom) cost) → (round ≡ suc later) ⊎ (round ≤ later) → IsAtMost (atom_cost strips state (suc later) atom) cost
+in_later_rounds strips state atom cost round (suc later) le h = go (λ before. in_later_rounds strips state atom cost round later before h) (eq-or-lt_of_le le) where
+  go : (round ≤ later → IsAtMost (atom_cost strips state later atom) cost) → (round ≡ suc later) ⊎ (round < suc later) → IsAtMost (atom_cost strips state (suc later) atom) cost
   go rest (inl e) = subst (λ r. IsAtMost (atom_cost strips state r atom) cost) e h
-  go rest (inr before) = lesser_left (atom_cost strips state later atom) (cheapest_by strips.atoms (atom_cost strips state later) atom strips.actions) cost (rest before)
+  go rest (inr before) = lesser_left (atom_cost strips state later atom) (cheapest_by strips.atoms (atom_cost strips state later) atom strips.actions) cost (rest (omega (arith, before)))
 
 -- how many atoms cost at most this much after a round
 cheap_atoms : StripsParts → (state round cost : ℕ) → ℕ

@@ -1,5 +1,6 @@
 -- The atoms of a set, and the useful ones of a task's actions.
-use Rattle.std.proofs.Common.{◌≡◌, ℕ, zero, suc, ◌+◌, ◌<◌, Bool, true, false, not, ◌||◌, List, [], ◌∷◌, ◌++◌, length, map, get_or, All, Contains, if◌then◌else◌, refl, sym, subst, ap, arith, ◌∙◌, ◌⊎◌, inl, inr}
+use Rattle.std.proofs.Common.{◌≡◌, ℕ, zero, suc, ◌+◌, ◌<◌, ◌≤◌, Bool, true, false, not, ◌||◌, List, [], ◌∷◌, ◌++◌, length, map, get_or, All, Contains, if◌then◌else◌, refl, sym, subst, ap, arith, ◌∙◌, ◌⊎◌, inl, inr}
+use Rattle.std.proofs.Math.Nat.{eq-or-lt_of_le}
 use Rattle.std.specs.List.{filter}
 use Rattle.std.proofs.lemmas.List.{get_or-map, get_or_default, length-append}
 use Rattle.std.proofs.lemmas.List.Elements.{All-append, All-cons, All-nil, All-contains, All-contains_itself, All-filter, Contains-append_left, Contains-push}
@@ -22,10 +23,7 @@ all_in P set (suc last) each =
 
 pub contains_in : (set count atom : ℕ) → atom < count → has_atom set atom ≡ true → Contains (atoms_in set count) atom
 contains_in set zero atom less has = absurd (omega (arith, less))
-contains_in set (suc last) atom less has = go (cases atom last less) (λ lower. contains_in set last atom lower has) where
-  cases : (atom last : ℕ) → atom < suc last → (atom ≡ last) ⊎ (atom < last)
-  cases atom last less = grind arith
-
+contains_in set (suc last) atom less has = go (eq-or-lt_of_le (let le : atom ≤ last = omega (arith, less) in le)) (λ lower. contains_in set last atom lower has) where
   here : (test : Bool) → test ≡ true → Contains (atoms_in set last ++ (if test then last ∷ [] else [])) last
   here true e = Contains-push (atoms_in set last) last
   here false e = cc

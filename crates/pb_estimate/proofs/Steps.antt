@@ -1,6 +1,6 @@
 -- An exploration begins at a state, and goes on by an atom whose cost becomes final.
 use Rattle.std.proofs.Common.{◌≡◌, ◌≢◌, ℕ, suc, ◌+◌, ◌*◌, ◌^◌, ◌<◌, ◌≤◌, Bool, true, false, not, ◌&&◌, List, [], length, map, get_or, set, All, Contains, Option, None, Some, is_some, refl, sym, subst, ap, arith, ◌∙◌, ◌⊎◌, inl, inr}
-use Rattle.std.proofs.lemmas.Bool.{cases_eq}
+use Rattle.std.proofs.lemmas.Bool.{cases_eq, cases_lt}
 use Rattle.std.proofs.lemmas.List.{get_or-map, length-map, length-set}
 use Rattle.std.proofs.lemmas.List.Elements.{All-contains}
 use Rattle.pb_task.specs.declared.parts.GroundAction.{GroundAction}
@@ -174,13 +174,10 @@ module _ (strips : StripsParts) (state : ℕ) (is : IsStrips strips) (actions : 
     atom_less = let less : atom < length costs = least.inside in omega (arith, u.long, less)
 
     pub not_below : level ≤ cost
-    not_below = go (place level cost) where
-      place : (n m : ℕ) → (n ≤ m) ⊎ (m < n)
-      place n m = grind arith
-
-      go : (level ≤ cost) ⊎ (cost < level) → level ≤ cost
-      go (inl le) = le
-      go (inr lower) = absurd (subst (λ known. IsAtMost (final_cost known) cost) least.is (u.below atom cost (costs_this costs atom cost least) lower))
+    not_below = go (cases_lt cost level) where
+      go : (cost < level) ⊎ (level ≤ cost) → level ≤ cost
+      go (inr le) = le
+      go (inl lower) = absurd (subst (λ known. IsAtMost (final_cost known) cost) least.is (u.below atom cost (costs_this costs atom cost least) lower))
 
     pub not_far : cost ≤ level + 2 ^ 20
     not_far = subst (λ known. IsAtMost (known_cost known) (level + 2 ^ 20)) least.is (u.within atom cost (costs_this costs atom cost least))

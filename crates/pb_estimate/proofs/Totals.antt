@@ -1,7 +1,10 @@
 -- Each tile stands in one cell of a board, so a sum over the cells of a board is one over its tiles.
-use Rattle.std.proofs.Common.{◌≡◌, ℕ, zero, suc, ◌+◌, ◌-◌, ◌*◌, ◌<◌, ◌≤◌, Bool, true, false, not, ◌&&◌, ◌||◌, ◌==◌, List, [], ◌∷◌, length, get_or, nat_lt, if◌then◌else◌, refl, sym, subst, ap, arith, ◌∙◌, ◌⊎◌, inl, inr}
+use Rattle.std.proofs.Common.{◌≡◌, ℕ, zero, suc, ◌+◌, ◌-◌, ◌*◌, ◌<◌, ◌≤◌, Bool, true, false, not, ◌==◌, List, [], ◌∷◌, length, get_or, nat_lt, if◌then◌else◌, refl, sym, subst, ap, arith, ◌∙◌, ◌⊎◌, inl, inr}
+use Rattle.std.proofs.Math.Nat.{zero-mul, one-mul, mul-one}
+use Rattle.std.proofs.lemmas.Bool.{and_parts, or_parts, not-true, eqb-true, ltb-true}
 use Rattle.std.proofs.lemmas.Bool.Decides.{nat_tests}
 use Rattle.std.specs.List.{list_any, list_all}
+use Rattle.pb_model.proofs.Tests.{equal_self}
 use Rattle.pb_model.specs.declared.row.Estimate.TheVariants.{Cost}
 use Rattle.pb_task.specs.Tiles.{cell_count, are_distinct, board_of}
 use Rattle.pb_task.proofs.Boards.{Listed, listed, board_in}
@@ -9,22 +12,10 @@ use Rattle.pb_estimate.specs.Estimates.{manhattan, place_of, cell_with, way_home
 use Rattle.pb_estimate.specs.Laws.{EstimatesCountTiles}
 use Rattle.pb_estimate.proofs.Ways.{sum_below, ways_are, none, own_cell}
 
-both : (a b : Bool) → (a && b) ≡ true → (a ≡ true) × (b ≡ true)
-both true b e = (refl, e)
-both false b e = cc
-
-off : (a : Bool) → not a ≡ true → a ≡ false
-off true e = cc
-off false e = refl
-
-neither : (a b : Bool) → (a || b) ≡ false → (a ≡ false) × (b ≡ false)
-neither true b e = cc
-neither false b e = (refl, e)
-
 which : (n m : ℕ) → (n ≡ m) ⊎ ((n == m) ≡ false)
 which n m = go (n == m) refl where
   go : (test : Bool) → (n == m) ≡ test → (n ≡ m) ⊎ ((n == m) ≡ false)
-  go true e = inl (grind (arith, nat_tests))
+  go true e = inl (eqb-true n m e)
   go false e = inr e
 
 -- ---- sums
@@ -50,7 +41,7 @@ abbrev one_at : (number k : ℕ) → ℕ
 one_at number k = if number == k then 1 else 0
 
 at_itself : (k : ℕ) → one_at k k ≡ 1
-at_itself k = ap (λ test. if test then 1 else 0) (let same : (k == k) ≡ true = grind (arith, nat_tests) in same)
+at_itself k = ap (λ test. if test then 1 else 0) (equal_self k)
 
 at_other : (number k : ℕ) → (number == k) ≡ false → one_at number k ≡ 0
 at_other number k e = ap (λ test. if test then 1 else 0) e
@@ -58,31 +49,22 @@ at_other number k e = ap (λ test. if test then 1 else 0) e
 apart : (number k : ℕ) → k < number → (number == k) ≡ false
 apart number k less = grind (arith, nat_tests)
 
+smaller : (number n : ℕ) → number < suc n → (number == n) ≡ false → number < n
+smaller number n less e = grind (arith, nat_tests)
+
 one_of : (h : ℕ → ℕ) (number n : ℕ) → number < n → sum_below (λ k. one_at number k * h k) n ≡ h number
 one_of h number zero less = absurd (omega arith)
 one_of h number (suc n) less = go (which number n) (one_of h number n) where
   go : (number ≡ n) ⊎ ((number == n) ≡ false) → (number < n → sum_below (λ k. one_at number k * h k) n ≡ h number) → sum_below (λ k. one_at number k * h k) (suc n) ≡ h number
   go (inl e) rest =
       let zeros : sum_below (λ k. one_at number k * h k) n ≡ 0 =
-      none (λ k. one_at number k * h k) n (λ k k_less. ap (λ m. m * h k) (at_other number k (apart number k (subst (λ m. k < m) (sym e) k_less))) ∙ zero_times (h k)) in
-      let last : one_at number n * h n ≡ h number = ap (λ m. one_at m n * h n) e ∙ ap (λ m. m * h n) (at_itself n) ∙ one_times (h n) ∙ ap h (sym e) in
+      none (λ k. one_at number k * h k) n (λ k k_less. ap (λ m. m * h k) (at_other number k (apart number k (subst (λ m. k < m) (sym e) k_less))) ∙ zero-mul (h k)) in
+      let last : one_at number n * h n ≡ h number = ap (λ m. one_at m n * h n) e ∙ ap (λ m. m * h n) (at_itself n) ∙ one-mul (h n) ∙ ap h (sym e) in
       omega (arith, zeros, last)
-    where
-      zero_times : (m : ℕ) → 0 * m ≡ 0
-      zero_times m = omega arith
-
-      one_times : (m : ℕ) → 1 * m ≡ m
-      one_times m = omega arith
   go (inr e) rest =
       let before : number < n = smaller number n less e in
-      let last : one_at number n * h n ≡ 0 = ap (λ m. m * h n) (at_other number n e) ∙ zero_times (h n) in
+      let last : one_at number n * h n ≡ 0 = ap (λ m. m * h n) (at_other number n e) ∙ zero-mul (h n) in
       omega (arith, rest before, last)
-    where
-      zero_times : (m : ℕ) → 0 * m ≡ 0
-      zero_times m = omega arith
-
-      smaller : (number n : ℕ) → number < suc n → (number == n) ≡ false → number < n
-      smaller number n less e = grind (arith, nat_tests)
 
 -- ---- how often a number stands in a list
 
@@ -94,23 +76,18 @@ abbrev total : (h : ℕ → ℕ) → List ℕ → ℕ
 total h [] = 0
 total h (number ∷ numbers) = h number + total h numbers
 
-below : (a b : ℕ) → nat_lt a b ≡ true → a < b
-below a b e = grind (arith, nat_tests)
-
 by_number : (h : ℕ → ℕ) (n : ℕ) (numbers : List ℕ) → list_all (λ number. nat_lt number n) numbers ≡ true → sum_below (λ k. times k numbers * h k) n ≡ total h numbers
-by_number h n [] small = none (λ k. 0 * h k) n (λ k less. zero_times (h k)) where
-  zero_times : (m : ℕ) → 0 * m ≡ 0
-  zero_times m = omega arith
+by_number h n [] small = none (λ k. 0 * h k) n (λ k less. zero-mul (h k))
 by_number h n (number ∷ numbers) small =
-    let two = both (nat_lt number n) (list_all (λ m. nat_lt m n) numbers) small in
-    let here : sum_below (λ k. one_at number k * h k) n ≡ h number = one_of h number n (below number n two.0) in
+    let two = and_parts (nat_lt number n) (list_all (λ m. nat_lt m n) numbers) small in
+    let here : sum_below (λ k. one_at number k * h k) n ≡ h number = one_of h number n (ltb-true number n two.0) in
     let rest : sum_below (λ k. times k numbers * h k) n ≡ total h numbers = by_number h n numbers two.1 in
     added (one_at number) (λ k. times k numbers) h n ∙ ap (λ m. m + sum_below (λ k. times k numbers * h k) n) here ∙ ap (λ m. h number + m) rest
 
 never : (k : ℕ) (numbers : List ℕ) → list_any (λ other. other == k) numbers ≡ false → times k numbers ≡ 0
 never k [] e = refl
 never k (number ∷ numbers) e =
-    let two = neither (number == k) (list_any (λ other. other == k) numbers) e in
+    let two = or_parts (number == k) (list_any (λ other. other == k) numbers) e in
     let here : one_at number k ≡ 0 = at_other number k two.0 in
     let rest : times k numbers ≡ 0 = never k numbers two.1 in
     omega (arith, here, rest)
@@ -119,11 +96,11 @@ once : (k : ℕ) (numbers : List ℕ) → are_distinct numbers ≡ true → time
 once k [] e = omega arith
 once k (number ∷ numbers) e = go (which number k) (once k numbers two.1) where
   two : (not (list_any (λ other. other == number) numbers) ≡ true) × (are_distinct numbers ≡ true)
-  two = both (not (list_any (λ other. other == number) numbers)) (are_distinct numbers) e
+  two = and_parts (not (list_any (λ other. other == number) numbers)) (are_distinct numbers) e
 
   go : (number ≡ k) ⊎ ((number == k) ≡ false) → times k numbers ≤ 1 → one_at number k + times k numbers ≤ 1
   go (inl same) rest =
-      let others : times k numbers ≡ 0 = subst (λ m. times m numbers ≡ 0) same (never number numbers (off (list_any (λ other. other == number) numbers) two.0)) in
+      let others : times k numbers ≡ 0 = subst (λ m. times m numbers ≡ 0) same (never number numbers (not-true (list_any (λ other. other == number) numbers) two.0)) in
       let here : one_at number k ≡ 1 = subst (λ m. one_at number m ≡ 1) same (at_itself number) in
       omega (arith, others, here)
   go (inr other) rest = let here : one_at number k ≡ 0 = at_other number k other in omega (arith, here, rest)
@@ -143,9 +120,7 @@ all_once f (suc n) few full k less = go (which k n) (all_once f n few rest k) wh
 
   go : (k ≡ n) ⊎ ((k == n) ≡ false) → (k < n → f k ≡ 1) → f k ≡ 1
   go (inl same) before = ap f same ∙ last
-  go (inr other) before = before (smaller k n less other) where
-    smaller : (k n : ℕ) → k < suc n → (k == n) ≡ false → k < n
-    smaller k n less e = grind (arith, nat_tests)
+  go (inr other) before = before (smaller k n less other)
 
 -- each number stands once on a board
 each_once : (count : ℕ) (board : List ℕ) → Listed count board → (k : ℕ) → k < count → times k board ≡ 1
@@ -156,11 +131,8 @@ each_once count board l = all_once (λ k. times k board) count (λ k. once k boa
 
   full : sum_below (λ k. times k board) count ≡ count
   full =
-      same_sums (λ k. times k board) (λ k. times k board * 1) count (λ k less. times_one (times k board))
+      same_sums (λ k. times k board) (λ k. times k board * 1) count (λ k less. sym (mul-one (times k board)))
       ∙ by_number (λ _. 1) count board l.small ∙ ones board ∙ l.many
-    where
-      times_one : (m : ℕ) → m ≡ m * 1
-      times_one m = omega arith
 
 -- ---- cells and tiles
 
@@ -190,12 +162,9 @@ module _ (cols : ℕ) (goal board : List ℕ) where
       ∙ ap (sum_below (λ cell. of_number (get_or board cell 0))) (sym l.many)
       ∙ by_cells of_number board
       ∙ sym (by_number of_number count board l.small)
-      ∙ same_sums (λ k. times k board * of_number k) of_number count (λ k less. ap (λ m. m * of_number k) (each_once count board l k less) ∙ one_times (of_number k))
+      ∙ same_sums (λ k. times k board * of_number k) of_number count (λ k less. ap (λ m. m * of_number k) (each_once count board l k less) ∙ one-mul (of_number k))
       ∙ ap (sum_below of_number) (let e : count ≡ suc (count - 1) = omega arith in e)
       ∙ of_tiles (count - 1)
-    where
-      one_times : (m : ℕ) → 1 * m ≡ m
-      one_times m = omega arith
 
 pub estimates_count_tiles : EstimatesCountTiles
 estimates_count_tiles tiles is state at =

@@ -1,7 +1,8 @@
 -- An exploration under way: which costs are final, and that these are those of hmax.
 use Rattle.std.proofs.Common.{◌≡◌, ◌≢◌, ℕ, zero, suc, ◌+◌, ◌*◌, ◌^◌, ◌<◌, ◌≤◌, Bool, true, false, not, ◌&&◌, List, length, get_or, set, Contains, Option, None, Some, is_some, refl, sym, subst, ap, arith, ◌∙◌, ◌⊎◌, inl, inr}
+use Rattle.std.proofs.Math.Bool.{and-false}
 use Rattle.std.proofs.Math.ListN.{get_or-eq_default}
-use Rattle.std.proofs.lemmas.Bool.{cases_eq}
+use Rattle.std.proofs.lemmas.Bool.{and_parts, not-true, cases_eq, cases_lt}
 use Rattle.pb_task.specs.declared.parts.GroundAction.{GroundAction}
 use Rattle.pb_task.specs.declared.parts.StripsParts.{StripsParts}
 use Rattle.pb_task.specs.Strips.{has_atom}
@@ -21,10 +22,7 @@ use Rattle.pb_estimate.proofs.Sets.{contains_in, no_more_in, found_among}
 
 -- an atom that costs something is in the row
 pub inside : (costs : List AtomCost) (atom cost : ℕ) → IsAtMost (cost_in costs atom) cost → atom < length costs
-inside costs atom cost h = go (place atom (length costs)) where
-  place : (n m : ℕ) → (n < m) ⊎ (m ≤ n)
-  place n m = grind arith
-
+inside costs atom cost h = go (cases_lt atom (length costs)) where
   go : (atom < length costs) ⊎ (length costs ≤ atom) → atom < length costs
   go (inl less) = less
   go (inr past) = absurd (subst (λ known. IsAtMost (known_cost known) cost) (get_or-eq_default costs Unreached past) h)
@@ -97,12 +95,8 @@ module _ (costs : List AtomCost) (atom cost : ℕ) (least : IsLeastOpen costs at
   waiting_drops wanted below less is =
       count_drops (λ a. wanted a && not (is_final_in costs a)) (λ a. wanted a && not (is_final_in (set costs atom (Final cost)) a)) below atom less
       (ap (λ test. test && not (is_final_in costs atom)) is ∙ ap (λ test. true && not test) not_yet_final)
-      (ap (λ known. wanted atom && not (is_some (final_cost known))) is_here ∙ off (wanted atom))
+      (ap (λ known. wanted atom && not (is_some (final_cost known))) is_here ∙ and-false (wanted atom))
       (λ other apart. ap (λ o. wanted other && not (is_some o)) (final_there other apart))
-    where
-      off : (test : Bool) → (test && false) ≡ false
-      off true = refl
-      off false = refl
 
   pub waiting_stays : (wanted : ℕ → Bool) (below : ℕ) → wanted atom ≡ false → waiting wanted (set costs atom (Final cost)) below ≡ waiting wanted costs below
   waiting_stays wanted below isn't =
@@ -129,19 +123,18 @@ all_final wanted costs below none atom less is = go (wanted atom) (is_final_in c
   go true false e h = cc
   go false final e h = cc
 
+-- what is waited for passes, and isn't final
+is_waited_for : (test final : Bool) → (test && not final) ≡ true → (test ≡ true) × (final ≡ false)
+is_waited_for test final h = let parts = and_parts test (not final) h in (parts.0, not-true final parts.1)
+
 pub none_waiting : (wanted : ℕ → Bool) (costs : List AtomCost) (below : ℕ) → ((atom : ℕ) → atom < below → wanted atom ≡ true → is_final_in costs atom ≡ true) → waiting wanted costs below ≡ 0
 none_waiting wanted costs below each = go (waiting wanted costs below) refl where
-  both : (test final : Bool) → (test && not final) ≡ true → (test ≡ true) × (final ≡ false)
-  both true true h = cc
-  both true false h = (refl, refl)
-  both false final h = cc
-
   go : (n : ℕ) → waiting wanted costs below ≡ n → waiting wanted costs below ≡ 0
   go zero e = e
   go (suc n) e =
       let some : 1 ≤ waiting wanted costs below = omega (arith, e) in
       let found = some_counted (λ a. wanted a && not (is_final_in costs a)) below some in
-      let parts = both (wanted found.0) (is_final_in costs found.0) found.2 in
+      let parts = is_waited_for (wanted found.0) (is_final_in costs found.0) found.2 in
       let wrong : false ≡ true = sym parts.1 ∙ each found.0 found.1 parts.0 in
       absurd (let no : ⊥ = cc in no)
 
@@ -236,13 +229,10 @@ module _ (strips : StripsParts) (state : ℕ) where
         (final_costs (known_in (set costs atom (Final cost)) a) final.0 (is_at_most_itself (final_in (set costs atom (Final cost)) a) final.0 final.1)))))
 
     from : (c : ℕ) → IsAtMost (goal_cost strips state) c → cost ≤ c
-    from c h = go (place cost c) where
-      place : (n m : ℕ) → (n ≤ m) ⊎ (m < n)
-      place n m = grind arith
-
-      go : (cost ≤ c) ⊎ (c < cost) → cost ≤ c
-      go (inl le) = le
-      go (inr lower) =
+    from c h = go (cases_lt c cost) where
+      go : (c < cost) ⊎ (cost ≤ c) → cost ≤ c
+      go (inr le) = le
+      go (inl lower) =
           let final : IsAtMost (final_in costs atom) c =
           is_settled level cost costs u (cheaper_is_final costs atom cost least) strips.atoms atom c less lower
           (dearest_at (atom_cost strips state strips.atoms) strips.goal strips.atoms c h atom less has) in
@@ -255,11 +245,6 @@ module _ (strips : StripsParts) (state : ℕ) where
     found : (k : ℕ) × (k < strips.atoms) × ((has_atom strips.goal k && not (is_final_in costs k)) ≡ true)
     found = some_counted (λ a. has_atom strips.goal a && not (is_final_in costs a)) strips.atoms some
 
-    both : (test final : Bool) → (test && not final) ≡ true → (test ≡ true) × (final ≡ false)
-    both true true h = cc
-    both true false h = (refl, refl)
-    both false final h = cc
-
     settled : (c : ℕ) → (a n : ℕ) → IsAtMost (cost_in costs a) n → n < suc c → IsAtMost (final_in costs a) n
     settled c a n h less = go (open_or_final (known_in costs a) n h) where
       go : ((m : ℕ) × (known_in costs a ≡ Open m) × (m ≤ n)) ⊎ IsAtMost (final_in costs a) n → IsAtMost (final_in costs a) n
@@ -268,7 +253,7 @@ module _ (strips : StripsParts) (state : ℕ) where
 
     from : (c : ℕ) → IsAtMost (goal_cost strips state) c → ⊥
     from c h =
-        let parts = both (has_atom strips.goal found.0) (is_final_in costs found.0) found.2 in
+        let parts = is_waited_for (has_atom strips.goal found.0) (is_final_in costs found.0) found.2 in
         let final : IsAtMost (final_in costs found.0) c =
         is_settled level (suc c) costs u (settled c) strips.atoms found.0 c found.1 (omega arith)
         (dearest_at (atom_cost strips state strips.atoms) strips.goal strips.atoms c h found.0 found.1 parts.0) in
@@ -276,13 +261,10 @@ module _ (strips : StripsParts) (state : ℕ) where
 
   -- no open cost is below the level
   pub opens_from : (level : ℕ) (costs : List AtomCost) → IsUnderway strips state level costs → OpensAreFrom level costs
-  opens_from level costs u atom c is = go (place level c) where
-    place : (n m : ℕ) → (n ≤ m) ⊎ (m < n)
-    place n m = grind arith
-
-    go : (level ≤ c) ⊎ (c < level) → level ≤ c
-    go (inl le) = le
-    go (inr lower) =
+  opens_from level costs u atom c is = go (cases_lt c level) where
+    go : (c < level) ⊎ (level ≤ c) → level ≤ c
+    go (inr le) = le
+    go (inl lower) =
         absurd
         (subst (λ known. IsAtMost (final_cost known) c) is
         (u.below atom c (subst (λ known. IsAtMost (known_cost known) c) (sym is) (let le : c ≤ c = omega arith in le)) lower))

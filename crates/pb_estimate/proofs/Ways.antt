@@ -1,11 +1,13 @@
 -- A step of sliding tiles moves one tile by one cell, so the sum of the tiles' Manhattan distances is admissible.
-use Rattle.std.proofs.Common.{◌≡◌, ◌≢◌, ℕ, zero, suc, ◌+◌, ◌/◌, ◌%◌, ◌<◌, ◌≤◌, Bool, true, false, IsTrue, None, Some, List, get_or, nat_lt, nat_eq, ◌==◌, if◌then◌else◌, length, unwrap_or, refl, sym, subst, ap, arith, ◌∙◌, ◌⊎◌, inl, inr}
+use Rattle.std.proofs.Common.{◌≡◌, ◌≢◌, ℕ, zero, suc, ◌+◌, ◌/◌, ◌%◌, ◌<◌, ◌≤◌, Bool, true, false, IsTrue, None, Some, List, get_or, nat_lt, ◌==◌, if◌then◌else◌, length, unwrap_or, refl, sym, subst, ap, arith, ◌∙◌, ◌⊎◌, inl, inr}
+use Rattle.std.proofs.lemmas.Bool.{cases_eq, eqb-true, lt-ltb}
 use Rattle.std.proofs.lemmas.Bool.Decides.{nat_tests}
 use Rattle.std.proofs.lemmas.List.Sums.{position_or_len_is}
 use Rattle.std.proofs.lemmas.Map.Keys.{apart_from_distinct}
 use Rattle.std.specs.List.{position_or_len}
 use Rattle.pb_model.specs.Space.{Steps}
 use Rattle.pb_model.specs.Plan.{Walk}
+use Rattle.pb_model.proofs.Tests.{equal_self, equal_swap}
 use Rattle.pb_task.specs.Tiles.{cell_count, board_state, board_of, is_board_state, tiles_space, IsTiles}
 use Rattle.pb_task.specs.Slides.{LiesBeside, Slides}
 use Rattle.pb_task.specs.declared.parts.TilesParts.{TilesParts}
@@ -57,9 +59,6 @@ part_all : (cell count way : ℕ) → cell < count → part cell count way ≡ w
 unfolding part
 part_all cell count way less = grind (arith, nat_tests)
 
-which : (n m : ℕ) → (n ≡ m) ⊎ (n ≢ m)
-which n m = grind arith
-
 -- two sums that differ at two cells alone
 module _ (ways ways' : ℕ → ℕ) (p q : ℕ) (apart_cells : p ≢ q) (others : (cell : ℕ) → cell ≢ p → cell ≢ q → ways' cell ≡ ways cell) where
   abbrev Balanced : (count : ℕ) → Type 0
@@ -103,7 +102,7 @@ module _ (ways ways' : ℕ → ℕ) (p q : ℕ) (apart_cells : p ≢ q) (others 
       let c : part p 0 (ways p) ≡ 0 = part_none p (ways p) in
       let d : part q 0 (ways q) ≡ 0 = part_none q (ways q) in
       omega (arith, a, b, c, d)
-  balance (suc n) = go n (which n p) (which n q) (balance n)
+  balance (suc n) = go n (cases_eq n p) (cases_eq n q) (balance n)
 
   exchanged : (count : ℕ) → p < count → q < count → sum_below ways count + (ways' p + ways' q) ≡ sum_below ways' count + (ways p + ways q)
   exchanged count first second =
@@ -186,25 +185,13 @@ step_costs tiles is from action to cost step =
 
 -- ---- the goal
 
-same_number : (n m : ℕ) → nat_eq n m ≡ true → n ≡ m
-same_number n m e = grind (arith, nat_tests)
-
-is_below : (a b : ℕ) → a < b → nat_lt a b ≡ true
-is_below a b e = grind (arith, nat_tests)
-
 -- a number of the board is in its own cell alone
 pub own_cell : (count : ℕ) (board : List ℕ) (cell : ℕ) → Listed count board → cell < length board → cell_with board (get_or board cell 0) ≡ cell
 own_cell count board cell l less =
     let first : position_or_len (λ number. number == get_or board cell 0) board ≡ cell = position_or_len_is (λ number. number == get_or board cell 0) board cell 0 (omega arith)
-    (λ k k_less. apart_turned (get_or board cell 0) (get_or board k 0) (apart_from_distinct (λ x y. y == x) board k cell 0 (to_distinct board l.distinct) k_less less))
-    (λ _. itself (get_or board cell 0)) in
-    ap (λ n. unwrap_or (if nat_lt n (length board) then Some n else None) 0) first ∙ ap (λ test. unwrap_or (if test then Some cell else None) 0) (is_below cell (length board) less)
-  where
-    apart_turned : (n m : ℕ) → (n == m) ≡ false → (m == n) ≡ false
-    apart_turned n m e = grind (arith, nat_tests)
-
-    itself : (n : ℕ) → (n == n) ≡ true
-    itself n = grind (arith, nat_tests)
+    (λ k k_less. equal_swap (get_or board k 0) (get_or board cell 0) ∙ apart_from_distinct (λ x y. y == x) board k cell 0 (to_distinct board l.distinct) k_less less)
+    (λ _. equal_self (get_or board cell 0)) in
+    ap (λ n. unwrap_or (if nat_lt n (length board) then Some n else None) 0) first ∙ ap (λ test. unwrap_or (if test then Some cell else None) 0) (lt-ltb cell (length board) less)
 
 no_way : (cols : ℕ) (goal : List ℕ) (cell number : ℕ) → cell_with goal number ≡ cell → way_home cols goal cell number ≡ 0
 no_way cols goal cell number home = go (number == 0) where
@@ -218,7 +205,7 @@ no_way cols goal cell number home = go (number == 0) where
 goal_is_zero : (tiles : TilesParts) → IsTiles tiles → (state cost : ℕ) → IsTrue ((tiles_space tiles).is_goal state) → estimate tiles state ≤ cost
 unfolding estimate
 goal_is_zero tiles is state cost e =
-    let here : state ≡ board_state tiles.goal = same_number state (board_state tiles.goal) e in
+    let here : state ≡ board_state tiles.goal = eqb-true state (board_state tiles.goal) e in
     let board : board_of (cell_count tiles) state ≡ tiles.goal = ap (board_of (cell_count tiles)) here ∙ ((boards_are_packed (cell_count tiles) (few_cells tiles is)).0 tiles.goal is.goal).1 in
     let l : Listed (cell_count tiles) tiles.goal = listed (cell_count tiles) tiles.goal is.goal in
     let zero_ways : ways_home tiles.cols tiles.goal tiles.goal (cell_count tiles) ≡ 0 =
