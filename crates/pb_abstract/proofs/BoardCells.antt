@@ -1,23 +1,18 @@
 -- The cells of a board that numbers are in, and how they change when two numbers change places.
-use Rattle.std.proofs.Common.{◌≡◌, ◌≢◌, ℕ, ◌+◌, ◌*◌, ◌/◌, ◌^◌, ◌<◌, ◌≤◌, Bool, true, false, not, ◌&&◌, ◌||◌, ◌==◌, eqb, IsTrue, None, Some, List, [], ◌∷◌, length, get_or, set, nat_lt, if◌then◌else◌, unwrap_or, refl, sym, subst, ap, arith, ◌∙◌, ◌⊎◌, inl, inr, true≢false}
-use Rattle.std.proofs.Math.Nat.{div-div-eq-div-mul}
-use Rattle.std.proofs.lemmas.Nat.{pow-add}
+use Rattle.std.proofs.Common.{◌≡◌, ◌≢◌, ℕ, ◌+◌, ◌*◌, ◌^◌, ◌<◌, ◌≤◌, Bool, true, false, not, ◌&&◌, ◌||◌, ◌==◌, eqb, IsTrue, None, Some, List, [], ◌∷◌, length, get_or, set, nat_lt, if◌then◌else◌, unwrap_or, refl, sym, subst, ap, arith, ◌∙◌, ◌⊎◌, inl, inr, true≢false}
+use Rattle.std.proofs.lemmas.Bool.{cases_eq, cases_lt, lt-ltb, le-ltb}
 use Rattle.std.proofs.lemmas.List.{get_or-set_same, get_or-set_other}
 use Rattle.std.specs.List.{list_any, list_all, position_or_len, Any, IsDistinct}
-use Rattle.std.proofs.lemmas.Bool.Decides.{nat_tests}
 use Rattle.std.proofs.lemmas.List.Sums.{position_or_len_is, passes_at_first, fails_before_first}
 use Rattle.std.proofs.lemmas.List.Folds.{Any-from_list_any}
 use Rattle.std.proofs.lemmas.Map.Keys.{apart_from_distinct, IsDistinct-from_apart}
 use Rattle.std.proofs.lemmas.Map.Steps.{length-le_from_distinct_below}
-use Rattle.pb_model.proofs.Tests.{equal, equal_self, and_true, by_cases, below}
+use Rattle.pb_model.proofs.Tests.{equal, equal_self, equal_swap, and_true, by_cases, below}
 use Rattle.pb_packed.specs.Bits.{bits_of}
 use Rattle.pb_task.specs.Tiles.{are_distinct, is_board, is_board_state, board_of}
 use Rattle.pb_task.proofs.Boards.{Listed, to_distinct, whole}
 use Rattle.pb_abstract.specs.Placings.{cell_with, IsPlacing, placing_of}
 use Rattle.pb_abstract.proofs.Ranks.{placing_same}
-
-is_below : (a b : ℕ) → a < b → nat_lt a b ≡ true
-is_below a b e = grind (arith, nat_tests)
 
 -- ---- the first cell that has a number
 
@@ -25,19 +20,16 @@ pub cell_found : (board : List ℕ) (number cell : ℕ) → cell < length board 
 cell_found board number cell less before here =
     let first : position_or_len (λ other. other == number) board ≡ cell =
     position_or_len_is (λ other. other == number) board cell 0 (omega arith) before (λ _. ap (λ n. n == number) here ∙ equal_self number) in
-    ap (λ n. unwrap_or (if nat_lt n (length board) then Some n else None) 0) first ∙ ap (λ test. unwrap_or (if test then Some cell else None) 0) (is_below cell (length board) less)
+    ap (λ n. unwrap_or (if nat_lt n (length board) then Some n else None) 0) first ∙ ap (λ test. unwrap_or (if test then Some cell else None) 0) (lt-ltb cell (length board) less)
 
 pub cell_missing : (board : List ℕ) (number : ℕ) → ((k : ℕ) → k < length board → (get_or board k 0 == number) ≡ false) → cell_with board number ≡ 0
 cell_missing board number none =
     let last : position_or_len (λ other. other == number) board ≡ length board =
     position_or_len_is (λ other. other == number) board (length board) 0 (omega arith) none (λ less. absurd (omega arith)) in
     ap (λ n. unwrap_or (if nat_lt n (length board) then Some n else None) 0) last
-    ∙ ap (λ test. unwrap_or (if test then Some (length board) else None) 0) (let off : nat_lt (length board) (length board) ≡ false = grind (arith, nat_tests) in off)
+    ∙ ap (λ test. unwrap_or (if test then Some (length board) else None) 0) (le-ltb (length board) (length board) (omega arith))
 
 -- ---- boards have each number in one cell
-
-same_test : (x y : ℕ) → (y == x) ≡ (x == y)
-same_test x y = grind (arith, nat_tests)
 
 -- a number that is no item of distinct small numbers
 more_distinct : (number : ℕ) (board : List ℕ) → are_distinct board ≡ true → list_any (λ other. other == number) board ≡ false → are_distinct (number ∷ board) ≡ true
@@ -54,14 +46,14 @@ all_small count number (other ∷ board) small h = go (eqb number other) refl h 
   go false e h rest = rest h
 
 distinct_by_eqb : (xs : List ℕ) → are_distinct xs ≡ true → IsDistinct eqb xs
-distinct_by_eqb xs e = IsDistinct-from_apart eqb xs (λ i j d less within. same_test (get_or xs j d) (get_or xs i d) ∙ apart_from_distinct (λ x y. y == x) xs i j d (to_distinct xs e) less within)
+distinct_by_eqb xs e = IsDistinct-from_apart eqb xs (λ i j d less within. equal_swap (get_or xs i d) (get_or xs j d) ∙ apart_from_distinct (λ x y. y == x) xs i j d (to_distinct xs e) less within)
 
 pub is_on_board : (count number : ℕ) (board : List ℕ) → Listed count board → number < count → list_any (λ other. other == number) board ≡ true
 is_on_board count number board l less = by_cases (list_any (λ other. other == number) board) (λ e. e) (λ e. absurd (none e)) where
   none : list_any (λ other. other == number) board ≡ false → ⊥
   none e =
       let distinct : IsDistinct eqb (number ∷ board) = distinct_by_eqb (number ∷ board) (more_distinct number board l.distinct e) in
-      let small : list_all (λ n. nat_lt n count) (number ∷ board) ≡ true = ap (λ b. b && list_all (λ n. nat_lt n count) board) (is_below number count less) ∙ l.small in
+      let small : list_all (λ n. nat_lt n count) (number ∷ board) ≡ true = ap (λ b. b && list_all (λ n. nat_lt n count) board) (lt-ltb number count less) ∙ l.small in
       let few : length (number ∷ board) ≤ count = length-le_from_distinct_below (number ∷ board) count distinct (λ q h. all_small count q (number ∷ board) small h) in
       let many : length board ≡ count = l.many in
       omega arith
@@ -76,17 +68,14 @@ is_in count number board l less = go (Any-from_list_any (λ other. other == numb
   at : position_or_len (λ other. other == number) board < length board → IsIn count board number
   at within =
       let is : cell_with board number ≡ position_or_len (λ other. other == number) board =
-      ap (λ test. unwrap_or (if test then Some (position_or_len (λ other. other == number) board) else None) 0) (is_below (position_or_len (λ other. other == number) board) (length board) within) in
+      ap (λ test. unwrap_or (if test then Some (position_or_len (λ other. other == number) board) else None) 0) (lt-ltb (position_or_len (λ other. other == number) board) (length board) within) in
       record {
         within = subst (λ n. n < count) (sym is) (subst (λ n. position_or_len (λ other. other == number) board < n) l.many within);
         there = ap (λ n. get_or board n 0) is ∙ equal (get_or board (position_or_len (λ other. other == number) board) 0) number (passes_at_first (λ other. other == number) board 0 within);
       }
 
-  cases : (a b : ℕ) → (a < b) ⊎ (b ≤ a)
-  cases a b = grind arith
-
   go : Any (λ x. (x == number) ≡ true) board → IsIn count board number
-  go (k, x, k_less, is, e) = which (cases (position_or_len (λ other. other == number) board) (length board)) where
+  go (k, x, k_less, is, e) = which (cases_lt (position_or_len (λ other. other == number) board) (length board)) where
     which : ((position_or_len (λ other. other == number) board < length board) ⊎ (length board ≤ position_or_len (λ other. other == number) board)) → IsIn count board number
     which (inl within) = at within
     which (inr past) = absurd (true≢false (sym (ap (λ n. n == number) is ∙ e) ∙ fails_before_first (λ other. other == number) board k x (omega arith)))
@@ -97,7 +86,7 @@ cell_is count number cell board l less here =
     let within : cell < length board = subst (λ n. cell < n) (sym l.many) less in
     cell_found board number cell within
     (λ k k_less. let apart : (get_or board cell 0 == get_or board k 0) ≡ false = apart_from_distinct (λ x y. y == x) board k cell 0 (to_distinct board l.distinct) k_less within in
-    same_test number (get_or board k 0) ∙ ap (λ n. n == get_or board k 0) (sym here) ∙ apart)
+    equal_swap (get_or board k 0) number ∙ ap (λ n. n == get_or board k 0) (sym here) ∙ apart)
     here
 
 -- two numbers of a board are in two cells
@@ -121,19 +110,10 @@ word_is count state word is read = read ∙ whole count state (below state (16 ^
 
 -- ---- the table of the numbers' cells
 
--- a state without the numbers of its first cells, and without one more
-pub next_digit : (word cell : ℕ) → word / 2 ^ (4 * cell) / 16 ≡ word / 2 ^ (4 * (cell + 1))
-next_digit word cell =
-    div-div-eq-div-mul word (2 ^ (4 * cell)) 16
-    ∙ ap (λ n. word / n) (sym (pow-add 2 (4 * cell) 4) ∙ ap (λ k. 2 ^ k) (let e : 4 * cell + 4 ≡ 4 * (cell + 1) = omega arith in e))
-
 -- one more number gets its cell
 pub one_more_cell : (count cell number : ℕ) (board cells : List ℕ) → Listed count board → cell < count → number ≡ get_or board cell 0 → number < length cells
     → ((k : ℕ) → k < cell → get_or cells (get_or board k 0) 0 ≡ k) → (k : ℕ) → k < cell + 1 → get_or (set cells number cell) (get_or board k 0) 0 ≡ k
-one_more_cell count cell number board cells l less here room known k k_less = go (cases k cell) where
-  cases : (n m : ℕ) → (n ≡ m) ⊎ (n ≢ m)
-  cases n m = grind arith
-
+one_more_cell count cell number board cells l less here room known k k_less = go (cases_eq k cell) where
   go : (k ≡ cell) ⊎ (k ≢ cell) → get_or (set cells number cell) (get_or board k 0) 0 ≡ k
   go (inl same) =
       ap (λ n. get_or (set cells number cell) n 0) (ap (λ n. get_or board n 0) same ∙ sym here)

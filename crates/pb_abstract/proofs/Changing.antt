@@ -1,26 +1,25 @@
 -- What actions do to the tracked atoms, and the edges that it makes.
-use Rattle.std.proofs.Common.{◌≡◌, ℕ, ◌-◌, ◌^◌, ◌<◌, ◌≤◌, Bool, true, false, not, ◌||◌, ◌==◌, ◌&&◌, List, [], ◌∷◌, None, Some, if◌then◌else◌, IsTrue, length, slice_get, refl, sym, ap, subst, ◌∙◌, arith, bit_and, bit_or, min, max, ◌↔◌, ◌⊎◌, inl, inr, true≢false}
+use Rattle.std.proofs.Common.{◌≡◌, ℕ, ◌^◌, ◌<◌, ◌≤◌, Bool, true, false, not, ◌||◌, ◌==◌, ◌&&◌, List, [], ◌∷◌, None, Some, if◌then◌else◌, IsTrue, length, slice_get, refl, sym, ap, subst, ◌∙◌, arith, bit_and, bit_or, ◌↔◌, ◌⊎◌, inl, inr, true≢false}
 use Rattle.std.specs.Prelude.{option_map}
-use Rattle.std.specs.Int.{bit_at, bit_not, w32}
+use Rattle.std.specs.Int.{bit_not, w32}
 use Rattle.std.specs.List.{list_any, dedup, dedup_from, Any}
 use Rattle.std.proofs.Math.Pow.{pow_mono}
+use Rattle.std.proofs.lemmas.Bool.{and_from, or_left, or_right}
 use Rattle.std.proofs.lemmas.Nat.{and_le_l, or_lt}
-use Rattle.std.proofs.lemmas.Nat.Bits.{bit_at_and, bit_at_or, bit_at_not, bit_at-zero}
+use Rattle.std.proofs.lemmas.Nat.Bits.{bit_at-zero}
 use Rattle.std.proofs.lemmas.Option.{slice_get-map, slice_get-get_or, slice_get_within, get_or_from_slice_get}
 use Rattle.std.proofs.lemmas.List.Folds.{Any-from_list_any, list_any_at}
-use Rattle.pb_packed.specs.Bits.{bit_number}
 use Rattle.pb_model.proofs.Tests.{and_true, or_true, by_cases, equal, equal_self, not_false}
 use Rattle.pb_task.specs.declared.parts.GroundAction.{GroundAction}
 use Rattle.pb_task.specs.declared.parts.StripsParts.{StripsParts}
 use Rattle.pb_task.specs.Strips.{has_atom, holds_after, Acts}
-use Rattle.pb_task.proofs.AtomSets.{bit_is, same_atoms}
+use Rattle.pb_task.proofs.AtomSets.{same_atoms, both_atoms, any_atom, no_atom, common_all, all_common}
 use Rattle.pb_task.proofs.Acting.{strips_act}
 use Rattle.pb_abstract.specs.declared.changes.Change.{Change}
 use Rattle.pb_abstract.specs.Tracked.{AreAtoms, tracked_set, tracked_action, tracked_task, IsTrackedEdge}
 use Rattle.pb_abstract.specs.Borders.{is_number}
 use Rattle.pb_abstract.specs.Changes.{change_of, changes_some, block_after}
 use Rattle.pb_abstract.specs.Graph.{has}
-use Rattle.pb_abstract.proofs.Directions.{or_left, or_right}
 use Rattle.pb_abstract.proofs.TrackedSets.{set_small}
 use Rattle.pb_abstract.proofs.TrackedSteps.{IsFrom, comes_from}
 
@@ -54,54 +53,6 @@ same_change x y e =
 
 -- ---- sets of at most 32 atoms, by their bits
 
-number_tells : (one other : Bool) → bit_number one ≡ bit_number other → one ≡ other
-number_tells true true e = refl
-number_tells false false e = refl
-number_tells true false e = absurd (omega arith)
-number_tells false true e = absurd (omega arith)
-
-least : (one other : Bool) → min (bit_number one) (bit_number other) ≡ bit_number (one && other)
-least true true = refl
-least true false = refl
-least false true = refl
-least false false = refl
-
-greatest : (one other : Bool) → max (bit_number one) (bit_number other) ≡ bit_number (one || other)
-greatest true true = refl
-greatest true false = refl
-greatest false true = refl
-greatest false false = refl
-
-turned : (one : Bool) → 1 - bit_number one ≡ bit_number (not one)
-turned true = refl
-turned false = refl
-
-has_and : (one other at : ℕ) → has_atom (bit_and one other) at ≡ (has_atom one at && has_atom other at)
-has_and one other at = number_tells (has_atom (bit_and one other) at) (has_atom one at && has_atom other at)
-    (sym (bit_is (bit_and one other) at) ∙ bit_at_and one other at ∙ ap (λ b. min b (bit_at other at)) (bit_is one at)
-    ∙ ap (λ b. min (bit_number (has_atom one at)) b) (bit_is other at) ∙ least (has_atom one at) (has_atom other at))
-
-has_or : (one other at : ℕ) → has_atom (bit_or one other) at ≡ (has_atom one at || has_atom other at)
-has_or one other at = number_tells (has_atom (bit_or one other) at) (has_atom one at || has_atom other at)
-    (sym (bit_is (bit_or one other) at) ∙ bit_at_or one other at ∙ ap (λ b. max b (bit_at other at)) (bit_is one at)
-    ∙ ap (λ b. max (bit_number (has_atom one at)) b) (bit_is other at) ∙ greatest (has_atom one at) (has_atom other at))
-
-has_not : (one at : ℕ) → one < 2 ^ 32 → at < 32 → has_atom (bit_not w32 one) at ≡ not (has_atom one at)
-has_not one at small less = number_tells (has_atom (bit_not w32 one) at) (not (has_atom one at))
-    (sym (bit_is (bit_not w32 one) at) ∙ bit_at_not w32 one at small less ∙ ap (λ b. 1 - b) (bit_is one at) ∙ turned (has_atom one at))
-
--- what is common to two sets is the one where the other has all of it
-common_all : (needs block : ℕ) → bit_and needs block ≡ needs → (at : ℕ) → IsTrue (has_atom needs at) → IsTrue (has_atom block at)
-common_all needs block e at has = (and_true (has_atom needs at) (has_atom block at) (sym (has_and needs block at) ∙ ap (λ n. has_atom n at) e ∙ has)).1
-
-all_common : (count needs block : ℕ) → needs < 2 ^ count → ((at : ℕ) → at < count → IsTrue (has_atom needs at) → IsTrue (has_atom block at)) → bit_and needs block ≡ needs
-all_common count needs block small all =
-    let le : bit_and needs block ≤ needs = and_le_l needs block in
-    same_atoms count (bit_and needs block) needs (omega arith) small (λ at less. has_and needs block at ∙ absorbed (has_atom needs at) (has_atom block at) (all at less)) where
-      absorbed : (one other : Bool) → (one ≡ true → other ≡ true) → (one && other) ≡ one
-      absorbed true other more = more refl
-      absorbed false other more = refl
-
 -- the set after a change
 abbrev after : (adds block deletes : ℕ) → ℕ
 after adds block deletes = bit_or adds (bit_and block (bit_not w32 deletes))
@@ -113,8 +64,8 @@ after_small count adds block deletes small small' =
 
 after_has : (adds block deletes at : ℕ) → deletes < 2 ^ 32 → at < 32 → has_atom (after adds block deletes) at ≡ (has_atom adds at || (has_atom block at && not (has_atom deletes at)))
 after_has adds block deletes at small less =
-    has_or adds (bit_and block (bit_not w32 deletes)) at ∙ ap (λ b. has_atom adds at || b) (has_and block (bit_not w32 deletes) at)
-    ∙ ap (λ b. has_atom adds at || (has_atom block at && b)) (has_not deletes at small less)
+    any_atom adds (bit_and block (bit_not w32 deletes)) at ∙ ap (λ b. has_atom adds at || b) (both_atoms block (bit_not w32 deletes) at)
+    ∙ ap (λ b. has_atom adds at || (has_atom block at && b)) (no_atom w32 deletes at small less)
 
 -- ---- changes that lead to a block
 
@@ -200,12 +151,10 @@ module _ (strips : StripsParts) (atoms : List ℕ) (are : AreAtoms strips atoms)
       (λ at less. change_has f.act at less ∙ sym (result at less)) in
       let needed : bit_and (tracked_set atoms f.act.needs) block ≡ tracked_set atoms f.act.needs =
       all_common (length atoms) (tracked_set atoms f.act.needs) block (set_small atoms f.act.needs) (λ at less e. t.needed at less (ap (λ (a : GroundAction). has_atom a.needs at) (sym f.same) ∙ e)) in
-      let passes : leads c f.act ≡ true = join (changes_some (change_of atoms f.act)) (is_number (block_after (change_of atoms f.act) block) c) some (parts_lead (change_of atoms f.act) block c needed there) in
+      let passes : leads c f.act ≡ true = and_from (changes_some (change_of atoms f.act)) (is_number (block_after (change_of atoms f.act) block) c) some (parts_lead (change_of atoms f.act) block c needed there) in
       list_any_at (leads c) strips.actions edge.action f.act (slice_get_within strips.actions edge.action f.act f.is)
       (ap (leads c) (get_or_from_slice_get strips.actions edge.action f.act f.act f.is) ∙ passes)))
-      (λ none. inl (stays f.act c t.to_set none result)) where
-        join : (a b : Bool) → a ≡ true → b ≡ true → (a && b) ≡ true
-        join a b p q = cc
+      (λ none. inl (stays f.act c t.to_set none result))
 
   -- the blocks that a scope has are the block and those that an edge leads to
   pub scope_is : (changes : List Change) (list : List ℕ) → ((test : Change → Bool) → list_any test changes ≡ list_any (λ action. changes_some (change_of atoms action) && test (change_of atoms action)) strips.actions)

@@ -1,5 +1,6 @@
 -- What holds in one of four directions.
-use Rattle.std.proofs.Common.{◌≡◌, ℕ, zero, suc, ◌<◌, Bool, true, false, Option, Some, List, [], ◌∷◌, ◌||◌, refl, sym, arith, ◌⊎◌, inl, inr, true≢false}
+use Rattle.std.proofs.Common.{◌≡◌, ℕ, zero, suc, ◌<◌, Bool, true, false, Option, Some, List, [], ◌∷◌, ◌||◌, sym, arith, ◌⊎◌, inl, inr, true≢false}
+use Rattle.std.proofs.lemmas.Bool.{or_left, or_right}
 use Rattle.pb_model.proofs.Tests.{or_true}
 use Rattle.pb_task.specs.Grid.{cell_beside}
 
@@ -26,13 +27,6 @@ one_of_four test e = first (or_true (test 0) (test 1 || (test 2 || (test 3 || fa
   first : ((test 0 ≡ true) ⊎ ((test 1 || (test 2 || (test 3 || false))) ≡ true)) → (action : ℕ) × (test action ≡ true)
   first (inl h) = (0, h)
   first (inr h) = second (or_true (test 1) (test 2 || (test 3 || false)) h)
-
-pub or_left : (a b : Bool) → a ≡ true → (a || b) ≡ true
-or_left a b e = cc
-
-pub or_right : (a b : Bool) → b ≡ true → (a || b) ≡ true
-or_right true b e = refl
-or_right false b e = e
 
 pub among_four : (test : ℕ → Bool) (action : ℕ) → action < 4 → test action ≡ true → (test 0 || (test 1 || (test 2 || (test 3 || false)))) ≡ true
 among_four test zero less e = or_left (test 0) (test 1 || (test 2 || (test 3 || false))) e

@@ -6,26 +6,12 @@ use Rattle.pb_packed.specs.Bits.{bits_of}
 use Rattle.pb_model.specs.Space.{Steps}
 use Rattle.pb_task.specs.Grid.{class_at, entry_cost, class_of_state, cell_state, are_connected, is_passable, cell_beside, step_to, grid_space, IsGrid}
 use Rattle.pb_task.specs.declared.parts.Class.{Class}
-use Rattle.pb_task.specs.declared.parts.Class.TheVariants.{Land, Water, Blocked}
+use Rattle.pb_task.specs.declared.parts.Class.TheVariants.{Blocked}
 use Rattle.pb_task.specs.declared.parts.GridParts.{GridParts}
-use Rattle.pb_task.proofs.Grids.{class_of_cell}
+use Rattle.pb_task.proofs.Grids.{passable_from, passable_to, on_map, x_of, y_of, class_of_cell}
 use Rattle.pb_abstract.specs.Squares.{square_count, square_of, IsSquareEdge}
 use Rattle.pb_abstract.proofs.Squaring.{fits_parts}
-use Rattle.pb_abstract.proofs.SquareEdges.{passable_from, on_map}
 use Rattle.pb_abstract.proofs.Ranks.{digits_below}
-
-passable_to : (from to : Class) → are_connected from to ≡ true → is_passable to ≡ true
-passable_to from Land e = refl
-passable_to from Water e = refl
-passable_to Land Blocked e = e
-passable_to Water Blocked e = e
-passable_to Blocked Blocked e = e
-
-x_of : (x y : ℕ) → x < 2048 → bits_of (cell_state x y) 0 11 ≡ x
-x_of x y h = omega arith
-
-y_of : (x y : ℕ) → x < 2048 → y < 2048 → bits_of (cell_state x y) 11 11 ≡ y
-y_of x y h k = omega arith
 
 -- the square of a state
 abbrev pub square_at : GridParts → (side state : ℕ) → ℕ

@@ -1,10 +1,10 @@
 -- Which numbers a list has.
 use Rattle.std.proofs.Common.{◌≡◌, ℕ, zero, suc, ◌<◌, ◌≤◌, true, not, ◌&&◌, ◌==◌, List, [], ◌∷◌, get_or, length, All, sym, ap, ◌∙◌, arith, true≢false, ◌⊎◌, inl, inr}
+use Rattle.std.proofs.lemmas.Bool.{or_left, or_right, cases_lt}
 use Rattle.std.proofs.lemmas.List.{get_or_past, get_or_read}
 use Rattle.pb_model.proofs.Tests.{equal_self, and_true}
 use Rattle.pb_machine.specs.Blocks.{meets, interferes}
 use Rattle.pb_machine.proofs.TableLaws.{any_some}
-use Rattle.pb_abstract.proofs.Directions.{or_left, or_right}
 use Rattle.pb_abstract.specs.Graph.{has, blocks_in, AreKnown, AreInterference}
 
 -- a list has each of its items
@@ -24,11 +24,8 @@ interferes_known scopes block other e =
     let shared = any_some (length scopes) (λ s. has (get_or scopes block []) s && has (get_or scopes other []) s) two.1 in
     known shared.0 (and_true (has (get_or scopes block []) shared.0) (has (get_or scopes other []) shared.0) shared.2).1
   where
-    cases : (n m : ℕ) → (n < m) ⊎ (m ≤ n)
-    cases n m = grind arith
-
     known : (s : ℕ) → has (get_or scopes other []) s ≡ true → other < length scopes
-    known s h = go (cases other (length scopes)) where
+    known s h = go (cases_lt other (length scopes)) where
       go : ((other < length scopes) ⊎ (length scopes ≤ other)) → other < length scopes
       go (inl less) = less
       go (inr past) = absurd (true≢false (sym h ∙ ap (λ xs. has xs s) (get_or_past scopes other [] past)))

@@ -1,7 +1,9 @@
 -- Lists of numbers that are sorted, filtered and joined.
 use Rattle.std.proofs.Common.{◌≡◌, ℕ, zero, suc, ◌+◌, ◌<◌, Bool, true, false, not, ◌&&◌, ◌||◌, ◌==◌, List, [], ◌∷◌, ◌++◌, get_or, length, refl, sym, ap, subst, ◌∙◌, arith, eqb, if◌then◌else◌}
 use Rattle.std.specs.List.{list_any, filter, dedup, Contains, Any}
-use Rattle.std.proofs.lemmas.Bool.Decides.{nat_tests}
+use Rattle.std.proofs.Math.Bool.{and-false}
+use Rattle.std.proofs.lemmas.Bool.{and_from}
+use Rattle.std.proofs.lemmas.Bool.Decides.{nat_tests, same_from_decides}
 use Rattle.std.proofs.lemmas.List.{get_or_read, get_or_push, get_or_append_left}
 use Rattle.std.proofs.lemmas.List.Folds.{Any-from_list_any, list_any_at}
 use Rattle.std.proofs.lemmas.List.Kept.{Contains-dedup_nat, Contains-from_dedup}
@@ -14,9 +16,7 @@ use Rattle.pb_abstract.proofs.Has.{has_at}
 
 -- two tests that follow from one another
 pub same_tests : (a b : Bool) → (a ≡ true → b ≡ true) → (b ≡ true → a ≡ true) → a ≡ b
-same_tests true b f g = sym (f refl)
-same_tests false true f g = g refl
-same_tests false false f g = refl
+same_tests a b f g = same_from_decides {P = b ≡ true} a b (f, g) (λ e. e, λ e. e)
 
 -- a list has what it contains
 pub contains_has : (xs : List ℕ) (c : ℕ) → Contains xs c → has xs c ≡ true
@@ -34,10 +34,7 @@ has_dedup xs c = same_tests (has (dedup eqb xs) c) (has xs c)
 
 -- the numbers without one of them
 pub has_others : (xs : List ℕ) (block c : ℕ) → has (filter (λ x. not (x == block)) xs) c ≡ (not (block == c) && has xs c)
-has_others [] block c = none (not (block == c)) where
-  none : (b : Bool) → false ≡ (b && false)
-  none true = refl
-  none false = refl
+has_others [] block c = sym (and-false (not (block == c)))
 has_others (x ∷ xs) block c = go (x == block) refl (has_others xs block c) where
   kept : (here other rest tail : Bool) → (here ≡ true → other ≡ true) → tail ≡ (other && rest) → (here || tail) ≡ (other && (here || rest))
   kept true other rest tail f e = sym (ap (λ b. b && true) (f refl))
@@ -61,13 +58,10 @@ has_others (x ∷ xs) block c = go (x == block) refl (has_others xs block c) whe
 -- a list whose numbers are small has one that passes exactly where a small number that it has passes
 pub any_of : (count : ℕ) (test : ℕ → Bool) (xs : List ℕ) → ((x : ℕ) → has xs x ≡ true → x < count) → list_any test xs ≡ any_below count (λ n. has xs n && test n)
 any_of count test xs small = same_tests (list_any test xs) (any_below count (λ n. has xs n && test n)) forth back where
-  join : (a b : Bool) → a ≡ true → b ≡ true → (a && b) ≡ true
-  join a b p q = cc
-
   to : Any (λ x. test x ≡ true) xs → any_below count (λ n. has xs n && test n) ≡ true
   to (k, x, less, is, e) =
       let here : has xs x ≡ true = contains_has xs x (k, less, is) in
-      any_at count x (λ n. has xs n && test n) (small x here) (join (has xs x) (test x) here e)
+      any_at count x (λ n. has xs n && test n) (small x here) (and_from (has xs x) (test x) here e)
 
   forth : list_any test xs ≡ true → any_below count (λ n. has xs n && test n) ≡ true
   forth h = to (Any-from_list_any test xs h)

@@ -1,6 +1,7 @@
 -- The order of the tracked atoms: there is one list of them at most, and its atoms are different atoms of the task.
-use Rattle.std.proofs.Common.{◌≡◌, ◌≢◌, ℕ, suc, ◌+◌, ◌^◌, ◌<◌, ◌≤◌, Bool, true, false, ◌&&◌, ◌||◌, ◌==◌, IsTrue, List, [], ◌∷◌, length, get_or, All, nat_lt, refl, sym, ap, subst, ◌∙◌, arith, ◌⊎◌, inl, inr}
+use Rattle.std.proofs.Common.{◌≡◌, ◌≢◌, ℕ, suc, ◌+◌, ◌^◌, ◌<◌, ◌≤◌, true, false, ◌&&◌, ◌||◌, ◌==◌, IsTrue, List, [], ◌∷◌, length, get_or, All, nat_lt, refl, sym, ap, subst, ◌∙◌, arith, ◌⊎◌, inl, inr}
 use Rattle.std.proofs.Math.Pow.{pow_mono}
+use Rattle.std.proofs.lemmas.Bool.{or_from, cases_lt}
 use Rattle.std.proofs.lemmas.List.Elements.{All-head, All-tail, All-weaker, All-contains}
 use Rattle.pb_model.proofs.Tests.{and_true, or_true, or_false, by_cases, equal, equal_self, below, not_both}
 use Rattle.pb_task.specs.declared.parts.StripsParts.{StripsParts}
@@ -37,10 +38,7 @@ module _ (strips : StripsParts) where
   are_different (atom ∷ atoms) order = (All-weaker (λ a. IsTrue (comes_before strips atom a)) (λ a. a ≢ atom) (λ a. not_itself atom a) atoms order.0, are_different atoms order.1)
 
   few_atoms : (wish count : ℕ) → wish ≤ 4096 → 2 ^ count ≤ wish → count ≤ 12
-  few_atoms wish count few is = which (cases 12 count) where
-    cases : (n m : ℕ) → (n < m) ⊎ (m ≤ n)
-    cases n m = grind arith
-
+  few_atoms wish count few is = which (cases_lt 12 count) where
     which : (12 < count) ⊎ (count ≤ 12) → count ≤ 12
     which (inl more) = let up : 2 ^ 13 ≤ 2 ^ count = pow_mono {i = 13} {j = count} (omega arith) in absurd (omega arith)
     which (inr le) = le
@@ -70,23 +68,20 @@ module _ (strips : StripsParts) where
     order = r.order.1;
     unseen = λ k d less. apart (get_or rest k d) (All-tail (λ a. has seen a ≡ false) atom rest r.unseen k d less) (r.order.0 k d less);
     first = λ other changed unseen none.
-        All-tail (λ a. IsTrue (comes_before strips a other)) atom rest (r.first other changed (or_false (atom == other) (has seen other) unseen).1 (both (atom == other) (has rest other) (or_false (atom == other) (has seen other) unseen).0 none));
+        All-tail (λ a. IsTrue (comes_before strips a other)) atom rest (r.first other changed (or_false (atom == other) (has seen other) unseen).1 (or_from (atom == other) (has rest other) (or_false (atom == other) (has seen other) unseen).0 none));
     few = subst (λ n. 2 ^ n ≤ wish) many r.few;
     most = which r.most;
   } where
     many : length seen + suc (length rest) ≡ suc (length seen) + length rest
     many = omega arith
 
-    both : (a b : Bool) → a ≡ false → b ≡ false → (a || b) ≡ false
-    both a b e f = cc
-
     apart : (a : ℕ) → has seen a ≡ false → IsTrue (comes_before strips atom a) → has (atom ∷ seen) a ≡ false
-    apart a none e = both (atom == a) (has seen a) (by_cases (atom == a) (λ same. absurd (not_itself atom a e (sym (equal atom a same)))) (λ off. off)) none
+    apart a none e = or_from (atom == a) (has seen a) (by_cases (atom == a) (λ same. absurd (not_itself atom a e (sym (equal atom a same)))) (λ off. off)) none
 
     which : (wish < 2 ^ suc (length seen + suc (length rest))) ⊎ ((other : ℕ) → IsTrue (is_changed strips other) → has seen other ≡ false → has (atom ∷ rest) other ≡ false → ⊥)
         → (wish < 2 ^ suc (suc (length seen) + length rest)) ⊎ ((other : ℕ) → IsTrue (is_changed strips other) → has (atom ∷ seen) other ≡ false → has rest other ≡ false → ⊥)
     which (inl more) = inl (subst (λ n. wish < 2 ^ suc n) many more)
-    which (inr all) = inr (λ other changed unseen none. all other changed (or_false (atom == other) (has seen other) unseen).1 (both (atom == other) (has rest other) (or_false (atom == other) (has seen other) unseen).0 none))
+    which (inr all) = inr (λ other changed unseen none. all other changed (or_false (atom == other) (has seen other) unseen).1 (or_from (atom == other) (has rest other) (or_false (atom == other) (has seen other) unseen).0 none))
 
   -- one list can't go on where another ends
   no_longer : (wish atom : ℕ) (seen rest : List ℕ) → IsRest wish seen [] → IsRest wish seen (atom ∷ rest) → ⊥
@@ -104,10 +99,7 @@ module _ (strips : StripsParts) where
   comes_first wish atom other seen rest r changed unseen apart =
       by_cases (has rest other)
       (λ e. All-contains (λ a. IsTrue (comes_before strips atom a)) rest other r.order.0 (has_contains rest other e))
-      (λ e. All-head (λ a. IsTrue (comes_before strips a other)) atom rest (r.first other changed unseen (both (atom == other) (has rest other) apart e)))
-    where
-      both : (a b : Bool) → a ≡ false → b ≡ false → (a || b) ≡ false
-      both a b e f = cc
+      (λ e. All-head (λ a. IsTrue (comes_before strips a other)) atom rest (r.first other changed unseen (or_from (atom == other) (has rest other) apart e)))
 
   same_rest : (wish : ℕ) (seen one two : List ℕ) → IsRest wish seen one → IsRest wish seen two → one ≡ two
   same_rest wish seen [] [] a b = refl

@@ -1,6 +1,8 @@
 -- The tracked atoms: how they are found one after another, and that there is one list of them.
 use Rattle.std.proofs.Common.{◌≡◌, ◌≢◌, ℕ, suc, ◌+◌, ◌*◌, ◌^◌, ◌<◌, ◌≤◌, Bool, true, false, not, ◌&&◌, ◌||◌, ◌==◌, IsTrue, List, [], ◌∷◌, ◌++◌, Option, None, Some, length, get_or, drop, All, nat_lt, if◌then◌else◌, refl, sym, ap, subst, ◌∙◌, arith, ◌⊎◌, inl, inr, true≢false}
+use Rattle.std.proofs.Math.Nat.{eq-or-lt_of_le}
 use Rattle.std.proofs.Math.Pow.{pow_mono}
+use Rattle.std.proofs.lemmas.Bool.{and_from, or_left, or_right, cases_lt}
 use Rattle.std.proofs.lemmas.Bool.Decides.{nat_tests}
 use Rattle.std.proofs.lemmas.List.{get_or_past, at_drop_more}
 use Rattle.std.proofs.lemmas.List.Elements.{All-push, All-cons, All-head, All-tail, All-nil}
@@ -13,7 +15,6 @@ use Rattle.pb_abstract.specs.Ranking.{AreCounts, is_left, is_fewer, better, prec
 use Rattle.pb_abstract.specs.Graph.{has}
 use Rattle.pb_abstract.proofs.Has.{has_at}
 use Rattle.pb_abstract.proofs.Members.{has_contains}
-use Rattle.pb_abstract.proofs.Directions.{or_left, or_right}
 
 -- ---- counting
 
@@ -46,18 +47,12 @@ fewer_precedes counts one other less =
     or_left (nat_lt (get_or counts one 0) (get_or counts other 0)) (get_or counts one 0 == get_or counts other 0 && nat_lt one other) (grind (arith, nat_tests))
 
 lesser_precedes : (counts : List ℕ) (one other : ℕ) → get_or counts one 0 ≤ get_or counts other 0 → one < other → precedes counts one other ≡ true
-lesser_precedes counts one other le less = which (cases (get_or counts one 0) (get_or counts other 0)) where
-  cases : (n m : ℕ) → (n < m) ⊎ (m ≤ n)
-  cases n m = grind arith
-
-  join : (a b : Bool) → a ≡ true → b ≡ true → (a && b) ≡ true
-  join a b p q = cc
-
+lesser_precedes counts one other le less = which (cases_lt (get_or counts one 0) (get_or counts other 0)) where
   which : (get_or counts one 0 < get_or counts other 0) ⊎ (get_or counts other 0 ≤ get_or counts one 0) → precedes counts one other ≡ true
   which (inl fewer) = fewer_precedes counts one other fewer
   which (inr more) =
       or_right (nat_lt (get_or counts one 0) (get_or counts other 0)) (get_or counts one 0 == get_or counts other 0 && nat_lt one other)
-      (join (get_or counts one 0 == get_or counts other 0) (nat_lt one other) (grind (arith, nat_tests)) (grind (arith, nat_tests)))
+      (and_from (get_or counts one 0 == get_or counts other 0) (nat_lt one other) (grind (arith, nat_tests)) (grind (arith, nat_tests)))
 
 precedes_not_more : (counts : List ℕ) (one other : ℕ) → precedes counts one other ≡ true → get_or counts one 0 ≤ get_or counts other 0
 precedes_not_more counts one other e = which (or_true (nat_lt (get_or counts one 0) (get_or counts other 0)) (get_or counts one 0 == get_or counts other 0 && nat_lt one other) e) where
@@ -65,31 +60,28 @@ precedes_not_more counts one other e = which (or_true (nat_lt (get_or counts one
   which (inl fewer) = grind (arith, nat_tests)
   which (inr same) = let e : (get_or counts one 0 == get_or counts other 0) ≡ true = (and_true (get_or counts one 0 == get_or counts other 0) (nat_lt one other) same).0 in grind (arith, nat_tests)
 
-at_last : (other count : ℕ) → other < count + 1 → (other < count) ⊎ (other ≡ count)
-at_last other count less = grind arith
-
 best_kept : (counts tracked : List ℕ) (count : ℕ) (best : Option ℕ) → IsBest counts tracked count best
     → (is_left counts tracked count && is_fewer counts count best) ≡ false → IsBest counts tracked (count + 1) best
-best_kept counts tracked count None is e = λ other less left. which other left (at_last other count less) where
-  which : (other : ℕ) → IsTrue (is_left counts tracked other) → (other < count) ⊎ (other ≡ count) → ⊥
-  which other left (inl less) = is other less left
-  which other left (inr same) =
+best_kept counts tracked count None is e = λ other less left. which other left (eq-or-lt_of_le (let le : other ≤ count = omega (arith, less) in le)) where
+  which : (other : ℕ) → IsTrue (is_left counts tracked other) → (other ≡ count) ⊎ (other < count) → ⊥
+  which other left (inr less) = is other less left
+  which other left (inl same) =
       let here : is_left counts tracked count ≡ true = subst (λ n. is_left counts tracked n ≡ true) same left in
       true≢false (sym here ∙ by_cases (is_left counts tracked count) (λ h. not_both (is_left counts tracked count && true) (ap (λ b. b && true) h) e) (λ h. h))
-best_kept counts tracked count (Some atom) is e = (omega (arith, is.0), is.1, λ other less left apart. which other left apart (at_last other count less)) where
+best_kept counts tracked count (Some atom) is e = (omega (arith, is.0), is.1, λ other less left apart. which other left apart (eq-or-lt_of_le (let le : other ≤ count = omega (arith, less) in le))) where
   last : IsTrue (is_left counts tracked count) → get_or counts atom 0 ≤ get_or counts count 0
   last left =
       let off : nat_lt (get_or counts count 0) (get_or counts atom 0) ≡ false = sym (ap (λ b. b && nat_lt (get_or counts count 0) (get_or counts atom 0)) left) ∙ e in
       grind (arith, nat_tests)
 
-  which : (other : ℕ) → IsTrue (is_left counts tracked other) → atom ≢ other → (other < count) ⊎ (other ≡ count) → IsTrue (precedes counts atom other)
-  which other left apart (inl less) = is.2 other less left apart
-  which other left apart (inr same) =
+  which : (other : ℕ) → IsTrue (is_left counts tracked other) → atom ≢ other → (other ≡ count) ⊎ (other < count) → IsTrue (precedes counts atom other)
+  which other left apart (inr less) = is.2 other less left apart
+  which other left apart (inl same) =
       subst (λ n. IsTrue (precedes counts atom n)) (sym same) (lesser_precedes counts atom count (last (subst (λ n. IsTrue (is_left counts tracked n)) same left)) is.0)
 
 best_taken : (counts tracked : List ℕ) (count : ℕ) (best : Option ℕ) → IsBest counts tracked count best
     → (is_left counts tracked count && is_fewer counts count best) ≡ true → IsBest counts tracked (count + 1) (Some count)
-best_taken counts tracked count best is e = (omega arith, two.0, λ other less left apart. which other left apart (at_last other count less)) where
+best_taken counts tracked count best is e = (omega arith, two.0, λ other less left apart. which other left apart (eq-or-lt_of_le (let le : other ≤ count = omega (arith, less) in le))) where
   two : (is_left counts tracked count ≡ true) × (is_fewer counts count best ≡ true)
   two = and_true (is_left counts tracked count) (is_fewer counts count best) e
 
@@ -106,9 +98,9 @@ best_taken counts tracked count best is e = (omega arith, two.0, λ other less l
         let more : get_or counts atom 0 ≤ get_or counts other 0 = precedes_not_more counts atom other (is.2 other less left (λ s. not_both (other == atom) (ap (λ n. n == atom) (sym s) ∙ equal_self atom) apart)) in
         omega (arith, more, here)
 
-  which : (other : ℕ) → IsTrue (is_left counts tracked other) → count ≢ other → (other < count) ⊎ (other ≡ count) → IsTrue (precedes counts count other)
-  which other left apart (inl less) = fewer_precedes counts count other (before best is two.1 other left less)
-  which other left apart (inr same) = absurd (apart (sym same))
+  which : (other : ℕ) → IsTrue (is_left counts tracked other) → count ≢ other → (other ≡ count) ⊎ (other < count) → IsTrue (precedes counts count other)
+  which other left apart (inr less) = fewer_precedes counts count other (before best is two.1 other left less)
+  which other left apart (inl same) = absurd (apart (sym same))
 
 -- one atom more
 pub best_more : (counts tracked : List ℕ) (count : ℕ) (best : Option ℕ) → IsBest counts tracked count best → IsBest counts tracked (count + 1) (better counts tracked count best)
@@ -119,10 +111,7 @@ best_more counts tracked count best is = go (is_left counts tracked count && is_
 
 -- an atom that is left is one of those that are counted
 left_known : (counts tracked : List ℕ) (atom : ℕ) → IsTrue (is_left counts tracked atom) → atom < length counts
-left_known counts tracked atom left = which (cases atom (length counts)) where
-  cases : (n m : ℕ) → (n < m) ⊎ (m ≤ n)
-  cases n m = grind arith
-
+left_known counts tracked atom left = which (cases_lt atom (length counts)) where
   some : 0 < get_or counts atom 0
   some = below 0 (get_or counts atom 0) (and_true (nat_lt 0 (get_or counts atom 0)) (not (has tracked atom)) left).0
 
@@ -204,10 +193,7 @@ module _ (strips : StripsParts) (counts : List ℕ) (are : AreCounts strips coun
 
 -- fewer than 12 atoms are tracked where one more makes no more than 4,096 blocks
 pub few_tracked : (blocks count wish : ℕ) → blocks ≡ 2 ^ count → 2 * blocks ≤ wish → wish ≤ 4096 → count < 12
-few_tracked blocks count wish is more few = which (cases count 12) where
-  cases : (n m : ℕ) → (n < m) ⊎ (m ≤ n)
-  cases n m = grind arith
-
+few_tracked blocks count wish is more few = which (cases_lt count 12) where
   which : (count < 12) ⊎ (12 ≤ count) → count < 12
   which (inl less) = less
   which (inr many) = let up : 2 ^ 12 ≤ 2 ^ count = pow_mono {i = 12} {j = count} many in absurd (omega arith)

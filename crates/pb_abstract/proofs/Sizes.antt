@@ -2,7 +2,7 @@
 use Rattle.std.proofs.Common.{◌≡◌, ℕ, ◌-◌, ◌*◌, ◌/◌, ◌<◌, ◌≤◌, Bool, true, false, length, nat_le, if◌then◌else◌, refl, sym, subst, arith}
 use Rattle.std.specs.Int.{div_ceil}
 use Rattle.std.proofs.Math.Pow.{pow_pos}
-use Rattle.std.proofs.lemmas.Bool.Decides.{nat_tests}
+use Rattle.std.proofs.lemmas.Bool.{leb-true}
 use Rattle.pb_task.specs.declared.parts.TaskParts.{TaskParts}
 use Rattle.pb_task.specs.declared.parts.TaskParts.TheVariants.{Grid, Tiles, Strips}
 use Rattle.pb_task.specs.declared.parts.GridParts.{GridParts}
@@ -38,16 +38,13 @@ record IsWithin (count wish : ℕ) (projection : Projection) : Type 0 where
 
 within : (count wish : ℕ) → 4 ≤ count → count ≤ wish → IsWithin count wish (finest_of count wish)
 within count wish many enough = go (nat_le (count * (count - 1) * (count - 2)) wish) (nat_le (count * (count - 1)) wish) refl refl where
-  at_most : (a b : ℕ) → nat_le a b ≡ true → a ≤ b
-  at_most a b e = grind (arith, nat_tests)
-
   two : 1 ≤ count * (count - 1)
   two = some_product count (count - 1) (omega arith) (omega arith)
 
   go : (one other : Bool) → nat_le (count * (count - 1) * (count - 2)) wish ≡ one → nat_le (count * (count - 1)) wish ≡ other
       → IsWithin count wish (if one then BlankAndTwo else (if other then BlankAndOne else Blank))
-  go true other e f = record { some = some_product (count * (count - 1)) (count - 2) two (omega arith); few = at_most (count * (count - 1) * (count - 2)) wish e }
-  go false true e f = record { some = two; few = at_most (count * (count - 1)) wish f }
+  go true other e f = record { some = some_product (count * (count - 1)) (count - 2) two (omega arith); few = leb-true (count * (count - 1) * (count - 2)) wish e }
+  go false true e f = record { some = two; few = leb-true (count * (count - 1)) wish f }
   go false false e f = record { some = omega arith; few = enough }
 
 -- ---- every kind

@@ -1,33 +1,18 @@
 -- The edges of a square are those that are found along its border.
-use Rattle.std.proofs.Common.{◌≡◌, ℕ, ◌+◌, ◌*◌, ◌/◌, ◌%◌, ◌<◌, Bool, true, false, IsTrue, Option, None, Some, List, [], ◌∷◌, nat_lt, ◌&&◌, ◌||◌, ◌==◌, ◌↔◌, if◌then◌else◌, slice_get, unwrap_or, refl, sym, ap, ◌∙◌, ◌⊎◌, inl, inr}
+use Rattle.std.proofs.Common.{◌≡◌, ℕ, ◌+◌, ◌*◌, ◌/◌, ◌%◌, ◌<◌, Bool, true, false, IsTrue, Option, None, Some, List, [], ◌∷◌, ◌||◌, ◌==◌, ◌↔◌, if◌then◌else◌, refl, sym, ap, ◌∙◌, ◌⊎◌, inl, inr}
 use Rattle.std.specs.Int.{div_ceil}
 use Rattle.std.specs.List.{list_any}
+use Rattle.std.proofs.lemmas.Bool.{or_left, or_right}
 use Rattle.std.proofs.lemmas.Nat.{div-mul-add, mod-mul-add, div-add-mod'}
-use Rattle.pb_model.proofs.Tests.{equal, equal_self, or_true, below}
+use Rattle.pb_model.proofs.Tests.{equal, equal_self, or_true}
 use Rattle.pb_machine.proofs.TableLaws.{any_some, any_at}
-use Rattle.pb_task.specs.Grid.{class_at, are_connected, is_passable, cell_beside}
-use Rattle.pb_task.specs.declared.parts.Class.{Class}
-use Rattle.pb_task.specs.declared.parts.Class.TheVariants.{Land, Water, Blocked}
+use Rattle.pb_task.specs.Grid.{class_at, are_connected, cell_beside}
 use Rattle.pb_task.specs.declared.parts.GridParts.{GridParts}
+use Rattle.pb_task.proofs.Grids.{passable_from, on_map}
 use Rattle.pb_abstract.specs.Squares.{IsSquareEdge}
 use Rattle.pb_abstract.specs.Borders.{is_number, border_cell, is_joined, are_joined, crosses, number_in, beyond}
-use Rattle.pb_abstract.proofs.Directions.{or_left, or_right, one_of_four, among_four, by_four}
+use Rattle.pb_abstract.proofs.Directions.{one_of_four, among_four, by_four}
 use Rattle.pb_abstract.proofs.Squaring.{fits_parts, IsBorder, border_is, IsOnBorder, on_border}
-
--- ---- cells that are joined are on the map
-
-pub passable_from : (from to : Class) → are_connected from to ≡ true → is_passable from ≡ true
-passable_from Land to e = refl
-passable_from Water to e = refl
-passable_from Blocked to e = e
-
-pub on_map : (grid : GridParts) (x y : ℕ) → is_passable (class_at grid x y) ≡ true → (x < grid.width) × (y < grid.height)
-on_map grid x y e = go (nat_lt x grid.width) (nat_lt y grid.height) refl refl e where
-  go : (column row : Bool) → nat_lt x grid.width ≡ column → nat_lt y grid.height ≡ row
-      → is_passable (if column && row then unwrap_or (slice_get grid.cells (y * grid.width + x)) Blocked else Blocked) ≡ true → (x < grid.width) × (y < grid.height)
-  go true true a b e = (below x grid.width a, below y grid.height b)
-  go true false a b e = cc
-  go false row a b e = cc
 
 -- ---- one direction
 

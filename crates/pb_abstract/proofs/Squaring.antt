@@ -1,10 +1,11 @@
 -- Quotients by the side of a square, of a number and of the numbers before and after it.
 use Rattle.std.proofs.Common.{◌≡◌, ℕ, zero, suc, ◌+◌, ◌-◌, ◌*◌, ◌/◌, ◌%◌, ◌<◌, ◌≤◌, Bool, true, false, Option, None, Some, nat_lt, if◌then◌else◌, refl, sym, ap, ◌∙◌, arith, ◌⊎◌, inl, inr}
 use Rattle.std.specs.Int.{div_ceil}
-use Rattle.std.proofs.lemmas.Bool.Decides.{nat_tests}
+use Rattle.std.proofs.lemmas.Bool.{cases_lt, lt-ltb}
 use Rattle.std.proofs.lemmas.Nat.{div-mul-add, div-add-mod', mod_below}
 use Rattle.std.proofs.lemmas.Grind.{div_ceil_times}
 use Rattle.std.proofs.Math.Nat.{div-lt_iff_lt-mul}
+use Rattle.pb_model.proofs.Tests.{below}
 use Rattle.pb_task.specs.Grid.{cell_beside}
 use Rattle.pb_abstract.specs.Borders.{border_cell}
 
@@ -35,21 +36,22 @@ at_first q side some = quotient q side 0 (q * side) some (omega arith)
 
 -- the number after n is in the same part, or n is the last of its part
 pub after : (n side : ℕ) → 0 < side → ((n + 1) / side ≡ n / side) ⊎ ((n ≡ (n / side) * side + (side - 1)) × ((n + 1) / side ≡ n / side + 1))
-after n side some = go (cases (n % side + 1) side) where
+after n side some = go (cases_lt (n % side + 1) side) where
   whole : (n / side) * side + n % side ≡ n
   whole = div-add-mod' n side
 
   rest : n % side < side
   rest = mod_below n side some
 
-  cases : (a b : ℕ) → (a < b) ⊎ (b ≤ a)
-  cases a b = grind arith
-
   go : ((n % side + 1 < side) ⊎ (side ≤ n % side + 1)) → ((n + 1) / side ≡ n / side) ⊎ ((n ≡ (n / side) * side + (side - 1)) × ((n + 1) / side ≡ n / side + 1))
   go (inl less) = inl (quotient (n / side) side (n % side + 1) (n + 1) less (omega (arith, whole)))
   go (inr more) =
       let is : n ≡ (n / side) * side + (side - 1) = omega (arith, whole, rest, more) in
       inr (is, ap (λ m. (m + 1) / side) is ∙ after_last (n / side) side some)
+
+some_factor : (q side : ℕ) → 0 < q * side → 0 < q
+some_factor zero side h = omega arith
+some_factor (suc q) side h = omega arith
 
 -- the number before n is in the same part, or n is the first of its part
 pub before : (n side : ℕ) → 0 < side → 0 < n → ((n - 1) / side ≡ n / side) ⊎ ((n ≡ (n / side) * side) × (0 < n / side) × ((n - 1) / side ≡ n / side - 1))
@@ -60,14 +62,10 @@ before n side some more = go (n % side) refl where
   rest : n % side < side
   rest = mod_below n side some
 
-  positive : (q : ℕ) → 0 < q * side → 0 < q
-  positive zero h = omega arith
-  positive (suc q) h = omega arith
-
   go : (r : ℕ) → n % side ≡ r → ((n - 1) / side ≡ n / side) ⊎ ((n ≡ (n / side) * side) × (0 < n / side) × ((n - 1) / side ≡ n / side - 1))
   go zero e =
       let is : n ≡ (n / side) * side = omega (arith, whole, e) in
-      let up : 0 < n / side = positive (n / side) (omega (arith, is, more)) in
+      let up : 0 < n / side = some_factor (n / side) side (omega (arith, is, more)) in
       inr (is, up, ap (λ m. (m - 1) / side) is ∙ before_first (n / side) side some up)
   go (suc r) e = inl (quotient (n / side) side r (n - 1) (omega (arith, rest, e)) (omega (arith, whole, e)))
 
@@ -79,12 +77,6 @@ pub record IsBorder (side column row action x y : ℕ) (cell : ℕ × ℕ) : Typ
   pub row_is : y / side ≡ row
   pub beside : cell_beside column row action ≡ Some (cell.0 / side, cell.1 / side)
 
-below : (a b : ℕ) → nat_lt a b ≡ true → a < b
-below a b e = grind (arith, nat_tests)
-
-is_below : (a b : ℕ) → a < b → nat_lt a b ≡ true
-is_below a b e = grind (arith, nat_tests)
-
 -- a pair from its parts
 pair : (a b c d : ℕ) → a ≡ c → b ≡ d → ◌≡◌ {A = Option (ℕ × ℕ)} (Some (a, b)) (Some (c, d))
 pair a b c d e f = ap (λ n. Some (n, b)) e ∙ ap (λ n. Some (c, n)) f
@@ -94,14 +86,10 @@ chosen true value e = refl
 chosen false value e = cc
 
 up_to : (x y : ℕ) (to : Option (ℕ × ℕ)) → 0 < y → Some (x, y - 1) ≡ to → cell_beside x y 0 ≡ to
-up_to x y to some e = chosen (nat_lt 0 y) (Some (x, y - 1)) (is_below 0 y some) ∙ e
+up_to x y to some e = chosen (nat_lt 0 y) (Some (x, y - 1)) (lt-ltb 0 y some) ∙ e
 
 left_to : (x y : ℕ) (to : Option (ℕ × ℕ)) → 0 < x → Some (x - 1, y) ≡ to → cell_beside x y 2 ≡ to
-left_to x y to some e = chosen (nat_lt 0 x) (Some (x - 1, y)) (is_below 0 x some) ∙ e
-
-some_factor : (q side : ℕ) → 0 < q * side → 0 < q
-some_factor zero side h = omega arith
-some_factor (suc q) side h = omega arith
+left_to x y to some e = chosen (nat_lt 0 x) (Some (x - 1, y)) (lt-ltb 0 x some) ∙ e
 
 pub border_is : (side column row action i : ℕ) (cell : ℕ × ℕ) → i < side → cell_beside (border_cell side column row action i).0 (border_cell side column row action i).1 action ≡ Some cell
     → IsBorder side column row action (border_cell side column row action i).0 (border_cell side column row action i).1 cell
@@ -181,7 +169,7 @@ on_border side x y zero cell some e = go (nat_lt 0 y) refl e where
     i = x % side;
     within = mod_below x side some;
     is = ap (λ n. (n, (y / side) * side)) (sym (whole_of x side)) ∙ ap (λ n. (x, n)) (sym first);
-    beside = ap (λ t. if t then Some (x / side, y / side - 1) else None) (is_below 0 (y / side) some') ∙ ap (λ n. Some (x / side, n)) (sym down) ∙ ap (λ (c : ℕ × ℕ). Some (c.0 / side, c.1 / side)) same;
+    beside = ap (λ t. if t then Some (x / side, y / side - 1) else None) (lt-ltb 0 (y / side) some') ∙ ap (λ n. Some (x / side, n)) (sym down) ∙ ap (λ (c : ℕ × ℕ). Some (c.0 / side, c.1 / side)) same;
   }
 
   go : (test : Bool) → nat_lt 0 y ≡ test → ◌≡◌ {A = Option (ℕ × ℕ)} (if test then Some (x, y - 1) else None) (Some cell)
@@ -206,7 +194,7 @@ on_border side x y (suc (suc zero)) cell some e = go (nat_lt 0 x) refl e where
     i = y % side;
     within = mod_below y side some;
     is = ap (λ n. ((x / side) * side, n)) (sym (whole_of y side)) ∙ ap (λ n. (n, y)) (sym first);
-    beside = ap (λ t. if t then Some (x / side - 1, y / side) else None) (is_below 0 (x / side) some') ∙ ap (λ n. Some (n, y / side)) (sym down) ∙ ap (λ (c : ℕ × ℕ). Some (c.0 / side, c.1 / side)) same;
+    beside = ap (λ t. if t then Some (x / side - 1, y / side) else None) (lt-ltb 0 (x / side) some') ∙ ap (λ n. Some (n, y / side)) (sym down) ∙ ap (λ (c : ℕ × ℕ). Some (c.0 / side, c.1 / side)) same;
   }
 
   go : (test : Bool) → nat_lt 0 x ≡ test → ◌≡◌ {A = Option (ℕ × ℕ)} (if test then Some (x - 1, y) else None) (Some cell)

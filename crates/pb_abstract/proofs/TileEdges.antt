@@ -1,23 +1,18 @@
 -- The edges of a block of boards are those that the blank's moves from one of its placings make.
-use Rattle.std.proofs.Common.{◌≡◌, ℕ, zero, suc, ◌<◌, true, IsTrue, Option, None, Some, List, [], ◌∷◌, ◌||◌, ◌==◌, ◌↔◌, refl, sym, ap, ◌∙◌, arith, ◌⊎◌, inl, inr}
+use Rattle.std.proofs.Common.{◌≡◌, ℕ, ◌<◌, true, IsTrue, Option, None, Some, List, [], ◌∷◌, ◌||◌, ◌==◌, ◌↔◌, refl, sym, ap, ◌∙◌, arith, ◌⊎◌, inl, inr}
 use Rattle.std.specs.List.{list_any}
+use Rattle.std.proofs.lemmas.Bool.{or_left, or_right}
 use Rattle.pb_model.proofs.Tests.{equal, equal_self, or_true}
 use Rattle.pb_task.specs.declared.parts.TilesParts.{TilesParts}
 use Rattle.pb_task.specs.Tiles.{cell_count, neighbour}
+use Rattle.pb_task.proofs.Sliding.{four_moves}
 use Rattle.pb_abstract.specs.declared.placing.Placing.{Placing}
 use Rattle.pb_abstract.specs.declared.projection.Projection.{Projection}
 use Rattle.pb_abstract.specs.declared.projection.Projection.TheVariants.{Squares, Blank, BlankAndOne, BlankAndTwo, Atoms}
 use Rattle.pb_abstract.specs.Placings.{IsPlacing, placing_count, placing_number, placing_after, number_after, IsTileEdge}
 use Rattle.pb_abstract.specs.Borders.{is_number}
-use Rattle.pb_abstract.proofs.Directions.{or_left, or_right, one_of_four, among_four}
+use Rattle.pb_abstract.proofs.Directions.{one_of_four, among_four}
 use Rattle.pb_abstract.proofs.Ranks.{Agree, IsOfBoards, number_once, moves_agree, blanks_agree}
-
-pub four_moves : (rows cols cell action to : ℕ) → neighbour rows cols cell action ≡ Some to → action < 4
-four_moves rows cols cell zero to e = omega arith
-four_moves rows cols cell (suc zero) to e = omega arith
-four_moves rows cols cell (suc (suc zero)) to e = omega arith
-four_moves rows cols cell (suc (suc (suc zero))) to e = omega arith
-four_moves rows cols cell (suc (suc (suc (suc more)))) to e = cc
 
 -- a projection that has a block of boards is one of boards
 pub of_boards : (count : ℕ) (projection : Projection) (block : ℕ) → block < placing_count count projection → IsOfBoards projection

@@ -1,7 +1,7 @@
 -- The edges of blocks of boards are those that steps on boards make.
 use Rattle.std.proofs.Common.{◌≡◌, ◌≢◌, ℕ, ◌<◌, ◌≤◌, Bool, true, false, None, Some, List, get_or, ◌==◌, if◌then◌else◌, unwrap_or, refl, sym, ap, subst, ◌∙◌, arith}
 use Rattle.std.specs.Prelude.{swap}
-use Rattle.std.proofs.lemmas.Bool.Decides.{nat_tests}
+use Rattle.std.proofs.lemmas.Bool.{eqb-false, ne_eqb}
 use Rattle.std.proofs.lemmas.List.Edits.{swapped_from_swap, Swapped}
 use Rattle.pb_model.specs.Space.{Steps}
 use Rattle.pb_model.proofs.Tests.{equal, equal_self}
@@ -34,16 +34,13 @@ module _ (count : ℕ) (board : List ℕ) (l : Listed count board) (i j : ℕ) (
     at : IsIn count board number
     at = is_in count number board l less
 
-    apart : (n m : ℕ) → (n == m) ≡ false → n ≢ m
-    apart n m e same = let on : (n == m) ≡ true = grind (arith, nat_tests) in cc
-
     go : (one two : Bool) → (cell_with board number == j) ≡ one → (cell_with board number == i) ≡ two
         → cell_with (swap board i j) number ≡ (if one then i else (if two then j else cell_with board number))
     go true two e f = cell_is count number i (swap board i j) l' first (swapped.0 ∙ ap (λ k. get_or board k 0) (sym (equal (cell_with board number) j e)) ∙ at.there)
     go false true e f = cell_is count number j (swap board i j) l' second (swapped.1 ∙ ap (λ k. get_or board k 0) (sym (equal (cell_with board number) i f)) ∙ at.there)
     go false false e f =
         cell_is count number (cell_with board number) (swap board i j) l' at.within
-        (swapped.2 (cell_with board number) (apart (cell_with board number) i f) (apart (cell_with board number) j e) ∙ at.there)
+        (swapped.2 (cell_with board number) (eqb-false (cell_with board number) i f) (eqb-false (cell_with board number) j e) ∙ at.there)
 
 after_itself : (i j : ℕ) → cell_after i j i ≡ j
 after_itself i j = go (i == j) refl where
@@ -51,14 +48,11 @@ after_itself i j = go (i == j) refl where
   go true e = equal i j e
   go false e = ap (λ test. if test then j else i) (equal_self i)
 
-off : (n m : ℕ) → n ≢ m → (n == m) ≡ false
-off n m apart = grind (arith, nat_tests)
-
 after_other : (i j cell : ℕ) → cell ≢ i → cell_after i j cell ≡ tile_after i j cell
-after_other i j cell apart = ap (λ test. if cell == j then i else (if test then j else cell)) (off cell i apart)
+after_other i j cell apart = ap (λ test. if cell == j then i else (if test then j else cell)) (ne_eqb cell i apart)
 
 after_elsewhere : (i j cell : ℕ) → cell ≢ i → cell ≢ j → cell_after i j cell ≡ cell
-after_elsewhere i j cell a b = after_other i j cell a ∙ ap (λ test. if test then i else cell) (off cell j b)
+after_elsewhere i j cell a b = after_other i j cell a ∙ ap (λ test. if test then i else cell) (ne_eqb cell j b)
 
 -- the placing after the blank's move
 pub placing_moved : (count cell : ℕ) (board : List ℕ) → Listed count board → 3 ≤ count → cell < count → placing_of (swap board (cell_with board 0) cell) ≡ placing_after (placing_of board) cell

@@ -1,6 +1,7 @@
 -- The edges of blocks of STRIPS tasks are those that their steps make.
 use Rattle.std.proofs.Common.{◌≡◌, ℕ, zero, suc, ◌^◌, ◌<◌, Bool, true, false, not, ◌&&◌, ◌||◌, ◌==◌, IsTrue, List, [], ◌∷◌, Option, None, Some, length, get_or, map, slice_get, refl, sym, ap, subst, ◌∙◌, arith}
 use Rattle.std.specs.Prelude.{option_map}
+use Rattle.std.proofs.lemmas.Bool.{and_from, or_left}
 use Rattle.std.proofs.lemmas.Option.{slice_get-map, same_Some}
 use Rattle.std.proofs.lemmas.List.Elements.{All-get_or}
 use Rattle.pb_model.specs.Space.{Steps}
@@ -14,7 +15,6 @@ use Rattle.pb_task.proofs.AtomSets.{sets_are_of_atoms}
 use Rattle.pb_task.proofs.Acting.{strips_act}
 use Rattle.pb_abstract.specs.Tracked.{AreDifferent, AreAtoms, tracked_set, tracked_action, tracked_task, IsTrackedEdge}
 use Rattle.pb_abstract.proofs.Members.{same_tests}
-use Rattle.pb_abstract.proofs.Directions.{or_left}
 use Rattle.pb_abstract.proofs.TrackedSets.{set_small, has_tracked, tracked_is}
 
 -- ---- a step is an edge
@@ -59,9 +59,6 @@ in_block atoms block atom = any_below (length atoms) (λ at. get_or atoms at 0 =
 in_block_at : (atoms : List ℕ) → AreDifferent atoms → (block at : ℕ) → at < length atoms → in_block atoms block (get_or atoms at 0) ≡ has_atom block at
 unfolding in_block
 in_block_at atoms apart block at less = same_tests (in_block atoms block (get_or atoms at 0)) (has_atom block at) forth back where
-  join : (a b : Bool) → a ≡ true → b ≡ true → (a && b) ≡ true
-  join a b p q = cc
-
   from : ((i : ℕ) × (i < length atoms) × ((get_or atoms i 0 == get_or atoms at 0 && has_atom block i) ≡ true)) → has_atom block at ≡ true
   from (i, within, e) =
       let two = and_true (get_or atoms i 0 == get_or atoms at 0) (has_atom block i) e in
@@ -71,7 +68,7 @@ in_block_at atoms apart block at less = same_tests (in_block atoms block (get_or
   forth e = from (any_some (length atoms) (λ i. get_or atoms i 0 == get_or atoms at 0 && has_atom block i) e)
 
   back : has_atom block at ≡ true → in_block atoms block (get_or atoms at 0) ≡ true
-  back e = any_at (length atoms) at (λ i. get_or atoms i 0 == get_or atoms at 0 && has_atom block i) less (join (get_or atoms at 0 == get_or atoms at 0) (has_atom block at) (equal_self (get_or atoms at 0)) e)
+  back e = any_at (length atoms) at (λ i. get_or atoms i 0 == get_or atoms at 0 && has_atom block i) less (and_from (get_or atoms at 0 == get_or atoms at 0) (has_atom block at) (equal_self (get_or atoms at 0)) e)
 
 -- the action that a tracked action comes from
 pub record IsFrom (strips : StripsParts) (atoms : List ℕ) (action : ℕ) (tracked : GroundAction) : Type 0 where

@@ -1,5 +1,6 @@
 -- A task has one graph at most for a wish.
 use Rattle.std.proofs.Common.{◌≡◌, ℕ, ◌<◌, ◌≤◌, List, [], length, sym, ap, subst, ◌∙◌, arith, ◌⊎◌, inl, inr}
+use Rattle.std.proofs.lemmas.Bool.{cases_lt, cases_order}
 use Rattle.std.proofs.lemmas.List.{get_or_past}
 use Rattle.pb_task.specs.declared.parts.TaskParts.{TaskParts}
 use Rattle.pb_task.specs.declared.parts.TaskParts.TheVariants.{Grid, Tiles, Strips}
@@ -14,13 +15,10 @@ use Rattle.pb_abstract.proofs.Members.{same_tests}
 use Rattle.pb_abstract.proofs.Ordering.{tracked_are_unique}
 
 one_least : (grid : GridParts) (wish side other : ℕ) → IsLeastSide grid wish side → IsLeastSide grid wish other → side ≡ other
-one_least grid wish side other a b = go (cases side other) where
-  cases : (n m : ℕ) → (n < m) ⊎ (n ≡ m) ⊎ (m < n)
-  cases n m = grind arith
-
-  go : (side < other) ⊎ (side ≡ other) ⊎ (other < side) → side ≡ other
-  go (inl less) = let more : wish < square_count grid side = b.least side a.positive less in absurd (omega (arith, more, a.enough))
-  go (inr (inl same)) = same
+one_least grid wish side other a b = go (cases_order side other) where
+  go : (side ≡ other) ⊎ ((side < other) ⊎ (other < side)) → side ≡ other
+  go (inl same) = same
+  go (inr (inl less)) = let more : wish < square_count grid side = b.least side a.positive less in absurd (omega (arith, more, a.enough))
   go (inr (inr more)) = let less : wish < square_count grid other = a.least other b.positive more in absurd (omega (arith, less, b.enough))
 
 projections_are_unique : (parts : TaskParts) (wish : ℕ) (one other : Projection) → IsFinest parts wish one → IsFinest parts wish other → one ≡ other
@@ -54,11 +52,8 @@ graphs_are_unique parts wish one other of of' finest finest' = (same, counts, sc
   counts : length one.scopes ≡ length other.scopes
   counts = of.count ∙ ap (block_count parts) same ∙ sym of'.count
 
-  cases : (n m : ℕ) → (n < m) ⊎ (m ≤ n)
-  cases n m = grind arith
-
   scopes : (block c : ℕ) → (blocks_of one).scope block c ≡ (blocks_of other).scope block c
-  scopes block c = go (cases block (length one.scopes)) where
+  scopes block c = go (cases_lt block (length one.scopes)) where
     go : (block < length one.scopes) ⊎ (length one.scopes ≤ block) → (blocks_of one).scope block c ≡ (blocks_of other).scope block c
     go (inl less) =
         let a = of.scope block c (subst (λ n. block < n) of.count less) in

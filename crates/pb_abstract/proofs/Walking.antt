@@ -1,5 +1,6 @@
 -- The laws of abstract graphs.
 use Rattle.std.proofs.Common.{◌≡◌, ℕ, ◌<◌, ◌≤◌, IsTrue, [], length, refl, sym, ap, subst, ◌∙◌, arith, ◌⊎◌, inl, inr, true≢false}
+use Rattle.std.proofs.lemmas.Bool.{cases_lt}
 use Rattle.std.proofs.lemmas.List.{get_or_past}
 use Rattle.pb_model.specs.Space.{Steps}
 use Rattle.pb_task.specs.declared.parts.TaskParts.{TaskParts}
@@ -99,10 +100,7 @@ edge_small parts is projection fits block other edge = at (edge_step parts is pr
 
 -- the scopes of a task's graph are of blocks that there are
 pub scopes_known : (parts : TaskParts) → IsTask parts → (graph : AbstractGraph) → IsGraphOf parts graph → AreKnown graph.scopes
-scopes_known parts is graph of block other e = go (cases block (length graph.scopes)) where
-  cases : (a b : ℕ) → (a < b) ⊎ (b ≤ a)
-  cases a b = grind arith
-
+scopes_known parts is graph of block other e = go (cases_lt block (length graph.scopes)) where
   within : block < length graph.scopes → (block ≡ other) ⊎ IsEdge parts graph.projection block other → other < length graph.scopes
   within less (inl same) = subst (λ n. n < length graph.scopes) same less
   within less (inr edge) = subst (λ n. other < n) (sym of.count) (edge_small parts is graph.projection of.fits block other edge)
