@@ -7,6 +7,7 @@ use native.Mathlib.Decide.{ℕ_discrete}
 use lib.ListN.{get_elem?}
 use prog.Atomic.{either}
 use Rattle.std.specs.Prelude.{Option, None}
+use Rattle.std.proofs.lemmas.Option.{none-some, same_Some}
 use Rattle.atomic_table.specs.Table.{State, step, keeps, takes, gives, stepped, Allows, Splits, Joins, put_back, rest, opening, Final, Seen}
 use Rattle.atomic_table.proofs.Lists.{at_map, set_again, set_else, at_longer}
 use Rattle.pb_turn.specs.declared.table_rule.PassView.{PassView}
@@ -28,14 +29,8 @@ module _ {S : Type 0} where
 
 -- a pass that holds the turn found the state
 knows_held : {S : Type 0} (turn holder : ℕ) (x : S) (pass : ℕ) (st : Stage S) → Knows turn holder x pass st → IsHeld (found_by st) x
-knows_held turn holder x pass Resting k found e = absurd (none_some found e)
-  where
-    none_some : {S : Type 0} (a : S) → None ≡ Some a → ⊥
-    none_some a e = cc
-knows_held turn holder x pass (Holding y) k found e = some_same y found e ∙ k.2
-  where
-    some_same : {S : Type 0} (a b : S) → Some a ≡ Some b → b ≡ a
-    some_same a b e = cc
+knows_held turn holder x pass Resting k found e = absurd (none-some found e)
+knows_held turn holder x pass (Holding y) k found e = sym (same_Some y found e) ∙ k.2
 
 module _ {S V : Type 0} (fact : S → ℕ → List V → Type 0) (spent : V) where
   abbrev D : Type 0

@@ -1,11 +1,12 @@
 -- Lists of what is known of each pass: one is changed, one is added, and their parts.
-use Rattle.std.proofs.Common.{◌≡◌, ◌≢◌, ℕ, zero, suc, ◌+◌, ◌≤◌, List, [], ◌∷◌, ◌++◌, map, set, Some, sum_by, sym, refl, ap, subst, ⊎_elim, arith}
+use Rattle.std.proofs.Common.{◌≡◌, ◌≢◌, ℕ, zero, suc, ◌+◌, ◌≤◌, List, [], ◌∷◌, ◌++◌, map, set, sum_by, sym, refl, ap, subst, ⊎_elim, arith}
 use Rattle.std.proofs.lemmas.List.Sums.{sum_by-cons, sum_by-append}
 use mathlib.Core.Option.{some, some-injective, some-ne-none}
 use mathlib.Core.List.{map-append}
 use lib.ListN.{get_elem?}
 use lib.Seq.{map-set}
 use Rattle.atomic_table.proofs.Lists.{at_set, at_snoc}
+pub use Rattle.std.proofs.lemmas.Option.{same_Some as Some_same}
 
 module _ {A : Type 0} where
   pub put_there : (l : List A) (i : ℕ) (a b : A) → get_elem? l i ≡ some a → get_elem? (set l i b) i ≡ some b
@@ -46,9 +47,6 @@ module _ {A : Type 0} where
     sum_two (x ∷ xs) zero (suc j) a b n e k = omega (arith, sum_by-cons f x xs, same_f x a e, sum_one xs j b k)
     sum_two (x ∷ xs) (suc i) zero a b n e k = omega (arith, sum_by-cons f x xs, same_f x b k, sum_one xs i a e)
     sum_two (x ∷ xs) (suc i) (suc j) a b n e k = omega (arith, sum_by-cons f x xs, sum_two xs i j a b (λ p. n (ap suc p)) e k)
-
-pub Some_same : {A : Type 0} (a b : A) → Some a ≡ Some b → a ≡ b
-Some_same a b e = cc
 
 module _ {A B : Type 0} (f : A → B) where
   pub map_at : (l : List A) (j : ℕ) (b : B) → get_elem? (map f l) j ≡ some b → (a : A) × (get_elem? l j ≡ some a) × (f a ≡ b)
