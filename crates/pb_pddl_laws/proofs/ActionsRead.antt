@@ -1,5 +1,5 @@
 -- Actions: what is read is what the grammar has, and the other way round.
-use Rattle.std.proofs.Common.{◌≡◌, ℕ, zero, suc, ◌<◌, ◌≤◌, Bool, true, false, List, [], ◌∷◌, ◌++◌, length, drop, cond, Result, Ok, Err, refl, sym, ap, subst, ◌∙◌, arith, inl, inr}
+use Rattle.std.proofs.Common.{◌≡◌, ℕ, zero, suc, ◌<◌, ◌≤◌, Bool, true, false, List, [], ◌∷◌, ◌++◌, length, drop, cond, Result, Ok, Err, refl, sym, ap, subst, ◌∙◌, arith, inl, inr, ◌↔◌}
 use Rattle.std.specs.Prelude.{Option, Some, None, is_some, codes}
 use Rattle.pb_pddl.specs.declared.token.TokenKind.TheVariants as kinds
 use Rattle.pb_pddl.specs.declared.token.Token.{Token}
@@ -22,13 +22,9 @@ use Rattle.pb_pddl_laws.proofs.EffectsRead.{other_word, effect_sound, effect_com
 use Rattle.pb_pddl_laws.proofs.ListsRead.{list_sound, list_complete, list_less, variables_listed}
 use Rattle.pb_pddl_laws.proofs.PiecesRead.{key_stops}
 
-pub is_none : {A : Type 0} (o : Option A) → is_some o ≡ false → o ≡ None
-is_none None e = refl
-is_none (Some x) e = absurd cc
-
-pub none_is : {A : Type 0} (o : Option A) → o ≡ None → is_some o ≡ false
-none_is None e = refl
-none_is (Some x) e = absurd cc
+pub none_iff : {A : Type 0} (o : Option A) → (is_some o ≡ false) ↔ (o ≡ None)
+none_iff None = (λ e. refl, λ e. refl)
+none_iff (Some x) = (λ e. absurd cc, λ e. absurd cc)
 
 -- a step that does not refuse at once
 pub not_refused : {A : Type 0} (b : Bool) (d : SyntaxError) (r : Result A SyntaxError) (y : A) → cond b (Err d) r ≡ Ok y → (b ≡ false) × (r ≡ Ok y)
@@ -82,7 +78,7 @@ part_sound s ts now rest m e = (
           o.0,
           l.0.0,
           spells_says kinds.Key (codes ":parameters") ts key_token w.0,
-          is_none s.params z.0,
+          (none_iff s.params).0 z.0,
           need_takes kinds.Open wants.Paren (drop 1 ts) o.0 open_token o.1,
           subst (λ r. IsList kinds.Variable o.0 r l.0.0) p.1 (list_sound kinds.Variable wants.Variable o.0 l.0.1 l.0.0 variables_listed l.1),
           sym p.0,
@@ -95,7 +91,7 @@ part_sound s ts now rest m e = (
           inr (inl (
             a.0.0,
             spells_says kinds.Key (codes ":precondition") ts key_token v.0,
-            is_none s.pre z.0,
+            (none_iff s.pre).0 z.0,
             subst (λ r. IsCond true (length (drop 1 ts)) [] (drop 1 ts) a.0.0 r) p.1 (cond_is true (length (drop 1 ts)) [] (drop 1 ts) a.0.0 a.0.1 a.1),
             sym p.0,
           ))
@@ -107,7 +103,7 @@ part_sound s ts now rest m e = (
             inr (inr (
               a.0.0,
               spells_says kinds.Key (codes ":effect") ts key_token u.0,
-              is_none s.effect z.0,
+              (none_iff s.effect).0 z.0,
               subst (λ r. IsEffect (length (drop 1 ts)) no_effects (drop 1 ts) a.0.0 r) p.1 (effect_is (length (drop 1 ts)) no_effects (drop 1 ts) a.0.0 a.0.1 a.1),
               sym p.0,
             ))
@@ -126,7 +122,7 @@ part_complete s ts now rest (first, cases) =
           let two : length inside < length first = takes_less kinds.Open first o inside opens in
           let three : length rest < length inside = list_less kinds.Variable inside rest params variables_listed list in (
             says_key (codes ":parameters") ts first says,
-            if_true (spells kinds.Key (codes ":parameters") ts) _ _ w.0 ∙ if_false (is_some s.params) _ _ (none_is s.params none)
+            if_true (spells kinds.Key (codes ":parameters") ts) _ _ w.0 ∙ if_false (is_some s.params) _ _ ((none_iff s.params).1 none)
                 ∙ bind_again (need kinds.Open wants.Paren (drop 1 ts)) _ inside _ (ap (need kinds.Open wants.Paren) w.1 ∙ takes_need kinds.Open wants.Paren first o inside opens)
                 (bind_again (list_at kinds.Variable wants.Variable inside) _ (params, rest) _ (list_complete kinds.Variable wants.Variable inside rest params variables_listed list) (ap (λ (x : ActionParts). Ok (x, rest)) (sym is))),
             omega (arith, w.2),
@@ -136,7 +132,7 @@ part_complete s ts now rest (first, cases) =
           let c = cond_complete true (length first) [] first pre rest cond_here in (
             says_key (codes ":precondition") ts first says,
             if_false (spells kinds.Key (codes ":parameters") ts) _ _ (other_word kinds.Key (codes ":precondition") (codes ":parameters") ts first refl says)
-                ∙ if_true (spells kinds.Key (codes ":precondition") ts) _ _ w.0 ∙ if_false (is_some s.pre) _ _ (none_is s.pre none)
+                ∙ if_true (spells kinds.Key (codes ":precondition") ts) _ _ w.0 ∙ if_false (is_some s.pre) _ _ ((none_iff s.pre).1 none)
                 ∙ bind_again (cond_at true (length (drop 1 ts)) [] (drop 1 ts)) _ (pre, rest) _ (ap (λ (us : List Token). cond_at true (length us) [] us) w.1 ∙ c.1) (ap (λ (x : ActionParts). Ok (x, rest)) (sym is)),
             omega (arith, w.2, c.2),
           )
@@ -146,7 +142,7 @@ part_complete s ts now rest (first, cases) =
             says_key (codes ":effect") ts first says,
             if_false (spells kinds.Key (codes ":parameters") ts) _ _ (other_word kinds.Key (codes ":effect") (codes ":parameters") ts first refl says)
                 ∙ if_false (spells kinds.Key (codes ":precondition") ts) _ _ (other_word kinds.Key (codes ":effect") (codes ":precondition") ts first refl says)
-                ∙ if_true (spells kinds.Key (codes ":effect") ts) _ _ w.0 ∙ if_false (is_some s.effect) _ _ (none_is s.effect none)
+                ∙ if_true (spells kinds.Key (codes ":effect") ts) _ _ w.0 ∙ if_false (is_some s.effect) _ _ ((none_iff s.effect).1 none)
                 ∙ bind_again (effect_at (length (drop 1 ts)) no_effects (drop 1 ts)) _ (effect, rest) _ (ap (λ (us : List Token). effect_at (length us) no_effects us) w.1 ∙ c.1) (ap (λ (x : ActionParts). Ok (x, rest)) (sym is)),
             omega (arith, w.2, c.2),
           )

@@ -11,18 +11,13 @@ use Rattle.pb_pddl.specs.Grammar.{Takes, Many, IsAtom, IsCond}
 use Rattle.pb_pddl_laws.proofs.Singles.{ok_pair, bind_ok, bind_again, begins_takes, takes_begins, takes_less, need_takes, takes_need, open_token, close_token, word_token, spells_says, says_spells, takes_other, close_no_open, word_no_close}
 use Rattle.pb_pddl_laws.proofs.ManyRead.{IsSound, IsComplete, all_sound, all_complete, steps_less}
 use Rattle.pb_pddl_laws.proofs.AtomsRead.{atom_sound, atom_complete, atom_less}
+pub use Rattle.std.proofs.lemmas.Bool.{cond-true as if_true, cond-false as if_false}
 
 pub if_cases : {A : Type 0} (b : Bool) (x y z : A) → cond b x y ≡ z → ((b ≡ true) × (x ≡ z)) ⊎ ((b ≡ false) × (y ≡ z))
 if_cases true x y z e = inl (refl, e)
 if_cases false x y z e = inr (refl, e)
 
-pub if_true : {A : Type 0} (b : Bool) (x y : A) → b ≡ true → cond b x y ≡ x
-if_true b x y e = ap (λ c. cond c x y) e
-
-pub if_false : {A : Type 0} (b : Bool) (x y : A) → b ≡ false → cond b x y ≡ y
-if_false b x y e = ap (λ c. cond c x y) e
-
-and_reserved : is_reserved (codes "and") ≡ true
+pub and_reserved : is_reserved (codes "and") ≡ true
 unfolding is_reserved
 and_reserved = refl
 

@@ -15,12 +15,8 @@ use Rattle.pb_pddl.specs.Grammar.{Takes, Says, Opens, Closes, Many, IsAtom, IsCo
 use Rattle.pb_pddl_laws.proofs.Singles.{ok_pair, bind_ok, bind_again, begins_takes, takes_begins, takes_less, need_takes, takes_need, open_token, close_token, word_token, spells_says, says_spells, takes_other, close_no_open, word_no_close}
 use Rattle.pb_pddl_laws.proofs.ManyRead.{IsSound, IsComplete, all_sound, all_complete, steps_less}
 use Rattle.pb_pddl_laws.proofs.AtomsRead.{atom_sound, atom_complete, atom_less}
-use Rattle.pb_pddl_laws.proofs.CondsRead.{if_cases, if_true, if_false, head_no_word}
+use Rattle.pb_pddl_laws.proofs.CondsRead.{if_cases, if_true, if_false, and_reserved, head_no_word}
 use Rattle.pb_pddl_laws.proofs.CostsRead.{at_says, cost_sound, cost_complete, cost_less}
-
-and_reserved : is_reserved (codes "and") ≡ true
-unfolding is_reserved
-and_reserved = refl
 
 not_reserved : is_reserved (codes "not") ≡ true
 unfolding is_reserved

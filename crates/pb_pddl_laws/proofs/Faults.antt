@@ -1,5 +1,6 @@
 -- Whole forms: the first token that can't go on.
 use Rattle.std.proofs.Common.{◌≡◌, ℕ, Bool, true, false, cond, List, [], ◌∷◌, ◌++◌, length, Result, Ok, Err, refl, sym, ap, subst, ◌∙◌, arith, inl, inr, Some, None, true≢false, append-nil}
+use Rattle.std.proofs.lemmas.Bool.{false_from_ne_true}
 use Rattle.std.proofs.lemmas.List.{append_assoc}
 use Rattle.std.specs.Prelude.{codes}
 use Rattle.std.specs.Str.{bytes_eq}
@@ -20,7 +21,6 @@ use Rattle.pb_pddl.specs.Places.{Place, fits, is_kind, sample, refused_token, re
 use Rattle.pb_pddl.specs.Grammar.{IsDomain, IsProblem}
 use Rattle.pb_pddl_laws.proofs.CondsRead.{if_true}
 use Rattle.pb_pddl_laws.proofs.Readers.{failed, err_ok, bind_err, Stops}
-use Rattle.pb_pddl_laws.proofs.Keys.{decide}
 use Rattle.pb_pddl_laws.proofs.FormsRead.{domain_is, domain_again, problem_is, problem_again}
 use Rattle.pb_pddl_laws.specs.Table
 use Rattle.pb_pddl_laws.specs.Table.{Symbol, place_of, after, Leads, IsWhole, place_due, IsTold, domain_form, problem_form}
@@ -109,7 +109,7 @@ module _ {X : Type 0} (body : List Token → Read X) (form : List Symbol) (agree
 
   end_fault : (ts : List Token) (x : X) (e : SyntaxError) → (end_at ts >>= λ q. Ok x) ≡ Err e → fits Places.TheEnd (front ts) ≡ false
   unfolding fits
-  end_fault ts x e err = decide (is_kind kinds.End (front ts)) (λ fit. absurd (err_ok e x (sym (ap (λ (r : Result (List Token) SyntaxError). r >>= λ q. Ok x) (end_fits ts fit)) ∙ err))) (λ misfit. misfit)
+  end_fault ts x e err = false_from_ne_true (is_kind kinds.End (front ts)) (λ fit. err_ok e x (sym (ap (λ (r : Result (List Token) SyntaxError). r >>= λ q. Ok x) (end_fits ts fit)) ∙ err))
 
   pub whole_faults : (ts : List Token) (e : SyntaxError) → whole ts ≡ Err e
       → (before : List Token) × (after : List Token) × (place : Place) × (ts ≡ before ++ after) × (fits place (front after) ≡ false) × Halts before place
@@ -192,7 +192,7 @@ module _ {X : Type 0} (body : List Token → Read X) (form : List Symbol) (agree
   same_fit : (before : List Token) (place : Place) → Halts before place → (due : List Symbol) → Leads form before due → (t : Token) (v : Bool) → fits place t ≡ v → fits (place_due due) t ≡ v
   same_fit before place h due leads t true fit =
       let c = h.goes_on t fit in due_fits due t c.0 (sym (leads_misfit form before due (t ∷ c.0) leads) ∙ sees (before ++ t ∷ c.0) ∙ ap outcome c.2)
-  same_fit before place h due leads t false misfits = decide (fits (place_due due) t) (λ fit. absurd (not_due before place h due leads t misfits fit)) (λ other. other)
+  same_fit before place h due leads t false misfits = false_from_ne_true (fits (place_due due) t) (λ fit. not_due before place h due leads t misfits fit)
 
   pub told_fault : (Is : List Token → X → Type 0) → ((ts : List Token) (x : X) → whole ts ≡ Ok x → Is ts x) → ((ts : List Token) (x : X) → Is ts x → whole ts ≡ Ok x) → (ts : List Token) (e : SyntaxError) → whole ts ≡ Err e → IsTold X Is form ts e
   told_fault Is sound complete ts e err =

@@ -2,7 +2,7 @@
 use Rattle.std.proofs.Common.{◌≡◌, ℕ, Bool, true, false, cond, not, ◌&&◌, ◌||◌, List, [], ◌∷◌, Err, refl, sym, ap, ◌∙◌, ◌⊎◌, inl, inr, append-nil, true≢false}
 use Rattle.std.specs.Prelude.{Option}
 use Rattle.std.specs.Str.{bytes_eq}
-use Rattle.std.proofs.lemmas.Bool.{or_right, and_parts, or_parts}
+use Rattle.std.proofs.lemmas.Bool.{or_right, or_cases, and_parts, or_parts, cases_Bool}
 use Rattle.std.proofs.lemmas.Slice.Eq.{bytes_eq-Decides}
 use Rattle.pb_pddl.specs.declared.token.TokenKind.TheVariants as kinds
 use Rattle.pb_pddl.specs.declared.token.Token.{Token}
@@ -18,7 +18,7 @@ use Rattle.pb_pddl_laws.proofs.CondsRead.{if_true, if_false}
 use Rattle.pb_pddl_laws.proofs.Following.{SamePlace}
 use Rattle.pb_pddl_laws.proofs.Agreeing.{Agrees, agrees_one, agrees_same, agrees_as}
 use Rattle.pb_pddl_laws.proofs.Refusals.{told}
-use Rattle.pb_pddl_laws.proofs.Keys.{key_token, as_key, no_text, not_free, free, or_either, decide, keyed}
+use Rattle.pb_pddl_laws.proofs.Keys.{key_token, as_key, no_text, not_free, free, keyed}
 
 -- what f reads at this place, where this symbol is due, and behind it this
 module _ {S : Type 0} (f : S → List Token → Read S) (place : S → Place) (symbol : S → Symbol) (due : S → List Symbol) where
@@ -53,7 +53,7 @@ module _ {S : Type 0} (f : S → List Token → Read S) (place : S → Place) (s
   which : (cs : List Section) (b : Bool) (s : S) (t : Token) → fits_any b cs s t ≡ true → (b ≡ true) ⊎ ((c : Section) × (is_key c.key t ≡ true) × (c.stood s ≡ false))
   which [] b s t e = inl e
   which (c ∷ cs) b s t e = elim (which cs (b || fits_one c s t) s t e) [
-    | inl here ↦ elim (or_either b (fits_one c s t) here) [ inl before ↦ inl before | inr fit ↦ let x = free (is_key c.key t) (c.stood s) fit in inr ((c, x.0, x.1)) ]
+    | inl here ↦ elim (or_cases b (fits_one c s t) here) [ inl before ↦ inl before | inr fit ↦ let x = free (is_key c.key t) (c.stood s) fit in inr ((c, x.0, x.1)) ]
     | inr later ↦ inr later
   ]
 
@@ -70,7 +70,7 @@ module _ {S : Type 0} (f : S → List Token → Read S) (place : S → Place) (s
         o.0,
         elim r.1 [
           | inl later ↦ inl later
-          | inr none ↦ decide (is_key c.key t) (λ here. inl ((c, here, not_free (is_key c.key t) (c.stood s) here o.1))) (λ other. inr ((other, none)))
+          | inr none ↦ elim (cases_Bool (is_key c.key t)) [ inl here ↦ inl ((c, here, not_free (is_key c.key t) (c.stood s) here o.1)) | inr other ↦ inr ((other, none)) ]
         ],
       )
 
@@ -129,9 +129,10 @@ module _ {S : Type 0} (f : S → List Token → Read S) (place : S → Place) (s
   pub some_free : (cs : List Section) (s : S) → all_stood cs s ≡ false → (t : Token) × ((b : Bool) → fits_any b cs s t ≡ true)
   some_free [] s e = absurd (true≢false e)
   some_free (c ∷ cs) s e =
-      decide (c.stood s)
-      (λ there. let r = some_free cs s (sym (ap (λ b. b && all_stood cs s) there) ∙ e) in (r.0, λ b. r.1 (b || fits_one c s r.0)))
-      (λ open_still. let t = key_token c.key no_token in (t, λ b. ap (λ x. fits_any x cs s t) (or_right b (fits_one c s t) (free_fits c s open_still)) ∙ stays cs s t))
+      elim (cases_Bool (c.stood s)) [
+        | inl there ↦ let r = some_free cs s (sym (ap (λ b. b && all_stood cs s) there) ∙ e) in (r.0, λ b. r.1 (b || fits_one c s r.0))
+        | inr open_still ↦ let t = key_token c.key no_token in (t, λ b. ap (λ x. fits_any x cs s t) (or_right b (fits_one c s t) (free_fits c s open_still)) ∙ stays cs s t)
+      ]
 
   -- ---- sections, whose keyword must stand
 
@@ -158,8 +159,10 @@ module _ {S : Type 0} (f : S → List Token → Read S) (place : S → Place) (s
     unfolding front same_kind kind_number
     misfits s [] misfit = chooses s [] ∙ none_chosen no_section cs s [] (other_unknown cs no_token refl) ∙ ap (λ (x : SyntaxError). Err x) (other_wanted [] refl ∙ sym (plain_is s no_token refl))
     misfits s (t ∷ us) misfit =
-        decide (is_kind kinds.Key t) (λ key. key_refused cs no_section left.Section (λ x u _. fits_is x u) chooses key_left token_is left_is s t us key misfit) (λ other.
-        chooses s (t ∷ us) ∙ none_chosen no_section cs s (t ∷ us) (other_unknown cs t other) ∙ ap (λ (x : SyntaxError). Err x) (other_wanted (t ∷ us) other ∙ sym (plain_is s t other)))
+        elim (cases_Bool (is_kind kinds.Key t)) [
+          | inl key ↦ key_refused cs no_section left.Section (λ x u _. fits_is x u) chooses key_left token_is left_is s t us key misfit
+          | inr other ↦ chooses s (t ∷ us) ∙ none_chosen no_section cs s (t ∷ us) (other_unknown cs t other) ∙ ap (λ (x : SyntaxError). Err x) (other_wanted (t ∷ us) other ∙ sym (plain_is s t other))
+        ]
 
     -- where one may still stand
     pub agrees_section : (s : S) (some : Token) → fits (place s) some ≡ true → Agrees S (f s) due (symbol s ∷ [])

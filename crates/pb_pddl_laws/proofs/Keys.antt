@@ -1,5 +1,5 @@
 -- Keywords: which one a token is.
-use Rattle.std.proofs.Common.{◌≡◌, ℕ, Bool, true, false, not, ◌&&◌, ◌||◌, List, refl, sym, ap, ◌∙◌, ◌⊎◌, inl, inr, true≢false}
+use Rattle.std.proofs.Common.{◌≡◌, ℕ, Bool, true, false, not, ◌&&◌, List, refl, sym, ap, ◌∙◌, true≢false}
 use Rattle.std.proofs.lemmas.Bool.{and_parts}
 use Rattle.std.specs.Str.{bytes_eq}
 use Rattle.pb_pddl.specs.declared.token.TokenKind.{TokenKind}
@@ -32,14 +32,6 @@ not_free a false e f = absurd (true≢false (sym (ap (λ c. c && true) e) ∙ f)
 pub free : (a b : Bool) → a && not b ≡ true → (a ≡ true) × (b ≡ false)
 free a true e = absurd (true≢false (sym (and_parts a false e).1))
 free a false e = ((and_parts a true e).0, refl)
-
-pub or_either : (a b : Bool) → a || b ≡ true → (a ≡ true) ⊎ (b ≡ true)
-or_either true b e = inl refl
-or_either false b e = inr e
-
-pub decide : {G : Type 0} (b : Bool) → (b ≡ true → G) → (b ≡ false → G) → G
-decide true one other = one refl
-decide false one other = other refl
 
 -- the error of a keyword is the place's
 pub keyed : (t : Token) (other : SyntaxError) → is_kind kinds.Key t ≡ true

@@ -1,5 +1,6 @@
 -- In the tokens of a text, the limit on nested parentheses never decides: what is read within it is what is read without.
 use Rattle.std.proofs.Common.{◌≡◌, ℕ, Bool, true, false, cond, List, [], ◌∷◌, ◌++◌, length, drop, Result, Ok, Err, refl, sym, ap, subst, ◌∙◌, arith, inl, inr, true≢false}
+use Rattle.std.proofs.lemmas.Bool.{cases_Bool}
 use Rattle.std.specs.Prelude.{codes, Some, is_some}
 use Rattle.pb_pddl.specs.declared.token.TokenKind.TheVariants as kinds
 use Rattle.pb_pddl.specs.declared.token.Token.{Token}
@@ -19,7 +20,6 @@ use Rattle.pb_pddl.specs.Places
 use Rattle.pb_pddl.specs.Places.{fits, is_kind, refused}
 use Rattle.pb_pddl_laws.proofs.Singles.{need_takes, open_token, name_takes, word_token}
 use Rattle.pb_pddl_laws.proofs.Readers.{Reads, err_ok}
-use Rattle.pb_pddl_laws.proofs.Keys.{decide}
 use Rattle.pb_pddl_laws.proofs.ActionPlaces.{part_refused, agrees_part}
 use Rattle.pb_pddl_laws.proofs.DomainPlaces.{section_step, agrees_domain_section}
 use Rattle.pb_pddl_laws.proofs.ProblemPlaces
@@ -42,10 +42,6 @@ drop_shallow (t ∷ ts) is = shallow_behind 0 (t ∷ []) ts is
 no_key : begins_key [] ≡ false
 unfolding begins_key begins front same_kind kind_number
 no_key = refl
-
-no_open : begins_open [] ≡ false
-unfolding begins front same_kind kind_number
-no_open = refl
 
 is_key : (t : Token) (us : List Token) → begins_key (t ∷ us) ≡ true → is_kind kinds.Key t ≡ true
 unfolding begins_key begins front
@@ -81,8 +77,10 @@ part_keeps : (s : ActionParts) (ts : List Token) (now : ActionParts) (rest : Lis
 part_keeps s [] now rest goes is e = absurd (true≢false (sym goes ∙ no_key))
 part_keeps s (t ∷ us) now rest goes is e =
     let key = is_key t us goes in
-    decide (fits (Places.MoreParts s) t) (λ fit. rest_shallow (λ vs. part_at unlimited s (t ∷ vs)) us now rest ((agrees_part s t key fit).reads (length us)) (drop_shallow (t ∷ us) is) e)
-    (λ misfit. absurd (err_ok (refused (Places.MoreParts s) t) (now, rest) (sym e ∙ part_refused s t us key misfit)))
+    elim (cases_Bool (fits (Places.MoreParts s) t)) [
+      | inl fit ↦ rest_shallow (λ vs. part_at unlimited s (t ∷ vs)) us now rest ((agrees_part s t key fit).reads (length us)) (drop_shallow (t ∷ us) is) e
+      | inr misfit ↦ absurd (err_ok (refused (Places.MoreParts s) t) (now, rest) (sym e ∙ part_refused s t us key misfit))
+    ]
 
 name_shallow : (ts rest : List Token) (name : Name) → name_at kinds.Word wants.Name ts ≡ Ok (name, rest) → Shallow 0 ts → Shallow 0 rest
 name_shallow ts rest name e is = let n = name_takes kinds.Word wants.Name ts rest name word_token e in (takes_shallow 0 kinds.Word ts n.0 rest n.1 is).1
@@ -119,7 +117,7 @@ unfolding domain_section
 domain_section_same s ts is = then_agree (need kinds.Open wants.Paren ts) _ _ (λ inside e. domain_key_same s inside (inside_shallow ts inside e is))
 
 domain_keeps : (s : DomainParts) (ts : List Token) (now : DomainParts) (rest : List Token) → begins_open ts ≡ true → Shallow 0 ts → domain_section unlimited s ts ≡ Ok (now, rest) → Shallow 0 rest
-domain_keeps s [] now rest goes is e = absurd (true≢false (sym goes ∙ no_open))
+domain_keeps s [] now rest goes is e = absurd (true≢false (sym goes ∙ ProblemPlaces.none_opens))
 domain_keeps s (t ∷ us) now rest goes is e =
     rest_shallow (domain_key unlimited s) us now rest ((agrees_domain_section s).reads (length us)) (drop_shallow (t ∷ us) is) (sym (section_step s t us (is_open t us goes)) ∙ e)
 
@@ -156,12 +154,13 @@ problem_section_same s ts is =
     ap (λ (r : Read ProblemParts). cond (stood_all s) (Err (fault_at wants.Close ts)) r) (then_agree (need kinds.Open wants.Paren ts) _ _ (λ inside e. goal_same s inside (inside_shallow ts inside e is)))
 
 problem_keeps : (s : ProblemParts) (ts : List Token) (now : ProblemParts) (rest : List Token) → begins_open ts ≡ true → Shallow 0 ts → problem_section unlimited s ts ≡ Ok (now, rest) → Shallow 0 rest
-problem_keeps s [] now rest goes is e = absurd (true≢false (sym goes ∙ no_open))
+problem_keeps s [] now rest goes is e = absurd (true≢false (sym goes ∙ ProblemPlaces.none_opens))
 problem_keeps s (t ∷ us) now rest goes is e =
     let opens = is_open t us goes in
-    decide (fits (Places.MoreSections s) t)
-    (λ fit. rest_shallow (problem_key unlimited s) us now rest ((ProblemPlaces.agrees_problem_section s (ProblemPlaces.not_all s t opens fit)).reads (length us)) (drop_shallow (t ∷ us) is) (sym (ProblemPlaces.section_step s t us opens fit) ∙ e))
-    (λ misfit. absurd (err_ok (refused (Places.MoreSections s) t) (now, rest) (sym e ∙ ProblemPlaces.section_refused s t us opens misfit)))
+    elim (cases_Bool (fits (Places.MoreSections s) t)) [
+      | inl fit ↦ rest_shallow (problem_key unlimited s) us now rest ((ProblemPlaces.agrees_problem_section s (ProblemPlaces.not_all s t opens fit)).reads (length us)) (drop_shallow (t ∷ us) is) (sym (ProblemPlaces.section_step s t us opens fit) ∙ e)
+      | inr misfit ↦ absurd (err_ok (refused (Places.MoreSections s) t) (now, rest) (sym e ∙ ProblemPlaces.section_refused s t us opens misfit))
+    ]
 
 problem_same_at : (ts : List Token) → Shallow 0 ts → problem_at unlimited ts ≡ problem_at limited ts
 unfolding problem_at

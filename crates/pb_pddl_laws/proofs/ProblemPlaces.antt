@@ -1,6 +1,6 @@
 -- Sections of a problem: where their reading stops, and beside the table.
 use Rattle.std.proofs.Common.{◌≡◌, ℕ, Bool, true, false, cond, not, ◌&&◌, ◌||◌, List, [], ◌∷◌, ◌++◌, Result, Ok, Err, refl, sym, ap, ◌∙◌, arith, ◌⊎◌, inl, inr, true≢false}
-use Rattle.std.proofs.lemmas.Bool.{and_parts}
+use Rattle.std.proofs.lemmas.Bool.{and_parts, cases_Bool}
 use Rattle.std.specs.Prelude.{codes, Option, Some, None, is_some, if◌then◌else◌}
 use Rattle.pb_pddl.specs.declared.token.TokenKind.{TokenKind}
 use Rattle.pb_pddl.specs.declared.token.TokenKind.TheVariants as kinds
@@ -15,7 +15,7 @@ use Rattle.pb_pddl.specs.declared.error.LeftOut.TheVariants as left
 use Rattle.pb_pddl.specs.Reading.{◌>>=◌, Read, kind_number, same_kind, front, begins, begins_open, spells, no_token, refusal, fault_at, need, name_at, all_of, once, keys_at, only_word, unlimited, list_at, facts_at, cond_at, total_cost_at, domain_name_section, problem_requirements, objects_section, init_section, goal_section, metric_section, problem_key, stood_all, problem_section, sections_want, missing, there}
 use Rattle.pb_pddl.specs.Grammar.{IsProblemSection}
 use Rattle.pb_pddl_laws.proofs.SectionsRead.{problem_sound, problem_complete, no_domain_yet, no_goal_yet}
-use Rattle.pb_pddl_laws.proofs.ActionsRead.{none_is}
+use Rattle.pb_pddl_laws.proofs.ActionsRead.{none_iff}
 use Rattle.pb_pddl.specs.Places
 use Rattle.pb_pddl.specs.Places.{Place, fits, is_kind, is_key, sample, reserved_head, other_key, is_part_key, is_domain_key, is_problem_key, takes_section, takes_part, first_fit, left_out, wanted, refused_token, refused}
 use Rattle.pb_pddl_laws.proofs.Rooms.{any_cond}
@@ -33,7 +33,6 @@ use Rattle.pb_pddl_laws.proofs.ConditionPlaces.{agrees_cond}
 use Rattle.pb_pddl_laws.proofs.CostPlaces.{agrees_only, agrees_total}
 use Rattle.pb_pddl_laws.proofs.ListPlaces.{agrees_words}
 use Rattle.pb_pddl_laws.proofs.PiecePlaces.{agrees_facts, agrees_keys}
-use Rattle.pb_pddl_laws.proofs.Keys.{decide}
 use Rattle.pb_pddl_laws.proofs.KeyedSections.{Section, fits_any, agrees_section, all_stood, some_free}
 use Rattle.pb_pddl_laws.proofs.Noted.{noted_problem, same_problem, same_sections, sections_first}
 
@@ -173,9 +172,9 @@ section_more : (ts : List Token) → begins_open ts ≡ section_test (front ts)
 unfolding begins
 section_more ts = refl
 
-no_section_more : begins_open [] ≡ false
+pub none_opens : begins_open [] ≡ false
 unfolding begins front same_kind kind_number
-no_section_more = refl
+none_opens = refl
 
 section_no_end : (s : ProblemParts) → fits (Places.MoreSections s) no_token ≡ false
 unfolding fits same_kind kind_number
@@ -225,10 +224,6 @@ end_no_close : same_kind kinds.End kinds.Close ≡ false
 unfolding same_kind kind_number
 end_no_close = refl
 
-some_is : {A : Type 0} (o : Option A) → is_some o ≡ true → (x : A) × (o ≡ Some x)
-some_is None e = absurd cc
-some_is (Some x) e = (x, refl)
-
 either_is : {A : Type 0} (o : Option A) → ((x : A) × (o ≡ Some x)) ⊎ (o ≡ None)
 either_is None = inr refl
 either_is (Some x) = inl ((x, refl))
@@ -242,7 +237,7 @@ goal_tokens rest = a_token kinds.Open [] ∷ a_token kinds.Key (codes ":goal") �
 
 goal_read : (s : ProblemParts) (rest : List Token) → s.goal ≡ None → problem_section unlimited s (goal_tokens rest) ≡ Ok (record s { goal = Some [] }, rest)
 unfolding problem_section problem_key goal_section unlimited cond_at need spells begins front same_kind kind_number
-goal_read s rest none = if_false (stood_all s) _ _ (no_goal_yet s none) ∙ if_false (is_some s.goal) _ _ (none_is s.goal none)
+goal_read s rest none = if_false (stood_all s) _ _ (no_goal_yet s none) ∙ if_false (is_some s.goal) _ _ ((none_iff s.goal).1 none)
 
 -- ( :domain a )
 abbrev domain_tokens : List Token → List Token
@@ -253,7 +248,7 @@ a_name = record { text = []; at = 0 }
 
 domain_read : (s : ProblemParts) (rest : List Token) → s.domain ≡ None → problem_section unlimited s (domain_tokens rest) ≡ Ok (record s { domain = Some a_name }, rest)
 unfolding problem_section problem_key domain_name_section name_at need spells begins front same_kind kind_number
-domain_read s rest none = if_false (stood_all s) _ _ (no_domain_yet s none) ∙ if_false (is_some s.domain) _ _ (none_is s.domain none)
+domain_read s rest none = if_false (stood_all s) _ _ (no_domain_yet s none) ∙ if_false (is_some s.domain) _ _ ((none_iff s.domain).1 none)
 
 opens_goal : (rest : List Token) → begins_open (goal_tokens rest) ≡ true
 unfolding begins front same_kind kind_number
@@ -306,9 +301,10 @@ module _ {Y : Type 0} (value : ProblemParts → Name → List Atom → Y) where
 
   end_misfit : (s : ProblemParts) (ts : List Token) → section_test (front ts) ≡ false → fits (Places.MoreSections s) (front ts) ≡ false → sections_end s ts ≡ Err (refused (Places.MoreSections s) (front ts))
   end_misfit s ts last misfit =
-      decide (is_kind kinds.Close (front ts))
-      (λ close. lacks s ts close (ap (λ b. b && is_some s.domain && is_some s.goal) (sym close) ∙ sym (close_fits s (front ts) last) ∙ misfit))
-      (λ other. ap (λ (r : Result (List Token) SyntaxError). r >>= λ rest. end_with s ts rest s.domain s.goal) (need_misfit kinds.Close (sections_want s) ts other ∙ ap (λ (e : SyntaxError). Err e) (sym (section_plain s (front ts) other))))
+      elim (cases_Bool (is_kind kinds.Close (front ts))) [
+        | inl close ↦ lacks s ts close (ap (λ b. b && is_some s.domain && is_some s.goal) (sym close) ∙ sym (close_fits s (front ts) last) ∙ misfit)
+        | inr other ↦ ap (λ (r : Result (List Token) SyntaxError). r >>= λ rest. end_with s ts rest s.domain s.goal) (need_misfit kinds.Close (sections_want s) ts other ∙ ap (λ (e : SyntaxError). Err e) (sym (section_plain s (front ts) other)))
+      ]
 
   end_is : (s : ProblemParts) (t : Token) (us : List Token) (d : Name) (g : List Atom) → is_kind kinds.Close t ≡ true → s.domain ≡ Some d → s.goal ≡ Some g → sections_end s (t ∷ us) ≡ Ok (value s d g, us)
   unfolding there
@@ -326,9 +322,13 @@ module _ {Y : Type 0} (value : ProblemParts → Name → List Atom → Y) where
   agrees_end : (s : ProblemParts) (t : Token) → section_test t ≡ false → fits (Places.MoreSections s) t ≡ true → Agrees Y (λ us. sections_end s (t ∷ us)) nothing (after (Table.ProblemSections (noted_problem s)) t)
   agrees_end s t last fit =
       let both = both_stood s t last fit in
-      let d = some_is s.domain both.1 in
-      let g = some_is s.goal both.2 in
-      agrees_as (ap (λ b. cond b (symbol s ∷ []) []) last) (agrees_same (λ us. end_is s t us d.0 g.0 both.0 d.1 g.1) (agrees_done (value s d.0 g.0)))
+      elim (either_is s.domain) [
+        | inl (d, domain_is) ↦ elim (either_is s.goal) [
+          | inl (g, goal_is) ↦ agrees_as (ap (λ b. cond b (symbol s ∷ []) []) last) (agrees_same (λ us. end_is s t us d g both.0 domain_is goal_is) (agrees_done (value s d g)))
+          | inr none ↦ absurd (true≢false (sym both.2 ∙ (none_iff s.goal).1 none))
+        ]
+        | inr none ↦ absurd (true≢false (sym both.1 ∙ (none_iff s.domain).1 none))
+      ]
 
   abbrev pub problem_sections : ProblemParts → List Token → Read Y
   problem_sections = loop begins_open (problem_section unlimited) sections_end
@@ -338,13 +338,13 @@ module _ {Y : Type 0} (value : ProblemParts → Name → List Atom → Y) where
     sample kinds.Close ∷ [],
     value s d g,
     λ rest.
-        ap (λ (r : Read ProblemParts). r >>= λ all. sections_end all.0 all.1) (all_stop begins_open (problem_section unlimited) no_section_more takes_section_of s (sample kinds.Close ∷ rest) (closes_stop rest))
+        ap (λ (r : Read ProblemParts). r >>= λ all. sections_end all.0 all.1) (all_stop begins_open (problem_section unlimited) none_opens takes_section_of s (sample kinds.Close ∷ rest) (closes_stop rest))
         ∙ end_is s (sample kinds.Close) rest d g close_close domain_is goal_is,
   )
 
   one_read : (s next : ProblemParts) (ts rest : List Token) → begins_open ts ≡ true → problem_section unlimited s ts ≡ Ok (next, rest) → problem_sections s ts ≡ problem_sections next rest
   one_read s next ts rest opens e =
-      ap (λ (r : Read ProblemParts). r >>= λ all. sections_end all.0 all.1) (all_more begins_open (problem_section unlimited) no_section_more takes_section_of s ts opens)
+      ap (λ (r : Read ProblemParts). r >>= λ all. sections_end all.0 all.1) (all_more begins_open (problem_section unlimited) none_opens takes_section_of s ts opens)
       ∙ bind_bind (problem_section unlimited s ts) (λ x. all_of begins_open (problem_section unlimited) x.0 x.1) (λ all. sections_end all.0 all.1)
       ∙ ap (λ (r : Read ProblemParts). r >>= λ x. problem_sections x.0 x.1) e
 
@@ -371,11 +371,11 @@ module _ {Y : Type 0} (value : ProblemParts → Name → List Atom → Y) where
   agrees_problem_sections s = record {
     can = can_problem_sections s;
     reads = λ n.
-        reads_loop begins_open (problem_section unlimited) sections_end section_test (λ x. Places.MoreSections x) section_more no_section_more takes_section_of section_no_end section_refused end_misfit
+        reads_loop begins_open (problem_section unlimited) sections_end section_test (λ x. Places.MoreSections x) section_more none_opens takes_section_of section_no_end section_refused end_misfit
         (λ x t goes fit. (agrees_step x t goes fit).can) (λ x t last fit. (agrees_end x t last fit).can) can_problem_sections n n (omega arith)
         (λ m less x t goes fit. (agrees_step x t goes fit).reads m) (λ m less x t last fit. (agrees_end x t last fit).reads m) s;
     does = λ n.
-        does_loop begins_open (problem_section unlimited) sections_end section_test (λ x. Places.MoreSections x) section_more no_section_more takes_section_of section_no_end section_refused end_misfit
+        does_loop begins_open (problem_section unlimited) sections_end section_test (λ x. Places.MoreSections x) section_more none_opens takes_section_of section_no_end section_refused end_misfit
         (λ x. Table.ProblemSections (noted_problem x)) same_sections nothing n n (omega arith)
         (λ m less x t goes fit. (agrees_step x t goes fit).does m) (λ m less x t last fit. (agrees_end x t last fit).does m) s;
   }

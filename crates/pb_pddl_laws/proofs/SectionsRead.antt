@@ -18,7 +18,7 @@ use Rattle.pb_pddl.specs.declared.parts.ProblemParts.{ProblemParts}
 use Rattle.pb_pddl.specs.Reading.{◌>>=◌, Read, front, begins, same_kind, kind_number, spells, need, name_at, begins_open, stood_all, unlimited, keys_at, list_at, predicates_at, no_init, facts_at, cond_at, only_word, total_cost_at, functions_at, add_action, requirements_section, types_section, constants_section, predicates_section, functions_section, action_section, domain_key, domain_section, domain_name_section, problem_requirements, objects_section, init_section, goal_section, metric_section, problem_key, problem_section}
 use Rattle.pb_pddl.specs.Grammar.{Section, Takes, Opens, Closed, AddsName, IsList, IsPredicate, IsFact, IsFunctions, IsAction, IsDomainSection, IsProblemSection}
 use Rattle.pb_pddl_laws.proofs.PiecesRead.{predicates_sound, predicates_complete, predicates_less, facts_sound, facts_complete, facts_less, keys_sound, keys_complete, keys_less}
-use Rattle.pb_pddl_laws.proofs.ActionsRead.{is_none, none_is, cond_is, action_sound, action_complete, action_less, not_refused}
+use Rattle.pb_pddl_laws.proofs.ActionsRead.{none_iff, cond_is, action_sound, action_complete, action_less, not_refused}
 
 abbrev key_as : List ℕ → Token → Token
 key_as text t = record { kind = kinds.Key; text = text; at = t.at; head = t.head }
@@ -53,19 +53,19 @@ domain_key_sound s ts now rest before opens e = (
           let z = not_refused (is_some s.types) _ _ (now, rest) w1.1 in
           let l = bind_ok (list_at kinds.Word wants.Name (drop 1 ts)) _ (now, rest) z.1 in
           let p = ok_pair (record { requirements = s.requirements; types = Some l.0.0; constants = s.constants; predicates = s.predicates; functions = s.functions; has_cost = s.has_cost; actions = s.actions }) now l.0.1 rest l.2 in
-          inr (inl ((l.0.0, (ts, opens, spells_says kinds.Key (codes ":types") ts key_token w1.0), is_none s.types z.0, subst (λ q. IsList kinds.Word (drop 1 ts) q l.0.0) p.1 (list_sound kinds.Word wants.Name (drop 1 ts) l.0.1 l.0.0 words_listed l.1), sym p.0)))
+          inr (inl ((l.0.0, (ts, opens, spells_says kinds.Key (codes ":types") ts key_token w1.0), (none_iff s.types).0 z.0, subst (λ q. IsList kinds.Word (drop 1 ts) q l.0.0) p.1 (list_sound kinds.Word wants.Name (drop 1 ts) l.0.1 l.0.0 words_listed l.1), sym p.0)))
       | inr v1 ↦ elim (if_cases (spells kinds.Key (codes ":constants") ts) _ _ (Ok (now, rest)) v1.1) [
         | inl w2 ↦
             let z = not_refused (is_some s.constants) _ _ (now, rest) w2.1 in
             let l = bind_ok (list_at kinds.Word wants.Name (drop 1 ts)) _ (now, rest) z.1 in
             let p = ok_pair (record { requirements = s.requirements; types = s.types; constants = Some l.0.0; predicates = s.predicates; functions = s.functions; has_cost = s.has_cost; actions = s.actions }) now l.0.1 rest l.2 in
-            inr (inr (inl ((l.0.0, (ts, opens, spells_says kinds.Key (codes ":constants") ts key_token w2.0), is_none s.constants z.0, subst (λ q. IsList kinds.Word (drop 1 ts) q l.0.0) p.1 (list_sound kinds.Word wants.Name (drop 1 ts) l.0.1 l.0.0 words_listed l.1), sym p.0))))
+            inr (inr (inl ((l.0.0, (ts, opens, spells_says kinds.Key (codes ":constants") ts key_token w2.0), (none_iff s.constants).0 z.0, subst (λ q. IsList kinds.Word (drop 1 ts) q l.0.0) p.1 (list_sound kinds.Word wants.Name (drop 1 ts) l.0.1 l.0.0 words_listed l.1), sym p.0))))
         | inr v2 ↦ elim (if_cases (spells kinds.Key (codes ":predicates") ts) _ _ (Ok (now, rest)) v2.1) [
           | inl w3 ↦
               let z = not_refused (is_some s.predicates) _ _ (now, rest) w3.1 in
               let l = bind_ok (predicates_at (drop 1 ts)) _ (now, rest) z.1 in
               let p = ok_pair (record { requirements = s.requirements; types = s.types; constants = s.constants; predicates = Some l.0.0; functions = s.functions; has_cost = s.has_cost; actions = s.actions }) now l.0.1 rest l.2 in
-              inr (inr (inr (inl ((l.0.0, (ts, opens, spells_says kinds.Key (codes ":predicates") ts key_token w3.0), is_none s.predicates z.0, subst (λ q. Closed IsPredicate [] (drop 1 ts) q l.0.0) p.1 (predicates_sound (drop 1 ts) l.0.1 l.0.0 l.1), sym p.0)))))
+              inr (inr (inr (inl ((l.0.0, (ts, opens, spells_says kinds.Key (codes ":predicates") ts key_token w3.0), (none_iff s.predicates).0 z.0, subst (λ q. Closed IsPredicate [] (drop 1 ts) q l.0.0) p.1 (predicates_sound (drop 1 ts) l.0.1 l.0.0 l.1), sym p.0)))))
           | inr v3 ↦ elim (if_cases (spells kinds.Key (codes ":functions") ts) _ _ (Ok (now, rest)) v3.1) [
             | inl w4 ↦
                 let z = not_refused (s.functions) _ _ (now, rest) w4.1 in
@@ -101,13 +101,13 @@ domain_complete s ts now rest (first, cases) =
           if_false s.requirements _ _ none ∙ bind_again (keys_at first) _ rest _ (keys_complete first rest found is) (ap (λ (x : DomainParts). Ok (x, rest)) (sym now_is)))
       | inr (inl ((found, at, none, is, now_is))) ↦
           behind_key (domain_key unlimited s) (codes ":types") ts first rest now at (list_less kinds.Word first rest found words_listed is) (λ t.
-          if_false (is_some s.types) _ _ (none_is s.types none) ∙ bind_again (list_at kinds.Word wants.Name first) _ (found, rest) _ (list_complete kinds.Word wants.Name first rest found words_listed is) (ap (λ (x : DomainParts). Ok (x, rest)) (sym now_is)))
+          if_false (is_some s.types) _ _ ((none_iff s.types).1 none) ∙ bind_again (list_at kinds.Word wants.Name first) _ (found, rest) _ (list_complete kinds.Word wants.Name first rest found words_listed is) (ap (λ (x : DomainParts). Ok (x, rest)) (sym now_is)))
       | inr (inr (inl ((found, at, none, is, now_is)))) ↦
           behind_key (domain_key unlimited s) (codes ":constants") ts first rest now at (list_less kinds.Word first rest found words_listed is) (λ t.
-          if_false (is_some s.constants) _ _ (none_is s.constants none) ∙ bind_again (list_at kinds.Word wants.Name first) _ (found, rest) _ (list_complete kinds.Word wants.Name first rest found words_listed is) (ap (λ (x : DomainParts). Ok (x, rest)) (sym now_is)))
+          if_false (is_some s.constants) _ _ ((none_iff s.constants).1 none) ∙ bind_again (list_at kinds.Word wants.Name first) _ (found, rest) _ (list_complete kinds.Word wants.Name first rest found words_listed is) (ap (λ (x : DomainParts). Ok (x, rest)) (sym now_is)))
       | inr (inr (inr (inl ((found, at, none, is, now_is))))) ↦
           behind_key (domain_key unlimited s) (codes ":predicates") ts first rest now at (predicates_less first rest found is) (λ t.
-          if_false (is_some s.predicates) _ _ (none_is s.predicates none) ∙ bind_again (predicates_at first) _ (found, rest) _ (predicates_complete first rest found is) (ap (λ (x : DomainParts). Ok (x, rest)) (sym now_is)))
+          if_false (is_some s.predicates) _ _ ((none_iff s.predicates).1 none) ∙ bind_again (predicates_at first) _ (found, rest) _ (predicates_complete first rest found is) (ap (λ (x : DomainParts). Ok (x, rest)) (sym now_is)))
       | inr (inr (inr (inr (inl ((has_cost, at, none, is, now_is)))))) ↦
           behind_key (domain_key unlimited s) (codes ":functions") ts first rest now at (functions_less first rest has_cost is) (λ t.
           if_false s.functions _ _ none ∙ bind_again (functions_at first) _ (has_cost, rest) _ (functions_complete first rest has_cost is) (ap (λ (x : DomainParts). Ok (x, rest)) (sym now_is)))
@@ -127,7 +127,7 @@ problem_key_sound s ts now rest before opens e = (
         let c = bind_ok (need kinds.Close wants.Close l.0.1) _ (now, rest) l.2 in
         let p = ok_pair (record { requirements = s.requirements; domain = Some l.0.0; objects = s.objects; init = s.init; goal = s.goal; costs = s.costs; metric = s.metric }) now c.0 rest c.2 in
         let t = need_takes kinds.Close wants.Close l.0.1 c.0 close_token c.1 in
-        inl ((l.0.0, l.0.1, (ts, opens, spells_says kinds.Key (codes ":domain") ts key_token w0.0), is_none s.domain z.0, name_takes kinds.Word wants.Name (drop 1 ts) l.0.1 l.0.0 word_token l.1, (t.0, subst (Takes kinds.Close l.0.1 t.0) p.1 t.1), sym p.0))
+        inl ((l.0.0, l.0.1, (ts, opens, spells_says kinds.Key (codes ":domain") ts key_token w0.0), (none_iff s.domain).0 z.0, name_takes kinds.Word wants.Name (drop 1 ts) l.0.1 l.0.0 word_token l.1, (t.0, subst (Takes kinds.Close l.0.1 t.0) p.1 t.1), sym p.0))
     | inr v0 ↦ elim (if_cases (spells kinds.Key (codes ":requirements") ts) _ _ (Ok (now, rest)) v0.1) [
       | inl w1 ↦
           let z = not_refused (s.requirements) _ _ (now, rest) w1.1 in
@@ -140,13 +140,13 @@ problem_key_sound s ts now rest before opens e = (
             let z = not_refused (is_some s.objects) _ _ (now, rest) w2.1 in
             let l = bind_ok (list_at kinds.Word wants.Name (drop 1 ts)) _ (now, rest) z.1 in
             let p = ok_pair (record { requirements = s.requirements; domain = s.domain; objects = Some l.0.0; init = s.init; goal = s.goal; costs = s.costs; metric = s.metric }) now l.0.1 rest l.2 in
-            inr (inr (inl ((l.0.0, (ts, opens, spells_says kinds.Key (codes ":objects") ts key_token w2.0), is_none s.objects z.0, subst (λ q. IsList kinds.Word (drop 1 ts) q l.0.0) p.1 (list_sound kinds.Word wants.Name (drop 1 ts) l.0.1 l.0.0 words_listed l.1), sym p.0))))
+            inr (inr (inl ((l.0.0, (ts, opens, spells_says kinds.Key (codes ":objects") ts key_token w2.0), (none_iff s.objects).0 z.0, subst (λ q. IsList kinds.Word (drop 1 ts) q l.0.0) p.1 (list_sound kinds.Word wants.Name (drop 1 ts) l.0.1 l.0.0 words_listed l.1), sym p.0))))
         | inr v2 ↦ elim (if_cases (spells kinds.Key (codes ":init") ts) _ _ (Ok (now, rest)) v2.1) [
           | inl w3 ↦
               let z = not_refused (is_some s.init) _ _ (now, rest) w3.1 in
               let l = bind_ok (facts_at (drop 1 ts)) _ (now, rest) z.1 in
               let p = ok_pair (record { requirements = s.requirements; domain = s.domain; objects = s.objects; init = Some l.0.0.atoms; goal = s.goal; costs = l.0.0.costs; metric = s.metric }) now l.0.1 rest l.2 in
-              inr (inr (inr (inl ((l.0.0, (ts, opens, spells_says kinds.Key (codes ":init") ts key_token w3.0), is_none s.init z.0, subst (λ q. Closed IsFact no_init (drop 1 ts) q l.0.0) p.1 (facts_sound (drop 1 ts) l.0.1 l.0.0 l.1), sym p.0)))))
+              inr (inr (inr (inl ((l.0.0, (ts, opens, spells_says kinds.Key (codes ":init") ts key_token w3.0), (none_iff s.init).0 z.0, subst (λ q. Closed IsFact no_init (drop 1 ts) q l.0.0) p.1 (facts_sound (drop 1 ts) l.0.1 l.0.0 l.1), sym p.0)))))
           | inr v3 ↦ elim (if_cases (spells kinds.Key (codes ":goal") ts) _ _ (Ok (now, rest)) v3.1) [
             | inl w4 ↦
                 let z = not_refused (is_some s.goal) _ _ (now, rest) w4.1 in
@@ -154,7 +154,7 @@ problem_key_sound s ts now rest before opens e = (
                 let c = bind_ok (need kinds.Close wants.Close l.0.1) _ (now, rest) l.2 in
                 let p = ok_pair (record { requirements = s.requirements; domain = s.domain; objects = s.objects; init = s.init; goal = Some l.0.0; costs = s.costs; metric = s.metric }) now c.0 rest c.2 in
                 let t = need_takes kinds.Close wants.Close l.0.1 c.0 close_token c.1 in
-                inr (inr (inr (inr (inl ((l.0.0, l.0.1, (ts, opens, spells_says kinds.Key (codes ":goal") ts key_token w4.0), is_none s.goal z.0, cond_is false (length (drop 1 ts)) [] (drop 1 ts) l.0.0 l.0.1 l.1, (t.0, subst (Takes kinds.Close l.0.1 t.0) p.1 t.1), sym p.0))))))
+                inr (inr (inr (inr (inl ((l.0.0, l.0.1, (ts, opens, spells_says kinds.Key (codes ":goal") ts key_token w4.0), (none_iff s.goal).0 z.0, cond_is false (length (drop 1 ts)) [] (drop 1 ts) l.0.0 l.0.1 l.1, (t.0, subst (Takes kinds.Close l.0.1 t.0) p.1 t.1), sym p.0))))))
             | inr v4 ↦ elim (if_cases (spells kinds.Key (codes ":metric") ts) _ _ (Ok (now, rest)) v4.1) [
               | inl w5 ↦
                   let z = not_refused (is_some s.metric) _ _ (now, rest) w5.1 in
@@ -163,7 +163,7 @@ problem_key_sound s ts now rest before opens e = (
                   let c = bind_ok (need kinds.Close wants.Close l.0.1) _ (now, rest) l.2 in
                   let p = ok_pair (record { requirements = s.requirements; domain = s.domain; objects = s.objects; init = s.init; goal = s.goal; costs = s.costs; metric = Some l.0.0 }) now c.0 rest c.2 in
                   let t = need_takes kinds.Close wants.Close l.0.1 c.0 close_token c.1 in
-                  inr (inr (inr (inr (inr ((l.0.0, m.0, l.0.1, (ts, opens, spells_says kinds.Key (codes ":metric") ts key_token w5.0), is_none s.metric z.0, only_sound (codes "minimize") left.Metric (drop 1 ts) m.0 m.1, total_sound m.0 l.0.1 l.0.0 l.1, (t.0, subst (Takes kinds.Close l.0.1 t.0) p.1 t.1), sym p.0))))))
+                  inr (inr (inr (inr (inr ((l.0.0, m.0, l.0.1, (ts, opens, spells_says kinds.Key (codes ":metric") ts key_token w5.0), (none_iff s.metric).0 z.0, only_sound (codes "minimize") left.Metric (drop 1 ts) m.0 m.1, total_sound m.0 l.0.1 l.0.0 l.1, (t.0, subst (Takes kinds.Close l.0.1 t.0) p.1 t.1), sym p.0))))))
               | inr v5 ↦ absurd cc
             ]
           ]
@@ -188,27 +188,27 @@ module _ (p : ProblemParts) where
 
   pub no_domain_yet : p.domain ≡ None → stood_all p ≡ false
   unfolding stood_all
-  no_domain_yet e = ap (λ b. p.requirements && b && is_some p.objects && is_some p.init && is_some p.goal && is_some p.metric) (none_is p.domain e)
+  no_domain_yet e = ap (λ b. p.requirements && b && is_some p.objects && is_some p.init && is_some p.goal && is_some p.metric) ((none_iff p.domain).1 e)
       ∙ ap (λ b. b && is_some p.objects && is_some p.init && is_some p.goal && is_some p.metric) (and-false p.requirements)
 
   no_objects_yet : p.objects ≡ None → stood_all p ≡ false
   unfolding stood_all
-  no_objects_yet e = ap (λ b. p.requirements && is_some p.domain && b && is_some p.init && is_some p.goal && is_some p.metric) (none_is p.objects e)
+  no_objects_yet e = ap (λ b. p.requirements && is_some p.domain && b && is_some p.init && is_some p.goal && is_some p.metric) ((none_iff p.objects).1 e)
       ∙ ap (λ b. b && is_some p.init && is_some p.goal && is_some p.metric) (and-false (p.requirements && is_some p.domain))
 
   no_init_yet : p.init ≡ None → stood_all p ≡ false
   unfolding stood_all
-  no_init_yet e = ap (λ b. p.requirements && is_some p.domain && is_some p.objects && b && is_some p.goal && is_some p.metric) (none_is p.init e)
+  no_init_yet e = ap (λ b. p.requirements && is_some p.domain && is_some p.objects && b && is_some p.goal && is_some p.metric) ((none_iff p.init).1 e)
       ∙ ap (λ b. b && is_some p.goal && is_some p.metric) (and-false (p.requirements && is_some p.domain && is_some p.objects))
 
   pub no_goal_yet : p.goal ≡ None → stood_all p ≡ false
   unfolding stood_all
-  no_goal_yet e = ap (λ b. p.requirements && is_some p.domain && is_some p.objects && is_some p.init && b && is_some p.metric) (none_is p.goal e)
+  no_goal_yet e = ap (λ b. p.requirements && is_some p.domain && is_some p.objects && is_some p.init && b && is_some p.metric) ((none_iff p.goal).1 e)
       ∙ ap (λ b. b && is_some p.metric) (and-false (p.requirements && is_some p.domain && is_some p.objects && is_some p.init))
 
   no_metric_yet : p.metric ≡ None → stood_all p ≡ false
   unfolding stood_all
-  no_metric_yet e = ap (λ b. p.requirements && is_some p.domain && is_some p.objects && is_some p.init && is_some p.goal && b) (none_is p.metric e)
+  no_metric_yet e = ap (λ b. p.requirements && is_some p.domain && is_some p.objects && is_some p.init && is_some p.goal && b) ((none_iff p.metric).1 e)
       ∙ and-false (p.requirements && is_some p.domain && is_some p.objects && is_some p.init && is_some p.goal)
 
 behind_more : (s : ProblemParts) (ts : List Token) (now : ProblemParts) (rest : List Token) → stood_all s ≡ false
@@ -223,23 +223,23 @@ problem_complete s ts now rest (first, cases) =
     elim cases [
       | inl ((found, last, at, none, is, closes, now_is)) ↦
           behind_more s ts now rest (no_domain_yet s none) (behind_key (problem_key unlimited s) (codes ":domain") ts first rest now at (let one : length last < length first = takes_less kinds.Word first is.0 last is.1 in let two : length rest < length last = takes_less kinds.Close last closes.0 rest closes.1 in omega arith) (λ t.
-          if_false (is_some s.domain) _ _ (none_is s.domain none) ∙ bind_again (name_at kinds.Word wants.Name first) _ (found, last) _ (takes_name kinds.Word wants.Name first last found is)
+          if_false (is_some s.domain) _ _ ((none_iff s.domain).1 none) ∙ bind_again (name_at kinds.Word wants.Name first) _ (found, last) _ (takes_name kinds.Word wants.Name first last found is)
           (bind_again (need kinds.Close wants.Close last) _ rest _ (takes_need kinds.Close wants.Close last closes.0 rest closes.1) (ap (λ (x : ProblemParts). Ok (x, rest)) (sym now_is)))))
       | inr (inl ((found, at, none, is, now_is))) ↦
           behind_more s ts now rest (no_requirements_yet s none) (behind_key (problem_key unlimited s) (codes ":requirements") ts first rest now at (keys_less first rest found is) (λ t.
           if_false s.requirements _ _ none ∙ bind_again (keys_at first) _ rest _ (keys_complete first rest found is) (ap (λ (x : ProblemParts). Ok (x, rest)) (sym now_is))))
       | inr (inr (inl ((found, at, none, is, now_is)))) ↦
           behind_more s ts now rest (no_objects_yet s none) (behind_key (problem_key unlimited s) (codes ":objects") ts first rest now at (list_less kinds.Word first rest found words_listed is) (λ t.
-          if_false (is_some s.objects) _ _ (none_is s.objects none) ∙ bind_again (list_at kinds.Word wants.Name first) _ (found, rest) _ (list_complete kinds.Word wants.Name first rest found words_listed is) (ap (λ (x : ProblemParts). Ok (x, rest)) (sym now_is))))
+          if_false (is_some s.objects) _ _ ((none_iff s.objects).1 none) ∙ bind_again (list_at kinds.Word wants.Name first) _ (found, rest) _ (list_complete kinds.Word wants.Name first rest found words_listed is) (ap (λ (x : ProblemParts). Ok (x, rest)) (sym now_is))))
       | inr (inr (inr (inl ((found, at, none, is, now_is))))) ↦
           behind_more s ts now rest (no_init_yet s none) (behind_key (problem_key unlimited s) (codes ":init") ts first rest now at (facts_less first rest found is) (λ t.
-          if_false (is_some s.init) _ _ (none_is s.init none) ∙ bind_again (facts_at first) _ (found, rest) _ (facts_complete first rest found is) (ap (λ (x : ProblemParts). Ok (x, rest)) (sym now_is))))
+          if_false (is_some s.init) _ _ ((none_iff s.init).1 none) ∙ bind_again (facts_at first) _ (found, rest) _ (facts_complete first rest found is) (ap (λ (x : ProblemParts). Ok (x, rest)) (sym now_is))))
       | inr (inr (inr (inr (inl ((found, last, at, none, is, closes, now_is)))))) ↦
           behind_more s ts now rest (no_goal_yet s none) (behind_key (problem_key unlimited s) (codes ":goal") ts first rest now at (let one : length last < length first = (cond_complete false (length first) [] first found last is).2 in let two : length rest < length last = takes_less kinds.Close last closes.0 rest closes.1 in omega arith) (λ t.
-          if_false (is_some s.goal) _ _ (none_is s.goal none) ∙ bind_again (cond_at false (length first) [] first) _ (found, last) _ (cond_complete false (length first) [] first found last is).1
+          if_false (is_some s.goal) _ _ ((none_iff s.goal).1 none) ∙ bind_again (cond_at false (length first) [] first) _ (found, last) _ (cond_complete false (length first) [] first found last is).1
           (bind_again (need kinds.Close wants.Close last) _ rest _ (takes_need kinds.Close wants.Close last closes.0 rest closes.1) (ap (λ (x : ProblemParts). Ok (x, rest)) (sym now_is)))))
       | inr (inr (inr (inr (inr ((place, word, last, at, none, minimize, total, closes, now_is)))))) ↦
           behind_more s ts now rest (no_metric_yet s none) (behind_key (problem_key unlimited s) (codes ":metric") ts first rest now at (let one : length word < length first = takes_less kinds.Word first minimize.0 word minimize.1 in let two : length last < length word = total_less word last place total in let three : length rest < length last = takes_less kinds.Close last closes.0 rest closes.1 in omega arith) (λ t.
-          if_false (is_some s.metric) _ _ (none_is s.metric none) ∙ bind_again (only_word (codes "minimize") left.Metric first) _ word _ (only_complete (codes "minimize") left.Metric first word minimize)
+          if_false (is_some s.metric) _ _ ((none_iff s.metric).1 none) ∙ bind_again (only_word (codes "minimize") left.Metric first) _ word _ (only_complete (codes "minimize") left.Metric first word minimize)
           (bind_again (total_cost_at word) _ (place, last) _ (total_complete word last place total) (bind_again (need kinds.Close wants.Close last) _ rest _ (takes_need kinds.Close wants.Close last closes.0 rest closes.1) (ap (λ (x : ProblemParts). Ok (x, rest)) (sym now_is))))))
     ]

@@ -2,19 +2,33 @@
 use Rattle.std.proofs.Common.{◌≡◌, ◌≢◌, ℕ, List, Result, Ok, Err, sym, subst, ◌∙◌}
 use Rattle.std.specs.Prelude.{IfOk, IfErr}
 use Rattle.pb_pddl.specs.declared.token.Token.{Token}
+use Rattle.pb_pddl.specs.declared.tree.Domain.{Domain}
+use Rattle.pb_pddl.specs.declared.tree.Problem.{Problem}
 use Rattle.pb_pddl.specs.declared.error.SyntaxError.{SyntaxError}
 use Rattle.pb_pddl.specs.declared.error.SyntaxError.TheVariants as errors
 use Rattle.pb_pddl.specs.Tokens.{TextTokens}
-use Rattle.pb_pddl.specs.Reading.{Gives}
+use Rattle.pb_pddl.specs.Reading.{Gives, domain_at, problem_at, unlimited}
 use Rattle.pb_pddl.specs.Places.{IsFault}
-use Rattle.pb_pddl.specs.Trees.{IsRead, FirstFault}
+use Rattle.pb_pddl.specs.Readings.{domain_reading, problem_reading}
+use Rattle.pb_pddl.specs.Trees.{IsRead, FirstFault, SpellsDomain, SpellsProblem}
 use Rattle.pb_pddl_laws.specs.Table.{Symbol, IsTold, ToldFault}
+use Rattle.pb_pddl_laws.proofs.FormsRead.{domain_again, problem_again}
+use Rattle.pb_pddl_laws.proofs.TokensOf.{tokens_are_unique}
 
 abbrev fails : {X : Type 0} → SyntaxError → Result X SyntaxError
 fails e = Err e
 
 err_ok : {X : Type 0} (e : SyntaxError) (x : X) → Ok x ≡ fails e → ⊥
 err_ok e x clash = cc
+
+-- what a text spells is read of it
+pub domain_is_read : (text : List ℕ) (domain : Domain) → SpellsDomain text domain → domain_reading text ≡ Ok domain
+unfolding domain_reading
+domain_is_read text domain (ts, are, is) = subst (λ (us : List Token). domain_at unlimited us ≡ Ok domain) (tokens_are_unique text ts are) (domain_again ts domain is)
+
+pub problem_is_read : (text : List ℕ) (problem : Problem) → SpellsProblem text problem → problem_reading text ≡ Ok problem
+unfolding problem_reading
+problem_is_read text problem (ts, are, is) = subst (λ (us : List Token). problem_at unlimited us ≡ Ok problem) (tokens_are_unique text ts are) (problem_again ts problem is)
 
 module _ {X : Type 0} (reading : List Token → Result X SyntaxError) (Is : List Token → X → Type 0) (text : List ℕ) where
   abbrev Spelled : X → Type 0
