@@ -3,6 +3,7 @@ use Rattle.std.proofs.Common.{◌≡◌, ◌≤◌, ℕ, zero, suc, Bool, true, 
 use Rattle.std.specs.Prelude.{is_none}
 use Rattle.std.specs.Str.{bytes_eq}
 use Rattle.std.proofs.lemmas.Bool.Decides.{nat_tests}
+use Rattle.std.proofs.lemmas.Slice.Eq.{bytes_eq-Decides}
 use Rattle.pb_pddl.specs.declared.tree.Name.{Name}
 use Rattle.pb_pddl.specs.declared.tree.Typed.{Typed}
 use Rattle.pb_pddl.specs.declared.tree.Term.{Term}
@@ -24,7 +25,6 @@ use Rattle.pb_lifted.specs.Typing.{ArgumentsFit, AtomFits, IsRooted, KindIsKnown
 use Rattle.pb_lifted.proofs.Faultless.{both_nil, all_nil, AllFaultless, not_refused}
 use Rattle.pb_lifted.proofs.FittingCosts.{all_declared, none_again, all_in_range, none_zero}
 use Rattle.pb_lifted.proofs.DistinctNames.{none_twice, no_constant_twice, no_object_twice}
-use Rattle.pb_lifted.proofs.TypeTree.{same_text, self_text}
 use Rattle.pb_lifted.proofs.NamesUp.{object_is_reached}
 use Rattle.pb_lifted.proofs.WellTyped.{NoneIn}
 
@@ -56,8 +56,8 @@ not_cyclic : (types : List Typed) (t : Typed) → IsRooted types t → is_cyclic
 not_cyclic types t rooted = at (is_object (name_text t)) refl
   where
     at : (b : Bool) → is_object (name_text t) ≡ b → cond b (not (is_object (kind_text t))) (not (is_object (ancestor types (height types) (name_text t)))) ≡ false
-    at true e = ap not (ap is_object (rooted.root (same_text (name_text t) object e)) ∙ self_text object)
-    at false e = ap not (object_is_reached types rooted.steps (name_text t) (ap is_object rooted.up ∙ self_text object))
+    at true e = ap not (ap is_object (rooted.root ((bytes_eq-Decides (name_text t) object).0 e)) ∙ (bytes_eq-Decides object object).1 refl)
+    at false e = ap not (object_is_reached types rooted.steps (name_text t) (ap is_object rooted.up ∙ (bytes_eq-Decides object object).1 refl))
 
 none_cyclic : (types : List Typed) → All (IsRooted types) types → cyclic_types types ≡ []
 none_cyclic types all =
@@ -166,7 +166,7 @@ in_no_problem domain problem typed =
 same_domain : (domain : Domain) (problem : Problem) → IsWellTyped domain problem → refusals.in_problem causes.DomainName domain problem ≡ []
 same_domain domain problem typed =
     faultless_if (not (bytes_eq problem.domain.text domain.name.text)) problem.domain.at
-    (ap not (ap (λ t. bytes_eq t domain.name.text) typed.same_domain ∙ self_text domain.name.text))
+    (ap not (ap (λ t. bytes_eq t domain.name.text) typed.same_domain ∙ (bytes_eq-Decides domain.name.text domain.name.text).1 refl))
 
 none_declared_twice : (domain : Domain) (problem : Problem) → IsWellTyped domain problem → refusals.in_domain causes.Twice domain problem ≡ []
 none_declared_twice domain problem typed =

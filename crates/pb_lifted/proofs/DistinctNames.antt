@@ -3,6 +3,7 @@ use Rattle.std.proofs.Common.{◌≡◌, ◌<◌, ◌+◌, ℕ, zero, suc, Bool,
 use Rattle.std.specs.Str.{bytes_eq}
 use Rattle.std.proofs.lemmas.Bool.Decides.{nat_tests}
 use Rattle.std.proofs.lemmas.List.{append-nil, append_assoc, map-append, length_push}
+use Rattle.std.proofs.lemmas.Slice.Eq.{bytes_eq-Decides}
 use Rattle.pb_pddl.specs.declared.tree.Name.{Name}
 use Rattle.pb_pddl.specs.declared.tree.Typed.{Typed}
 use Rattle.pb_lifted.specs.Names.{number_of, is_among, repeated, fault_if}
@@ -11,7 +12,6 @@ use Rattle.pb_lifted.specs.Refusals.{typed_name}
 use Rattle.pb_lifted.specs.Facts.{name_at}
 use Rattle.pb_lifted.specs.Typing.{AreDistinct}
 use Rattle.pb_lifted.proofs.Numbering.{or_else, number_added, absent_is}
-use Rattle.pb_lifted.proofs.TypeTree.{self_text}
 use Rattle.pb_lifted.proofs.Faultless.{nil_left, nil_right, both_nil, no_fault}
 
 front_name : (names more : List (List ℕ)) (i : ℕ) → i < length names → name_at (names ++ more) i ≡ name_at names i
@@ -35,7 +35,7 @@ one_more names name each new i less = at (nat_lt i (length names)) refl
     last =
         ap (λ t. number_of t (names ++ name ∷ [])) (last_name names name) ∙ number_added name name names
         ∙ ap (λ n. or_else n (cond (bytes_eq name name) (Some (length names)) None)) (absent_is name names (ap not new))
-        ∙ ap (λ b. cond b (Some (length names)) None) (self_text name)
+        ∙ ap (λ b. cond b (Some (length names)) None) ((bytes_eq-Decides name name).1 refl)
 
     at : (b : Bool) → nat_lt i (length names) ≡ b → number_of (name_at (names ++ name ∷ []) i) (names ++ name ∷ []) ≡ Some i
     at true e = let l : i < length names = grind (arith, nat_tests) in old l

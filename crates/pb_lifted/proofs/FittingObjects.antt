@@ -2,6 +2,7 @@
 use Rattle.std.proofs.Common.{◌≡◌, ◌<◌, ℕ, zero, suc, true, Some, List, [], ◌∷◌, length, map, get_or, All, refl, sym, ap, ◌∙◌, subst, arith}
 use Rattle.std.specs.List.{slice_get}
 use Rattle.std.proofs.lemmas.List.{length-map}
+use Rattle.std.proofs.lemmas.Option.{slice_get-get_or}
 use Rattle.pb_pddl.specs.declared.tree.Typed.{Typed}
 use Rattle.pb_pddl.specs.declared.tree.Domain.{Domain}
 use Rattle.pb_pddl.specs.declared.tree.Problem.{Problem}
@@ -22,11 +23,6 @@ use Rattle.pb_lifted.proofs.KnownNames.{fitting_among}
 use Rattle.pb_lifted.proofs.TwinAtoms.{number_below}
 
 -- ---- elements of lists
-
-pub there_at : {A : Type 0} (xs : List A) (i : ℕ) → i < length xs → (x : A) × (slice_get xs i ≡ Some x)
-there_at [] i less = absurd (omega arith)
-there_at (x ∷ xs) zero less = (x, refl)
-there_at (x ∷ xs) (suc i) less = there_at xs i (omega arith)
 
 pub holds_at : {A : Type 0} (P : A → Type 0) (xs : List A) (i : ℕ) (x : A) → All P xs → slice_get xs i ≡ Some x → P x
 holds_at P [] i x all h = cc
@@ -61,7 +57,7 @@ Placed domain problem param i =
 placed : (domain : Domain) (problem : Problem) → AreDistinct (object_names domain problem) → All (KindIsKnown domain.types) (objects_of domain problem) → (param : Typed)
     → KindIsKnown domain.types param → (i : ℕ) → i < length (object_names domain problem) → Placed domain problem param i
 placed domain problem distinct kinds param known i less =
-    at (there_at (objects_of domain problem) i (let n : length (object_names domain problem) ≡ length (objects_of domain problem) = length-map (objects_of domain problem) name_text in omega arith))
+    at (get_or (objects_of domain problem) i param, slice_get-get_or (objects_of domain problem) i param (let n : length (object_names domain problem) ≡ length (objects_of domain problem) = length-map (objects_of domain problem) name_text in omega arith))
   where
     types : List (List ℕ)
     types = type_names domain.types
@@ -83,7 +79,7 @@ placed domain problem distinct kinds param known i less =
           (sym (index_mapped (λ t. number (kind_text t) types) (objects_of domain problem) i entry e)),
     )
 
-count_is : (domain : Domain) (problem : Problem) → length (lifted_of domain problem).objects ≡ length (object_names domain problem)
+pub count_is : (domain : Domain) (problem : Problem) → length (lifted_of domain problem).objects ≡ length (object_names domain problem)
 count_is domain problem =
     length-map (objects_of domain problem) (λ t. number (kind_text t) (type_names domain.types)) ∙ sym (length-map (objects_of domain problem) name_text)
 

@@ -1,5 +1,6 @@
 -- The first refusal, cause by cause.
-use Rattle.std.proofs.Common.{◌≡◌, ◌<◌, ◌+◌, ℕ, zero, suc, Option, Some, None, List, [], ◌∷◌, length, drop, get_or, refl, sym, ap, ◌∙◌, arith}
+use Rattle.std.proofs.Common.{◌≡◌, ◌<◌, ◌+◌, ℕ, Option, Some, None, List, length, drop, get_or, sym, ap, ◌∙◌}
+use Rattle.std.proofs.lemmas.List.{get_or_default}
 use Rattle.pb_pddl.specs.declared.tree.Domain.{Domain}
 use Rattle.pb_pddl.specs.declared.tree.Problem.{Problem}
 use Rattle.pb_lifted.specs.declared.refusal.Cause.{Cause}
@@ -9,15 +10,10 @@ use Rattle.pb_lifted.specs.declared.refusal.TypingRefusal.TheVariants.{Named}
 use Rattle.pb_lifted.specs.Refusals.{or_refusal, first_place, first_among}
 use Rattle.pb_lifted.proofs.Earliest.{dropped}
 
-any_default : {A : Type 0} (xs : List A) (i : ℕ) (d e : A) → i < length xs → get_or xs i d ≡ get_or xs i e
-any_default [] i d e less = absurd (omega arith)
-any_default (x ∷ xs) zero d e less = refl
-any_default (x ∷ xs) (suc i) d e less = any_default xs i d e (omega arith)
-
 one_on : (order : List Cause) (i : ℕ) (d : Cause) (domain : Domain) (problem : Problem) → i < length order
     → first_among (drop i order) domain problem ≡ or_refusal (get_or order i d) (first_place (get_or order i d) domain problem) (first_among (drop (i + 1) order) domain problem)
 one_on order i d domain problem less =
-    ap (λ (causes : List Cause). first_among causes domain problem) (dropped order (get_or order i d) i less (any_default order i d (get_or order i d) less))
+    ap (λ (causes : List Cause). first_among causes domain problem) (dropped order (get_or order i d) i less (get_or_default order i d (get_or order i d) less))
 
 -- a cause that has a place is the first, where none before it has
 pub told : (order : List Cause) (i : ℕ) (d : Cause) (domain : Domain) (problem : Problem) (place : Place) (all : Option TypingRefusal) → i < length order

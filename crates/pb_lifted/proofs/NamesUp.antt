@@ -3,13 +3,14 @@ use Rattle.std.proofs.Common.{◌≡◌, ◌+◌, ℕ, zero, suc, Bool, true, fa
 use Rattle.std.proofs.lemmas.Bool.{or_right, or_left}
 use Rattle.std.specs.Str.{bytes_eq}
 use Rattle.std.proofs.lemmas.List.{length-map}
+use Rattle.std.proofs.lemmas.Slice.Eq.{bytes_eq-Decides}
 use Rattle.pb_pddl.specs.declared.tree.Typed.{Typed}
 use Rattle.pb_lifted.specs.Names.{number_of}
 use Rattle.pb_lifted.specs.Types.{object, kind_text, type_names, is_object, above_in, above, ancestor, height, is_within, is_below}
 use Rattle.pb_lifted.specs.Tree.{parent_numbers, comes_to}
 use Rattle.pb_lifted.specs.Lifted.{number}
 use Rattle.pb_lifted.specs.WaysUp.{MoreStepsChangeNothing, ObjectIsReached, BelowIsTransitive}
-use Rattle.pb_lifted.proofs.TypeTree.{same_text, within_is, within_unknown, within_object, above_unknown}
+use Rattle.pb_lifted.proofs.TypeTree.{within_is, within_unknown, within_object, above_unknown}
 use Rattle.pb_lifted.proofs.FarEnough.{more_steps_of_numbers_change_nothing}
 
 pub more_steps_change_nothing : MoreStepsChangeNothing
@@ -77,7 +78,7 @@ object_is_reached types n text h = ancestor_within types (height types) text ∙
 -- ---- one way up, and then another
 
 chain : (types : List Typed) (m n : ℕ) (low middle high : List ℕ) → is_within types m low middle ≡ true → is_within types n middle high ≡ true → is_within types (m + n) low high ≡ true
-chain types zero n low middle high p q = within_more types zero n low high (ap (λ t. is_within types n t high) (same_text low middle p) ∙ q)
+chain types zero n low middle high p q = within_more types zero n low high (ap (λ t. is_within types n t high) ((bytes_eq-Decides low middle).0 p) ∙ q)
 chain types (suc m) n low middle high p q = at (chain types m n (above types low) middle high) (bytes_eq low middle) refl p
   where
     more : suc m + n ≡ suc (m + n)
@@ -85,7 +86,7 @@ chain types (suc m) n low middle high p q = at (chain types m n (above types low
 
     at : (is_within types m (above types low) middle ≡ true → is_within types n middle high ≡ true → is_within types (m + n) (above types low) high ≡ true) → (b : Bool) → bytes_eq low middle ≡ b
         → (b || is_within types m (above types low) middle) ≡ true → is_within types (suc m + n) low high ≡ true
-    at rest true e p = within_more types (suc m) n low high (ap (λ t. is_within types n t high) (same_text low middle e) ∙ q)
+    at rest true e p = within_more types (suc m) n low high (ap (λ t. is_within types n t high) ((bytes_eq-Decides low middle).0 e) ∙ q)
     at rest false e p = ap (λ k. is_within types k low high) more ∙ or_right (bytes_eq low high) (is_within types (m + n) (above types low) high) (rest p q)
 
 pub below_is_transitive : BelowIsTransitive

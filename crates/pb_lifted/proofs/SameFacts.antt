@@ -1,6 +1,7 @@
 -- An atom by numbers stands for the fact that it stands for by names.
 use Rattle.std.proofs.Common.{◌≡◌, ◌∷◌, ℕ, suc, Bool, true, false, cond, Option, Some, None, option_map, List, [], length, map, refl, sym, ap, ◌∙◌, get_or, arith}
 use Rattle.std.specs.Str.{bytes_eq}
+use Rattle.std.proofs.lemmas.Slice.Eq.{bytes_eq-Decides}
 use Rattle.pb_pddl.specs.declared.tree.Typed.{Typed}
 use Rattle.pb_pddl.specs.declared.tree.Term.{Term}
 use Rattle.pb_pddl.specs.declared.tree.Term.TheVariants.{Object, Variable}
@@ -9,7 +10,7 @@ use Rattle.pb_lifted.specs.Types.{name_text}
 use Rattle.pb_lifted.specs.Lifted.{number, argument_of, arguments_of}
 use Rattle.pb_lifted.specs.Space.{Fact, given_to, object_of}
 use Rattle.pb_lifted.specs.Facts.{name_at, value_of, IsKnown, AreKnown, NumbersKeepFacts}
-use Rattle.pb_lifted.proofs.TypeTree.{known_number, same_text}
+use Rattle.pb_lifted.proofs.TypeTree.{known_number}
 
 -- the name of a name's number
 pub named_again : (text : List ℕ) (names : List (List ℕ)) (n : ℕ) → number_of text names ≡ Some n → name_at names n ≡ text
@@ -18,7 +19,7 @@ named_again text (name ∷ names) n h = at (bytes_eq text name) refl (number_of 
   where
     at : (here : Bool) → bytes_eq text name ≡ here → (m : Option ℕ) → number_of text names ≡ m → ((k : ℕ) → number_of text names ≡ Some k → name_at names k ≡ text)
         → cond here (Some 0) (option_map suc m) ≡ Some n → name_at (name ∷ names) n ≡ text
-    at true e m f rest h = let n_is : n ≡ 0 = cc in rw n_is (sym (same_text text name e))
+    at true e m f rest h = let n_is : n ≡ 0 = cc in rw n_is (sym ((bytes_eq-Decides text name).0 e))
     at false e None f rest h = cc
     at false e (Some k) f rest h = let n_is : n ≡ suc k = cc in rw n_is (rest k f)
 

@@ -1,9 +1,10 @@
 -- Facts by names and by numbers, and the states that they hold in.
 use Rattle.std.proofs.Common.{◌≡◌, ℕ, Bool, true, false, not, ◌&&◌, ◌||◌, nat_eq, List, [], ◌∷◌, map, refl, sym, ap, ◌∙◌}
-use Rattle.std.proofs.lemmas.Bool.{and_from}
+use Rattle.std.proofs.lemmas.Bool.{and_from, and_parts}
 use Rattle.std.specs.List.{list_all}
 use Rattle.std.specs.Str.{bytes_eq}
 use Rattle.std.specs.Cmp.Lexicographic.{pointwise}
+use Rattle.std.proofs.lemmas.Slice.Eq.{bytes_eq-Decides}
 use Rattle.pb_pddl.specs.declared.tree.Domain.{Domain}
 use Rattle.pb_pddl.specs.declared.tree.Problem.{Problem}
 use Rattle.pb_lifted.specs.Names.{is_among}
@@ -11,15 +12,7 @@ use Rattle.pb_lifted.specs.Lifted.{number}
 use Rattle.pb_lifted.specs.Space.{Fact, State, same_fact, is_fact_in, AllHold, after}
 use Rattle.pb_lifted.specs.Typing.{object_names, predicate_names}
 use Rattle.pb_lifted.specs.Steps.{GroundFact, GroundState, same_ground, is_ground_in, AllGroundHold, ground_after, is_of_task, by_number, IsSameState}
-use Rattle.pb_lifted.proofs.TypeTree.{same_text, same_number, known_number}
-
-pub and_left : (a b : Bool) → (a && b) ≡ true → a ≡ true
-and_left true b h = refl
-and_left false b h = h
-
-pub and_right : (a b : Bool) → (a && b) ≡ true → b ≡ true
-and_right true b h = h
-and_right false b h = cc
+use Rattle.pb_lifted.proofs.TypeTree.{same_number, known_number}
 
 abbrev pub are_among : List (List ℕ) → List (List ℕ) → Bool
 are_among names texts = list_all (λ o. is_among o names) texts
@@ -33,10 +26,10 @@ same_objects names [] (y ∷ ys) a b = refl
 same_objects names (x ∷ xs) [] a b = refl
 same_objects names (x ∷ xs) (y ∷ ys) a b =
     ap (λ c. c && pointwise bytes_eq xs ys)
-    (same_number names x y (number x names) (number y names) (known_number x names (and_left (is_among x names) (are_among names xs) a))
-    (known_number y names (and_left (is_among y names) (are_among names ys) b)))
+    (same_number names x y (number x names) (number y names) (known_number x names (and_parts (is_among x names) (are_among names xs) a).0)
+    (known_number y names (and_parts (is_among y names) (are_among names ys) b).0))
     ∙ ap (λ c. nat_eq (number x names) (number y names) && c)
-    (same_objects names xs ys (and_right (is_among x names) (are_among names xs) a) (and_right (is_among y names) (are_among names ys) b))
+    (same_objects names xs ys (and_parts (is_among x names) (are_among names xs) a).1 (and_parts (is_among y names) (are_among names ys) b).1)
 
 -- facts of the task are one where their numbers are
 same_is : (domain : Domain) (problem : Problem) (f g : Fact) → is_of_task domain problem f ≡ true → is_of_task domain problem g ≡ true
@@ -44,19 +37,19 @@ same_is : (domain : Domain) (problem : Problem) (f g : Fact) → is_of_task doma
 same_is domain problem f g a b =
     ap (λ c. c && pointwise bytes_eq f.objects g.objects)
     (same_number (predicate_names domain) f.predicate g.predicate (number f.predicate (predicate_names domain)) (number g.predicate (predicate_names domain))
-    (known_number f.predicate (predicate_names domain) (and_left _ (are_among (object_names domain problem) f.objects) a))
-    (known_number g.predicate (predicate_names domain) (and_left _ (are_among (object_names domain problem) g.objects) b)))
+    (known_number f.predicate (predicate_names domain) ((and_parts _ (are_among (object_names domain problem) f.objects) a).0))
+    (known_number g.predicate (predicate_names domain) ((and_parts _ (are_among (object_names domain problem) g.objects) b).0)))
     ∙ ap (λ c. nat_eq (number f.predicate (predicate_names domain)) (number g.predicate (predicate_names domain)) && c)
-    (same_objects (object_names domain problem) f.objects g.objects (and_right (is_among f.predicate (predicate_names domain)) _ a)
-    (and_right (is_among g.predicate (predicate_names domain)) _ b))
+    (same_objects (object_names domain problem) f.objects g.objects ((and_parts (is_among f.predicate (predicate_names domain)) _ a).1)
+    ((and_parts (is_among g.predicate (predicate_names domain)) _ b).1))
 
 same_texts : (xs ys : List (List ℕ)) → pointwise bytes_eq xs ys ≡ true → xs ≡ ys
 same_texts [] [] h = refl
 same_texts [] (y ∷ ys) h = cc
 same_texts (x ∷ xs) [] h = cc
 same_texts (x ∷ xs) (y ∷ ys) h =
-    ap (λ z. z ∷ xs) (same_text x y (and_left (bytes_eq x y) (pointwise bytes_eq xs ys) h))
-    ∙ ap (λ zs. y ∷ zs) (same_texts xs ys (and_right (bytes_eq x y) (pointwise bytes_eq xs ys) h))
+    ap (λ z. z ∷ xs) ((bytes_eq-Decides x y).0 (and_parts (bytes_eq x y) (pointwise bytes_eq xs ys) h).0)
+    ∙ ap (λ zs. y ∷ zs) (same_texts xs ys (and_parts (bytes_eq x y) (pointwise bytes_eq xs ys) h).1)
 
 -- another fact is none of the task's
 other_is : (domain : Domain) (problem : Problem) (f g : Fact) → is_of_task domain problem f ≡ false → is_of_task domain problem g ≡ true → same_fact f g ≡ false
@@ -65,8 +58,8 @@ other_is domain problem f g a b = at (same_fact f g) refl
     at : (c : Bool) → same_fact f g ≡ c → c ≡ false
     at false e = refl
     at true e =
-        let predicates : f.predicate ≡ g.predicate = same_text f.predicate g.predicate (and_left (bytes_eq f.predicate g.predicate) (pointwise bytes_eq f.objects g.objects) e) in
-        let objects : f.objects ≡ g.objects = same_texts f.objects g.objects (and_right (bytes_eq f.predicate g.predicate) (pointwise bytes_eq f.objects g.objects) e) in
+        let predicates : f.predicate ≡ g.predicate = (bytes_eq-Decides f.predicate g.predicate).0 (and_parts (bytes_eq f.predicate g.predicate) (pointwise bytes_eq f.objects g.objects) e).0 in
+        let objects : f.objects ≡ g.objects = same_texts f.objects g.objects (and_parts (bytes_eq f.predicate g.predicate) (pointwise bytes_eq f.objects g.objects) e).1 in
         let one : is_of_task domain problem f ≡ is_of_task domain problem g =
         ap (λ p. is_among p (predicate_names domain) && are_among (object_names domain problem) f.objects) predicates
         ∙ ap (λ os. is_among g.predicate (predicate_names domain) && are_among (object_names domain problem) os) objects in
@@ -108,7 +101,7 @@ hold_by_numbers domain problem now state [] [] same twins hold = tt
 hold_by_numbers domain problem now state [] (g ∷ grounds) same twins hold = absurd twins
 hold_by_numbers domain problem now state (f ∷ facts) [] same twins hold = absurd twins
 hold_by_numbers domain problem now state (f ∷ facts) (g ∷ grounds) same twins hold = (
-  ap now (sym twins.0.1) ∙ and_right (is_of_task domain problem f) (now (by_number domain problem f)) (sym (same f) ∙ hold.0),
+  ap now (sym twins.0.1) ∙ (and_parts (is_of_task domain problem f) (now (by_number domain problem f)) (sym (same f) ∙ hold.0)).1,
   hold_by_numbers domain problem now state facts grounds same twins.1 hold.1,
 )
 

@@ -2,7 +2,8 @@
 use Rattle.std.proofs.Common.{◌≡◌, ◌<◌, ℕ, zero, suc, Bool, true, false, cond, not, ◌||◌, nat_eq, Option, Some, None, is_some, option_map, unwrap_or, List, [], ◌∷◌, ◌++◌, length, map, refl, sym, ap, ◌∙◌, arith, get_or}
 use Rattle.std.proofs.Math.Bool.{or_self}
 use Rattle.std.specs.Str.{bytes_eq}
-use Rattle.std.proofs.lemmas.Bool.Decides.{nat_tests}
+use Rattle.std.proofs.lemmas.Bool.{false_from_ne_true}
+use Rattle.std.proofs.lemmas.Bool.Decides.{nat_tests, same_from_decides, Decides-like}
 use Rattle.std.proofs.lemmas.Slice.Eq.{bytes_eq-Decides}
 use Rattle.pb_pddl.specs.declared.tree.Name.{Name}
 use Rattle.pb_pddl.specs.declared.tree.Typed.{Typed}
@@ -11,25 +12,10 @@ use Rattle.pb_lifted.specs.Types.{object, name_text, kind_or, kind_text, kind_na
 use Rattle.pb_lifted.specs.Tree.{parent_numbers, climb, comes_to, does_not_lead}
 use Rattle.pb_lifted.proofs.Numbering.{among_number}
 
-pub same_text : (a b : List ℕ) → bytes_eq a b ≡ true → a ≡ b
-same_text a b e = (bytes_eq-Decides a b).0 e
-
-pub self_text : (a : List ℕ) → bytes_eq a a ≡ true
-self_text a = (bytes_eq-Decides a a).1 refl
-
-pub other_text : (a b : List ℕ) → (a ≡ b → ⊥) → bytes_eq a b ≡ false
-other_text a b apart = at (bytes_eq a b) refl
-  where
-    at : (c : Bool) → bytes_eq a b ≡ c → c ≡ false
-    at true e = absurd (apart (same_text a b e))
-    at false e = refl
-
 pub swap_text : (a b : List ℕ) → bytes_eq a b ≡ bytes_eq b a
-swap_text a b = at (bytes_eq a b) refl
-  where
-    at : (c : Bool) → bytes_eq a b ≡ c → c ≡ bytes_eq b a
-    at true e = let same : a ≡ b = same_text a b e in sym ((bytes_eq-Decides b a).1 (sym same))
-    at false e = sym (other_text b a (λ same. let t : bytes_eq a b ≡ true = (bytes_eq-Decides a b).1 (sym same) in cc))
+swap_text a b =
+    same_from_decides (bytes_eq a b) (bytes_eq b a) (bytes_eq-Decides a b)
+    (Decides-like (bytes_eq b a) (λ (same : b ≡ a). sym same) (λ (same : a ≡ b). sym same) (bytes_eq-Decides b a))
 
 -- ---- numbers of names
 
@@ -46,16 +32,16 @@ same_number (x ∷ names) a b i j p q = at (bytes_eq a x) (bytes_eq b x) refl re
         → is_then here m ≡ Some i → is_then there n ≡ Some j → bytes_eq a b ≡ nat_eq i j
     at true true e f m n g h rest p q =
         let i_is : i ≡ 0 = cc in let j_is : j ≡ 0 = cc in
-        let ab : a ≡ b = same_text a x e ∙ sym (same_text b x f) in
+        let ab : a ≡ b = (bytes_eq-Decides a x).0 e ∙ sym ((bytes_eq-Decides b x).0 f) in
         (bytes_eq-Decides a b).1 ab ∙ rw (i_is, j_is) refl
     at true false e f m None g h rest p q = cc
     at true false e f m (Some l) g h rest p q =
         let i_is : i ≡ 0 = cc in let j_is : j ≡ suc l = cc in
-        other_text a b (λ same. let t : bytes_eq b x ≡ true = (bytes_eq-Decides b x).1 (sym same ∙ same_text a x e) in cc) ∙ rw (i_is, j_is) (grind (arith, nat_tests))
+        false_from_ne_true (bytes_eq a b) (λ alike. let same : a ≡ b = (bytes_eq-Decides a b).0 alike in let t : bytes_eq b x ≡ true = (bytes_eq-Decides b x).1 (sym same ∙ (bytes_eq-Decides a x).0 e) in cc) ∙ rw (i_is, j_is) (grind (arith, nat_tests))
     at false true e f None n g h rest p q = cc
     at false true e f (Some k) n g h rest p q =
         let i_is : i ≡ suc k = cc in let j_is : j ≡ 0 = cc in
-        other_text a b (λ same. let t : bytes_eq a x ≡ true = (bytes_eq-Decides a x).1 (same ∙ same_text b x f) in cc) ∙ rw (i_is, j_is) (grind (arith, nat_tests))
+        false_from_ne_true (bytes_eq a b) (λ alike. let same : a ≡ b = (bytes_eq-Decides a b).0 alike in let t : bytes_eq a x ≡ true = (bytes_eq-Decides a x).1 (same ∙ (bytes_eq-Decides b x).0 f) in cc) ∙ rw (i_is, j_is) (grind (arith, nat_tests))
     at false false e f None n g h rest p q = cc
     at false false e f (Some k) None g h rest p q = cc
     at false false e f (Some k) (Some l) g h rest p q =
@@ -99,7 +85,7 @@ kinds_known_in names (t ∷ types) all root =
   where
     at : (kind : Option Name) → ((q : List ℕ) → is_among q (kind_names kind ++ kinds_of types) ≡ true → is_among q names ≡ true) → is_among (kind_or kind) names ≡ true
     at None all = root
-    at (Some kind) all = all kind.text (among_append kind.text (kind.text ∷ []) (kinds_of types) (ap (λ b. b || false) (self_text kind.text)))
+    at (Some kind) all = all kind.text (among_append kind.text (kind.text ∷ []) (kinds_of types) (ap (λ b. b || false) ((bytes_eq-Decides kind.text kind.text).1 refl)))
 
 pub kinds_known : (types : List Typed) → KindsKnown (type_names types) types
 kinds_known types = kinds_known_in (type_names types) types (λ q h. among_behind q (object ∷ map name_text types) (kinds_of types) h) refl
@@ -145,7 +131,7 @@ pub within_unknown : (types : List Typed) (n : ℕ) (q high : List ℕ) (i : ℕ
 within_unknown types n q high i a b = by n q i a
   where
     apart : (q : List ℕ) (i : ℕ) → number_of q (type_names types) ≡ Some i → bytes_eq q high ≡ false
-    apart q i a = other_text q high (λ same. let n : number_of q (type_names types) ≡ None = ap (λ t. number_of t (type_names types)) same ∙ b in cc)
+    apart q i a = false_from_ne_true (bytes_eq q high) (λ same. let n : number_of q (type_names types) ≡ None = ap (λ t. number_of t (type_names types)) ((bytes_eq-Decides q high).0 same) ∙ b in cc)
 
     by : (n : ℕ) (q : List ℕ) (i : ℕ) → number_of q (type_names types) ≡ Some i → is_within types n q high ≡ false
     by zero q i a = apart q i a
@@ -190,7 +176,7 @@ declared_number : (ks : List (List ℕ)) (types : List Typed) (t : Typed) (i : �
     → (j : ℕ) × (j < length types) × (number_of (name_text t) (map name_text types ++ ks) ≡ Some j)
 declared_number ks [] t i less is = absurd (omega arith)
 declared_number ks (first ∷ types) t zero less is =
-    (0, omega arith, ap (λ b. is_then b (number_of (name_text t) (map name_text types ++ ks))) (ap (λ u. bytes_eq (name_text t) (name_text u)) (sym is) ∙ self_text (name_text t)))
+    (0, omega arith, ap (λ b. is_then b (number_of (name_text t) (map name_text types ++ ks))) (ap (λ u. bytes_eq (name_text t) (name_text u)) (sym is) ∙ (bytes_eq-Decides (name_text t) (name_text t)).1 refl))
 declared_number ks (first ∷ types) t (suc i) less is = at (declared_number ks types t i (omega arith) is) (bytes_eq (name_text t) (name_text first)) refl
   where
     at : ((j : ℕ) × (j < length types) × (number_of (name_text t) (map name_text types ++ ks) ≡ Some j)) → (here : Bool) → bytes_eq (name_text t) (name_text first) ≡ here

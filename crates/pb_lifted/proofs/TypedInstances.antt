@@ -1,6 +1,7 @@
 -- What an action's instance speaks of is of its predicates' types.
 use Rattle.std.proofs.Common.{◌≡◌, ℕ, zero, suc, Bool, true, false, cond, Option, Some, None, unwrap_or, List, [], ◌∷◌, ◌++◌, map, get_or, All, refl, sym, ap, ◌∙◌, subst, arith}
 use Rattle.std.specs.List.{slice_get}
+use Rattle.std.proofs.lemmas.List.Elements.{All-cons}
 use Rattle.pb_pddl.specs.declared.tree.Typed.{Typed}
 use Rattle.pb_pddl.specs.declared.tree.Term.{Term}
 use Rattle.pb_pddl.specs.declared.tree.Term.TheVariants.{Object, Variable}
@@ -111,26 +112,22 @@ typed_atom domain problem params given atom typed kinds fit atom_fit =
           (holds_at (PredicateFits domain) domain.predicates n atom_fit.predicate typed.predicates there).params fit atom_fit.arguments;
     }
 
-all_cons : {A : Type 0} (P : A → Type 0) (x : A) (xs : List A) → P x → All P xs → All P (x ∷ xs)
-all_cons P x xs one rest zero d less = one
-all_cons P x xs one rest (suc k) d less = rest k d (omega arith)
-
 typed_atoms : (domain : Domain) (problem : Problem) (params : List Typed) (given : List ℕ) (atoms : List Atom) → IsWellTyped domain problem → All (KindIsKnown domain.types) params
     → AreFitting (lifted_of domain problem) (kind_numbers (type_names domain.types) params) given → All (AtomFits domain problem params) atoms
     → All (IsTyped (lifted_of domain problem)) (ground_all given (atoms_of (predicate_names domain) (object_names domain problem) (map name_text params) atoms))
 typed_atoms domain problem params given [] typed kinds fit all k d less = absurd (omega arith)
 typed_atoms domain problem params given (a ∷ atoms) typed kinds fit all k d less =
-    all_cons (IsTyped (lifted_of domain problem)) (ground given (atom_of (predicate_names domain) (object_names domain problem) (map name_text params) a))
+    All-cons (IsTyped (lifted_of domain problem)) (ground given (atom_of (predicate_names domain) (object_names domain problem) (map name_text params) a))
     (ground_all given (atoms_of (predicate_names domain) (object_names domain problem) (map name_text params) atoms))
     (typed_atom domain problem params given a typed kinds fit (all 0 a (omega arith)))
     (typed_atoms domain problem params given atoms typed kinds fit (λ j e l. all (suc j) e (omega arith))) k d less
 
 typed_if : (lifted : Lifted) (given : List ℕ) (wanted negated : Bool) (a : LiftedAtom) (atoms : List LiftedAtom) → IsTyped lifted (ground given a) → All (IsTyped lifted) (ground_all given atoms)
     → All (IsTyped lifted) (ground_all given (cond wanted (cond negated (a ∷ []) []) (cond negated [] (a ∷ [])) ++ atoms))
-typed_if lifted given true true a atoms one rest = all_cons (IsTyped lifted) (ground given a) (ground_all given atoms) one rest
+typed_if lifted given true true a atoms one rest = All-cons (IsTyped lifted) (ground given a) (ground_all given atoms) one rest
 typed_if lifted given true false a atoms one rest = rest
 typed_if lifted given false true a atoms one rest = rest
-typed_if lifted given false false a atoms one rest = all_cons (IsTyped lifted) (ground given a) (ground_all given atoms) one rest
+typed_if lifted given false false a atoms one rest = All-cons (IsTyped lifted) (ground given a) (ground_all given atoms) one rest
 
 typed_effect : (domain : Domain) (problem : Problem) (params : List Typed) (given : List ℕ) (negated : Bool) (effect : List Literal) → IsWellTyped domain problem
     → All (KindIsKnown domain.types) params → AreFitting (lifted_of domain problem) (kind_numbers (type_names domain.types) params) given

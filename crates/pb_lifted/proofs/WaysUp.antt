@@ -2,10 +2,11 @@
 use Rattle.std.proofs.Common.{◌≡◌, ◌<◌, ◌+◌, ◌/◌, ◌%◌, ℕ, zero, suc, Bool, false, ◌||◌, nat_eq, List, [], ◌∷◌, length, refl, sym, ap, ◌∙◌, arith, get_or}
 use Rattle.pb_lifted.specs.Tree.{climb, comes_to, followed}
 
--- above object there is object alone
-pub root_comes : (parents : List ℕ) (n j : ℕ) → get_or parents 0 0 ≡ 0 → nat_eq 0 j ≡ false → comes_to parents n 0 j ≡ false
-root_comes parents zero j root other = other
-root_comes parents (suc n) j root other = rw (root, other) (root_comes parents n j root other)
+-- above a number that is above itself there is no other
+pub stays : (parents : List ℕ) (n i j : ℕ) → get_or parents i 0 ≡ i → nat_eq i j ≡ false → comes_to parents n i j ≡ false
+stays parents zero i j same other = other
+stays parents (suc n) i j same other =
+    ap (λ b. b || comes_to parents n (get_or parents i 0) j) other ∙ (ap (λ k. comes_to parents n k j) same ∙ stays parents n i j same other)
 
 -- from another number the way goes on
 pub goes_up : (parents : List ℕ) (m n i j : ℕ) (all : Bool) → n ≡ suc m → nat_eq i j ≡ false → comes_to parents n i j ≡ all → comes_to parents m (get_or parents i 0) j ≡ all

@@ -4,6 +4,7 @@ use Rattle.std.proofs.lemmas.Bool.{not-false}
 use Rattle.std.specs.Prelude.{is_none}
 use Rattle.std.specs.Str.{bytes_eq}
 use Rattle.std.proofs.lemmas.Bool.Decides.{nat_tests}
+use Rattle.std.proofs.lemmas.Slice.Eq.{bytes_eq-Decides}
 use Rattle.pb_pddl.specs.declared.tree.Name.{Name}
 use Rattle.pb_pddl.specs.declared.tree.Typed.{Typed}
 use Rattle.pb_pddl.specs.declared.tree.Term.{Term}
@@ -25,7 +26,6 @@ use Rattle.pb_lifted.specs.Typing.{AreDistinct, object_names, PredicateFits, Arg
 use Rattle.pb_lifted.proofs.Faultless.{nil_left, nil_right, each_nil, no_fault, AllFaultless, faultless}
 use Rattle.pb_lifted.proofs.FittingCosts.{costs_fit}
 use Rattle.pb_lifted.proofs.DistinctNames.{objects_distinct, declared_once}
-use Rattle.pb_lifted.proofs.TypeTree.{same_text, self_text}
 
 -- ---- types
 
@@ -185,12 +185,12 @@ comes_to_object types t h = at (is_object (name_text t)) refl h
   where
     at : (b : Bool) → is_object (name_text t) ≡ b → cond b (not (is_object (kind_text t))) (not (is_object (ancestor types (height types) (name_text t)))) ≡ false → IsRooted types t
     at true e h =
-        record { steps = 0; up = same_text (name_text t) object e; root = λ _. same_text (kind_text t) object (not-false (is_object (kind_text t)) h) }
+        record { steps = 0; up = (bytes_eq-Decides (name_text t) object).0 e; root = λ _. (bytes_eq-Decides (kind_text t) object).0 (not-false (is_object (kind_text t)) h) }
     at false e h =
         record {
           steps = height types;
-          up = same_text (ancestor types (height types) (name_text t)) object (not-false (is_object (ancestor types (height types) (name_text t))) h);
-          root = λ same. let it_is : is_object (name_text t) ≡ true = ap is_object same ∙ self_text object in absurd (true≢false (sym it_is ∙ e));
+          up = (bytes_eq-Decides (ancestor types (height types) (name_text t)) object).0 (not-false (is_object (ancestor types (height types) (name_text t))) h);
+          root = λ same. let it_is : is_object (name_text t) ≡ true = ap is_object same ∙ (bytes_eq-Decides object object).1 refl in absurd (true≢false (sym it_is ∙ e));
         }
 
 rooted : (domain : Domain) (problem : Problem) → fault_free domain problem → All (IsRooted domain.types) domain.types
@@ -201,7 +201,7 @@ rooted domain problem free k d less =
 
 same_domain : (domain : Domain) (problem : Problem) → fault_free domain problem → problem.domain.text ≡ domain.name.text
 same_domain domain problem free =
-    same_text problem.domain.text domain.name.text
+    (bytes_eq-Decides problem.domain.text domain.name.text).0
     (not-false (bytes_eq problem.domain.text domain.name.text) (no_fault (not (bytes_eq problem.domain.text domain.name.text)) problem.domain.at free.0.1))
 
 pub accepted_is_well_typed : AcceptedIsWellTyped
