@@ -8,4 +8,3 @@ pub mod Products
 pub mod Rows
 pub mod Sorted
 pub mod Stepping
-pub mod WaysUp

@@ -1,6 +1,7 @@
 -- Which instances and which ground atoms there are.
 use Rattle.std.proofs.Common.{◌≡◌, ◌+◌, ◌<◌, ℕ, zero, suc, Bool, true, false, cond, ◌&&◌, ◌||◌, nat_eq, nat_lt, List, [], ◌∷◌, map, length, get_or, slice_get, refl, sym, ap, ◌∙◌, arith}
-use Rattle.std.proofs.Math.Bool.{or-false}
+use Rattle.std.proofs.Math.Bool.{or-false, and-false, and-or_distrib_left, and-or_distrib_right}
+use Rattle.std.proofs.lemmas.Bool.{eq-eqb, ne_eqb}
 use Rattle.std.proofs.lemmas.Bool.Decides.{nat_tests}
 use Rattle.std.proofs.lemmas.List.Folds.{list_any-append}
 use Rattle.std.specs.List.{list_any, flat_map}
@@ -15,17 +16,14 @@ use Rattle.pb_ground.specs.Steps.{is_in}
 
 -- ---- the objects that fit
 
-other_number : (n i : ℕ) → n < i → nat_eq n i ≡ false
-other_number n i h = grind (arith, nat_tests)
-
 -- no number below the first is among them
-none_before : (types : List ℕ) (wanted n i : ℕ) (kinds : List ℕ) → n < i → list_any (nat_eq n) (fitting_from types wanted i kinds) ≡ false
+pub none_before : (types : List ℕ) (wanted n i : ℕ) (kinds : List ℕ) → n < i → list_any (nat_eq n) (fitting_from types wanted i kinds) ≡ false
 none_before types wanted n i [] h = refl
 none_before types wanted n i (kind ∷ kinds) h = at (comes_to types (length types) kind wanted) (none_before types wanted n (suc i) kinds (omega arith))
   where
     at : (fits : Bool) → list_any (nat_eq n) (fitting_from types wanted (suc i) kinds) ≡ false
         → list_any (nat_eq n) (cond fits (i ∷ fitting_from types wanted (suc i) kinds) (fitting_from types wanted (suc i) kinds)) ≡ false
-    at true later = ap (λ b. b || list_any (nat_eq n) (fitting_from types wanted (suc i) kinds)) (other_number n i h) ∙ later
+    at true later = ap (λ b. b || list_any (nat_eq n) (fitting_from types wanted (suc i) kinds)) (ne_eqb n i (λ same. omega (arith, same, h))) ∙ later
     at false later = later
 
 below_none : (n : ℕ) → nat_lt n 0 ≡ false
@@ -37,19 +35,12 @@ none_below_more n = grind (arith, nat_tests)
 both_more : (k n : ℕ) → nat_lt (suc k) (suc n) ≡ nat_lt k n
 both_more k n = grind (arith, nat_tests)
 
-itself : (n i : ℕ) → n ≡ i → nat_eq n i ≡ true
-itself n i e = grind (arith, nat_tests)
-
-plain_and : (b : Bool) → b ≡ (b && true)
-plain_and true = refl
-plain_and false = refl
-
 -- the object that is k behind the first
 fits_at : (types : List ℕ) (wanted n i k : ℕ) (kinds : List ℕ) → n ≡ i + k
     → list_any (nat_eq n) (fitting_from types wanted i kinds) ≡ (nat_lt k (length kinds) && comes_to types (length types) (get_or kinds k 0) wanted)
 fits_at types wanted n i k [] e = ap (λ b. b && comes_to types (length types) (get_or [] k 0) wanted) (sym (below_none k))
 fits_at types wanted n i zero (kind ∷ kinds) e =
-    at (comes_to types (length types) kind wanted) (itself n i (omega arith)) (none_before types wanted n (suc i) kinds (omega arith))
+    at (comes_to types (length types) kind wanted) (eq-eqb n i (omega arith)) (none_before types wanted n (suc i) kinds (omega arith))
     ∙ ap (λ b. b && comes_to types (length types) kind wanted) (sym (none_below_more (length kinds)))
   where
     at : (fits : Bool) → nat_eq n i ≡ true → list_any (nat_eq n) (fitting_from types wanted (suc i) kinds) ≡ false
@@ -73,34 +64,20 @@ fitting_is lifted wanted object = fits_at lifted.types wanted object 0 object li
 
 -- ---- the choices
 
+-- rows that begin with a number aren't the empty one
+pub no_empty : (x : ℕ) (rows : List (List ℕ)) → list_any (bytes_eq []) (map (λ xs. x ∷ xs) rows) ≡ false
+no_empty x [] = refl
+no_empty x (row ∷ rows) = no_empty x rows
+
 pub no_choice_is_empty : (rest : List (List ℕ)) (first : List ℕ) → list_any (bytes_eq []) (flat_map (λ x. map (λ xs. x ∷ xs) rest) first) ≡ false
 no_choice_is_empty rest [] = refl
 no_choice_is_empty rest (x ∷ first) =
     list_any-append (bytes_eq []) (map (λ xs. x ∷ xs) rest) (flat_map (λ y. map (λ xs. y ∷ xs) rest) first)
-    ∙ (ap (λ b. b || list_any (bytes_eq []) (flat_map (λ y. map (λ xs. y ∷ xs) rest) first)) (none x rest) ∙ no_choice_is_empty rest first)
-  where
-    none : (x : ℕ) (lists : List (List ℕ)) → list_any (bytes_eq []) (map (λ xs. x ∷ xs) lists) ≡ false
-    none x [] = refl
-    none x (list ∷ lists) = none x lists
+    ∙ (ap (λ b. b || list_any (bytes_eq []) (flat_map (λ y. map (λ xs. y ∷ xs) rest) first)) (no_empty x rest) ∙ no_choice_is_empty rest first)
 
-spread : (a b c : Bool) → ((a && b) || (a && c)) ≡ (a && (b || c))
-spread true b c = refl
-spread false b c = refl
-
-nothing_and : (a : Bool) → false ≡ (a && false)
-nothing_and true = refl
-nothing_and false = refl
-
-with_first : (y x : ℕ) (ys : List ℕ) (rest : List (List ℕ)) → list_any (bytes_eq (y ∷ ys)) (map (λ xs. x ∷ xs) rest) ≡ (nat_eq y x && list_any (bytes_eq ys) rest)
-with_first y x ys [] = nothing_and (nat_eq y x)
-with_first y x ys (list ∷ rest) = ap (λ b. (nat_eq y x && bytes_eq ys list) || b) (with_first y x ys rest) ∙ spread (nat_eq y x) (bytes_eq ys list) (list_any (bytes_eq ys) rest)
-
-gather : (a b c : Bool) → ((a && c) || (b && c)) ≡ ((a || b) && c)
-gather true true true = refl
-gather true true false = refl
-gather true false true = refl
-gather true false false = refl
-gather false b c = refl
+pub with_first : (y x : ℕ) (ys : List ℕ) (rest : List (List ℕ)) → list_any (bytes_eq (y ∷ ys)) (map (λ xs. x ∷ xs) rest) ≡ (nat_eq y x && list_any (bytes_eq ys) rest)
+with_first y x ys [] = sym (and-false (nat_eq y x))
+with_first y x ys (list ∷ rest) = ap (λ b. (nat_eq y x && bytes_eq ys list) || b) (with_first y x ys rest) ∙ sym (and-or_distrib_left (nat_eq y x) (bytes_eq ys list) (list_any (bytes_eq ys) rest))
 
 pub some_first : (y : ℕ) (ys : List ℕ) (rest : List (List ℕ)) (first : List ℕ)
     → list_any (bytes_eq (y ∷ ys)) (flat_map (λ x. map (λ xs. x ∷ xs) rest) first) ≡ (list_any (nat_eq y) first && list_any (bytes_eq ys) rest)
@@ -108,7 +85,7 @@ some_first y ys rest [] = refl
 some_first y ys rest (x ∷ first) =
     list_any-append (bytes_eq (y ∷ ys)) (map (λ xs. x ∷ xs) rest) (flat_map (λ z. map (λ xs. z ∷ xs) rest) first)
     ∙ (ap (λ b. b || list_any (bytes_eq (y ∷ ys)) (flat_map (λ z. map (λ xs. z ∷ xs) rest) first)) (with_first y x ys rest)
-    ∙ (ap (λ b. (nat_eq y x && list_any (bytes_eq ys) rest) || b) (some_first y ys rest first) ∙ gather (nat_eq y x) (list_any (nat_eq y) first) (list_any (bytes_eq ys) rest)))
+    ∙ (ap (λ b. (nat_eq y x && list_any (bytes_eq ys) rest) || b) (some_first y ys rest first) ∙ sym (and-or_distrib_right (nat_eq y x) (list_any (nat_eq y) first) (list_any (bytes_eq ys) rest))))
 
 pub instances_are : (lifted : Lifted) (kinds objects : List ℕ) → list_any (bytes_eq objects) (instances lifted kinds) ≡ is_instance lifted kinds objects
 instances_are lifted [] [] = refl
@@ -123,10 +100,10 @@ instances_are lifted (kind ∷ kinds) (object ∷ objects) =
 
 of_predicate : (atom : GroundAtom) (predicate : ℕ) (lists : List (List ℕ)) → is_in atom (map (λ objects. atom_of predicate objects) lists)
     ≡ (nat_eq atom.predicate predicate && list_any (bytes_eq atom.objects) lists)
-of_predicate atom predicate [] = nothing_and (nat_eq atom.predicate predicate)
+of_predicate atom predicate [] = sym (and-false (nat_eq atom.predicate predicate))
 of_predicate atom predicate (list ∷ lists) =
     ap (λ b. (nat_eq atom.predicate predicate && bytes_eq atom.objects list) || b) (of_predicate atom predicate lists)
-    ∙ spread (nat_eq atom.predicate predicate) (bytes_eq atom.objects list) (list_any (bytes_eq atom.objects) lists)
+    ∙ sym (and-or_distrib_left (nat_eq atom.predicate predicate) (bytes_eq atom.objects list) (list_any (bytes_eq atom.objects) lists))
 
 -- those of one predicate
 of_one : (lifted : Lifted) (atom : GroundAtom) (predicate : ℕ) (kinds : List ℕ)
@@ -149,20 +126,20 @@ none_earlier lifted atom predicate (kinds ∷ later) h =
     list_any-append (same_atom atom) (atoms_of lifted predicate kinds) (atoms_from lifted (suc predicate) later)
     ∙ (ap (λ b. b || is_in atom (atoms_from lifted (suc predicate) later))
     (of_one lifted atom predicate kinds
-    ∙ (ap (λ b. is_fluent lifted predicate && (b && is_instance lifted kinds atom.objects)) (other_number atom.predicate predicate h)
+    ∙ (ap (λ b. is_fluent lifted predicate && (b && is_instance lifted kinds atom.objects)) (ne_eqb atom.predicate predicate (λ same. omega (arith, same, h)))
     ∙ no_fluent (is_fluent lifted predicate) (is_instance lifted kinds atom.objects)))
     ∙ none_earlier lifted atom (suc predicate) later (omega arith))
 
 -- the atom's predicate is k behind the first
 atoms_at : (lifted : Lifted) (atom : GroundAtom) (predicate k : ℕ) (later : List (List ℕ)) → atom.predicate ≡ predicate + k
     → is_in atom (atoms_from lifted predicate later) ≡ (is_fluent lifted atom.predicate && is_instance_of lifted (slice_get later k) atom.objects)
-atoms_at lifted atom predicate k [] e = nothing_and (is_fluent lifted atom.predicate)
+atoms_at lifted atom predicate k [] e = sym (and-false (is_fluent lifted atom.predicate))
 atoms_at lifted atom predicate zero (kinds ∷ later) e =
     let same : atom.predicate ≡ predicate = omega arith in
     list_any-append (same_atom atom) (atoms_of lifted predicate kinds) (atoms_from lifted (suc predicate) later)
     ∙ (ap (λ b. is_in atom (atoms_of lifted predicate kinds) || b) (none_earlier lifted atom (suc predicate) later (omega arith))
     ∙ (or-false (is_in atom (atoms_of lifted predicate kinds)) ∙ (of_one lifted atom predicate kinds
-    ∙ (ap (λ b. is_fluent lifted predicate && (b && is_instance lifted kinds atom.objects)) (itself atom.predicate predicate same)
+    ∙ (ap (λ b. is_fluent lifted predicate && (b && is_instance lifted kinds atom.objects)) (eq-eqb atom.predicate predicate same)
     ∙ ap (λ p. is_fluent lifted p && is_instance lifted kinds atom.objects) (sym same)))))
 atoms_at lifted atom predicate (suc k) (kinds ∷ later) e =
     let other : nat_eq atom.predicate predicate ≡ false = not_first (omega arith) in

@@ -1,8 +1,8 @@
 -- Numbers that stand once: what some, and what all of them are is what some and all of the atoms' numbers are.
-use Rattle.std.proofs.Common.{◌≡◌, ℕ, Bool, true, false, cond, ◌&&◌, ◌||◌, nat_eq, List, [], ◌∷◌, ◌++◌, Option, Some, None, refl, sym, ap, ◌∙◌, arith}
-use Rattle.std.proofs.Math.Bool.{or_assoc, and_assoc}
-use Rattle.std.proofs.lemmas.Bool.Decides.{nat_tests}
-use Rattle.std.proofs.lemmas.List.Folds.{list_any-append}
+use Rattle.std.proofs.Common.{◌≡◌, ℕ, Bool, true, false, cond, ◌&&◌, ◌||◌, nat_eq, List, [], ◌∷◌, ◌++◌, Option, Some, None, refl, sym, ap, ◌∙◌}
+use Rattle.std.proofs.Math.Bool.{or-false, and-true, or_assoc, and_assoc}
+use Rattle.std.proofs.lemmas.Bool.{eqb-true}
+use Rattle.std.proofs.lemmas.List.Folds.{list_any-append, list_all-append}
 use Rattle.std.specs.List.{list_any, list_all, flat_map}
 use Rattle.pb_lifted.specs.declared.lifted.LiftedAtom.{LiftedAtom}
 use Rattle.pb_ground.specs.declared.atoms.GroundAtom.{GroundAtom}
@@ -17,13 +17,6 @@ number_list (Some n) = n ∷ []
 abbrev pub repeated : List GroundAtom → List ℕ → List LiftedAtom → List ℕ
 repeated atoms given list = flat_map (λ a. number_list (number_in (grounded given a) atoms)) list
 
-pub nat_same : (m n : ℕ) → nat_eq m n ≡ true → m ≡ n
-nat_same m n e = grind (arith, nat_tests)
-
-pub all_append : (p : ℕ → Bool) (xs ys : List ℕ) → list_all p (xs ++ ys) ≡ (list_all p xs && list_all p ys)
-all_append p [] ys = refl
-all_append p (x ∷ xs) ys = ap (λ b. p x && b) (all_append p xs ys) ∙ sym (and_assoc (p x) (list_all p xs) (list_all p ys))
-
 -- a number that is there adds nothing
 any_among : (p : ℕ → Bool) (n : ℕ) (numbers : List ℕ) → list_any (nat_eq n) numbers ≡ true → list_any p numbers ≡ (list_any p numbers || p n)
 any_among p n [] e = cc
@@ -35,7 +28,7 @@ any_among p n (x ∷ numbers) e = at (any_among p n numbers) (nat_eq n x) refl e
     once_more false false = refl
 
     at : (list_any (nat_eq n) numbers ≡ true → list_any p numbers ≡ (list_any p numbers || p n)) → (same : Bool) → nat_eq n x ≡ same → (same || list_any (nat_eq n) numbers) ≡ true → (p x || list_any p numbers) ≡ ((p x || list_any p numbers) || p n)
-    at later true q h = once_more (p x) (list_any p numbers) ∙ ap (λ k. (p x || list_any p numbers) || p k) (sym (nat_same n x q))
+    at later true q h = once_more (p x) (list_any p numbers) ∙ ap (λ k. (p x || list_any p numbers) || p k) (sym (eqb-true n x q))
     at later false q h = ap (λ b. p x || b) (later h) ∙ sym (or_assoc (p x) (list_any p numbers) (p n))
 
 all_among : (p : ℕ → Bool) (n : ℕ) (numbers : List ℕ) → list_any (nat_eq n) numbers ≡ true → list_all p numbers ≡ (list_all p numbers && p n)
@@ -48,36 +41,28 @@ all_among p n (x ∷ numbers) e = at (all_among p n numbers) (nat_eq n x) refl e
     once_more false b = refl
 
     at : (list_any (nat_eq n) numbers ≡ true → list_all p numbers ≡ (list_all p numbers && p n)) → (same : Bool) → nat_eq n x ≡ same → (same || list_any (nat_eq n) numbers) ≡ true → (p x && list_all p numbers) ≡ ((p x && list_all p numbers) && p n)
-    at later true q h = once_more (p x) (list_all p numbers) ∙ ap (λ k. (p x && list_all p numbers) && p k) (sym (nat_same n x q))
+    at later true q h = once_more (p x) (list_all p numbers) ∙ ap (λ k. (p x && list_all p numbers) && p k) (sym (eqb-true n x q))
     at later false q h = ap (λ b. p x && b) (later h) ∙ sym (and_assoc (p x) (list_all p numbers) (p n))
 
-or_none : (b : Bool) → b ≡ (b || false)
-or_none true = refl
-or_none false = refl
-
-and_all : (b : Bool) → b ≡ (b && true)
-and_all true = refl
-and_all false = refl
-
 any_with : (p : ℕ → Bool) (numbers : List ℕ) (number : Option ℕ) → list_any p (with_number_in numbers number) ≡ (list_any p numbers || list_any p (number_list number))
-any_with p numbers None = or_none (list_any p numbers)
+any_with p numbers None = sym (or-false (list_any p numbers))
 any_with p numbers (Some n) = at (list_any (nat_eq n) numbers) refl
   where
     at : (there : Bool) → list_any (nat_eq n) numbers ≡ there → list_any p (cond there numbers (numbers ++ n ∷ [])) ≡ (list_any p numbers || (p n || false))
-    at true e = any_among p n numbers e ∙ ap (λ b. list_any p numbers || b) (or_none (p n))
+    at true e = any_among p n numbers e ∙ ap (λ b. list_any p numbers || b) (sym (or-false (p n)))
     at false e = list_any-append p numbers (n ∷ [])
 
 all_with : (p : ℕ → Bool) (numbers : List ℕ) (number : Option ℕ) → list_all p (with_number_in numbers number) ≡ (list_all p numbers && list_all p (number_list number))
-all_with p numbers None = and_all (list_all p numbers)
+all_with p numbers None = sym (and-true (list_all p numbers))
 all_with p numbers (Some n) = at (list_any (nat_eq n) numbers) refl
   where
     at : (there : Bool) → list_any (nat_eq n) numbers ≡ there → list_all p (cond there numbers (numbers ++ n ∷ [])) ≡ (list_all p numbers && (p n && true))
-    at true e = all_among p n numbers e ∙ ap (λ b. list_all p numbers && b) (and_all (p n))
-    at false e = all_append p numbers (n ∷ [])
+    at true e = all_among p n numbers e ∙ ap (λ b. list_all p numbers && b) (sym (and-true (p n)))
+    at false e = list_all-append p numbers (n ∷ [])
 
 any_numbers : (p : ℕ → Bool) (atoms : List GroundAtom) (given numbers : List ℕ) (list : List LiftedAtom)
     → list_any p (numbers_with atoms given numbers list) ≡ (list_any p numbers || list_any p (repeated atoms given list))
-any_numbers p atoms given numbers [] = or_none (list_any p numbers)
+any_numbers p atoms given numbers [] = sym (or-false (list_any p numbers))
 any_numbers p atoms given numbers (a ∷ list) =
     let number = number_in (grounded given a) atoms in
     any_numbers p atoms given (with_number_in numbers number) list
@@ -87,13 +72,13 @@ any_numbers p atoms given numbers (a ∷ list) =
 
 all_numbers : (p : ℕ → Bool) (atoms : List GroundAtom) (given numbers : List ℕ) (list : List LiftedAtom)
     → list_all p (numbers_with atoms given numbers list) ≡ (list_all p numbers && list_all p (repeated atoms given list))
-all_numbers p atoms given numbers [] = and_all (list_all p numbers)
+all_numbers p atoms given numbers [] = sym (and-true (list_all p numbers))
 all_numbers p atoms given numbers (a ∷ list) =
     let number = number_in (grounded given a) atoms in
     all_numbers p atoms given (with_number_in numbers number) list
     ∙ (ap (λ b. b && list_all p (repeated atoms given list)) (all_with p numbers number)
     ∙ (and_assoc (list_all p numbers) (list_all p (number_list number)) (list_all p (repeated atoms given list))
-    ∙ ap (λ b. list_all p numbers && b) (sym (all_append p (number_list number) (repeated atoms given list)))))
+    ∙ ap (λ b. list_all p numbers && b) (sym (list_all-append p (number_list number) (repeated atoms given list)))))
 
 pub any_once : (p : ℕ → Bool) (atoms : List GroundAtom) (given : List ℕ) (list : List LiftedAtom) → list_any p (numbers_of atoms given list) ≡ list_any p (repeated atoms given list)
 any_once p atoms given list = any_numbers p atoms given [] list

@@ -2,6 +2,7 @@
 use Rattle.std.proofs.Common.{◌≡◌, ◌≤◌, ◌<◌, ℕ, suc, Bool, true, false, cond, ◌&&◌, ◌||◌, List, [], ◌∷◌, ◌++◌, map, length, refl, sym, ap, subst, ◌∙◌, arith}
 use Rattle.std.proofs.lemmas.Cmp.{nat_list_cmp_total}
 use Rattle.std.proofs.lemmas.List.Kept.{IsStrictlySortedBy-filter}
+use Rattle.std.proofs.lemmas.List.Sums.{length-filter, count_by-le-length}
 use Rattle.std.proofs.lemmas.Map.Text.{is_eq-slice_cmp}
 use Rattle.std.proofs.lemmas.Map.Views.{any-filter_same}
 use Rattle.std.proofs.lemmas.Slice.Eq.{bytes_eq-Decides}
@@ -31,18 +32,12 @@ Above row rows = AllByRecursion (λ r. rows_cmp row r ≡ Less) rows
 
 -- ---- the same members
 
-pub row_itself : (row : List ℕ) → bytes_eq row row ≡ true
-row_itself row = (bytes_eq-Decides row row).1 refl
-
-pub same_row : (a b : List ℕ) → bytes_eq a b ≡ true → a ≡ b
-same_row a b e = (bytes_eq-Decides a b).0 e
-
 above_member : (row r : List ℕ) (rows : List (List ℕ)) → Above row rows → list_any (bytes_eq r) rows ≡ true → rows_cmp row r ≡ Less
 above_member row r [] above e = cc
 above_member row r (first ∷ rows) above e = at (above_member row r rows above.1) (bytes_eq r first) refl e
   where
     at : (list_any (bytes_eq r) rows ≡ true → rows_cmp row r ≡ Less) → (b : Bool) → bytes_eq r first ≡ b → (b || list_any (bytes_eq r) rows) ≡ true → rows_cmp row r ≡ Less
-    at later true p q = ap (λ x. rows_cmp row x) (same_row r first p) ∙ above.0
+    at later true p q = ap (λ x. rows_cmp row x) ((bytes_eq-Decides r first).0 p) ∙ above.0
     at later false p q = later q
 
 never_both : (a b : List ℕ) → rows_cmp a b ≡ Less → rows_cmp b a ≡ Less → ⊥
@@ -59,11 +54,11 @@ firsts_same : (x y : List ℕ) (xs ys : List (List ℕ)) → Above x xs → Abov
 firsts_same x y xs ys ax ay ex ey = at (bytes_eq x y) refl ex
   where
     other : list_any (bytes_eq x) ys ≡ true → (b : Bool) → bytes_eq y x ≡ b → (b || list_any (bytes_eq y) xs) ≡ true → x ≡ y
-    other h true p q = sym (same_row y x p)
+    other h true p q = sym ((bytes_eq-Decides y x).0 p)
     other h false p q = absurd (never_both y x (above_member y x ys ay h) (above_member x y xs ax q))
 
     at : (b : Bool) → bytes_eq x y ≡ b → (b || list_any (bytes_eq x) ys) ≡ true → x ≡ y
-    at true p q = same_row x y p
+    at true p q = (bytes_eq-Decides x y).0 p
     at false p q = other q (bytes_eq y x) refl ey
 
 tails_same : (x r : List ℕ) (xs ys : List (List ℕ)) → Above x xs → Above x ys → (bytes_eq r x || list_any (bytes_eq r) xs) ≡ (bytes_eq r x || list_any (bytes_eq r) ys)
@@ -71,7 +66,7 @@ tails_same : (x r : List ℕ) (xs ys : List (List ℕ)) → Above x xs → Above
 tails_same x r xs ys ax ay m = at (bytes_eq r x) refl m
   where
     none : (zs : List (List ℕ)) → Above x zs → bytes_eq r x ≡ true → list_any (bytes_eq r) zs ≡ false
-    none zs az p = ap (λ row. list_any (bytes_eq row) zs) (same_row r x p) ∙ none_itself x zs az
+    none zs az p = ap (λ row. list_any (bytes_eq row) zs) ((bytes_eq-Decides r x).0 p) ∙ none_itself x zs az
 
     at : (b : Bool) → bytes_eq r x ≡ b → (b || list_any (bytes_eq r) xs) ≡ (b || list_any (bytes_eq r) ys) → list_any (bytes_eq r) xs ≡ list_any (bytes_eq r) ys
     at false p q = q
@@ -81,12 +76,12 @@ tails_same x r xs ys ax ay m = at (bytes_eq r x) refl m
 pub same_rows : (xs ys : List (List ℕ)) → Ascends xs → Ascends ys → ((r : List ℕ) → list_any (bytes_eq r) xs ≡ list_any (bytes_eq r) ys) → xs ≡ ys
 unfolding IsStrictlySortedBy
 same_rows [] [] a b m = refl
-same_rows [] (y ∷ ys) a b m = let e : false ≡ true = m y ∙ ap (λ t. t || list_any (bytes_eq y) ys) (row_itself y) in cc
-same_rows (x ∷ xs) [] a b m = let e : true ≡ false = sym (ap (λ t. t || list_any (bytes_eq x) xs) (row_itself x)) ∙ m x in cc
+same_rows [] (y ∷ ys) a b m = let e : false ≡ true = m y ∙ ap (λ t. t || list_any (bytes_eq y) ys) ((bytes_eq-Decides y y).1 refl) in cc
+same_rows (x ∷ xs) [] a b m = let e : true ≡ false = sym (ap (λ t. t || list_any (bytes_eq x) xs) ((bytes_eq-Decides x x).1 refl)) ∙ m x in cc
 same_rows (x ∷ xs) (y ∷ ys) a b m =
     let e : x ≡ y = firsts_same x y xs ys a.0 b.0
-    (sym (m x) ∙ ap (λ t. t || list_any (bytes_eq x) xs) (row_itself x))
-    (m y ∙ ap (λ t. t || list_any (bytes_eq y) ys) (row_itself y)) in
+    (sym (m x) ∙ ap (λ t. t || list_any (bytes_eq x) xs) ((bytes_eq-Decides x x).1 refl))
+    (m y ∙ ap (λ t. t || list_any (bytes_eq y) ys) ((bytes_eq-Decides y y).1 refl)) in
     ap (λ z. z ∷ xs) e
     ∙ ap (λ zs. y ∷ zs) (same_rows xs ys a.1 b.1 (λ r. tails_same y r xs ys (subst (λ z. Above z xs) e a.0) b.0 (ap (λ z. bytes_eq r z || list_any (bytes_eq r) xs) (sym e) ∙ m r)))
 
@@ -94,16 +89,8 @@ and_implied : (a b : Bool) → (a ≡ true → b ≡ true) → a ≡ (a && b)
 and_implied true b h = sym (h refl)
 and_implied false b h = refl
 
-shorter : (p : List ℕ → Bool) (rows : List (List ℕ)) → length (filter p rows) ≤ length rows
-shorter p [] = omega arith
-shorter p (row ∷ rows) = at (p row) (shorter p rows)
-  where
-    at : (b : Bool) → length (filter p rows) ≤ length rows → length (cond b (row ∷ filter p rows) (filter p rows)) ≤ suc (length rows)
-    at true h = omega arith
-    at false h = omega arith
-
 pub any_kept : (p : List ℕ → Bool) (r : List ℕ) (rows : List (List ℕ)) → list_any (bytes_eq r) (filter p rows) ≡ (p r && list_any (bytes_eq r) rows)
-any_kept p r rows = any-filter_same (bytes_eq r) p (p r) (λ k e. ap p (sym (same_row r k e))) rows
+any_kept p r rows = any-filter_same (bytes_eq r) p (p r) (λ k e. ap p (sym ((bytes_eq-Decides r k).0 e))) rows
 
 -- a list in strict order is no longer than one that has its members
 pub no_longer : (xs ys : List (List ℕ)) → Ascends xs → Ascends ys → ((r : List ℕ) → list_any (bytes_eq r) xs ≡ true → list_any (bytes_eq r) ys ≡ true) → length xs ≤ length ys
@@ -112,8 +99,9 @@ no_longer xs ys ax ay within =
     let same : xs ≡ filter p ys = same_rows xs (filter p ys) ax (IsStrictlySortedBy-filter rows_cmp p ys ay)
     (λ r. and_implied (list_any (bytes_eq r) xs) (list_any (bytes_eq r) ys) (within r) ∙ sym (any_kept p r ys)) in
     let e : length xs ≡ length (filter p ys) = ap (λ (l : List (List ℕ)). length l) same in
-    let h : length (filter p ys) ≤ length ys = shorter p ys in
-    omega arith
+    let kept = length-filter p ys in
+    let few = count_by-le-length p ys in
+    omega (arith, e, kept, few)
 
 -- ---- the keys of a set
 
@@ -135,15 +123,12 @@ set_has row set = keys_have row set.keys
 
 -- ---- the instances
 
-nat_less : (i j : ℕ) → i < j → nat_cmp i j ≡ Less
-nat_less i j h = sym (nat_cmp_is i j Less h)
-
 nat_itself : (i : ℕ) → nat_cmp i i ≡ Equal
 nat_itself i = sym (nat_cmp_is i i Equal refl)
 
 fitting_above : (types : List ℕ) (wanted i j : ℕ) (kinds : List ℕ) → i < j → AllByRecursion (λ n. nat_cmp i n ≡ Less) (fitting_from types wanted j kinds)
 fitting_above types wanted i j [] h = tt
-fitting_above types wanted i j (kind ∷ kinds) h = at (comes_to types (length types) kind wanted) (nat_less i j h) (fitting_above types wanted i (suc j) kinds (omega arith))
+fitting_above types wanted i j (kind ∷ kinds) h = at (comes_to types (length types) kind wanted) (sym (nat_cmp_is i j Less h)) (fitting_above types wanted i (suc j) kinds (omega arith))
   where
     later : List ℕ
     later = fitting_from types wanted (suc j) kinds

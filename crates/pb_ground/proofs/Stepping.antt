@@ -1,8 +1,8 @@
 -- Steps by atoms and by numbers.
-use Rattle.std.proofs.Common.{◌≡◌, ℕ, zero, suc, Bool, true, false, cond, not, ◌&&◌, ◌||◌, nat_eq, List, [], ◌∷◌, map, Option, Some, None, is_some, option_map, slice_get, refl, sym, ap, ◌∙◌, arith}
-use Rattle.std.proofs.lemmas.Bool.{and_parts, or_parts}
-use Rattle.std.proofs.lemmas.Bool.Decides.{nat_tests}
-use Rattle.std.proofs.lemmas.List.Folds.{list_any-append}
+use Rattle.std.proofs.Common.{◌≡◌, ℕ, zero, suc, Bool, true, false, cond, not, ◌&&◌, ◌||◌, nat_eq, List, [], ◌∷◌, map, Option, Some, None, is_some, option_map, slice_get, refl, sym, ap, ◌∙◌}
+use Rattle.std.proofs.Math.Bool.{and-true}
+use Rattle.std.proofs.lemmas.Bool.{and_parts, or_parts, eqb-true, eq-eqb}
+use Rattle.std.proofs.lemmas.List.Folds.{list_any-append, list_all-append}
 use Rattle.std.proofs.lemmas.Slice.Eq.{bytes_eq-Decides}
 use Rattle.std.specs.List.{list_any, list_all, flat_map}
 use Rattle.std.specs.Str.{bytes_eq}
@@ -13,21 +13,18 @@ use Rattle.pb_ground.specs.declared.atoms.GroundAtom.{GroundAtom}
 use Rattle.pb_ground.specs.Actions.{numbers_of}
 use Rattle.pb_ground.specs.Atoms.{is_fluent, same_atom, grounded, number_in, atom_of, predicate_of, changed_by}
 use Rattle.pb_ground.specs.Statics.{is_initial, statics_hold}
-use Rattle.pb_ground.proofs.Once.{nat_same, number_list, repeated, all_append, any_once, all_once}
+use Rattle.pb_ground.proofs.Once.{number_list, repeated, any_once, all_once}
 use Rattle.pb_ground.specs.Steps.{Facts, Bits, all_grounded, is_in, facts_after, Packs, KeepsStatics, AreNumbered, Corresponds}
-
-same_nat : (m n : ℕ) → m ≡ n → nat_eq m n ≡ true
-same_nat m n e = grind (arith, nat_tests)
 
 -- atoms that are alike are the same
 pub one_atom : (f g : GroundAtom) → same_atom f g ≡ true → f ≡ g
 one_atom f g e =
     let both = and_parts (nat_eq f.predicate g.predicate) (bytes_eq f.objects g.objects) e in
-    ap (λ p. atom_of p f.objects) (nat_same f.predicate g.predicate both.0) ∙ ap (λ os. atom_of g.predicate os) ((bytes_eq-Decides f.objects g.objects).0 both.1)
+    ap (λ p. atom_of p f.objects) (eqb-true f.predicate g.predicate both.0) ∙ ap (λ os. atom_of g.predicate os) ((bytes_eq-Decides f.objects g.objects).0 both.1)
 
 pub atom_itself : (f g : GroundAtom) → f ≡ g → same_atom f g ≡ true
 atom_itself f g e =
-    ap (λ b. b && bytes_eq f.objects g.objects) (same_nat f.predicate g.predicate (ap (λ h. h.predicate) e))
+    ap (λ b. b && bytes_eq f.objects g.objects) (eq-eqb f.predicate g.predicate (ap (λ h. h.predicate) e))
     ∙ (bytes_eq-Decides f.objects g.objects).1 (ap (λ h. h.objects) e)
 
 apart : {A : Type 0} (n : Option ℕ) → Some 0 ≡ option_map suc n → A
@@ -59,14 +56,14 @@ alike f g atoms n e = at (same_atom f g) (number_in g atoms) refl refl
     at true None p q = let here : Some n ≡ None = sym e ∙ (ap (λ h. number_in h atoms) (one_atom f g p) ∙ q) in cc
     at true (Some m) p q =
         let here : Some n ≡ Some m = sym e ∙ (ap (λ h. number_in h atoms) (one_atom f g p) ∙ q) in
-        let same : n ≡ m = cc in ap (λ b. b || false) (same_nat n m same)
+        let same : n ≡ m = cc in ap (λ b. b || false) (eq-eqb n m same)
     at false None p q = refl
     at false (Some m) p q = no (nat_eq n m) refl
       where
         no : (b : Bool) → nat_eq n m ≡ b → (nat_eq n m || false) ≡ false
         no false r = ap (λ b. b || false) r
         no true r =
-            let same : f ≡ g = one_number f g atoms n e (q ∙ ap (λ k. Some k) (sym (nat_same n m r))) in
+            let same : f ≡ g = one_number f g atoms n e (q ∙ ap (λ k. Some k) (sym (eqb-true n m r))) in
             let bad : true ≡ false = sym (atom_itself f g same) ∙ p in cc
 
 all_alike : (f : GroundAtom) (atoms : List GroundAtom) (n : ℕ) (given : List ℕ) (list : List LiftedAtom) → number_in f atoms ≡ Some n
@@ -90,10 +87,6 @@ one_holds lifted atoms state bits given a packs keeps numbered = at (is_fluent l
     fact : GroundAtom
     fact = grounded given a
 
-    plain : (b : Bool) → b ≡ (b && true)
-    plain true = refl
-    plain false = refl
-
     thrice : (b c d : Bool) → c ≡ b → d ≡ b → b ≡ (c && (d && true))
     thrice true c d e f = rw (e, f) refl
     thrice false c d e f = rw e refl
@@ -101,8 +94,8 @@ one_holds lifted atoms state bits given a packs keeps numbered = at (is_fluent l
     at : (f : Bool) (m : Option ℕ) → is_fluent lifted a.predicate ≡ f → number_in fact atoms ≡ m
         → state fact ≡ ((f || is_initial lifted fact) && list_all bits (number_list m))
     at true None p q = let bad : false ≡ true = ap is_some (sym q) ∙ numbered p in cc
-    at true (Some m) p q = sym (packs fact m q) ∙ plain (bits m)
-    at false None p q = keeps fact p ∙ plain (is_initial lifted fact)
+    at true (Some m) p q = sym (packs fact m q) ∙ sym (and-true (bits m))
+    at false None p q = keeps fact p ∙ sym (and-true (is_initial lifted fact))
     at false (Some m) p q = thrice (state fact) (is_initial lifted fact) (bits m) (sym (keeps fact p)) (packs fact m q)
 
 regroup : (t n s b : Bool) → ((t && n) && (s && b)) ≡ ((t && s) && (n && b))
@@ -120,7 +113,7 @@ repeated_hold lifted atoms state bits given (a ∷ list) packs keeps numbered =
     ap (λ b. b && list_all state (all_grounded given list)) (one_holds lifted atoms state bits given a packs keeps numbered.0)
     ∙ (ap (λ b. (test && here) && b) (repeated_hold lifted atoms state bits given list packs keeps numbered.1)
     ∙ (regroup test here (statics_hold lifted list given) (list_all bits (repeated atoms given list))
-    ∙ ap (λ b. (test && statics_hold lifted list given) && b) (sym (all_append bits (number_list (number_in (grounded given a) atoms)) (repeated atoms given list)))))
+    ∙ ap (λ b. (test && statics_hold lifted list given) && b) (sym (list_all-append bits (number_list (number_in (grounded given a) atoms)) (repeated atoms given list)))))
 
 all_hold : (lifted : Lifted) (atoms : List GroundAtom) (state : Facts) (bits : Bits) (given : List ℕ) (list : List LiftedAtom) → Packs atoms state bits → KeepsStatics lifted state
     → AreNumbered lifted atoms given list → list_all state (all_grounded given list) ≡ (statics_hold lifted list given && list_all bits (numbers_of atoms given list))
