@@ -1,8 +1,6 @@
 -- No two ground actions are of the same schema with the same objects.
 use Rattle.std.proofs.Common.{◌≡◌, ◌<◌, ℕ, suc, Bool, true, false, cond, ◌||◌, ◌&&◌, nat_eq, List, [], ◌∷◌, ◌++◌, length, map, refl, sym, ap, ◌∙◌, subst, arith}
-use Rattle.std.proofs.Math.Bool.{and-false, and-or_distrib_left}
-use Rattle.std.proofs.lemmas.Bool.{both_ways, eqb-true, or_parts, and_right, and_parts}
-use Rattle.std.proofs.lemmas.Bool.Decides.{nat_tests}
+use Rattle.std.proofs.lemmas.Bool.{both_ways, eqb-true, ne_eqb, or_parts, and_right, and_parts}
 use Rattle.std.proofs.lemmas.List.{map-append}
 use Rattle.std.proofs.lemmas.List.Folds.{list_any-append}
 use Rattle.std.specs.List.{list_any, flat_map}
@@ -15,6 +13,7 @@ use Rattle.pb_ground.specs.declared.atoms.GroundAtom.{GroundAtom}
 use Rattle.pb_ground.specs.Actions.{action_of, rows_of, actions_of, actions_from, ground_actions}
 use Rattle.pb_ground.specs.Instances.{fitting_from, fitting, instances}
 use Rattle.pb_ground.specs.Statics.{statics_hold}
+use Rattle.pb_ground.proofs.Membership.{none_before, no_empty, with_first}
 use Rattle.pb_strips.proofs.Apart.{AreApart, joined, kept_apart}
 
 -- ---- numbers
@@ -22,18 +21,6 @@ use Rattle.pb_strips.proofs.Apart.{AreApart, joined, kept_apart}
 abbrev pub NumbersApart : List ℕ → Type 0
 NumbersApart [] = Unit {0}
 NumbersApart (x ∷ xs) = (list_any (nat_eq x) xs ≡ false) × NumbersApart xs
-
-other_number : (n i : ℕ) → n < i → nat_eq n i ≡ false
-other_number n i h = grind (arith, nat_tests)
-
-none_before : (types : List ℕ) (wanted n i : ℕ) (kinds : List ℕ) → n < i → list_any (nat_eq n) (fitting_from types wanted i kinds) ≡ false
-none_before types wanted n i [] h = refl
-none_before types wanted n i (kind ∷ kinds) h = at (comes_to types (length types) kind wanted) (none_before types wanted n (suc i) kinds (omega arith))
-  where
-    at : (fits : Bool) → list_any (nat_eq n) (fitting_from types wanted (suc i) kinds) ≡ false
-        → list_any (nat_eq n) (cond fits (i ∷ fitting_from types wanted (suc i) kinds) (fitting_from types wanted (suc i) kinds)) ≡ false
-    at true later = ap (λ b. b || list_any (nat_eq n) (fitting_from types wanted (suc i) kinds)) (other_number n i h) ∙ later
-    at false later = later
 
 fitting_apart : (types : List ℕ) (wanted i : ℕ) (kinds : List ℕ) → NumbersApart (fitting_from types wanted i kinds)
 fitting_apart types wanted i [] = tt
@@ -44,15 +31,6 @@ fitting_apart types wanted i (kind ∷ kinds) = at (comes_to types (length types
     at false rest = rest
 
 -- ---- rows that begin with a number
-
--- the row is none without a number
-no_empty : (x : ℕ) (rows : List (List ℕ)) → list_any (bytes_eq []) (map (λ xs. x ∷ xs) rows) ≡ false
-no_empty x [] = refl
-no_empty x (row ∷ rows) = no_empty x rows
-
-pub with_first : (y x : ℕ) (ys : List ℕ) (rows : List (List ℕ)) → list_any (bytes_eq (y ∷ ys)) (map (λ xs. x ∷ xs) rows) ≡ (nat_eq y x && list_any (bytes_eq ys) rows)
-with_first y x ys [] = sym (and-false (nat_eq y x))
-with_first y x ys (row ∷ rows) = ap (λ b. (nat_eq y x && bytes_eq ys row) || b) (with_first y x ys rows) ∙ sym (and-or_distrib_left (nat_eq y x) (bytes_eq ys row) (list_any (bytes_eq ys) rows))
 
 pub first_apart : (x : ℕ) (rows : List (List ℕ)) → AreApart rows → AreApart (map (λ xs. x ∷ xs) rows)
 first_apart x [] h = tt
@@ -106,7 +84,7 @@ none_earlier lifted atoms n i ys (schema ∷ later) h =
     ∙ (list_any-append (bytes_eq (n ∷ ys)) (map row_of (actions_of lifted atoms i schema)) (map row_of (actions_from lifted atoms (suc i) later))
     ∙ (ap (λ b. b || list_any (bytes_eq (n ∷ ys)) (map row_of (actions_from lifted atoms (suc i) later)))
     (ap (λ rows. list_any (bytes_eq (n ∷ ys)) rows) (of_schema lifted atoms i schema)
-    ∙ (with_first n i ys (rows_of lifted schema) ∙ ap (λ b. b && list_any (bytes_eq ys) (rows_of lifted schema)) (other_number n i h)))
+    ∙ (with_first n i ys (rows_of lifted schema) ∙ ap (λ b. b && list_any (bytes_eq ys) (rows_of lifted schema)) (ne_eqb n i (λ same. omega (arith, same, h)))))
     ∙ none_earlier lifted atoms n (suc i) ys later (omega arith)))
 
 abbrev pub same_rows : {rows others : List (List ℕ)} → rows ≡ others → AreApart others → AreApart rows

@@ -1,10 +1,10 @@
 -- The names of ground actions tell them apart, each in one line.
-use Rattle.std.proofs.Common.{◌≡◌, ◌≢◌, ◌<◌, ◌≤◌, ℕ, zero, suc, true, false, nat_lt, List, [], ◌∷◌, ◌++◌, All, length, map, Option, Some, None, slice_get, refl, sym, ap, ◌∙◌, subst, arith}
+use Rattle.std.proofs.Common.{◌≡◌, ◌≢◌, ◌<◌, ℕ, zero, suc, true, nat_lt, List, [], ◌∷◌, ◌++◌, All, length, map, Option, Some, None, slice_get, refl, sym, ap, ◌∙◌, subst, arith, inl, inr}
+use mathlib.Core.List.{nil≢cons, cons≢nil, head-eq_of_cons-eq, tail-eq_of_cons-eq}
 use Rattle.std.proofs.lemmas.Bool.{ltb-true}
-use Rattle.std.proofs.lemmas.Option.{slice_get_within}
-use Rattle.std.proofs.lemmas.Bool.Decides.{nat_tests}
+use Rattle.std.proofs.lemmas.Option.{slice_get_within, slice_get_past, slice_get_cases}
 use Rattle.std.proofs.lemmas.List.{length-map}
-use Rattle.std.proofs.lemmas.List.Elements.{All-nil, All-append}
+use Rattle.std.proofs.lemmas.List.Elements.{All-nil, All-cons, All-append}
 use Rattle.pb_pddl.specs.declared.tree.Typed.{Typed}
 use Rattle.pb_pddl.specs.declared.tree.Action.{Action}
 use Rattle.pb_pddl.specs.declared.tree.Domain.{Domain}
@@ -21,7 +21,7 @@ use Rattle.pb_lifted.specs.Refusals.{first_refusal, causes_in_order, action_name
 use Rattle.pb_lifted.specs.Typing.{object_names, named, AreDistinct, IsWellTyped}
 use Rattle.pb_lifted.proofs.DistinctNames.{distinct_on, text_of}
 use Rattle.pb_lifted.proofs.Faultless.{faultless, nil_left, nil_right}
-use Rattle.pb_lifted.proofs.FittingObjects.{at_mapped, there_at}
+use Rattle.pb_lifted.proofs.FittingObjects.{at_mapped, count_is as objects_agree}
 use Rattle.pb_lifted.proofs.WellTyped.{accepted_is_well_typed}
 use Rattle.pb_ground.specs.declared.actions.ActionInstance as instance
 use Rattle.pb_ground.specs.Atoms.{ground_atoms}
@@ -32,7 +32,7 @@ use Rattle.pb_strips.specs.Names.{action_word, action_bytes}
 use Rattle.pb_strips.specs.Grounding.{packed_action, strips_of}
 use Rattle.pb_strips.specs.Refusals.{first_fault, or_too_many}
 use Rattle.pb_strips.proofs.Instances.{IsInstance, is_instance_at}
-use Rattle.pb_model.proofs.Tests.{and_true, by_cases}
+use Rattle.pb_model.proofs.Tests.{and_true}
 use Rattle.pb_strips.specs.Naming.{AreTellingNames, NamesTellActions}
 use Rattle.pb_strips.proofs.Apart.{same_place}
 use Rattle.pb_strips.proofs.DifferentRows.{row_of, actions_apart}
@@ -67,22 +67,12 @@ same_number names i j each less more e =
 same_numbers : (names : List (List ℕ)) (xs ys : List ℕ) → AreDistinct names → All (λ i. i < length names) xs → All (λ i. i < length names) ys
     → map (λ i. name_at names i) xs ≡ map (λ i. name_at names i) ys → xs ≡ ys
 same_numbers names [] [] each h k e = refl
-same_numbers names [] (y ∷ ys) each h k e = absurd (none (name_at names y) (map (λ i. name_at names i) ys) e)
-  where
-    none : (first : List ℕ) (rest : List (List ℕ)) → ◌≡◌ {A = List (List ℕ)} [] (first ∷ rest) → ⊥
-    none first rest f = cc
-same_numbers names (x ∷ xs) [] each h k e = absurd (none (name_at names x) (map (λ i. name_at names i) xs) e)
-  where
-    none : (first : List ℕ) (rest : List (List ℕ)) → ◌≡◌ {A = List (List ℕ)} (first ∷ rest) [] → ⊥
-    none first rest f = cc
+same_numbers names [] (y ∷ ys) each h k e = absurd (nil≢cons e)
+same_numbers names (x ∷ xs) [] each h k e = absurd (cons≢nil e)
 same_numbers names (x ∷ xs) (y ∷ ys) each h k e =
-    let both = parts (name_at names x) (name_at names y) (map (λ i. name_at names i) xs) (map (λ i. name_at names i) ys) e in
-    let first = same_number names x y each (h 0 x (omega arith)) (k 0 y (omega arith)) both.0 in
-    let rest = same_numbers names xs ys each (λ n d less. h (suc n) d (omega arith)) (λ n d less. k (suc n) d (omega arith)) both.1 in
+    let first = same_number names x y each (h 0 x (omega arith)) (k 0 y (omega arith)) (head-eq_of_cons-eq e) in
+    let rest = same_numbers names xs ys each (λ n d less. h (suc n) d (omega arith)) (λ n d less. k (suc n) d (omega arith)) (tail-eq_of_cons-eq e) in
     λ i. first i ∷ rest i
-  where
-    parts : (a b : List ℕ) (more others : List (List ℕ)) → a ∷ more ≡ b ∷ others → (a ≡ b) × (more ≡ others)
-    parts a b more others f = (cc, cc)
 
 -- ---- what isn't refused
 
@@ -117,16 +107,9 @@ fitting_below lifted (kind ∷ kinds) [] h = cc
 fitting_below lifted (kind ∷ kinds) (i ∷ given) h =
     let both = and_true (is_fitting lifted kind i) (is_instance lifted kinds given) h in
     let there = and_true (nat_lt i (length lifted.objects)) _ both.0 in
-    first (fitting_below lifted kinds given both.1) (ltb-true i (length lifted.objects) there.0)
-  where
-    first : All (λ n. n < length lifted.objects) given → i < length lifted.objects → All (λ n. n < length lifted.objects) (i ∷ given)
-    first rest less zero d within = less
-    first rest less (suc k) d within = rest k d (omega arith)
+    All-cons (λ n. n < length lifted.objects) i given (ltb-true i (length lifted.objects) there.0) (fitting_below lifted kinds given both.1)
 
 -- ---- the actions
-
-lengths_agree : (domain : Domain) (problem : Problem) → length (lifted_of domain problem).objects ≡ length (object_names domain problem)
-lengths_agree domain problem = length-map (objects_of domain problem) _ ∙ sym (length-map (objects_of domain problem) name_text)
 
 schemas_agree : (domain : Domain) (problem : Problem) → length (lifted_of domain problem).actions ≡ length (map action_word domain.actions)
 schemas_agree domain problem = length-map domain.actions _ ∙ sym (length-map domain.actions action_word)
@@ -172,7 +155,7 @@ module _ (domain : Domain) (problem : Problem) (accepted : first_fault domain pr
   objects_below k a e =
       let is : IsInstance lifted (ground_atoms lifted) a = is_instance_at lifted (ground_atoms lifted) k a e in
       let same : a.objects ≡ is.given = ap (λ (g : instance.ActionInstance). g.objects) is.is in
-      subst (λ n. All (λ i. i < n) a.objects) (lengths_agree domain problem)
+      subst (λ n. All (λ i. i < n) a.objects) (objects_agree domain problem)
       (subst (λ given. All (λ i. i < length lifted.objects) given) (sym same) (fitting_below lifted is.schema.params is.given is.fits))
 
   same_row : (one other : ℕ) (a b : instance.ActionInstance) → slice_get actions one ≡ Some a → slice_get actions other ≡ Some b → bytes_of a ≡ bytes_of b → row_of a ≡ row_of b
@@ -185,11 +168,14 @@ module _ (domain : Domain) (problem : Problem) (accepted : first_fault domain pr
       let objects = same_numbers (object_names domain problem) a.objects b.objects typed.distinct (objects_below one a at_one) (objects_below other b at_other) parts.1 in
       λ i. schema i ∷ objects i
 
+  action_at : (k : ℕ) → k < length actions → (a : instance.ActionInstance) × (slice_get actions k ≡ Some a)
+  action_at k less = elim (slice_get_cases actions k).1 [ inl (a, within, is, read) ↦ (a, is) | inr (past, none) ↦ absurd (omega (arith, less, past)) ]
+
   same_action : (one other : ℕ) → one < length actions → other < length actions
       → name_in (strips_of domain problem).actions one ≡ name_in (strips_of domain problem).actions other → one ≡ other
   same_action one other less more e =
-      let a = there_at actions one less in
-      let b = there_at actions other more in
+      let a = action_at one less in
+      let b = action_at other more in
       let row = same_row one other a.0 b.0 a.1 b.1 (sym (name_is one a.0 a.1) ∙ (e ∙ name_is other b.0 b.1)) in
       same_place (map row_of actions) one other (row_of a.0) (actions_apart lifted (ground_atoms lifted)) (at_mapped row_of actions one a.0 a.1)
       (at_mapped row_of actions other b.0 b.1 ∙ ap (λ r. Some r) (sym row))
@@ -197,27 +183,13 @@ module _ (domain : Domain) (problem : Problem) (accepted : first_fault domain pr
   count_is : length (strips_of domain problem).actions ≡ length actions
   count_is = length-map actions (packed_action domain problem (length (ground_atoms lifted)))
 
-  beyond : (k : ℕ) → (k < length actions → ⊥) → slice_get (strips_of domain problem).actions k ≡ None
-  beyond k none = outside (strips_of domain problem).actions k (λ less. let count = count_is in none (omega (arith, less, count)))
-    where
-      outside : {A : Type 0} (xs : List A) (n : ℕ) → (n < length xs → ⊥) → slice_get xs n ≡ None
-      outside [] n none = refl
-      outside (x ∷ xs) zero none = absurd (none (omega arith))
-      outside (x ∷ xs) (suc n) none = outside xs n (λ less. none (omega (arith, less)))
-
   no_feeds : (k : ℕ) → All (λ c. c ≢ 10) (name_in (strips_of domain problem).actions k)
-  no_feeds k = by_cases (nat_lt k (length actions)) inside outside
-    where
-      inside : nat_lt k (length actions) ≡ true → All (λ c. c ≢ 10) (name_in (strips_of domain problem).actions k)
-      inside e =
-          let less : k < length actions = grind (arith, nat_tests) in
-          let a = there_at actions k less in
-          subst (λ text. All (λ c. c ≢ 10) text) (sym (name_is k a.0 a.1)) (λ n d within. (of_line a.0 n d within).1)
-
-      outside : nat_lt k (length actions) ≡ false → All (λ c. c ≢ 10) (name_in (strips_of domain problem).actions k)
-      outside e =
-          let more : length actions ≤ k = grind (arith, nat_tests) in
-          subst (λ text. All (λ c. c ≢ 10) text) (sym (ap name_of (beyond k (λ less. omega (arith, less, more))))) (All-nil (λ c. c ≢ 10))
+  no_feeds k = elim (slice_get_cases actions k).1 [
+    | inl (a, less, is, read) ↦ subst (λ text. All (λ c. c ≢ 10) text) (sym (name_is k a is)) (λ n d within. (of_line a n d within).1)
+    | inr (past, none) ↦
+        let beyond : slice_get (strips_of domain problem).actions k ≡ None = slice_get_past (strips_of domain problem).actions k (let count = count_is in omega (arith, past, count)) in
+        subst (λ text. All (λ c. c ≢ 10) text) (sym (ap name_of beyond)) (All-nil (λ c. c ≢ 10))
+  ]
 
   pub tells : AreTellingNames (length (strips_of domain problem).actions) (name_in (strips_of domain problem).actions)
   tells = record {
