@@ -36,38 +36,38 @@ no_sign = refl
 
 -- ---- a map of two cells
 
-map_text : (row : List ℕ) → List ℕ
+abbrev map_text : List ℕ → List ℕ
 map_text row = codes "type octile" ++ 10 ∷ codes "height 1" ++ 10 ∷ codes "width 2" ++ 10 ∷ codes "map" ++ 10 ∷ row ++ 10 ∷ []
 
-scenario_text : (row : List ℕ) → List ℕ
+abbrev scenario_text : List ℕ → List ℕ
 scenario_text row = codes "version 1" ++ 10 ∷ 10 ∷ row ++ 10 ∷ []
 
 water_is_passable : grid_reading (map_text (codes ".W")) (scenario_text (codes "0 my map 2 1 0 0 1 0 0")) 0 true ≡ Ok (record { width = 2; height = 1; cells = Land ∷ Water ∷ []; swamp = false ∷ false ∷ []; start = (0, 0); goal = (1, 0) })
-unfolding grid_reading map_reading scenario_reading grid_of_parts size_of_map rows_of_map row_of_map cells_of class_of_byte below_map scenario_of_words lines_of without_empty_last words_of short_number_of map_text scenario_text
+unfolding grid_reading map_reading scenario_reading grid_of_parts size_of_map rows_of_map row_of_map cells_of class_of_byte below_map scenario_of_words lines_of without_empty_last words_of short_number_of
 water_is_passable = refl
 
 swamp_is_marked : grid_reading (map_text (codes "S.")) (scenario_text (codes "0 m 2 1 0 0 1 0 0")) 0 true
     ≡ Ok (record { width = 2; height = 1; cells = Land ∷ Land ∷ []; swamp = true ∷ false ∷ []; start = (0, 0); goal = (1, 0) })
-unfolding grid_reading map_reading scenario_reading grid_of_parts size_of_map rows_of_map row_of_map cells_of class_of_byte below_map scenario_of_words lines_of without_empty_last words_of short_number_of map_text scenario_text
+unfolding grid_reading map_reading scenario_reading grid_of_parts size_of_map rows_of_map row_of_map cells_of class_of_byte below_map scenario_of_words lines_of without_empty_last words_of short_number_of
 swamp_is_marked = refl
 
 land_without_the_word : grid_reading (map_text (codes "S.")) (scenario_text (codes "0 m 2 1 0 0 1 0 0")) 0 false
     ≡ Ok (record { width = 2; height = 1; cells = Land ∷ Land ∷ []; swamp = false ∷ false ∷ []; start = (0, 0); goal = (1, 0) })
-unfolding grid_reading map_reading scenario_reading grid_of_parts size_of_map rows_of_map row_of_map cells_of class_of_byte below_map scenario_of_words lines_of without_empty_last words_of short_number_of map_text scenario_text
+unfolding grid_reading map_reading scenario_reading grid_of_parts size_of_map rows_of_map row_of_map cells_of class_of_byte below_map scenario_of_words lines_of without_empty_last words_of short_number_of
 land_without_the_word = refl
 
 blocked_start : grid_reading (map_text (codes "T.")) (scenario_text (codes "0 m 2 1 0 0 1 0 0")) 0 true ≡ Err errors.StartBlocked
-unfolding grid_reading map_reading scenario_reading grid_of_parts size_of_map rows_of_map row_of_map cells_of class_of_byte below_map scenario_of_words lines_of without_empty_last words_of short_number_of map_text scenario_text
+unfolding grid_reading map_reading scenario_reading grid_of_parts size_of_map rows_of_map row_of_map cells_of class_of_byte below_map scenario_of_words lines_of without_empty_last words_of short_number_of
 blocked_start = refl
 
 short_row : grid_reading (map_text (codes ".")) (scenario_text (codes "0 m 2 1 0 0 1 0 0")) 0 true ≡ Err (errors.Rows 5)
-unfolding grid_reading map_reading scenario_reading grid_of_parts size_of_map rows_of_map row_of_map cells_of class_of_byte below_map scenario_of_words lines_of without_empty_last words_of short_number_of map_text scenario_text
+unfolding grid_reading map_reading scenario_reading grid_of_parts size_of_map rows_of_map row_of_map cells_of class_of_byte below_map scenario_of_words lines_of without_empty_last words_of short_number_of
 short_row = refl
 
 eight_words : grid_reading (map_text (codes "..")) (scenario_text (codes "m 2 1 0 0 1 0 0")) 0 true ≡ Err (errors.Scenario 3)
-unfolding grid_reading map_reading scenario_reading grid_of_parts size_of_map rows_of_map row_of_map cells_of class_of_byte below_map scenario_of_words lines_of without_empty_last words_of short_number_of map_text scenario_text
+unfolding grid_reading map_reading scenario_reading grid_of_parts size_of_map rows_of_map row_of_map cells_of class_of_byte below_map scenario_of_words lines_of without_empty_last words_of short_number_of
 eight_words = refl
 
 row_that_is_not_there : grid_reading (map_text (codes "..")) (scenario_text (codes "0 m 2 1 0 0 1 0 0")) 1 true ≡ Err (errors.NoRow 1 1)
-unfolding grid_reading map_reading scenario_reading grid_of_parts size_of_map rows_of_map row_of_map cells_of class_of_byte below_map scenario_of_words lines_of without_empty_last words_of short_number_of map_text scenario_text
+unfolding grid_reading map_reading scenario_reading grid_of_parts size_of_map rows_of_map row_of_map cells_of class_of_byte below_map scenario_of_words lines_of without_empty_last words_of short_number_of
 row_that_is_not_there = refl

@@ -60,7 +60,7 @@ in_front p b xs i le all k less =
 
 -- ---- lines
 
-keeps : (part : List ℕ) (parts : List (List ℕ)) → 0 < length parts → without_empty_last (part ∷ parts) ≡ part ∷ without_empty_last parts
+pub keeps : (part : List ℕ) (parts : List (List ℕ)) → 0 < length parts → without_empty_last (part ∷ parts) ≡ part ∷ without_empty_last parts
 unfolding without_empty_last
 keeps part [] some = absurd (omega arith)
 keeps part (next ∷ parts) some = refl
