@@ -29,7 +29,7 @@ texts ws = map (λ (word : Word). word.text) ws
 abbrev Whole : List ℕ → Type 0
 Whole word = AllByRecursion (λ byte. is_blank byte ≡ false) word
 
-blank_front : (byte : ℕ) (text : List ℕ) (ws : List (List ℕ)) → is_blank byte ≡ true → AreWordsOf text ws → AreWordsOf (byte ∷ text) ws
+pub blank_front : (byte : ℕ) (text : List ℕ) (ws : List (List ℕ)) → is_blank byte ≡ true → AreWordsOf text ws → AreWordsOf (byte ∷ text) ws
 blank_front byte text [] e a = (e, a)
 blank_front byte text (w ∷ ws) e (blanks, rest, is, are, word, begins, more) = (byte ∷ blanks, rest, ap (λ t. byte ∷ t) is, (e, are), word, begins, more)
 
