@@ -1,5 +1,6 @@
 -- The texts of names and atoms of blocks have the tokens of names and atoms.
 use Rattle.std.proofs.Common.{◌≡◌, ℕ, zero, suc, ◌+◌, ◌<◌, ◌≤◌, ◌^◌, true, false, None, Some, List, [], ◌∷◌, ◌++◌, map, refl, ap, sym, subst, arith, ◌∙◌, append_assoc, append-nil, inl}
+use Rattle.std.proofs.lemmas.Bool.{and_parts}
 use Rattle.std.proofs.lemmas.Bool.Decides.{nat_tests}
 use Rattle.std.specs.Char.{is_ascii_digit}
 use Rattle.std.specs.Fmt.{decimal}
@@ -17,7 +18,7 @@ use Rattle.pb_pddl.specs.Reading.{is_reserved, name_of}
 use Rattle.pb_pddl.specs.Grammar.{Opens, Many, AddsName, IsAtom}
 use Rattle.pb_lifted.specs.Objects.{predicate_of}
 use Rattle.pb_make.specs.Problems.{block_name, objects_from}
-use Rattle.pb_make_laws.proofs.Words.{all_by, both, decimal_number}
+use Rattle.pb_make_laws.proofs.Words.{all_by, decimal_number}
 use Rattle.pb_make_laws.proofs.SpacedTokens.{IsSpelling, Reads, closes, opens, same_bytes, spelled, weakened, word_kind}
 use Rattle.pb_make_laws.proofs.BlocksTree.{blocks_tree}
 
@@ -34,7 +35,7 @@ low_digit byte e = grind (arith, nat_tests, e)
 low_digits : (bytes : List ℕ) → list_all is_ascii_digit bytes ≡ true → map lower bytes ≡ bytes
 low_digits [] e = refl
 low_digits (b ∷ bs) e =
-    let parts = both (is_ascii_digit b) (list_all is_ascii_digit bs) e in
+    let parts = and_parts (is_ascii_digit b) (list_all is_ascii_digit bs) e in
     ap (λ (x : ℕ). x ∷ map lower bs) (low_digit b parts.0) ∙ ap (λ (xs : List ℕ). b ∷ xs) (low_digits bs parts.1)
 
 pub block_spelling : (k : ℕ) → k < 10 ^ 9 → IsSpelling kinds.Word 98 (decimal k)

@@ -1,7 +1,8 @@
 -- A problem of at most 14 blocks has few ground atoms and few ground actions.
-use Rattle.std.proofs.Common.{◌≡◌, ℕ, suc, ◌+◌, ◌*◌, ◌≤◌, Bool, true, false, cond, nat_lt, if◌then◌else◌, Option, None, List, [], ◌∷◌, length, map, filter, ap, arith, ◌∙◌, length-append}
-use Rattle.std.proofs.lemmas.Bool.Decides.{nat_tests}
+use Rattle.std.proofs.Common.{◌≡◌, ℕ, suc, ◌+◌, ◌*◌, ◌≤◌, Bool, true, false, cond, nat_lt, if◌then◌else◌, Option, None, List, [], ◌∷◌, length, map, ap, arith, ◌∙◌, length-append}
+use Rattle.std.proofs.lemmas.Bool.{le-ltb}
 use Rattle.std.proofs.lemmas.List.{length-map}
+use Rattle.std.proofs.lemmas.List.Sums.{length-filter, count_by-le-length}
 use Rattle.std.proofs.lemmas.Nat.{mul-le}
 use Rattle.pb_pddl.specs.declared.tree.Problem.{Problem}
 use Rattle.pb_lifted.specs.declared.lifted.Lifted.{Lifted}
@@ -41,14 +42,6 @@ fitting_few types wanted i [] = omega arith
 fitting_few types wanted i (kind ∷ kinds) =
     fit_or_not (comes_to types (length types) kind wanted) i (length kinds) (fitting_from types wanted (suc i) kinds) (fitting_few types wanted (suc i) kinds)
 
-filter_few : {A : Type 0} (test : A → Bool) (xs : List A) → length (filter test xs) ≤ length xs
-filter_few test [] = omega arith
-filter_few {A} test (x ∷ xs) = go (test x) (filter_few test xs)
-  where
-    go : (b : Bool) → length (filter test xs) ≤ length xs → length (cond b (x ∷ filter test xs) (filter test xs)) ≤ suc (length xs)
-    go true rest = omega (arith, rest)
-    go false rest = omega (arith, rest)
-
 module _ (lifted : Lifted) (few : length lifted.objects ≤ 14) where
   product_few : (kinds : List ℕ) → product_of (candidates lifted kinds) ≤ most kinds
   product_few [] = omega arith
@@ -83,15 +76,15 @@ module _ (lifted : Lifted) (few : length lifted.objects ≤ 14) where
   actions_few atoms i (schema ∷ schemas) =
       let both = length-append (actions_of lifted atoms i schema) (actions_from lifted atoms (suc i) schemas) in
       let count : length (actions_of lifted atoms i schema) ≡ length (rows_of lifted schema) = length-map (rows_of lifted schema) (λ given. action_of atoms i schema given) in
-      let kept : length (rows_of lifted schema) ≤ length (instances lifted schema.params) = filter_few (statics_hold lifted schema.pre) (instances lifted schema.params) in
+      let kept : length (rows_of lifted schema) ≤ length (instances lifted schema.params) =
+      let held = length-filter (statics_hold lifted schema.pre) (instances lifted schema.params) in
+      let few = count_by-le-length (statics_hold lifted schema.pre) (instances lifted schema.params) in
+      omega (arith, held, few) in
       let one = instances_few schema.params in
       let rest = actions_few atoms (suc i) schemas in
       omega (arith, both, count, kept, one, rest)
 
 -- ---- no fault
-
-not_more : (limit n : ℕ) → n ≤ limit → nat_lt limit n ≡ false
-not_more limit n less = grind (arith, nat_tests)
 
 neither : {A : Type 0} (a b : Bool) (x y : Option A) → a ≡ false → b ≡ false → (if a then x else (if b then y else None)) ≡ None
 neither a b x y no_first no_second = ap (λ (test : Bool). if test then x else (if b then y else None)) no_first ∙ ap (λ (test : Bool). if test then y else None) no_second
@@ -107,4 +100,4 @@ blocks_have_no_fault blocks few problem is =
     let actions_fit : length (ground_actions lifted (ground_atoms lifted)) ≤ 65536 = omega (arith, actions) in
     ap (λ o. or_too_many o lifted) (well_typed_is_accepted blocks_tree problem (well_typed blocks few problem is))
     ∙ neither (nat_lt 256 (length (ground_atoms lifted))) (nat_lt 65536 (length (ground_actions lifted (ground_atoms lifted)))) _ _
-    (not_more 256 (length (ground_atoms lifted)) atoms_fit) (not_more 65536 (length (ground_actions lifted (ground_atoms lifted))) actions_fit)
+    (le-ltb 256 (length (ground_atoms lifted)) atoms_fit) (le-ltb 65536 (length (ground_actions lifted (ground_atoms lifted))) actions_fit)

@@ -1,5 +1,5 @@
 -- The text of a made problem is that of a problem: section by section, from the last to the first.
-use Rattle.std.proofs.Common.{◌≡◌, ℕ, zero, suc, ◌+◌, ◌-◌, ◌<◌, ◌≤◌, ◌^◌, false, None, Some, List, [], ◌∷◌, ◌++◌, length, map, codes, refl, ap, sym, subst, arith, inl, inr}
+use Rattle.std.proofs.Common.{◌≡◌, ℕ, suc, ◌+◌, ◌-◌, ◌<◌, ◌≤◌, ◌^◌, false, None, Some, List, [], ◌∷◌, ◌++◌, length, map, codes, refl, ap, sym, subst, arith, inl, inr}
 use Rattle.pb_pddl.specs.declared.token.TokenKind.TheVariants as kinds
 use Rattle.pb_pddl.specs.declared.token.Token.{Token}
 use Rattle.pb_pddl.specs.declared.tree.Name.{Name}
@@ -10,8 +10,9 @@ use Rattle.pb_pddl.specs.Tokens.{start}
 use Rattle.pb_pddl.specs.Reading.{name_of, typed, no_problem}
 use Rattle.pb_pddl.specs.Grammar.{Says, Opens, Closes, Ends, Many, IsCond, IsProblemSection, IsProblem, Titles}
 use Rattle.pb_pddl.specs.Trees.{SpellsProblem}
-use Rattle.pb_make.specs.Draws.{draws, next_number}
+use Rattle.pb_make.specs.Draws.{draws}
 use Rattle.pb_make.specs.Problems.{facts_from, goal_from, objects_from, problem_text}
+use Rattle.pb_make_laws.proofs.MapCells.{length-draws}
 use Rattle.pb_make_laws.proofs.SpacedTokens.{Reads, closes, closes_last, key_kind, opens, spelled, weakened, word_kind}
 use Rattle.pb_make_laws.proofs.BlocksTree.{handempty_predicate}
 use Rattle.pb_make_laws.proofs.BlocksAtoms.{atom_of_none, blocks_from, names_read, text_of}
@@ -230,10 +231,6 @@ assembled blocks ts title =
       },
       record { domain = domain.2; names = objects.0; texts = objects.2; objects = refl; costs = refl; metric = refl; init = init.2; goal = goal.2 },
     )
-
-length-draws : (count number : ℕ) → length (draws count number) ≡ count
-length-draws zero number = refl
-length-draws (suc count) number = ap suc (length-draws count (next_number number))
 
 pub made_problem_is_read : (seed blocks : ℕ) → 1 ≤ blocks → blocks ≤ 14 → (problem : Problem) × SpellsProblem (problem_text seed blocks) problem × IsBlocksProblem blocks problem
 made_problem_is_read seed blocks some few =

@@ -1,5 +1,6 @@
 -- A problem of blocks and the domain of the blocks world are well typed.
 use Rattle.std.proofs.Common.{All, ◌≡◌, ℕ, zero, suc, ◌+◌, ◌<◌, ◌≤◌, ◌^◌, Bool, true, false, cond, if◌then◌else◌, Option, None, Some, List, [], ◌∷◌, length, drop, map, codes, refl, ap, sym, subst, arith, ◌∙◌}
+use Rattle.std.proofs.lemmas.Bool.{false_from_ne_true}
 use Rattle.std.proofs.lemmas.List.{length-map}
 use Rattle.std.proofs.lemmas.List.Elements.{All-from_recursion}
 use Rattle.std.proofs.lemmas.Slice.Eq.{bytes_eq-Decides}
@@ -32,16 +33,6 @@ use Rattle.pb_make_laws.proofs.BlocksRead.{IsBlocksProblem}
 
 -- ---- names of blocks
 
-same_bytes : (a b : List ℕ) → a ≡ b → bytes_eq a b ≡ true
-same_bytes a b e = (bytes_eq-Decides a b).1 e
-
-false_of : (b : Bool) → (b ≡ true → ⊥) → b ≡ false
-false_of true never = absurd (never refl)
-false_of false never = refl
-
-other_bytes : (a b : List ℕ) → (a ≡ b → ⊥) → bytes_eq a b ≡ false
-other_bytes a b differ = false_of (bytes_eq a b) (λ e. differ ((bytes_eq-Decides a b).0 e))
-
 block_is : (a b : ℕ) → a < 2 ^ 64 → b < 2 ^ 64 → block_name a ≡ block_name b → a ≡ b
 block_is a b small_a small_b e = decimal_injective a b small_a small_b (ap (λ (xs : List ℕ). drop 1 xs) e)
 
@@ -50,7 +41,7 @@ number_is i block zero less small = absurd (omega arith)
 number_is zero block (suc count) less small =
     let same : block + 0 ≡ block = omega arith in
     ap (λ (test : Bool). if test then Some 0 else option_map suc (number_of (block_name (block + 0)) (blocks_from (block + 1) count)))
-    (same_bytes (block_name (block + 0)) (block_name block) (ap block_name same))
+    ((bytes_eq-Decides (block_name (block + 0)) (block_name block)).1 (ap block_name same))
 number_is (suc i) block (suc count) less small =
     let below : i < count = omega arith in
     let next : block + 1 + count < 2 ^ 64 = omega arith in
@@ -58,7 +49,9 @@ number_is (suc i) block (suc count) less small =
     let large : block + suc i < 2 ^ 64 = omega arith in
     let low : block < 2 ^ 64 = omega arith in
     let other : bytes_eq (block_name (block + suc i)) (block_name block) ≡ false =
-    other_bytes (block_name (block + suc i)) (block_name block) (λ e. let is : block + suc i ≡ block = block_is (block + suc i) block large low e in omega (arith, is)) in
+    false_from_ne_true (bytes_eq (block_name (block + suc i)) (block_name block)) (λ e.
+    let is : block + suc i ≡ block = block_is (block + suc i) block large low ((bytes_eq-Decides (block_name (block + suc i)) (block_name block)).0 e) in
+    omega (arith, is)) in
     ap (λ (test : Bool). if test then Some 0 else option_map suc (number_of (block_name (block + suc i)) (blocks_from (block + 1) count))) other
     ∙ ap (λ (k : ℕ). option_map suc (number_of (block_name k) (blocks_from (block + 1) count))) same ∙ ap (λ (o : Option ℕ). option_map suc o) (number_is i (block + 1) count below next)
 

@@ -1,6 +1,6 @@
 -- A made board has the numbers 0 to 8, each once: a move exchanges two of them.
 use Rattle.std.proofs.Common.{◌≡◌, ℕ, zero, suc, ◌+◌, ◌-◌, ◌%◌, ◌<◌, Bool, true, false, nat_lt, ◌==◌, Option, None, Some, if◌then◌else◌, List, [], ◌∷◌, length, refl, arith}
-use Rattle.std.proofs.lemmas.Bool.Decides.{nat_tests}
+use Rattle.std.proofs.lemmas.Bool.{ltb-true, eqb-false}
 use Rattle.std.specs.List.{fold, position_or_len}
 use Rattle.pb_task.proofs.Boards.{Listed, listed, is_board_swapped}
 use Rattle.pb_make.specs.Draws.{draws}
@@ -15,27 +15,21 @@ some_then : (test : Bool) (value other : ℕ) → ◌≡◌ {A = Option ℕ} (if
 some_then true value other e = (refl, cc)
 some_then false value other e = cc
 
-below : (a b : ℕ) → nat_lt a b ≡ true → a < b
-below a b e = grind (arith, nat_tests)
-
-differ : (a b : ℕ) → (a == b) ≡ false → a ≡ b → ⊥
-differ a b e f = grind (arith, nat_tests)
-
 -- a cell beside a cell of the board is on the board
 beside_below : (cell direction other : ℕ) → cell < 9 → cell_beside cell direction ≡ Some other → other < 9
 beside_below cell zero other on e = let s = some_else (nat_lt cell 3) (cell - 3) other e in omega (arith, s.1)
-beside_below cell (suc zero) other on e = let s = some_then (nat_lt cell 6) (cell + 3) other e in omega (arith, s.1, below cell 6 s.0)
+beside_below cell (suc zero) other on e = let s = some_then (nat_lt cell 6) (cell + 3) other e in omega (arith, s.1, ltb-true cell 6 s.0)
 beside_below cell (suc (suc zero)) other on e = let s = some_else (cell % 3 == 0) (cell - 1) other e in omega (arith, s.1)
 beside_below cell (suc (suc (suc direction))) other on e =
     let s = some_else (cell % 3 == 2) (cell + 1) other e in
-    let no : cell % 3 ≡ 2 → ⊥ = differ (cell % 3) 2 s.0 in
+    let no : cell % 3 ≡ 2 → ⊥ = eqb-false (cell % 3) 2 s.0 in
     omega (arith, s.1, no)
 
 position_below : (board : List ℕ) (cell : ℕ) → blank_of board ≡ Some cell → cell < length board
 position_below board cell e =
     let at = position_or_len (λ tile. tile == 0) board in
     let s = some_then (nat_lt at (length board)) at cell e in
-    omega (arith, s.1, below at (length board) s.0)
+    omega (arith, s.1, ltb-true at (length board) s.0)
 
 exchanged_listed : (board : List ℕ) (blank other : Option ℕ) → Listed 9 board → ((cell : ℕ) → blank ≡ Some cell → cell < 9) → ((cell : ℕ) → other ≡ Some cell → cell < 9)
     → Listed 9 (exchanged board blank other)

@@ -1,5 +1,6 @@
 -- The cells of a made map: as many as the square has, each `.` or `@`, and the first and the last `.`.
 use Rattle.std.proofs.Common.{◌≡◌, ℕ, zero, suc, ◌-◌, ◌*◌, ◌%◌, ◌<◌, Bool, true, false, ◌||◌, ◌==◌, if◌then◌else◌, Some, slice_get, List, [], ◌∷◌, length, map, set, ◌⊎◌, inl, inr, refl, ap, sym, subst, arith, ◌∙◌}
+use Rattle.std.proofs.lemmas.Bool.{and_parts, and_from}
 use Rattle.std.proofs.lemmas.Bool.Decides.{nat_tests}
 use Rattle.std.proofs.Math.ListN.{length-set}
 use Rattle.std.proofs.lemmas.List.{length-map}
@@ -9,7 +10,7 @@ use Rattle.pb_grid.specs.Reading.{class_of_byte}
 use Rattle.pb_make.specs.Draws.{draws, next_number}
 use Rattle.pb_make.specs.Maps.{cell, map_cells, opened}
 use Rattle.pb_make_laws.specs.Made.{class_of_cell}
-use Rattle.pb_make_laws.proofs.Words.{both, join, is_plain}
+use Rattle.pb_make_laws.proofs.Words.{is_plain}
 
 abbrev pub is_cell : (byte : ℕ) → Bool
 is_cell byte = byte == 64 || byte == 46
@@ -19,7 +20,7 @@ cell_plain byte e = grind (arith, nat_tests, e)
 
 drawn_cells : (ds : List ℕ) → list_all is_cell (map cell ds) ≡ true
 drawn_cells [] = refl
-drawn_cells (draw ∷ ds) = join (is_cell (cell draw)) (list_all is_cell (map cell ds)) (go (draw % 4 == 0)) (drawn_cells ds)
+drawn_cells (draw ∷ ds) = and_from (is_cell (cell draw)) (list_all is_cell (map cell ds)) (go (draw % 4 == 0)) (drawn_cells ds)
   where
     go : (test : Bool) → is_cell (if test then 64 else 46) ≡ true
     go true = refl
@@ -27,15 +28,15 @@ drawn_cells (draw ∷ ds) = join (is_cell (cell draw)) (list_all is_cell (map ce
 
 set_cells : (xs : List ℕ) (i v : ℕ) → list_all is_cell xs ≡ true → is_cell v ≡ true → list_all is_cell (set xs i v) ≡ true
 set_cells [] i v e f = refl
-set_cells (x ∷ xs) zero v e f = join (is_cell v) (list_all is_cell xs) f (both (is_cell x) (list_all is_cell xs) e).1
-set_cells (x ∷ xs) (suc i) v e f = let parts = both (is_cell x) (list_all is_cell xs) e in join (is_cell x) (list_all is_cell (set xs i v)) parts.0 (set_cells xs i v parts.1 f)
+set_cells (x ∷ xs) zero v e f = and_from (is_cell v) (list_all is_cell xs) f (and_parts (is_cell x) (list_all is_cell xs) e).1
+set_cells (x ∷ xs) (suc i) v e f = let parts = and_parts (is_cell x) (list_all is_cell xs) e in and_from (is_cell x) (list_all is_cell (set xs i v)) parts.0 (set_cells xs i v parts.1 f)
 
 pub map_cells_are : (seed side : ℕ) → list_all is_cell (map_cells seed side) ≡ true
 map_cells_are seed side =
     let drawn = map cell (draws (side * side) seed) in
     set_cells (set drawn 0 46) (side * side - 1) 46 (set_cells drawn 0 46 (drawn_cells (draws (side * side) seed)) refl) refl
 
-length-draws : (count number : ℕ) → length (draws count number) ≡ count
+pub length-draws : (count number : ℕ) → length (draws count number) ≡ count
 length-draws zero number = refl
 length-draws (suc count) number = ap suc (length-draws count (next_number number))
 
@@ -61,7 +62,7 @@ class_is byte e =
 pub classes_are : (cells : List ℕ) → list_all is_cell cells ≡ true → map class_of_byte cells ≡ map Some (map class_of_cell cells)
 classes_are [] e = refl
 classes_are (byte ∷ cells) e =
-    let parts = both (is_cell byte) (list_all is_cell cells) e in
+    let parts = and_parts (is_cell byte) (list_all is_cell cells) e in
     let here : class_of_byte byte ≡ Some (class_of_cell byte) = class_is byte parts.0 in
     let there = classes_are cells parts.1 in
     λ i. here i ∷ there i

@@ -1,5 +1,6 @@
 -- Texts whose tokens stand with one space behind each: they are read from the end, one token before what is behind it.
 use Rattle.std.proofs.Common.{◌≡◌, ℕ, suc, ◌+◌, ◌-◌, ◌<◌, ◌≤◌, Bool, true, false, nat_le, if◌then◌else◌, Option, None, Some, List, [], ◌∷◌, ◌++◌, length, take, drop, map, refl, ap, sym, subst, arith, ◌∙◌, length-append}
+use Rattle.std.proofs.lemmas.Bool.{and_parts, true≢false}
 use Rattle.std.proofs.lemmas.Bool.Decides.{nat_tests}
 use Rattle.std.proofs.lemmas.List.{length-take-le}
 use Rattle.std.proofs.Math.Seq.{take-append_seam, drop-append_seam}
@@ -11,7 +12,6 @@ use Rattle.pb_pddl.specs.declared.token.Cursor.{Cursor}
 use Rattle.pb_pddl.specs.Tokens.{is_white, begins_word, goes_on_word, lower, gap_next, gap_len, run_len, kind_of, word_first, kind_inside, len_of, is_last, unclosed, token_at, opened, moved, behind, AreTokens}
 use Rattle.pb_pddl.specs.Grammar.{Says, Opens, Closes, Ends}
 use Rattle.pb_pddl.specs.Reading.{front}
-use Rattle.pb_make_laws.proofs.Words.{both}
 
 -- Wherever the bytes begin, inside so many parentheses, they have tokens of which Q holds.
 pub record Reads (bytes : List ℕ) (depth : ℕ) (Q : List Token → Type 0) : Type 0 where
@@ -44,7 +44,7 @@ run_is : (bytes rest : List ℕ) → list_all goes_on_word bytes ≡ true → ru
 unfolding run_len goes_on_word begins_word
 run_is [] rest all = refl
 run_is (b ∷ bs) rest all =
-    let parts = both (goes_on_word b) (list_all goes_on_word bs) all in
+    let parts = and_parts (goes_on_word b) (list_all goes_on_word bs) all in
     ap (λ test. if test then suc (run_len (bs ++ 32 ∷ rest)) else 0) parts.0 ∙ ap suc (run_is bs rest parts.1)
 
 -- a token of a kind that goes on with a word
@@ -83,10 +83,7 @@ joined h bytes rest ts text none said goes behind_it are =
     let left : rest ≡ drop (length t.text) bytes = sym behind_it ∙ ap (λ (text : List ℕ). drop (length text) bytes) (sym said) in
     subst (λ (gap : ℕ). (t ≡ token_at (moved gap h) (drop gap bytes)) × (is_last t.kind ≡ true → ts ≡ []) × (is_last t.kind ≡ false → AreTokens (behind (moved gap h) t) (drop (length t.text) (drop gap bytes)) ts)) (sym none)
     (subst (λ (c : Cursor). (t ≡ token_at c bytes) × (is_last t.kind ≡ true → ts ≡ []) × (is_last t.kind ≡ false → AreTokens (behind c t) (drop (length t.text) bytes) ts)) (sym here)
-    (refl, (λ e. absurd (differ (sym e ∙ goes))), (λ e. subst (λ (bs : List ℕ). AreTokens (behind h t) bs ts) left are)))
-  where
-    differ : true ≡ false → ⊥
-    differ e = cc
+    (refl, (λ e. absurd (true≢false (sym e ∙ goes))), (λ e. subst (λ (bs : List ℕ). AreTokens (behind h t) bs ts) left are)))
 
 pub spelled : {rest : List ℕ} {depth : ℕ} {Q : List Token → Type 0} (kind : TokenKind) (first : ℕ) (others : List ℕ) → IsWordKind kind → IsSpelling kind first others → Reads rest depth Q
     → Reads (first ∷ others ++ 32 ∷ rest) depth (λ ts. (us : List Token) × Says kind (first ∷ others) ts us × Q us)
@@ -156,13 +153,10 @@ unfolding AreTokens gap_len gap_next is_white token_at is_last front
 ended = record {
   has = λ h e. (
     record { kind = kinds.End; text = []; at = unclosed (moved 1 h); head = h.head } ∷ [],
-    (refl, (λ last. refl), (λ goes. absurd (differ goes))),
+    (refl, (λ last. refl), (λ goes. absurd (true≢false goes))),
     refl,
   );
 }
-  where
-    differ : true ≡ false → ⊥
-    differ e = cc
 
 pub closes_last : Reads (41 ∷ 10 ∷ []) 1 (λ ts. (us : List Token) × Closes ts us × Ends us)
 closes_last = closed_by 10 ended

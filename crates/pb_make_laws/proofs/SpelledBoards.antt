@@ -1,8 +1,8 @@
 -- The text of a board of nine numbers below nine is eleven words of one digit.
-use Rattle.std.proofs.Common.{◌≡◌, ℕ, ◌+◌, ◌<◌, Bool, true, false, ◌&&◌, nat_lt, inl, List, [], ◌∷◌, ◌++◌, length, refl, ap, sym, subst, arith}
+use Rattle.std.proofs.Common.{◌≡◌, ℕ, ◌+◌, ◌<◌, true, false, ◌&&◌, nat_lt, inl, List, [], ◌∷◌, ◌++◌, length, refl, ap, sym, subst, arith}
+use Rattle.std.proofs.lemmas.Bool.{and_parts}
 use Rattle.std.proofs.lemmas.Bool.Decides.{nat_tests}
 use Rattle.std.proofs.lemmas.Fmt.{decimal_digit}
-use Rattle.std.specs.Char.{is_ascii_digit}
 use Rattle.std.specs.List.{list_all}
 use Rattle.pb_task.proofs.Boards.{is_board_by}
 use Rattle.pb_tiles.specs.Words.{is_blank}
@@ -10,27 +10,22 @@ use Rattle.pb_lines.specs.ShortNumbers.{IsShortNumber}
 use Rattle.pb_tiles.specs.Spelling.{AreNumbers, AreWordsOf}
 use Rattle.pb_make.specs.Boards.{board_text, goal_board, made_board, row_line}
 use Rattle.pb_make_laws.specs.Laws.{MadeBoardsAreSpelled}
+use Rattle.pb_tiles.proofs.Spelled.{blank_front}
 use Rattle.pb_make_laws.proofs.MadeBoards.{made_listed, goal_listed}
+use Rattle.pb_make_laws.proofs.Words.{digit_is}
 
 -- ---- words of one digit
 
 digit_is_no_blank : (n : ℕ) → n < 10 → is_blank (48 + n) ≡ false
 digit_is_no_blank n small = grind (arith, nat_tests)
 
-digit_is_digit : (n : ℕ) → n < 10 → is_ascii_digit (48 + n) ≡ true
-digit_is_digit n small = grind (arith, nat_tests)
-
 digit_number : (n : ℕ) → n < 10 → IsShortNumber ((48 + n) ∷ []) n
 digit_number n small = record {
   some = omega arith;
   most = omega arith;
-  digits = ap (λ test. test && true) (digit_is_digit n small);
+  digits = ap (λ test. test && true) (digit_is n small);
   value = omega arith;
 }
-
-blank_front : (byte : ℕ) (text : List ℕ) (words : List (List ℕ)) → is_blank byte ≡ true → AreWordsOf text words → AreWordsOf (byte ∷ text) words
-blank_front byte text [] e a = (e, a)
-blank_front byte text (word ∷ words) e (blanks, rest, is, are, whole, begins, more) = (byte ∷ blanks, rest, ap (λ t. byte ∷ t) is, (e, are), whole, begins, more)
 
 -- a digit and a blank before more words
 digit_front : (n blank : ℕ) (text : List ℕ) (words : List (List ℕ)) → n < 10 → is_blank blank ≡ true → AreWordsOf text words
@@ -56,12 +51,8 @@ pub record SpellsBoard (board : List ℕ) : Type 0 where
   pub numbers : AreNumbers words board
 
 small_front : (n : ℕ) (ns : List ℕ) → list_all (λ number. nat_lt number 9) (n ∷ ns) ≡ true → (n < 10) × (list_all (λ number. nat_lt number 9) ns ≡ true)
-small_front n ns e = let parts = both (nat_lt n 9) (list_all (λ number. nat_lt number 9) ns) e in (under n parts.0, parts.1)
+small_front n ns e = let parts = and_parts (nat_lt n 9) (list_all (λ number. nat_lt number 9) ns) e in (under n parts.0, parts.1)
   where
-    both : (a b : Bool) → (a && b) ≡ true → (a ≡ true) × (b ≡ true)
-    both true b e = (refl, e)
-    both false b e = cc
-
     under : (n : ℕ) → nat_lt n 9 ≡ true → n < 10
     under n e = grind (arith, nat_tests)
 

@@ -1,6 +1,6 @@
 -- Lines, words and numbers that were put together are taken apart again.
-use Rattle.std.proofs.Common.{◌≡◌, ℕ, zero, suc, ◌+◌, ◌-◌, ◌/◌, ◌%◌, ◌^◌, ◌<◌, ◌≤◌, Bool, true, false, cond, not, ◌&&◌, ◌==◌, nat_lt, if◌then◌else◌, List, [], ◌∷◌, ◌++◌, length, take, drop, map, filter, get_or, refl, ap, arith, ◌∙◌, append_assoc}
-use Rattle.std.proofs.lemmas.Bool.{lt-ltb}
+use Rattle.std.proofs.Common.{◌≡◌, ℕ, zero, suc, ◌+◌, ◌-◌, ◌/◌, ◌%◌, ◌^◌, ◌<◌, ◌≤◌, Bool, true, cond, not, ◌&&◌, ◌==◌, nat_lt, if◌then◌else◌, List, [], ◌∷◌, ◌++◌, length, take, drop, map, filter, get_or, refl, ap, arith, ◌∙◌, append_assoc}
+use Rattle.std.proofs.lemmas.Bool.{and_parts, and_from, not-true, lt-ltb}
 use Rattle.std.proofs.lemmas.Bool.Decides.{nat_tests}
 use Rattle.std.proofs.lemmas.Fmt.{decimal_by_steps, length-decimal-le}
 use Rattle.std.specs.Fmt.{decimal}
@@ -10,59 +10,48 @@ use Rattle.std.specs.Str.Lines.{strip_carriage_return}
 use Rattle.pb_grid.specs.Lines.{is_line_feed, is_blank, has_bytes, lines_of, without_empty_last, words_of}
 use Rattle.pb_lines.specs.ShortNumbers.{value_behind, IsShortNumber}
 use Rattle.pb_lines.proofs.ShortNumbers.{value_push}
-use Rattle.pb_grid.proofs.Parting.{no_lines, no_words, split_some}
+use Rattle.pb_grid.proofs.Parting.{keeps, no_lines, no_words, split_some}
 use Rattle.pb_make.specs.Lines.{line, lines}
 
 -- ---- tests of all elements
 
-pub both : (a b : Bool) → (a && b) ≡ true → (a ≡ true) × (b ≡ true)
-both true b e = (refl, e)
-both false b e = cc
-
-pub join : (a b : Bool) → a ≡ true → b ≡ true → (a && b) ≡ true
-join a b p q = cc
-
-not_true : (b : Bool) → not b ≡ true → b ≡ false
-not_true true e = cc
-not_true false e = refl
-
 pub all_append : (p : ℕ → Bool) (xs ys : List ℕ) → list_all p xs ≡ true → list_all p ys ≡ true → list_all p (xs ++ ys) ≡ true
 all_append p [] ys e f = f
-all_append p (x ∷ xs) ys e f = let parts = both (p x) (list_all p xs) e in join (p x) (list_all p (xs ++ ys)) parts.0 (all_append p xs ys parts.1 f)
+all_append p (x ∷ xs) ys e f = let parts = and_parts (p x) (list_all p xs) e in and_from (p x) (list_all p (xs ++ ys)) parts.0 (all_append p xs ys parts.1 f)
 
 pub all_take : (p : ℕ → Bool) (n : ℕ) (xs : List ℕ) → list_all p xs ≡ true → list_all p (take n xs) ≡ true
 all_take p zero xs e = refl
 all_take p (suc n) [] e = refl
-all_take p (suc n) (x ∷ xs) e = let parts = both (p x) (list_all p xs) e in join (p x) (list_all p (take n xs)) parts.0 (all_take p n xs parts.1)
+all_take p (suc n) (x ∷ xs) e = let parts = and_parts (p x) (list_all p xs) e in and_from (p x) (list_all p (take n xs)) parts.0 (all_take p n xs parts.1)
 
 pub all_drop : (p : ℕ → Bool) (n : ℕ) (xs : List ℕ) → list_all p xs ≡ true → list_all p (drop n xs) ≡ true
 all_drop p zero xs e = e
 all_drop p (suc n) [] e = refl
-all_drop p (suc n) (x ∷ xs) e = all_drop p n xs (both (p x) (list_all p xs) e).1
+all_drop p (suc n) (x ∷ xs) e = all_drop p n xs (and_parts (p x) (list_all p xs) e).1
 
 pub all_by : (p q : ℕ → Bool) → ((x : ℕ) → p x ≡ true → q x ≡ true) → (xs : List ℕ) → list_all p xs ≡ true → list_all q xs ≡ true
 all_by p q f [] e = refl
-all_by p q f (x ∷ xs) e = let parts = both (p x) (list_all p xs) e in join (q x) (list_all q xs) (f x parts.0) (all_by p q f xs parts.1)
+all_by p q f (x ∷ xs) e = let parts = and_parts (p x) (list_all p xs) e in and_from (q x) (list_all q xs) (f x parts.0) (all_by p q f xs parts.1)
 
 all_at : (p : ℕ → Bool) (xs : List ℕ) (k : ℕ) → list_all p xs ≡ true → k < length xs → p (get_or xs k 0) ≡ true
 all_at p [] k e less = absurd (omega arith)
-all_at p (x ∷ xs) zero e less = (both (p x) (list_all p xs) e).0
-all_at p (x ∷ xs) (suc k) e less = all_at p xs k (both (p x) (list_all p xs) e).1 (omega arith)
+all_at p (x ∷ xs) zero e less = (and_parts (p x) (list_all p xs) e).0
+all_at p (x ∷ xs) (suc k) e less = all_at p xs k (and_parts (p x) (list_all p xs) e).1 (omega arith)
 
 -- ---- parts
 
 split_at : (p : ℕ → Bool) (xs : List ℕ) (y : ℕ) (ys : List ℕ) → list_all (λ x. not (p x)) xs ≡ true → p y ≡ true → slice_split p (xs ++ y ∷ ys) ≡ xs ∷ slice_split p ys
 split_at p [] y ys all is = ap (λ b. cond b ([] ∷ slice_split p ys) (onto_first y (slice_split p ys))) is
 split_at p (x ∷ xs) y ys all is =
-    let parts = both (not (p x)) (list_all (λ x. not (p x)) xs) all in
-    ap (λ b. cond b ([] ∷ slice_split p (xs ++ y ∷ ys)) (onto_first x (slice_split p (xs ++ y ∷ ys)))) (not_true (p x) parts.0)
+    let parts = and_parts (not (p x)) (list_all (λ x. not (p x)) xs) all in
+    ap (λ b. cond b ([] ∷ slice_split p (xs ++ y ∷ ys)) (onto_first x (slice_split p (xs ++ y ∷ ys)))) (not-true (p x) parts.0)
     ∙ ap (onto_first x) (split_at p xs y ys parts.1 is)
 
 split_whole : (p : ℕ → Bool) (xs : List ℕ) → list_all (λ x. not (p x)) xs ≡ true → slice_split p xs ≡ xs ∷ []
 split_whole p [] all = refl
 split_whole p (x ∷ xs) all =
-    let parts = both (not (p x)) (list_all (λ x. not (p x)) xs) all in
-    ap (λ b. cond b ([] ∷ slice_split p xs) (onto_first x (slice_split p xs))) (not_true (p x) parts.0) ∙ ap (onto_first x) (split_whole p xs parts.1)
+    let parts = and_parts (not (p x)) (list_all (λ x. not (p x)) xs) all in
+    ap (λ b. cond b ([] ∷ slice_split p xs) (onto_first x (slice_split p xs))) (not-true (p x) parts.0) ∙ ap (onto_first x) (split_whole p xs parts.1)
 
 -- ---- lines
 
@@ -71,19 +60,14 @@ abbrev pub is_inner : (byte : ℕ) → Bool
 is_inner byte = not (byte == 10) && not (byte == 13)
 
 inner_no_feed : (byte : ℕ) → is_inner byte ≡ true → not (byte == 10) ≡ true
-inner_no_feed byte e = (both (not (byte == 10)) (not (byte == 13)) e).0
+inner_no_feed byte e = (and_parts (not (byte == 10)) (not (byte == 13)) e).0
 
 strip_none : (row : List ℕ) → list_all is_inner row ≡ true → strip_carriage_return row ≡ row
 strip_none [] e = refl
 strip_none (x ∷ xs) e =
     let last = get_or (x ∷ xs) (length (x ∷ xs) - 1) 0 in
     let inner : is_inner last ≡ true = all_at is_inner (x ∷ xs) (length (x ∷ xs) - 1) e (omega arith) in
-    ap (λ test. if test then take (length (x ∷ xs) - 1) (x ∷ xs) else x ∷ xs) (not_true (last == 13) (both (not (last == 10)) (not (last == 13)) inner).1)
-
-keeps : (part : List ℕ) (parts : List (List ℕ)) → 0 < length parts → without_empty_last (part ∷ parts) ≡ part ∷ without_empty_last parts
-unfolding without_empty_last
-keeps part [] some = absurd (omega arith)
-keeps part (next ∷ parts) some = refl
+    ap (λ test. if test then take (length (x ∷ xs) - 1) (x ∷ xs) else x ∷ xs) (not-true (last == 13) (and_parts (not (last == 10)) (not (last == 13)) inner).1)
 
 line_front : (row rest : List ℕ) → list_all is_inner row ≡ true → lines_of (line row ++ rest) ≡ row ∷ lines_of rest
 unfolding lines_of
@@ -139,7 +123,7 @@ joined_inner (word ∷ next ∷ words) all =
 
 -- ---- numbers
 
-digit_is : (n : ℕ) → n < 10 → is_ascii_digit (48 + n) ≡ true
+pub digit_is : (n : ℕ) → n < 10 → is_ascii_digit (48 + n) ≡ true
 digit_is n small = grind (arith, nat_tests)
 
 digit_plain : (byte : ℕ) → is_ascii_digit byte ≡ true → is_plain byte ≡ true
