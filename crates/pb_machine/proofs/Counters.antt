@@ -1,6 +1,7 @@
 -- The numbers of leased and of hot blocks in an interference.
-use Rattle.std.proofs.Common.{◌≡◌, ℕ, zero, suc, ◌+◌, ◌<◌, ◌≤◌, Bool, true, false, not, ◌&&◌, ◌||◌, ◌==◌, nat_lt, Option, Some, None, refl, sym, ap, ◌∙◌, arith, is_some}
+use Rattle.std.proofs.Common.{◌≡◌, ℕ, zero, suc, ◌+◌, ◌<◌, Bool, true, false, not, ◌&&◌, ◌||◌, ◌==◌, nat_lt, Option, Some, None, refl, sym, ap, ◌∙◌, arith, is_some}
 use Rattle.std.specs.List.{AllByRecursion}
+use Rattle.std.proofs.Math.Bool.{and-true, and-false}
 use Rattle.std.proofs.lemmas.Bool.Decides.{nat_tests}
 use Rattle.pb_model.proofs.Tests.{not_false, or_false, equal, below, by_cases}
 use Rattle.pb_machine.specs.declared.event.Event.{Event}
@@ -14,7 +15,7 @@ use Rattle.pb_machine.specs.Counts.{Counts, is_lease_of, is_busy, counts_after}
 use Rattle.pb_machine.specs.Legality.{tests, is_memory_end, refusal}
 use Rattle.pb_machine.specs.Counters.{busy_count, hot_count, hot_count_of, ChangesBusy, ChangesHot}
 use Rattle.pb_machine.specs.JournalLaws.{BusyIsCounted, HotIsCounted, CountersFit, EventsChangeBusy, EventsChangeHot, MarksChangeHot, InterferenceIsMutual, CountersBeginAtNone}
-use Rattle.pb_machine.proofs.TableLaws.{entry_here, entry_else, sum_same, sum_small, sum_with_entry, any_none, sum_zero}
+use Rattle.pb_machine.proofs.TableLaws.{entry_here, entry_else, sum_same, one_small, sum_small, sum_with_entry, any_none, sum_zero}
 use Rattle.pb_machine.proofs.CountsLaws.{none_true, rest_passes, none_leased, grant_of, renewed_same, interferes_swap}
 
 -- some number passes exactly where the count is not 0
@@ -37,18 +38,7 @@ split true true false = refl
 split true true true = refl
 
 split_not : (a h t : Bool) → one_if (a && (h && t)) + one_if (a && (h && not t)) ≡ one_if (a && h)
-split_not false h t = refl
-split_not true false t = refl
-split_not true true false = refl
-split_not true true true = refl
-
-and_no : (a : Bool) → (a && false) ≡ false
-and_no false = refl
-and_no true = refl
-
-and_yes : (a : Bool) → (a && true) ≡ a
-and_yes false = refl
-and_yes true = refl
+split_not a h t = let turned = split a h t in omega (arith, turned)
 
 module _ (blocks : Blocks) where
   -- a table of hot blocks with another mark
@@ -70,15 +60,15 @@ module _ (blocks : Blocks) where
   marked_hot : (hot : ℕ → Bool) (marked block : ℕ) → marked < blocks.count → hot marked ≡ false → hot_count blocks (with_entry hot marked true) block ≡ hot_count blocks hot block + one_if (interferes blocks block marked)
   marked_hot hot marked block lt cold =
       let both = with_mark hot marked block true lt in
-      let before : one_if (interferes blocks block marked && hot marked) ≡ 0 = ap one_if (ap (λ r. interferes blocks block marked && r) cold ∙ and_no (interferes blocks block marked)) in
-      let after : one_if (interferes blocks block marked && true) ≡ one_if (interferes blocks block marked) = ap one_if (and_yes (interferes blocks block marked)) in
+      let before : one_if (interferes blocks block marked && hot marked) ≡ 0 = ap one_if (ap (λ r. interferes blocks block marked && r) cold ∙ and-false (interferes blocks block marked)) in
+      let after : one_if (interferes blocks block marked && true) ≡ one_if (interferes blocks block marked) = ap one_if (and-true (interferes blocks block marked)) in
       omega (arith, both, before, after)
 
   marked_cold : (hot : ℕ → Bool) (marked block : ℕ) → marked < blocks.count → hot marked ≡ true → hot_count blocks (with_entry hot marked false) block + one_if (interferes blocks block marked) ≡ hot_count blocks hot block
   marked_cold hot marked block lt is_hot =
       let both = with_mark hot marked block false lt in
-      let before : one_if (interferes blocks block marked && hot marked) ≡ one_if (interferes blocks block marked) = ap one_if (ap (λ r. interferes blocks block marked && r) is_hot ∙ and_yes (interferes blocks block marked)) in
-      let after : one_if (interferes blocks block marked && false) ≡ 0 = ap one_if (and_no (interferes blocks block marked)) in
+      let before : one_if (interferes blocks block marked && hot marked) ≡ one_if (interferes blocks block marked) = ap one_if (ap (λ r. interferes blocks block marked && r) is_hot ∙ and-true (interferes blocks block marked)) in
+      let after : one_if (interferes blocks block marked && false) ≡ 0 = ap one_if (and-false (interferes blocks block marked)) in
       omega (arith, both, before, after)
 
   hot_same : (hot other : ℕ → Bool) (block : ℕ) → ((k : ℕ) → hot k ≡ other k) → hot_count blocks hot block ≡ hot_count blocks other block
@@ -138,8 +128,8 @@ module _ (blocks : Blocks) where
       where
         cools : (marked k : ℕ) → (c.hot k && not (k == marked)) ≡ with_entry c.hot marked false k
         cools marked k = by_cases (k == marked)
-            (λ e. ap (λ r. c.hot k && not r) e ∙ and_no (c.hot k) ∙ sym (entry_here c.hot marked k false e))
-            (λ e. ap (λ r. c.hot k && not r) e ∙ and_yes (c.hot k) ∙ sym (entry_else c.hot marked k false e))
+            (λ e. ap (λ r. c.hot k && not r) e ∙ and-false (c.hot k) ∙ sym (entry_here c.hot marked k false e))
+            (λ e. ap (λ r. c.hot k && not r) e ∙ and-true (c.hot k) ∙ sym (entry_else c.hot marked k false e))
     hot_after (Release worker used memory) block may =
         sum_balance blocks.count _ _ _ (λ k. split_not (interferes blocks block k) (c.hot k) (is_busy blocks settings.workers (with_entry c.leases worker None) k))
     hot_after (Off worker memory) block may = refl
@@ -163,10 +153,6 @@ marks_change_hot blocks hot marked block lt = (λ cold. marked_hot blocks hot ma
 pub interference_is_mutual : InterferenceIsMutual
 interference_is_mutual blocks block other = interferes_swap blocks block other
 
-one_small : (test : Bool) → one_if test ≤ 1
-one_small true = omega arith
-one_small false = omega arith
-
 pub counters_fit : CountersFit
 counters_fit blocks workers leases hot block = (
   sum_small workers _ (λ worker. one_small (is_lease_of (interferes blocks block) (leases worker))),
@@ -176,5 +162,5 @@ counters_fit blocks workers leases hot block = (
 pub counters_begin_at_none : CountersBeginAtNone
 counters_begin_at_none blocks workers leases hot block = (
   λ out. sum_zero workers _ (λ i lt. ap (λ o. one_if (is_lease_of (interferes blocks block) o)) (none_leased (leases i) (any_none workers i (λ k. is_some (leases k)) out lt))),
-  λ cold. sum_zero blocks.count _ (λ other lt. ap (λ r. one_if (interferes blocks block other && r)) (cold other) ∙ ap one_if (and_no (interferes blocks block other))),
+  λ cold. sum_zero blocks.count _ (λ other lt. ap (λ r. one_if (interferes blocks block other && r)) (cold other) ∙ ap one_if (and-false (interferes blocks block other))),
 )

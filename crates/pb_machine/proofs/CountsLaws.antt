@@ -1,7 +1,9 @@
 -- Every event that may come keeps the counts lawful.
 use Rattle.std.proofs.Common.{◌≡◌, ℕ, ◌+◌, ◌-◌, ◌<◌, ◌≤◌, min, Bool, true, false, cond, not, ◌&&◌, ◌||◌, ◌==◌, nat_lt, is_some, is_none, List, [], ◌∷◌, Option, Some, None, refl, sym, ap, ◌∙◌, arith, true≢false, ◌⊎◌, inl, inr}
 use Rattle.std.specs.List.{AllByRecursion}
-use Rattle.pb_model.proofs.Tests.{and_true, or_false, or_true, not_false, not_true, by_cases, and_swap, not_both, equal, equal_self, equal_swap, below, not_below}
+pub use Rattle.std.proofs.lemmas.Option.{same_Some as some_is}
+pub use Rattle.pb_model.proofs.Tests.{none_found as none_leased}
+use Rattle.pb_model.proofs.Tests.{and_true, or_false, or_true, not_false, not_true, by_cases, and_swap, not_both, equal, equal_self, equal_swap, below, not_below, none_found, some_found}
 use Rattle.pb_machine.specs.declared.event.End.{End}
 use Rattle.pb_machine.specs.declared.event.End.TheVariants.{Quiet, Budget, Memory}
 use Rattle.pb_machine.specs.declared.event.Event.{Event}
@@ -46,24 +48,11 @@ rest_passes t ts h = go t.0 refl
     go true e = let bad : ◌≡◌ {A = Option EventRefusal} (Some t.1) None = sym (ap (λ r. cond r (Some t.1) (first_true ts)) e) ∙ h in cc
     go false e = sym (ap (λ r. cond r (Some t.1) (first_true ts)) e) ∙ h
 
-pub some_is : (x y : Grant) → ◌≡◌ {A = Option Grant} (Some x) (Some y) → x ≡ y
-some_is x y h = cc
-
-pub is_none_of : (o : Option End) → is_some o ≡ false → o ≡ None
-is_none_of None h = refl
-is_none_of (Some e) h = absurd (true≢false h)
-
 pub grant_of : (o : Option Grant) → is_none o ≡ false → (h : Grant) × (o ≡ Some h)
-grant_of None h = absurd (true≢false h)
-grant_of (Some x) h = (x, refl)
+grant_of o h = some_found o (not_false (is_some o) h)
 
 pub none_end : (o : Option End) → is_none o ≡ true → o ≡ None
-none_end None h = refl
-none_end (Some e) h = absurd (true≢false (sym h))
-
-pub none_leased : (o : Option Grant) → is_some o ≡ false → o ≡ None
-none_leased None h = refl
-none_leased (Some e) h = absurd (true≢false h)
+none_end o h = none_found o (not_true (is_some o) h)
 
 meets_swap : (blocks : Blocks) (b c : ℕ) → meets blocks b c ≡ meets blocks c b
 meets_swap blocks b c = any_same blocks.count (λ x. blocks.scope b x && blocks.scope c x) (λ x. blocks.scope c x && blocks.scope b x) (λ x. and_swap (blocks.scope b x) (blocks.scope c x))

@@ -1,8 +1,8 @@
 -- What a journal tells of its end, and what a legal history doesn't depend on.
-use Rattle.std.proofs.Common.{◌≡◌, false, cond, is_some, is_none, List, [], ◌∷◌, Option, Some, None, refl, sym, ap, ◌∙◌, true≢false}
+use Rattle.std.proofs.Common.{◌≡◌, cond, is_some, is_none, List, [], ◌∷◌, Option, Some, None, refl, sym, ap, ◌∙◌, true≢false}
 use Rattle.std.specs.Option.{option_or}
 use Rattle.pb_model.specs.Weight.{Weight}
-use Rattle.pb_model.proofs.Tests.{by_cases}
+use Rattle.pb_model.proofs.Tests.{by_cases, none_found}
 use Rattle.pb_machine.specs.declared.event.End.{End}
 use Rattle.pb_machine.specs.declared.event.End.TheVariants.{Quiet, Budget, Memory}
 use Rattle.pb_machine.specs.declared.event.Event.{Event}
@@ -18,19 +18,15 @@ use Rattle.pb_machine.proofs.TableLaws.{any_some}
 use Rattle.pb_machine.proofs.CountsLaws.{passes}
 use Rattle.pb_machine.proofs.Histories.{some_counts, replay_first, first_may}
 
-no_end : (o : Option End) → is_some o ≡ false → o ≡ None
-no_end None h = refl
-no_end (Some end) h = absurd (true≢false h)
-
 or_nothing : (o : Option End) → o ≡ option_or o None
 or_nothing None = refl
 or_nothing (Some end) = refl
 
 module _ (blocks : Blocks) (settings : Settings) where
-  no_end_before : (c : Counts) (end : End) → refusal blocks settings c (Ended end) ≡ None → c.end ≡ None
-  no_end_before c Quiet may = no_end c.end (passes blocks settings c (Ended Quiet) may).0
-  no_end_before c Budget may = no_end c.end (passes blocks settings c (Ended Budget) may).0
-  no_end_before c Memory may = no_end c.end (passes blocks settings c (Ended Memory) may).0
+  pub no_end_before : (c : Counts) (end : End) → refusal blocks settings c (Ended end) ≡ None → c.end ≡ None
+  no_end_before c Quiet may = none_found c.end (passes blocks settings c (Ended Quiet) may).0
+  no_end_before c Budget may = none_found c.end (passes blocks settings c (Ended Budget) may).0
+  no_end_before c Memory may = none_found c.end (passes blocks settings c (Ended Memory) may).0
 
   one_end : (c : Counts) (e : Event) (es : List Event) → refusal blocks settings c e ≡ None → option_or (counts_after blocks settings c e).end (end_in es) ≡ option_or c.end (end_in (e ∷ es))
   one_end c (Lease by block quota) es may = refl

@@ -145,7 +145,7 @@ told_cost = record {
   broken = refl;
 }
 
-one_told : (cost : ℕ) → ◌≡◌ {A = Option ℕ} (Some 1) (Some cost) → 1 ≤ cost
+pub one_told : (cost : ℕ) → ◌≡◌ {A = Option ℕ} (Some 1) (Some cost) → 1 ≤ cost
 one_told cost is = let same = some_number 1 cost is in omega arith
 
 came_from_goal : CameBack setup told 0 0 0 m4.store

@@ -1,7 +1,7 @@
 -- A search of three states by two workers, as an example that meets the definitions: each state is a block of its own, and the start has two
 -- successors, of which one is the goal. Both workers have a lease at once. One takes the goal and tells its cost; the other marks the
 -- start's block hot and takes the mark away, reads the cost that was told, and cuts its row by it.
-use Rattle.std.proofs.Common.{◌≡◌, ℕ, zero, suc, ◌<◌, ◌≤◌, true, false, ◌&&◌, ◌||◌, ◌==◌, nat_lt, List, [], ◌∷◌, Option, Some, None, refl, sym, ap, ◌∙◌, arith}
+use Rattle.std.proofs.Common.{◌≡◌, ℕ, zero, suc, ◌<◌, true, false, ◌&&◌, ◌||◌, ◌==◌, nat_lt, List, [], ◌∷◌, Option, Some, None, refl, sym, ap, ◌∙◌, arith}
 use Rattle.std.proofs.lemmas.Bool.Decides.{nat_tests}
 use Rattle.pb_model.specs.declared.row.Estimate.TheVariants.{Cost}
 use Rattle.pb_model.specs.declared.row.Status.TheVariants.{Opened, Closed, Cut}
@@ -11,7 +11,6 @@ use Rattle.pb_model.specs.Work.{expand, cut, take_goal, lower, store_after}
 use Rattle.pb_model.specs.Local.{merged_store}
 use Rattle.pb_model.proofs.Offers.{some_row}
 use Rattle.pb_model.proofs.Tests.{below}
-use Rattle.pb_model.proofs.Incumbents.{some_number}
 use Rattle.pb_machine.specs.declared.event.End.TheVariants.{Quiet}
 use Rattle.pb_machine.specs.declared.event.Event.TheVariants.{Lease, Hot, Cold, Release, Off, Ended}
 use Rattle.pb_machine.specs.Tables.{with_entry}
@@ -19,6 +18,7 @@ use Rattle.pb_machine.specs.Counts.{counts_after}
 use Rattle.pb_machine.specs.Machine.{Setup, IsSetup, with_known, with_incumbent, Machine, opening_machine, lent_store, CameBack, Happens, Tells, Move, event_move, tell_move, Runs}
 use Rattle.pb_machine.specs.Lawful.{IsLawful}
 use Rattle.pb_machine.proofs.Moments.{opening_keeps, run_keeps, sound_after}
+use Rattle.pb_machine.proofs.Example.{one_told}
 
 abbrev step : ℕ → ℕ → Option (ℕ × ℕ)
 step zero zero = Some (1, 1)
@@ -187,9 +187,6 @@ marked = record { may = refl; counts = refl; rows = (λ other near (hot : false 
 
 cooled : Happens setup m6 (Cold 1 0) m7
 cooled = record { may = refl; counts = refl; rows = (refl, refl, refl, refl, refl) }
-
-one_told : (cost : ℕ) → ◌≡◌ {A = Option ℕ} (Some 1) (Some cost) → 1 ≤ cost
-one_told cost is = let same = some_number 1 cost is in omega arith
 
 came_from_goal : CameBack setup m7 0 0 0 m8.store
 came_from_goal = record {

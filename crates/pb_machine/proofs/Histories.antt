@@ -1,6 +1,8 @@
 -- Legal histories, event by event.
 use Rattle.std.proofs.Common.{◌≡◌, ℕ, suc, ◌+◌, length, Bool, true, false, cond, ◌&&◌, ◌||◌, ◌==◌, is_none, List, [], ◌∷◌, ◌++◌, Option, Some, None, refl, sym, ap, ◌∙◌, subst, arith, true≢false, ◌⊎◌, inl, inr, rules, IsSome, is_some, ◌<◌}
 use Rattle.std.specs.List.{list_any}
+use Rattle.std.proofs.Math.Bool.{or-true, or-false}
+pub use Rattle.std.proofs.lemmas.Option.{same_Some as some_counts}
 use Rattle.pb_model.proofs.Tests.{by_cases, equal_swap, and_true, not_false}
 use Rattle.pb_machine.specs.declared.event.End.{End}
 use Rattle.pb_machine.specs.declared.event.End.TheVariants.{Quiet, Budget, Memory}
@@ -15,9 +17,6 @@ use Rattle.pb_machine.specs.History.{replay, IsFirstRefused, or_refused, first_r
 use Rattle.pb_machine.specs.JournalLaws.{HistoriesAreLawful, HistoriesGrow, BeginningsAreHistories, SigningOffIsTold, FinishedWorkersSignOff, SignedOffIsFinished, RefusalsAreFirst, RefusedJournalsFail, MemoryEndsAreReported, ReportsEndSearches, SpentIsUsed, UsedFitsBudget}
 use Rattle.pb_machine.proofs.TableLaws.{any_none, sum_zero}
 use Rattle.pb_machine.proofs.CountsLaws.{none_leased, passes, no_trouble, event_keeps, opening_lawful}
-
-pub some_counts : (x y : Counts) → ◌≡◌ {A = Option Counts} (Some x) (Some y) → x ≡ y
-some_counts x y h = cc
 
 module _ (blocks : Blocks) (settings : Settings) where
   -- a history that begins with an event that may come
@@ -72,14 +71,10 @@ module _ (blocks : Blocks) (settings : Settings) where
   one_off c (Release by used memory) es worker = ap (λ r. r || c.signed_off worker) (sym (other_off c (Release by used memory) es worker refl))
   one_off c (Ended end) es worker = ap (λ r. r || c.signed_off worker) (sym (other_off c (Ended end) es worker refl))
   one_off c (Off by memory) es worker = by_cases (by == worker)
-      (λ own. ap (λ r. TellsOff worker es || cond r true (c.signed_off worker)) (equal_swap worker by ∙ own) ∙ or_true_right (TellsOff worker es)
+      (λ own. ap (λ r. TellsOff worker es || cond r true (c.signed_off worker)) (equal_swap worker by ∙ own) ∙ or-true (TellsOff worker es)
       ∙ sym (ap (λ r. list_any is_off (cond r (Off by memory ∷ events_of worker es) (events_of worker es)) || c.signed_off worker) own))
       (λ own. ap (λ r. TellsOff worker es || cond r true (c.signed_off worker)) (equal_swap worker by ∙ own)
       ∙ sym (ap (λ r. list_any is_off (cond r (Off by memory ∷ events_of worker es) (events_of worker es)) || c.signed_off worker) own))
-    where
-      or_true_right : (a : Bool) → (a || true) ≡ true
-      or_true_right true = refl
-      or_true_right false = refl
 
   off_told : (es : List Event) (c d : Counts) (worker : ℕ) → replay blocks settings c es ≡ Some d → d.signed_off worker ≡ (TellsOff worker es || c.signed_off worker)
   off_told [] c d worker is = ap (λ (q : Counts). q.signed_off worker) (sym (some_counts c d is))
@@ -101,11 +96,7 @@ beginnings_are_histories blocks settings before journal start counts is begins =
 
 pub signing_off_is_told : SigningOffIsTold
 signing_off_is_told blocks settings before journal counts worker is =
-    off_told blocks settings journal (opening_counts settings before) counts worker is.replays ∙ or_no (list_any is_off (events_of worker journal))
-  where
-    or_no : (a : Bool) → (a || false) ≡ a
-    or_no true = refl
-    or_no false = refl
+    off_told blocks settings journal (opening_counts settings before) counts worker is.replays ∙ or-false (list_any is_off (events_of worker journal))
 
 pub finished_workers_sign_off : FinishedWorkersSignOff
 finished_workers_sign_off blocks settings before journal counts is finished worker there = sym (signing_off_is_told blocks settings before journal counts worker is) ∙ finished.signed_off worker there

@@ -1,6 +1,7 @@
 -- The first view, what a view tells, and that holding keeps all views true of the journal.
 use Rattle.std.proofs.Common.{◌≡◌, ◌≢◌, ℕ, zero, suc, ◌<◌, ◌≤◌, set, true, false, ◌==◌, nat_lt, List, [], ◌∷◌, ◌++◌, refl, sym, ap, ◌∙◌, subst, ◌⊎◌, inl, inr, arith}
 use Rattle.std.specs.List.{AllByRecursion, list_any}
+use Rattle.std.proofs.lemmas.Bool.{ne_eqb}
 use Rattle.std.proofs.lemmas.List.{append-nil}
 use Rattle.std.proofs.lemmas.List.Elements.{filter-append}
 use mathlib.Core.Option.{some, some-injective, some-ne-none}
@@ -10,7 +11,7 @@ use Rattle.pb_machine.specs.declared.event.Event.{Event}
 use Rattle.pb_machine.specs.History.{is_event_of, events_of, StartsWith, is_off}
 use Rattle.pb_machine.specs.Views.{IsAmong, Share, View, IsShareOf, IsTrueOf, HasWorker, AreTrueOf, AreBy, first_view, view_after}
 use Rattle.pb_machine.specs.JournalLaws.{FirstViewsAreTrue, HoldingKeepsViews, LastViewsTellAll, LastViewsSignOff}
-use Rattle.pb_machine.proofs.Places.{starts_more, unmoved, differs, IsRight, set_else, set_here, at_set, all_both, all_of}
+use Rattle.pb_machine.proofs.Places.{starts_more, unmoved, IsRight, set_else, set_here, at_set, all_both, all_of}
 
 pub first_views_are_true : FirstViewsAreTrue
 first_views_are_true workers some_workers = record {
@@ -83,7 +84,7 @@ module _ (workers : ℕ) (journal added : List Event) (views : List View) (seat 
         seen = starts_more journal added u.seen is.seen;
         shares = all_of (IsRight journal u.seen h.made h.seat_of j) (IsRight (journal ++ added) u.seen h.made h.seat_of j)
             (λ share right. (
-              still u.seen share (differs share.worker view.own.worker (λ same. there.0 (sym right.2 ∙ ap h.seat_of same ∙ mine.shares.0.2))) right.0,
+              still u.seen share (ne_eqb share.worker view.own.worker (λ same. there.0 (sym right.2 ∙ ap h.seat_of same ∙ mine.shares.0.2))) right.0,
               right.1,
               right.2,
             ))
@@ -108,7 +109,7 @@ module _ (workers : ℕ) (journal added : List Event) (views : List View) (seat 
     few = h.few;
     each = λ j u e up. go j u up (at_set views seat j new u e);
     found = λ worker less. found worker less (h.found worker less);
-    unmade = λ worker le. unmoved journal added worker (by worker (differs worker view.own.worker (λ same. past worker same le))) ∙ h.unmade worker le;
+    unmade = λ worker le. unmoved journal added worker (by worker (ne_eqb worker view.own.worker (λ same. past worker same le))) ∙ h.unmade worker le;
     whole = (seat, new, set_here views seat view new at, live, refl);
   }
 

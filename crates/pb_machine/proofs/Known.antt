@@ -1,5 +1,6 @@
 -- What is known as an incumbent.
-use Rattle.std.proofs.Common.{◌≡◌, ℕ, min, Bool, true, false, ◌||◌, nat_lt, Option, Some, None, refl, sym, ap, ◌∙◌, ◌⊎◌, inl, inr, arith, true≢false}
+use Rattle.std.proofs.Common.{◌≡◌, ℕ, min, Bool, true, ◌||◌, nat_lt, Option, Some, None, refl, sym, ap, ◌∙◌, ◌⊎◌, inl, inr, arith, true≢false}
+use Rattle.std.proofs.Math.Bool.{or-true}
 use Rattle.pb_model.specs.Store.{lesser}
 use Rattle.pb_model.proofs.Tests.{by_cases, equal, equal_self, below, not_below}
 use Rattle.pb_machine.specs.Machine.{is_same, with_known}
@@ -18,11 +19,7 @@ pub known_new : (known : Option ℕ → Bool) (o : Option ℕ) → with_known kn
 known_new known o = ap (λ r. r || known o) (same_self o)
 
 pub known_more : (known : Option ℕ → Bool) (new o : Option ℕ) → known o ≡ true → with_known known new o ≡ true
-known_more known new o h = ap (λ r. is_same o new || r) h ∙ or_yes (is_same o new)
-  where
-    or_yes : (a : Bool) → (a || true) ≡ true
-    or_yes true = refl
-    or_yes false = refl
+known_more known new o h = ap (λ r. is_same o new || r) h ∙ or-true (is_same o new)
 
 -- the lesser of two is one of them
 pub lesser_one : (o : Option ℕ) (u : ℕ) → (lesser o (Some u) ≡ Some u) ⊎ (lesser o (Some u) ≡ o)

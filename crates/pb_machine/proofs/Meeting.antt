@@ -1,13 +1,14 @@
 -- Taking in a pass keeps all views true of the journal.
-use Rattle.std.proofs.Common.{◌≡◌, ◌≢◌, ℕ, ◌+◌, length, set, Bool, true, false, cond, ◌==◌, nat_lt, List, ◌∷◌, refl, sym, ap, ◌∙◌, subst, ◌⊎◌, inl, inr, arith, true≢false}
+use Rattle.std.proofs.Common.{◌≡◌, ◌≢◌, ℕ, ◌+◌, ◌<◌, ◌≤◌, length, set, true, false, cond, ◌==◌, nat_lt, List, ◌∷◌, refl, sym, ap, ◌∙◌, subst, ◌⊎◌, inl, inr, arith, true≢false}
 use mathlib.Core.Option.{some, some-injective}
 use lib.ListN.{get_elem?}
+use Rattle.std.proofs.lemmas.Bool.{ne_eqb, cond_both}
 use Rattle.pb_model.proofs.Tests.{by_cases, not_both, equal, equal_self, below, not_below}
 use Rattle.pb_machine.specs.declared.event.Event.{Event}
 use Rattle.pb_machine.specs.History.{events_of, StartsWith}
 use Rattle.pb_machine.specs.Views.{IsAmong, Share, View, IsShareOf, IsTrueOf, HasWorker, AreTrueOf, spent_view, longer, met_view}
 use Rattle.pb_machine.specs.JournalLaws.{MeetingKeepsViews}
-use Rattle.pb_machine.proofs.Places.{distinct_append, has_seat, among_one, covered_more, no_longer, all_seen, differs, IsRight, among_left, among_right, set_else, set_here, at_set, all_of, all_append}
+use Rattle.pb_machine.proofs.Places.{distinct_append, has_seat, among_one, covered_more, no_longer, all_seen, IsRight, among_left, among_right, set_else, set_here, at_set, all_of, all_append}
 
 module _ (workers : ℕ) (journal : List Event) (views : List View) (seat other : ℕ) (view met : View) (h : AreTrueOf workers journal views)
     (at : get_elem? views seat ≡ some view) (live : view.is_live ≡ true) (apart : other ≢ seat) (there : get_elem? (set views seat (met_view view met)) other ≡ some met) (up : met.is_live ≡ true) where
@@ -27,7 +28,7 @@ module _ (workers : ℕ) (journal : List Event) (views : List View) (seat other 
   seat_of worker = cond (h.seat_of worker == other) seat (h.seat_of worker)
 
   stays : (worker j : ℕ) → h.seat_of worker ≡ j → j ≢ other → seat_of worker ≡ j
-  stays worker j is off = ap (λ r. cond r seat (h.seat_of worker)) (differs (h.seat_of worker) other (λ e. off (sym is ∙ e))) ∙ is
+  stays worker j is off = ap (λ r. cond r seat (h.seat_of worker)) (ne_eqb (h.seat_of worker) other (λ e. off (sym is ∙ e))) ∙ is
 
   moves : (worker : ℕ) → h.seat_of worker ≡ other → seat_of worker ≡ seat
   moves worker is = ap (λ r. cond r seat (h.seat_of worker)) (ap (λ k. k == other) is ∙ equal_self other)
@@ -35,26 +36,29 @@ module _ (workers : ℕ) (journal : List Event) (views : List View) (seat other 
   abbrev seen : List Event
   seen = longer view.seen met.seen
 
+  -- what each of the two journals has if it is the longer, the longer one has
+  of_longer : (P : List Event → Type 0) → (length view.seen < length met.seen → P met.seen) → (length met.seen ≤ length view.seen → P view.seen) → P seen
+  of_longer P more less = cond_both (nat_lt (length view.seen) (length met.seen)) met.seen view.seen P
+      (λ e. more (below (length view.seen) (length met.seen) e)) (λ e. less (not_below (length view.seen) (length met.seen) e))
+
   begins : StartsWith journal seen
-  begins = go (nat_lt (length view.seen) (length met.seen))
-    where
-      go : (r : Bool) → StartsWith journal (cond r met.seen view.seen)
-      go true = theirs.seen
-      go false = mine.seen
+  begins = of_longer (StartsWith journal) (λ more. theirs.seen) (λ less. mine.seen)
 
   mine_covered : (share : Share) → IsShareOf journal view.seen share → IsShareOf journal seen share
-  mine_covered share is = record { told = is.told; covered = go (nat_lt (length view.seen) (length met.seen)) refl }
-    where
-      go : (r : Bool) → nat_lt (length view.seen) (length met.seen) ≡ r → events_of share.worker (cond r met.seen view.seen) ≡ share.events
-      go true e = covered_more journal view.seen met.seen share.worker share.events mine.seen theirs.seen (let less = below (length view.seen) (length met.seen) e in omega (arith, less)) is.told is.covered
-      go false e = is.covered
+  mine_covered share is = record {
+    told = is.told;
+    covered = of_longer (λ events. events_of share.worker events ≡ share.events)
+        (λ more. covered_more journal view.seen met.seen share.worker share.events mine.seen theirs.seen (omega (arith, more)) is.told is.covered)
+        (λ less. is.covered);
+  }
 
   theirs_covered : (share : Share) → IsShareOf journal met.seen share → IsShareOf journal seen share
-  theirs_covered share is = record { told = is.told; covered = go (nat_lt (length view.seen) (length met.seen)) refl }
-    where
-      go : (r : Bool) → nat_lt (length view.seen) (length met.seen) ≡ r → events_of share.worker (cond r met.seen view.seen) ≡ share.events
-      go true e = is.covered
-      go false e = covered_more journal met.seen view.seen share.worker share.events theirs.seen mine.seen (not_below (length view.seen) (length met.seen) e) is.told is.covered
+  theirs_covered share is = record {
+    told = is.told;
+    covered = of_longer (λ events. events_of share.worker events ≡ share.events)
+        (λ more. is.covered)
+        (λ less. covered_more journal met.seen view.seen share.worker share.events theirs.seen mine.seen less is.told is.covered);
+  }
 
   has_mine : (worker : ℕ) → HasWorker worker view → HasWorker worker both
   has_mine worker (inl is) = inl is
@@ -158,23 +162,14 @@ module _ (workers : ℕ) (journal : List Event) (views : List View) (seat other 
 
   -- the longer of two journals is the whole one where one of them is
   mine_whole : view.seen ≡ journal → seen ≡ journal
-  mine_whole all = go (nat_lt (length view.seen) (length met.seen)) refl
-    where
-      go : (r : Bool) → nat_lt (length view.seen) (length met.seen) ≡ r → cond r met.seen view.seen ≡ journal
-      go true e =
-          let less = below (length view.seen) (length met.seen) e in
-          let no_more = no_longer journal met.seen theirs.seen in
-          absurd (omega (arith, less, no_more, ap length all))
-      go false e = all
+  mine_whole all = of_longer (λ events. events ≡ journal)
+      (λ more. let no_more = no_longer journal met.seen theirs.seen in absurd (omega (arith, more, no_more, ap length all)))
+      (λ less. all)
 
   theirs_whole : met.seen ≡ journal → seen ≡ journal
-  theirs_whole all = go (nat_lt (length view.seen) (length met.seen)) refl
-    where
-      go : (r : Bool) → nat_lt (length view.seen) (length met.seen) ≡ r → cond r met.seen view.seen ≡ journal
-      go true e = all
-      go false e =
-          let less = not_below (length view.seen) (length met.seen) e in
-          all_seen journal view.seen mine.seen (omega (arith, less, ap length all))
+  theirs_whole all = of_longer (λ events. events ≡ journal)
+      (λ more. all)
+      (λ less. all_seen journal view.seen mine.seen (omega (arith, less, ap length all)))
 
   -- who has seen the whole journal is that view still, or one of the two, and then the taker has
   whole : ((j : ℕ) × (u : View) × (get_elem? views j ≡ some u) × (u.is_live ≡ true) × (u.seen ≡ journal))

@@ -1,5 +1,7 @@
 -- What a lawful machine tells: costs that fit, incumbents that are plans, blocks that may be leased, and the end of a search.
-use Rattle.std.proofs.Common.{◌≡◌, ℕ, ◌^◌, ◌<◌, Bool, true, false, ◌&&◌, ◌==◌, is_some, List, [], ◌∷◌, Option, Some, None, refl, sym, ap, ◌∙◌, subst, ◌⊎◌, inl, inr, arith, true≢false, le_trans, mul-le-mul_left}
+use Rattle.std.proofs.Common.{◌≡◌, ◌≢◌, ℕ, ◌^◌, ◌<◌, Bool, true, false, ◌&&◌, ◌==◌, is_some, List, [], ◌∷◌, Option, Some, None, sym, ap, ◌∙◌, subst, ◌⊎◌, inl, inr, arith, true≢false, le_trans, mul-le-mul_left}
+use Rattle.std.proofs.Math.Bool.{and-false}
+use Rattle.std.proofs.lemmas.Option.{same_Some}
 use Rattle.pb_model.specs.Plan.{IncumbentHolds}
 use Rattle.pb_model.specs.Guide.{IsAdmissible}
 use Rattle.pb_model.specs.Store.{Store, HasGoalWithin, HasOpened, AtMost}
@@ -42,15 +44,11 @@ module _ (p : Setup) (greatest_cost : ℕ) (is_setup : IsSetup p greatest_cost) 
         known = subst (λ k. k < p.blocks.count) (sym at.0) (is_setup.blocks.home opened.0 at.1);
         opened = opened;
         free = by_cases (is_taken p.blocks p.settings.workers m.counts.leases b) taken (λ e. e);
-        not_near_hot = any_false p.blocks.count _ (λ x. ap (λ q. interferes p.blocks b x && q) (none_hot p.blocks p.settings m.counts l.counts out x) ∙ and_false (interferes p.blocks b x));
+        not_near_hot = any_false p.blocks.count _ (λ x. ap (λ q. interferes p.blocks b x && q) (none_hot p.blocks p.settings m.counts l.counts out x) ∙ and-false (interferes p.blocks b x));
         left = left;
         no_end = no_end;
       }
     where
-      and_false : (a : Bool) → (a && false) ≡ false
-      and_false true = refl
-      and_false false = refl
-
       taken : is_taken p.blocks p.settings.workers m.counts.leases b ≡ true → is_taken p.blocks p.settings.workers m.counts.leases b ≡ false
       taken e =
           let w = any_some p.settings.workers (λ i. is_lease_of (meets p.blocks b) (m.counts.leases i)) e in
@@ -187,20 +185,21 @@ incumbents_are_plans setup greatest_cost machine is l cost known = incumbent_pla
 pub costs_grow_by_expansions : CostsGrowByExpansions
 costs_grow_by_expansions setup greatest_cost machine is l = ((sound_after setup greatest_cost is machine l).1, omega (arith, few_broken setup machine l))
 
--- ---- the budget's end
-
-none_broken_at : (m : Machine) (p : Setup) → IsLawful p m → m.counts.end ≡ Some Budget → broken_leases p m ≡ 0
-none_broken_at m p l ends = none_counted p.settings.workers m.broken (λ k lt. by_cases (m.broken k) (λ e. go (l.reported.released k e).2) (λ e. e))
+-- an end but that for memory leaves no expansion broken off
+pub none_broken_at : (p : Setup) (m : Machine) (end : End) → IsLawful p m → m.counts.end ≡ Some end → end ≢ Memory → broken_leases p m ≡ 0
+none_broken_at p m end l ends other = none_counted p.settings.workers m.broken (λ k lt. by_cases (m.broken k) (λ e. go (l.reported.released k e).2) (λ e. e))
   where
     go : {A : Type 0} → ((m.counts.trouble ≡ true) ⊎ (m.counts.end ≡ Some Memory)) → A
-    go (inl t) = let bad : ◌≡◌ {A = Option End} (Some Budget) None = sym ends ∙ l.counts.trouble t in cc
-    go (inr e) = let bad : ◌≡◌ {A = Option End} (Some Budget) (Some Memory) = sym ends ∙ e in cc
+    go (inl t) = let bad : ◌≡◌ {A = Option End} (Some end) None = sym ends ∙ l.counts.trouble t in cc
+    go (inr e) = absurd (other (same_Some end Memory (sym ends ∙ e)))
+
+-- ---- the budget's end
 
 pub budget_ends_are_spent : BudgetEndsAreSpent
 budget_ends_are_spent setup greatest_cost machine is l ends =
     let done = l.counts.budget ends in
     let none = sum_zero setup.settings.workers (λ i. quota_of (machine.counts.leases i)) (λ i lt. ap quota_of (none_leased_at setup greatest_cost is machine done.0 i lt)) in
-    let whole = none_broken_at machine setup l ends in (
+    let whole = none_broken_at setup machine Budget l ends (λ (bad : Budget ≡ Memory). cc) in (
       l.reached.first_weight,
       l.reached.works,
       l.reached.is_weight,

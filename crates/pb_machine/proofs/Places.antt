@@ -1,7 +1,8 @@
 -- Places of a list, beginnings of a journal, and the events that a view has of a worker.
 use Rattle.std.proofs.Common.{◌≡◌, ◌≢◌, ℕ, zero, suc, ◌+◌, ◌<◌, ◌≤◌, length, set, false, ◌==◌, List, [], ◌∷◌, ◌++◌, refl, sym, ap, ◌∙◌, subst, ◌⊎◌, inl, inr, arith, length-append}
 use Rattle.std.specs.List.{AllByRecursion}
-use Rattle.std.proofs.lemmas.List.{append-nil, append_assoc}
+use Rattle.std.proofs.lemmas.Bool.{ne_eqb}
+use Rattle.std.proofs.lemmas.List.{append-nil, append_assoc, nil_from_length}
 use Rattle.std.proofs.lemmas.List.Elements.{filter-append}
 use mathlib.Core.Option.{some, some-injective, some-ne-none}
 use lib.ListN.{get_elem?}
@@ -70,10 +71,6 @@ module _ {A : Type 0} where
   all_append P [] ys p q = q
   all_append P (x ∷ xs) ys p q = (p.0, all_append P xs ys p.1 q)
 
-pub none_left : {A : Type 0} (xs : List A) → length xs ≡ 0 → xs ≡ []
-none_left [] e = refl
-none_left (x ∷ xs) e = absurd (omega arith)
-
 -- ---- beginnings of a journal
 
 pub starts_more : (journal added seen : List Event) → StartsWith journal seen → StartsWith (journal ++ added) seen
@@ -98,7 +95,7 @@ no_longer journal seen starts =
 pub all_seen : (journal seen : List Event) → StartsWith journal seen → length journal ≤ length seen → seen ≡ journal
 all_seen journal seen starts le =
     let sum : length journal ≡ length seen + length starts.0 = ap length starts.1 ∙ length-append seen starts.0 in
-    let none : starts.0 ≡ [] = none_left starts.0 (omega (arith, sum, le)) in
+    let none : starts.0 ≡ [] = nil_from_length starts.0 (omega (arith, sum, le)) in
     sym (starts.1 ∙ ap (λ xs. seen ++ xs) none ∙ append-nil seen)
 
 -- a longer beginning of the journal has the events that a shorter one has all of
@@ -111,7 +108,7 @@ covered_more journal a b worker events in_a in_b le told covered =
     let all : events ≡ events_of worker b ++ events_of worker in_b.0 = sym told ∙ ap (events_of worker) in_b.1 ∙ filter-append (is_event_of worker) b in_b.0 in
     let one : length (events_of worker b) ≡ length events + length (events_of worker more.0) = ap length here ∙ length-append events (events_of worker more.0) in
     let two : length events ≡ length (events_of worker b) + length (events_of worker in_b.0) = ap length all ∙ length-append (events_of worker b) (events_of worker in_b.0) in
-    let none : events_of worker more.0 ≡ [] = none_left (events_of worker more.0) (omega (arith, one, two)) in
+    let none : events_of worker more.0 ≡ [] = nil_from_length (events_of worker more.0) (omega (arith, one, two)) in
     here ∙ ap (λ xs. events ++ xs) none ∙ append-nil events
 
 -- a beginning of a journal without events of a worker has none
@@ -119,15 +116,12 @@ pub none_covered : (journal seen : List Event) (worker : ℕ) → StartsWith jou
 none_covered journal seen worker starts none =
     let all : [] ≡ events_of worker seen ++ events_of worker starts.0 = sym none ∙ ap (events_of worker) starts.1 ∙ filter-append (is_event_of worker) seen starts.0 in
     let sum : 0 ≡ length (events_of worker seen) + length (events_of worker starts.0) = ap length all ∙ length-append (events_of worker seen) (events_of worker starts.0) in
-    none_left (events_of worker seen) (omega (arith, sum))
+    nil_from_length (events_of worker seen) (omega (arith, sum))
 
 -- ---- shares
 
 pub unmoved : (journal added : List Event) (worker : ℕ) → events_of worker added ≡ [] → events_of worker (journal ++ added) ≡ events_of worker journal
 unmoved journal added worker none = filter-append (is_event_of worker) journal added ∙ ap (λ xs. events_of worker journal ++ xs) none ∙ append-nil (events_of worker journal)
-
-pub differs : (a b : ℕ) → a ≢ b → (a == b) ≡ false
-differs a b other = by_cases (a == b) (λ e. absurd (other (equal a b e))) (λ e. e)
 
 abbrev pub IsRight : (journal seen : List Event) (made : ℕ) (seat_of : ℕ → ℕ) (seat : ℕ) → Share → Type 0
 IsRight journal seen made seat_of seat share = IsShareOf journal seen share × (share.worker < made) × (seat_of share.worker ≡ seat)
@@ -164,6 +158,6 @@ distinct_append journal seen other_seen made seat_of seat other [] ys apart righ
 distinct_append journal seen other_seen made seat_of seat other (x ∷ xs) ys apart right theirs d e = (
   all_append (λ share. (share.worker == x.worker) ≡ false) xs ys d.0
       (all_of (IsRight journal other_seen made seat_of other) (λ share. (share.worker == x.worker) ≡ false)
-      (λ share is. differs share.worker x.worker (λ same. apart (sym is.2 ∙ ap seat_of same ∙ right.0.2))) ys theirs),
+      (λ share is. ne_eqb share.worker x.worker (λ same. apart (sym is.2 ∙ ap seat_of same ∙ right.0.2))) ys theirs),
   distinct_append journal seen other_seen made seat_of seat other xs ys apart right.1 theirs d.1 e,
 )

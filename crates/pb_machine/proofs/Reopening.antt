@@ -1,5 +1,5 @@
 -- A machine that is opened again with another weight.
-use Rattle.std.proofs.Common.{true≢false, true, ◌≡◌, ◌⊎◌, ℕ, false, [], ◌∷◌, ◌++◌, Option, Some, None, refl, sym, ap, subst, ◌∙◌, inl, inr, arith}
+use Rattle.std.proofs.Common.{true≢false, ◌≡◌, ℕ, false, [], ◌∷◌, ◌++◌, Option, Some, None, refl, sym, ap, subst, inl, arith}
 use Rattle.pb_model.specs.Weight.{Weight, IsWeight}
 use Rattle.pb_model.specs.Store.{Store, AtMost}
 use Rattle.pb_model.specs.Work.{reopen, store_after, opening_store}
@@ -10,13 +10,12 @@ use Rattle.pb_machine.specs.Counts.{quota_of, is_any_out}
 use Rattle.pb_machine.specs.Machine.{Setup, IsSetup, Machine}
 use Rattle.pb_machine.specs.Lawful.{broken_leases, IsLawful, reopened_machine, reopened_setup}
 use Rattle.pb_machine.specs.Laws.{ReopeningIsLawful}
-use Rattle.pb_machine.proofs.TableLaws.{sum_zero, none_counted}
-use Rattle.pb_model.proofs.Tests.{by_cases}
+use Rattle.pb_machine.proofs.TableLaws.{sum_zero}
 use Rattle.pb_machine.proofs.CountsLaws.{opening_lawful}
 use Rattle.pb_machine.proofs.Moments.{goal_still}
 use Rattle.pb_machine.proofs.Known.{same_is, same_self}
 use Rattle.pb_model.proofs.Incumbents.{at_most_self}
-use Rattle.pb_machine.proofs.MomentLaws.{none_leased_at, shown}
+use Rattle.pb_machine.proofs.MomentLaws.{none_leased_at, shown, none_broken_at}
 
 module _ (p : Setup) (greatest_cost : ℕ) (is_setup : IsSetup p greatest_cost) where
   -- the machine opened again with another weight, at a quiet end
@@ -54,11 +53,7 @@ module _ (p : Setup) (greatest_cost : ℕ) (is_setup : IsSetup p greatest_cost) 
       out = l.counts.quiet quiet
 
       whole : broken_leases p m ≡ 0
-      whole = none_counted p.settings.workers m.broken (λ k lt. by_cases (m.broken k) (λ e. go (l.reported.released k e).2) (λ e. e))
-        where
-          go : {A : Type 0} → ((m.counts.trouble ≡ true) ⊎ (m.counts.end ≡ Some Memory)) → A
-          go (inl t) = let bad : ◌≡◌ {A = Option End} (Some Quiet) None = sym quiet ∙ l.counts.trouble t in cc
-          go (inr e) = let bad : ◌≡◌ {A = Option End} (Some Quiet) (Some Memory) = sym quiet ∙ e in cc
+      whole = none_broken_at p m Quiet l quiet (λ (bad : Quiet ≡ Memory). cc)
 
   -- nothing is out at a quiet end, so what the budget has beyond what was spent is left
   left_stays : (x : Weight) (m : Machine) → IsLawful p m → m.counts.end ≡ Some Quiet → (reopened_machine p x m).counts.left ≡ m.counts.left

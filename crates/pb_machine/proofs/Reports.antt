@@ -1,6 +1,8 @@
 -- Want of memory: which leases were released with it, and which reports wait for their end.
-use Rattle.std.proofs.Common.{◌≡◌, ℕ, ◌+◌, ◌<◌, ◌≤◌, Bool, true, false, cond, not, ◌&&◌, ◌||◌, nat_lt, ◌==◌, is_some, is_none, Option, Some, None, sym, ap, ◌∙◌, ◌⊎◌, inl, inr, arith, true≢false, refl}
+use Rattle.std.proofs.Common.{◌≡◌, ℕ, ◌+◌, ◌<◌, ◌≤◌, Bool, true, false, not, ◌&&◌, ◌||◌, nat_lt, ◌==◌, is_some, is_none, Option, Some, None, sym, ap, ◌∙◌, ◌⊎◌, inl, inr, arith, true≢false, refl}
 use Rattle.std.specs.List.{AllByRecursion}
+use Rattle.std.proofs.Math.Bool.{and-false}
+use Rattle.std.proofs.lemmas.Bool.{or_from}
 use Rattle.pb_model.proofs.Tests.{and_true, or_false, not_false, not_both, equal, by_cases, below, not_below}
 use Rattle.pb_machine.specs.Laws.{WaitingReportsAreOne}
 use Rattle.pb_machine.specs.declared.event.End.{End}
@@ -12,7 +14,7 @@ use Rattle.pb_machine.specs.Counts.{Counts, is_any_out, counts_after}
 use Rattle.pb_machine.specs.Legality.{refusal, tests}
 use Rattle.pb_machine.specs.Machine.{Setup, Machine}
 use Rattle.pb_machine.specs.Lawful.{broken_leases, AreReported, IsLawful, IsOnlyReporter}
-use Rattle.pb_machine.proofs.TableLaws.{entry_here, entry_else, sum_with_entry, sums_small, none_counted, count_more, count_grows, count_some, count_two, counted_some}
+use Rattle.pb_machine.proofs.TableLaws.{entry_here, entry_else, one_small, sum_with_entry, sums_small, none_counted, count_more, count_grows, count_some, count_two, counted_some}
 use Rattle.pb_machine.proofs.CountsLaws.{passes, no_trouble, nobody, within, none_end, still, out_still}
 
 -- ---- how many leases are out
@@ -21,11 +23,7 @@ abbrev pub leases_out : (workers : ℕ) → (ℕ → Option Grant) → ℕ
 leases_out workers leases = count_below workers (λ worker. is_some (leases worker))
 
 abbrev one_of : Option Grant → ℕ
-one_of o = cond (is_some o) 1 0
-
-one_small : (o : Option Grant) → one_of o ≤ 1
-one_small None = omega arith
-one_small (Some grant) = omega arith
+one_of o = one_if (is_some o)
 
 -- one less after a lease came back
 pub out_less : (n i : ℕ) (leases : ℕ → Option Grant) (grant : Grant) → i < n → leases i ≡ Some grant → leases_out n (with_entry leases i None) + 1 ≡ leases_out n leases
@@ -45,7 +43,7 @@ module _ (p : Setup) where
       done k e = let one : one_if (m.broken k) ≡ 1 = ap one_if e in let none : one_of (m.counts.leases k) ≡ 0 = ap one_of (l.reported.released k e).1 in omega (arith, one, none)
 
       unbroken : (k : ℕ) → m.broken k ≡ false → one_if (m.broken k) + one_of (m.counts.leases k) ≤ 1
-      unbroken k e = let none : one_if (m.broken k) ≡ 0 = ap one_if e in let few = one_small (m.counts.leases k) in omega (arith, none, few)
+      unbroken k e = let none : one_if (m.broken k) ≡ 0 = ap one_if e in let few = one_small (is_some (m.counts.leases k)) in omega (arith, none, few)
 
   -- while no report waits, a lease that was released with want of memory is followed by that end
   pub broken_end : (m : Machine) → IsLawful p m → m.counts.trouble ≡ false → (k : ℕ) → m.broken k ≡ true → m.counts.end ≡ Some Memory
@@ -121,9 +119,9 @@ module _ (p : Setup) where
         let no_end : is_some m.counts.end ≡ false = ap is_some (none_end m.counts.end (and_true memory (is_none m.counts.end) h).1) in
         let before = none_reported m l none no_end in
         let off = nobody p.blocks p.settings m.counts l.counts no_end none in
-        let one = count_more p.settings.workers i m.counts.signed_off inside (or_false (not (nat_lt i p.settings.workers)) (m.counts.signed_off i) t.0).1 in
+        let one = count_more p.settings.workers i m.counts.signed_off (within p.blocks p.settings m.counts i t.0) (or_false (not (nat_lt i p.settings.workers)) (m.counts.signed_off i) t.0).1 in
         omega (arith, before, off, one);
-    ended = λ h. let one = l.reported.ended h in let more = count_grows p.settings.workers i m.counts.signed_off inside in omega (arith, one, more);
+    ended = λ h. let one = l.reported.ended h in let more = count_grows p.settings.workers i m.counts.signed_off (within p.blocks p.settings m.counts i t.0) in omega (arith, one, more);
   }
     where
       none : m.counts.trouble ≡ false
@@ -131,9 +129,6 @@ module _ (p : Setup) where
 
       t : AllByRecursion (λ t. t.0 ≡ false) (tests p.blocks p.settings m.counts (Off i memory))
       t = passes p.blocks p.settings m.counts (Off i memory) may
-
-      inside : i < p.settings.workers
-      inside = within p.blocks p.settings m.counts i t.0
 
   -- the end that follows from a report, or another one
   pub reported_end : (m : Machine) (e : End) → IsLawful p m → refusal p.blocks p.settings m.counts (Ended e) ≡ None → AreReported p.settings.workers (counts_after p.blocks p.settings m.counts (Ended e)) m.broken
@@ -161,23 +156,16 @@ waiting_reports_are_one setup machine l waits = which (by_cases (nat_lt 0 (broke
     one : broken_leases setup machine + count_below setup.settings.workers machine.counts.signed_off ≡ 1
     one = l.reported.waiting waits
 
-    neither : (a b : Bool) → a ≡ false → b ≡ false → (a || b) ≡ false
-    neither a b h k = ap (λ r. r || b) h ∙ k
-
     -- the one that released with want of memory
     released : (k : ℕ) → k < setup.settings.workers → machine.broken k ≡ true → 0 < broken_leases setup machine → IsOnlyReporter setup machine k
     released k there is some = record {
       known = there;
       reported = ap (λ r. r || machine.counts.signed_off k) is;
-      once = ap (λ r. machine.broken k && r) (no_off k) ∙ and_no (machine.broken k);
+      once = ap (λ r. machine.broken k && r) (no_off k) ∙ and-false (machine.broken k);
       unleased = (l.reported.released k is).1;
-      no_other = λ j other. neither (machine.broken j) (machine.counts.signed_off j) (no_other j other) (no_off j);
+      no_other = λ j other. or_from (machine.broken j) (machine.counts.signed_off j) (no_other j other) (no_off j);
     }
       where
-        and_no : (a : Bool) → (a && false) ≡ false
-        and_no true = refl
-        and_no false = refl
-
         no_off : (j : ℕ) → machine.counts.signed_off j ≡ false
         no_off j = by_cases (machine.counts.signed_off j)
             (λ e. let off = count_some setup.settings.workers j machine.counts.signed_off (l.counts.off j e).0 e in absurd (omega (arith, one, some, off)))
@@ -195,7 +183,7 @@ waiting_reports_are_one setup machine l waits = which (by_cases (nat_lt 0 (broke
       reported = ap (λ r. r || machine.counts.signed_off k) (none_broken k) ∙ is;
       once = ap (λ r. r && machine.counts.signed_off k) (none_broken k);
       unleased = (l.counts.off k is).1;
-      no_other = λ j other. neither (machine.broken j) (machine.counts.signed_off j) (none_broken j) (no_other j other);
+      no_other = λ j other. or_from (machine.broken j) (machine.counts.signed_off j) (none_broken j) (no_other j other);
     }
       where
         off : 0 < count_below setup.settings.workers machine.counts.signed_off

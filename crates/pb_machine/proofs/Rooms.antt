@@ -1,8 +1,6 @@
 -- A journal that keeps within room is short: what is still owed pays for each event.
-use Rattle.std.proofs.Common.{◌≡◌, ℕ, zero, suc, ◌+◌, ◌-◌, ◌*◌, ◌<◌, ◌≤◌, length, Bool, true, false, cond, not, ◌==◌, is_some, is_none, List, [], ◌∷◌, ◌++◌, filter, Option, Some, None, refl, sym, ap, ◌∙◌, arith, true≢false}
+use Rattle.std.proofs.Common.{◌≡◌, ℕ, zero, suc, ◌+◌, ◌-◌, ◌*◌, ◌<◌, ◌≤◌, length, Bool, true, false, cond, not, ◌==◌, is_none, List, [], ◌∷◌, ◌++◌, filter, Option, Some, None, refl, sym, ap, ◌∙◌, arith}
 use Rattle.pb_model.proofs.Tests.{by_cases, or_false, equal, equal_self, equal_swap}
-use Rattle.pb_machine.specs.declared.event.End.{End}
-use Rattle.pb_machine.specs.declared.event.End.TheVariants.{Quiet, Budget, Memory}
 use Rattle.pb_machine.specs.declared.event.Event.{Event}
 use Rattle.pb_machine.specs.declared.event.Event.TheVariants.{Lease, Renew, Hot, Cold, Release, Off, Ended}
 use Rattle.pb_machine.specs.declared.event.Grant.{Grant}
@@ -17,6 +15,7 @@ use Rattle.pb_machine.specs.JournalLaws.{JournalsAreShort, LeasesTakeTheirRoom, 
 use Rattle.pb_machine.proofs.TableLaws.{entry_here, entry_else, sum_same, sum_with_entry}
 use Rattle.pb_machine.proofs.CountsLaws.{none_leased, grant_of, passes, within}
 use Rattle.pb_machine.proofs.Histories.{replay_first, first_may}
+use Rattle.pb_machine.proofs.EndsTold.{no_end_before}
 
 -- ---- what is owed
 
@@ -105,17 +104,8 @@ module _ (blocks : Blocks) (settings : Settings) where
       let was : owed_by c room i ≡ 1 = ap (λ o. owed o (room i) (c.signed_off i)) none ∙ ap (λ off. one_if (not off)) (active c i t.0) in
       omega (arith, sums, here, was)
   pays c room (Ended end) may has =
-      let before : one_if (is_none c.end) ≡ 1 = ap (λ o. one_if (is_none o)) (no_end_before end may) in
+      let before : one_if (is_none c.end) ≡ 1 = ap (λ o. one_if (is_none o)) (no_end_before blocks settings c end may) in
       omega (arith, before)
-    where
-      no_end : (o : Option End) → is_some o ≡ false → o ≡ None
-      no_end None h = refl
-      no_end (Some other) h = absurd (true≢false h)
-
-      no_end_before : (end : End) → refusal blocks settings c (Ended end) ≡ None → c.end ≡ None
-      no_end_before Quiet passed = no_end c.end (passes blocks settings c (Ended Quiet) passed).0
-      no_end_before Budget passed = no_end c.end (passes blocks settings c (Ended Budget) passed).0
-      no_end_before Memory passed = no_end c.end (passes blocks settings c (Ended Memory) passed).0
 
   all_pay : (es : List Event) (c d : Counts) (room : ℕ → ℕ) → replay blocks settings c es ≡ Some d → AreWithinRoom room es
       → length es ≤ 65 * leases_in es + owed_in c room

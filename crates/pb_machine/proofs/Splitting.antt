@@ -1,6 +1,7 @@
 -- Splitting a pass keeps all views true of the journal.
 use Rattle.std.proofs.Common.{◌≡◌, ◌≢◌, ℕ, ◌+◌, ◌<◌, length, set, true, false, cond, ◌==◌, List, [], ◌∷◌, ◌++◌, refl, sym, ap, ◌∙◌, subst, ◌⊎◌, inl, inr, arith, length-set}
 use Rattle.std.specs.List.{AllByRecursion}
+use Rattle.std.proofs.lemmas.Bool.{ne_eqb}
 use Rattle.std.proofs.lemmas.Bool.Decides.{nat_tests}
 use mathlib.Core.Option.{some, some-injective}
 use lib.ListN.{get_elem?}
@@ -9,7 +10,7 @@ use Rattle.pb_machine.specs.declared.event.Event.{Event}
 use Rattle.pb_machine.specs.History.{events_of}
 use Rattle.pb_machine.specs.Views.{Share, View, IsTrueOf, HasWorker, AreTrueOf, with_one_more, next_view}
 use Rattle.pb_machine.specs.JournalLaws.{SplittingKeepsViews}
-use Rattle.pb_machine.proofs.Places.{has_seat, none_covered, differs, IsRight, set_else, set_here, at_set, at_longer, at_last, at_end, all_of}
+use Rattle.pb_machine.proofs.Places.{has_seat, none_covered, IsRight, set_else, set_here, at_set, at_longer, at_last, at_end, all_of}
 
 module _ (workers : ℕ) (journal : List Event) (views : List View) (seat : ℕ) (view : View) (h : AreTrueOf workers journal views)
     (at : get_elem? views seat ≡ some view) (live : view.is_live ≡ true) (first : view.own.worker ≡ 0) (more : view.made < workers) where
@@ -32,7 +33,7 @@ module _ (workers : ℕ) (journal : List Event) (views : List View) (seat : ℕ)
   before worker less differ = grind (arith, nat_tests)
 
   kept : (worker : ℕ) → worker < h.made → seat_of worker ≡ h.seat_of worker
-  kept worker less = ap (λ r. cond r (length views) (h.seat_of worker)) (differs worker h.made (λ e. omega (arith, e, less)))
+  kept worker less = ap (λ r. cond r (length views) (h.seat_of worker)) (ne_eqb worker h.made (λ e. omega (arith, e, less)))
 
   new_seat : (worker : ℕ) → worker ≡ h.made → seat_of worker ≡ length views
   new_seat worker e = ap (λ r. cond r (length views) (h.seat_of worker)) (ap (λ k. k == h.made) e ∙ equal_self h.made)

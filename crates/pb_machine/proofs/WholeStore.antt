@@ -62,13 +62,11 @@ module _ (p : Setup) (greatest_cost : ℕ) (is_setup : IsSetup p greatest_cost) 
 
     -- no block of the scope was away
     was_home : (x : ℕ) → Scope b x ≡ true → is_away p c x ≡ false
-    was_home x inside = by_cases (is_away p c x) away (λ e. e)
-      where
-        away : is_away p c x ≡ true → is_away p c x ≡ false
-        away e =
-            let w = away_by c.leases x e in
-            let met : meets p.blocks b w.2.block ≡ true = any_at p.blocks.count x (λ s. Scope b s && Scope w.2.block s) (is_setup.blocks.known b x inside) (ap (λ r. r && Scope w.2.block x) inside ∙ w.4) in
-            not_both (is_taken p.blocks p.settings.workers c.leases b) (any_at p.settings.workers w.0 (λ k. is_lease_of (meets p.blocks b) (c.leases k)) w.1 (ap (is_lease_of (meets p.blocks b)) w.3 ∙ met)) passed.1.1.1.1.0
+    was_home x inside = by_cases (is_away p c x)
+        (λ e. let w = away_by c.leases x e in
+        let met : meets p.blocks b w.2.block ≡ true = any_at p.blocks.count x (λ s. Scope b s && Scope w.2.block s) (is_setup.blocks.known b x inside) (ap (λ r. r && Scope w.2.block x) inside ∙ w.4) in
+        not_both (is_taken p.blocks p.settings.workers c.leases b) (any_at p.settings.workers w.0 (λ k. is_lease_of (meets p.blocks b) (c.leases k)) w.1 (ap (is_lease_of (meets p.blocks b)) w.3 ∙ met)) passed.1.1.1.1.0)
+        (λ e. e)
 
     pub leasing : (home left taken : Rows) (recorded : ℕ → Rows) (store : Store) → IsWhole p c home recorded store → AgreesOn (Scope b) taken home → AreGone (λ x. not (Scope b x)) taken
         → AgreesOn (λ x. not (Scope b x)) left home → AreGone (Scope b) left
@@ -181,14 +179,12 @@ module _ (p : Setup) (greatest_cost : ℕ) (is_setup : IsSetup p greatest_cost) 
         other k g is = by_cases (k == i) (λ e. let bad : ◌≡◌ {A = Option Grant} None (Some g) = sym (entry_here c.leases i k None e) ∙ is in cc) (λ e. e)
 
         before : (x : ℕ) → Scope grant.block x ≡ false → is_away p (record c { leases = with_entry c.leases i None }) x ≡ false → is_away p c x ≡ false
-        before x apart out = by_cases (is_away p c x) still_away (λ e. e)
-          where
-            still_away : is_away p c x ≡ true → is_away p c x ≡ false
-            still_away e =
-                let w = away_by c.leases x e in
-                by_cases (w.0 == i)
-                (λ f. let same : w.2 ≡ grant = some_is w.2 grant (sym w.3 ∙ ap c.leases (equal w.0 i f) ∙ leased) in not_both (Scope grant.block x) (ap (λ (v : Grant). Scope v.block x) (sym same) ∙ w.4) apart)
-                (λ f. not_both (is_away p (record c { leases = with_entry c.leases i None }) x) (away_at (with_entry c.leases i None) w.0 w.2 x w.1 (entry_else c.leases i w.0 None f ∙ w.3) w.4) out)
+        before x apart out = by_cases (is_away p c x)
+            (λ e. let w = away_by c.leases x e in
+            by_cases (w.0 == i)
+            (λ f. let same : w.2 ≡ grant = some_is w.2 grant (sym w.3 ∙ ap c.leases (equal w.0 i f) ∙ leased) in not_both (Scope grant.block x) (ap (λ (v : Grant). Scope v.block x) (sym same) ∙ w.4) apart)
+            (λ f. not_both (is_away p (record c { leases = with_entry c.leases i None }) x) (away_at (with_entry c.leases i None) w.0 w.2 x w.1 (entry_else c.leases i w.0 None f ∙ w.3) w.4) out))
+            (λ e. e)
 
 pub leasing_keeps_whole : LeasingKeepsWhole
 leasing_keeps_whole setup greatest_cost counts store home left taken recorded worker block quota is whole may agrees alone stays gone =
