@@ -1,5 +1,6 @@
 -- A row that is put into a list of entries.
 use Rattle.std.proofs.Common.{◌≡◌, ◌≤◌, ℕ, Bool, true, false, cond, Option, Some, List, [], ◌∷◌, refl, sym, ap, ◌∙◌, arith, nat_eq, nat_lt, if◌then◌else◌, is_some, true≢false}
+use Rattle.std.proofs.lemmas.Bool.{ne_eqb}
 use Rattle.std.proofs.lemmas.Bool.Decides.{nat_tests}
 use Rattle.std.proofs.lemmas.Cmp.{nat_eq_equiv}
 use Rattle.std.proofs.lemmas.Map.Entries.{place_from_lookup, lookup_from_place}
@@ -11,6 +12,7 @@ use Rattle.pb_model.specs.declared.row.Row.{Row}
 use Rattle.pb_model.specs.declared.row.Status.{Status}
 use Rattle.pb_model.specs.declared.row.Status.TheVariants.{Opened}
 use Rattle.pb_model.specs.Work.{offered_row, with_status}
+use Rattle.pb_model.proofs.Tests.{equal, equal_self}
 use Rattle.pb_lists.specs.Bundle.{Content, row_in, row_of, put, SetsRow, SetsStatus}
 use Rattle.pb_lists.specs.Laws.{EntriesAreRows}
 
@@ -74,28 +76,15 @@ pub status_sets : (entries after : List (ℕ × Row)) (state : ℕ) (row : Row) 
     → ((other : ℕ) → row_in after other ≡ cond (nat_eq state other) (Some (record row { status = status })) (row_in entries other)) → SetsStatus (row_in entries) (row_in after) state status
 status_sets entries after state row status found updates = record {
   here = updates state
-      ∙ (ap (λ b. cond b (Some (record row { status = status })) (row_in entries state)) (same state) ∙ sym (ap (with_status status) found));
-  others = λ other apart. updates other ∙ ap (λ b. cond b (Some (record row { status = status })) (row_in entries other)) (differ other apart (nat_eq state other) refl);
+      ∙ (ap (λ b. cond b (Some (record row { status = status })) (row_in entries state)) (equal_self state) ∙ sym (ap (with_status status) found));
+  others = λ other apart. updates other ∙ ap (λ b. cond b (Some (record row { status = status })) (row_in entries other)) (ne_eqb state other (λ is. apart (sym is)));
 }
-  where
-    same : (n : ℕ) → nat_eq n n ≡ true
-    same n = grind (arith, nat_tests)
-
-    equal : (n m : ℕ) → nat_eq n m ≡ true → n ≡ m
-    equal n m e = grind (arith, nat_tests)
-
-    differ : (other : ℕ) → (other ≡ state → ⊥) → (b : Bool) → nat_eq state other ≡ b → nat_eq state other ≡ false
-    differ other apart true e = absurd (apart (sym (equal state other e)))
-    differ other apart false e = e
 
 -- the key that is found by a state is the state
 pub key_by_state : {V : Type 0} → (state : ℕ) (entries : List (ℕ × V)) (key : ℕ) → lookup_key (nat_eq state) entries ≡ Some key → state ≡ key
 key_by_state state [] key found = cc
 key_by_state state (entry ∷ entries) key found = at (nat_eq state entry.0) refl found (λ f. key_by_state state entries key f)
   where
-    equal : (n m : ℕ) → nat_eq n m ≡ true → n ≡ m
-    equal n m e = grind (arith, nat_tests)
-
     at : (here : Bool) → nat_eq state entry.0 ≡ here → cond here (Some entry.0) (lookup_key (nat_eq state) entries) ≡ Some key
         → (lookup_key (nat_eq state) entries ≡ Some key → state ≡ key) → state ≡ key
     at true e f next = let same : entry.0 ≡ key = cc in equal state entry.0 e ∙ same

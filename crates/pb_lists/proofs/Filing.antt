@@ -16,7 +16,8 @@ use Rattle.pb_lists.specs.Fields.{key_at, is_opened, is_open_at, sum_of, estimat
 use Rattle.pb_lists.specs.Buckets.{Buckets, Entry, has_entry, has_in, has_at, has_state, top_of, first_key_of, is_of, is_on_top, IsOrdered, HasHeaps, HasFiled, is_led, is_tidy, IsTidy, KeepsEntries, KeepsLive}
 use Rattle.pb_lists.specs.declared.bucket.Bucket.{Bucket}
 use Rattle.pb_lists.proofs.Order.{key_self, key_found}
-use Rattle.pb_lists.proofs.Parts.{nat_same, nat_found, top_empty}
+use Rattle.pb_model.proofs.Tests.{equal, equal_self, equal_swap}
+use Rattle.pb_lists.proofs.Parts.{top_empty}
 use Rattle.std.specs.BinaryHeap.{heap_items}
 
 pub key_same : (key : Key) → same_key key key ≡ true
@@ -220,7 +221,7 @@ module _ (weight : Weight) (entries after : List (ℕ × Row)) (here : ℕ) (row
       which true e =
           let same : Some row ≡ Some other = is_row true state other e found in
           let one : row ≡ other = cc in
-          subst (λ s. has_state new (key_at weight other) s ≡ true) (nat_found here state e) (subst (λ k. has_state new k here ≡ true) (is ∙ ap (key_at weight) one) has)
+          subst (λ s. has_state new (key_at weight other) s ≡ true) (equal here state e) (subst (λ k. has_state new k here ≡ true) (is ∙ ap (key_at weight) one) has)
       which false e = kept (sum_of (key_at weight other)) (estimate_in (key_at weight other), state) (filed state other (is_row false state other e found) opened)
 
   pub settled_filed : (buckets : Buckets) → is_opened row.status ≡ false → HasFiled weight entries buckets → HasFiled weight after buckets
@@ -239,7 +240,7 @@ module _ (weight : Weight) (entries after : List (ℕ × Row)) (here : ℕ) (row
     where
       at_row : (b : Bool) (state : ℕ) (key : Key) → nat_eq here state ≡ b → is_open_at weight (row_in entries state) key ≡ true → is_open_at weight (cond b (Some row) (row_in entries state)) key ≡ true
       at_row true state key e live =
-          absurd (true≢false (sym live ∙ (ap (λ s. is_open_at weight (row_in entries s) key) (sym (nat_found here state e)) ∙ ap (λ found. is_open_at weight found key) absent)))
+          absurd (true≢false (sym live ∙ (ap (λ s. is_open_at weight (row_in entries s) key) (sym (equal here state e)) ∙ ap (λ found. is_open_at weight found key) absent)))
       at_row false state key e live = live
 
       led : (top : Option Entry) (sum : Key) → is_led weight entries sum top ≡ true → is_led weight after sum top ≡ true
@@ -252,7 +253,7 @@ module _ (weight : Weight) (entries after : List (ℕ × Row)) (here : ℕ) (row
 
   pub live_row : (key : Key) → key ≡ key_at weight row → row.status ≡ Opened → is_open_at weight (row_in after here) key ≡ true
   live_row key is opened =
-      ap (λ found. is_open_at weight found key) (sets here ∙ ap (λ b. cond b (Some row) (row_in entries here)) (nat_same here here refl))
+      ap (λ found. is_open_at weight found key) (sets here ∙ ap (λ b. cond b (Some row) (row_in entries here)) (equal_self here))
       ∙ (ap (λ status. is_opened status && same_key (key_at weight row) key) opened ∙ subst (λ k. same_key k key ≡ true) is (key_same key))
 
 -- the row of a state that isn't on top of the first bucket was changed
@@ -261,10 +262,6 @@ pub tidy_other : (weight : Weight) (entries after : List (ℕ × Row)) (here : �
 tidy_other weight entries after here row sets [] tidy off = refl
 tidy_other weight entries after here row sets (first ∷ list) tidy off = led (top_of first.1) tidy off
   where
-    other : (state : ℕ) → nat_eq state here ≡ false → (b : Bool) → nat_eq here state ≡ b → cond b (Some row) (row_in entries state) ≡ row_in entries state
-    other state apart true e = absurd (true≢false (sym (nat_same state here (sym (nat_found here state e))) ∙ apart))
-    other state apart false e = refl
-
     led : (top : Option Entry) → is_led weight entries first.0 top ≡ true → is_of top here ≡ false → is_led weight after first.0 top ≡ true
     led None l o = absurd (true≢false (sym l))
-    led (Some top) l o = ap (λ found. is_open_at weight found (key_with first.0 top.0)) (sets top.1 ∙ other top.1 o (nat_eq here top.1) refl) ∙ l
+    led (Some top) l o = ap (λ found. is_open_at weight found (key_with first.0 top.0)) (sets top.1 ∙ ap (λ b. cond b (Some row) (row_in entries top.1)) (equal_swap here top.1 ∙ o)) ∙ l

@@ -1,7 +1,7 @@
 -- The comparison of keys.
-use Rattle.std.proofs.Common.{◌≡◌, ℕ, ◌<◌, true, refl, sym, ap, ◌∙◌, ◌⊎◌, inl, inr, true≢false}
+use Rattle.std.proofs.Common.{◌≡◌, true, refl, sym, ap, ◌∙◌, ◌⊎◌, inl, inr, true≢false}
 use Rattle.std.specs.Cmp.{nat_cmp_is}
-use Rattle.std.specs.Ordering.{nat_cmp, is_eq}
+use Rattle.std.specs.Ordering.{is_eq}
 use Rattle.std.specs.declared.cmp.Ordering.TheVariants.{Less, Equal, Greater}
 use Rattle.pb_model.specs.declared.key.Key.{Key}
 use Rattle.pb_model.specs.declared.key.Key.TheVariants.{Sum, Dead}
@@ -10,29 +10,20 @@ use Rattle.pb_model.specs.KeyOrder.{key_cmp, same_key}
 use Rattle.pb_model.proofs.Keys.{key_cases}
 use Rattle.pb_model.proofs.Tests.{below}
 
-pub less : (a b : ℕ) → a < b → nat_cmp a b ≡ Less
-less a b h = sym (nat_cmp_is a b Less h)
-
-pub equal : (a b : ℕ) → a ≡ b → nat_cmp a b ≡ Equal
-equal a b h = sym (nat_cmp_is a b Equal h)
-
-pub greater : (a b : ℕ) → b < a → nat_cmp a b ≡ Greater
-greater a b h = sym (nat_cmp_is a b Greater h)
-
 pub key_below : (key other : Key) → IsKeyBelow key other → key_cmp key other ≡ Less
-key_below (Sum a h) (Sum b k) (inl l) = rw (less a b l) refl
-key_below (Sum a h) (Sum b k) (inr l) = rw (equal a b l.0, less h k l.1) refl
+key_below (Sum a h) (Sum b k) (inl l) = rw (sym (nat_cmp_is a b Less l)) refl
+key_below (Sum a h) (Sum b k) (inr l) = rw (sym (nat_cmp_is a b Equal l.0), sym (nat_cmp_is h k Less l.1)) refl
 key_below (Sum a h) Dead below = refl
 key_below Dead other below = absurd below
 
 pub key_above : (key other : Key) → IsKeyBelow other key → key_cmp key other ≡ Greater
-key_above (Sum a h) (Sum b k) (inl l) = rw (greater a b l) refl
-key_above (Sum a h) (Sum b k) (inr l) = rw (equal a b (sym l.0), greater h k l.1) refl
+key_above (Sum a h) (Sum b k) (inl l) = rw (sym (nat_cmp_is a b Greater l)) refl
+key_above (Sum a h) (Sum b k) (inr l) = rw (sym (nat_cmp_is a b Equal (sym l.0)), sym (nat_cmp_is h k Greater l.1)) refl
 key_above Dead (Sum b k) below = refl
 key_above key Dead below = absurd below
 
 pub key_self : (key : Key) → key_cmp key key ≡ Equal
-key_self (Sum a h) = rw (equal a a refl, equal h h refl) refl
+key_self (Sum a h) = rw (sym (nat_cmp_is a a Equal refl), sym (nat_cmp_is h h Equal refl)) refl
 key_self Dead = refl
 
 pub key_found : (key other : Key) → same_key key other ≡ true → key ≡ other

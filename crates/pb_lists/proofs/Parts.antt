@@ -1,52 +1,31 @@
 -- The entries of a bucket, in two parts, after one came or left.
-use Rattle.std.proofs.Common.{◌≡◌, ◌<◌, ℕ, Bool, true, false, Option, Some, None, List, [], ◌∷◌, ◌||◌, ◌&&◌, ◌⊎◌, inl, inr, refl, sym, ap, ◌∙◌, subst, arith, nat_eq, nat_lt, true≢false, IfSome, IfNone, slice_index_or, length, if◌then◌else◌}
-use Rattle.std.proofs.lemmas.Bool.Decides.{nat_tests}
+use Rattle.std.proofs.Common.{◌≡◌, Bool, true, false, Option, Some, None, List, [], ◌∷◌, ◌||◌, ◌&&◌, ◌⊎◌, inl, inr, refl, sym, ap, ◌∙◌, subst, arith, nat_eq, nat_lt, true≢false, IfSome, IfNone, slice_index_or, if◌then◌else◌}
+use Rattle.std.proofs.Math.Bool.{or-true, or_assoc, or_comm}
+use Rattle.std.proofs.lemmas.Bool.{or_cases}
 use Rattle.std.proofs.lemmas.List.Sorted.{list_any-IsPermutation}
 use Rattle.std.specs.List.{AllByRecursion}
 use Rattle.std.specs.List.Sorted.{IsPermutation}
+use Rattle.std.specs.Cmp.{nat_cmp_is}
+use Rattle.std.specs.declared.cmp.Ordering.TheVariants.{Less, Equal, Greater}
 use Rattle.std.specs.Ordering.{nat_cmp, ordering_then, is_lt}
 use Rattle.std.specs.BinaryHeap.{heap_items, lt_by_cmp}
 use Rattle.std.specs.declared.cmp.Reverse.{Reverse}
-use Rattle.pb_model.proofs.Tests.{below, not_below}
+use Rattle.pb_model.proofs.Tests.{below, not_below, equal, equal_self}
 use Rattle.pb_lists.specs.declared.bucket.Bucket.{Bucket}
 use Rattle.pb_lists.specs.Buckets.{Entry, entry_cmp, later, IsNoLater, is_same, is_among, has_entry, first_of, is_wide_before, top_of}
-use Rattle.pb_lists.proofs.Order.{less, equal, greater}
-
-pub nat_same : (n m : ℕ) → n ≡ m → nat_eq n m ≡ true
-nat_same n m e = grind (arith, nat_tests)
-
-pub nat_found : (n m : ℕ) → nat_eq n m ≡ true → n ≡ m
-nat_found n m e = grind (arith, nat_tests)
-
-pub or_true : (b : Bool) → (b || true) ≡ true
-or_true true = refl
-or_true false = refl
-
-or_joins : (a b c : Bool) → ((a || b) || c) ≡ (a || (b || c))
-or_joins true b c = refl
-or_joins false b c = refl
-
-or_swaps : (a b c : Bool) → (a || (b || c)) ≡ (b || (a || c))
-or_swaps true true c = refl
-or_swaps true false c = refl
-or_swaps false b c = refl
-
-pub or_cases : (a b : Bool) → (a || b) ≡ true → (a ≡ true) ⊎ (b ≡ true)
-or_cases true b e = inl refl
-or_cases false b e = inr e
 
 -- ---- entries
 
 pub same_self : (entry : Entry) → is_same entry entry ≡ true
-same_self entry = ap (λ b. b && nat_eq entry.1 entry.1) (nat_same entry.0 entry.0 refl) ∙ nat_same entry.1 entry.1 refl
+same_self entry = ap (λ b. b && nat_eq entry.1 entry.1) (equal_self entry.0) ∙ equal_self entry.1
 
 pub same_found : (entry other : Entry) → is_same entry other ≡ true → entry ≡ other
 same_found entry other same = which (nat_eq entry.0 other.0) refl same
   where
     which : (b : Bool) → nat_eq entry.0 other.0 ≡ b → (b && nat_eq entry.1 other.1) ≡ true → entry ≡ other
     which true e m =
-        let h : entry.0 ≡ other.0 = nat_found entry.0 other.0 e in
-        let state : entry.1 ≡ other.1 = nat_found entry.1 other.1 m in
+        let h : entry.0 ≡ other.0 = equal entry.0 other.0 e in
+        let state : entry.1 ≡ other.1 = equal entry.1 other.1 m in
         ap (λ n. (n, entry.1)) h ∙ ap (λ s. (other.0, s)) state
     which false e m = absurd (true≢false (sym m))
 
@@ -56,12 +35,12 @@ not_before entry other e = low (nat_lt entry.0 other.0) refl
   where
     at_one : entry.0 ≡ other.0 → (b : Bool) → nat_lt other.1 entry.1 ≡ b → IsNoLater entry other
     at_one same true lt =
-        let both : entry_cmp other entry ≡ nat_cmp other.1 entry.1 = ap (λ o. ordering_then o (nat_cmp other.1 entry.1)) (equal other.0 entry.0 (sym same)) in
-        absurd (true≢false (sym (ap is_lt (both ∙ less other.1 entry.1 (below other.1 entry.1 lt))) ∙ e))
+        let both : entry_cmp other entry ≡ nat_cmp other.1 entry.1 = ap (λ o. ordering_then o (nat_cmp other.1 entry.1)) (sym (nat_cmp_is other.0 entry.0 Equal (sym same))) in
+        absurd (true≢false (sym (ap is_lt (both ∙ sym (nat_cmp_is other.1 entry.1 Less (below other.1 entry.1 lt)))) ∙ e))
     at_one same false ge = inr (same, not_below other.1 entry.1 ge)
 
     high : (b : Bool) → nat_lt other.0 entry.0 ≡ b → nat_lt entry.0 other.0 ≡ false → IsNoLater entry other
-    high true lt ge = absurd (true≢false (sym (ap is_lt (ap (λ o. ordering_then o (nat_cmp other.1 entry.1)) (less other.0 entry.0 (below other.0 entry.0 lt)))) ∙ e))
+    high true lt ge = absurd (true≢false (sym (ap is_lt (ap (λ o. ordering_then o (nat_cmp other.1 entry.1)) (sym (nat_cmp_is other.0 entry.0 Less (below other.0 entry.0 lt))))) ∙ e))
     high false le ge =
         let first = not_below other.0 entry.0 le in
         let second = not_below entry.0 other.0 ge in
@@ -81,14 +60,14 @@ before entry other e = low (nat_lt entry.0 other.0) refl
     at_one same false ge = last (nat_lt other.1 entry.1) refl
       where
         both : entry_cmp entry other ≡ nat_cmp entry.1 other.1
-        both = ap (λ o. ordering_then o (nat_cmp entry.1 other.1)) (equal entry.0 other.0 same)
+        both = ap (λ o. ordering_then o (nat_cmp entry.1 other.1)) (sym (nat_cmp_is entry.0 other.0 Equal same))
 
         last : (b : Bool) → nat_lt other.1 entry.1 ≡ b → IsNoLater entry other
-        last true lt = absurd (true≢false (sym e ∙ ap is_lt (both ∙ greater entry.1 other.1 (below other.1 entry.1 lt))))
+        last true lt = absurd (true≢false (sym e ∙ ap is_lt (both ∙ sym (nat_cmp_is entry.1 other.1 Greater (below other.1 entry.1 lt)))))
         last false le = inr (same, not_below other.1 entry.1 le)
 
     high : (b : Bool) → nat_lt other.0 entry.0 ≡ b → nat_lt entry.0 other.0 ≡ false → IsNoLater entry other
-    high true lt ge = absurd (true≢false (sym e ∙ ap is_lt (ap (λ o. ordering_then o (nat_cmp entry.1 other.1)) (greater entry.0 other.0 (below other.0 entry.0 lt)))))
+    high true lt ge = absurd (true≢false (sym e ∙ ap is_lt (ap (λ o. ordering_then o (nat_cmp entry.1 other.1)) (sym (nat_cmp_is entry.0 other.0 Greater (below other.0 entry.0 lt))))))
     high false le ge =
         let first = not_below other.0 entry.0 le in
         let second = not_below entry.0 other.0 ge in
@@ -132,12 +111,13 @@ among_more entry item old new moved = sym (list_any-IsPermutation (λ other. is_
 pub words_more : (item : Reverse Entry) (old new wide : List (Reverse Entry)) → IsPermutation (item ∷ old) new
     → (entry : Entry) → (is_among entry new || is_among entry wide) ≡ (is_same entry item.0 || (is_among entry old || is_among entry wide))
 words_more item old new wide moved entry =
-    ap (λ b. b || is_among entry wide) (among_more entry item old new moved) ∙ or_joins (is_same entry item.0) (is_among entry old) (is_among entry wide)
+    ap (λ b. b || is_among entry wide) (among_more entry item old new moved) ∙ or_assoc (is_same entry item.0) (is_among entry old) (is_among entry wide)
 
 pub wide_more : (item : Reverse Entry) (words old new : List (Reverse Entry)) → IsPermutation (item ∷ old) new
     → (entry : Entry) → (is_among entry words || is_among entry new) ≡ (is_same entry item.0 || (is_among entry words || is_among entry old))
 wide_more item words old new moved entry =
-    ap (λ b. is_among entry words || b) (among_more entry item old new moved) ∙ or_swaps (is_among entry words) (is_same entry item.0) (is_among entry old)
+    ap (λ b. is_among entry words || b) (among_more entry item old new moved) ∙ (sym (or_assoc (is_among entry words) (is_same entry item.0) (is_among entry old))
+    ∙ (ap (λ b. b || is_among entry old) (or_comm (is_among entry words) (is_same entry item.0)) ∙ or_assoc (is_same entry item.0) (is_among entry words) (is_among entry old)))
 
 first_member : (items : List (Reverse Entry)) (entry : Entry) → first_of items ≡ Some entry → is_among entry items ≡ true
 first_member [] entry first = cc
@@ -149,7 +129,7 @@ pub top_member : (bucket : Bucket) (entry : Entry) → top_of bucket ≡ Some en
 top_member bucket entry top = which (is_wide_before (first_of (heap_items bucket.words)) (first_of (heap_items bucket.wide))) top
   where
     which : (b : Bool) → (if b then first_of (heap_items bucket.wide) else first_of (heap_items bucket.words)) ≡ Some entry → has_entry bucket entry ≡ true
-    which true e = ap (λ b. is_among entry (heap_items bucket.words) || b) (first_member (heap_items bucket.wide) entry e) ∙ or_true (is_among entry (heap_items bucket.words))
+    which true e = ap (λ b. is_among entry (heap_items bucket.words) || b) (first_member (heap_items bucket.wide) entry e) ∙ or-true (is_among entry (heap_items bucket.words))
     which false e = ap (λ b. b || is_among entry (heap_items bucket.wide)) (first_member (heap_items bucket.words) entry e)
 
 module _ (entry : Entry) (old new : Bucket) (more : (other : Entry) → has_entry new other ≡ (is_same other entry || has_entry old other)) where
@@ -157,7 +137,7 @@ module _ (entry : Entry) (old new : Bucket) (more : (other : Entry) → has_entr
   pushed_member = more entry ∙ ap (λ b. b || has_entry old entry) (same_self entry)
 
   pub pushed_keeps : (other : Entry) → has_entry old other ≡ true → has_entry new other ≡ true
-  pushed_keeps other had = more other ∙ (ap (λ b. is_same other entry || b) had ∙ or_true (is_same other entry))
+  pushed_keeps other had = more other ∙ (ap (λ b. is_same other entry || b) had ∙ or-true (is_same other entry))
 
   -- the top after a push
   pub pushed_top : (was is : Option Entry) → top_of old ≡ was → top_of new ≡ is
@@ -218,19 +198,6 @@ part_less item old new first moved entry had = which (is_same entry item.0) refl
         inl (top_first old item first member ∙ ap (λ s. Some s) (sym (same_found entry item.0 e)))
     which false e m = inr m
 
--- ---- a part without an entry
-
-pub none_first : (items : List (Reverse Entry)) (count : ℕ) → length items ≡ count → (0 < count → ⊥) → items ≡ []
-none_first [] count is none = refl
-none_first (item ∷ items) count is none = absurd (none (omega arith))
-
-pub none_left : (items : List (Reverse Entry)) → length items ≡ 0 → items ≡ []
-none_left [] none = refl
-none_left (item ∷ items) none = absurd (omega arith)
-
-pub none_among : (entry : Entry) (items : List (Reverse Entry)) → items ≡ [] → is_among entry items ≡ false
-none_among entry items none = ap (λ found. is_among entry found) none
-
 -- ---- the top is taken out
 
 pub pop_wide : (words old new : List (Reverse Entry)) (popped : Option (Reverse Entry)) → is_wide_before (first_of words) (first_of old) ≡ true
@@ -243,7 +210,7 @@ pop_wide words old new (Some item) first top moved same entry had = which (or_ca
     part : (first_of old ≡ Some entry) ⊎ (is_among entry new ≡ true)
         → ((if is_wide_before (first_of words) (first_of old) then first_of old else first_of words) ≡ Some entry) ⊎ ((is_among entry words || is_among entry new) ≡ true)
     part (inl e) = inl (ap (λ b. if b then first_of old else first_of words) first ∙ e)
-    part (inr m) = inr (ap (λ b. is_among entry words || b) m ∙ or_true (is_among entry words))
+    part (inr m) = inr (ap (λ b. is_among entry words || b) m ∙ or-true (is_among entry words))
 
     which : (is_among entry words ≡ true) ⊎ (is_among entry old ≡ true)
         → ((if is_wide_before (first_of words) (first_of old) then first_of old else first_of words) ≡ Some entry) ⊎ ((is_among entry words || is_among entry new) ≡ true)
@@ -265,7 +232,7 @@ pop_words old new wide (Some item) first top moved same entry had = which (or_ca
     which : (is_among entry old ≡ true) ⊎ (is_among entry wide ≡ true)
         → ((if is_wide_before (first_of old) (first_of wide) then first_of wide else first_of old) ≡ Some entry) ⊎ ((is_among entry new || is_among entry wide) ≡ true)
     which (inl m) = part (part_less item old new top moved entry m)
-    which (inr m) = inr (ap (λ b. is_among entry new || b) m ∙ or_true (is_among entry new))
+    which (inr m) = inr (ap (λ b. is_among entry new || b) m ∙ or-true (is_among entry new))
 
 -- a bucket without a top is empty
 pub top_empty : (words wide : List (Reverse Entry)) → (if is_wide_before (first_of words) (first_of wide) then first_of wide else first_of words) ≡ None

@@ -1,5 +1,6 @@
 -- A table of small rows, and the wide one with the same rows.
-use Rattle.std.proofs.Common.{◌≡◌, ◌<◌, ◌^◌, ℕ, zero, suc, drop, append_assoc, slice_get, Bool, true, false, cond, Option, Some, None, List, [], ◌∷◌, ◌++◌, map, refl, sym, ap, ◌∙◌, subst, arith, nat_eq, true≢false, IsSome, IfSome, IfNone}
+use Rattle.std.proofs.Common.{◌≡◌, ◌<◌, ◌^◌, ℕ, zero, suc, drop, append_assoc, slice_get, Bool, true, false, cond, Option, Some, None, List, [], ◌∷◌, ◌++◌, map, refl, sym, ap, ◌∙◌, subst, arith, nat_eq, IsSome, IfSome, IfNone}
+use Rattle.std.proofs.lemmas.Bool.{eq-eqb}
 use Rattle.std.proofs.lemmas.Option.{slice_get-map}
 use Rattle.std.specs.Map.{lookup, keys_of}
 use Rattle.std.specs.List.{AllByRecursion, IsDistinct}
@@ -11,21 +12,13 @@ use Rattle.pb_lists.specs.declared.small_row.SmallRow.{SmallRow}
 use Rattle.pb_lists.specs.Bundle.{row_in}
 use Rattle.pb_lists.specs.SmallRow.{wide_row}
 use Rattle.pb_lists.specs.Rows.{wide_entry, HasWords}
-use Rattle.pb_lists.proofs.Parts.{nat_same, nat_found}
+use Rattle.pb_model.proofs.Tests.{equal, equal_swap}
 
 -- ---- a value that is put
 
-nat_turned : (n m : ℕ) (b : Bool) → nat_eq n m ≡ b → nat_eq m n ≡ b
-nat_turned n m true e = nat_same m n (sym (nat_found n m e))
-nat_turned n m false e = which (nat_eq m n) refl
-  where
-    which : (b : Bool) → nat_eq m n ≡ b → nat_eq m n ≡ false
-    which true is = absurd (true≢false (sym (nat_same n m (sym (nat_found m n is))) ∙ e))
-    which false is = is
-
 pub put_found : {V : Type 0} → (state : ℕ) (value : V) (entries : List (ℕ × V)) (other : ℕ)
     → lookup (nat_eq other) (insert_entry nat_eq entries state value) ≡ cond (nat_eq state other) (Some value) (lookup (nat_eq other) entries)
-put_found state value [] other = ap (λ b. cond b (Some value) None) (nat_turned state other (nat_eq state other) refl)
+put_found state value [] other = ap (λ b. cond b (Some value) None) (equal_swap other state)
 put_found state value (entry ∷ entries) other = at (nat_eq state entry.0) refl (nat_eq other entry.0) refl (put_found state value entries other)
   where
     at : (here : Bool) → nat_eq state entry.0 ≡ here → (there : Bool) → nat_eq other entry.0 ≡ there
@@ -33,13 +26,13 @@ put_found state value (entry ∷ entries) other = at (nat_eq state entry.0) refl
         → lookup (nat_eq other) (cond here ((entry.0, value) ∷ entries) (entry ∷ insert_entry nat_eq entries state value)) ≡ cond (nat_eq state other) (Some value) (cond there (Some entry.1) (lookup (nat_eq other) entries))
     at true e true d next =
         ap (λ b. cond b (Some value) (lookup (nat_eq other) entries)) d
-        ∙ sym (ap (λ b. cond b (Some value) (Some entry.1)) (nat_same state other (nat_found state entry.0 e ∙ sym (nat_found other entry.0 d))))
+        ∙ sym (ap (λ b. cond b (Some value) (Some entry.1)) (eq-eqb state other (equal state entry.0 e ∙ sym (equal other entry.0 d))))
     at true e false d next =
         ap (λ b. cond b (Some value) (lookup (nat_eq other) entries)) d
-        ∙ sym (ap (λ b. cond b (Some value) (lookup (nat_eq other) entries)) (subst (λ n. nat_eq n other ≡ false) (sym (nat_found state entry.0 e)) (nat_turned other entry.0 false d)))
+        ∙ sym (ap (λ b. cond b (Some value) (lookup (nat_eq other) entries)) (subst (λ n. nat_eq n other ≡ false) (sym (equal state entry.0 e)) (equal_swap entry.0 other ∙ d)))
     at false e true d next =
         ap (λ b. cond b (Some entry.1) (lookup (nat_eq other) (insert_entry nat_eq entries state value))) d
-        ∙ sym (ap (λ b. cond b (Some value) (Some entry.1)) (subst (λ n. nat_eq state n ≡ false) (sym (nat_found other entry.0 d)) e))
+        ∙ sym (ap (λ b. cond b (Some value) (Some entry.1)) (subst (λ n. nat_eq state n ≡ false) (sym (equal other entry.0 d)) e))
     at false e false d next = ap (λ b. cond b (Some entry.1) (lookup (nat_eq other) (insert_entry nat_eq entries state value))) d ∙ next
 
 -- ---- the same rows
@@ -74,7 +67,7 @@ words_put state row entries word words other above =
     put_found state row entries other ∙ (ap (λ b. cond b (Some row) (lookup (nat_eq other) entries)) (which (nat_eq state other) refl) ∙ words other above)
   where
     which : (b : Bool) → nat_eq state other ≡ b → nat_eq state other ≡ false
-    which true e = let same = nat_found state other e in absurd (omega arith)
+    which true e = let same = equal state other e in absurd (omega arith)
     which false e = e
 
 -- ---- the last of the keys so far
@@ -87,7 +80,7 @@ pub put_last : (entries rest : List (ℕ × Row)) (state : ℕ) (row : Row) → 
 unfolding IsDistinct
 put_last [] rest state row distinct = refl
 put_last (entry ∷ entries) rest state row distinct =
-    let apart = nat_turned entry.0 state false (is_apart entry.0 entries rest state row distinct.0) in
+    let apart : nat_eq state entry.0 ≡ false = equal_swap state entry.0 ∙ is_apart entry.0 entries rest state row distinct.0 in
     ap (λ b. cond b ((entry.0, row) ∷ entries) (entry ∷ insert_entry nat_eq entries state row)) apart ∙ ap (λ others. entry ∷ others) (put_last entries rest state row distinct.1)
 
 -- ---- the entries that are written so far
