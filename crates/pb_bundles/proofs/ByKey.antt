@@ -75,9 +75,6 @@ first_choices_are_by_key blocks settings counts store keys pass has none_above p
   (λ first block is. first block (candidate block is), λ none block is. none block (may block is)),
 )
   where
-    opened : (block : ℕ) → IsSome (keys block) ↔ HasOpened (store.rows block)
-    opened = (opened_is_by_key store keys has).0
-
     known : (block : ℕ) → IsSome (keys block) → block < blocks.count
     known block there = by_cases (nat_lt block blocks.count) (λ e. below block blocks.count e)
         (λ e. absurd (true≢false (sym there ∙ ap is_some (none_above block (not_below block blocks.count e)))))
@@ -85,10 +82,10 @@ first_choices_are_by_key blocks settings counts store keys pass has none_above p
     may : (block : ℕ) → MayBeFirst pass keys block → MayBeLeased blocks settings counts store block
     may block is =
         let so = (passes block (known block is.1)).0 is.0 in
-        record { known = known block is.1; opened = (opened block).0 is.1; free = so.0; not_near_hot = so.1; left = so.2; no_end = so.3 }
+        record { known = known block is.1; opened = ((opened_is_by_key store keys has).0 block).0 is.1; free = so.0; not_near_hot = so.1; left = so.2; no_end = so.3 }
 
     candidate : (block : ℕ) → MayBeLeased blocks settings counts store block → MayBeFirst pass keys block
-    candidate block is = ((passes block is.known).1 (is.free, is.not_near_hot, is.left, is.no_end), (opened block).1 is.opened)
+    candidate block is = ((passes block is.known).1 (is.free, is.not_near_hot, is.left, is.no_end), ((opened_is_by_key store keys has).0 block).1 is.opened)
 
     to_rows : (block other : ℕ) → ((other ≡ block) ⊎ IsBetterBy keys block other) → (other ≡ block) ⊎ IsBetter store block other
     to_rows block other (inl e) = inl e

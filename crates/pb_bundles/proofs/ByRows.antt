@@ -1,5 +1,6 @@
 -- The moves and the keys by rows and as stores.
 use Rattle.std.proofs.Common.{◌≡◌, ℕ, ◌<◌, ◌≤◌, Bool, true, false, not, cond, ◌||◌, ◌==◌, nat_eq, nat_lt, is_some, List, [], ◌∷◌, Option, Some, None, get_or, length, refl, sym, ap, subst, ◌∙◌, true≢false}
+use Rattle.std.proofs.lemmas.List.{get_or_past}
 use Rattle.std.specs.Option.{option_or}
 use Rattle.std.specs.Map.{keys_of, set_value}
 use Rattle.pb_model.specs.declared.key.Key.{Key}
@@ -7,14 +8,14 @@ use Rattle.pb_model.specs.declared.row.Row.{Row}
 use Rattle.pb_model.specs.Weight.{Weight}
 use Rattle.pb_model.specs.Store.{Part, lesser}
 use Rattle.pb_model.specs.Key.{IsBest}
-use Rattle.pb_model.proofs.Tests.{by_cases, equal, equal_swap, not_true, below, not_below}
+use Rattle.pb_model.proofs.Tests.{by_cases, equal, equal_swap, not_true, below, not_below, none_found, some_found}
 use Rattle.pb_lists.specs.Bundle.{Content, row_of}
 use Rattle.pb_bundles.specs.Parts.{content_in, with_content, rows_in}
 use Rattle.pb_bundles.specs.Homes.{content_at, key_at, home_rows}
 use Rattle.pb_bundles.specs.Moves.{is_among, moved}
 use Rattle.pb_bundles.specs.Stores.{store_of}
 use Rattle.pb_bundles.specs.Laws.{HomeKeysAreBest, KeysAtHomeAreBest, NotedKeysAreBest, MovesTakeRows, TakenPlacesAreVacant, MovesBringRows, ChangesAreApart, AwayRowsAreOfBlocks, TakenRowsAreRestricted, BroughtRowsAreMerged, MovesTurnBack}
-use Rattle.pb_bundles.proofs.Lists.{found_at, past, by_found, some_within}
+use Rattle.pb_bundles.proofs.Lists.{by_found, some_within}
 use Rattle.pb_bundles.proofs.Moving.{vacated_at, vacated_length, moved_in, put_back_at}
 
 -- ---- what is found and what is among
@@ -27,10 +28,6 @@ among_found (part ∷ parts) block = go (nat_eq block part.0) (among_found parts
         → is_some (cond (nat_eq block part.0) (Some part.1) (content_in parts block)) ≡ ((part.0 == block) || is_among (keys_of parts) block)
     go true rest e = ap (λ b. is_some (cond b (Some part.1) (content_in parts block))) e ∙ sym (ap (λ b. b || is_among (keys_of parts) block) (equal_swap part.0 block ∙ e))
     go false rest e = ap (λ b. is_some (cond b (Some part.1) (content_in parts block))) e ∙ rest ∙ sym (ap (λ b. b || is_among (keys_of parts) block) (equal_swap part.0 block ∙ e))
-
-none_found : (found : Option Content) → is_some found ≡ false → found ≡ None
-none_found None e = refl
-none_found (Some content) e = absurd (true≢false e)
 
 -- ---- the moves
 
@@ -58,7 +55,7 @@ taken_places_are_vacant list old new parts home left keys block there =
 pub moves_bring_rows : MovesBringRows
 moves_bring_rows parts scope old new there among back = record {
   brought = λ block state inside. ap (λ found. rows_in found state) (home block
-      ∙ (let some = found_at (content_in parts block) (among_found parts block ∙ among block ∙ inside) in ap (λ found. option_or found (content_at old block)) some.1 ∙ sym some.1));
+      ∙ (let some = some_found (content_in parts block) (among_found parts block ∙ among block ∙ inside) in ap (λ found. option_or found (content_at old block)) some.1 ∙ sym some.1));
   stays = λ block state outside. ap (λ found. rows_in found state) (home block
       ∙ ap (λ found. option_or found (content_at old block)) (none_found (content_in parts block) (among_found parts block ∙ among block ∙ not_true (scope block) outside)));
 }
@@ -157,15 +154,15 @@ keys_at_home_are_best table incumbent weight same_count noted all block = by_cas
     (λ e. let one = all block (below block (length table.bundles) e) in
     home_keys_are_best table (store_of (home_rows table) incumbent weight) block one.0 noted one.1 one.2 (λ state. refl))
     (λ e. let above = not_below block (length table.bundles) e in
-    subst (IsBest weight (home_rows table block)) (sym (past table.keys block (subst (λ n. n ≤ block) (sym same_count) above)))
-    (λ opened. no_row (content_at table block) opened.0 opened.1 (past table.bundles block above) opened.2))
+    subst (IsBest weight (home_rows table block)) (sym (get_or_past table.keys block None (subst (λ n. n ≤ block) (sym same_count) above)))
+    (λ opened. no_row (content_at table block) opened.0 opened.1 (get_or_past table.bundles block None above) opened.2))
   where
     no_row : (found : Option Content) (state : ℕ) (row : Row) → found ≡ None → rows_in found state ≡ Some row → ⊥
     no_row found state row none is = let bad : ◌≡◌ {A = Option Row} None (Some row) = sym (ap (λ f. rows_in f state) none) ∙ is in cc
 
 pub noted_keys_are_best : NotedKeysAreBest
 noted_keys_are_best store worked scope parts old new has notes among agrees weights block = by_cases (scope block)
-    (λ e. let some = found_at (content_in parts block) (among_found parts block ∙ among block ∙ e) in
+    (λ e. let some = some_found (content_in parts block) (among_found parts block ∙ among block ∙ e) in
     subst (λ w. IsBest w (λ state. cond (scope block) (worked.rows block state) (store.rows block state)) (get_or new block None)) (weights block some.0 some.1)
     (best_of_same some.0.weight (λ state. cond (scope block) (worked.rows block state) (store.rows block state)) (row_of some.0) (get_or new block None)
     (λ state. ap (λ b. cond b (worked.rows block state) (store.rows block state)) e ∙ sym (agrees block state e) ∙ ap (λ found. rows_in found state) some.1)

@@ -55,9 +55,6 @@ homes_back parts bundles keys new below notes are = record {
   noted = λ block content is. which block content (content_in parts block) refl (sym (put_back_at parts bundles block (by_found (λ n. n < length bundles) parts below)) ∙ is);
 }
   where
-    some_same : (a b : Content) → Some a ≡ Some b → a ≡ b
-    some_same a b h = cc
-
     which : (block : ℕ) (content : Content) (found : Option Content) → content_in parts block ≡ found → option_or (content_in parts block) (get_or bundles block None) ≡ Some content
         → IsBest content.weight (row_of content) (get_or new block None)
     which block content None e is = subst (IsBest content.weight (row_of content)) (sym (notes.others block e))

@@ -11,7 +11,8 @@ use Rattle.pb_lists.specs.Bundle.{Content}
 use Rattle.pb_bundles.specs.Parts.{rows_in}
 use Rattle.pb_bundles.specs.Homes.{content_at, home_rows, with_start}
 use Rattle.pb_bundles.specs.Laws.{OpeningRowsAreHome}
-use Rattle.pb_bundles.proofs.Lists.{set_at, past}
+use Rattle.std.proofs.lemmas.List.{get_or_past}
+use Rattle.pb_bundles.proofs.Lists.{set_at}
 
 abbrev empty : Weight → Content
 empty weight = record { entries = []; weight = weight }
@@ -33,7 +34,7 @@ opening_rows_are_home space guide weight count table there is = (rows, contents)
     none_elsewhere : (home state : ℕ) → rows_in (get_or (replicate count (Some (empty weight))) home None) state ≡ None
     none_elsewhere home state = by_cases (nat_lt home count)
         (λ e. ap (λ content. rows_in content state) (get_or-replicate count home (Some (empty weight)) None (below home count e)))
-        (λ e. ap (λ content. rows_in content state) (past (replicate count (Some (empty weight))) home
+        (λ e. ap (λ content. rows_in content state) (get_or_past (replicate count (Some (empty weight))) home None
         (subst (λ n. n ≤ home) (sym (length-replicate count (Some (empty weight)))) (not_below home count e))))
 
     rows : (home state : ℕ) → home_rows table home state ≡ (opening_store space guide weight).rows home state

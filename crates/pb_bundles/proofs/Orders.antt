@@ -1,5 +1,7 @@
 -- The order of blocks by their keys, and the best of some and one more.
-use Rattle.std.proofs.Common.{◌≡◌, ℕ, ◌+◌, ◌<◌, Bool, true, false, ◌||◌, ◌==◌, nat_lt, List, [], ◌∷◌, ◌++◌, Option, Some, None, IsSome, is_some, true≢false, refl, sym, ap, subst, ◌∙◌, ◌⊎◌, inl, inr, arith}
+use Rattle.std.proofs.Common.{◌≡◌, ℕ, ◌+◌, ◌<◌, Bool, true, ◌||◌, ◌==◌, nat_lt, List, [], ◌∷◌, ◌++◌, Option, Some, None, IsSome, is_some, true≢false, sym, ap, subst, ◌∙◌, ◌⊎◌, inl, inr, arith}
+use Rattle.std.proofs.Math.Bool.{or-true, or-false, or_assoc}
+use Rattle.std.proofs.lemmas.Bool.{cases_order}
 use Rattle.pb_model.specs.declared.key.Key.{Key}
 use Rattle.pb_model.specs.declared.key.Key.TheVariants.{Sum, Dead}
 use Rattle.pb_model.specs.Key.{IsKeyBelow, IsBefore}
@@ -8,10 +10,6 @@ use Rattle.pb_model.proofs.Tests.{by_cases, below, not_below, equal, equal_self,
 use Rattle.pb_machine.specs.Choice.{ComesBefore}
 use Rattle.pb_bundles.specs.Moves.{is_among}
 use Rattle.pb_bundles.specs.Choosing.{IsBetterBy, IsBestOf, IsBetterOf, MayBeFirst, MayRival, IsRivalBy}
-
-number_cases : (a b : ℕ) → (a < b) ⊎ ((a ≡ b) ⊎ (b < a))
-number_cases a b = by_cases (nat_lt a b) (λ e. inl (below a b e))
-    (λ e. by_cases (nat_lt b a) (λ f. inr (inr (below b a f))) (λ f. let le = not_below a b e in let ge = not_below b a f in inr (inl (omega arith))))
 
 -- ---- keys
 
@@ -42,19 +40,24 @@ comes_trans (Some x) a (Some y) b None c l g = tt
 comes_trans (Some x) a (Some y) b (Some z) c l g = before_trans x a y b z c l g
 
 pub comes_cases : (x : Option Key) (a : ℕ) (y : Option Key) (b : ℕ) → ComesBefore x a y b ⊎ ((a ≡ b) ⊎ ComesBefore y b x a)
-comes_cases None a None b = number_cases a b
+comes_cases None a None b = which (cases_order a b)
+  where
+    which : ((a ≡ b) ⊎ ((a < b) ⊎ (b < a))) → (a < b) ⊎ ((a ≡ b) ⊎ (b < a))
+    which (inl same) = inr (inl same)
+    which (inr (inl l)) = inl l
+    which (inr (inr g)) = inr (inr g)
 comes_cases None a (Some y) b = inr (inr tt)
 comes_cases (Some x) a None b = inl tt
 comes_cases (Some x) a (Some y) b = by_key (key_cases x y)
   where
-    by_number : x ≡ y → ((a < b) ⊎ ((a ≡ b) ⊎ (b < a))) → IsBefore x a y b ⊎ ((a ≡ b) ⊎ IsBefore y b x a)
-    by_number e (inl l) = inl (inr (e, l))
-    by_number e (inr (inl same)) = inr (inl same)
+    by_number : x ≡ y → ((a ≡ b) ⊎ ((a < b) ⊎ (b < a))) → IsBefore x a y b ⊎ ((a ≡ b) ⊎ IsBefore y b x a)
+    by_number e (inl same) = inr (inl same)
+    by_number e (inr (inl l)) = inl (inr (e, l))
     by_number e (inr (inr g)) = inr (inr (inr (sym e, g)))
 
     by_key : (IsKeyBelow x y ⊎ ((x ≡ y) ⊎ IsKeyBelow y x)) → IsBefore x a y b ⊎ ((a ≡ b) ⊎ IsBefore y b x a)
     by_key (inl l) = inl (inl l)
-    by_key (inr (inl e)) = by_number e (number_cases a b)
+    by_key (inr (inl e)) = by_number e (cases_order a b)
     by_key (inr (inr g)) = inr (inr (inl g))
 
 -- ---- the best of some
@@ -64,23 +67,20 @@ pub best_same : (P Q : ℕ → Type 0) (keys : ℕ → Option Key) (best : Optio
 best_same P Q keys None to back first = λ block q. first block (back block q)
 best_same P Q keys (Some best) to back first = (to best first.0, λ block q. first.1 block (back block q))
 
+-- one that is better than all others leads them
+leads : (P : ℕ → Type 0) (keys : ℕ → Option Key) (other : ℕ) → ((block : ℕ) → P block → IsBetterBy keys other block) → (block : ℕ) → (P block ⊎ (block ≡ other)) → (block ≡ other) ⊎ IsBetterBy keys other block
+leads P keys other better block (inl p) = inr (better block p)
+leads P keys other better block (inr e) = inl e
+
 -- with one candidate more
 pub best_more : (P Q : ℕ → Type 0) (keys : ℕ → Option Key) (best : Option ℕ) (other : ℕ) (result : Option ℕ) → ((block : ℕ) → P block → Q block) → ((block : ℕ) → Q block → P block ⊎ (block ≡ other)) → Q other
     → IsBestOf P keys best → IsBetterOf keys best other result → IsBestOf Q keys result
-best_more P Q keys None other result to cases more first better = subst (IsBestOf Q keys) (sym better) (more, λ block q. which block (cases block q))
-  where
-    which : (block : ℕ) → (P block ⊎ (block ≡ other)) → (block ≡ other) ⊎ IsBetterBy keys other block
-    which block (inl p) = absurd (first block p)
-    which block (inr e) = inl e
-best_more P Q keys (Some best) other result to cases more first (inl better) = subst (IsBestOf Q keys) (sym better.0) (more, λ block q. which block (cases block q))
+best_more P Q keys None other result to cases more first better = subst (IsBestOf Q keys) (sym better) (more, λ block q. leads P keys other (λ one p. absurd (first one p)) block (cases block q))
+best_more P Q keys (Some best) other result to cases more first (inl better) = subst (IsBestOf Q keys) (sym better.0) (more, λ block q. leads P keys other (λ one p. behind one (first.1 one p)) block (cases block q))
   where
     behind : (block : ℕ) → ((block ≡ best) ⊎ IsBetterBy keys best block) → IsBetterBy keys other block
     behind block (inl e) = subst (IsBetterBy keys other) (sym e) better.1
     behind block (inr l) = comes_trans (keys other) other (keys best) best (keys block) block better.1 l
-
-    which : (block : ℕ) → (P block ⊎ (block ≡ other)) → (block ≡ other) ⊎ IsBetterBy keys other block
-    which block (inl p) = inr (behind block (first.1 block p))
-    which block (inr e) = inl e
 best_more P Q keys (Some best) other result to cases more first (inr better) = subst (IsBestOf Q keys) (sym better.0) (to best first.0, λ block q. which block (cases block q))
   where
     behind : (IsBetterBy keys other best ⊎ ((other ≡ best) ⊎ IsBetterBy keys best other)) → (other ≡ best) ⊎ IsBetterBy keys best other
@@ -124,16 +124,8 @@ first_stays test keys n best worse first = by_cases (test n)
 -- ---- going over a list of blocks
 
 among_last : (xs : List ℕ) (x block : ℕ) → is_among (xs ++ x ∷ []) block ≡ (is_among xs block || (x == block))
-among_last [] x block = or_nothing (x == block)
-  where
-    or_nothing : (b : Bool) → (b || false) ≡ b
-    or_nothing true = refl
-    or_nothing false = refl
-among_last (y ∷ xs) x block = ap (λ b. (y == block) || b) (among_last xs x block) ∙ regroup (y == block) (is_among xs block) (x == block)
-  where
-    regroup : (a b c : Bool) → (a || (b || c)) ≡ ((a || b) || c)
-    regroup true b c = refl
-    regroup false b c = refl
+among_last [] x block = or-false (x == block)
+among_last (y ∷ xs) x block = ap (λ b. (y == block) || b) (among_last xs x block) ∙ sym (or_assoc (y == block) (is_among xs block) (x == block))
 
 module _ (xs : List ℕ) (x : ℕ) (keys : ℕ → Option Key) (block : ℕ) where
   stays : (other : ℕ) → MayRival (is_among xs) keys block other → MayRival (is_among (xs ++ x ∷ [])) keys block other
@@ -150,11 +142,7 @@ module _ (xs : List ℕ) (x : ℕ) (keys : ℕ → Option Key) (block : ℕ) whe
   pub rival_more : (best result : Option ℕ) → IsBetterBy keys x block → IsRivalBy (is_among xs) keys block best → IsBetterOf keys best x result → IsRivalBy (is_among (xs ++ x ∷ [])) keys block result
   rival_more best result is first better =
       best_more (MayRival (is_among xs) keys block) (MayRival (is_among (xs ++ x ∷ [])) keys block) keys best x result stays split
-      (among_last xs x x ∙ ap (λ b. is_among xs x || b) (equal_self x) ∙ or_yes (is_among xs x), is) first better
-    where
-      or_yes : (b : Bool) → (b || true) ≡ true
-      or_yes true = refl
-      or_yes false = refl
+      (among_last xs x x ∙ ap (λ b. is_among xs x || b) (equal_self x) ∙ or-true (is_among xs x), is) first better
 
   -- the next block isn't
   pub rival_skip : (best : Option ℕ) → (IsBetterBy keys x block → ⊥) → IsRivalBy (is_among xs) keys block best → IsRivalBy (is_among (xs ++ x ∷ [])) keys block best

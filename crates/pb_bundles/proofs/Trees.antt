@@ -1,12 +1,14 @@
 -- The tree of winners: what a node has, how games are played anew, and that a node has the best of the blocks below it.
 use Rattle.std.proofs.Common.{◌≡◌, ◌≢◌, ℕ, zero, suc, ◌+◌, ◌-◌, ◌*◌, ◌/◌, ◌<◌, ◌≤◌, ◌==◌, nat_lt, Bool, false, IsTrue, cond, List, Option, Some, None, IsSome, get_or, set, length, refl, sym, ap, subst, ◌∙◌, ◌⊎◌, inl, inr, arith, true≢false, get_or-set_same, get_or-set_other}
+use Rattle.std.proofs.lemmas.Bool.{eqb-false}
+use Rattle.std.proofs.lemmas.Option.{none-some, same_Some}
 use Rattle.pb_model.specs.declared.key.Key.{Key}
 use Rattle.pb_model.proofs.Tests.{by_cases, below, not_below, equal}
 use Rattle.pb_machine.specs.Choice.{ComesBefore}
 use Rattle.pb_bundles.specs.declared.winner.Winner.{Winner}
 use Rattle.pb_bundles.specs.Tree.{leaf, node, IsAhead, IsWonBy, IsWon, IsKeyTree, Under, IsNotBehind, IsBestBelow}
 use Rattle.pb_bundles.specs.Choosing.{MayBeFirst, IsFirstBy, IsBetterBy}
-use Rattle.pb_bundles.proofs.Lists.{apart, some_within}
+use Rattle.pb_bundles.proofs.Lists.{some_within}
 use Rattle.pb_bundles.proofs.Orders.{comes_trans, comes_cases}
 
 -- ---- who is ahead
@@ -55,13 +57,13 @@ extend (suc steps) above mid below e (inr (inl u)) = inr (inl (extend steps (2 *
 extend (suc steps) above mid below e (inr (inr u)) = inr (inr (extend steps (2 * above + 1) mid below e u))
 
 half_cases : (n : ℕ) → (2 * (n / 2) ≡ n) ⊎ (2 * (n / 2) + 1 ≡ n)
-half_cases n = by_cases (n == 2 * (n / 2)) (λ e. inl (sym (equal n (2 * (n / 2)) e))) (λ e. let ne = apart (2 * (n / 2)) n e in inr (omega (arith, ne)))
+half_cases n = by_cases (n == 2 * (n / 2)) (λ e. inl (sym (equal n (2 * (n / 2)) e))) (λ e. let ne : n ≢ 2 * (n / 2) = eqb-false n (2 * (n / 2)) e in inr (omega (arith, ne)))
 
 -- every node is below the first
 pub under_root : (fuel n : ℕ) → 1 ≤ n → n ≤ fuel → (steps : ℕ) × Under steps 1 n
 under_root zero n ge le = absurd (omega arith)
 under_root (suc fuel) n ge le = by_cases (n == 1) (λ e. (0, sym (equal n 1 e)))
-    (λ e. let not_one = apart 1 n e in let up = under_root fuel (n / 2) (omega (arith, not_one)) (omega (arith, not_one)) in (suc up.0, extend up.0 1 (n / 2) n (half_cases n) up.1))
+    (λ e. let not_one : n ≢ 1 = eqb-false n 1 e in let up = under_root fuel (n / 2) (omega (arith, not_one)) (omega (arith, not_one)) in (suc up.0, extend up.0 1 (n / 2) n (half_cases n) up.1))
 
 module _ (keys : List (Option Key)) where
   leaf_cases : (a b : ℕ) → IsAhead (leaf keys a) (leaf keys b) ⊎ ((a ≡ b) ⊎ IsAhead (leaf keys b) (leaf keys a))
@@ -99,9 +101,9 @@ module _ (keys : List (Option Key)) where
       → (j : ℕ) → (j ≢ at → IsWon keys winners j × (2 * j ≢ at) × (2 * j + 1 ≢ at)) → IsWon keys (set winners at v) j
   won_set winners at v ge lt same won j others = by_cases (j == at)
       (λ e. subst (IsWon keys (set winners at v)) (sym (equal j at e)) here)
-      (λ e. let o = others (apart at j e) in
+      (λ e. let o = others (eqb-false j at e) in
       won_same (node keys winners (2 * j)) (node keys winners (2 * j + 1)) (node keys winners j) (node keys (set winners at v) (2 * j)) (node keys (set winners at v) (2 * j + 1)) (node keys (set winners at v) j)
-      (node_other winners at v (2 * j) o.1) (node_other winners at v (2 * j + 1) o.2) (node_other winners at v j (apart at j e)) o.0)
+      (node_other winners at v (2 * j) o.1) (node_other winners at v (2 * j + 1) o.2) (node_other winners at v j (eqb-false j at e)) o.0)
     where
       here : IsWon keys (set winners at v) at
       here =
@@ -159,14 +161,15 @@ module _ (keys : List (Option Key)) where
       -- the node's block isn't better than the best one so far
       pub stays : ((other : Winner) → best ≡ Some other → other ≡ leaf keys other.block)
           → (IsSome (node keys winners at).key → (other : Winner) × (best ≡ Some other) × (IsAhead (node keys winners at) other → ⊥)) → IsBestBelow test keys at best best
-      stays is_leaf worse = record { from = inl refl; kept = λ other p. p; least = least }
-        where
-          least : (block steps : ℕ) → block < length keys → Under steps at (length keys + block) → IsTrue (test block) → IsSome (get_or keys block None) → IsNotBehind best (leaf keys block)
-          least block steps low under pass opened =
-              let beat = beats steps at block ge low under in
-              let got = worse (open_key (node keys winners at) (leaf keys block) beat opened) in
-              subst (λ b. IsNotBehind b (leaf keys block)) (sym got.1)
-              (not_behind_trans got.0 (node keys winners at) (leaf keys block) (not_ahead got.0 (node keys winners at) (is_leaf got.0 got.1) (own_leaf at ge lt) got.2) beat)
+      stays is_leaf worse = record {
+        from = inl refl;
+        kept = λ other p. p;
+        least = λ block steps low under pass opened.
+            let beat = beats steps at block ge low under in
+            let got = worse (open_key (node keys winners at) (leaf keys block) beat opened) in
+            subst (λ b. IsNotBehind b (leaf keys block)) (sym got.1)
+            (not_behind_trans got.0 (node keys winners at) (leaf keys block) (not_ahead got.0 (node keys winners at) (is_leaf got.0 got.1) (own_leaf at ge lt) got.2) beat);
+      }
 
       -- it is, and passes
       pub takes : IsTrue (test (node keys winners at).block) → IsSome (node keys winners at).key → ((other : Winner) → best ≡ Some other → IsAhead (node keys winners at) other)
@@ -184,13 +187,14 @@ module _ (keys : List (Option Key)) where
 
       -- it doesn't pass, and no node is below
       pub ends : length keys ≤ at → test (node keys winners at).block ≡ false → IsBestBelow test keys at best best
-      ends high fails = record { from = inl refl; kept = λ other p. p; least = least }
-        where
-          least : (block steps : ℕ) → block < length keys → Under steps at (length keys + block) → IsTrue (test block) → IsSome (get_or keys block None) → IsNotBehind best (leaf keys block)
-          least block steps low under pass opened =
-              let same = under_last steps at (length keys + block) (omega (arith, high, low)) under in
-              let here : node keys winners at ≡ leaf keys block = ap (node keys winners) same ∙ node_leaf winners block in
-              absurd (true≢false (sym pass ∙ ap (λ (w : Winner). test w.block) (sym here) ∙ fails))
+      ends high fails = record {
+        from = inl refl;
+        kept = λ other p. p;
+        least = λ block steps low under pass opened.
+            let same = under_last steps at (length keys + block) (omega (arith, high, low)) under in
+            let here : node keys winners at ≡ leaf keys block = ap (node keys winners) same ∙ node_leaf winners block in
+            absurd (true≢false (sym pass ∙ ap (λ (w : Winner). test w.block) (sym here) ∙ fails));
+      }
 
       -- it doesn't pass, and both nodes below it were searched
       pub both : at < length keys → (left result : Option Winner) → IsBestBelow test keys (2 * at) best left → IsBestBelow test keys (2 * at + 1) left result → IsBestBelow test keys at best result
@@ -222,21 +226,15 @@ module _ (keys : List (Option Key)) (test : ℕ → Bool) where
   pub found_first : (w : Winner) → IsBestBelow test keys 1 None (Some w) → IsFirstBy test (λ b. get_or keys b None) (Some w.block)
   found_first w best = which best.from
     where
-      nothing : {A : Type 0} {a : A} → ◌≡◌ {A = Option A} (Some a) None → ⊥
-      nothing e = cc
-
-      some_same : {A : Type 0} {a b : A} → Some a ≡ Some b → a ≡ b
-      some_same e = cc
-
       behind : w ≡ leaf keys w.block → (block : ℕ) → IsNotBehind (Some w) (leaf keys block) → (block ≡ w.block) ⊎ IsBetterBy (λ b. get_or keys b None) w.block block
       behind own block (inl e) = inl (sym (ap (λ (v : Winner). v.block) e))
       behind own block (inr l) = inr (subst (λ (v : Winner). IsAhead v (leaf keys block)) own l)
 
       which : ((Some w ≡ None) ⊎ ((block : ℕ) × (block < length keys) × (Some w ≡ Some (leaf keys block)) × IsTrue (test block) × IsSome (get_or keys block None)))
           → IsFirstBy test (λ b. get_or keys b None) (Some w.block)
-      which (inl e) = absurd (nothing e)
+      which (inl e) = absurd (none-some w (sym e))
       which (inr found) =
-          let same : w ≡ leaf keys found.0 = some_same found.2 in
+          let same : w ≡ leaf keys found.0 = same_Some w (leaf keys found.0) found.2 in
           let number : w.block ≡ found.0 = ap (λ (v : Winner). v.block) same in (
             (subst (λ n. IsTrue (test n)) (sym number) found.3, subst (λ n. IsSome (get_or keys n None)) (sym number) found.4),
             λ block may. behind (same ∙ ap (leaf keys) (sym number)) block (root_least (Some w) best block may),

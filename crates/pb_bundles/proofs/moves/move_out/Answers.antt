@@ -1,8 +1,9 @@
 use Rattle.std.proofs.Common.{◌≡◌, ◌+◌, ◌++◌, ◌∷◌, [], None, cond, slice_set, is_some, take, get_or, ap, sym, ◌∙◌, add-one, arith}
 use Rattle.std.proofs.Math.Seq.{take-suc}
+use Rattle.pb_model.proofs.Tests.{some_found}
 use Rattle.pb_bundles.specs.Parts.{content_in}
 use Rattle.pb_bundles.specs.Moves.{vacated, moved}
-use Rattle.pb_bundles.proofs.Lists.{not_before, found_at, among_at}
+use Rattle.pb_bundles.proofs.Lists.{not_before, among_at}
 use Rattle.pb_bundles.proofs.Moving.{vacated_at, vacated_push, moved_in, moved_push}
 use Rattle.pb_bundles.proofs.moves.move_out.Goals as goal
 
@@ -36,7 +37,7 @@ loop-block-preserved c =
     let here : get_or c.loop-block.bundles.items block None ≡ get_or items block None =
     ap (λ bs. get_or bs block None) c.loop-block.invariant.left ∙ vacated_at (take at scope) items block
     ∙ ap (λ b. cond b None (get_or items block None)) (not_before scope at 0 c.loop-block-test.true c.requires.distinct) in
-    let there = found_at (get_or items block None) (c.requires.home block (among_at scope at 0 c.loop-block-test.true)) in
+    let there = some_found (get_or items block None) (c.requires.home block (among_at scope at 0 c.loop-block-test.true)) in
     record {
       left = c.move_one.ensures.left ∙ ap (λ bs. slice_set bs block None) c.loop-block.invariant.left ∙ sym (vacated_push (take at scope) block items) ∙ ap (λ s. vacated s items) (sym front);
       gone = c.move_one.ensures.moved there.0 (here ∙ there.1) ∙ ap (λ ps. ps ++ (block, there.0) ∷ []) c.loop-block.invariant.gone

@@ -1,11 +1,9 @@
 use Rattle.std.proofs.Common.{◌≡◌, ◌<◌, true, false, Some, IsSome, length, sym, ap, subst, ◌∙◌}
+use Rattle.std.proofs.lemmas.Option.{same_Some}
 use Rattle.pb_bundles.specs.declared.winner.Winner.{Winner}
 use Rattle.pb_bundles.specs.Tree.{leaf, IsAhead, IsBestBelow}
 use Rattle.pb_bundles.proofs.Trees.{leaf_of, own_leaf, stays, takes, ends, both}
 use Rattle.pb_bundles.proofs.tree.+best_below.Goals as goal
-
-some_winner : (a b : Winner) → Some a ≡ Some b → a ≡ b
-some_winner a b e = cc
 
 pub returns-then-not-improves-clause-best : goal.returns-then-not-improves-clause-best
 returns-then-not-improves-clause-best g t c = λ test says.
@@ -23,7 +21,7 @@ pub returns-then-pass-clause-leaf : goal.returns-then-pass-clause-leaf
 returns-then-pass-clause-leaf g t c = λ other is.
     let keys = c.args.keys.now in
     let own = own_leaf keys c.args.winners.now c.requires.tree c.args.at c.requires.node.0 c.requires.node.1 in
-    subst (λ (w : Winner). w ≡ leaf keys w.block) (sym c.node_of-winner.ensures ∙ some_winner c.node_of-winner.result other is) own
+    subst (λ (w : Winner). w ≡ leaf keys w.block) (sym c.node_of-winner.ensures ∙ same_Some c.node_of-winner.result other is) own
 
 pub returns-then-pass-clause-best : goal.returns-then-pass-clause-best
 returns-then-pass-clause-best g t c = λ test says.

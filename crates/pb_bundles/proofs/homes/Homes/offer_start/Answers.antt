@@ -2,10 +2,11 @@ use Rattle.pb_model.specs.declared.key.Key.{Key}
 use Rattle.std.proofs.Common.{◌≡◌, List, ◌<◌, Option, Some, None, IsSome, get_or, set, length, sym, subst, ap, ◌∙◌}
 use Rattle.std.proofs.lemmas.List.{get_or_read}
 use Rattle.pb_model.specs.Work.{offered_row}
+use Rattle.pb_model.proofs.Tests.{some_found}
 use Rattle.pb_lists.specs.Bundle.{Content, SetsRow, row_of}
 use Rattle.pb_bundles.specs.Parts.{rows_in}
 use Rattle.pb_bundles.specs.Homes.{HomeTable, AreHomes, content_at, with_start}
-use Rattle.pb_bundles.proofs.Lists.{found_at, some_within}
+use Rattle.pb_bundles.proofs.Lists.{some_within}
 use Rattle.std.proofs.Common.{get_or-set_same}
 use Rattle.pb_bundles.proofs.Kept.{homes_set}
 use Rattle.pb_bundles.proofs.homes.Homes.offer_start.Goals as goal
@@ -15,7 +16,7 @@ invariant_of-self-2 c =
     let bundles = c.self.inside.bundles.items in
     let block = c.args.block in
     let home : IsSome (get_or bundles block None) = subst (λ (t : HomeTable). IsSome (content_at t block)) (sym c.self.view_is) c.requires in
-    let there = found_at (get_or bundles block None) home in
+    let there = some_found (get_or bundles block None) home in
     let within : block < length bundles = some_within bundles block home in
     let place : c.index_mut.result.now ≡ Some there.0 = get_or_read bundles block c.index_mut.result.now within c.index_mut.ensures.value None ∙ there.1 in
     let new : c.offer_in.new.place ≡ Some (with_start there.0 c.args.start c.args.estimate) = c.in_ok-key.ensures.put there.0 place in
@@ -29,7 +30,7 @@ returns-clause-rows c =
     let block = c.args.block in
     let row = λ (found : Option Content). offered_row 0 c.args.estimate None 0 (rows_in found c.args.start) in
     let home : IsSome (get_or bundles block None) = subst (λ (t : HomeTable). IsSome (content_at t block)) (sym c.self.view_is) c.requires in
-    let there = found_at (get_or bundles block None) home in
+    let there = some_found (get_or bundles block None) home in
     let within : block < length bundles = some_within bundles block home in
     let place : c.index_mut.result.now ≡ Some there.0 = get_or_read bundles block c.index_mut.result.now within c.index_mut.ensures.value None ∙ there.1 in
     let new : c.offer_in.new.place ≡ Some (with_start there.0 c.args.start c.args.estimate) = c.in_ok-key.ensures.put there.0 place in
