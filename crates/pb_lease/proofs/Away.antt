@@ -6,24 +6,17 @@ use Rattle.pb_machine.specs.Tables.{with_entry, any_below}
 use Rattle.pb_machine.specs.Blocks.{Blocks, meets}
 use Rattle.pb_machine.specs.Counts.{is_lease_of, is_taken, is_any_out, with_quota}
 use Rattle.pb_machine.proofs.TableLaws.{any_same, any_some, any_at, entry_here, entry_else}
+use Rattle.pb_machine.proofs.WholeStore.{leased_block}
 
 -- whether the block is in a leased scope
 abbrev pub away : Blocks → (workers : ℕ) → (ℕ → Option Grant) → (block : ℕ) → Bool
 away of workers leases block = any_below workers (λ worker. is_lease_of (λ leased. of.scope leased block) (leases worker))
 
--- a lease whose block passes is there
-leased_by : (test : ℕ → Bool) (o : Option Grant) → is_lease_of test o ≡ true → (grant : Grant) × (o ≡ Some grant) × (test grant.block ≡ true)
-leased_by test None h = absurd (true≢false (sym h))
-leased_by test (Some grant) h = (grant, refl, h)
-
-some_grant : (a b : Grant) → Some a ≡ Some b → a ≡ b
-some_grant a b e = cc
-
 module _ (of : Blocks) (workers : ℕ) (leases : ℕ → Option Grant) where
   pub away_by : (block : ℕ) → away of workers leases block ≡ true → (worker : ℕ) × (worker < workers) × (grant : Grant) × (leases worker ≡ Some grant) × (of.scope grant.block block ≡ true)
   away_by block h =
       let w = any_some workers (λ k. is_lease_of (λ leased. of.scope leased block) (leases k)) h in
-      let g = leased_by (λ leased. of.scope leased block) (leases w.0) w.2 in
+      let g = leased_block (λ leased. of.scope leased block) (leases w.0) w.2 in
       (w.0, w.1, g.0, g.1, g.2)
 
   pub away_at : (worker : ℕ) (grant : Grant) (block : ℕ) → worker < workers → leases worker ≡ Some grant → of.scope grant.block block ≡ true → away of workers leases block ≡ true
@@ -73,7 +66,7 @@ module _ (of : Blocks) (workers : ℕ) (leases : ℕ → Option Grant) where
         there : away of workers (with_entry leases worker None) block ≡ true → away of workers (with_entry leases worker None) block ≡ false
         there e =
             let w = any_some workers (λ k. is_lease_of (λ l. of.scope l block) (with_entry leases worker None k)) e in
-            let g = leased_by (λ l. of.scope l block) (with_entry leases worker None w.0) w.2 in
+            let g = leased_block (λ l. of.scope l block) (with_entry leases worker None w.0) w.2 in
             by_cases (w.0 == worker)
             (λ f. absurd (true≢false (sym (ap is_some (sym (entry_here leases worker w.0 None f) ∙ g.1)))))
             (λ f. let was = sym (entry_else leases worker w.0 None f) ∙ g.1 in

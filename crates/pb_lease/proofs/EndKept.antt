@@ -1,5 +1,5 @@
 -- What an end and a signing off keep.
-use Rattle.std.proofs.Common.{◌≡◌, ℕ, ◌+◌, ◌-◌, ◌<◌, Bool, true, false, cond, if◌then◌else◌, not, ◌&&◌, ◌||◌, is_some, is_none, List, [], ◌∷◌, ◌++◌, length, slice_set, Option, Some, None, refl, sym, ap, ◌∙◌, arith, true≢false, subst, append_assoc, append-nil, length-set}
+use Rattle.std.proofs.Common.{◌≡◌, ℕ, ◌+◌, ◌-◌, ◌<◌, Bool, true, false, cond, if◌then◌else◌, not, ◌&&◌, ◌||◌, is_some, is_none, List, [], ◌∷◌, ◌++◌, length, slice_set, Option, Some, None, refl, sym, ap, ◌∙◌, arith, subst, append_assoc, append-nil, length-set}
 use Rattle.pb_machine.specs.declared.event.End.{End}
 use Rattle.pb_machine.specs.declared.event.End.TheVariants.{Memory}
 use Rattle.pb_machine.specs.declared.event.Event.{Event}
@@ -11,13 +11,15 @@ use Rattle.pb_machine.specs.Counts.{Counts, counts_after}
 use Rattle.pb_machine.specs.Counters.{busy_count}
 use Rattle.pb_machine.specs.Legality.{refusal}
 use Rattle.pb_machine.specs.History.{IsHistory}
+use Rattle.pb_model.proofs.Tests.{and_true}
+use Rattle.pb_machine.proofs.CountsLaws.{counts_same, none_end}
 use Rattle.pb_machine.proofs.LegalEvents.{ends_are_legal}
 use Rattle.pb_lease.specs.declared.seat.Seat.{Seat}
 use Rattle.pb_lease.specs.Tables.{Table, blocks, counts_of, seat_of, rooms}
 use Rattle.pb_lease.specs.Events.{counts_along, ending, end_after, Adds}
 use Rattle.pb_lease.specs.Kept.{IsKept, due}
 use Rattle.pb_lease.proofs.RoomKept.{LeavesRoom, event_room, report_room}
-use Rattle.pb_lease.proofs.NextEvents.{counts_same, history_with, sign_off_may}
+use Rattle.pb_lease.proofs.NextEvents.{history_with, sign_off_may}
 use Rattle.pb_lease.proofs.SeatLists.{seat_set, seat_kept, seat_bound, due_set}
 
 -- ---- the end that follows from a report
@@ -45,14 +47,9 @@ module _ (of : Blocks) (settings : Settings) where
       → IsHistory of settings 0 (journal ++ ending memory counts.end) (ended_counts memory counts)
   reported_history memory counts journal report history = go (memory && is_none counts.end) refl report
     where
-      no_end : (m : Bool) (o : Option End) → (m && is_none o) ≡ true → o ≡ None
-      no_end true None h = refl
-      no_end true (Some e) h = absurd (true≢false (sym h))
-      no_end false o h = absurd (true≢false (sym h))
-
       go : (r : Bool) → (memory && is_none counts.end) ≡ r → counts.trouble ≡ r → IsHistory of settings 0 (journal ++ cond r (Ended Memory ∷ []) []) (record counts { end = cond r (Some Memory) counts.end; trouble = false })
       go true e is = history_with of settings journal (journal ++ Ended Memory ∷ []) counts (record counts { end = Some Memory; trouble = false }) (Ended Memory) history
-          ((ends_are_legal of settings counts (no_end memory counts.end e)).2 is) refl refl
+          ((ends_are_legal of settings counts (none_end counts.end (and_true memory (is_none counts.end) e).1)).2 is) refl refl
       go false e is = subst (λ (j : List Event). IsHistory of settings 0 j (record counts { trouble = false })) (sym (append-nil journal))
           (subst (IsHistory of settings 0 journal) (λ i. record counts { trouble = is i }) history)
 

@@ -1,5 +1,6 @@
 -- Which blocks can be leased, by the counters.
 use Rattle.std.proofs.Common.{◌≡◌, ℕ, zero, suc, ◌+◌, ◌-◌, ◌<◌, Bool, true, false, cond, not, ◌&&◌, ◌||◌, ◌==◌, nat_lt, is_none, List, length, get_or, Option, Some, None, refl, sym, ap, ◌∙◌}
+use Rattle.std.proofs.Math.Bool.{or-false}
 use Rattle.pb_model.proofs.Tests.{by_cases, equal, equal_swap}
 use Rattle.pb_machine.specs.declared.event.Grant.{Grant}
 use Rattle.pb_machine.specs.Tables.{with_entry, any_below}
@@ -35,11 +36,7 @@ module _ (of : Blocks) (block : ℕ) (own : meets of block block ≡ true) where
   met_is None = refl
   met_is (Some grant) = by_cases (block == grant.block)
       (λ e. ap (meets of block) (sym (equal block grant.block e)) ∙ own ∙ sym (ap (λ r. (not r && meets of block grant.block) || (grant.block == block)) e ∙ equal_swap grant.block block ∙ e))
-      (λ e. sym (ap (λ r. (not r && meets of block grant.block) || (grant.block == block)) e ∙ ap (λ r. meets of block grant.block || r) (equal_swap grant.block block ∙ e) ∙ plain (meets of block grant.block)))
-    where
-      plain : (r : Bool) → (r || false) ≡ r
-      plain true = refl
-      plain false = refl
+      (λ e. sym (ap (λ r. (not r && meets of block grant.block) || (grant.block == block)) e ∙ ap (λ r. meets of block grant.block || r) (equal_swap grant.block block ∙ e) ∙ or-false (meets of block grant.block)))
 
   pub taken_is : (workers : ℕ) (leases : ℕ → Option Grant) → is_taken of workers leases block ≡ (is_busy of workers leases block || is_out workers leases block)
   taken_is workers leases = any_same workers (λ w. is_lease_of (meets of block) (leases w)) (λ w. is_lease_of (interferes of block) (leases w) || is_lease_of (λ b. b == block) (leases w)) (λ w. met_is (leases w))

@@ -1,6 +1,7 @@
 -- What the parts of a graph are for the lease machine, and its choice of a block.
-use Rattle.std.proofs.Common.{◌≡◌, ℕ, ◌<◌, ◌≤◌, Bool, true, false, not, ◌&&◌, nat_lt, is_some, is_none, Some, None, refl, sym, ap, ◌∙◌, arith, subst}
-use Rattle.std.proofs.lemmas.Bool.Decides.{nat_tests}
+use Rattle.std.proofs.Common.{◌≡◌, ℕ, ◌<◌, ◌≤◌, true, false, not, nat_lt, is_some, is_none, Some, None, refl, sym, ap, ◌∙◌, arith, subst}
+use Rattle.std.proofs.lemmas.Bool.{lt-ltb}
+use Rattle.std.proofs.lemmas.List.{get_or_past}
 use Rattle.pb_model.specs.Store.{Rows, HasOpened}
 use Rattle.pb_model.proofs.Tests.{and_true, not_true, below, not_below, by_cases}
 use Rattle.pb_task.specs.Parts.{greatest_cost}
@@ -15,7 +16,7 @@ use Rattle.pb_machine.proofs.Histories.{histories_are_lawful}
 use Rattle.pb_machine.proofs.WholeStore.{all_is_home}
 use Rattle.pb_abstract.proofs.Walking.{abstract_graphs_are_blocks}
 use Rattle.pb_bundles.specs.Homes.{content_at, key_at, home_rows}
-use Rattle.pb_bundles.proofs.Lists.{past, some_within}
+use Rattle.pb_bundles.proofs.Lists.{some_within}
 use Rattle.pb_bundles.proofs.ByKey.{first_choices_are_by_key, opened_is_by_key}
 use Rattle.pb_lease.specs.Tables.{blocks}
 use Rattle.pb_lease.specs.Leasing.{can_be_leased}
@@ -24,7 +25,7 @@ use Rattle.pb_lease.specs.GraphValue.{GraphValue, setup_in, counts_in, IsLeaseGr
 use Rattle.pb_lease.specs.Choices.{IsChoice, is_out_in}
 use Rattle.pb_lease.specs.Moments.{IsMomentAt}
 use Rattle.pb_lease.proofs.Away.{taken_home, none_away}
-use Rattle.pb_lease.proofs.LeasingLaws.{none_out_can_be_leased}
+use Rattle.pb_lease.proofs.LeasingLaws.{all_hold, none_out_can_be_leased}
 
 -- ---- the test by numbers, and its parts
 
@@ -40,12 +41,7 @@ module _ (of : Blocks) (settings : Settings) (counts : Counts) (block : ℕ) whe
   pub passes_to : is_taken of settings.workers counts.leases block ≡ false → is_near_hot of counts.hot block ≡ false → 0 < counts.left → counts.end ≡ None
       → can_be_leased of settings counts block ≡ true
   passes_to free cold left no_end =
-      let some : nat_lt 0 counts.left ≡ true = grind (arith, nat_tests) in
-      four (is_none counts.end) (nat_lt 0 counts.left) (is_near_hot of counts.hot block) (is_taken of settings.workers counts.leases block) (ap is_none no_end) some cold free
-    where
-      four : (a b c d : Bool) → a ≡ true → b ≡ true → c ≡ false → d ≡ false → (a && b && not c && not d) ≡ true
-      four a b c d first second third last =
-          ap (λ r. r && b && not c && not d) first ∙ ap (λ r. r && not c && not d) second ∙ ap (λ r. not r && not d) third ∙ ap not last
+      all_hold (is_none counts.end) (nat_lt 0 counts.left) (is_near_hot of counts.hot block) (is_taken of settings.workers counts.leases block) (ap is_none no_end) (lt-ltb 0 counts.left left) cold free
 
 -- ---- a graph
 
@@ -61,7 +57,7 @@ module _ (g : GraphValue) (k : IsLeaseGraph g) where
   lawful_in = histories_are_lawful (blocks g.table) g.table.settings 0 g.table.journal (counts_in g) k.legal
 
   pub no_key_above : (block : ℕ) → (blocks g.table).count ≤ block → key_at g.homes block ≡ None
-  no_key_above block le = past g.homes.keys block (omega (arith, le, k.key_places))
+  no_key_above block le = get_or_past g.homes.keys block None (omega (arith, le, k.key_places))
 
   pub key_known : (block : ℕ) → is_some (key_at g.homes block) ≡ true → block < (blocks g.table).count
   key_known block there = let lt = some_within g.homes.keys block there in omega (arith, lt, k.key_places)

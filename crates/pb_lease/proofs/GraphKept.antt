@@ -1,7 +1,7 @@
 -- What a lease, a renewal, a release and other events keep of a graph.
-use Rattle.std.proofs.Common.{◌≡◌, ℕ, ◌<◌, Bool, true, false, cond, not, ◌&&◌, ◌||◌, is_some, is_none, List, [], ◌∷◌, ◌++◌, Option, Some, None, refl, sym, ap, ◌∙◌, arith, subst, length, get_or, append_assoc, true≢false}
+use Rattle.std.proofs.Common.{◌≡◌, ℕ, ◌<◌, Bool, true, cond, not, ◌&&◌, ◌||◌, is_some, is_none, List, [], ◌∷◌, ◌++◌, Option, Some, None, refl, sym, ap, ◌∙◌, arith, subst, length, get_or, append_assoc, true≢false}
 use Rattle.std.specs.Option.{option_or}
-use Rattle.pb_model.proofs.Tests.{by_cases, equal_self}
+use Rattle.pb_model.proofs.Tests.{by_cases, equal_self, none_found}
 use Rattle.pb_machine.specs.declared.event.Event.{Event}
 use Rattle.pb_machine.specs.declared.event.Event.TheVariants.{Lease, Renew, Release, Off}
 use Rattle.pb_machine.specs.declared.event.Grant.{Grant}
@@ -142,11 +142,7 @@ module _ (old : GraphValue) (k : IsLeaseGraph old) (lease : LeaseValue) (of : Is
       let inside = sym (of.scope.blocks block) ∙ there in
       let known = known_block old k lease.block block inside in
       let gone = away_at (blocks old.table) old.table.settings.workers (counts_in old).leases lease.worker (grant_of lease) block ((lawful_in old k).known lease.worker (grant_of lease) of.leased).0 of.leased inside in
-      (omega (arith, known, k.places), nothing (content_at old.homes block) (k.home block known ∙ ap not gone))
-    where
-      nothing : (found : Option Content) → is_some found ≡ false → found ≡ None
-      nothing None e = refl
-      nothing (Some content) e = absurd (true≢false e)
+      (omega (arith, known, k.places), none_found (content_at old.homes block) (k.home block known ∙ ap not gone))
 
 module _ (old : GraphValue) (k : IsLeaseGraph old) (lease : LeaseValue) (of : IsOfGraph old lease) (trouble : Bool) (table : Table) (homes : HomeTable) (incumbent : Option ℕ)
     (adds : Adds old.table table (Release lease.worker lease.used trouble ∷ ending trouble old.table.end)) where

@@ -1,6 +1,7 @@
 -- A graph of a search that begins.
 use Rattle.std.proofs.Common.{◌≡◌, ℕ, ◌<◌, false, not, is_some, List, [], Option, Some, None, refl, sym, ap, ◌∙◌, arith, subst, length, get_or, replicate, slice_set, length-set, cond}
 use Rattle.std.proofs.lemmas.List.{get_or-replicate}
+use Rattle.std.proofs.lemmas.Option.{same_Some}
 use Rattle.std.proofs.Math.ListN.{length-replicate}
 use Rattle.pb_model.specs.declared.key.Key.{Key}
 use Rattle.pb_model.specs.declared.row.Estimate.{Estimate}
@@ -34,9 +35,6 @@ use Rattle.pb_lease.specs.GraphValue.{GraphValue, setup_in, IsLeaseGraph}
 use Rattle.pb_lease.specs.Moments.{IsMomentAt, IsMoment}
 use Rattle.pb_lease.proofs.Away.{none_away}
 use Rattle.pb_lease.proofs.GraphBasics.{setup_is}
-
-some_content : (a b : Content) → Some a ≡ Some b → a ≡ b
-some_content a b e = cc
 
 -- what the parts of such a graph are
 pub record IsOpening (task : TaskParts) (table : Table) (homes : HomeTable) : Type 0 where
@@ -140,7 +138,7 @@ module _ (task : TaskParts) (table : Table) (homes : HomeTable) (o : IsOpening t
     weights = λ block content is.
         let lt = some_within homes.bundles block (ap is_some is) in
         let at = opened.1 block (omega (arith, lt, places)) in
-        ap (λ (x : Content). x.weight) (some_content content at.0 (sym is ∙ at.1)) ∙ at.2;
+        ap (λ (x : Content). x.weight) (same_Some content at.0 (sym is ∙ at.1)) ∙ at.2;
   }
 
   lawful : IsLawful (setup_in New) (opening_machine (setup_in New))

@@ -1,19 +1,15 @@
 -- The numbers of hot blocks while blocks become hot and cold one by one.
-use Rattle.std.proofs.Common.{◌≡◌, ℕ, ◌+◌, ◌<◌, ◌≤◌, ◌^◌, Bool, true, false, cond, ◌==◌, nat_lt, List, None, length, get_or, slice_set, sym, ap, ◌∙◌, arith, length-set}
-use Rattle.pb_model.proofs.Tests.{by_cases, equal_swap, below, not_below}
+use Rattle.std.proofs.Common.{◌≡◌, ℕ, ◌+◌, ◌<◌, ◌≤◌, ◌^◌, Bool, true, false, nat_lt, List, None, length, get_or, slice_set, ap, ◌∙◌, arith, length-set}
+use Rattle.std.proofs.lemmas.List.{get_or_past}
+use Rattle.pb_model.proofs.Tests.{by_cases, below, not_below}
 use Rattle.pb_machine.specs.Tables.{with_entry, one_if}
+use Rattle.pb_machine.proofs.ListTables.{table_at}
 use Rattle.pb_machine.specs.Blocks.{Blocks, interferes}
 use Rattle.pb_machine.specs.Counters.{hot_count}
 use Rattle.pb_machine.proofs.Counters.{marks_change_hot, interference_is_mutual, counters_fit}
 use Rattle.pb_lease.specs.Kept.{AreMarks}
-use Rattle.pb_lease.proofs.Lists.{written_here, written_else, past}
 
 -- a list after a write, as a table
-pub table_at : {A : Type 0} (xs : List A) (i : ℕ) (v d : A) → i < length xs → (k : ℕ) → get_or (slice_set xs i v) k d ≡ with_entry (λ n. get_or xs n d) i v k
-table_at xs i v d lt k = by_cases (i == k)
-    (λ e. written_here xs i k v d lt e ∙ sym (ap (λ r. cond r v (get_or xs k d)) (equal_swap k i ∙ e)))
-    (λ e. written_else xs i k v d e ∙ sym (ap (λ r. cond r v (get_or xs k d)) (equal_swap k i ∙ e)))
-
 pub table_is : {A : Type 0} (xs : List A) (i : ℕ) (v d : A) → i < length xs → ◌≡◌ {A = ℕ → A} (λ k. get_or (slice_set xs i v) k d) (with_entry (λ n. get_or xs n d) i v)
 table_is xs i v d lt = λ j k. table_at xs i v d lt k j
 
@@ -25,7 +21,7 @@ module _ (of : Blocks) (hot : List Bool) (near : List ℕ) (m : AreMarks of hot 
   pub fits : (c : ℕ) → get_or near c 0 + 1 < 2 ^ 32
   fits c = by_cases (nat_lt c of.count)
       (λ e. let lt = below c of.count e in omega (arith, m.counted c lt, (counters_fit of 0 (λ w. None) Hot c).1, m.few))
-      (λ e. let le = not_below c of.count e in omega (arith, past near c (omega (arith, le, m.near_places))))
+      (λ e. let le = not_below c of.count e in omega (arith, get_or_past near c 0 (omega (arith, le, m.near_places))))
 
   -- a hot block counts for each that interferes with it
   pub counted_hot : (block c : ℕ) → block < of.count → Hot block ≡ true → c < of.count → interferes of block c ≡ true → 1 ≤ get_or near c 0

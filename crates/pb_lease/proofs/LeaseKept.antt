@@ -1,5 +1,6 @@
 -- What a lease and a renewal keep.
 use Rattle.std.proofs.Common.{◌≡◌, ℕ, ◌+◌, ◌-◌, ◌<◌, ◌≤◌, ◌^◌, min, true, false, if◌then◌else◌, not, is_some, nat_lt, List, [], ◌∷◌, ◌++◌, length, get_or, slice_set, Option, Some, None, refl, sym, ap, ◌∙◌, arith, subst, length-set}
+use Rattle.std.proofs.lemmas.List.{get_or_past}
 use Rattle.pb_model.proofs.Tests.{by_cases, below, not_below}
 use Rattle.pb_machine.specs.declared.event.Event.{Event}
 use Rattle.pb_machine.specs.declared.event.Event.TheVariants.{Lease, Renew}
@@ -11,6 +12,7 @@ use Rattle.pb_machine.specs.Counters.{busy_count}
 use Rattle.pb_machine.specs.Legality.{refusal}
 use Rattle.pb_machine.specs.Choice.{counts_with_lease_home}
 use Rattle.pb_machine.proofs.TableLaws.{sum_with_entry}
+use Rattle.pb_machine.proofs.CountsLaws.{counts_same}
 use Rattle.pb_machine.proofs.Counters.{events_change_busy, interference_is_mutual, counters_fit}
 use Rattle.pb_machine.proofs.Histories.{histories_are_lawful}
 use Rattle.pb_lease.specs.declared.seat.Seat.{Seat}
@@ -18,16 +20,15 @@ use Rattle.pb_lease.specs.Tables.{Table, blocks, counts_of, seat_of, rooms}
 use Rattle.pb_lease.specs.Events.{Adds}
 use Rattle.pb_lease.specs.Leasing.{can_be_leased}
 use Rattle.pb_lease.specs.Kept.{IsKept, AreBusy}
-use Rattle.pb_lease.proofs.Lists.{past}
 use Rattle.pb_lease.proofs.RoomKept.{LeavesRoom, event_room}
-use Rattle.pb_lease.proofs.NextEvents.{counts_same, history_with, lease_may, renewal_may}
+use Rattle.pb_lease.proofs.NextEvents.{history_with, lease_may, renewal_may}
 use Rattle.pb_lease.proofs.SeatLists.{seat_set, seat_kept, seat_bound, due_set}
 
 -- the counters have room for one more
 pub busy_fits : (of : Blocks) (workers : ℕ) (leases : ℕ → Option Grant) (busy : List ℕ) → AreBusy of workers leases busy → workers ≤ 64 → (c : ℕ) → get_or busy c 0 + 1 < 2 ^ 32
 busy_fits of workers leases busy are few c = by_cases (nat_lt c of.count)
     (λ e. let lt = below c of.count e in omega (arith, are.counted c lt, (counters_fit of workers leases (λ b. false) c).0, few))
-    (λ e. let le = not_below c of.count e in omega (arith, past busy c (omega (arith, le, are.places))))
+    (λ e. let le = not_below c of.count e in omega (arith, get_or_past busy c 0 (omega (arith, le, are.places))))
 
 -- where the numbers of leased blocks stay
 pub busy_same : (of : Blocks) (workers : ℕ) (some next : Counts) (busy : List ℕ) → ((c : ℕ) → busy_count of workers next.leases c ≡ busy_count of workers some.leases c)

@@ -1,12 +1,14 @@
 -- Which numbers a rising list has, and numbers that a walk over one changes by one.
-use Rattle.std.proofs.Common.{◌≡◌, ℕ, zero, suc, ◌+◌, ◌-◌, ◌<◌, ◌≤◌, Bool, true, false, not, ◌||◌, ◌==◌, List, [], ◌∷◌, Option, Some, None, is_some, is_none, length, take, get_or, slice_set, refl, sym, ap, ◌∙◌, arith, true≢false, subst, get_or-set_same, get_or-set_other}
+use Rattle.std.proofs.Common.{◌≡◌, ℕ, zero, suc, ◌+◌, ◌-◌, ◌<◌, ◌≤◌, true, false, ◌||◌, ◌==◌, List, [], ◌∷◌, length, take, get_or, slice_set, refl, sym, ap, ◌∙◌, arith, true≢false, subst}
 use Rattle.std.specs.List.{All}
 use Rattle.std.specs.List.Sorted.{IsStrictlyIncreasing}
 use Rattle.std.proofs.lemmas.List.Folds.{list_any_more, list_any_at}
 use Rattle.std.proofs.lemmas.List.Elements.{All-get_or}
+use Rattle.std.proofs.Math.Bool.{or-true, or-false}
 use Rattle.std.proofs.lemmas.Bool.Decides.{nat_tests}
 use Rattle.pb_model.proofs.Tests.{by_cases, equal, equal_self}
 use Rattle.pb_machine.specs.Tables.{one_if}
+use Rattle.pb_machine.proofs.ListTables.{written_here, written_else}
 use Rattle.pb_abstract.specs.Graph.{has}
 
 -- of a rising list each number is below those after it
@@ -48,77 +50,35 @@ not_before xs i (suc n) up le lt =
 pub fresh : (xs : List ℕ) (i : ℕ) → IsStrictlyIncreasing xs → i < length xs → has (take i xs) (get_or xs i 0) ≡ false
 fresh xs i up lt = not_before xs i i up (omega arith) lt
 
--- a list's place after a write
-pub written_here : {A : Type 0} (xs : List A) (i k : ℕ) (v d : A) → i < length xs → (i == k) ≡ true → get_or (slice_set xs i v) k d ≡ v
-written_here xs i k v d lt e = ap (λ n. get_or (slice_set xs i v) n d) (sym (equal i k e)) ∙ get_or-set_same xs i v d lt
-
-pub written_else : {A : Type 0} (xs : List A) (i k : ℕ) (v d : A) → (i == k) ≡ false → get_or (slice_set xs i v) k d ≡ get_or xs k d
-written_else xs i k v d e = get_or-set_other xs i k v d (λ is. true≢false (sym (ap (λ n. i == n) is ∙ equal_self i) ∙ e))
-
 module _ (old now near : List ℕ) (i v : ℕ) (up : IsStrictlyIncreasing near) (lt : i < length near) (there : get_or near i 0 < length now) where
-  -- a walk that adds one
-  pub raised : ((c : ℕ) → get_or now c 0 ≡ get_or old c 0 + one_if (has (take i near) c)) → v ≡ get_or now (get_or near i 0) 0 + 1
-      → (c : ℕ) → get_or (slice_set now (get_or near i 0) v) c 0 ≡ get_or old c 0 + one_if (has (take (i + 1) near) c)
-  raised each is c =
+  abbrev Written : List ℕ
+  Written = slice_set now (get_or near i 0) v
+
+  -- a walk writes at the block that it comes by, by which it hasn't come before, and nowhere else
+  walked : {A : Type 0} (c : ℕ) → (get_or near i 0 ≡ c → get_or Written c 0 ≡ v → one_if (has (take i near) c) ≡ 0 → one_if (has (take (i + 1) near) c) ≡ 1 → A)
+      → (get_or Written c 0 ≡ get_or now c 0 → one_if (has (take (i + 1) near) c) ≡ one_if (has (take i near) c) → A) → A
+  walked c here elsewhere =
       let more = ap one_if (has_more near i c lt) in
       by_cases (get_or near i 0 == c)
       (λ e.
-      let new = written_here now (get_or near i 0) c v 0 there e in
-      let here : ℕ = get_or near i 0 in
-      let same : here ≡ c = equal here c e in
+      let same : get_or near i 0 ≡ c = equal (get_or near i 0) c e in
       let none : one_if (has (take i near) c) ≡ 0 = ap (λ n. one_if (has (take i near) n)) (sym same) ∙ ap one_if (fresh near i up lt) in
-      let before : one_if (has (take i near) c || true) ≡ 1 = ap one_if (or_yes (has (take i near) c)) in
-      let one : one_if (has (take i near) c || (here == c)) ≡ 1 = ap (λ r. one_if (has (take i near) c || r)) e ∙ before in
-      let was = each c in
-      let value = ap (λ n. get_or now n 0) same in
-      omega (arith, new, none, one, more, was, value, is))
-      (λ e.
-      let new = written_else now (get_or near i 0) c v 0 e in
-      let same : one_if (has (take i near) c || (get_or near i 0 == c)) ≡ one_if (has (take i near) c) = ap (λ r. one_if (has (take i near) c || r)) e ∙ ap one_if (or_no (has (take i near) c)) in
-      omega (arith, new, same, more, each c))
-    where
-      or_yes : (r : Bool) → (r || true) ≡ true
-      or_yes true = refl
-      or_yes false = refl
+      here same (written_here now (get_or near i 0) c v 0 there e) none (more ∙ ap (λ r. one_if (has (take i near) c || r)) e ∙ ap one_if (or-true (has (take i near) c))))
+      (λ e. elsewhere (written_else now (get_or near i 0) c v 0 e) (more ∙ ap (λ r. one_if (has (take i near) c || r)) e ∙ ap one_if (or-false (has (take i near) c))))
 
-      or_no : (r : Bool) → (r || false) ≡ r
-      or_no true = refl
-      or_no false = refl
+  -- a walk that adds one
+  pub raised : ((c : ℕ) → get_or now c 0 ≡ get_or old c 0 + one_if (has (take i near) c)) → v ≡ get_or now (get_or near i 0) 0 + 1
+      → (c : ℕ) → get_or (slice_set now (get_or near i 0) v) c 0 ≡ get_or old c 0 + one_if (has (take (i + 1) near) c)
+  raised each is c = walked c
+      (λ same new none one. let value = ap (λ n. get_or now n 0) same in omega (arith, each c, is, value, new, none, one))
+      (λ new one. omega (arith, each c, new, one))
 
   -- a walk that takes one
   pub lowered : ((c : ℕ) → get_or now c 0 + one_if (has (take i near) c) ≡ get_or old c 0) → v + 1 ≡ get_or now (get_or near i 0) 0
       → (c : ℕ) → get_or (slice_set now (get_or near i 0) v) c 0 + one_if (has (take (i + 1) near) c) ≡ get_or old c 0
-  lowered each is c =
-      let more = ap one_if (has_more near i c lt) in
-      by_cases (get_or near i 0 == c)
-      (λ e.
-      let new = written_here now (get_or near i 0) c v 0 there e in
-      let here : ℕ = get_or near i 0 in
-      let same : here ≡ c = equal here c e in
-      let none : one_if (has (take i near) c) ≡ 0 = ap (λ n. one_if (has (take i near) n)) (sym same) ∙ ap one_if (fresh near i up lt) in
-      let before : one_if (has (take i near) c || true) ≡ 1 = ap one_if (or_yes (has (take i near) c)) in
-      let one : one_if (has (take i near) c || (here == c)) ≡ 1 = ap (λ r. one_if (has (take i near) c || r)) e ∙ before in
-      let was = each c in
-      let value = ap (λ n. get_or now n 0) same in
-      omega (arith, new, none, one, more, was, value, is))
-      (λ e.
-      let new = written_else now (get_or near i 0) c v 0 e in
-      let same : one_if (has (take i near) c || (get_or near i 0 == c)) ≡ one_if (has (take i near) c) = ap (λ r. one_if (has (take i near) c || r)) e ∙ ap one_if (or_no (has (take i near) c)) in
-      omega (arith, new, same, more, each c))
-    where
-      or_yes : (r : Bool) → (r || true) ≡ true
-      or_yes true = refl
-      or_yes false = refl
-
-      or_no : (r : Bool) → (r || false) ≡ r
-      or_no true = refl
-      or_no false = refl
-
--- past its end a list of counters has 0
-pub past : (xs : List ℕ) (i : ℕ) → length xs ≤ i → get_or xs i 0 ≡ 0
-past [] i le = refl
-past (x ∷ xs) zero le = absurd (omega arith)
-past (x ∷ xs) (suc i) le = past xs i (omega arith)
+  lowered each is c = walked c
+      (λ same new none one. let value = ap (λ n. get_or now n 0) same in omega (arith, each c, is, value, new, none, one))
+      (λ new one. omega (arith, each c, new, one))
 
 -- where a list has a number
 pub found_at : (xs : List ℕ) (c : ℕ) → has xs c ≡ true → (i : ℕ) × (i < length xs) × (get_or xs i 0 ≡ c)
@@ -133,15 +93,3 @@ has_below xs n c all h =
     let at = found_at xs c h in
     let here : get_or xs at.0 0 < n = All-get_or (λ x. x < n) xs at.0 0 at.1 all in
     omega (arith, here, at.2)
-
--- at a place that there is, the default tells nothing
-pub item_is : {A : Type 0} (xs : List A) (i : ℕ) (x d : A) → i < length xs → x ≡ get_or xs i x → x ≡ get_or xs i d
-item_is [] i x d lt is = absurd (omega arith)
-item_is (y ∷ xs) zero x d lt is = is
-item_is (y ∷ xs) (suc i) x d lt is = item_is xs i x d (omega arith) is
-
-pub none_is : {A : Type 0} (r : Bool) (o : Option A) → is_some o ≡ not r → r ≡ is_none o
-none_is true None h = refl
-none_is true (Some x) h = absurd (true≢false h)
-none_is false None h = absurd (true≢false (sym h))
-none_is false (Some x) h = refl

@@ -9,15 +9,15 @@ use Rattle.pb_machine.specs.Counts.{counts_after}
 use Rattle.pb_machine.specs.Counters.{busy_count}
 use Rattle.pb_machine.specs.Legality.{refusal}
 use Rattle.pb_machine.specs.Room.{room_with, HasRoom}
-use Rattle.pb_machine.proofs.CountsLaws.{none_end}
+use Rattle.pb_machine.proofs.CountsLaws.{counts_same, none_end}
 use Rattle.pb_lease.specs.declared.seat.Seat.{Seat}
 use Rattle.pb_lease.specs.Tables.{Table, blocks, counts_of, seat_of, rooms}
 use Rattle.pb_lease.specs.Marking.{may_be_marked, may_be_cooled}
 use Rattle.pb_lease.specs.Kept.{IsKept, AreMarks}
 use Rattle.pb_lease.proofs.RoomKept.{LeavesRoom, event_room}
-use Rattle.pb_lease.proofs.HotCounts.{table_at}
+use Rattle.pb_machine.proofs.ListTables.{table_at}
 use Rattle.pb_lease.proofs.LeaseKept.{lawful, busy_same}
-use Rattle.pb_lease.proofs.NextEvents.{counts_same, history_with, mark_may, cold_may}
+use Rattle.pb_lease.proofs.NextEvents.{history_with, mark_may, cold_may}
 use Rattle.pb_lease.proofs.SeatLists.{seat_set, seat_kept, seat_bound, due_set}
 
 -- the parts of a test that holds

@@ -1,9 +1,10 @@
 -- From one moment of a graph to the next: a lease that comes back, and one that goes on.
 use Rattle.std.proofs.Common.{◌≡◌, ℕ, ◌+◌, ◌-◌, ◌≤◌, min, Bool, true, false, cond, ◌&&◌, is_some, is_none, List, [], ◌∷◌, Option, Some, None, refl, sym, ap, ◌∙◌, arith, subst, get_or, true≢false}
+use Rattle.std.proofs.lemmas.List.{get_or_past}
 use Rattle.std.specs.Option.{option_or}
 use Rattle.pb_model.specs.Store.{Rows, Store, lesser}
 use Rattle.pb_model.specs.Local.{merged_store}
-use Rattle.pb_model.proofs.Tests.{equal_self, not_true}
+use Rattle.pb_model.proofs.Tests.{equal_self, not_true, none_found, and_true}
 use Rattle.pb_task.specs.Parts.{greatest_cost}
 use Rattle.pb_machine.specs.declared.event.End.{End}
 use Rattle.pb_machine.specs.declared.event.End.TheVariants.{Memory}
@@ -19,6 +20,7 @@ use Rattle.pb_machine.specs.Machine.{Setup, Machine, with_incumbent, lent_store,
 use Rattle.pb_machine.specs.Turns.{IsInOrder, RunsInOrder}
 use Rattle.pb_machine.specs.Whole.{IsWhole}
 use Rattle.pb_machine.proofs.TableLaws.{entry_here}
+use Rattle.pb_machine.proofs.CountsLaws.{none_end}
 use Rattle.pb_machine.proofs.LegalEvents.{ends_are_legal}
 use Rattle.pb_machine.proofs.Moments.{runs_are_lawful}
 use Rattle.pb_machine.proofs.LeaseTurns.{ordered_runs_are_runs}
@@ -36,7 +38,6 @@ use Rattle.pb_lease.specs.LeaseValue.{LeaseValue, leased_store}
 use Rattle.pb_lease.specs.Leased.{grant_of, IsOut, IsInTurns, IsOutInTurns}
 use Rattle.pb_lease.specs.GraphValue.{GraphValue, setup_in, counts_in, IsLeaseGraph, IsOfGraph}
 use Rattle.pb_lease.specs.Moments.{IsMomentAt, Follows, moves_of, ShowsTold, IsKnownThen}
-use Rattle.pb_bundles.proofs.Lists.{past}
 use Rattle.pb_bundles.proofs.ByKey.{first_choices_are_by_key}
 use Rattle.pb_lease.specs.Choices.{IsChoiceWithHome}
 use Rattle.pb_lease.specs.Steps.{ChoosesByRows, IsReleased, ReleasesNext, IsRenewed, RenewsNext, renewed_quota}
@@ -52,10 +53,6 @@ pub or_none : (found other : Option Content) → is_some found ≡ false → opt
 or_none None other e = refl
 or_none (Some content) other e = absurd (true≢false e)
 
-none_there : (found : Option Content) → is_some found ≡ false → found ≡ None
-none_there None e = refl
-none_there (Some content) e = absurd (true≢false e)
-
 -- ---- the end that follows from want of memory, where one does
 
 pub ending_leases : (of : Blocks) (settings : Settings) (counts : Counts) (memory : Bool) (end : Option End) → (counts_along of settings counts (ending memory end)).leases ≡ counts.leases
@@ -69,18 +66,13 @@ pub then_ended : (setup : Setup) (memory : Bool) (counts : Counts) (machine : Ma
     → RunsInOrder setup machine (moves_of (ending memory counts.end)) (record machine { counts = counts_along setup.blocks setup.settings machine.counts (ending memory counts.end) })
 then_ended setup memory counts machine is report = go (memory && is_none counts.end) refl report
   where
-    no_end : (m : Bool) (o : Option End) → (m && is_none o) ≡ true → o ≡ None
-    no_end true None h = refl
-    no_end true (Some e) h = absurd (true≢false (sym h))
-    no_end false o h = absurd (true≢false (sym h))
-
     go : (r : Bool) → (memory && is_none counts.end) ≡ r → counts.trouble ≡ r
         → RunsInOrder setup machine (moves_of (cond r (Ended Memory ∷ []) [])) (record machine { counts = counts_along setup.blocks setup.settings machine.counts (cond r (Ended Memory ∷ []) []) })
     go false e trouble = refl
     go true e trouble = (
       record machine { counts = counts_after setup.blocks setup.settings machine.counts (Ended Memory) },
       record {
-        may = subst (λ (c : Counts). refusal setup.blocks setup.settings c (Ended Memory) ≡ None) (sym is) ((ends_are_legal setup.blocks setup.settings counts (no_end memory counts.end e)).2 trouble);
+        may = subst (λ (c : Counts). refusal setup.blocks setup.settings c (Ended Memory) ≡ None) (sym is) ((ends_are_legal setup.blocks setup.settings counts (none_end counts.end (and_true memory (is_none counts.end) e).1)).2 trouble);
         counts = refl;
         rows = (refl, refl, refl, refl, refl);
       },
@@ -97,7 +89,7 @@ module _ (old : GraphValue) (k : IsLeaseGraph old) (lease : LeaseValue) (of : Is
   Merged machine = merged_store Scope (leased_store lease) machine.store
 
   in_none : (block : ℕ) → Scope block ≡ false → content_in lease.parts block ≡ None
-  in_none block out = none_there (content_in lease.parts block) (of.scope.blocks block ∙ out)
+  in_none block out = none_found (content_in lease.parts block) (of.scope.blocks block ∙ out)
 
   module _ (recorded : (worker : ℕ) → Rows) (machine : Machine) (m : IsMomentAt old recorded machine) where
     abbrev came : (broken : ℕ) → IsOut (setup_in old) machine broken lease → ShowsTold old machine lease → CameBack (setup_in old) machine lease.worker lease.used broken (Merged machine)
@@ -123,7 +115,7 @@ module _ (old : GraphValue) (k : IsLeaseGraph old) (lease : LeaseValue) (of : Is
   chosen_by_rows new noted recorded machine m =
       let pass = can_be_leased (blocks old.table) old.table.settings (counts_with_lease_home (counts_in old) lease.worker lease.used) in
       let both = (first_choices_are_by_key (blocks old.table) old.table.settings (counts_with_lease_home (counts_in old) lease.worker lease.used) (Merged machine) (key_at new.homes) pass
-      (merged_keys recorded machine m new.homes.keys noted) (λ block le. past new.homes.keys block (omega (arith, le, noted.count, k.key_places)))
+      (merged_keys recorded machine m new.homes.keys noted) (λ block le. get_or_past new.homes.keys block None (omega (arith, le, noted.count, k.key_places)))
       (λ block lt. (
         passes_from (blocks old.table) old.table.settings (counts_with_lease_home (counts_in old) lease.worker lease.used) block,
         λ p. passes_to (blocks old.table) old.table.settings (counts_with_lease_home (counts_in old) lease.worker lease.used) block p.0 p.1 p.2 p.3,

@@ -22,19 +22,6 @@ use Rattle.pb_lease.specs.Tables.{Table}
 use Rattle.pb_lease.specs.Events.{Adds}
 use Rattle.pb_lease.specs.Leasing.{can_be_leased}
 
--- counts that agree in each part
-pub counts_same : (some other : Counts) → ((worker : ℕ) → some.leases worker ≡ other.leases worker) → ((block : ℕ) → some.hot block ≡ other.hot block)
-    → ((worker : ℕ) → some.signed_off worker ≡ other.signed_off worker) → some.spent ≡ other.spent → some.left ≡ other.left → some.end ≡ other.end → some.trouble ≡ other.trouble → some ≡ other
-counts_same some other leases hot off spent left end trouble = λ i. record {
-  leases = λ worker. leases worker i;
-  hot = λ block. hot block i;
-  signed_off = λ worker. off worker i;
-  spent = spent i;
-  left = left i;
-  end = end i;
-  trouble = trouble i;
-}
-
 -- a store in which each block has an Opened row
 abbrev a_row : Row
 a_row = record { g = 0; estimate = Dead; parent = None; action = 0; status = Opened }

@@ -1,5 +1,5 @@
 -- What the tables keep when a search begins.
-use Rattle.std.proofs.Common.{◌≡◌, ℕ, zero, suc, ◌+◌, ◌≤◌, Bool, false, is_some, List, [], length, get_or, replicate, Some, None, refl, sym, ap, ◌∙◌, subst, arith}
+use Rattle.std.proofs.Common.{◌≡◌, ℕ, ◌+◌, ◌≤◌, Bool, false, is_some, List, [], length, get_or, replicate, Some, None, refl, sym, ap, ◌∙◌, subst, arith}
 use Rattle.std.specs.List.{sum_by}
 use Rattle.std.proofs.lemmas.List.Folds.{sum_by-replicate}
 use Rattle.std.proofs.Math.ListN.{length-replicate}
@@ -10,17 +10,13 @@ use Rattle.pb_machine.specs.Counts.{Counts, opening_counts}
 use Rattle.pb_machine.specs.History.{replay}
 use Rattle.pb_machine.specs.Room.{room_after, KeepsWithinRoom}
 use Rattle.pb_machine.proofs.TableLaws.{any_false}
+use Rattle.pb_machine.proofs.ListTables.{defaults}
+use Rattle.pb_machine.proofs.CountsLaws.{counts_same}
 use Rattle.pb_machine.proofs.Counters.{counters_begin_at_none}
 use Rattle.pb_abstract.specs.Graph.{AbstractGraph, IsGraph, blocks_of}
 use Rattle.pb_lease.specs.declared.seat.Seat.{Seat}
 use Rattle.pb_lease.specs.Tables.{Table, vacant, seat_of, counts_of}
 use Rattle.pb_lease.specs.Kept.{IsKept, due_of}
-use Rattle.pb_lease.proofs.NextEvents.{counts_same}
-
-all_same : {A : Type 0} (n k : ℕ) (a : A) → get_or (replicate n a) k a ≡ a
-all_same zero k a = refl
-all_same (suc n) zero a = refl
-all_same (suc n) (suc k) a = all_same n k a
 
 module _ (graph : AbstractGraph) (settings : Settings) (seats : List Seat) (hot : List Bool) (busy near : List ℕ) (journal : List Event)
     (range : AreInRange settings) (lawful : IsGraph graph) (seats_is : seats ≡ replicate settings.workers vacant) (hot_is : hot ≡ replicate (blocks_of graph).count false)
@@ -29,10 +25,10 @@ module _ (graph : AbstractGraph) (settings : Settings) (seats : List Seat) (hot 
   opening_table = record { graph = graph; settings = settings; seats = seats; hot = hot; spent = 0; left = settings.budget; end = None; journal = journal }
 
   seat_at : (k : ℕ) → seat_of seats k ≡ vacant
-  seat_at k = ap (λ (s : List Seat). seat_of s k) seats_is ∙ all_same settings.workers k vacant
+  seat_at k = ap (λ (s : List Seat). seat_of s k) seats_is ∙ defaults settings.workers k vacant
 
   hot_at : (c : ℕ) → get_or hot c false ≡ false
-  hot_at c = ap (λ (h : List Bool). get_or h c false) hot_is ∙ all_same (blocks_of graph).count c false
+  hot_at c = ap (λ (h : List Bool). get_or h c false) hot_is ∙ defaults (blocks_of graph).count c false
 
   pub opening_is : counts_of opening_table ≡ opening_counts settings 0
   opening_is = counts_same (counts_of opening_table) (opening_counts settings 0) (λ w. ap (λ (s : Seat). s.grant) (seat_at w)) hot_at (λ w. ap (λ (s : Seat). s.signed_off) (seat_at w)) refl (omega arith) refl refl
@@ -44,14 +40,14 @@ module _ (graph : AbstractGraph) (settings : Settings) (seats : List Seat) (hot 
     own = lawful.own;
     busy_is = record {
       places = ap (λ (s : List ℕ). length s) busy_is ∙ length-replicate (blocks_of graph).count 0;
-      counted = λ c lt. ap (λ (s : List ℕ). get_or s c 0) busy_is ∙ all_same (blocks_of graph).count c 0
+      counted = λ c lt. ap (λ (s : List ℕ). get_or s c 0) busy_is ∙ defaults (blocks_of graph).count c 0
           ∙ sym ((counters_begin_at_none (blocks_of graph) settings.workers (counts_of opening_table).leases (counts_of opening_table).hot c).0 (any_false settings.workers (λ w. is_some ((counts_of opening_table).leases w)) (λ w. ap (λ (s : Seat). is_some s.grant) (seat_at w))));
     };
     marks = record {
       few = lawful.few;
       hot_places = ap (λ (s : List Bool). length s) hot_is ∙ length-replicate (blocks_of graph).count false;
       near_places = ap (λ (s : List ℕ). length s) near_is ∙ length-replicate (blocks_of graph).count 0;
-      counted = λ c lt. ap (λ (s : List ℕ). get_or s c 0) near_is ∙ all_same (blocks_of graph).count c 0
+      counted = λ c lt. ap (λ (s : List ℕ). get_or s c 0) near_is ∙ defaults (blocks_of graph).count c 0
           ∙ sym ((counters_begin_at_none (blocks_of graph) settings.workers (counts_of opening_table).leases (counts_of opening_table).hot c).1 hot_at);
     };
     history = record {

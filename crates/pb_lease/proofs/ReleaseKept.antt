@@ -1,5 +1,6 @@
 -- What the return of a lease keeps.
 use Rattle.std.proofs.Common.{◌≡◌, ℕ, ◌+◌, ◌-◌, ◌<◌, ◌≤◌, Bool, true, false, if◌then◌else◌, not, ◌&&◌, ◌==◌, nat_lt, is_some, is_none, List, [], ◌∷◌, ◌++◌, length, get_or, slice_set, Option, Some, None, refl, sym, ap, ◌∙◌, arith, subst, length-set, append_assoc}
+use Rattle.std.proofs.Math.Bool.{and-false}
 use Rattle.std.proofs.lemmas.Bool.Decides.{nat_tests}
 use Rattle.pb_model.proofs.Tests.{by_cases}
 use Rattle.pb_machine.specs.declared.event.End.{End}
@@ -12,7 +13,7 @@ use Rattle.pb_machine.specs.Counts.{Counts, counts_after, is_busy, quota_of}
 use Rattle.pb_machine.specs.Counters.{busy_count}
 use Rattle.pb_machine.specs.Legality.{refusal}
 use Rattle.pb_machine.specs.History.{IsHistory}
-use Rattle.pb_machine.proofs.CountsLaws.{some_is, releases_cool_near}
+use Rattle.pb_machine.proofs.CountsLaws.{counts_same, some_is, releases_cool_near}
 use Rattle.pb_machine.proofs.Counters.{busy_is_counted, events_change_busy, interference_is_mutual}
 use Rattle.pb_lease.specs.declared.seat.Seat.{Seat}
 use Rattle.pb_lease.specs.Tables.{Table, blocks, counts_of, seat_of, rooms}
@@ -21,7 +22,7 @@ use Rattle.pb_lease.specs.Kept.{IsKept, AreBusy, AreMarks, due}
 use Rattle.pb_lease.proofs.EndKept.{ended_counts, end_due, reported_counts, reported_history}
 use Rattle.pb_lease.proofs.LeaseKept.{lawful}
 use Rattle.pb_lease.proofs.RoomKept.{LeavesRoom, event_room, report_room}
-use Rattle.pb_lease.proofs.NextEvents.{counts_same, history_with, release_may}
+use Rattle.pb_lease.proofs.NextEvents.{history_with, release_may}
 use Rattle.pb_lease.proofs.SeatLists.{seat_set, seat_kept, seat_bound, due_set}
 
 pub no_count : (n : ℕ) → (n == 0) ≡ not (nat_lt 0 n)
@@ -32,11 +33,7 @@ no_count n = by_cases (nat_lt 0 n)
 -- what becomes cold where it is near and not counted is what is not busy, where all of that is near
 cooled_cases : (hot near none busy : Bool) → (hot ≡ true → none ≡ not busy) → (hot ≡ true → busy ≡ false → near ≡ true) → (hot && not (near && none)) ≡ (hot && busy)
 cooled_cases false near none busy counted found = refl
-cooled_cases true near none true counted found = ap (λ r. not (near && r)) (counted refl) ∙ go near
-  where
-    go : (n : Bool) → not (n && false) ≡ true
-    go true = refl
-    go false = refl
+cooled_cases true near none true counted found = ap (λ r. not (near && r)) (counted refl) ∙ ap not (and-false near)
 cooled_cases true near none false counted found = ap (λ r. not (near && r)) (counted refl) ∙ ap (λ r. not (r && true)) (found refl refl)
 
 module _ (t : Table) (busy near : List ℕ) (promised spare : ℕ) (k : IsKept t busy near promised spare) where

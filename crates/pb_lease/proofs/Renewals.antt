@@ -1,9 +1,9 @@
 -- A lease whose keys are noted goes on, or comes back.
-use Rattle.std.proofs.Common.{◌≡◌, ℕ, ◌-◌, false, is_some, List, [], ◌∷◌, Option, Some, None, refl, sym, ap, ◌∙◌, subst, get_or, true≢false}
+use Rattle.std.proofs.Common.{◌≡◌, ℕ, ◌-◌, false, is_some, List, [], ◌∷◌, Option, Some, None, sym, ap, ◌∙◌, subst, get_or}
 use Rattle.std.specs.Option.{option_or}
 use Rattle.pb_model.specs.declared.key.Key.{Key}
 use Rattle.pb_model.specs.Store.{lesser}
-use Rattle.pb_model.proofs.Tests.{by_cases}
+use Rattle.pb_model.proofs.Tests.{by_cases, none_found, some_found}
 use Rattle.pb_model.proofs.Keys.{best_keys_are_unique}
 use Rattle.pb_machine.specs.declared.event.Event.TheVariants.{Renew}
 use Rattle.pb_machine.specs.Tables.{with_entry}
@@ -13,7 +13,6 @@ use Rattle.pb_bundles.specs.Parts.{content_in}
 use Rattle.pb_bundles.specs.Homes.{HomeTable, key_at}
 use Rattle.pb_bundles.specs.Moves.{NotesKeys}
 use Rattle.pb_bundles.specs.Choosing.{IsFirstBy}
-use Rattle.pb_bundles.proofs.Lists.{found_at}
 use Rattle.pb_lease.specs.Tables.{blocks, rooms}
 use Rattle.pb_lease.specs.Leasing.{can_be_leased}
 use Rattle.pb_lease.specs.Events.{Adds}
@@ -24,13 +23,9 @@ use Rattle.pb_lease.specs.Steps.{IsReleased, IsRenewed, GoesOn, renewed_quota}
 -- where the keys of the same bundles are noted twice, the second time changes nothing
 pub noted_twice : (parts : List (ℕ × Content)) (old mid new : List (Option Key)) → NotesKeys parts old mid → NotesKeys parts mid new → (block : ℕ) → get_or new block None ≡ get_or mid block None
 noted_twice parts old mid new first second block = by_cases (is_some (content_in parts block))
-    (λ e. let found = found_at (content_in parts block) e in
+    (λ e. let found = some_found (content_in parts block) e in
     best_keys_are_unique found.0.weight (row_of found.0) (get_or new block None) (get_or mid block None) (second.noted block found.0 found.1) (first.noted block found.0 found.1))
-    (λ e. second.others block (none (content_in parts block) e))
-  where
-    none : (found : Option Content) → is_some found ≡ false → found ≡ None
-    none None e = refl
-    none (Some content) e = absurd (true≢false e)
+    (λ e. second.others block (none_found (content_in parts block) e))
 
 notes_both : (parts : List (ℕ × Content)) (old mid new : List (Option Key)) → NotesKeys parts old mid → NotesKeys parts mid new → NotesKeys parts old new
 notes_both parts old mid new first second = record {

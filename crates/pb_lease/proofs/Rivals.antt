@@ -1,11 +1,11 @@
 -- Rivals and hot marks by the keys of a graph.
-use Rattle.std.proofs.Common.{◌≡◌, ℕ, ◌<◌, Bool, true, false, Option, Some, None, is_some, is_none, not, ◌&&◌, nat_lt, refl, sym, ap, ◌∙◌, subst, get_or, length, true≢false, List, ◌⊎◌, inl, inr, arith}
-use Rattle.std.proofs.lemmas.Bool.Decides.{nat_tests}
+use Rattle.std.proofs.Common.{◌≡◌, ℕ, ◌<◌, Bool, true, false, Option, Some, None, is_some, is_none, not, refl, sym, ap, ◌∙◌, subst, get_or, length, true≢false, List, ◌⊎◌, inl, inr, arith}
+use Rattle.std.proofs.lemmas.Bool.{and_from, lt-ltb}
 use Rattle.pb_model.specs.declared.key.Key.{Key}
 use Rattle.pb_model.specs.Store.{Rows}
-use Rattle.pb_model.proofs.Keys.{not_both_before}
 use Rattle.pb_machine.specs.Blocks.{interferes}
-use Rattle.pb_machine.specs.Choice.{ComesBefore, IsRival}
+use Rattle.pb_machine.specs.Choice.{IsRival}
+use Rattle.pb_machine.proofs.Choosing.{not_both_come}
 use Rattle.pb_machine.specs.Machine.{Machine}
 use Rattle.std.specs.Bool.{MatchBool}
 use Rattle.std.specs.List.{HoldsAt, AllWithin}
@@ -20,8 +20,7 @@ use Rattle.pb_machine.specs.declared.event.Event.TheVariants.{Hot, Cold}
 use Rattle.pb_machine.specs.declared.event.Grant.{Grant}
 use Rattle.pb_machine.specs.Legality.{refusal}
 use Rattle.pb_machine.proofs.CountsLaws.{none_end}
-use Rattle.pb_model.proofs.Tests.{and_true, not_true, not_both, by_cases}
-use Rattle.pb_bundles.proofs.Lists.{found_at}
+use Rattle.pb_model.proofs.Tests.{and_true, not_true, not_both, by_cases, below, some_found}
 use Rattle.pb_lease.specs.Marking.{may_be_marked, may_be_cooled}
 use Rattle.pb_lease.specs.GraphValue.{GraphValue, counts_in, IsLeaseGraph}
 use Rattle.pb_lease.proofs.NextEvents.{mark_may, cold_may}
@@ -41,12 +40,6 @@ rival_is g block result rival recorded machine m = (rivals_are_by_key (blocks g.
 
 -- ---- there is one best block
 
-not_both_come : (j : Option Key) (b : ℕ) (k : Option Key) (c : ℕ) → ComesBefore j b k c → ComesBefore k c j b → ⊥
-not_both_come None b None c h l = omega (arith, h, l)
-not_both_come None b (Some k) c h l = absurd h
-not_both_come (Some j) b None c h l = absurd l
-not_both_come (Some j) b (Some k) c h l = not_both_before j b k c h l
-
 pub best_is_one : (candidate : ℕ → Type 0) (keys : ℕ → Option Key) (one other : Option ℕ) → IsBestOf candidate keys one → IsBestOf candidate keys other → one ≡ other
 best_is_one candidate keys None None a b = refl
 best_is_one candidate keys None (Some d) a b = absurd (a d b.0)
@@ -62,7 +55,7 @@ best_is_one candidate keys (Some c) (Some d) a b = which (a.1 d b.0) (b.1 c a.0)
 
 module _ (g : GraphValue) (k : IsLeaseGraph g) (worker block : ℕ) (leased : is_some ((counts_in g).leases worker) ≡ true) (known : block < (blocks g.table).count) where
   granted : (grant : Grant) × ((counts_in g).leases worker ≡ Some grant)
-  granted = found_at ((counts_in g).leases worker) leased
+  granted = some_found ((counts_in g).leases worker) leased
 
   pub cold_is_legal : may_be_cooled g.table worker block ≡ true → refusal (blocks g.table) g.table.settings (counts_in g) (Cold worker block) ≡ None
   cold_is_legal test =
@@ -97,16 +90,6 @@ outranked_by g block near each false none = (
 
 -- ---- what the test of a mark says of the graph
 
-positive : (n : ℕ) → nat_lt 0 n ≡ true → 0 < n
-positive n h = grind (arith, nat_tests)
-
-is_positive : (n : ℕ) → 0 < n → nat_lt 0 n ≡ true
-is_positive n h = grind (arith, nat_tests)
-
-and_is : (a b : Bool) → a ≡ true → b ≡ true → (a && b) ≡ true
-and_is true b h k = k
-and_is false b h k = h
-
 pub marked_may : (g : GraphValue) (worker block : ℕ) (outranked : Bool) → (IsOutranked g block → outranked ≡ true) → may_be_marked g.table worker block outranked ≡ true → MayMark g worker block
 marked_may g worker block outranked shown test =
     let first = and_true _ _ test in
@@ -120,10 +103,10 @@ marked_may g worker block outranked shown test =
       cold = not_true _ fourth.1;
       busy = third.1;
       none_better = λ better. not_both outranked (shown better) (not_true _ second.1);
-      room = positive _ first.1;
+      room = below 0 _ first.1;
     }
 
 pub may_be_marked_is : (g : GraphValue) (worker block : ℕ) (outranked : Bool) → (outranked ≡ true → IsOutranked g block) → MayMark g worker block → may_be_marked g.table worker block outranked ≡ true
 may_be_marked_is g worker block outranked shows may =
     let none : not outranked ≡ true = by_cases outranked (λ e. absurd (may.none_better (shows e))) (λ e. ap not e) in
-    and_is _ _ (and_is _ _ (and_is _ _ (and_is _ _ (and_is _ _ (ap is_none may.no_end) (ap not may.not_plain)) (ap not may.cold)) may.busy) none) (is_positive _ may.room)
+    and_from _ _ (and_from _ _ (and_from _ _ (and_from _ _ (and_from _ _ (ap is_none may.no_end) (ap not may.not_plain)) (ap not may.cold)) may.busy) none) (lt-ltb 0 _ may.room)

@@ -9,7 +9,7 @@ use Rattle.pb_machine.specs.Counts.{is_lease_of}
 use Rattle.pb_lease.specs.declared.seat.Seat.{Seat}
 use Rattle.pb_lease.specs.Tables.{vacant, seat_of}
 use Rattle.pb_lease.specs.Kept.{due_of}
-use Rattle.pb_lease.proofs.HotCounts.{table_at}
+use Rattle.pb_machine.proofs.ListTables.{table_at}
 
 -- a field of each entry of a table
 pub field_at : {A B : Type 0} (f : A → B) (table : ℕ → A) (i : ℕ) (v : A) (k : ℕ) → f (with_entry table i v k) ≡ with_entry (λ n. f (table n)) i (f v) k

@@ -1,7 +1,8 @@
 use Rattle.std.proofs.Common.{◌≡◌, ◌<◌, ℕ, false, true, cond, not, ◌&&◌, ◌==◌, nat_lt, is_none, ◌∙◌, arith, ap, sym, refl, subst, get_or}
+use Rattle.pb_model.proofs.Tests.{none_tested}
+use Rattle.pb_machine.proofs.ListTables.{item_is}
 use Rattle.pb_lease.specs.Tables.{Table, blocks, counts_of}
 use Rattle.pb_lease.specs.Leasing.{can_be_leased}
-use Rattle.pb_lease.proofs.Lists.{item_is, none_is}
 use Rattle.pb_lease.proofs.FreeBlocks.{is_out, in_two, parts_are, walked_out}
 use Rattle.pb_lease.specs.contracts.tables.MachineTables.{the_view}
 use Rattle.pb_lease.proofs.tables.MachineTables.can_be_leased.Goals as goal
@@ -15,7 +16,7 @@ returns-then-not-is_open-is_clear c =
     let known : block < (blocks t).count = subst (λ (v : Table). block < (blocks v).count) (sym c.self.view_is) c.requires in
     let near_is : c.index.result.now ≡ get_or near block 0 = item_is near block c.index.result.now 0 (omega (arith, known, c.self.invariant.marks.near_places)) c.index.ensures in
     let busy_is : c.index-2.result.now ≡ get_or busy block 0 = item_is busy block c.index-2.result.now 0 (omega (arith, known, c.self.invariant.busy_is.places)) c.index-2.ensures in
-    let end_is : c.is_none.result ≡ is_none t.end = none_is c.is_none.result t.end c.is_none.ensures in
+    let end_is : c.is_none.result ≡ is_none t.end = none_tested c.is_none.result t.end c.is_none.ensures in
     let test : ((is_none t.end && nat_lt 0 t.left) && ((get_or near block 0 == 0) && (get_or busy block 0 == 0))) ≡ false =
     sym (ap (λ r. (r && nat_lt 0 t.left) && ((c.index.result.now == 0) && (c.index-2.result.now == 0))) end_is ∙ ap (λ n. (is_none t.end && nat_lt 0 t.left) && ((n == 0) && (c.index-2.result.now == 0))) near_is
     ∙ ap (λ n. (is_none t.end && nat_lt 0 t.left) && ((get_or near block 0 == 0) && (n == 0))) busy_is) ∙ c.if-not-is_open-is_clear.true in
@@ -33,7 +34,7 @@ returns c =
     let known : block < (blocks t).count = subst (λ (v : Table). block < (blocks v).count) (sym c.self.view_is) c.requires in
     let near_is : c.index.result.now ≡ get_or near block 0 = item_is near block c.index.result.now 0 (omega (arith, known, c.self.invariant.marks.near_places)) c.index.ensures in
     let busy_is : c.index-2.result.now ≡ get_or busy block 0 = item_is busy block c.index-2.result.now 0 (omega (arith, known, c.self.invariant.busy_is.places)) c.index-2.ensures in
-    let end_is : c.is_none.result ≡ is_none t.end = none_is c.is_none.result t.end c.is_none.ensures in
+    let end_is : c.is_none.result ≡ is_none t.end = none_tested c.is_none.result t.end c.is_none.ensures in
     let test : ((is_none t.end && nat_lt 0 t.left) && ((get_or near block 0 == 0) && (get_or busy block 0 == 0))) ≡ true =
     sym (ap (λ r. (r && nat_lt 0 t.left) && ((c.index.result.now == 0) && (c.index-2.result.now == 0))) end_is ∙ ap (λ n. (is_none t.end && nat_lt 0 t.left) && ((n == 0) && (c.index-2.result.now == 0))) near_is
     ∙ ap (λ n. (is_none t.end && nat_lt 0 t.left) && ((get_or near block 0 == 0) && (n == 0))) busy_is) ∙ c.if-not-is_open-is_clear.false in

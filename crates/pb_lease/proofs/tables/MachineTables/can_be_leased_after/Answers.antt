@@ -1,14 +1,14 @@
 use Rattle.std.proofs.Common.{◌≡◌, ◌<◌, ◌≤◌, ◌+◌, ◌-◌, ℕ, false, true, cond, not, ◌&&◌, ◌==◌, nat_lt, is_none, Option, Some, ◌∙◌, arith, ap, sym, refl, subst, get_or}
-use Rattle.pb_model.proofs.Tests.{by_cases, equal}
+use Rattle.pb_model.proofs.Tests.{by_cases, equal, none_tested}
 use Rattle.pb_machine.specs.declared.event.Grant.{Grant}
 use Rattle.pb_machine.specs.Tables.{one_if}
 use Rattle.pb_machine.specs.Blocks.{interferes}
 use Rattle.pb_machine.specs.Counts.{quota_of}
 use Rattle.pb_machine.specs.Counters.{busy_count}
 use Rattle.pb_machine.specs.Choice.{counts_with_lease_home}
+use Rattle.pb_machine.proofs.ListTables.{item_is}
 use Rattle.pb_lease.specs.Tables.{Table, blocks, counts_of, seat_of}
 use Rattle.pb_lease.specs.Leasing.{can_be_leased}
-use Rattle.pb_lease.proofs.Lists.{item_is, none_is}
 use Rattle.pb_lease.proofs.LeaseKept.{quota_within}
 use Rattle.pb_lease.proofs.ReleaseKept.{own_known, fewer_near}
 use Rattle.pb_lease.proofs.FreeBlocks.{is_out, closed_after, own_after, other_after, walked_out}
@@ -36,7 +36,7 @@ returns-then-not-is_open c =
     let near = c.self.inside.marks.near.items in
     let known : block < (blocks t).count = subst (λ (v : Table). block < (blocks v).count) (sym c.self.view_is) c.requires.block in
     let near_is : c.index.result.now ≡ get_or near block 0 = item_is near block c.index.result.now 0 (omega (arith, known, c.self.invariant.marks.near_places)) c.index.ensures in
-    let end_is : c.is_none.result ≡ is_none t.end = none_is c.is_none.result t.end c.is_none.ensures in
+    let end_is : c.is_none.result ≡ is_none t.end = none_tested c.is_none.result t.end c.is_none.ensures in
     let same : (c.is_none.result && nat_lt 0 (t.left + (own.quota - c.args.used)) && (c.index.result.now == 0)) ≡ (is_none t.end && nat_lt 0 (t.left + (own.quota - c.args.used)) && (get_or near block 0 == 0)) =
     ap (λ r. r && nat_lt 0 (t.left + (own.quota - c.args.used)) && (c.index.result.now == 0)) end_is ∙ ap (λ n. is_none t.end && nat_lt 0 (t.left + (own.quota - c.args.used)) && (n == 0)) near_is in
     let test = sym same ∙ c.if-not-is_open.true in
@@ -53,7 +53,7 @@ returns-then-block-own c =
     let near = c.self.inside.marks.near.items in
     let known : block < (blocks t).count = subst (λ (v : Table). block < (blocks v).count) (sym c.self.view_is) c.requires.block in
     let near_is : c.index.result.now ≡ get_or near block 0 = item_is near block c.index.result.now 0 (omega (arith, known, c.self.invariant.marks.near_places)) c.index.ensures in
-    let end_is : c.is_none.result ≡ is_none t.end = none_is c.is_none.result t.end c.is_none.ensures in
+    let end_is : c.is_none.result ≡ is_none t.end = none_tested c.is_none.result t.end c.is_none.ensures in
     let same : (c.is_none.result && nat_lt 0 (t.left + (own.quota - c.args.used)) && (c.index.result.now == 0)) ≡ (is_none t.end && nat_lt 0 (t.left + (own.quota - c.args.used)) && (get_or near block 0 == 0)) =
     ap (λ r. r && nat_lt 0 (t.left + (own.quota - c.args.used)) && (c.index.result.now == 0)) end_is ∙ ap (λ n. is_none t.end && nat_lt 0 (t.left + (own.quota - c.args.used)) && (n == 0)) near_is in
     let test = sym same ∙ c.if-not-is_open.false in
@@ -83,7 +83,7 @@ returns-then-is_clear_without c =
     let near = c.self.inside.marks.near.items in
     let known : block < (blocks t).count = subst (λ (v : Table). block < (blocks v).count) (sym c.self.view_is) c.requires.block in
     let near_is : c.index.result.now ≡ get_or near block 0 = item_is near block c.index.result.now 0 (omega (arith, known, c.self.invariant.marks.near_places)) c.index.ensures in
-    let end_is : c.is_none.result ≡ is_none t.end = none_is c.is_none.result t.end c.is_none.ensures in
+    let end_is : c.is_none.result ≡ is_none t.end = none_tested c.is_none.result t.end c.is_none.ensures in
     let same : (c.is_none.result && nat_lt 0 (t.left + (own.quota - c.args.used)) && (c.index.result.now == 0)) ≡ (is_none t.end && nat_lt 0 (t.left + (own.quota - c.args.used)) && (get_or near block 0 == 0)) =
     ap (λ r. r && nat_lt 0 (t.left + (own.quota - c.args.used)) && (c.index.result.now == 0)) end_is ∙ ap (λ n. is_none t.end && nat_lt 0 (t.left + (own.quota - c.args.used)) && (n == 0)) near_is in
     let test = sym same ∙ c.if-not-is_open.false in
@@ -110,7 +110,7 @@ returns-else-is_clear_without c =
     let near = c.self.inside.marks.near.items in
     let known : block < (blocks t).count = subst (λ (v : Table). block < (blocks v).count) (sym c.self.view_is) c.requires.block in
     let near_is : c.index.result.now ≡ get_or near block 0 = item_is near block c.index.result.now 0 (omega (arith, known, c.self.invariant.marks.near_places)) c.index.ensures in
-    let end_is : c.is_none.result ≡ is_none t.end = none_is c.is_none.result t.end c.is_none.ensures in
+    let end_is : c.is_none.result ≡ is_none t.end = none_tested c.is_none.result t.end c.is_none.ensures in
     let same : (c.is_none.result && nat_lt 0 (t.left + (own.quota - c.args.used)) && (c.index.result.now == 0)) ≡ (is_none t.end && nat_lt 0 (t.left + (own.quota - c.args.used)) && (get_or near block 0 == 0)) =
     ap (λ r. r && nat_lt 0 (t.left + (own.quota - c.args.used)) && (c.index.result.now == 0)) end_is ∙ ap (λ n. is_none t.end && nat_lt 0 (t.left + (own.quota - c.args.used)) && (n == 0)) near_is in
     let test = sym same ∙ c.if-not-is_open.false in
