@@ -1,16 +1,17 @@
 -- The entries of a bucket, in two parts, after one came or left.
-use Rattle.std.proofs.Common.{◌≡◌, Bool, true, false, Option, Some, None, List, [], ◌∷◌, ◌||◌, ◌&&◌, ◌⊎◌, inl, inr, refl, sym, ap, ◌∙◌, subst, arith, nat_eq, nat_lt, true≢false, IfSome, IfNone, slice_index_or, if◌then◌else◌}
+use Rattle.std.proofs.Common.{◌≡◌, ◌<◌, ◌≤◌, Bool, true, false, Option, Some, None, List, [], ◌∷◌, ◌||◌, ◌&&◌, ◌⊎◌, inl, inr, refl, sym, ap, ◌∙◌, subst, arith, nat_eq, true≢false, IfSome, IfNone, slice_index_or, if◌then◌else◌}
 use Rattle.std.proofs.Math.Bool.{or-true, or_assoc, or_comm}
-use Rattle.std.proofs.lemmas.Bool.{or_cases}
+use Rattle.std.proofs.lemmas.Bool.{or_cases, cases_order, cases_lt}
 use Rattle.std.proofs.lemmas.List.Sorted.{list_any-IsPermutation}
 use Rattle.std.specs.List.{AllByRecursion}
 use Rattle.std.specs.List.Sorted.{IsPermutation}
 use Rattle.std.specs.Cmp.{nat_cmp_is}
+use Rattle.std.specs.declared.cmp.Ordering.{Ordering}
 use Rattle.std.specs.declared.cmp.Ordering.TheVariants.{Less, Equal, Greater}
 use Rattle.std.specs.Ordering.{nat_cmp, ordering_then, is_lt}
 use Rattle.std.specs.BinaryHeap.{heap_items, lt_by_cmp}
 use Rattle.std.specs.declared.cmp.Reverse.{Reverse}
-use Rattle.pb_model.proofs.Tests.{below, not_below, equal, equal_self}
+use Rattle.pb_model.proofs.Tests.{equal, equal_self}
 use Rattle.pb_lists.specs.declared.bucket.Bucket.{Bucket}
 use Rattle.pb_lists.specs.Buckets.{Entry, entry_cmp, later, IsNoLater, is_same, is_among, has_entry, first_of, is_wide_before, top_of}
 
@@ -29,54 +30,49 @@ same_found entry other same = which (nat_eq entry.0 other.0) refl same
         ap (λ n. (n, entry.1)) h ∙ ap (λ s. (other.0, s)) state
     which false e m = absurd (true≢false (sym m))
 
+-- an entry is no later than another, or the other comes before it
+abbrev ComesFirst : Entry → Entry → Type 0
+ComesFirst first second = (first.0 < second.0) ⊎ ((first.0 ≡ second.0) × (first.1 < second.1))
+
+no_later_cases : (entry other : Entry) → IsNoLater entry other ⊎ ComesFirst other entry
+no_later_cases entry other = by_first (cases_order entry.0 other.0)
+  where
+    by_second : entry.0 ≡ other.0 → ((other.1 < entry.1) ⊎ (entry.1 ≤ other.1)) → IsNoLater entry other ⊎ ComesFirst other entry
+    by_second e (inl l) = inr (inr (sym e, l))
+    by_second e (inr le) = inl (inr (e, le))
+
+    by_first : ((entry.0 ≡ other.0) ⊎ ((entry.0 < other.0) ⊎ (other.0 < entry.0))) → IsNoLater entry other ⊎ ComesFirst other entry
+    by_first (inl e) = by_second e (cases_lt other.1 entry.1)
+    by_first (inr (inl l)) = inl (inl l)
+    by_first (inr (inr g)) = inr (inl g)
+
+-- how entries are compared
+compared : (a b : Entry) (first second : Ordering) → nat_cmp a.0 b.0 ≡ first → nat_cmp a.1 b.1 ≡ second → entry_cmp a b ≡ ordering_then first second
+compared a b first second e f = ap (λ o. ordering_then o (nat_cmp a.1 b.1)) e ∙ ap (ordering_then first) f
+
 -- an entry that no other comes before
 not_before : (entry other : Entry) → is_lt (entry_cmp other entry) ≡ false → IsNoLater entry other
-not_before entry other e = low (nat_lt entry.0 other.0) refl
+not_before entry other e = which (no_later_cases entry other)
   where
-    at_one : entry.0 ≡ other.0 → (b : Bool) → nat_lt other.1 entry.1 ≡ b → IsNoLater entry other
-    at_one same true lt =
-        let both : entry_cmp other entry ≡ nat_cmp other.1 entry.1 = ap (λ o. ordering_then o (nat_cmp other.1 entry.1)) (sym (nat_cmp_is other.0 entry.0 Equal (sym same))) in
-        absurd (true≢false (sym (ap is_lt (both ∙ sym (nat_cmp_is other.1 entry.1 Less (below other.1 entry.1 lt)))) ∙ e))
-    at_one same false ge = inr (same, not_below other.1 entry.1 ge)
+    less : ComesFirst other entry → entry_cmp other entry ≡ Less
+    less (inl l) = compared other entry Less (nat_cmp other.1 entry.1) (sym (nat_cmp_is other.0 entry.0 Less l)) refl
+    less (inr l) = compared other entry Equal Less (sym (nat_cmp_is other.0 entry.0 Equal l.0)) (sym (nat_cmp_is other.1 entry.1 Less l.1))
 
-    high : (b : Bool) → nat_lt other.0 entry.0 ≡ b → nat_lt entry.0 other.0 ≡ false → IsNoLater entry other
-    high true lt ge = absurd (true≢false (sym (ap is_lt (ap (λ o. ordering_then o (nat_cmp other.1 entry.1)) (sym (nat_cmp_is other.0 entry.0 Less (below other.0 entry.0 lt))))) ∙ e))
-    high false le ge =
-        let first = not_below other.0 entry.0 le in
-        let second = not_below entry.0 other.0 ge in
-        let same : entry.0 ≡ other.0 = omega arith in
-        at_one same (nat_lt other.1 entry.1) refl
-
-    low : (b : Bool) → nat_lt entry.0 other.0 ≡ b → IsNoLater entry other
-    low true lt = inl (below entry.0 other.0 lt)
-    low false ge = high (nat_lt other.0 entry.0) refl ge
+    which : (IsNoLater entry other ⊎ ComesFirst other entry) → IsNoLater entry other
+    which (inl so) = so
+    which (inr first) = absurd (true≢false (sym (ap is_lt (less first)) ∙ e))
 
 -- an entry that comes before another
 before : (entry other : Entry) → is_lt (entry_cmp entry other) ≡ true → IsNoLater entry other
-before entry other e = low (nat_lt entry.0 other.0) refl
+before entry other e = which (no_later_cases entry other)
   where
-    at_one : entry.0 ≡ other.0 → (b : Bool) → nat_lt entry.1 other.1 ≡ b → IsNoLater entry other
-    at_one same true lt = let state = below entry.1 other.1 lt in inr (same, omega arith)
-    at_one same false ge = last (nat_lt other.1 entry.1) refl
-      where
-        both : entry_cmp entry other ≡ nat_cmp entry.1 other.1
-        both = ap (λ o. ordering_then o (nat_cmp entry.1 other.1)) (sym (nat_cmp_is entry.0 other.0 Equal same))
+    greater : ComesFirst other entry → entry_cmp entry other ≡ Greater
+    greater (inl l) = compared entry other Greater (nat_cmp entry.1 other.1) (sym (nat_cmp_is entry.0 other.0 Greater l)) refl
+    greater (inr l) = compared entry other Equal Greater (sym (nat_cmp_is entry.0 other.0 Equal (sym l.0))) (sym (nat_cmp_is entry.1 other.1 Greater l.1))
 
-        last : (b : Bool) → nat_lt other.1 entry.1 ≡ b → IsNoLater entry other
-        last true lt = absurd (true≢false (sym e ∙ ap is_lt (both ∙ sym (nat_cmp_is entry.1 other.1 Greater (below other.1 entry.1 lt)))))
-        last false le = inr (same, not_below other.1 entry.1 le)
-
-    high : (b : Bool) → nat_lt other.0 entry.0 ≡ b → nat_lt entry.0 other.0 ≡ false → IsNoLater entry other
-    high true lt ge = absurd (true≢false (sym e ∙ ap is_lt (ap (λ o. ordering_then o (nat_cmp entry.1 other.1)) (sym (nat_cmp_is entry.0 other.0 Greater (below other.0 entry.0 lt))))))
-    high false le ge =
-        let first = not_below other.0 entry.0 le in
-        let second = not_below entry.0 other.0 ge in
-        let same : entry.0 ≡ other.0 = omega arith in
-        at_one same (nat_lt entry.1 other.1) refl
-
-    low : (b : Bool) → nat_lt entry.0 other.0 ≡ b → IsNoLater entry other
-    low true lt = inl (below entry.0 other.0 lt)
-    low false ge = high (nat_lt other.0 entry.0) refl ge
+    which : (IsNoLater entry other ⊎ ComesFirst other entry) → IsNoLater entry other
+    which (inl so) = so
+    which (inr first) = absurd (true≢false (sym e ∙ ap is_lt (greater first)))
 
 no_later_trans : (a b c : Entry) → IsNoLater a b → IsNoLater b c → IsNoLater a c
 no_later_trans a b c (inl l) (inl m) = inl (omega arith)
