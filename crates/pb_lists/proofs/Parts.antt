@@ -30,21 +30,21 @@ same_found entry other same = which (nat_eq entry.0 other.0) refl same
         ap (λ n. (n, entry.1)) h ∙ ap (λ s. (other.0, s)) state
     which false e m = absurd (true≢false (sym m))
 
--- an entry is no later than another, or the other comes before it
 abbrev ComesFirst : Entry → Entry → Type 0
 ComesFirst first second = (first.0 < second.0) ⊎ ((first.0 ≡ second.0) × (first.1 < second.1))
 
-no_later_cases : (entry other : Entry) → IsNoLater entry other ⊎ ComesFirst other entry
-no_later_cases entry other = by_first (cases_order entry.0 other.0)
+-- an entry is no later than another that doesn't come before it
+no_later : (entry other : Entry) → (ComesFirst other entry → ⊥) → IsNoLater entry other
+no_later entry other not_first = by_first (cases_order entry.0 other.0)
   where
-    by_second : entry.0 ≡ other.0 → ((other.1 < entry.1) ⊎ (entry.1 ≤ other.1)) → IsNoLater entry other ⊎ ComesFirst other entry
-    by_second e (inl l) = inr (inr (sym e, l))
-    by_second e (inr le) = inl (inr (e, le))
+    by_second : entry.0 ≡ other.0 → ((other.1 < entry.1) ⊎ (entry.1 ≤ other.1)) → IsNoLater entry other
+    by_second e (inl l) = absurd (not_first (inr (sym e, l)))
+    by_second e (inr le) = inr (e, le)
 
-    by_first : ((entry.0 ≡ other.0) ⊎ ((entry.0 < other.0) ⊎ (other.0 < entry.0))) → IsNoLater entry other ⊎ ComesFirst other entry
+    by_first : ((entry.0 ≡ other.0) ⊎ ((entry.0 < other.0) ⊎ (other.0 < entry.0))) → IsNoLater entry other
     by_first (inl e) = by_second e (cases_lt other.1 entry.1)
-    by_first (inr (inl l)) = inl (inl l)
-    by_first (inr (inr g)) = inr (inl g)
+    by_first (inr (inl l)) = inl l
+    by_first (inr (inr g)) = absurd (not_first (inl g))
 
 -- how entries are compared
 compared : (a b : Entry) (first second : Ordering) → nat_cmp a.0 b.0 ≡ first → nat_cmp a.1 b.1 ≡ second → entry_cmp a b ≡ ordering_then first second
@@ -52,27 +52,19 @@ compared a b first second e f = ap (λ o. ordering_then o (nat_cmp a.1 b.1)) e �
 
 -- an entry that no other comes before
 not_before : (entry other : Entry) → is_lt (entry_cmp other entry) ≡ false → IsNoLater entry other
-not_before entry other e = which (no_later_cases entry other)
+not_before entry other e = no_later entry other (λ first. true≢false (sym (ap is_lt (less first)) ∙ e))
   where
     less : ComesFirst other entry → entry_cmp other entry ≡ Less
     less (inl l) = compared other entry Less (nat_cmp other.1 entry.1) (sym (nat_cmp_is other.0 entry.0 Less l)) refl
     less (inr l) = compared other entry Equal Less (sym (nat_cmp_is other.0 entry.0 Equal l.0)) (sym (nat_cmp_is other.1 entry.1 Less l.1))
 
-    which : (IsNoLater entry other ⊎ ComesFirst other entry) → IsNoLater entry other
-    which (inl so) = so
-    which (inr first) = absurd (true≢false (sym (ap is_lt (less first)) ∙ e))
-
 -- an entry that comes before another
 before : (entry other : Entry) → is_lt (entry_cmp entry other) ≡ true → IsNoLater entry other
-before entry other e = which (no_later_cases entry other)
+before entry other e = no_later entry other (λ first. true≢false (sym e ∙ ap is_lt (greater first)))
   where
     greater : ComesFirst other entry → entry_cmp entry other ≡ Greater
     greater (inl l) = compared entry other Greater (nat_cmp entry.1 other.1) (sym (nat_cmp_is entry.0 other.0 Greater l)) refl
     greater (inr l) = compared entry other Equal Greater (sym (nat_cmp_is entry.0 other.0 Equal (sym l.0))) (sym (nat_cmp_is entry.1 other.1 Greater l.1))
-
-    which : (IsNoLater entry other ⊎ ComesFirst other entry) → IsNoLater entry other
-    which (inl so) = so
-    which (inr first) = absurd (true≢false (sym e ∙ ap is_lt (greater first)))
 
 no_later_trans : (a b c : Entry) → IsNoLater a b → IsNoLater b c → IsNoLater a c
 no_later_trans a b c (inl l) (inl m) = inl (omega arith)
