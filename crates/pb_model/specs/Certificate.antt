@@ -12,7 +12,7 @@ use Rattle.pb_model.specs.Plan.{Plan, IsPlan, HasNoPlan, NoneCheaper}
 use Rattle.pb_model.specs.Guide.{Guide}
 use Rattle.pb_model.specs.Store.{Rows, MayBeCut}
 
--- a state that the search met, with its g; it was Closed, or else it was Cut
+-- a state that the search met, with its g, and whether the state was Closed or Cut
 pub record Line : Type 0 where
   pub state : ℕ
   pub g : ℕ
@@ -40,13 +40,14 @@ abbrev pub IsPlanIfAny : Space → Option Plan → Type 0
 IsPlanIfAny space None = ⊤
 IsPlanIfAny space (Some plan) = IsPlan space plan
 
--- a closed line is no goal's, and its successors have lines that are no dearer than by a step from it
+-- a closed line is of no goal, and each successor has a line that is no dearer than the step from
+-- this line
 pub record IsClosedLine (space : Space) (lines : List Line) (line : Line) : Type 0 where
   pub no_goal : IsFalse (space.is_goal line.state)
   pub successors : (action to cost : ℕ) → Steps space line.state action to cost → HasLineWithin lines to (line.g + cost)
 
--- Each condition speaks of the space, the estimates and the lines alone, and can be tested without the search. The kind of
--- task that a certificate's text states is judged with the text.
+-- Each condition speaks of the space, the estimates and the lines alone, and can be tested without
+-- the search. The kind of task that a certificate's text states is judged with the text.
 pub record IsValid (space : Space) (estimate : ℕ → Estimate) (certificate : Certificate) : Type 0 where
   pub weight : IsWeight certificate.weight
   pub plan : IsPlanIfAny space certificate.plan
@@ -56,7 +57,8 @@ pub record IsValid (space : Space) (estimate : ℕ → Estimate) (certificate : 
   pub closed : All (λ line. IsTrue line.is_closed → IsClosedLine space certificate.lines line) certificate.lines
   pub cut : All (λ line. IsFalse line.is_closed → MayBeCut certificate.weight (cost_of certificate.plan) line.g (estimate line.state)) certificate.lines
 
--- what a certificate claims: its plan is one, and no plan costs less than its cost divided by the weight; or there is no plan
+-- what a certificate claims: its plan is a plan, and no plan costs less than the plan's cost
+-- divided by the weight; or there is no plan
 abbrev pub ClaimHolds : Space → Weight → Option Plan → Type 0
 ClaimHolds space weight None = HasNoPlan space
 ClaimHolds space weight (Some plan) = IsPlan space plan × NoneCheaper space weight plan.cost

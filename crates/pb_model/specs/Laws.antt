@@ -26,8 +26,8 @@ StepsAreSuccessors =
     × ((action to cost : ℕ) → Steps space state action to cost → Contains (steps space state) (record { action = action; state = to; cost = cost }))
     × IsStrictlySortedBy nat_cmp (map (λ succ. succ.action) (steps space state))
 
--- Whatever work leads from the opening store leaves a sound one. No g in it exceeds the greatest cost of an action times the
--- number of expansions, broken ones included.
+-- Whatever work leads from the opening store leaves a sound one. No g in it exceeds the greatest
+-- cost of an action times the number of expansions, broken ones included.
 abbrev pub WorkKeepsSound : Type 0
 WorkKeepsSound =
     (space : Space) (greatest_cost : ℕ) (guide : Guide) (weight : Weight) (works : List Work) (store : Store)
@@ -44,14 +44,15 @@ CostsNeverRise =
 abbrev pub WeightsStay : Type 0
 WeightsStay = (space : Space) (guide : Guide) (works : List Work) (old new : Store) → Comes space guide works old new → reopenings works ≡ 0 → new.weight ≡ old.weight
 
--- The incumbent after some work is the g of a goal's row or more, or it was lowered to by that work, or it was known before.
+-- The incumbent after some work is at least the g of a goal's row, or that work lowered it to its
+-- value, or it was known before.
 abbrev pub IncumbentsAreBacked : Type 0
 IncumbentsAreBacked =
     (space : Space) (guide : Guide) (works : List Work) (old new : Store) → Comes space guide works old new
     → (cost : ℕ) → new.incumbent ≡ Some cost
     → HasGoalWithin space guide new cost ⊎ (LowersTo works cost ⊎ ((before : ℕ) × (old.incumbent ≡ Some before) × (before ≤ cost)))
 
--- The incumbent of a search that was never told a cost is shown by a goal's row.
+-- The incumbent of a search that was never given a cost is shown by a goal's row.
 abbrev pub IncumbentsAreShown : Type 0
 IncumbentsAreShown =
     (space : Space) (guide : Guide) (weight : Weight) (works : List Work) (store : Store)
@@ -62,7 +63,7 @@ abbrev pub IncumbentsNeverRise : Type 0
 IncumbentsNeverRise =
     (space : Space) (guide : Guide) (works : List Work) (old new : Store) → Comes space guide works old new → AtMost new.incumbent old.incumbent
 
--- Work goes on where other work stopped, and what it does is counted together.
+-- Work can go on after other work, and both together are one piece of work whose counts add up.
 abbrev pub WorkGoesOn : Type 0
 WorkGoesOn =
     (space : Space) (guide : Guide) (works more : List Work) (old between new : Store) → Comes space guide works old between → Comes space guide more between new
@@ -76,8 +77,8 @@ CostsGrowByWork =
     (space : Space) (greatest_cost : ℕ) (guide : Guide) (works : List Work) (old new : Store) (most : ℕ) → IsProper space greatest_cost → Comes space guide works old new
     → CostsAtMost old most → CostsAtMost new (most + greatest_cost * (expansions works + broken_expansions works))
 
--- Work within a scope is the same work in every store that has the same rows there, the same weight, and an incumbent that
--- is no greater; outside the scope all stays as it was.
+-- Work within a scope is the same work in every store with the same rows there, the same weight,
+-- and an incumbent that is no greater. Outside the scope all stays as before.
 abbrev pub WorkIsLocal : Type 0
 WorkIsLocal =
     (space : Space) (guide : Guide) (scope : ℕ → Bool) (works : List Work) (lent worked store : Store)
@@ -121,7 +122,8 @@ RowsAreTraced =
     (space : Space) (greatest_cost : ℕ) (guide : Guide) (store : Store) → IsProper space greatest_cost → IsSound space guide store
     → (state : ℕ) (row : Row) → row_at guide store state ≡ Some row → (actions : List ℕ) × TracesBack space guide store state actions
 
--- Whatever is traced back from a row in a sound store is, turned round, a walk from the start that costs at most the row's g.
+-- The reverse of a trace back from a row in a sound store is a walk from the start. Its cost is at
+-- most the row's g.
 abbrev pub TracesAreWalks : Type 0
 TracesAreWalks =
     (space : Space) (guide : Guide) (store : Store) → IsSound space guide store
@@ -134,26 +136,28 @@ WalksAreDetermined =
     (space : Space) (actions : List ℕ) (from cost to other_cost other : ℕ) → Walk space from actions cost to → Walk space from actions other_cost other
     → (cost ≡ other_cost) × (to ≡ other)
 
--- So a goal's row in a sound store shows a plan that costs at most its g.
+-- A goal's row in a sound store shows a plan that costs at most its g.
 abbrev pub GoalsArePlans : Type 0
 GoalsArePlans =
     (space : Space) (greatest_cost : ℕ) (guide : Guide) (store : Store) → IsProper space greatest_cost → IsSound space guide store
     → (most : ℕ) → HasGoalWithin space guide store most → (plan : Plan) × IsPlan space plan × (plan.cost ≤ most)
 
--- Where no plan costs less than a cost divided by the weight, each plan costs at least the bound of that cost.
+-- If no plan costs less than a cost divided by the weight, each plan costs at least the bound of
+-- that cost.
 abbrev pub BoundsHold : Type 0
 BoundsHold =
     (space : Space) (weight : Weight) (cost bound : ℕ) → NoneCheaper space weight cost → IsBound weight cost bound → (plan : Plan) → IsPlan space plan → bound ≤ plan.cost
 
--- In a sound store in which no row is Opened, with admissible estimates: a plan is known if there is one, and no plan costs
--- less than the incumbent divided by the weight.
+-- In a sound store in which no row is Opened, with admissible estimates: an incumbent is known if
+-- there is a plan, and no plan costs less than the incumbent divided by the weight.
 abbrev pub QuietIsBest : Type 0
 QuietIsBest =
     (space : Space) (guide : Guide) (store : Store) → IsSound space guide store → IsQuiet store → IsAdmissible space guide.estimate
     → (plan : Plan) → IsPlan space plan → (best : ℕ) × (store.incumbent ≡ Some best) × (store.weight.den * best ≤ store.weight.num * plan.cost)
 
--- In a quiet, sound store whose incumbent is shown, with admissible estimates: some plan costs no more than the incumbent, and
--- no plan costs less than it divided by the weight; without an incumbent there is no plan.
+-- In a quiet, sound store whose incumbent is shown, with admissible estimates: some plan costs no
+-- more than the incumbent, and no plan costs less than the incumbent divided by the weight. Without
+-- an incumbent there is no plan.
 abbrev pub QuietIncumbentsHold : Type 0
 QuietIncumbentsHold =
     (space : Space) (greatest_cost : ℕ) (guide : Guide) (store : Store) → IsProper space greatest_cost → IsSound space guide store

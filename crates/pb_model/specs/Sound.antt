@@ -1,5 +1,5 @@
--- What is true of the rows of a whole store at every moment of a search. Who shows the incumbent (`IsShown`) and how great a g may
--- be (`CostsAtMost`) are said apart.
+-- What is true of the rows of a whole store at every moment of a search. Two other definitions say
+-- who shows the incumbent (`IsShown`) and how great a g may be (`CostsAtMost`).
 use Rattle.std.specs.Prelude.{◌≡◌, ℕ, ◌+◌, ◌≤◌, IsTrue, IsFalse, Some, ◌⊎◌}
 use Rattle.pb_model.specs.declared.row.Status.TheVariants.{Closed, Cut}
 use Rattle.pb_model.specs.declared.row.Row.{Row}
@@ -8,7 +8,8 @@ use Rattle.pb_model.specs.Weight.{IsWeight}
 use Rattle.pb_model.specs.Guide.{Guide}
 use Rattle.pb_model.specs.Store.{Store, row_at, HasRowWithin, MayBeCut}
 
--- the row's action leads to its state from its parent, which has a row, and its g is no less than by this step
+-- the row's action leads from its parent to its state; the parent has a row, and g is no less than
+-- by this step
 pub record HasParent (space : Space) (guide : Guide) (store : Store) (state : ℕ) (row : Row) : Type 0 where
   pub parent : ℕ
   pub parent_row : Row
@@ -19,7 +20,7 @@ pub record HasParent (space : Space) (guide : Guide) (store : Store) (state : �
   pub cheaper : parent_row.g + cost ≤ row.g
 
 pub record IsSound (space : Space) (guide : Guide) (store : Store) : Type 0 where
-  -- a row stands at the home of its state and nowhere else, and has the state's estimate
+  -- a state's row is at the state's home and nowhere else, and has the state's estimate
   pub place : (home state : ℕ) (row : Row) → store.rows home state ≡ Some row → (home ≡ guide.home state) × IsTrue (space.is_state state) × (row.estimate ≡ guide.estimate state)
   pub start : HasRowWithin guide store space.start 0
   pub parent : (state : ℕ) (row : Row) → row_at guide store state ≡ Some row → (state ≡ space.start) ⊎ HasParent space guide store state row

@@ -70,8 +70,8 @@ AtMost first None = ⊤
 AtMost None (Some second) = ⊥
 AtMost (Some first) (Some second) = first ≤ second
 
--- A row may be cut where no plan through it costs less than the incumbent divided by the weight: its estimate is Dead, or
--- num * (g + h) is at least den times the incumbent.
+-- A row may be cut if no plan through it costs less than the incumbent divided by the weight: its
+-- estimate is Dead, or num * (g + h) is at least den times the incumbent.
 abbrev pub MayBeCut : Weight → (incumbent : Option ℕ) → (g : ℕ) → Estimate → Type 0
 MayBeCut weight incumbent g Dead = ⊤
 MayBeCut weight None g (Cost h) = ⊥

@@ -15,8 +15,9 @@ abbrev pub IsFirstToKeep : Guide → Store → (state : ℕ) → Type 0
 IsFirstToKeep guide store state =
     (row : Row) × IsFirstRow store.weight (store.rows (guide.home state)) state row × ¬ MayBeCut store.weight store.incumbent row.g row.estimate
 
--- The work is a turn in the order of a best-first search: it is on the first Opened row. A row that may be cut is cut; of the
--- others a goal's row is taken, and any other is expanded (`May` has that a goal is never expanded).
+-- The work is a turn in the order of a best-first search: it is on the first Opened row. A row that
+-- may be cut is cut. Of the others a goal's row is taken, and any other row is expanded (by `May` a
+-- goal is never expanded).
 abbrev pub IsTurn : Guide → Store → Work → Type 0
 IsTurn guide store (cut own) = IsFirst guide store own
 IsTurn guide store (take_goal own) = IsFirstToKeep guide store own

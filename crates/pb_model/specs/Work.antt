@@ -1,5 +1,6 @@
--- The work of a best-first search that opens rows again (Hart, Nilsson, Raphael 1968) on its store. Each piece of work is a function of the store, with a condition under which
--- it may be done. Which Opened row is taken is free: no law of this crate rests on the order.
+-- The work of a best-first search that opens rows again (Hart, Nilsson, Raphael 1968) on its store.
+-- Each piece of work is a function of the store, with a condition under which it may be done. Which
+-- Opened row is taken is free: no law of this crate rests on the order.
 use Rattle.std.specs.Prelude.{◌≡◌, ℕ, ◌+◌, ◌*◌, ◌<◌, ◌≤◌, length, if◌then◌else◌, nat_lt, IsTrue, IsFalse, List, [], ◌∷◌, take, Option, Some, None, ⊤, ◌⊎◌}
 use Rattle.pb_model.specs.declared.row.Estimate.{Estimate}
 use Rattle.pb_model.specs.declared.row.Estimate.TheVariants.{Cost, Dead}
@@ -14,11 +15,11 @@ use Rattle.pb_model.specs.Store.{Store, row_at, is_place_of, HasOpenedRow, IsQui
 
 -- A piece of work.
 --   expand: every successor of the row is offered, and then the row is Closed.
---   break_off: an expansion that want of memory ended after so many of its offers, and before the last; the row stays Opened.
+--   break_off: an expansion that ran out of memory after so many of its offers, before the last; the row stays Opened.
 --   cut: a row that may be cut is Cut.
---   take_goal: the row of a goal is Cut, and the incumbent becomes its g where that is lower.
---   lower: the incumbent becomes this cost where that is lower. Who has such a plan is for whoever does it to show.
---   reopen: the search goes on with another weight, and Cut rows that it doesn't let be cut are Opened again.
+--   take_goal: the row of a goal is Cut, and the incumbent becomes its g if that is lower.
+--   lower: the incumbent becomes this cost if that is lower. The caller has to show that such a plan exists.
+--   reopen: the search goes on with another weight; a Cut row that may not be cut under it is Opened again.
 pub data Work : Type 0 where
   expand : (state : ℕ) → Work
   break_off : (state offers : ℕ) → Work
@@ -29,8 +30,8 @@ pub data Work : Type 0 where
 
 -- ---- offers
 
--- The row of a state after it was offered at this g: a state without a row gets one, and a row with a greater g becomes
--- cheaper; both are Opened then. Any other row stays.
+-- The row of a state after it was offered at this g. A state without a row gets one, and a row with
+-- a greater g becomes cheaper; both are Opened then. Any other row stays.
 abbrev pub offered_row : (g : ℕ) → Estimate → (parent : Option ℕ) → (action : ℕ) → Option Row → Row
 offered_row g estimate parent action None = record { g = g; estimate = estimate; parent = parent; action = action; status = Opened }
 offered_row g estimate parent action (Some row) =
@@ -41,7 +42,7 @@ abbrev pub row_after_offer : Guide → (parent g : ℕ) → Succ → (home state
 row_after_offer guide parent g succ home state old =
     if is_place_of guide succ.state home state then Some (offered_row (g + succ.cost) (guide.estimate state) (Some parent) succ.action old) else old
 
--- what it has after these successors were offered, one after another
+-- what this place has after these successors were offered, one after another
 abbrev pub row_after_offers : Guide → (parent g : ℕ) → List Succ → (home state : ℕ) → Option Row → Option Row
 row_after_offers guide parent g [] home state old = old
 row_after_offers guide parent g (succ ∷ succs) home state old =
@@ -69,7 +70,7 @@ reopened_row weight incumbent None = None
 reopened_row weight None (Some row) = Some row
 reopened_row weight (Some incumbent) (Some row) = Some (record row { status = reopened_status weight incumbent row.g row.estimate row.status })
 
--- what a place has after the work, where g is that of the row that the work is on
+-- what a place has after the work, given the g of the row that the work is on
 abbrev pub row_after : Space → Guide → Work → (g : ℕ) → (incumbent : Option ℕ) → (home state : ℕ) → Option Row → Option Row
 row_after space guide (expand own) g incumbent home state old =
     row_after_status guide own Closed home state (row_after_offers guide own g (steps space own) home state old)
@@ -147,7 +148,8 @@ reopenings [] = 0
 reopenings (reopen weight ∷ works) = 1 + reopenings works
 reopenings (work ∷ works) = reopenings works
 
--- no row is Opened where a piece of the work is a reopening: the work is one run to its quiet end, and then another with the next weight
+-- no row is Opened when a piece of the work is a reopening: the work is one run to its quiet end,
+-- and then another with the next weight
 abbrev pub ReopensQuiet : Space → Guide → List Work → (old : Store) → Type 0
 ReopensQuiet space guide [] old = ⊤
 ReopensQuiet space guide (reopen weight ∷ works) old = IsQuiet old × ReopensQuiet space guide works (store_after space guide (reopen weight) old)
@@ -159,7 +161,7 @@ LowersTo [] cost = ⊥
 LowersTo (lower told ∷ works) cost = (told ≤ cost) ⊎ LowersTo works cost
 LowersTo (work ∷ works) cost = LowersTo works cost
 
--- where a search begins: the row of the start alone, Opened, and no incumbent
+-- the store at the begin of a search: the row of the start alone, Opened, and no incumbent
 abbrev pub opening_store : Space → Guide → Weight → Store
 opening_store space guide weight =
     record {

@@ -5,8 +5,8 @@ ghost use Rattle.pb_model.specs.KeyOrder.{key_cmp, same_key};
 
 use std::cmp::Ordering;
 
-/// What open rows are ordered by: the sum den * g + num * h for a weight of num / den, and then h (Pohl 1970). The key of a
-/// row whose estimate is `Estimate::Dead` comes after all others.
+/// The order of open rows: by the sum den * g + num * h for a weight of num / den, and then by h
+/// (Pohl 1970). The key of a row whose estimate is `Estimate::Dead` comes after all others.
 #[derive(Clone, Copy, Debug)]
 pub enum Key {
     /// The key of a row whose estimate is known.

@@ -20,7 +20,8 @@ pub fn weights_stay()
     ensures { WeightsStay }
 {}
 
-/// An incumbent is at least the g of a goal's row, or another search told it, or it was known before.
+/// An incumbent is at least the g of a goal's row, or another search reported it, or it was known
+/// before.
 pub fn incumbents_are_backed()
     ensures { IncumbentsAreBacked }
 {}
@@ -45,7 +46,8 @@ pub fn rows_are_traced()
     ensures { RowsAreTraced }
 {}
 
-/// What is traced back from a row in a sound store is, turned round, a walk from the start that costs at most the row's g.
+/// The reverse of a trace back from a row in a sound store is a walk from the start. Its cost is at
+/// most the row's g.
 pub fn traces_are_walks()
     ensures { TracesAreWalks }
 {}
@@ -90,12 +92,13 @@ pub fn first_rows_are_best()
     ensures { FirstRowsAreBest }
 {}
 
-/// In a quiet, sound store whose incumbent is shown, the incumbent tells what the cheapest plans cost.
+/// In a quiet, sound store whose incumbent is shown, the incumbent bounds the costs of the cheapest
+/// plans.
 pub fn quiet_incumbents_hold()
     ensures { QuietIncumbentsHold }
 {}
 
-/// The incumbent of a search that was never told a cost is shown by a goal's row.
+/// The incumbent of a search that was never given a cost is shown by a goal's row.
 pub fn incumbents_are_shown()
     ensures { IncumbentsAreShown }
 {}
@@ -105,7 +108,7 @@ pub fn incumbents_never_rise()
     ensures { IncumbentsNeverRise }
 {}
 
-/// Work goes on where other work stopped, and what it does is counted together.
+/// Work can go on after other work, and both together are one piece of work whose counts add up.
 pub fn work_goes_on()
     ensures { WorkGoesOn }
 {}

@@ -1,7 +1,8 @@
 use pb_packed::Packed;
 
-/// A lower bound on the cost of every walk from a state to a goal, in the unit of the task's action costs, or that no goal
-/// is reached from it (the heuristic estimate of Hart, Nilsson and Raphael, 1968).
+/// A lower bound on the cost of every walk from a state to a goal, in the unit of the task's action
+/// costs, or the fact that no walk reaches a goal. This is the heuristic estimate of Hart, Nilsson
+/// and Raphael (1968).
 #[derive(Clone, Copy, Debug, PartialEq, Eq)]
 pub enum Estimate {
     /// No walk to a goal costs less.
@@ -17,8 +18,8 @@ pub enum Status {
     Opened,
     /// Expanded: on the closed list, with all its successors in the store.
     Closed,
-    /// Settled without an expansion: a goal's row that was taken, or a row through which no plan costs less than the incumbent
-    /// divided by the weight.
+    /// Settled without an expansion: a goal's row that was taken, or a row through which no plan
+    /// costs less than the incumbent divided by the weight.
     Cut,
 }
 

@@ -3,7 +3,7 @@ use Rattle.std.specs.Prelude.{◌≡◌, ℕ, ◌+◌, ◌/◌, ◌%◌, ◌^◌
 use Rattle.pb_packed.specs.Bits.{bits_of, with_bits_of}
 use Rattle.pb_packed.specs.Digits.{hex_digits, is_hex_digit}
 
--- After a field of bits was replaced it has the value, and the bits above and below it are as they were.
+-- After a field of bits is replaced, it has the value. The bits above and below it are as before.
 abbrev pub FieldsAreReplaced : Type 0
 FieldsAreReplaced =
     (n at len value : ℕ) → value < 2 ^ len
@@ -15,6 +15,6 @@ FieldsAreReplaced =
 abbrev pub DigitsAreHex : Type 0
 DigitsAreHex = (count n : ℕ) → (length (hex_digits count n) ≡ count) × All (λ c. IsTrue (is_hex_digit c)) (hex_digits count n)
 
--- Numbers that are small enough for so many digits are equal where their digits are.
+-- Two numbers that are small enough for this count of digits are equal if their digits are equal.
 abbrev pub DigitsTellNumbers : Type 0
 DigitsTellNumbers = (count n m : ℕ) → n < 16 ^ count → m < 16 ^ count → hex_digits count n ≡ hex_digits count m → n ≡ m

@@ -28,7 +28,8 @@ impl Packed {
         }
     }
 
-    // The number in a field of any place, also in one that begins in the low half and ends in the high one.
+    // The number in a field at any place, even if it begins in the low half and ends in the high
+    // half.
     fn bits_across(&self, at: u32, len: u32) -> u64
         requires some { 0 < len }
         requires short { len ≤ 64 }
@@ -64,7 +65,8 @@ impl Packed {
         }
     }
 
-    // The same with a field of any place replaced, also with one that begins in the low half and ends in the high one.
+    // The state with a field at any place replaced, even if the field begins in the low half and
+    // ends in the high half.
     fn with_bits_across(&self, at: u32, len: u32, value: u64) -> Packed
         requires some { 0 < len }
         requires short { len ≤ 64 }

@@ -39,7 +39,7 @@ impl Packed {
         }
     }
 
-    /// The number that 64 digits spell, or None where the text isn't 64 digits of `0123456789abcdef`.
+    /// The number that 64 digits spell, or None if the text isn't 64 digits of `0123456789abcdef`.
     pub fn of_hex(digits: &[u8]) -> Option<Packed>
         ensures some { IfSome result (λ number. digits.now ≡ hex_digits 64 number) }
         ensures small { IfSome result (λ number. number < 2 ^ 256) }
@@ -58,7 +58,7 @@ impl Packed {
         Some(number)
     }
 
-    // The number with one more digit behind its others.
+    // The number with one more digit after its others.
     fn followed_by(&self, digit: u8) -> Packed
         requires digit { digit < 16 }
         requires room { self.now * 16 < 2 ^ 256 }

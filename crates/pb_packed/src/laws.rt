@@ -1,6 +1,6 @@
 ghost use Rattle.pb_packed.specs.Laws.{FieldsAreReplaced, DigitsAreHex, DigitsTellNumbers};
 
-/// After a field of bits was replaced it has the value, and the bits above and below it are as they were.
+/// After a field of bits is replaced, it has the value. The bits above and below it are as before.
 pub fn fields_are_replaced()
     ensures { FieldsAreReplaced }
 {}
@@ -10,7 +10,7 @@ pub fn digits_are_hex()
     ensures { DigitsAreHex }
 {}
 
-/// Numbers below 16 to the power of a count have different digits where they differ.
+/// Two different numbers below 16 to the power of a count have different digits.
 pub fn digits_tell_numbers()
     ensures { DigitsTellNumbers }
 {}

@@ -1,7 +1,7 @@
 //! A state of a planning task, packed into 256 bits.
 //!
-//! Contracts see a packed state as one number below 2^256, whose bit 0 is the least. Equality, order and hash are those
-//! of the number. No call takes memory.
+//! Contracts see a packed state as one number below 2^256, whose bit 0 is the least. Equality,
+//! order and hash are those of this number. No call takes memory.
 #![tactic(auto)]
 
 mod arithmetic;

@@ -5,8 +5,9 @@ use std::marker::Model;
 // How many values a word has.
 const WORDS: u128 = 1 << 64;
 
-/// A packed state: 256 bits, which contracts see as one number. It is held as four words, the lowest first. As two halves of type `u128` it
-/// would be aligned to 16 bytes, and a row that holds states would be longer.
+/// A packed state: 256 bits, which contracts see as one number. It is held as four words, the
+/// lowest first. Two halves of type `u128` would be aligned to 16 bytes, which makes a row that
+/// holds states longer.
 #[derive(Clone, Copy, Debug)]
 pub struct Packed {
     first: u64,
@@ -79,7 +80,7 @@ impl Packed {
         self.first
     }
 
-    // The same with another lowest word.
+    // The same number with another lowest word.
     #[inline]
     pub(crate) fn with_low_word(&self, word: u64) -> Packed
         ensures { result ≡ self.now / 2 ^ 64 * 2 ^ 64 + word }
