@@ -1,10 +1,10 @@
--- Numbers of one to nine decimal digits, as maps, scenarios and boards have them. They may begin with
--- zeros.
+-- Numbers of one to nine decimal digits, as maps, scenarios and boards have them. Such a number may
+-- begin with zeros.
 use Rattle.std.specs.Prelude.{◌≡◌, ℕ, ◌+◌, ◌-◌, ◌*◌, ◌≤◌, Bool, true, ◌&&◌, nat_le, List, [], ◌∷◌, length, Option, None, Some, if◌then◌else◌}
 use Rattle.std.specs.Char.{is_ascii_digit}
 use Rattle.std.specs.List.{list_all}
 
--- the value of decimal digits that stand behind a number
+-- the value of a number followed by decimal digits
 abbrev pub value_behind : (number : ℕ) → (digits : List ℕ) → ℕ
 value_behind number [] = number
 value_behind number (digit ∷ digits) = value_behind (number * 10 + (digit - 48)) digits

@@ -1,7 +1,7 @@
 -- Parts of a text, and numbers as words of decimal digits.
 use Rattle.std.specs.Prelude.{ℕ, suc, ◌+◌, ◌-◌, ◌*◌, ◌^◌, Bool, true, false, not, Option, None, Some, List, [], ◌∷◌, length, take, drop, count_by, if◌then◌else◌, nat_lt, nat_le, ◌==◌, ◌&&◌}
 
--- how many bytes stand before the first of this kind, or all if there is none
+-- how many bytes come before the first of this kind, or all if there is none
 unfoldable pub place_of : (byte : ℕ) → List ℕ → ℕ
 place_of byte [] = 0
 place_of byte (b ∷ bs) = if b == byte then 0 else suc (place_of byte bs)
@@ -12,7 +12,7 @@ part byte text =
     if nat_lt (place_of byte text) (length text) then Some
     (take (place_of byte text) text, drop (place_of byte text + 1) text) else None
 
--- what is left of a text after this piece, if it begins with it
+-- what is left of a text after this piece, if the text begins with the piece
 unfoldable pub behind : (piece text : List ℕ) → Option (List ℕ)
 behind [] text = Some text
 behind (p ∷ ps) [] = None
@@ -46,7 +46,7 @@ abbrev pub number_of : List ℕ → Option ℕ
 number_of word =
     if length word == 0 then None else (if is_padded word then None else number_after 0 word)
 
--- no such byte stands in a text
+-- the text has no such byte
 abbrev pub has_none : (byte : ℕ) → List ℕ → Bool
 has_none byte [] = true
 has_none byte (b ∷ bs) = not (b == byte) && has_none byte bs

@@ -1,13 +1,13 @@
 //! What the definitions mean. Each law is the contract of a function without a body.
 ghost use Rattle.pb_lines.specs.Laws.{NumbersAreDecimal, PartsAreJoined, PiecesAreJoined, ShortNumbersAreDigits, TextsAreEqual};
 
-/// A text is cut at a byte exactly if it has one: into what stands before the first, and what stands
-/// after it.
+/// A text is cut at a byte exactly if it has such a byte: into the part before the first one, and
+/// the part after it.
 pub fn parts_are_joined()
     ensures { PartsAreJoined }
 {}
 
-/// A text has something behind a piece exactly if it begins with the piece.
+/// A text has a rest after a piece exactly if it begins with the piece.
 pub fn pieces_are_joined()
     ensures { PiecesAreJoined }
 {}

@@ -1,5 +1,5 @@
-//! Lines, words and numbers of a text: cutting the text at a byte or behind a piece, and reading decimal
-//! numbers.
+//! Lines, words and numbers of a text: cutting the text at a byte or after a piece, and reading
+//! decimal numbers.
 #![tactic(auto)]
 
 mod laws;

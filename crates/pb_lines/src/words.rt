@@ -2,7 +2,7 @@
 ghost use Rattle.std.specs.Prelude.{◌≡◌, ◌≤◌, ◌+◌, ◌*◌, ◌<◌, ◌^◌, length, IfSome, IfNone, Some, None};
 ghost use Rattle.pb_lines.specs.Words.{place_of, part, behind, is_text, number_of, number_after, is_digit};
 
-/// How many bytes stand before the first of this kind.
+/// How many bytes come before the first of this kind.
 fn place_of(text: &[u8], byte: u8) -> usize
     ensures place { result ≡ place_of byte text.now }
     ensures within { result ≤ length text.now }
@@ -33,7 +33,7 @@ pub fn part(text: &[u8], byte: u8) -> Option<(&[u8], &[u8])>
     }
 }
 
-/// What is left of a text after this piece, if it begins with it.
+/// What is left of a text after this piece, if the text begins with the piece.
 #[tactic(auto, unfolding(crate::specs::Words::behind))]
 pub fn behind<'a>(text: &'a [u8], piece: &[u8]) -> Option<&'a [u8]>
     ensures some { IfSome result (λ rest. behind piece.now text.now ≡ Some rest.now) }
@@ -72,8 +72,8 @@ pub fn number_of(word: &[u8]) -> Option<u64>
     digits(0, word)
 }
 
-// The number with these digits after it. Numbers from 2^63 on end it early, so it goes 20 digits
-// deep at most.
+// The number with these digits after it. A number from 2^63 on ends the recursion early, so it goes
+// at most 20 digits deep.
 #[tactic(auto, unfolding(crate::specs::Words::number_after))]
 fn digits(value: u64, word: &[u8]) -> Option<u64>
     requires { value < 2 ^ 63 }

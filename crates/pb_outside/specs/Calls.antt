@@ -32,14 +32,16 @@ create_call name (Err error) = CreateFailed name
 abbrev pub Notes : (old new : List Call) → Call → Type 0
 Notes old new call = new ≡ old ++ call ∷ []
 
--- A call of `append` failed: so many bytes of the piece were appended, also where the files are told.
+-- A call of `append` failed: so many bytes of the piece were appended. If the files are known, they
+-- show the same.
 pub record NotesAppendFailed (old new : List Call) (files files' : Option Files) (name piece : List ℕ) : Type 0 where
   pub kept : ℕ
   pub within : kept ≤ length piece
   pub noted : Notes old new (AppendFailed name piece kept)
   pub told : IfTold files files' (λ before after. (bytes : List ℕ) → before name ≡ Some bytes → after name ≡ Some (bytes ++ take kept piece))
 
--- A call of `put` failed: so many bytes of the piece were put, also where what was written is told.
+-- A call of `put` failed: so many bytes of the piece were put. If the written bytes are known, they
+-- show the same.
 pub record NotesPutFailed (old new : List Call) (written written' : Option (List ℕ)) (piece : List ℕ) : Type 0 where
   pub kept : ℕ
   pub within : kept ≤ length piece

@@ -4,16 +4,16 @@ use Rattle.pb_outside.specs.Calls.{Call, SaveText, FailToSave}
 use Rattle.pb_outside.specs.Memory.{ShelfView, SinkView, file_of, room_of, HasFile, HasRoom, CanTake}
 
 -- To save a text takes at most one call more than the text has bytes, also if the last call failed.
--- So the text bounds the calls; how long a text may be is not said here.
+-- The text thus bounds the calls. This law doesn't say how long a text may be.
 pub record SavesAreBounded : Type 0 where
   pub saved : (calls : List Call) (name text : List ℕ) → SaveText calls name text
       → length calls ≤ length text + 1
   pub failed : (calls : List Call) (name text : List ℕ) → FailToSave calls name text
       → length calls ≤ length text + 1
 
--- What the fakes promise where no call is listed to fail: a shelf in memory can load each file that
--- it has, and can hold under each name as many bytes as room is reserved for. A sink in memory can
--- take as many as have room.
+-- What the fakes promise if no call is listed to fail. A shelf in memory can load each file that it
+-- has, and can hold under each name as many bytes as room is reserved for. A sink in memory can
+-- take as many bytes as have room.
 pub record MemoryServes : Type 0 where
   pub loads : (shelf : ShelfView) (name bytes : List ℕ) → shelf.calls.listed ≡ []
       → file_of shelf name ≡ Some bytes → HasFile shelf name

@@ -14,7 +14,7 @@ pub record CallsView : Type 0 where
   pub faults : ℕ
   pub listed : List ListedFailure
 
--- how many bytes the call of this number keeps, where it is to fail: the first in the list decides
+-- how many bytes the call of this number keeps, if it is to fail: the first in the list decides
 abbrev pub kept_at : List ListedFailure → ℕ → Option ℕ
 kept_at [] call = None
 kept_at (failure ∷ listed) call = if failure.call == call then Some failure.kept else kept_at listed call
@@ -36,7 +36,7 @@ pub record BufferView : Type 0 where
   pub bytes : List ℕ
   pub room : ℕ
 
--- how many bytes are kept of a longer piece where this many have room
+-- how many bytes of a longer piece are kept if this many have room
 abbrev pub most_kept : Option ℕ → ℕ → ℕ
 most_kept None left = left
 most_kept (Some kept) left = min kept left
@@ -56,7 +56,8 @@ PutSucceeds sink len = (kept_next sink.calls ≡ None) × (len ≤ sink.room - l
 abbrev pub CanTake : SinkView → ℕ → Type 0
 CanTake sink n = (sink.calls.listed ≡ []) × (n ≤ sink.room - length sink.bytes)
 
--- what stands under a name: a file's bytes, where there is one, and how many there may be, where room is reserved
+-- what is kept under a name: the bytes of its file, if there is one, and how many there may be, if
+-- room is reserved
 pub record PlaceView : Type 0 where
   pub name : List ℕ
   pub bytes : Option (List ℕ)
@@ -110,16 +111,16 @@ HasFile shelf name = (shelf.calls.listed ≡ []) × IsSome (file_of shelf name)
 abbrev pub CreateSucceeds : ShelfView → List ℕ → Type 0
 CreateSucceeds shelf name = (kept_next shelf.calls ≡ None) × IsSome (room_of shelf name)
 
--- the next call isn't listed, the file is there, and so many bytes have room behind it
+-- the next call isn't listed, the file is there, and so many bytes have room after its bytes
 abbrev pub AppendSucceeds : ShelfView → List ℕ → ℕ → Type 0
 AppendSucceeds shelf name len =
     (kept_next shelf.calls ≡ None) × IsSomeAnd (file_of shelf name) (λ bytes. len ≤ unwrap_or (room_of shelf name) 0 - length bytes)
 
--- so many bytes of the piece stand behind those that the file had, where it is there
+-- so many bytes of the piece come after the bytes that the file had, if the file is there
 abbrev pub GrowsBy : (kept : ℕ) → (old new : Option (List ℕ)) → (piece : List ℕ) → Type 0
 GrowsBy kept old new piece = (kept ≤ length piece) × (new ≡ option_map (λ bytes. bytes ++ take kept piece) old)
 
--- how many bytes the next call keeps of a longer piece behind a file of these bytes
+-- how many bytes of a longer piece the next call keeps after a file of these bytes
 abbrev pub append_keeps : ShelfView → List ℕ → List ℕ → ℕ
 append_keeps shelf name bytes = most_kept (kept_next shelf.calls) (unwrap_or (room_of shelf name) 0 - length bytes)
 
@@ -131,7 +132,7 @@ grown_file shelf name piece = option_map (λ bytes. bytes ++ take (append_keeps 
 abbrev pub load_fails : ShelfView → List ℕ → Bool
 load_fails shelf name = is_some (kept_next shelf.calls) || is_none (file_of shelf name)
 
--- a place with what a call keeps of the piece behind the file's bytes
+-- a place with what a call keeps of the piece after the file's bytes
 abbrev pub grown : PlaceView → Option ℕ → List ℕ → PlaceView
 grown place kept piece =
     record place { bytes = option_map (λ bytes. bytes ++ take (most_kept kept (unwrap_or place.room 0 - length bytes)) piece) place.bytes }
@@ -148,13 +149,13 @@ place_or_new places name = unwrap_or (place_of places name) (record { name = nam
 abbrev pub emptied : PlaceView → PlaceView
 emptied place = record place { bytes = Some [] }
 
--- why so many bytes weren't copied where `most` may be
+-- why so many bytes weren't copied when at most `most` are allowed
 abbrev pub IsCopyError : Load → ℕ → ℕ → Type 0
 IsCopyError Failed len most = ⊥
 IsCopyError (TooLong seen) len most = (seen ≡ most + 1) × (most < len)
 IsCopyError Memory len most = len ≤ most
 
--- why a file wasn't loaded, where the call is to fail or not
+-- why a file wasn't loaded, for a call that is to fail or for one that isn't
 abbrev pub IsLoadError : (fails : Bool) → (file : Option (List ℕ)) → (most : ℕ) → Load → Type 0
 IsLoadError fails file most Failed = IsTrue (fails || is_none file)
 IsLoadError fails file most (TooLong seen) = (fails ≡ false) × (seen ≡ most + 1) × IsSomeAnd file (λ bytes. most < length bytes)

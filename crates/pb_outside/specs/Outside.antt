@@ -7,7 +7,8 @@ use Rattle.pb_outside.specs.declared.shelf.Load.TheVariants.{Failed, TooLong, Me
 abbrev pub Files : Type 0
 Files = List ℕ → Option (List ℕ)
 
--- P of what is told before and after: who tells goes on telling, and who doesn't tell claims nothing
+-- P holds of the values before and after, if they are known. A value that is known stays known, and
+-- one that isn't known stays unknown, and nothing is claimed of it.
 abbrev pub IfTold : {A : Type 0} → Option A → Option A → (A → A → Type 0) → Type 0
 IfTold None None P = Unit {0}
 IfTold (Some old) (Some new) P = P old new
@@ -30,7 +31,7 @@ counted n = min (n + 1) (2 ^ 64 - 1)
 abbrev pub Rose : ℕ → ℕ → Type 0
 Rose before now = counted before ≤ now
 
--- the count hasn't fallen, and an error comes only where it rose
+-- the count hasn't fallen, and an error comes only if it rose
 pub record HasCause {T E : Type 0} (before now : ℕ) (result : Result T E) : Type 0 where
   pub later : before ≤ now
   pub failed : OnErr result (Rose before now)
@@ -50,7 +51,7 @@ abbrev pub count_after : {T E : Type 0} → ℕ → Result T E → ℕ
 count_after before (Ok value) = before
 count_after before (Err error) = counted before
 
--- the count after a load, where only one error is a fault
+-- the count after a load: only one error of a load is a fault
 abbrev pub count_after_load : {T : Type 0} → ℕ → Result T Load → ℕ
 count_after_load before (Ok value) = before
 count_after_load before (Err Failed) = counted before
@@ -69,7 +70,7 @@ KeepsAll old new = (name : List ℕ) → new name ≡ old name
 abbrev pub KeepsHolds : (List ℕ → ℕ → Type 0) → (List ℕ → ℕ → Type 0) → Type 0
 KeepsHolds old new = (name : List ℕ) (n : ℕ) → old name n → new name n
 
--- P, where the file is there and the shelf can hold so many bytes more behind it
+-- P holds if the file is there and the shelf can hold so many bytes more after its bytes
 abbrev pub IfHeld : Option Files → List ℕ → ℕ → (ℕ → Type 0) → Type 0 → Type 0
 IfHeld files name more holds P = IfSome files (λ told. IfSome (told name) (λ bytes. (n : ℕ) → holds n → length bytes + more ≤ n → P))
 
@@ -89,11 +90,12 @@ SeesOneMore most (TooLong seen) = seen ≡ most + 1
 abbrev pub IsSameOrEmpty : Files → Files → List ℕ → Type 0
 IsSameOrEmpty old new name = (new name ≡ old name) ⊎ (new name ≡ Some [])
 
--- the file was there, and the piece stands behind the bytes that it had
+-- the file was there, and the piece comes after the bytes that it had
 abbrev pub AppendsTo : Files → Files → List ℕ → List ℕ → Type 0
 AppendsTo old new name piece = (bytes : List ℕ) × (old name ≡ Some bytes) × (new name ≡ Some (bytes ++ piece))
 
--- a first part of the piece stands behind the bytes that the file had; where there was no file, there is none
+-- a first part of the piece comes after the bytes that the file had; if there was no file, there is
+-- none
 pub record AppendsPartTo (old new : Files) (name piece : List ℕ) : Type 0 where
   pub there : (bytes : List ℕ) → old name ≡ Some bytes → (kept : ℕ) × (kept ≤ length piece) × (new name ≡ Some (bytes ++ take kept piece))
   pub absent : old name ≡ None → new name ≡ None

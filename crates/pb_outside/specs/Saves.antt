@@ -26,12 +26,12 @@ IsPartSaved old new name text = (new name ≡ old name) ⊎ HoldsPart new name t
 
 -- ---- on the way
 
--- the file with a piece behind it that is still to be appended is this text
+-- the file, followed by a piece that is still to be appended, is this text
 abbrev pub IsWritten : Files → (name piece text : List ℕ) → Type 0
 IsWritten files name piece text =
     (bytes : List ℕ) × (files name ≡ Some bytes) × (bytes ++ piece ≡ text)
 
--- the shelf tells that it is
+-- the shelf's known files show this
 abbrev pub IsToldWritten : Option Files → (name piece text : List ℕ) → Type 0
 IsToldWritten None name piece text = ⊥
 IsToldWritten (Some files) name piece text = IsWritten files name piece text
@@ -56,7 +56,7 @@ BreaksSave old new name piece =
     (start : List Call) (text : List ℕ) → HaveBegun start old name piece text
     → SavesPart start new name text
 
--- P, where the file is told to be a text with the piece behind it, and the shelf can hold that
+-- P holds if the known file, followed by the piece, is a text that the shelf can hold
 abbrev pub IfHasRoom : Option Files → (name piece : List ℕ) → (can_hold : ℕ → Type 0) → Type 0
     → Type 0
 IfHasRoom files name piece can_hold P =

@@ -1,4 +1,4 @@
-//! Bytes whose room was taken before.
+//! Bytes whose room was reserved before.
 ghost use Rattle.std.specs.Prelude.{◌≡◌, ◌+◌, ◌-◌, ◌≤◌, ◌↔◌, None, [], ◌++◌, take, length, min, IsOk, IfOk, IfErr};
 ghost use Rattle.pb_outside.specs.Memory.{most_kept};
 
@@ -24,7 +24,7 @@ impl Model for Buffer {
 }
 
 impl Buffer {
-    // A buffer with these bytes, that may have so many.
+    // A buffer with these bytes, which may grow to `room` bytes.
     pub(crate) fn of(alloc: Global, bytes: &[u8], room: usize) -> Result<Buffer, Memory>
         ensures { IfOk result (λ buffer. buffer ≡ record { bytes = bytes.now; room = room }) }
     {
@@ -51,8 +51,8 @@ impl Buffer {
         self.bytes.clear();
     }
 
-    // Appends what has room of the piece, or what a listed failure keeps of that. An error is how many bytes of it
-    // were kept, where not all was to be. Takes no memory.
+    // Appends as much of the piece as has room, or as much as a listed failure keeps. An error is
+    // the number of bytes kept if that is less than the whole piece. Takes no memory.
     pub(crate) fn append(&mut self, piece: &[u8], kept: Option<u64>) -> Result<(), usize>
         ensures whole { IsOk result ↔ (kept ≡ None) × (length piece.now ≤ self.old.room - length self.old.bytes) }
         ensures after { self.new ≡ record self.old { bytes = self.old.bytes ++ take (most_kept kept (self.old.room - length self.old.bytes)) piece.now } }

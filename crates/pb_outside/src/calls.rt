@@ -50,7 +50,7 @@ impl Calls {
         Ok(())
     }
 
-    // Counts a call, and answers how many bytes it keeps, where it is to fail.
+    // Counts a call. The answer is how many bytes the call keeps if it is to fail.
     pub(crate) fn begin(&mut self) -> Option<u64>
         ensures kept { result ≡ kept_next self.old }
         ensures after { self.new ≡ record self.old { count = counted self.old.count } }
@@ -68,7 +68,7 @@ impl Calls {
     }
 }
 
-// How many bytes the call of this number keeps, where it is to fail.
+// How many bytes the call of this number keeps if it is to fail.
 fn listed_at(listed: &[ListedFailure], call: u64) -> Option<u64>
     ensures { result ≡ kept_at listed.now call }
 {

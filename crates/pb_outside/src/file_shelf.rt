@@ -13,10 +13,10 @@ use std::fs::OpenOptions;
 use std::marker::Model;
 use std::rt::Files;
 
-/// The files of the system, a name being a path: relative to the folder where the program runs, or absolute.
-/// It counts its faults, notes its calls, and tells nothing of contents. What the system refuses is a fault: no
-/// file of the name, a name that is empty or has a NUL, a folder, no leave, a full device, want of the system's
-/// own memory.
+/// The files of the system. A name is a path: relative to the folder that the program runs in, or
+/// absolute. The shelf counts its faults and notes its calls; its files' contents aren't known to
+/// contracts. Whatever the system refuses is a fault: no file of the name, a name that is empty or
+/// has a NUL, a folder, no permission, a full device, or a system that is out of memory.
 #[derive(Drop)]
 pub struct FileShelf<'a, R: Files> {
     rt: &'a R,
@@ -59,7 +59,8 @@ fn read_file<R: Files>(rt: &R, alloc: Global, name: &str, most: u64) -> Result<V
     read_whole(alloc, &mut file, most)
 }
 
-// Writes the piece behind a file of the system. An error is how many bytes of it were written.
+// Writes the piece after the bytes of a file of the system. An error is the number of bytes that
+// were written.
 fn append_file<R: Files>(rt: &R, name: &str, piece: &[u8]) -> Result<(), usize>
     ensures written { OnOk result (AppendsToFile R.File.contents piece.now) }
     ensures within { IfErr result (λ kept. kept ≤ length piece.now) }

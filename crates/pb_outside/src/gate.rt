@@ -1,5 +1,6 @@
-/// Is told when a worker has got a lease, and each time before its lease goes on or comes back. A call may hold the worker up, and
-/// changes nothing else: tests use it to bring workers together.
+/// A gate is called when a worker has got a lease, and each time before the lease is renewed or
+/// given back. A call may hold the worker up, and changes nothing else: tests use it to bring
+/// workers together.
 pub trait Gate: Sync {
     /// The worker has got a lease of the block.
     fn leased(&self, worker: u32, block: u32);

@@ -2,7 +2,7 @@ ghost use Rattle.std.specs.Prelude.{◌≡◌};
 
 use std::alloc::{AllocError, AllocFailed};
 
-/// Memory was wanting. The value that the call was made on is as before, except where the call says otherwise.
+/// Out of memory. The value that the call was made on is as before, unless the call says otherwise.
 #[derive(Clone, Copy, Debug, PartialEq, Eq)]
 pub struct Memory;
 

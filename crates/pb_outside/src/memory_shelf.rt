@@ -80,7 +80,7 @@ fn reserve_room(
     Ok(())
 }
 
-// Begins an empty file under the name, where room is reserved.
+// Begins an empty file under the name, if room is reserved.
 fn create_file(places: &mut [Place], name: &str) -> bool
     ensures done { result ≡ is_some (room_in places.old name.now) }
     ensures here { place_of places.new name.now ≡ (if result then option_map emptied (place_of places.old name.now) else place_of places.old name.now) }
@@ -92,8 +92,8 @@ fn create_file(places: &mut [Place], name: &str) -> bool
     }
 }
 
-// Appends to the file of the name what has room of the piece, or what a listed failure keeps of that. An error is
-// how many bytes of it were kept, where not all was to be.
+// Appends to the named file as much of the piece as has room, or as much as a listed failure keeps.
+// An error is the number of bytes kept if that is less than the whole piece.
 fn append_file(
     places: &mut [Place],
     name: &str,
@@ -137,9 +137,9 @@ impl MemShelf {
         put_file(self.alloc, &mut self.places, name, bytes)
     }
 
-    /// Reserves room for so many bytes in all under the name: only such a name can be created, and its file then
-    /// grows to that length. The room is taken now; where no memory has it, or no block of memory could, the
-    /// answer is `Memory`.
+    /// Reserves room for so many bytes in all under the name: only such a name can be created, and
+    /// its file then grows to that length. The room is taken now. If memory runs out, or no block
+    /// of memory could be so long, the answer is `Memory`.
     pub fn reserve(&mut self, name: &str, room: u128) -> Result<(), Memory>
         ensures room { OnOk result (room_of self.new name.now ≡ Some room) }
         ensures others { OnOk result (KeepsOtherRooms self.old self.new name.now) }
@@ -154,9 +154,9 @@ impl MemShelf {
         reserve_room(self.alloc, &mut self.places, name, room)
     }
 
-    /// Lists a call of `load`, `create` or `append` that is to fail: its number, from 1, among all of them, and
-    /// how many bytes of its piece an `append` keeps at most. A `create` that is to fail leaves the file as it
-    /// was. Where a number is listed twice, the first listing counts.
+    /// Lists a call of `load`, `create` or `append` that is to fail: its number, from 1, among all
+    /// of them, and how many bytes of its piece an `append` keeps at most. A `create` that is to
+    /// fail leaves the file as before. If a number is listed twice, the first listing counts.
     pub fn fail(&mut self, call: u64, kept: u64) -> Result<(), Memory>
         ensures ok { OnOk result (self.new ≡ record self.old { calls = with_listed self.old.calls call kept }) }
         ensures err { OnErr result (self.new ≡ self.old) }
@@ -204,8 +204,8 @@ impl Shelf for MemShelf {
         ensures noted_error { IfErr result (λ e. Notes self.old.transcript self.new.transcript (LoadFailed name.now most e)) }
         ensures cause { HasLoadCause self.old.calls.faults self.new.calls.faults result }
 
-        // It fails exactly where the call is listed or no file has the name, and memory is wanting only for a
-        // file that isn't too long.
+        // It fails exactly if the call is listed or no file has the name. Memory runs out only for
+        // a file that isn't too long.
         ensures exact { IsErrOf result Load.Failed ↔ IsTrue (load_fails self.old name.now) }
         ensures memory { IsErrOf result Load.Memory → IsSomeAnd (file_of self.old name.now) (λ bytes. length bytes ≤ most) }
         ensures places { self.new.places ≡ self.old.places }
@@ -242,7 +242,7 @@ impl Shelf for MemShelf {
         ensures noted { Notes self.old.transcript self.new.transcript (create_call name.now result) }
         ensures cause { HasCause self.old.calls.faults self.new.calls.faults result }
 
-        // It fails exactly where the call is listed or no room is reserved, and then changes no file.
+        // It fails exactly if the call is listed or no room is reserved, and then changes no file.
         ensures exact { IsOk result ↔ CreateSucceeds self.old name.now }
         ensures unchanged { OnErr result (KeepsFiles self.old self.new) }
         ensures rooms { KeepsRooms self.old self.new }
@@ -271,8 +271,8 @@ impl Shelf for MemShelf {
         ensures noted_error { OnErr result (NotesAppendFailed self.old.transcript self.new.transcript (Some (file_of self.old)) (Some (file_of self.new)) name.now piece.now) }
         ensures cause { HasCause self.old.calls.faults self.new.calls.faults result }
 
-        // It fails exactly where the call is listed, no file has the name or the room ends, and then keeps what
-        // it may and what fits.
+        // It fails exactly if the call is listed, no file has the name or the room ends. It then
+        // keeps as much as is allowed and fits.
         ensures exact { IsOk result ↔ AppendSucceeds self.old name.now (length piece.now) }
         ensures kept { file_of self.new name.now ≡ grown_file self.old name.now piece.now }
         ensures rooms { KeepsRooms self.old self.new }

@@ -28,8 +28,8 @@ impl Model for MemSink {
 }
 
 impl MemSink {
-    /// An empty sink that takes so many bytes in all. Their room is taken now; where no memory has it, or no
-    /// block of memory could, the answer is `Memory`.
+    /// An empty sink that takes so many bytes in all. Their room is taken now. If memory runs out,
+    /// or no block of memory could be so long, the answer is `Memory`.
     pub fn new(alloc: Global, room: u128) -> Result<MemSink, Memory>
         ensures { IfOk result (λ sink. sink ≡ record { bytes = []; room = room; calls = record { count = 0; faults = 0; listed = [] }; transcript = [] }) }
     {
@@ -43,8 +43,8 @@ impl MemSink {
         })
     }
 
-    /// Lists a call of `put` that is to fail: its number, from 1, and how many bytes of its piece it keeps at
-    /// most. Where a number is listed twice, the first listing counts.
+    /// Lists a call of `put` that is to fail: its number, from 1, and how many bytes of its piece
+    /// it keeps at most. If a number is listed twice, the first listing counts.
     pub fn fail(&mut self, call: u64, kept: u64) -> Result<(), Memory>
         ensures ok { OnOk result (self.new ≡ record self.old { calls = with_listed self.old.calls call kept }) }
         ensures err { OnErr result (self.new ≡ self.old) }
@@ -78,7 +78,8 @@ impl Sink for MemSink {
         ensures noted_error { OnErr result (NotesPutFailed self.old.transcript self.new.transcript (Some self.old.bytes) (Some self.new.bytes) piece.now) }
         ensures cause { HasCause self.old.calls.faults self.new.calls.faults result }
 
-        // It fails exactly where the call is listed or the room ends, and then keeps what it may and what fits.
+        // It fails exactly if the call is listed or the room ends. It then keeps as much as is
+        // allowed and fits.
         ensures exact { IsOk result ↔ PutSucceeds self.old (length piece.now) }
         ensures bytes { self.new.bytes ≡ self.old.bytes ++ take (most_kept (kept_next self.old.calls) (self.old.room - length self.old.bytes)) piece.now }
         ensures room { self.new.room ≡ self.old.room }

@@ -11,8 +11,9 @@ use crate::{Failed, Sink};
 use std::io::Write;
 use std::marker::Model;
 
-/// Standard output, or any other writer. It counts its faults, notes its calls, and tells nothing of contents. A
-/// buffer of the writer's is flushed in each call.
+/// Standard output, or any other writer. The sink counts its faults and notes its calls; contracts
+/// know what was written only through its writer. Each call flushes a buffer that the writer may
+/// have.
 #[derive(Drop)]
 pub struct OutSink<W: Write> {
     writer: W,
@@ -20,7 +21,7 @@ pub struct OutSink<W: Write> {
     transcript: Transcript,
 }
 
-// A contract sees what its writer holds, where that is known, its count of faults, and its calls.
+// A contract sees what its writer holds, if that is known, its count of faults, and its calls.
 impl<W: Write> Model for OutSink<W> {
     ghost use Rattle.pb_outside.specs.Streams.{OutView};
 
@@ -49,7 +50,8 @@ impl<W: Write> Sink for OutSink<W> {
 
     ghost faults = { λ s. s.faults };
 
-    // Where the writer tells what it holds, all of the piece was written, or after a failure a first part of it.
+    // If it is known what the writer holds, all of the piece was written, or after a failure a
+    // first part of it.
     fn put(&mut self, piece: &[u8]) -> Result<(), Failed>
         ensures noted { OnOk result (Notes self.old.transcript self.new.transcript (Put piece.now)) }
         ensures noted_error { OnErr result (IsPutFailure self.old self.new piece.now) }

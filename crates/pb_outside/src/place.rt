@@ -81,7 +81,7 @@ impl Place {
         Ok(())
     }
 
-    // Begins an empty file, where room is reserved.
+    // Begins an empty file, if room is reserved.
     pub(crate) fn create(&mut self) -> bool
         ensures done { result ≡ is_some self.old.room }
         ensures after { self.new ≡ (if result then record self.old { bytes = Some [] } else self.old) }
@@ -93,8 +93,8 @@ impl Place {
         self.is_reserved
     }
 
-    // Appends what has room of the piece, or what a listed failure keeps of that, where the file is there. An error
-    // is how many bytes of it were kept, where not all was to be.
+    // Appends as much of the piece as has room, or as much as a listed failure keeps, if the file
+    // is there. An error is the number of bytes kept if that is less than the whole piece.
     pub(crate) fn append(&mut self, piece: &[u8], kept: Option<u64>) -> Result<(), usize>
         ensures done { IsOk result ↔ (kept ≡ None) × IsSomeAnd self.old.bytes (λ bytes. length piece.now ≤ unwrap_or self.old.room 0 - length bytes) }
         ensures after { self.new ≡ grown self.old kept piece.now }

@@ -7,13 +7,14 @@ use std::alloc::Global;
 /// Why a file wasn't loaded.
 #[derive(Clone, Copy, Debug, PartialEq, Eq)]
 pub enum Load {
-    /// A fault of the outside, as where no file has the name. The count of faults rose.
+    /// A fault of the outside, such as no file of the name. The count of faults rose.
     Failed,
 
-    /// The file is longer than the caller takes. `seen` is how many bytes were read of it: one more than that.
+    /// The file is longer than the caller allows. `seen` is how many bytes were read: one more than
+    /// the caller allows.
     TooLong { seen: u64 },
 
-    /// Memory was wanting.
+    /// Out of memory.
     Memory,
 }
 
@@ -25,18 +26,18 @@ pub trait Shelf {
     /// The calls so far, in order, with what they were given and what they gave.
     ghost calls: { Self → List Call };
 
-    /// The files by the bytes of their names, where the shelf tells them.
+    /// The files by the bytes of their names, if the shelf makes them known.
     ghost files: { Self → Option Files };
 
     /// How often the shelf has failed. It never falls.
     ghost faults: { Self → ℕ };
 
-    /// That a file of this name can be created and can grow to this length with no fault, now and after any
-    /// further calls. Most shelves can't promise it of any name.
+    /// A file of this name can be created and can grow to this length with no fault, now and after
+    /// any further calls. Most shelves can't promise it of any name.
     ghost can_hold: { Self → List ℕ → ℕ → Type 0 } = { λ _ _ _. ⊥ };
 
-    /// That a file of this name can be loaded with no fault, now and after any further calls. Most shelves can't
-    /// promise it of any name.
+    /// A file of this name can be loaded with no fault, now and after any further calls. Most
+    /// shelves can't promise it of any name.
     ghost can_load: { Self → List ℕ → Type 0 } = { λ _ _. ⊥ };
 
     /// The whole file, if it has at most `most` bytes. Changes no file.

@@ -1,8 +1,8 @@
 ghost use Rattle.std.specs.Prelude.{OnOk, OnErr, IsOk, Option, List, ℕ, length};
 ghost use Rattle.pb_outside.specs.Outside.{IfTold, Appends, AppendsPart, HasCause};
 
-/// A fault of the outside: a device, a file system or a listed failure. It comes only where the object's
-/// count of faults rose in the same call.
+/// A fault of the outside: a device, a file system or a listed failure. It comes only if the
+/// object's count of faults rose in the same call.
 #[derive(Clone, Copy, Debug, PartialEq, Eq)]
 pub struct Failed;
 
@@ -13,13 +13,13 @@ pub trait Sink {
     /// The calls so far, in order, with what they were given and what they gave.
     ghost calls: { Self → List Call };
 
-    /// The bytes that were written, where the sink tells them.
+    /// The bytes that were written, if the sink makes them known.
     ghost written: { Self → Option (List ℕ) };
 
     /// How often the sink has failed. It never falls.
     ghost faults: { Self → ℕ };
 
-    /// That so many bytes, in all further calls, are put with no fault. Most sinks can't promise it.
+    /// All further calls can put so many bytes in all with no fault. Most sinks can't promise it.
     ghost can_take: { Self → ℕ → Type 0 } = { λ _ _. ⊥ };
 
     /// Appends the piece. After a failure a first part of the piece was appended. Takes no memory of the program's.

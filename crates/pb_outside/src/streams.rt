@@ -10,7 +10,7 @@ use std::io::{ErrorKind, Read, Write};
 
 const PIECE: usize = 4096;
 
-// Reads once, and again where the call was interrupted.
+// Reads once, and again if the call was interrupted.
 fn read_some<S: Read>(file: &mut S, piece: &mut [u8]) -> Result<usize, Failed>
     ensures within { IfOk result (λ count. count ≤ length piece.new) }
     ensures bytes { IfOk result (λ count. Consumes (S.remaining file.old) (S.remaining file.new) (take count piece.new)) }
@@ -30,7 +30,7 @@ fn read_some<S: Read>(file: &mut S, piece: &mut [u8]) -> Result<usize, Failed>
     Err(Failed)
 }
 
-// How many bytes to ask for next: at least one, and in all at most one more than is taken.
+// How many bytes to ask for next: at least one, and in all at most one more than the caller allows.
 fn wanted(most: u64, len: usize) -> usize
     requires { len ≤ most }
     ensures some { 0 < result }
@@ -45,8 +45,8 @@ fn wanted(most: u64, len: usize) -> usize
     }
 }
 
-// Reads a file to its end, as long as it has at most so many bytes. Never takes more than one byte beyond them.
-// Every turn takes at least one byte or is the last.
+// Reads a file to its end, if it has at most so many bytes. It never takes more than one byte
+// beyond them. Every turn takes at least one byte or is the last.
 pub(crate) fn read_whole<S: Read>(alloc: Global, file: &mut S, most: u64) -> Result<Vec<u8>, Load>
     ensures whole { IfOk result (λ bytes. IfSome (S.remaining file.old) (λ all. all ≡ bytes.items)) }
     ensures short { IfOk result (λ bytes. length bytes.items ≤ most) }
@@ -73,7 +73,7 @@ pub(crate) fn read_whole<S: Read>(alloc: Global, file: &mut S, most: u64) -> Res
     }
 }
 
-// Writes once, and again where the call was interrupted.
+// Writes once, and again if the call was interrupted.
 fn write_some<W: Write>(file: &mut W, piece: &[u8]) -> Result<usize, Failed>
     ensures within { IfOk result (λ count. count ≤ length piece.now) }
     ensures bytes { IfOk result (λ count. Appends (W.contents file.old) (W.contents file.new) (take count piece.now)) }
@@ -92,7 +92,7 @@ fn write_some<W: Write>(file: &mut W, piece: &[u8]) -> Result<usize, Failed>
     Err(Failed)
 }
 
-// Writes all bytes, and leaves none in a buffer. An error is how many of them were written.
+// Writes all bytes, and leaves none in a buffer. An error is the number of bytes that were written.
 pub(crate) fn write_whole<W: Write>(file: &mut W, bytes: &[u8]) -> Result<(), usize>
     ensures ok { OnOk result (Appends (W.contents file.old) (W.contents file.new) bytes.now) }
     ensures within { IfErr result (λ kept. kept ≤ length bytes.now) }

@@ -7,8 +7,8 @@ use std::alloc::Global;
 use std::io;
 use std::io::{ErrorKind, Read, Write};
 
-// Gives or takes two bytes a call and is interrupted at every other one. After its last byte it is at its end,
-// or fails.
+// Gives or takes two bytes a call and is interrupted at every other call. After its last byte it is
+// at its end, or fails.
 #[derive(Drop)]
 struct Trickle {
     left: usize,

@@ -1,4 +1,5 @@
-//! What was called on the outside, as clauses see it. It takes no memory, and its methods do nothing at run time.
+//! The calls made on the outside, as clauses see them. A transcript takes no memory, and its
+//! methods do nothing at run time.
 ghost use Rattle.std.specs.Prelude.{◌≡◌, List, [], ◌∷◌, ◌++◌};
 ghost use Rattle.std.specs.Borrow.{ftrue};
 ghost use Rattle.pb_outside.specs.Calls.{Call};
@@ -40,5 +41,5 @@ impl Transcript {
     }
 }
 
-// It takes no memory.
+// A transcript takes no memory.
 const _: () = prove!(mem::size_of::<Transcript>() == 0);

@@ -5,7 +5,7 @@ ghost use Rattle.pb_model.specs.Texts.{line};
 use itoa::Buffer;
 use std::alloc::AllocError;
 
-/// Appends these bytes. An error is want of memory.
+/// Appends these bytes. An error means out of memory.
 pub fn push_text(out: &mut Vec<u8>, text: &[u8]) -> Result<(), AllocError>
     ensures { OnOk result (out.new.items ≡ out.old.items ++ text.now) }
 {
@@ -13,7 +13,7 @@ pub fn push_text(out: &mut Vec<u8>, text: &[u8]) -> Result<(), AllocError>
     Ok(())
 }
 
-/// Appends these bytes and a line feed. An error is want of memory.
+/// Appends these bytes and a line feed. An error means out of memory.
 pub fn push_line(out: &mut Vec<u8>, text: &[u8]) -> Result<(), AllocError>
     ensures { OnOk result (out.new.items ≡ out.old.items ++ line text.now) }
 {
@@ -21,7 +21,7 @@ pub fn push_line(out: &mut Vec<u8>, text: &[u8]) -> Result<(), AllocError>
     push_text(out, b"\n")
 }
 
-/// Appends a number in decimal digits. An error is want of memory.
+/// Appends a number in decimal digits. An error means out of memory.
 pub fn push_number(out: &mut Vec<u8>, n: u64) -> Result<(), AllocError>
     ensures { OnOk result (out.new.items ≡ out.old.items ++ decimal n) }
 {

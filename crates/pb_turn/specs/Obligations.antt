@@ -1,5 +1,6 @@
--- What a caller of a lock shows, and what it is told.
--- `fact x n views` is the caller's rule: of the state that the last holder left, of the number, and of what each pass knows. Each pass has a number, and `views` at that number is its view.
+-- What a caller of a lock has to show, and what it learns. `fact x n views` is the caller's rule:
+-- of the state that the last holder left, of the number, and of what each pass knows. Each pass has
+-- a number, and `views` at that number is its view.
 use Rattle.std.specs.Prelude.{◌≡◌, ◌≢◌, ℕ, min, List, [], ◌∷◌, ◌++◌, slice_set, Option, Some}
 use mathlib.Core.Option.{some}
 use lib.ListN.{get_elem?}
@@ -9,19 +10,23 @@ abbrev pub IsHeld : {S : Type 0} → Option S → S → Type 0
 IsHeld {S} held x = (found : S) → held ≡ Some found → found ≡ x
 
 module _ {S V : Type 0} (fact : S → ℕ → List V → Type 0) where
-  -- whatever the number is and the others know, the fact stays when the state goes from x to y, and this pass's view from v to w
+  -- for any number and any knowledge of the others, the fact stays when the state goes from x to y,
+  -- and this pass's view from v to w
   abbrev pub LeaveKeeps : ℕ → V → S → S → V → Type 0
   LeaveKeeps pass v x y w = (n : ℕ) (views : List V) → fact x n views → get_elem? views pass ≡ some v → fact y n (slice_set views pass w)
 
-  -- whatever the others know, the fact stays when this pass reads the number, and its view becomes the one that `then` gives. If the pass holds the turn, the state is the one that it has found
+  -- whatever the others know, the fact stays when this pass reads the number and gets the view that
+  -- `then` gives. If the pass holds the turn, the state is the one that it has found
   abbrev pub LoadKeeps : ℕ → V → Option S → (ℕ → V) → Type 0
   LoadKeeps pass v held then = (x : S) (n : ℕ) (views : List V) → fact x n views → get_elem? views pass ≡ some v → IsHeld held x → fact x n (slice_set views pass (then n))
 
-  -- whatever the state is and the others know, the fact stays when the number becomes the lesser of it and k, and this pass's view w
+  -- for any state and any knowledge of the others, the fact stays when the number becomes the
+  -- lesser of itself and k, and this pass's view w
   abbrev pub LowerKeeps : ℕ → V → ℕ → V → Type 0
   LowerKeeps pass v k w = (x : S) (n : ℕ) (views : List V) → fact x n views → get_elem? views pass ≡ some v → fact x (min n k) (slice_set views pass w)
 
-  -- whatever state and number are and the others know, the fact stays when this pass's view v is cut in two, and a new pass has the second
+  -- for any state, number and knowledge of the others, the fact stays when this pass's view v is
+  -- cut in two, and a new pass has the second
   abbrev pub SplitKeeps : ℕ → V → V → V → Type 0
   SplitKeeps pass v kept given = (x : S) (n : ℕ) (views : List V) → fact x n views → get_elem? views pass ≡ some v → fact x n (slice_set views pass kept ++ given ∷ [])
 
@@ -38,6 +43,6 @@ module _ {S V : Type 0} (fact : S → ℕ → List V → Type 0) where
   abbrev pub Stands : ℕ → V → S → Type 0
   Stands pass v x = (n : ℕ) × StandsAt pass v x n
 
-  -- the fact holds of this state and number, where the views of all other passes are spent
+  -- the fact holds of this state and number if the views of all other passes are spent
   abbrev pub StandsAlone : ℕ → V → V → S → ℕ → Type 0
   StandsAlone pass v spent x n = (views : List V) × fact x n views × (get_elem? views pass ≡ some v) × ((other : ℕ) (w : V) → get_elem? views other ≡ some w → other ≢ pass → w ≡ spent)

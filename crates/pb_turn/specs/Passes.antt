@@ -17,7 +17,8 @@ state h = h.state
 abbrev pub with_state : {R S V : Type 0} → Held R S V → S → Held R S V
 with_state h x = record h { state = x }
 
--- all parts of the right to close. The first pass has them, a split gives one away, and a meeting adds up; a pass has one at least, so the pass that has all is the only one
+-- All parts of the right to close. The first pass has them, a split gives one away, and a meeting
+-- adds up. A pass has at least one, so a pass that has all is the only one.
 abbrev pub whole : ℕ
 whole = 18446744073709551616
 
@@ -55,7 +56,8 @@ module _ {R S V : Type 0} {g : Ghosts R S V} where
   abbrev pub HoldsTurn : Pass R S V g → S → Type 0
   HoldsTurn p x = (p.seat.me.0.stage ≡ Holding x) × (p.seat.me.1 ≡ (0, None) ∷ [])
 
-  -- between the two steps of an entry, or of a leaving: it holds the turn, and found x, and the state y still lies in the slot, or lies there again
+  -- between the two steps of an entry or of a leaving: the pass holds the turn and found x, and the
+  -- state y still is in the slot, or is there again
   abbrev pub HasLaid : Pass R S V g → S → S → Type 0
   HasLaid p x y = (p.seat.me.0.stage ≡ Holding x) × (p.seat.me.1 ≡ (0, Some y) ∷ [])
 

@@ -1,5 +1,6 @@
--- The rule of the table under a lock, and what each step tells.
--- Word 0 is the turn: 1 while a pass holds it, else 0. Word 1 is the number. Slot 0 has the state, and is at home while the turn is 0.
+-- The rule of the table under a lock, and what each step reports. Word 0 is the turn: 1 while a
+-- pass holds it, else 0. Word 1 is the number. Slot 0 has the state, and is at home while the turn
+-- is 0.
 use Rattle.std.specs.Prelude.{◌≡◌, ◌≢◌, ℕ, zero, suc, ◌+◌, ◌-◌, ◌≤◌, List, [], ◌∷◌, map, sum_by, Option, Some}
 use mathlib.Core.Option as maybe
 use mathlib.Core.Option.{none, some}
@@ -65,11 +66,11 @@ module _ {S V : Type 0} where
     pub no_parts : (j : ℕ) (d : PassView S V) → get_elem? s.views j ≡ some d → d.parts ≡ 0 → d ≡ spent_pass spent
     pub kept : fact state number (map view_of s.views)
 
-  -- the pass has the turn and the state x, of which the fact stands
+  -- the pass has the turn and the state x, of which the fact holds
   abbrev pub Won : (S → ℕ → List V → Type 0) → ℕ → Known S V → S → Known S V → Type 0
   Won fact pass m x m' = (m' ≡ (pass_view (Holding x) m.0.parts m.0.misses m.0.view, (0, Some x) ∷ m.1)) × Stands fact pass m.0.view x
 
-  -- the pass counts a miss. It isn't the only one, and the fact stands of what the holder found
+  -- the pass counts a miss. It isn't the only one, and the fact holds of what the holder found
   abbrev pub Missed : (S → ℕ → List V → Type 0) → ℕ → Known S V → Known S V → Type 0
   Missed fact pass m m' = (m' ≡ (pass_view m.0.stage m.0.parts (m.0.misses + 1) m.0.view, m.1)) × (m.0.parts ≢ whole) × ((x : S) × Stands fact pass m.0.view x)
 
@@ -77,11 +78,13 @@ module _ {S V : Type 0} where
   abbrev pub tried : (S → ℕ → List V → Type 0) → ℕ → Step (Option S) → Known S V → ℕ → Known S V → Type 0
   tried fact pass st m n m' = (n ≡ 0 → (x : S) × Won fact pass m x m') × (n ≢ 0 → (n ≡ 1) × Missed fact pass m m')
 
-  -- what a load of the number finds: the fact stands of the number and of some state, which a holder has found. The pass has the view that a load leaves
+  -- what a load of the number finds: the fact holds of the number and of some state, which a holder
+  -- has found. The pass has the view that a load leaves
   abbrev pub read : (S → ℕ → List V → Type 0) → (Option S → V → ℕ → V) → ℕ → Step (Option S) → Known S V → ℕ → Known S V → Type 0
   read fact loaded pass st m n m' = (m' ≡ (pass_view m.0.stage m.0.parts m.0.misses (loaded (found_by m.0.stage) m.0.view n), m.1)) × ((x : S) × StandsAt fact pass m.0.view x n × IsHeld (found_by m.0.stage) x)
 
-  -- a lowering: the fact stood of some state and number. The pass has the view that a lowering leaves
+  -- a lowering: the fact held of some state and number. The pass has the view that a lowering
+  -- leaves
   abbrev pub sunk : (S → ℕ → List V → Type 0) → (V → ℕ → V) → ℕ → Step (Option S) → Known S V → ℕ → Known S V → Type 0
   sunk fact lowered pass st m n m' = (m' ≡ (pass_view m.0.stage m.0.parts m.0.misses (lowered m.0.view st.first), m.1)) × ((x : S) × StandsAt fact pass m.0.view x n)
 

@@ -1,4 +1,4 @@
-//! Locks and passes cross threads where the state may, and a pass has no bytes.
+//! Locks and passes cross threads if the state may, and a pass has no bytes.
 use crate::lock::TurnLock;
 use crate::pass::{Held, Pass};
 use crate::rule::TurnRule;
@@ -11,8 +11,9 @@ fn shares<T: Sync>(value: &T) {
     let _ = value;
 }
 
-// Nobody calls it. That it is proved for each rule shows that where the state may be sent to another thread, the lock may
-// be sent and shared, and passes and what a holder has may be sent; and that a pass has no bytes.
+// Nobody calls this function. Its proof for each rule shows two facts. If the state may be sent to
+// another thread, so may the lock, the passes and what a holder has, and the lock may be shared. A
+// pass has no bytes.
 fn crosses<R: TurnRule>(lock: &TurnLock<R>, pass: &Pass<R>, held: &Held<R>)
 where
     R::State: Send,

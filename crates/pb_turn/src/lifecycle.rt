@@ -13,7 +13,8 @@ use std::alloc::{AllocError, Global};
 use std::snapshot::Snapshot;
 
 impl<R: TurnRule> TurnLock<R> {
-    /// A lock with this state and number, and the first pass, which has all parts. Where there is no memory, the state comes back.
+    /// A lock with this state and number, and the first pass, which has all parts. If memory runs
+    /// out, the state comes back.
     pub fn new(
         alloc: Global,
         state: R::State,
@@ -58,7 +59,8 @@ impl<R: TurnRule> TurnLock<R> {
         self.take_in(pass, other);
     }
 
-    /// Takes the lock apart when all other passes were met: the state that the last holder left, and the last number.
+    /// Takes the lock apart after all other passes were met: the state that the last holder left,
+    /// and the last number.
     pub fn close_with(self, pass: Pass<R>) -> (R::State, u64)
         requires own { IsPassOf self pass }
         requires rests { IsResting pass }

@@ -7,7 +7,8 @@ use atomic_table::Table;
 use std::alloc::Global;
 use std::snapshot::Snapshot;
 
-/// A lock that threads share by reference. It can be dropped where the state can; otherwise it has to be closed.
+/// A lock that threads share by reference. It can be dropped if the state can; otherwise it has to
+/// be closed.
 #[derive(Drop)]
 pub struct TurnLock<R: TurnRule> {
     pub(crate) table: Table<

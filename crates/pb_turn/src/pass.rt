@@ -6,8 +6,8 @@ use crate::table_rule::PassView;
 use atomic_table::Seat;
 use std::snapshot::Snapshot;
 
-/// What one thread carries: its view, and whether it holds the turn. It has no bytes. A pass that is dropped is never
-/// met, so that its lock can't be closed any more.
+/// What one thread carries: its view, and whether it holds the turn. A pass has no bytes. A pass
+/// that is dropped is never met, so its lock can't be closed any more.
 #[derive(Drop)]
 pub struct Pass<R: TurnRule> {
     pub(crate) seat: Seat<Option<R::State>, PassView<R::State, R::View>>,

@@ -1,4 +1,4 @@
-//! What each step on the table tells.
+//! What each step on the table reports.
 ghost use Rattle.std.specs.Prelude.{None};
 ghost use Rattle.pb_turn.specs.Table.{tried, read, sunk, left, committed, kept_pass, given_pass, met_pass, spent_pass};
 

@@ -1,5 +1,6 @@
-//! The steps on the table of which the calls of a lock are made. Each is one atomic step, but for the two that move the
-//! state between the slot and the holder, which only the holder of the turn does.
+//! The steps on the table of which the calls of a lock are made. Each is one atomic step, except
+//! the two that move the state between the slot and the holder. Only the holder of the turn makes
+//! these two.
 ghost use Rattle.std.specs.Prelude.{◌≡◌, ◌≢◌, ◌+◌, ◌<◌, ℕ, Some, MatchBool, ⊤};
 ghost use Rattle.pb_turn.specs.Obligations.{LeaveKeeps, LoadKeeps, LowerKeeps, SplitKeeps, MeetKeeps, Stands, StandsAt, IsHeld};
 ghost use Rattle.pb_turn.specs.Passes.{view, number, parts, misses, whole, held, found, state, IsResting, HoldsTurn, HasLaid, IsPassOf, IsSamePass, IsSamePlace};
@@ -17,7 +18,7 @@ use std::marker::Brand;
 use std::snapshot::Snapshot;
 
 impl<R: TurnRule> TurnLock<R> {
-    // Takes the turn where it is free, and says whether it did.
+    // Takes the turn if it is free, and says whether it did.
     pub(crate) fn try_turn(&self, pass: &mut Pass<R>) -> bool
         requires own { IsPassOf self.now pass.old }
         requires rests { IsResting pass.old }
@@ -29,7 +30,7 @@ impl<R: TurnRule> TurnLock<R> {
         self.try_turn_as::<Brand>(pass)
     }
 
-    // The same, where the call picks the pass's number.
+    // Does the same as `try_turn`; the call picks the pass's number.
     fn try_turn_as<N: PassNumber>(&self, pass: &mut Pass<R>) -> bool
         requires own { IsPassOf self.now pass.old }
         requires rests { IsResting pass.old }
@@ -89,7 +90,7 @@ impl<R: TurnRule> TurnLock<R> {
         self.leave_turn_as::<Brand, M>(pass, found, leaves, said);
     }
 
-    // The same, where the call picks the view.
+    // Does the same as `leave_turn`; the call picks the view.
     fn leave_turn_as<N: NextView<R::View>, M: Leaving<R>>(
         &self,
         pass: &mut Pass<R>,
@@ -128,7 +129,7 @@ impl<R: TurnRule> TurnLock<R> {
         self.commit_turn_as::<Brand, M>(pass, found, leaves, said);
     }
 
-    // The same, where the call picks the state and the view.
+    // Does the same as `commit_turn`; the call picks the state and the view.
     fn commit_turn_as<N: NextStage<R::State, R::View>, M: Leaving<R>>(
         &self,
         pass: &mut Pass<R>,
@@ -162,7 +163,7 @@ impl<R: TurnRule> TurnLock<R> {
         self.load_number_as::<Brand>(pass)
     }
 
-    // The same, where the call picks the pass's number.
+    // Does the same as `load_number`; the call picks the pass's number.
     fn load_number_as<N: PassNumber>(&self, pass: &mut Pass<R>) -> u64
         requires own { IsPassOf self.now pass.old }
         requires number { N.number ≡ number pass.old }
@@ -186,7 +187,7 @@ impl<R: TurnRule> TurnLock<R> {
         self.lower_number_as::<Brand>(pass, to);
     }
 
-    // The same, where the call picks the pass's number.
+    // Does the same as `lower_number`; the call picks the pass's number.
     fn lower_number_as<N: PassNumber>(&self, pass: &mut Pass<R>, to: u64)
         requires own { IsPassOf self.now pass.old }
         requires number { N.number ≡ number pass.old }

@@ -1,5 +1,5 @@
-//! The rule of the table under a lock: a word that is the turn, a word that is the number, and a slot, in which the state
-//! lies while no pass holds the turn.
+//! The rule of the table under a lock: a word that is the turn, a word that is the number, and a
+//! slot. The state is in the slot while no pass holds the turn.
 ghost use Rattle.std.specs.Prelude.{ℕ};
 
 use crate::rule::TurnRule;

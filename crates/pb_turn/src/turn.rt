@@ -11,9 +11,9 @@ use std::hint::spin_loop;
 use std::snapshot::Snapshot;
 use std::sync::Wait;
 
-/// How often a pass tries for the turn before it sleeps. The pauses between double, so they are some 130 spins together: a few
-/// microseconds, as long as a holder has the turn mostly. To sleep and be woken costs more than that, and makes the holder
-/// call the system.
+/// How often a pass tries for the turn before it sleeps. The pauses between two tries double, so
+/// all pauses together are some 130 spins. These take a few microseconds, about as long as a holder
+/// mostly has the turn. To sleep and be woken costs more, and makes the holder call the system.
 const TRIES: u32 = 7;
 
 // Spins as often as two to the power of the round.
@@ -24,8 +24,9 @@ fn pause(round: u32) {
 }
 
 impl<R: TurnRule> TurnLock<R> {
-    /// Tries once to take the turn, and never waits. None comes only where this call's own step found the turn held by
-    /// another pass; the pass then counts a miss, and is otherwise as it was. A pass that has all parts always gets it.
+    /// Tries once to take the turn, and never waits. None comes only if this call's own step found
+    /// the turn held by another pass; the pass then counts a miss, and is otherwise as before. A
+    /// pass that has all parts always gets the turn.
     pub fn try_enter(&self, pass: &mut Pass<R>) -> Option<Held<R>>
         requires own { IsPassOf self.now pass.old }
         requires rests { IsResting pass.old }
@@ -79,9 +80,9 @@ impl<R: TurnRule> TurnLock<R> {
         None
     }
 
-    /// Puts the state back and leaves the turn. All that the holder did takes effect here, at one step. The caller shows
-    /// that the rule stays when the state that was found becomes the one that is put back, and the view the one that
-    /// `M` gives; what the holder says is for `M` alone.
+    /// Puts the state back and leaves the turn. All that the holder did takes effect here, at one
+    /// step. The caller shows that the rule stays when the state goes from the one found to the one
+    /// put back, and the view to the one that `M` gives. What the holder says is for `M` alone.
     pub fn leave<M: Leaving<R>>(&self, pass: &mut Pass<R>, held: Held<R>, said: &M::Said)
         requires own { IsPassOf self.now pass.old }
         requires holds { HoldsTurn pass.old (found held) }
@@ -96,8 +97,9 @@ impl<R: TurnRule> TurnLock<R> {
         self.table.shared.wake_one(TURN);
     }
 
-    /// All that the holder did so far takes effect here, at one step, as at a leaving; and the pass keeps the turn, and has
-    /// found what it made. It never waits. No other pass can have the state between.
+    /// All that the holder did so far takes effect here, at one step, as at a leaving. The pass
+    /// keeps the turn, and has found the state that it made. It never waits. No other pass can have
+    /// the state between.
     pub fn commit<M: Leaving<R>>(
         &self,
         pass: &mut Pass<R>,
