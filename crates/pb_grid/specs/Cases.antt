@@ -1,4 +1,5 @@
--- When each refusal is told, in the formats' own words: what is judged before the fault is as it must be, and then comes the fault.
+-- The case of each refusal, in the formats' own words: all that is judged before the fault is
+-- well-formed, and then comes the fault.
 use Rattle.std.specs.Prelude.{◌≡◌, ◌≢◌, ℕ, zero, suc, ◌+◌, ◌≤◌, ◌<◌, false, IsTrue, List, [], ◌∷◌, ◌++◌, length, drop, map, filter, codes, Some, None, not, ◌⊎◌}
 use Rattle.std.specs.List.{AllByRecursion}
 use Rattle.pb_lines.specs.ShortNumbers.{IsShortNumber}
@@ -50,15 +51,16 @@ IsSide cells = (1 ≤ cells) × (cells ≤ 2048)
 abbrev pub IsSizeFault : (lines : List (List ℕ)) → Type 0
 IsSizeFault lines = (height : ℕ) × (width : ℕ) × HasHeader lines height width × (IsSide height × IsSide width → ⊥)
 
--- ---- the lines behind these four, the first of which has the number `first`
+-- ---- the lines after these four, the first of which has the number `first`
 
--- a row of the map: as many bytes as it is wide, each of which stands for a cell
+-- a row of the map: as many bytes as the map is wide, each of which represents a cell
 pub record IsRow (width : ℕ) (row : List ℕ) : Type 0 where
   pub wide : length row ≡ width
   pub cells : List Class
   pub classes : map class_of_byte row ≡ map Some cells
 
--- The first line that should be a row and is none, by its length: it is missing, or has too few or too many bytes.
+-- The first line that should be a row and is none, because of its length: it is missing, or has too
+-- few or too many bytes.
 pub record IsRowFault (first : ℕ) (lines : List (List ℕ)) (height width line : ℕ) : Type 0 where
   pub before : List (List ℕ)
   pub rows : AllByRecursion (IsRow width) before
@@ -66,7 +68,8 @@ pub record IsRowFault (first : ℕ) (lines : List (List ℕ)) (height width line
   pub place : line ≡ first + length before
   pub fault : (lines ≡ before) ⊎ ((row : List ℕ) × (behind : List (List ℕ)) × (lines ≡ before ++ row ∷ behind) × (length row ≢ width))
 
--- The first line that should be a row and is none, by a byte: this is its first that stands for no cell.
+-- The first line that should be a row and is none, because of a byte: this is its first byte that
+-- represents no cell.
 pub record IsCellFault (first : ℕ) (lines : List (List ℕ)) (height width line col : ℕ) : Type 0 where
   pub before : List (List ℕ)
   pub row : List ℕ
@@ -98,7 +101,7 @@ pub record IsBelowFault (first : ℕ) (lines : List (List ℕ)) (height width li
   pub place : line ≡ first + height + length blanks
   pub fault : words_of below ≢ []
 
--- the fault of a line behind the first four
+-- the fault of a line after the first four
 abbrev pub IsLineFault : ((lines : List (List ℕ)) → (height width : ℕ) → Type 0) → (lines : List (List ℕ)) → Type 0
 IsLineFault Fault lines = (height : ℕ) × (width : ℕ) × HasHeader lines height width × IsSide height × IsSide width × Fault (drop 4 lines) height width
 
@@ -113,7 +116,8 @@ count_of_rows lines = length (filter (λ line. not (is_blank_line line)) lines)
 abbrev pub IsNoRow : (lines : List (List ℕ)) → (row rows : ℕ) → Type 0
 IsNoRow lines row rows = BeginsWithVersion lines × (rows ≡ count_of_rows (drop 1 lines)) × (rows ≤ row)
 
--- the chosen row is this line, and does not have nine words or more with six numbers where they must stand
+-- the chosen row is this line, and does not have nine words or more with six numbers in their
+-- places
 pub record IsChosenFault (lines : List (List ℕ)) (row line : ℕ) : Type 0 where
   pub version : BeginsWithVersion lines
   pub before : List (List ℕ)

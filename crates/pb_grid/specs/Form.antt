@@ -9,13 +9,15 @@ use Rattle.pb_grid.specs.Reading.{class_of_byte, is_swamp_byte, is_free}
 
 -- ---- maps
 
--- the rows are as many as the map is high, each has as many bytes as the map is wide, and their bytes stand for the cells, row by row
+-- There are as many rows as the map is high, and each has as many bytes as the map is wide. The
+-- bytes represent the cells, row by row.
 pub record AreRows (width height : ℕ) (rows : List (List ℕ)) (cells : List Class) : Type 0 where
   pub count : length rows ≡ height
   pub widths : AllByRecursion (λ row. length row ≡ width) rows
   pub classes : map class_of_byte (concat rows) ≡ map Some cells
 
--- A map is four lines, which say that it is one, how high and how wide, and that the map begins, then its rows, and then blank lines.
+-- A map is four lines, then its rows, and then blank lines. The four lines say that it is a map,
+-- how high and how wide it is, and that its rows begin.
 pub record SpellsMap (text : List ℕ) (width height : ℕ) (cells : List Class) : Type 0 where
   pub type_line : List ℕ
   pub height_line : List ℕ
@@ -39,8 +41,9 @@ pub record SpellsMap (text : List ℕ) (width height : ℕ) (cells : List Class)
 
 -- ---- scenarios
 
--- The words of a row of a scenario: a bucket, the map's name, which is one word or more, the map's width and height, the start's column
--- and row, the goal's column and row, and the length of a shortest way. Only these six numbers are looked at.
+-- The words of a row of a scenario: a bucket, the map's name, which is one word or more, the map's
+-- width and height, the start's column and row, the goal's column and row, and the length of a
+-- shortest way. Only the six numbers before the length are looked at.
 pub record SpellsRow (line : List ℕ) (width height : ℕ) (start goal : ℕ × ℕ) : Type 0 where
   pub bucket : List ℕ
   pub name : List (List ℕ)
@@ -58,7 +61,8 @@ pub record SpellsRow (line : List ℕ) (width height : ℕ) (start goal : ℕ ×
   pub start_is : IsShortNumber start_x start.0 × IsShortNumber start_y start.1
   pub goal_is : IsShortNumber goal_x goal.0 × IsShortNumber goal_y goal.1
 
--- A scenario is a line that begins with `version`, and then rows, counted from 0, among blank lines. Only the chosen row is looked at.
+-- A scenario is a line that begins with `version`, and then rows, counted from 0, among blank
+-- lines. Only the chosen row is looked at.
 pub record SpellsScenario (text : List ℕ) (row width height : ℕ) (start goal : ℕ × ℕ) : Type 0 where
   pub version : List ℕ
   pub before : List (List ℕ)
@@ -70,8 +74,9 @@ pub record SpellsScenario (text : List ℕ) (row width height : ℕ) (start goal
 
 -- ---- both
 
--- The two texts spell the grid, with swamp or without: the scenario's sizes are the map's, its start and goal lie on the map and are not
--- blocked, and a cell is swamp exactly if swamp is asked for and its byte is `S`.
+-- The two texts spell the grid, with swamp or without. The scenario's sizes are the map's, and its
+-- start and goal lie on the map and are not blocked. A cell is swamp exactly if swamp is asked for
+-- and its byte is `S`.
 pub record SpellsGrid (map_text scenario_text : List ℕ) (row : ℕ) (swamp : Bool) (grid : GridParts) : Type 0 where
   pub map_is : SpellsMap map_text grid.width grid.height grid.cells
   pub swamp_is : grid.swamp ≡ map (is_swamp_byte swamp) (concat map_is.rows)

@@ -9,7 +9,8 @@ use Rattle.pb_grid.specs.Reading.{grid_reading, swamp_of}
 use Rattle.pb_grid.specs.Cases.{IsCaseOf}
 use Rattle.pb_grid.specs.declared.error.GridError.{GridError}
 
--- What is read of two texts without a refusal is a grid that they spell, and a grid that they spell is read.
+-- If two texts are read without a refusal, the result is a grid that they spell. A grid that they
+-- spell is read.
 abbrev pub ReadAsSpelled : Type 0
 ReadAsSpelled =
     (map_text scenario_text : List ℕ) (row : ℕ) (swamp : Bool) (grid : GridParts)
@@ -22,7 +23,8 @@ SpelledGridsAreUnique =
     (map_text scenario_text : List ℕ) (row : ℕ) (swamp : Bool) (grid other : GridParts)
     → SpellsGrid map_text scenario_text row swamp grid → SpellsGrid map_text scenario_text row swamp other → grid ≡ other
 
--- Two texts that spell a grid with swamp spell one without it, and the other way round: the same but for the marks.
+-- Two texts that spell a grid with swamp spell the same grid without it, and the other way round:
+-- only the marks differ.
 abbrev pub SwampChangesMarksAlone : Type 0
 SwampChangesMarksAlone =
     (map_text scenario_text : List ℕ) (row : ℕ) (swamp other : Bool) (grid : GridParts) → grid_reading map_text scenario_text row swamp ≡ Ok grid
@@ -32,11 +34,11 @@ SwampChangesMarksAlone =
 abbrev pub SpelledGridsAreGrids : Type 0
 SpelledGridsAreGrids = (map_text scenario_text : List ℕ) (row : ℕ) (swamp : Bool) (grid : GridParts) → SpellsGrid map_text scenario_text row swamp grid → IsGrid grid
 
--- Want of memory is no refusal of a text.
+-- Running out of memory is no refusal of a text.
 abbrev pub RefusalsAreOfTexts : Type 0
 RefusalsAreOfTexts = (map_text scenario_text : List ℕ) (row : ℕ) (swamp : Bool) → grid_reading map_text scenario_text row swamp ≡ Err Memory → ⊥
 
--- Each refusal is told exactly in its case, with swamp or without.
+-- Each refusal is reported exactly in its case, with swamp or without.
 abbrev pub RefusalsHaveTheirCase : Type 0
 RefusalsHaveTheirCase =
     (map_text scenario_text : List ℕ) (row : ℕ) (swamp : Bool) (error : GridError)

@@ -9,14 +9,14 @@ use Rattle.std.specs.Str.Lines.{strip_carriage_return}
 abbrev pub is_line_feed : (byte : ℕ) → Bool
 is_line_feed byte = byte == 10
 
--- the parts between line feeds, but for a last one without bytes
+-- the parts between line feeds, except a last one without bytes
 unfoldable pub without_empty_last : (parts : List (List ℕ)) → List (List ℕ)
 without_empty_last [] = []
 without_empty_last (part ∷ []) = if length part == 0 then [] else part ∷ []
 without_empty_last (part ∷ next ∷ parts) = part ∷ without_empty_last (next ∷ parts)
 
--- The lines of a text. A line ends with a line feed or where the text ends, a carriage return directly before its end is no part of it,
--- and a last line without bytes is none.
+-- The lines of a text. A line ends with a line feed or at the end of the text. A carriage return
+-- directly before its end is no part of the line, and a last line without bytes is no line.
 unfoldable pub lines_of : (text : List ℕ) → List (List ℕ)
 lines_of text = map strip_carriage_return (without_empty_last (slice_split is_line_feed text))
 
@@ -24,7 +24,7 @@ lines_of text = map strip_carriage_return (without_empty_last (slice_split is_li
 abbrev pub line_at : (lines : List (List ℕ)) → (number : ℕ) → List ℕ
 line_at lines number = unwrap_or (slice_get lines (number - 1)) []
 
--- the last byte that passes a test stands here
+-- the last byte that passes a test is here
 pub record IsLastAt (test : ℕ → Bool) (bytes : List ℕ) (at : ℕ) : Type 0 where
   pub within : at < length bytes
   pub passes : test (slice_index bytes at) ≡ true

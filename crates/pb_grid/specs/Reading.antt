@@ -1,4 +1,5 @@
--- Reading a grid from the lines of a map and of a scenario. Of several refusals the first in the order of these definitions is told.
+-- Reading a grid from the lines of a map and of a scenario. Of several refusals the first in the
+-- order of these definitions is reported.
 use Rattle.std.specs.Prelude.{◌≡◌, ◌≢◌, ℕ, zero, suc, ◌+◌, Bool, true, false, List, [], ◌∷◌, ◌++◌, length, take, drop, map, filter, reverse, codes, Option, None, Some, Result, Ok, Err, slice_get, if◌then◌else◌, nat_lt, nat_le, nat_eq, not, ◌==◌, ◌&&◌}
 use Rattle.std.specs.List.{concat, enumerate_from, starts_with}
 use Rattle.std.specs.Str.{bytes_eq}
@@ -46,7 +47,7 @@ are_words [] (want ∷ wanted) = false
 are_words (word ∷ words) [] = false
 are_words (word ∷ words) (want ∷ wanted) = bytes_eq word want && are_words words wanted
 
--- the number behind this name, where these two are all words
+-- the number after this name, if the two are all words
 abbrev pub number_named : (name : List ℕ) → (words : List (List ℕ)) → Option ℕ
 number_named name [] = None
 number_named name (word ∷ []) = None
@@ -67,7 +68,8 @@ is_side cells = nat_le 1 cells && nat_le cells 2048
 
 -- ---- the rows of a map
 
--- the class of the cell that a byte stands for: `.`, `G` and `S` are land, `W` is water, and `@`, `O` and `T` are blocked
+-- the class of the cell that a byte represents: `.`, `G` and `S` are land, `W` is water, and `@`,
+-- `O` and `T` are blocked
 unfoldable pub class_of_byte : (byte : ℕ) → Option Class
 class_of_byte byte =
     if byte == 46 then Some Land
@@ -78,7 +80,7 @@ class_of_byte byte =
     else (if byte == 79 then Some Blocked
     else (if byte == 84 then Some Blocked else None))))))
 
--- the cells that the bytes from this column on stand for
+-- the cells that the bytes from this column on represent
 unfoldable pub cells_of : (line column : ℕ) → (bytes : List ℕ) → Result (List Class) GridError
 cells_of line column [] = Ok []
 cells_of line column (byte ∷ bytes) = do
@@ -86,7 +88,7 @@ cells_of line column (byte ∷ bytes) = do
   cells ← cells_of line (column + 1) bytes
   Ok (cell ∷ cells)
 
--- the cells that were read, behind these
+-- the cells that were read, after these
 abbrev pub added_to : (before : List Class) → Result (List Class) GridError → Result (List Class) GridError
 added_to before read = read >>= λ cells. Ok (before ++ cells)
 
@@ -122,17 +124,18 @@ map_reading lines = do
 
 -- ---- the swamp of a map
 
--- the cell that a byte stands for is swamp: swamp is asked for, and the byte is `S`
+-- the cell that a byte represents is swamp: swamp is asked for, and the byte is `S`
 abbrev pub is_swamp_byte : (swamp : Bool) → (byte : ℕ) → Bool
 is_swamp_byte swamp byte = swamp && byte == 83
 
--- which cells of a map that is so high are swamp, row by row; the rows are the lines behind the first four
+-- which cells of a map of this height are swamp, row by row; the rows are the lines after the first
+-- four
 abbrev pub swamp_of : (swamp : Bool) → (height : ℕ) → (lines : List (List ℕ)) → List Bool
 swamp_of swamp height lines = map (is_swamp_byte swamp) (concat (take height (drop 4 lines)))
 
 -- ---- a scenario
 
--- the rows of a scenario, each with its line's number: the lines behind the first that are not blank
+-- the rows of a scenario, each with its line's number: the lines after the first that are not blank
 abbrev pub rows_of_scenario : (lines : List (List ℕ)) → List (ℕ × List ℕ)
 rows_of_scenario lines = filter (λ row. not (is_blank_line row.1)) (enumerate_from 2 (drop 1 lines))
 
@@ -151,8 +154,9 @@ scenario_of (Some size) None goal = None
 scenario_of (Some size) (Some start) None = None
 scenario_of (Some size) (Some start) (Some goal) = Some (record { width = size.0; height = size.1; start = start; goal = goal })
 
--- What the words of a row say, the last word first: the length of a shortest way, the goal's row and column, the start's row and column,
--- and the map's height and width, behind which at least two words more stand, the map's name and a bucket.
+-- What the words of a row say, the last word first: the length of a shortest way, the goal's row
+-- and column, the start's row and column, and the map's height and width. Before these come at
+-- least two words more: a bucket and the map's name.
 unfoldable pub scenario_of_words : (words : List (List ℕ)) → Option ScenarioParts
 scenario_of_words (way ∷ goal_y ∷ goal_x ∷ start_y ∷ start_x ∷ height ∷ width ∷ name ∷ bucket ∷ more) =
     scenario_of (pair_of width height) (pair_of start_x start_y) (pair_of goal_x goal_y)

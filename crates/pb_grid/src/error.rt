@@ -3,23 +3,24 @@ ghost use Rattle.pb_grid.specs.declared.error.GridError.TheVariants.{Memory};
 
 use std::alloc::{AllocError, AllocFailed};
 
-/// Why two texts were not read as a grid. Lines and columns are counted from 1, rows of a scenario from 0. Where several of these
-/// fit, the first in the order of these names is told, but a map's rows are judged line by line.
+/// Why two texts were not read as a grid. Lines and columns are counted from 1, rows of a scenario
+/// from 0. If several of these fit, the first in the order of these names is reported, but a map's
+/// rows are judged line by line.
 #[derive(Clone, Copy, Debug, PartialEq, Eq)]
 pub enum GridError {
     /// This line of the map, one of its first four, is missing or does not say what it must.
     Header { line: u64 },
     /// The map's height or width is not 1 to 2,048.
     Size,
-    /// This line of the map must be a row of as many bytes as the map is wide, and is missing or is not; or it lies below the last
-    /// row and is not blank.
+    /// This line of the map must be a row of as many bytes as the map is wide, and is missing or is
+    /// not such a row; or it lies below the last row and is not blank.
     Rows { line: u64 },
-    /// The byte in this column of a row of the map stands for no cell.
+    /// The byte in this column of a row of the map represents no cell.
     Cell { line: u64, col: u64 },
-    /// This line of the scenario is not as it must be: the first line does not begin with `version`, or the chosen row does not
-    /// have nine words or more with six numbers where they must stand.
+    /// This line of the scenario is malformed: the first line does not begin with `version`, or the
+    /// chosen row does not have nine words or more with six numbers in their places.
     Scenario { line: u64 },
-    /// The scenario has only so many rows, and the chosen one is not below that.
+    /// The scenario has only `rows` rows, and the number of the chosen row is not below that.
     NoRow { row: u64, rows: u64 },
     /// The row's width or height is not the map's.
     ScenarioSize,

@@ -27,7 +27,7 @@ fn is_type_line(line: &[u8]) -> bool
     }
 }
 
-// The number that a line has behind this name, where these two are all its words.
+// The number that a line has after this name, if the two are all its words.
 fn number_named(line: &[u8], name: &[u8]) -> Option<u32>
     ensures { result ≡ number_named name.now (words_of line.now) }
 {
@@ -43,7 +43,7 @@ fn number_named(line: &[u8], name: &[u8]) -> Option<u32>
     short_number_of(second)
 }
 
-/// The height and the width that the first four lines of a map say, and the text behind them.
+/// The height and the width that the first four lines of a map say, and the text after these lines.
 #[tactic(auto, unfolding(crate::specs::Reading::size_of_map))]
 pub fn size_of_map(text: &[u8]) -> Result<(u32, u32, &[u8]), GridError>
     ensures gives { Gives (λ x. (x.0, x.1)) result (size_of_map (lines_of text.now)) }

@@ -1,6 +1,7 @@
 ghost use Rattle.pb_grid.specs.Laws.{ReadAsSpelled, SpelledGridsAreUnique, SwampChangesMarksAlone, SpelledGridsAreGrids, RefusalsAreOfTexts, RefusalsHaveTheirCase};
 
-/// What is read of two texts without a refusal is a grid that they spell, and a grid that they spell is read.
+/// If two texts are read without a refusal, the result is a grid that they spell. A grid that they
+/// spell is read.
 pub fn read_as_spelled()
     ensures { ReadAsSpelled }
 {}
@@ -10,7 +11,8 @@ pub fn spelled_grids_are_unique()
     ensures { SpelledGridsAreUnique }
 {}
 
-/// Two texts that spell a grid with swamp spell one without it, and the other way round: the same but for the marks.
+/// Two texts that spell a grid with swamp spell the same grid without it, and the other way round:
+/// only the marks differ.
 pub fn swamp_changes_marks_alone()
     ensures { SwampChangesMarksAlone }
 {}
@@ -20,12 +22,12 @@ pub fn spelled_grids_are_grids()
     ensures { SpelledGridsAreGrids }
 {}
 
-/// Want of memory is no refusal of a text.
+/// Running out of memory is no refusal of a text.
 pub fn refusals_are_of_texts()
     ensures { RefusalsAreOfTexts }
 {}
 
-/// Each refusal is told exactly in its case, as the formats describe it.
+/// Each refusal is reported exactly in its case, as the formats describe it.
 pub fn refusals_have_their_case()
     ensures { RefusalsHaveTheirCase }
 {}

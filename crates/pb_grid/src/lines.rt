@@ -17,14 +17,15 @@ fn without_return(line: &[u8]) -> &[u8]
     }
 }
 
-// How many bytes stand before the first line feed of a text.
+// How many bytes come before the first line feed of a text.
 fn line_feed_at(text: &[u8]) -> Option<usize>
     ensures { result ≡ position is_line_feed text.now }
 {
     text.iter().position(|byte| *byte == b'\n')
 }
 
-/// The first line of a text, without what ends it, and the text behind it. None where the text has no line.
+/// The first line of a text, without its line ending, and the text after it. None if the text has
+/// no line.
 pub fn split_line(text: &[u8]) -> Option<(&[u8], &[u8])>
     ensures some { IfSome result (λ x. lines_of text.now ≡ x.0.now ∷ lines_of x.1.now) }
     ensures shorter { IfSome result (λ x. length x.1.now + 1 ≤ length text.now) }
@@ -39,7 +40,8 @@ pub fn split_line(text: &[u8]) -> Option<(&[u8], &[u8])>
     }
 }
 
-/// The first line of a text and the text behind it. A line that is missing is one without bytes.
+/// The first line of a text and the text after it. A line that is missing counts as one without
+/// bytes.
 pub fn next_line(text: &[u8]) -> (&[u8], &[u8])
     ensures line { result.0.now ≡ line_at (lines_of text.now) 1 }
     ensures rest { lines_of result.1.now ≡ drop 1 (lines_of text.now) }

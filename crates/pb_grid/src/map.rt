@@ -23,7 +23,7 @@ pub struct MapParts {
     pub cells: Cells,
 }
 
-// The class of the cell that a byte stands for.
+// The class of the cell that a byte represents.
 #[tactic(auto, unfolding(crate::specs::Reading::class_of_byte))]
 fn class_of_byte(byte: u8) -> Option<Class>
     ensures { result ≡ class_of_byte byte }
@@ -36,7 +36,7 @@ fn class_of_byte(byte: u8) -> Option<Class>
     }
 }
 
-// Adds the cells that a row's bytes stand for.
+// Adds the cells that a row's bytes represent.
 fn add_cells(out: &mut Vec<Class>, line: u64, row: &[u8]) -> Result<(), GridError>
     ensures { Gives (λ _. out.new.items) result (added_to out.old.items (cells_of line 1 row.now)) }
 {

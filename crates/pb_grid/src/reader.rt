@@ -81,9 +81,10 @@ fn parts_of_texts(
     grid_of_parts(parts, Swamp::of(marks), chosen)
 }
 
-/// Reads the grid that the texts of a map and of a scenario spell, and tells the first refusal where they spell none. `row` is the
-/// chosen row of the scenario, counted from 0. With `swamp` a cell whose byte is `S` costs 2 to enter, and without it 1, as each other
-/// cell does. What it reserves grows with the bytes of the map that it has read.
+/// Reads the grid that the texts of a map and of a scenario spell, and reports the first refusal if
+/// they spell none. `row` is the chosen row of the scenario, counted from 0. With `swamp` a cell
+/// whose byte is `S` costs 2 to enter, and without it 1, as each other cell does. The memory that
+/// it reserves grows with the bytes of the map that it has read.
 pub fn read_grid(
     alloc: Global,
     map: &[u8],
@@ -97,9 +98,10 @@ pub fn read_grid(
     ensures spelled { IfOk result (λ task. (grid : GridParts) × (task ≡ Grid grid) × SpellsGrid map.now scenario.now row swamp grid) }
     // A grid that the texts spell is read, unless memory ran out.
     ensures only { (grid : GridParts) → SpellsGrid map.now scenario.now row swamp grid → Gives (λ task. task) result (Ok (Grid grid)) }
-    // A refusal is told only in its case: what is judged before the fault is as it must be, and then comes the fault.
+    // A refusal comes only in its case: all that is judged before is well-formed, and then comes
+    // the fault.
     ensures refused { IfErr result (λ error. error ≢ Memory → IsCaseOf map.now scenario.now row error) }
-    // In its case a refusal is told, unless memory ran out.
+    // In its case a refusal is reported, unless memory ran out.
     ensures told { (error : GridError) → IsCaseOf map.now scenario.now row error → Gives (λ task. task) result (Err error) }
 {
     let grid = parts_of_texts(alloc, map, scenario, row, swamp)?;

@@ -28,7 +28,7 @@ struct NumberWords<'a> {
     goal_y: &'a [u8],
 }
 
-// The words of a row that are to be numbers. None where it has fewer than nine words.
+// The words of a row that are to be numbers. None if the row has fewer than nine words.
 fn number_words(line: &[u8]) -> Option<NumberWords<'_>>
     ensures some { IfSome result (λ w. scenario_of_words (reverse (words_of line.now)) ≡ scenario_of (pair_of w.width.now w.height.now) (pair_of w.start_x.now w.start_y.now) (pair_of w.goal_x.now w.goal_y.now)) }
     ensures none { IfNone result (scenario_of_words (reverse (words_of line.now)) ≡ None) }

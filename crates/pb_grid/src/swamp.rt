@@ -6,10 +6,10 @@ ghost use Rattle.pb_grid.specs.Reading.{is_swamp_byte, swamp_of};
 use crate::lines::next_line;
 use std::alloc::{AllocError, Global};
 
-// How many lines stand before a map's rows.
+// How many lines come before a map's rows.
 const HEADER_LINES: u32 = 4;
 
-// The text behind its first lines, of which there are so many.
+// The text after its first `count` lines.
 fn behind_lines(text: &[u8], count: u32) -> &[u8]
     ensures { lines_of result.now ≡ drop count (lines_of text.now) }
 {

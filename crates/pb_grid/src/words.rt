@@ -8,21 +8,21 @@ fn is_blank(byte: u8) -> bool
     byte == b' ' || byte == b'\t'
 }
 
-// How many bytes stand before the first blank.
+// How many bytes come before the first blank.
 fn blank_at(line: &[u8]) -> Option<usize>
     ensures { result ≡ position is_blank line.now }
 {
     line.iter().position(|byte| is_blank(*byte))
 }
 
-// How many blanks stand before a line's first word.
+// How many blanks come before a line's first word.
 fn word_at(line: &[u8]) -> Option<usize>
     ensures { result ≡ position (λ byte. not (is_blank byte)) line.now }
 {
     line.iter().position(|byte| !is_blank(*byte))
 }
 
-// Where the last blank stands.
+// The place of the last blank.
 fn last_blank_at(line: &[u8]) -> Option<usize>
     ensures some { IfSome result (λ at. IsLastAt is_blank line.now at) }
     ensures none { IfNone result ((k : ℕ) → k < length line.now → is_blank (slice_index line.now k) ≡ false) }
@@ -30,7 +30,7 @@ fn last_blank_at(line: &[u8]) -> Option<usize>
     line.iter().rposition(|byte| is_blank(*byte))
 }
 
-// Where the last byte of a line's last word stands.
+// The place of the last byte of a line's last word.
 fn word_end_at(line: &[u8]) -> Option<usize>
     ensures some { IfSome result (λ at. IsLastAt (λ byte. not (is_blank byte)) line.now at) }
     ensures none { IfNone result ((k : ℕ) → k < length line.now → not (is_blank (slice_index line.now k)) ≡ false) }
@@ -38,7 +38,7 @@ fn word_end_at(line: &[u8]) -> Option<usize>
     line.iter().rposition(|byte| !is_blank(*byte))
 }
 
-/// The first word of a line, and the line behind it. None where the line has no word.
+/// The first word of a line, and the line after it. None if the line has no word.
 pub fn split_word(line: &[u8]) -> Option<(&[u8], &[u8])>
     ensures some { IfSome result (λ x. words_of line.now ≡ x.0.now ∷ words_of x.1.now) }
     ensures none { IfNone result (words_of line.now ≡ []) }
@@ -53,7 +53,7 @@ pub fn split_word(line: &[u8]) -> Option<(&[u8], &[u8])>
     }
 }
 
-/// The last word of a line, behind the line before it. None where the line has no word.
+/// The last word of a line, and the line before it. None if the line has no word.
 pub fn split_last_word(line: &[u8]) -> Option<(&[u8], &[u8])>
     ensures some { IfSome result (λ x. reverse (words_of line.now) ≡ x.1.now ∷ reverse (words_of x.0.now)) }
     ensures none { IfNone result (words_of line.now ≡ []) }

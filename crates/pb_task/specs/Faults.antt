@@ -9,7 +9,8 @@ use Rattle.pb_task.specs.declared.plan.PlanFault.TheVariants.{Step, NotGoal}
 abbrev pub LeadTo : Space → List ℕ → (state : ℕ) → Type 0
 LeadTo space actions state = (cost : ℕ) × Walk space space.start actions cost state
 
--- Step: the actions before this one are applicable, one after another, and this one is not. NotGoal: all are, and lead to no goal.
+-- Step: the actions before this one are applicable, one after another, and this one is not.
+-- NotGoal: all actions are applicable, and they lead to no goal.
 abbrev pub IsFault : Space → List ℕ → PlanFault → Type 0
 IsFault space actions (Step at) =
     (state : ℕ) × (action : ℕ) × LeadTo space (take at actions) state × (slice_get actions at ≡ Some action) × (space.step state action ≡ None)

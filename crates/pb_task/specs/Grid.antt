@@ -1,5 +1,5 @@
--- Grids: the states are the land and water cells of a map, and an action leads to the cell beside it that has the same class, at cost 2 into
--- swamp and else at cost 1.
+-- Grids: the states are the land and water cells of a map. An action leads to the cell beside the
+-- state's cell if both have the same class. It costs 2 into swamp and else 1.
 use Rattle.std.specs.Prelude.{◌≡◌, ℕ, zero, suc, ◌+◌, ◌-◌, ◌*◌, ◌^◌, ◌≤◌, Bool, true, false, IsTrue, List, length, codes, Option, None, Some, unwrap_or, slice_get, if◌then◌else◌, nat_lt, ◌==◌, ◌&&◌}
 use Rattle.pb_packed.specs.Bits.{bits_of}
 use Rattle.pb_model.specs.Space.{Space}
@@ -23,7 +23,8 @@ are_connected Water Water = true
 are_connected Water Blocked = false
 are_connected Blocked to = false
 
--- the class of the cell in this column and row, counted from the upper left cell; off the map all is blocked
+-- the class of the cell in this column and row, counted from the upper left cell; off the map each
+-- cell is blocked
 abbrev pub class_at : GridParts → (x y : ℕ) → Class
 class_at grid x y =
     if nat_lt x grid.width && nat_lt y grid.height then unwrap_or (slice_get grid.cells (y * grid.width + x)) Blocked else Blocked
@@ -41,7 +42,8 @@ entry_cost grid x y = if is_swamp grid x y then 2 else 1
 abbrev pub cell_state : (x y : ℕ) → ℕ
 cell_state x y = x + y * 2 ^ 11
 
--- the class of the cell that a state stands for; a number with another bit that is 1 stands for none
+-- the class of the cell that a state represents; a number with another bit that is 1 represents no
+-- cell
 abbrev pub class_of_state : GridParts → (state : ℕ) → Class
 class_of_state grid state = if nat_lt state (2 ^ 22) then class_at grid (bits_of state 0 11) (bits_of state 11 11) else Blocked
 
@@ -53,7 +55,7 @@ cell_beside x y (suc (suc zero)) = if nat_lt 0 x then Some (x - 1, y) else None
 cell_beside x y (suc (suc (suc zero))) = Some (x + 1, y)
 cell_beside x y (suc (suc (suc (suc more)))) = None
 
--- the step from a cell of the class to this cell, where the two are connected
+-- the step from a cell of the class to this cell, if the two are connected
 abbrev pub step_to : GridParts → (from : Class) → (cell : Option (ℕ × ℕ)) → Option (ℕ × ℕ)
 step_to grid from None = None
 step_to grid from (Some cell) = if are_connected from (class_at grid cell.0 cell.1) then Some (cell_state cell.0 cell.1, entry_cost grid cell.0 cell.1) else None
@@ -78,7 +80,8 @@ direction (suc zero) = codes "down"
 direction (suc (suc zero)) = codes "left"
 direction (suc (suc (suc more))) = codes "right"
 
--- Each side has 1 to 2,048 cells, there are as many classes and marks of swamp as cells, and start and goal can be entered.
+-- Each side has 1 to 2,048 cells, there are as many classes and marks of swamp as cells, and start
+-- and goal can be entered.
 pub record IsGrid (grid : GridParts) : Type 0 where
   pub width : (1 ≤ grid.width) × (grid.width ≤ 2048)
   pub height : (1 ≤ grid.height) × (grid.height ≤ 2048)

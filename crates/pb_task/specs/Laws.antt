@@ -15,29 +15,31 @@ use Rattle.pb_task.specs.Strips.{has_atom, set_of, strips_space, IsStrips, Acts}
 use Rattle.pb_task.specs.declared.parts.StripsParts.{StripsParts}
 use Rattle.pb_task.specs.Parts.{space_of, IsTask, max_degree_of, greatest_cost}
 
--- A grid's start is a state, each of its steps is by one of four actions, leads from a state to a state, and costs 1 or 2, and its states
--- are numbers below 2^22.
+-- A grid's start is a state. Each of its steps is by one of four actions, leads from a state to a
+-- state, and costs 1 or 2. Its states are numbers below 2^22.
 abbrev pub GridsAreProper : Type 0
 GridsAreProper =
     (grid : GridParts) → IsGrid grid
     → IsProper (grid_space grid) 2 × ((grid_space grid).actions ≡ 4) × ((state : ℕ) → IsTrue ((grid_space grid).is_state state) → state < 2 ^ 22)
 
--- The start of sliding tiles is a state, each of their steps is by one of four actions, leads from a board to a board, and costs 1, and
--- their states are numbers below 2^64.
+-- The start of sliding tiles is a state. Each step is by one of four actions, leads from a board to
+-- a board, and costs 1. The states are numbers below 2^64.
 abbrev pub TilesAreProper : Type 0
 TilesAreProper =
     (tiles : TilesParts) → IsTiles tiles
     → IsProper (tiles_space tiles) 1 × ((tiles_space tiles).actions ≡ 4) × ((state : ℕ) → IsTrue ((tiles_space tiles).is_state state) → state < 2 ^ 64)
 
--- A step of sliding tiles is one that exchanges the blank of a board and the tile beside it in the action's direction, and costs 1.
+-- A step of sliding tiles exchanges the blank of a board and the tile beside it in the action's
+-- direction, and costs 1.
 abbrev pub TilesSlide : Type 0
 TilesSlide =
     (tiles : TilesParts) → IsTiles tiles → (before : List ℕ) → IsTrue (is_board (cell_count tiles) before) → (action to cost : ℕ)
     → Steps (tiles_space tiles) (board_state before) action to cost
     ↔ ((after : List ℕ) × IsTrue (is_board (cell_count tiles) after) × Slides tiles action before after × (to ≡ board_state after) × (cost ≡ 1))
 
--- Boards and the states that stand for them are one to one: the state of a board is one that has the board's numbers in its cells, a state that is
--- a board is the state of the numbers in its cells, and the number in cell i is the one in the bits 4i to 4i+3.
+-- Boards and their states are one to one. The state of a board has the board's numbers in its
+-- cells. A state that is a board is the state of the numbers in its cells. The number in cell i is
+-- the one in the bits 4i to 4i+3.
 abbrev pub BoardsArePacked : Type 0
 BoardsArePacked =
     (count : ℕ) → count ≤ 16
@@ -45,8 +47,8 @@ BoardsArePacked =
     × ((state : ℕ) → IsTrue (is_board_state count state) → IsTrue (is_board count (board_of count state)) × (board_state (board_of count state) ≡ state))
     × ((state cell : ℕ) → cell < count → slice_index (board_of count state) cell ≡ bits_of state (4 * cell) 4)
 
--- The start of a STRIPS task is a state, each of its steps is by one of its actions, leads from a state to a state, and costs 1 to 2^20, and its
--- states are numbers below 2^256.
+-- The start of a STRIPS task is a state. Each of its steps is by one of its actions, leads from a
+-- state to a state, and costs 1 to 2^20. Its states are numbers below 2^256.
 abbrev pub StripsAreProper : Type 0
 StripsAreProper =
     (strips : StripsParts) → IsStrips strips
@@ -56,8 +58,8 @@ StripsAreProper =
 abbrev pub StripsAct : Type 0
 StripsAct = (strips : StripsParts) (from action to cost : ℕ) → Steps (strips_space strips) from action to cost ↔ Acts strips from action to cost
 
--- A set that is made by a test has those of the first `count` atoms that the test accepts, and no others; and two sets of these atoms are equal
--- where they have the same.
+-- A set that is made by a test has those of the first `count` atoms that the test accepts, and no
+-- others. Two sets of these atoms are equal if they have the same atoms.
 abbrev pub SetsAreOfAtoms : Type 0
 SetsAreOfAtoms =
     ((count : ℕ) (accepts : ℕ → Bool) → (set_of count accepts < 2 ^ count) × ((atom : ℕ) → atom < count → has_atom (set_of count accepts) atom ≡ accepts atom))

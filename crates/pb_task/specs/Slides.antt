@@ -3,8 +3,8 @@ use Rattle.std.specs.Prelude.{◌≡◌, ◌≢◌, ℕ, zero, suc, ◌+◌, ◌
 use Rattle.pb_task.specs.declared.parts.TilesParts.{TilesParts}
 use Rattle.pb_task.specs.Tiles.{cell_count}
 
--- The second cell lies beside the first in an action's direction: above, below, left or right of it. A cell's row is its number divided by
--- the number of columns, and its column is the rest.
+-- The second cell lies beside the first in an action's direction: above, below, left or right. A
+-- cell's row is its number divided by the number of columns, and its column is the rest.
 abbrev pub LiesBeside : (cols from to action : ℕ) → Type 0
 LiesBeside cols from to zero = (from % cols ≡ to % cols) × (from / cols ≡ to / cols + 1)
 LiesBeside cols from to (suc zero) = (from % cols ≡ to % cols) × (to / cols ≡ from / cols + 1)
@@ -12,7 +12,8 @@ LiesBeside cols from to (suc (suc zero)) = (from / cols ≡ to / cols) × (from 
 LiesBeside cols from to (suc (suc (suc zero))) = (from / cols ≡ to / cols) × (to % cols ≡ from % cols + 1)
 LiesBeside cols from to (suc (suc (suc (suc more)))) = ⊥
 
--- The blank and the tile beside it in the action's direction have changed places, and all other tiles are where they were.
+-- The blank and the tile beside it in the action's direction have changed places, and all other
+-- tiles are in their old places.
 pub record Slides (tiles : TilesParts) (action : ℕ) (before after : List ℕ) : Type 0 where
   pub blank : ℕ
   pub tile : ℕ

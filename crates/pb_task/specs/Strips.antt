@@ -1,6 +1,7 @@
--- STRIPS over numbered ground atoms (R. E. Fikes and N. J. Nilsson, "STRIPS: a new approach to the application of theorem proving to problem solving",
--- 1971): a state is a set of atoms; an action is applicable where the atoms that it needs hold, and leads to the state less the atoms that it deletes,
--- with those that it adds.
+-- STRIPS over numbered ground atoms (R. E. Fikes and N. J. Nilsson, "STRIPS: a new approach to the
+-- application of theorem proving to problem solving", 1971). A state is a set of atoms. An action
+-- is applicable if the atoms that it needs hold. It leads to the state without the atoms that it
+-- deletes, together with those that it adds.
 use Rattle.std.specs.Prelude.{◌≡◌, ℕ, zero, suc, ◌+◌, ◌*◌, ◌^◌, ◌<◌, ◌≤◌, Bool, true, not, IsTrue, List, [], length, All, Option, None, Some, slice_get, if◌then◌else◌, nat_lt, ◌==◌, ◌&&◌, ◌||◌}
 use Rattle.pb_packed.specs.Bits.{bits_of, bit_number}
 use Rattle.pb_model.specs.Space.{Space}
@@ -32,7 +33,7 @@ holds_after action state atom = has_atom action.adds atom || (has_atom state ato
 abbrev pub state_after : (count : ℕ) → GroundAction → (state : ℕ) → ℕ
 state_after count action state = set_of count (holds_after action state)
 
--- the step by an action, where there is such an action and the atoms that it needs hold
+-- the step by an action, if there is such an action and the atoms that it needs hold
 abbrev pub step_by : (count : ℕ) → (action : Option GroundAction) → (state : ℕ) → Option (ℕ × ℕ)
 step_by count None state = None
 step_by count (Some action) state = if is_within count action.needs state then Some (state_after count action state, action.cost) else None
@@ -44,7 +45,8 @@ is_atom_set count state = nat_lt state (2 ^ count)
 abbrev pub strips_step : StripsParts → (state action : ℕ) → Option (ℕ × ℕ)
 strips_step strips state action = if is_atom_set strips.atoms state then step_by strips.atoms (slice_get strips.actions action) state else None
 
--- a goal state holds all atoms of the goal; there is none where the goal asks what can never hold
+-- a goal state holds all atoms of the goal; there is none if the goal asks for a fact that can
+-- never hold
 abbrev pub is_strips_goal : StripsParts → (state : ℕ) → Bool
 is_strips_goal strips state = not strips.never && is_within strips.atoms strips.goal state
 
@@ -58,7 +60,7 @@ strips_space strips = record {
   step = strips_step strips;
 }
 
--- the name of an action, where there is one
+-- the name of an action, if there is one
 abbrev pub name_of : Option GroundAction → List ℕ
 name_of None = []
 name_of (Some action) = action.name
@@ -81,8 +83,9 @@ pub record IsStrips (strips : StripsParts) : Type 0 where
   pub start : strips.start < 2 ^ strips.atoms
   pub goal : strips.goal < 2 ^ strips.atoms
 
--- An action leads from one set of atoms to another: all atoms that it needs are in the one, and an atom is in the other exactly where the action
--- adds it, or where it is in the one and the action doesn't delete it.
+-- An action leads from one set of atoms to another. The first has all atoms that the action needs.
+-- An atom is in the second exactly if the action adds it, or if it is in the first and the action
+-- doesn't delete it.
 pub record Acts (strips : StripsParts) (from action to cost : ℕ) : Type 0 where
   pub act : GroundAction
   pub is : slice_get strips.actions action ≡ Some act

@@ -1,5 +1,6 @@
--- Sliding tiles (W. W. Johnson and W. E. Story, "Notes on the 15 puzzle", 1879): a state lists the numbers of a board's cells, row by row from
--- the upper left cell on, and an action exchanges the blank, which is 0, with the number in the cell above, below, left or right of it, at cost 1.
+-- Sliding tiles (W. W. Johnson and W. E. Story, "Notes on the 15 puzzle", 1879): a state lists the
+-- numbers of a board's cells, row by row from the upper left cell on. An action exchanges the
+-- blank, which is 0, with the number in the cell above, below, left or right of it, at cost 1.
 use Rattle.std.specs.Prelude.{ℕ, ◌+◌, ◌*◌, ◌/◌, ◌%◌, ◌^◌, ◌≤◌, zero, suc, Bool, true, not, IsTrue, List, [], ◌∷◌, length, Option, None, Some, if◌then◌else◌, nat_lt, ◌==◌, ◌&&◌, swap, position}
 use Rattle.std.specs.List.{list_any, list_all}
 use Rattle.pb_model.specs.Space.{Space}
@@ -12,7 +13,7 @@ cell_count tiles = tiles.rows * tiles.cols
 
 -- ---- boards
 
--- no number stands twice in the list
+-- no number is twice in the list
 abbrev pub are_distinct : List ℕ → Bool
 are_distinct [] = true
 are_distinct (number ∷ numbers) = not (list_any (λ other. other == number) numbers) && are_distinct numbers
@@ -39,12 +40,13 @@ is_board_state count state = nat_lt state (16 ^ count) && is_board count (board_
 
 -- ---- steps
 
--- the cell in a column and a row, where the board has it
+-- the cell in a column and a row, if the board has it
 abbrev pub cell_on : (rows cols : ℕ) → (place : Option (ℕ × ℕ)) → Option ℕ
 cell_on rows cols None = None
 cell_on rows cols (Some place) = if nat_lt place.0 cols && nat_lt place.1 rows then Some (place.1 * cols + place.0) else None
 
--- the cell beside a cell in an action's direction: 0 is up, 1 down, 2 left, 3 right; none where the board ends there
+-- the cell beside a cell in an action's direction: 0 is up, 1 down, 2 left, 3 right; none if the
+-- board ends there
 abbrev pub neighbour : (rows cols cell action : ℕ) → Option ℕ
 neighbour rows cols cell action = cell_on rows cols (cell_beside (cell % cols) (cell / cols) action)
 

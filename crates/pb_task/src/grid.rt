@@ -21,7 +21,7 @@ const BITS: u32 = 11;
 // How many columns these bits can tell apart.
 const COLUMNS: u64 = 1 << BITS;
 
-/// The state that stands for a cell.
+/// The state that represents a cell.
 pub fn pack(x: u32, y: u32) -> Packed
     requires x { x < 2048 }
     requires y { y < 2048 }
@@ -76,7 +76,7 @@ fn entry_cost(grid: &GridParts, x: u32, y: u32) -> u64
     if grid.is_swamp(x, y) { SWAMP_COST } else { 1 }
 }
 
-/// The class of the cell that a state stands for. Blocked where it stands for none.
+/// The class of the cell that a state represents. Blocked if the state represents none.
 pub fn class_of_state(grid: &GridParts, state: &Packed) -> Class
     ensures { result ≡ class_of_state grid.now state.now }
 {
@@ -119,7 +119,8 @@ pub fn are_connected(from: Class, to: Class) -> bool
     }
 }
 
-/// The cell beside that in a column and a row in the action's direction, be it on the map or not: 0 is up, 1 down, 2 left, 3 right.
+/// The cell beside the one in a column and a row in the action's direction, on the map or off it: 0
+/// is up, 1 down, 2 left, 3 right.
 pub fn cell_beside(x: u32, y: u32, action: u32) -> Option<(u32, u32)>
     requires x { x < 2 ^ 24 }
     requires y { y < 2 ^ 24 }
@@ -135,7 +136,7 @@ pub fn cell_beside(x: u32, y: u32, action: u32) -> Option<(u32, u32)>
     }
 }
 
-// The step from a cell of the class to this cell, where the two are connected.
+// The step from a cell of the class to this cell, if the two are connected.
 fn step_to(grid: &GridParts, from: Class, cell: Option<(u32, u32)>) -> Option<(Packed, u64)>
     requires width { grid.now.width ≤ 2048 }
     requires height { grid.now.height ≤ 2048 }
@@ -160,7 +161,7 @@ pub fn step(grid: &GridParts, from: &Packed, action: u32) -> Option<(Packed, u64
     step_to(grid, class, cell_beside(x, y, action))
 }
 
-/// Puts all successors of a state, in order of the actions, in the place of what the list holds. The state is read once.
+/// Replaces the list by all successors of a state, in order of the actions. The state is read once.
 pub fn successors(grid: &GridParts, from: &Packed, out: &mut Vec<Succ>)
     requires width { grid.now.width ≤ 2048 }
     requires height { grid.now.height ≤ 2048 }

@@ -1,33 +1,37 @@
 ghost use Rattle.pb_task.specs.Laws.{GridsAreProper, TilesAreProper, BoardsArePacked, TilesSlide, StripsAreProper, StripsAct, SetsAreOfAtoms, TasksAreProper, DegreesAreBounded, FaultsAreUnique, FaultsKeepFromPlans};
 
-/// The steps of a grid are by four actions, lead from states to states and cost 1 or 2, and its states have 22 bits.
+/// The steps of a grid are by four actions, lead from states to states and cost 1 or 2. Its states
+/// have 22 bits.
 pub fn grids_are_proper()
     ensures { GridsAreProper }
 {}
 
-/// The steps of sliding tiles are by four actions, lead from boards to boards and cost 1, and their states have 64 bits.
+/// The steps of sliding tiles are by four actions, lead from boards to boards and cost 1. Their
+/// states have 64 bits.
 pub fn tiles_are_proper()
     ensures { TilesAreProper }
 {}
 
-/// Boards of at most 16 cells and the states that stand for them are one to one, and each number stands in four bits.
+/// Boards of at most 16 cells and their states are one to one, and each number has four bits.
 pub fn boards_are_packed()
     ensures { BoardsArePacked }
 {}
 
-/// The steps of sliding tiles are those that exchange the blank of a board and the tile beside it in the action's direction.
+/// The steps of sliding tiles are exactly the exchanges of a board's blank and the tile beside it
+/// in the action's direction.
 pub fn tiles_slide()
     ensures { TilesSlide }
 {}
 
-/// The steps of a STRIPS task are by its actions, lead from sets of its atoms to sets of its atoms and cost 1 to 2^20, and its states have
-/// 256 bits.
+/// The steps of a STRIPS task are by its actions, lead from sets of its atoms to sets of its atoms
+/// and cost 1 to 2^20. Its states have 256 bits.
 pub fn strips_are_proper()
     ensures { StripsAreProper }
 {}
 
-/// The steps of a STRIPS task are those by which an action acts: what it needs holds before it, and after it hold the atoms that it adds and
-/// those that held and that it doesn't delete.
+/// The steps of a STRIPS task are those by which an action acts. The atoms that it needs hold
+/// before it. After it those atoms hold that it adds, and those that held before and that it
+/// doesn't delete.
 pub fn strips_act()
     ensures { StripsAct }
 {}

@@ -1,6 +1,7 @@
 //! Planning tasks: their states, the steps that their actions make, and their goals.
 //!
-//! Contracts see a task as its parts. What these mean as a state space is the definition `space_of` in `specs`.
+//! Contracts see a task as its parts. The definition `space_of` in `specs` gives the parts' meaning
+//! as a state space.
 #![tactic(auto)]
 
 mod grid;

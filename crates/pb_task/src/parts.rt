@@ -37,7 +37,7 @@ impl Cells {
         Cells { classes }
     }
 
-    /// The class of the cell at this place, counted from 0. None where there are fewer.
+    /// The class of the cell at this place, counted from 0. None if there are fewer cells.
     pub fn get(&self, at: usize) -> Option<Class>
         ensures { result ≡ slice_get self.now at }
     {
@@ -67,7 +67,7 @@ impl Swamp {
         Swamp { marks }
     }
 
-    /// Whether the cell at this place, counted from 0, is swamp. None where there are fewer.
+    /// Whether the cell at this place, counted from 0, is swamp. None if there are fewer cells.
     pub fn get(&self, at: usize) -> Option<bool>
         ensures { result ≡ slice_get self.now at }
     {
@@ -122,7 +122,8 @@ impl Board {
     }
 }
 
-/// Sliding tiles: a board to start from and one to come to. Each has the numbers 0 to n - 1 once, where n is the number of cells.
+/// Sliding tiles: a board to start from and a goal board. Each has the numbers 0 to n - 1 once, n
+/// being the number of cells.
 #[derive(Drop)]
 pub struct TilesParts {
     /// How many rows a board has: 2 to 4.
@@ -165,8 +166,8 @@ impl ActionName {
     }
 }
 
-/// A ground action of STRIPS: an action whose parameters are objects. A set of ground atoms is the number in which the bit of each atom in
-/// it is 1.
+/// A ground action of STRIPS: an action whose parameters are objects. A set of ground atoms is a
+/// number: the bit of each atom in the set is 1.
 #[derive(Drop)]
 pub struct GroundAction {
     /// What it is called in a plan, as `(name object ..)` in lower case.
@@ -175,7 +176,7 @@ pub struct GroundAction {
     pub needs: Packed,
     /// The atoms that hold after it.
     pub adds: Packed,
-    /// The atoms that don't hold after it, but for those that it adds.
+    /// The atoms that the action deletes; those that it also adds hold after it.
     pub deletes: Packed,
     /// What it costs: 1 to 2^20.
     pub cost: u64,

@@ -51,7 +51,8 @@ impl Task {
         }
     }
 
-    /// The task to come by ground actions to a state in which the goal's atoms hold. It takes no memory.
+    /// The task of reaching a state in which the goal's atoms hold, by ground actions. It takes no
+    /// memory.
     pub fn of_strips(parts: StripsParts) -> Task
         requires { IsStrips parts }
         ensures { result ≡ Strips parts }
@@ -122,7 +123,8 @@ impl Task {
         self.actions()
     }
 
-    /// The state that an action leads to, and what it costs. None where the action is not applicable.
+    /// The state that an action leads to, and the action's cost. None if the action is not
+    /// applicable.
     pub fn apply(&self, from: &Packed, action: u32) -> Option<(Packed, u64)>
         requires { IsTrue ((space_of self.now).is_state from.now) }
         ensures { result ≡ (space_of self.now).step from.now action }
@@ -134,8 +136,8 @@ impl Task {
         }
     }
 
-    /// Puts all successors of a state, in order of the actions, in the place of what the list holds. It takes no memory: the
-    /// list has room for them.
+    /// Replaces the list by all successors of a state, in order of the actions. It takes no memory:
+    /// the list has room for them.
     pub fn successors(&self, from: &Packed, out: &mut Vec<Succ>)
         requires state { IsTrue ((space_of self.now).is_state from.now) }
         requires room { max_degree_of self.now ≤ vec_capacity out.old }

@@ -16,7 +16,7 @@ const MOST_CELLS: usize = 16;
 // How many bits of a state hold the number in a cell.
 const BITS: u32 = 4;
 
-/// The state that stands for a board.
+/// The state that represents a board.
 pub fn pack(board: &[u8]) -> Packed
     requires few { length board.now ≤ 16 }
     requires small { list_all (λ number. nat_lt number 16) board.now ≡ true }
@@ -71,7 +71,7 @@ fn are_below(numbers: &[u8], bound: usize) -> bool
     numbers.iter().all(|number| usize::from(*number) < bound)
 }
 
-// Whether no number stands twice in a list.
+// Whether no number is twice in a list.
 fn are_distinct(numbers: &[u8]) -> bool
     ensures { result ≡ are_distinct numbers.now }
 {
@@ -83,7 +83,7 @@ fn are_distinct(numbers: &[u8]) -> bool
     true
 }
 
-// The cell beside that in a column and a row in an action's direction, where the board has one.
+// The cell beside the one in a column and a row in an action's direction, if the board has one.
 fn neighbour(tiles: &TilesParts, column: u32, row: u32, action: u32) -> Option<u32>
     requires tiles { IsTiles tiles.now }
     requires column { column < 16 }
@@ -141,7 +141,7 @@ pub fn step(tiles: &TilesParts, from: &Packed, action: u32) -> Option<(Packed, u
     slide(tiles, &mut cells[..count as usize], action)
 }
 
-// The cell that the blank is in, in the board that a word stands for.
+// The cell that the blank is in, in the board that a word represents.
 fn blank_in(word: u64, count: u32) -> Option<u32>
     requires { count ≤ 16 }
     ensures { result ≡ blank_of (board_of count word) }
@@ -170,7 +170,7 @@ fn exchanged(word: u64, count: u32, blank: u32, other: u32) -> u64
     word - (number << (BITS * other)) + (number << (BITS * blank))
 }
 
-// The step that moves the blank of the board that a word stands for.
+// The step that moves the blank of the board that a word represents.
 fn slide_word(
     tiles: &TilesParts,
     word: u64,
@@ -191,7 +191,7 @@ fn slide_word(
     Some((Packed::zero().with_bits(0, 64, moved), 1))
 }
 
-/// Puts all successors of a state, in order of the actions, in the place of what the list holds. The state is read once.
+/// Replaces the list by all successors of a state, in order of the actions. The state is read once.
 pub fn successors(tiles: &TilesParts, from: &Packed, out: &mut Vec<Succ>)
     requires tiles { IsTiles tiles.now }
     requires state { IsTrue (is_board_state (cell_count tiles.now) from.now) }
@@ -212,7 +212,7 @@ pub fn successors(tiles: &TilesParts, from: &Packed, out: &mut Vec<Succ>)
     }
 }
 
-/// Whether a state stands for a board.
+/// Whether a state represents a board.
 pub fn is_at(board: &[u8], state: &Packed) -> bool
     requires few { length board.now ≤ 16 }
     requires small { list_all (λ number. nat_lt number 16) board.now ≡ true }
@@ -222,7 +222,7 @@ pub fn is_at(board: &[u8], state: &Packed) -> bool
     has_numbers(word, board) && Packed::zero().with_bits(0, 64, word) == *state
 }
 
-// Whether a word stands for a board. It is read as far as the first cell that differs.
+// Whether a word represents a board. The board is read up to the first cell that differs.
 fn has_numbers(word: u64, board: &[u8]) -> bool
     requires small { list_all (λ number. nat_lt number 16) board.now ≡ true }
     ensures { result ≡ (word == board_state board.now) }

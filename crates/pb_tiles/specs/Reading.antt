@@ -20,7 +20,7 @@ abbrev pub with_number : Said → (number : ℕ) → Said
 with_number said number =
     if said.has_goal then record said { behind = said.behind ++ number ∷ [] } else record said { before = said.before ++ number ∷ [] }
 
--- the word `goal` may stand once, behind two numbers or more
+-- the word `goal` may come once, after two numbers or more
 abbrev pub may_have_goal : Said → Bool
 may_have_goal said = not said.has_goal && nat_le 2 (length said.before)
 
@@ -32,7 +32,7 @@ with_word said None is_goal = if may_have_goal said && is_goal then Some (record
 abbrev pub next : Said → (word : List ℕ) → Option Said
 next said word = with_word said (short_number_of word) (bytes_eq word (codes "goal"))
 
--- what is said after more words, or the line of the first word that can't stand where it does
+-- what is said after more words, or the line of the first word that can't be at its place
 abbrev pub said_by : Said → List Word → Result Said TilesError
 said_by said [] = Ok said
 said_by said (word ∷ more) = option_map_or (λ after. said_by after more) (next said word.text) (Err (Syntax word.line))
@@ -47,7 +47,8 @@ is_side cells = nat_le 2 cells && nat_le cells 4
 abbrev pub count_fault : (count : ℕ) → (board : List ℕ) → Option TilesError
 count_fault count board = if length board == count then None else Some (Count (length board) count)
 
--- the first number of a board that can't stand behind these, which are the ones before the place in the text: it is not below `count`, or stood before
+-- The first number of a board that can't follow these, which are the numbers before this place in
+-- the text: it is not below `count`, or it came before.
 abbrev pub board_fault : (count place : ℕ) → (before board : List ℕ) → Option TilesError
 board_fault count place before [] = None
 board_fault count place before (number ∷ board) =
@@ -59,7 +60,8 @@ abbrev pub first_fault : Option TilesError → Option TilesError → Option Tile
 first_fault None later = later
 first_fault (Some fault) later = Some fault
 
--- the first fault of a start and a goal: that they are too short or too long comes before their numbers
+-- the first fault of a start and a goal: a board that is too short or too long comes before faults
+-- of numbers
 abbrev pub boards_fault : (count : ℕ) → (start goal : List ℕ) → Option TilesError
 boards_fault count start goal =
     first_fault (count_fault count start) (first_fault (count_fault count goal) (first_fault (board_fault count 2 [] start) (board_fault count (2 + count) [] goal)))
@@ -71,7 +73,7 @@ unless_fault (Some fault) tiles = Err fault
 abbrev pub boards_reading : (rows cols : ℕ) → (start goal : List ℕ) → Result TilesParts TilesError
 boards_reading rows cols start goal = unless_fault (boards_fault (rows * cols) start goal) (record { rows = rows; cols = cols; start = start; goal = goal })
 
--- the numbers are rows, columns and the start; where no goal is said, it is 0, 1, 2 and so on
+-- the numbers are rows, columns and the start; if no goal is said, it is 0, 1, 2 and so on
 abbrev pub numbers_reading : (before : List ℕ) → (has_goal : Bool) → (behind : List ℕ) → Result TilesParts TilesError
 numbers_reading [] has_goal behind = Err (Count 0 2)
 numbers_reading (rows ∷ []) has_goal behind = Err (Count 1 2)

@@ -20,7 +20,8 @@ AreBlanks text = AllByRecursion (λ byte. is_blank byte ≡ true) text
 abbrev pub IsWord : List ℕ → Type 0
 IsWord word = (1 ≤ length word) × AllByRecursion (λ byte. is_blank byte ≡ false) word
 
--- the text is these words, with blanks between each two, and maybe before the first and behind the last
+-- the text is these words, with blanks between each two, and maybe before the first and after the
+-- last
 abbrev pub AreWordsOf : (text : List ℕ) → (words : List (List ℕ)) → Type 0
 AreWordsOf text [] = AreBlanks text
 AreWordsOf text (word ∷ words) =
@@ -37,7 +38,7 @@ AreNumbers (word ∷ words) (number ∷ numbers) = IsShortNumber word number × 
 
 -- ---- tiles
 
--- the goal stands behind the word `goal`, or nothing stands there and it is 0, 1, 2 and so on
+-- the goal comes after the word `goal`, or nothing comes there and the goal is 0, 1, 2 and so on
 abbrev pub SpellsGoal : (words : List (List ℕ)) → TilesParts → Type 0
 SpellsGoal words tiles =
     ((words ≡ []) × (tiles.goal ≡ range_with_len 0 (cell_count tiles)))

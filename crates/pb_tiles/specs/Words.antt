@@ -1,4 +1,5 @@
--- The words of a text: its longest runs of bytes that are no blanks, each with the number of its line.
+-- The words of a text: its longest runs of bytes that are no blanks, each with the number of its
+-- line.
 use Rattle.std.specs.Prelude.{ℕ, ◌+◌, Bool, ◌==◌, ◌||◌, List, [], ◌∷◌, ◌++◌, if◌then◌else◌}
 
 -- space, tab, carriage return and line feed part words
@@ -14,11 +15,11 @@ abbrev pub word_end : (line : ℕ) → (word : List ℕ) → List Word
 word_end line [] = []
 word_end line (byte ∷ bytes) = record { text = byte ∷ bytes; line = line } ∷ []
 
--- the line behind a byte
+-- the line after a byte
 abbrev pub line_behind : (line byte : ℕ) → ℕ
 line_behind line byte = if byte == 10 then line + 1 else line
 
--- the words of a text that stands in this line behind the first bytes of a word
+-- the words of a text that is in this line after the first bytes of a word
 abbrev pub words_behind : (line : ℕ) → (word text : List ℕ) → List Word
 words_behind line word [] = word_end line word
 words_behind line word (byte ∷ text) =

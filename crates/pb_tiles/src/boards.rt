@@ -6,8 +6,8 @@ use crate::error::TilesError;
 use pb_task::Board;
 use std::alloc::{AllocError, Global};
 
-/// The first number of a board that can't stand there, if there is one. `first` is the place of the board's first number in the
-/// text.
+/// The first number of a board that can't be at its place, if there is one. `first` is the place of
+/// the board's first number in the text.
 pub fn board_fault(count: u32, first: u64, board: &[u32]) -> Option<TilesError>
     requires { first + length board.now < 2 ^ 64 }
     ensures { result ≡ board_fault count first [] board.now }

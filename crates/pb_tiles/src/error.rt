@@ -6,15 +6,17 @@ use std::alloc::{AllocError, AllocFailed};
 /// Why a text was not read as sliding tiles.
 #[derive(Clone, Copy, Debug, PartialEq, Eq)]
 pub enum TilesError {
-    /// In this line, counted from 1, stands a word that is neither a number nor the first `goal` after at least two numbers.
+    /// This line, counted from 1, has a word that is neither a number nor the first `goal` after at
+    /// least two numbers.
     Syntax { line: u64 },
     /// The board doesn't have 2 to 4 rows and 2 to 4 columns.
     Size,
     /// There are not as many numbers as are wanted: of rows and columns, of the board, or of the goal.
     Count { seen: u64, wanted: u64 },
-    /// A number that is too great for the board: it is the one at this place, counted from 0, among all numbers of the text.
+    /// A number is too great for the board: the one at this place, counted from 0, among all
+    /// numbers of the text.
     Number { at: u64 },
-    /// This number stood before in the same board.
+    /// This number came before in the same board.
     Twice { number: u64 },
     /// There was not enough memory.
     Memory,

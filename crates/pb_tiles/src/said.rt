@@ -39,21 +39,21 @@ impl Numbers {
         }
     }
 
-    /// The numbers before the word `goal`, or all where it doesn't stand.
+    /// The numbers before the word `goal`, or all if there is no such word.
     pub fn before(&self) -> &[u32]
         ensures { result.now ≡ self.now.before }
     {
         self.before.as_slice()
     }
 
-    /// Whether the word `goal` stands.
+    /// Whether the word `goal` is there.
     pub fn has_goal(&self) -> bool
         ensures { result ≡ self.now.has_goal }
     {
         self.has_goal
     }
 
-    /// The numbers behind the word `goal`.
+    /// The numbers after the word `goal`.
     pub fn behind(&self) -> &[u32]
         ensures { result.now ≡ self.now.behind }
     {
@@ -79,14 +79,14 @@ impl Numbers {
         Ok(())
     }
 
-    // Whether the word `goal` may stand here: behind at least two numbers, and for the first time.
+    // Whether the word `goal` may come here: after at least two numbers, and for the first time.
     fn may_have_goal(&self) -> bool
         ensures { result ≡ may_have_goal self.now }
     {
         !self.has_goal && 2 <= self.before.len()
     }
 
-    // Adds a number to those before or behind the word `goal`.
+    // Adds a number to those before or after the word `goal`.
     fn push(&mut self, number: u32) -> Result<(), AllocError>
         ensures { IfOk result (λ _. self.new ≡ with_number self.old number) }
     {

@@ -33,7 +33,7 @@ fn is_blank(byte: u8) -> bool
     byte == b' ' || byte == b'\t' || byte == b'\r' || byte == b'\n'
 }
 
-// The number of the line behind a byte.
+// The number of the line after a byte.
 fn line_behind(line: u64, byte: u8) -> u64
     requires { line + 1 < 2 ^ 64 }
     ensures line { result ≡ line_behind line byte }
