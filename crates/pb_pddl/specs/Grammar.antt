@@ -1,4 +1,5 @@
--- The grammar, by cases: X ts rest x says that the tokens ts are those of an X, which says x, and then rest.
+-- The grammar, by cases: X ts rest x says that the tokens ts are the tokens of an X followed by
+-- rest, and that this X says x.
 use Rattle.std.specs.Prelude.{◌≡◌, ◌≢◌, ◌⊎◌, ℕ, zero, suc, Bool, true, false, List, [], ◌∷◌, ◌++◌, length, codes, Some, None}
 use Rattle.pb_pddl.specs.declared.token.TokenKind.{TokenKind}
 use Rattle.pb_pddl.specs.declared.token.TokenKind.TheVariants as kinds
@@ -45,7 +46,7 @@ Says kind text ts rest = (t : Token) × Takes kind ts t rest × (t.text ≡ text
 abbrev pub Names : TokenKind → List Token → List Token → Name → Type 0
 Names kind ts rest name = (t : Token) × Takes kind ts t rest × (name ≡ name_of t)
 
--- X*, where each X changes what was said so far: n of them, any number
+-- X*, n of them, for any n: each X changes what was said so far
 abbrev pub Steps : {S : Type 0} → (S → List Token → S → List Token → Type 0) → ℕ → S → List Token → S → List Token → Type 0
 Steps X zero said ts end rest = (end ≡ said) × (rest ≡ ts)
 Steps {S} X (suc n) said ts end rest = (mid : S) × (us : List Token) × X said ts mid us × Steps X n mid us end rest
@@ -63,7 +64,7 @@ IsTerm variables said ts now rest =
 abbrev pub IsHead : List Token → List Token → Name → Type 0
 IsHead ts rest name = Names kinds.Word ts rest name × (is_reserved name.text ≡ false)
 
--- behind the (
+-- after the (
 pub record IsAtom (variables : Bool) (ts rest : List Token) (atom : Atom) : Type 0 where
   pub inside : List Token
   pub last : List Token
@@ -71,8 +72,11 @@ pub record IsAtom (variables : Bool) (ts rest : List Token) (atom : Atom) : Type
   pub terms : Many (IsTerm variables) [] inside atom.terms last
   pub close : Closes last rest
 
--- ---- COND = ( ) | ( and COND* ) | ATOM, within room parentheses: it adds its atoms to those that were said.
--- Where it is used the room is the number of tokens, which is no limit: each parenthesis is one.
+-- ---- COND = ( ) | ( and COND* ) | ATOM, within room parentheses: it adds its atoms to those that
+-- were said.
+--
+-- Its users take the number of tokens as the room. That is no limit, as each parenthesis is a
+-- token.
 
 abbrev pub IsCond : Bool → ℕ → List Atom → List Token → List Atom → List Token → Type 0
 IsCond variables zero said ts now rest = ⊥
@@ -123,7 +127,7 @@ IsEffect (suc room) said ts now rest =
     ⊎ ((cost : Cost) × IsCost kinds.Word (codes "increase") inside rest cost × (now ≡ record { literals = said.literals; costs = said.costs ++ cost ∷ [] }))
     ⊎ ((atom : Atom) × IsAtom true inside rest atom × (now ≡ with_literal said (record { atom = atom; negated = false }))))
 
--- ---- LIST(X) = any number of groups X X* - NAME, then X*; with the ) behind it
+-- ---- LIST(X) = any number of groups X X* - NAME, then X*; with the ) after it
 
 abbrev pub AddsName : TokenKind → List Name → List Token → List Name → List Token → Type 0
 AddsName kind said ts now rest = (name : Name) × Names kind ts rest name × (now ≡ said ++ name ∷ [])
@@ -144,7 +148,7 @@ pub record IsList (kind : TokenKind) (ts rest : List Token) (list : List Typed) 
   pub close : Closes last rest
   pub is : list ≡ done ++ typed None names
 
--- ---- PRED = ( NAME LIST(VAR) ), KEY*, what stands in :init: ATOM | ( = ( total-cost ) NUM )
+-- ---- PRED = ( NAME LIST(VAR) ), KEY*, the content of :init: ATOM | ( = ( total-cost ) NUM )
 
 abbrev pub IsPredicate : List Predicate → List Token → List Predicate → List Token → Type 0
 IsPredicate said ts now rest =
@@ -157,7 +161,7 @@ IsFact said ts now rest =
     × (((cost : Cost) × IsCost kinds.Equals (codes "=") inside rest cost × (now ≡ record { atoms = said.atoms; costs = said.costs ++ cost ∷ [] }))
     ⊎ ((atom : Atom) × IsAtom false inside rest atom × (now ≡ record { atoms = said.atoms ++ atom ∷ []; costs = said.costs })))
 
--- X* and the ) behind it
+-- X* and the ) after it
 abbrev pub Closed : {S : Type 0} → (S → List Token → S → List Token → Type 0) → S → List Token → List Token → S → Type 0
 Closed X none ts rest all = (last : List Token) × Many X none ts all last × Closes last rest
 

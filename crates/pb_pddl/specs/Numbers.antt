@@ -7,7 +7,7 @@ use Rattle.std.specs.List.{list_all}
 unfoldable pub is_number : List ℕ → Bool
 is_number word = nat_le 1 (length word) && (nat_le (length word) 9 && list_all is_ascii_digit word)
 
--- the value of decimal digits that stand behind a number
+-- the value of a number followed by decimal digits
 abbrev pub value_behind : (number : ℕ) → (digits : List ℕ) → ℕ
 value_behind number [] = number
 value_behind number (digit ∷ digits) = value_behind (number * 10 + (digit - 48)) digits

@@ -1,4 +1,4 @@
--- What may stand at a place of a form, and why another token is refused there.
+-- What may come at a place of a form, and why another token is refused there.
 use Rattle.std.specs.Prelude.{◌≡◌, ℕ, Bool, true, false, not, ◌&&◌, ◌||◌, if◌then◌else◌, List, [], ◌∷◌, ◌++◌, codes, Option, Some, None, is_some}
 use Rattle.std.specs.Str.{bytes_eq}
 use Rattle.pb_pddl.specs.declared.token.TokenKind.{TokenKind}
@@ -16,42 +16,42 @@ use Rattle.pb_pddl.specs.declared.parts.ProblemParts.{ProblemParts}
 use Rattle.pb_pddl.specs.Numbers.{is_number}
 use Rattle.pb_pddl.specs.Reading.{same_kind, is_reserved, front, stood_all}
 
--- the places that the grammar has, each with what was said so far where that matters
+-- the places that the grammar has, each with what was said so far if that matters
 pub data Place : Type 0 where
   -- a ( or a ) alone
   AnOpen : Place
   AClose : Place
   -- this word: define, domain or problem
   TheWord : List ℕ → Place
-  -- this word, where another is left out: total-cost or minimize
+  -- this word, whose alternatives are left out: total-cost or minimize
   OnlyWord : List ℕ → LeftOut → Place
-  -- NAME; the NAME behind a -; the NAME of an ATOM
+  -- NAME; the NAME after a -; the NAME of an ATOM
   AName : Place
   AType : Place
   AHead : Place
   -- NUM
   ANumber : Place
-  -- behind the ( of a COND, of an EFF, or of what stands in :init
+  -- after the ( of a COND, of an EFF, or of an entry of :init
   InCondition : Place
   InEffect : Place
   InFact : Place
-  -- behind the ( total-cost ) of :functions: a - or the ); and the word number behind that -
+  -- after the ( total-cost ) of :functions: a - or the ); and the word number after that -
   MoreFunction : Place
   ANumberType : Place
-  -- in an ATOM, where there may be variables or not: another TERM or the )
+  -- in an ATOM, with variables allowed or not: another TERM or the )
   MoreTerms : Bool → Place
-  -- in a LIST of words or of variables, where some wait for a type or none: another, a -, or the )
+  -- in a LIST of words or of variables, with names waiting for a type or none: another, a -, or the )
   MoreNames : TokenKind → Bool → Place
   -- another KEY, or the )
   MoreKeys : Place
   -- another form, or the )
   MoreForms : Place
-  -- the keyword of a PART that did not stand, or the )
+  -- the keyword of a PART that did not come yet, or the )
   MoreParts : ActionParts → Place
-  -- the keyword of a DSECT or PSECT, behind its (
+  -- the keyword of a DSECT or PSECT, after its (
   ADomainSection : DomainParts → Place
   AProblemSection : ProblemParts → Place
-  -- another PSECT, or the ) where :domain and :goal stood
+  -- another PSECT, or the ) if :domain and :goal came before
   MoreSections : ProblemParts → Place
   -- the end of the text
   TheEnd : Place
@@ -77,14 +77,14 @@ is_numeral t = same_kind t.kind kinds.Word && is_number t.text
 abbrev pub is_head : Token → Bool
 is_head t = same_kind t.kind kinds.Word && not (is_reserved t.text)
 
--- the keyword of a part that did not stand
+-- the keyword of a part that did not come yet
 abbrev pub fits_part : ActionParts → Token → Bool
 fits_part said t =
     is_key (codes ":parameters") t && not (is_some said.params)
     || is_key (codes ":precondition") t && not (is_some said.pre)
     || is_key (codes ":effect") t && not (is_some said.effect)
 
--- the keyword of a section that may stand
+-- the keyword of a section that may come here
 abbrev pub fits_domain : DomainParts → Token → Bool
 fits_domain said t =
     is_key (codes ":requirements") t && not said.requirements
@@ -134,13 +134,13 @@ fits TheEnd t = is_kind kinds.End t
 abbrev pub sample : TokenKind → Token
 sample kind = record { kind = kind; text = codes "a"; at = 0; head = false }
 
--- the keyword of a section must stand here
+-- the keyword of a section must come here
 unfoldable pub takes_section : Place → Bool
 takes_section (ADomainSection said) = true
 takes_section (AProblemSection said) = true
 takes_section place = false
 
--- the keyword of a part may stand here
+-- the keyword of a part may come here
 unfoldable pub takes_part : Place → Bool
 takes_part (MoreParts said) = not (is_some said.params && is_some said.pre && is_some said.effect)
 takes_part place = false
@@ -157,7 +157,7 @@ first_fit place =
 
 -- ---- why a token is refused
 
--- a reserved head directly behind a (
+-- a reserved head directly after a (
 abbrev pub reserved_head : Token → Option LeftOut
 reserved_head t = if t.head && is_reserved t.text then Some left.Head else None
 
@@ -194,7 +194,7 @@ left_out (AProblemSection said) t = if is_kind kinds.Key t then other_key (is_pr
 left_out (MoreSections said) t = if is_kind kinds.Close t then None else reserved_head t
 left_out place t = reserved_head t
 
--- what must stand here in place of this token
+-- what must come here in place of this token
 unfoldable pub wanted : Place → Token → Want
 wanted (TheWord text) t = wants.Word
 wanted (OnlyWord text what) t = wants.Word

@@ -28,7 +28,7 @@ use Rattle.pb_pddl.specs.declared.parts.DomainParts.{DomainParts}
 use Rattle.pb_pddl.specs.declared.parts.ProblemParts.{ProblemParts}
 use Rattle.pb_pddl.specs.Numbers.{is_number, number_of}
 
--- what is read, and the tokens behind it; or the error of the first token that can't go on
+-- what is read, and the tokens after it; or the error of the first token that can't go on
 abbrev pub Read : Type 0 → Type 0
 Read X = Result (X × List Token) SyntaxError
 
@@ -82,7 +82,7 @@ is_reserved text =
     || bytes_eq text (codes "increase") || bytes_eq text (codes "decrease") || bytes_eq text (codes "assign")
     || bytes_eq text (codes "scale-up") || bytes_eq text (codes "scale-down")
 
--- why this token can't go on, where this is wanted
+-- why this token can't go on, if this is wanted
 unfoldable pub refusal : Want → Token → SyntaxError
 refusal want t =
     elim t.kind [
@@ -138,7 +138,7 @@ begins_head ts = begins kinds.Word ts && not (is_reserved (front ts).text)
 unfoldable pub head_at : List Token → Read Name
 head_at ts = if begins_head ts then Ok (name_of (front ts), drop 1 ts) else Err (fault_at wants.Name ts)
 
--- an atom, behind its (
+-- an atom, after its (
 unfoldable pub atom_at : Bool → List Token → Read Atom
 atom_at variables ts = do
   head ← head_at ts
@@ -156,7 +156,7 @@ add_atom variables out ts = do
   atom ← atom_at variables ts
   Ok (out ++ atom.0 ∷ [], atom.1)
 
--- behind ( and
+-- after ( and
 unfoldable pub conds_at : Bool → (List Atom → List Token → Read (List Atom)) → List Atom → List Token → Read (List Atom)
 conds_at variables one out ts = do
   all ← all_of begins_open one out ts
@@ -174,11 +174,11 @@ cond_at variables (suc room) out ts = do
 
 -- ---- ( total-cost ) and numbers
 
--- the first token is a reserved head directly behind a (
+-- the first token is a reserved head directly after a (
 unfoldable pub begins_reserved : List Token → Bool
 begins_reserved ts = (front ts).head && is_reserved (front ts).text
 
--- this word, where another is left out
+-- this word, whose alternatives are left out
 unfoldable pub only_word : List ℕ → LeftOut → List Token → Result (List Token) SyntaxError
 only_word text what ts =
     if spells kinds.Word text ts then Ok (drop 1 ts)
@@ -219,7 +219,7 @@ add_increase out ts = do
   cost ← cost_at ts
   Ok (record { literals = out.literals; costs = out.costs ++ cost.0 ∷ [] }, cost.1)
 
--- behind ( not
+-- after ( not
 unfoldable pub negative_at : EffectParts → List Token → Read EffectParts
 negative_at out ts = do
   inside ← need kinds.Open wants.Paren ts
@@ -227,7 +227,7 @@ negative_at out ts = do
   rest ← need kinds.Close wants.Close literal.1
   Ok (literal.0, rest)
 
--- behind ( and
+-- after ( and
 unfoldable pub effects_at : (EffectParts → List Token → Read EffectParts) → EffectParts → List Token → Read EffectParts
 effects_at one out ts = do
   all ← all_of begins_open one out ts
@@ -255,11 +255,11 @@ begins_group kind ts = begins kind ts || begins kinds.Dash ts
 abbrev pub typed : Option Name → List Name → List Typed
 typed kind names = map (λ n. record { name = n; kind = kind }) names
 
--- a type's name, behind a -
+-- a type's name, after a -
 unfoldable pub type_at : List Token → Read Name
 type_at ts = if begins kinds.Word ts then Ok (name_of (front ts), drop 1 ts) else Err (if begins kinds.Open ts then left_at left.Either ts else fault_at wants.TypeName ts)
 
--- the word number, behind the - of :functions
+-- the word number, after the - of :functions
 unfoldable pub number_type : List Token → Result (List Token) SyntaxError
 number_type ts = if spells kinds.Word (codes "number") ts then Ok (drop 1 ts) else Err (if begins kinds.Open ts then left_at left.Either ts else fault_at wants.TypeName ts)
 
@@ -275,14 +275,14 @@ group_step kind g ts =
     else if length g.waiting == 0 then Err (fault_at wants.Group ts)
     else close_group g ts
 
--- LIST(X) and the ) behind it
+-- LIST(X) and the ) after it
 unfoldable pub list_at : TokenKind → Want → List Token → Read (List Typed)
 list_at kind want ts = do
   all ← all_of (begins_group kind) (group_step kind) (record { done = []; waiting = [] }) ts
   rest ← need kinds.Close want all.1
   Ok (all.0.done ++ typed None all.0.waiting, rest)
 
--- ---- predicates, words of requirements, what stands in :init
+-- ---- predicates, words of requirements, the content of :init
 
 unfoldable pub add_predicate : List Predicate → List Token → Read (List Predicate)
 add_predicate out ts = do
@@ -308,7 +308,7 @@ keys_at ts = do
   all ← all_of begins_key add_key [] ts
   need kinds.Close wants.Close all.1
 
--- an atom of a state, behind its (
+-- an atom of a state, after its (
 unfoldable pub add_held : InitParts → List Token → Read InitParts
 add_held out ts = do
   atom ← atom_at false ts
@@ -346,7 +346,7 @@ limited ts = 32
 
 -- ---- actions
 
--- the keyword stood before
+-- the keyword came before
 unfoldable pub once : List Token → SyntaxError
 once ts = errors.Expected (front ts).at wants.Once
 
@@ -381,11 +381,11 @@ or_empty (Some xs) = xs
 abbrev pub no_parts : ActionParts
 no_parts = record { params = None; pre = None; effect = None; costs = [] }
 
--- what is wanted behind these parts: the keyword of a part that did not stand, else the )
+-- what is wanted after these parts: the keyword of a part that did not come yet, else the )
 unfoldable pub parts_want : ActionParts → Want
 parts_want a = if is_some a.params && is_some a.pre && is_some a.effect then wants.Close else wants.Part
 
--- an action, behind its keyword
+-- an action, after its keyword
 unfoldable pub add_action : (List Token → ℕ) → List Action → List Token → Read (List Action)
 add_action room out ts = do
   name ← name_at kinds.Word wants.Name ts
@@ -415,18 +415,18 @@ predicates_section d ts = if is_some d.predicates then Err (once ts) else (do
   list ← predicates_at (drop 1 ts)
   Ok (record { requirements = d.requirements; types = d.types; constants = d.constants; predicates = Some list.0; functions = d.functions; has_cost = d.has_cost; actions = d.actions }, list.1))
 
--- behind ( :functions ( total-cost )
+-- after ( :functions ( total-cost )
 unfoldable pub function_type : List Token → Result (List Token) SyntaxError
 function_type ts = if begins kinds.Dash ts then (number_type (drop 1 ts) >>= λ last. need kinds.Close wants.Close last) else need kinds.Close wants.Close ts
 
--- the declared function, and the ) behind it
+-- the declared function, and the ) after it
 unfoldable pub one_function : List Token → Read Bool
 one_function ts = do
   function ← total_cost_at ts
   rest ← function_type function.1
   Ok (true, rest)
 
--- behind ( :functions: whether total-cost is declared
+-- after ( :functions: whether total-cost is declared
 unfoldable pub functions_at : List Token → Read Bool
 functions_at ts = if begins kinds.Close ts then Ok (false, drop 1 ts) else one_function ts
 
@@ -470,7 +470,7 @@ title_at word ts = do
   rest ← need kinds.Close wants.Close name.1
   Ok (name.0, rest)
 
--- nothing stands behind the whole form
+-- nothing comes after the whole form
 unfoldable pub end_at : List Token → Result (List Token) SyntaxError
 end_at ts =
     if begins kinds.End ts then Ok ts
@@ -535,21 +535,21 @@ problem_key room p ts =
     else if spells kinds.Key (codes ":metric") ts then metric_section p ts
     else Err (no_section ts)
 
--- each section stood: no more may come
+-- each section came: no more may come
 unfoldable pub stood_all : ProblemParts → Bool
 stood_all p = p.requirements && is_some p.domain && is_some p.objects && is_some p.init && is_some p.goal && is_some p.metric
 
 unfoldable pub problem_section : (List Token → ℕ) → ProblemParts → List Token → Read ProblemParts
 problem_section room p ts = if stood_all p then Err (fault_at wants.Close ts) else (need kinds.Open wants.Paren ts >>= λ inside. problem_key room p inside)
 
--- what is wanted behind these sections: another, else the )
+-- what is wanted after these sections: another, else the )
 unfoldable pub sections_want : ProblemParts → Want
 sections_want p = if stood_all p then wants.Close else wants.Paren
 
 abbrev pub no_problem : ProblemParts
 no_problem = record { requirements = false; domain = None; objects = None; init = None; goal = None; costs = []; metric = None }
 
--- at the last ), where a section that must be there is missing
+-- at the last ), if a section that must be there is missing
 unfoldable pub missing : List Token → SyntaxError
 missing ts = errors.Expected (front ts).at wants.Missing
 

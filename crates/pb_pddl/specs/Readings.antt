@@ -8,7 +8,8 @@ use Rattle.pb_pddl.specs.declared.error.SyntaxError.{SyntaxError}
 use Rattle.pb_pddl.specs.Tokens.{gap_len, token_at, is_last, moved, behind, start}
 use Rattle.pb_pddl.specs.Reading.{unlimited, domain_at, problem_at}
 
--- the token that stands first in these bytes, behind white space and comments; the bytes begin here
+-- the first token of these bytes, after white space and comments; the cursor is where the bytes
+-- begin
 abbrev pub first_token : Cursor → List ℕ → Token
 first_token h bytes = token_at (moved (gap_len false bytes) h) (drop (gap_len false bytes) bytes)
 
@@ -19,7 +20,7 @@ next_cursor h bytes = behind (moved (gap_len false bytes) h) (first_token h byte
 abbrev pub next_bytes : Cursor → List ℕ → List ℕ
 next_bytes h bytes = drop (length (first_token h bytes).text) (drop (gap_len false bytes) bytes)
 
--- the tokens of these bytes up to the first that is Byte, Deep or End, and so many at most
+-- the tokens of these bytes up to the first that is Byte, Deep or End, at most this many
 unfoldable pub tokens_from : ℕ → Cursor → List ℕ → List Token
 tokens_from zero h bytes = []
 tokens_from (suc room) h bytes = first_token h bytes ∷ (if is_last (first_token h bytes).kind then [] else tokens_from room (next_cursor h bytes) (next_bytes h bytes))

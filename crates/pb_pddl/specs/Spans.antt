@@ -4,7 +4,8 @@ use Rattle.pb_pddl.specs.declared.token.TokenKind.TheVariants.{End}
 use Rattle.pb_pddl.specs.declared.token.Token.{Token}
 use Rattle.pb_pddl.specs.Tokens.{lower}
 
--- each token but the end is the slice of the source at its place, in lower case, and stands behind the one before it
+-- Each token except the end is the slice of the source at its place, in lower case, and comes after
+-- the one before it.
 abbrev pub Spans : ℕ → List ℕ → List Token → Type 0
 Spans from source [] = Unit {0}
 Spans from source (t ∷ ts) =

@@ -22,22 +22,23 @@ goes_on_word b = begins_word b || b == 45 || b == 95
 unfoldable pub lower : ℕ → ℕ
 lower b = if is_between 65 90 b then b + 32 else b
 
--- behind a byte of white space or of a comment, whether a comment goes on; None for any other byte. A comment ends with its line
+-- after a byte of white space or of a comment, whether a comment goes on; None for any other byte.
+-- A comment ends with its line
 unfoldable pub gap_next : Bool → ℕ → Option Bool
 gap_next true b = Some (if b == 10 then false else true)
 gap_next false b = if b == 59 then Some true else if is_white b then Some false else None
 
--- how many bytes of white space and comments stand first; in a comment, or not
+-- how many bytes of white space and comments come first; in a comment, or not
 unfoldable pub gap_len : Bool → List ℕ → ℕ
 gap_len comment [] = 0
 gap_len comment (b ∷ bs) = elim (gap_next comment b) [ None ↦ 0 | Some next ↦ suc (gap_len next bs) ]
 
--- how many bytes that go on with a word stand first
+-- how many bytes that go on with a word come first
 unfoldable pub run_len : List ℕ → ℕ
 run_len [] = 0
 run_len (b ∷ bs) = if goes_on_word b then suc (run_len bs) else 0
 
--- the kind of the token that begins with this byte, where a word begins behind it or doesn't
+-- the kind of the token that begins with this byte, given whether a word begins after it
 unfoldable pub kind_of : ℕ → Bool → TokenKind
 kind_of b word =
     if b == 40 then Open
@@ -59,14 +60,14 @@ unfoldable pub kind_inside : ℕ → TokenKind → TokenKind
 kind_inside n Open = if nat_le 32 n then Deep else Open
 kind_inside n k = k
 
--- the length of a token, by its kind and the bytes behind its first
+-- the length of a token, by its kind and the bytes after its first
 unfoldable pub len_of : TokenKind → List ℕ → ℕ
 len_of Word bs = suc (run_len bs)
 len_of Variable bs = suc (run_len bs)
 len_of Key bs = suc (run_len bs)
 len_of k bs = 1
 
--- nothing stands behind a token of this kind
+-- nothing comes after a token of this kind
 unfoldable pub is_last : TokenKind → Bool
 is_last Deep = true
 is_last Byte = true
@@ -77,14 +78,14 @@ is_last k = false
 unfoldable pub unclosed : Cursor → ℕ
 unclosed h = if length h.nest == 0 then h.at else slice_index h.nest (length h.nest - 1)
 
--- the token that these bytes begin with, which stand here, behind all white space
+-- the token that these bytes begin with, at this place, after all white space
 unfoldable pub token_at : Cursor → List ℕ → Token
 token_at h [] = record { kind = End; text = []; at = unclosed h; head = h.head }
 token_at h (b ∷ bs) =
     let kind = kind_inside (length h.nest) (kind_of b (word_first bs)) in
     record { kind = kind; text = map lower (take (len_of kind bs) (b ∷ bs)); at = h.at; head = h.head }
 
--- the open parentheses behind a token
+-- the open parentheses after a token
 unfoldable pub opened : Cursor → TokenKind → List ℕ
 opened h Open = h.nest ++ h.at ∷ []
 opened h Close = take (length h.nest - 1) h.nest
@@ -97,11 +98,12 @@ is_open k = false
 abbrev pub moved : ℕ → Cursor → Cursor
 moved n h = record { at = h.at + n; nest = h.nest; head = h.head }
 
--- where the token behind this one may begin
+-- where the token after this one may begin
 abbrev pub behind : Cursor → Token → Cursor
 behind h t = record { at = h.at + length t.text; nest = opened h t.kind; head = is_open t.kind }
 
--- the tokens of these bytes, which stand here: each is the longest at its place, the last is the first that is Byte, Deep or End
+-- The tokens of these bytes, from this place on: each is the longest at its place, and the last is
+-- the first that is Byte, Deep or End.
 unfoldable pub AreTokens : Cursor → List ℕ → List Token → Type 0
 AreTokens h bytes [] = ⊥
 AreTokens h bytes (t ∷ ts) =

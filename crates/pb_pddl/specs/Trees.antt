@@ -21,6 +21,6 @@ abbrev pub IsRead : {X : Type 0} → (List Token → Result X SyntaxError) → L
 IsRead reading text (Ok x) = (ts : List Token) × TextTokens text ts × (reading ts ≡ Ok x)
 IsRead reading text (Err e) = e ≢ errors.Memory → (ts : List Token) × TextTokens text ts × (reading ts ≡ Err e)
 
--- In the text's tokens the first that can't go on is told by this error.
+-- This error is that of the first of the text's tokens that can't go on.
 abbrev pub FirstFault : (X : Type 0) → (List Token → X → Type 0) → List ℕ → SyntaxError → Type 0
 FirstFault X Is text e = (ts : List Token) × TextTokens text ts × IsFault X Is ts e

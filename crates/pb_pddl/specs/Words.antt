@@ -1,4 +1,5 @@
--- The names in a tree are words: lower-case letters, digits, - and _, of which the first is a letter or a digit.
+-- The names in a tree are words: lower-case letters, digits, - and _, of which the first is a
+-- letter or a digit.
 use Rattle.std.specs.Prelude.{ℕ, Bool, ◌||◌, ◌==◌, IsTrue, List, [], ◌∷◌, All}
 use Rattle.pb_pddl.specs.declared.tree.Typed.{Typed}
 use Rattle.pb_pddl.specs.declared.tree.Action.{Action}

@@ -3,13 +3,13 @@ ghost use Rattle.pb_pddl.specs.declared.error.SyntaxError.TheVariants.{Memory};
 
 use std::alloc::{AllocError, AllocFailed};
 
-/// What must stand in a token's place. Where the grammar has several, the first of `Paren`, `Section`, `Part`, `Name`,
-/// `Variable` and `Close` that fits.
+/// What must come in place of a token. If the grammar allows several, the first that fits of
+/// `Paren`, `Section`, `Part`, `Name`, `Variable` and `Close`.
 #[derive(Clone, Copy, Debug, PartialEq, Eq)]
 pub enum Want {
     /// A `(`.
     Paren,
-    /// A `)`; also where a `:word` of the requirements or a `)` must stand.
+    /// A `)`; also if a `:word` of the requirements or a `)` must come.
     Close,
     /// The word `define`, `domain`, `problem`, `total-cost` or `minimize`.
     Word,
@@ -21,13 +21,13 @@ pub enum Want {
     Section,
     /// The keyword of a part of an action.
     Part,
-    /// The name of a type, behind a `-`; behind the `-` of `:functions` the word `number`.
+    /// The name of a type, after a `-`; after the `-` of `:functions` the word `number`.
     TypeName,
     /// A number: a word of 1 to 9 decimal digits.
     Number,
     /// A name or variable before this `-`.
     Group,
-    /// Another keyword: this section or part stood before.
+    /// Another keyword: this section or part came before.
     Once,
     /// `:domain` or `:goal`, before this last `)`.
     Missing,
@@ -40,9 +40,9 @@ pub enum LeftOut {
     Section,
     /// A part of an action with another keyword, as `:duration`.
     Part,
-    /// A reserved head directly behind a `(`, as `not` in a condition, or `when`.
+    /// A reserved head directly after a `(`, as `not` in a condition, or `when`.
     Head,
-    /// A `(` behind a `-`, as in `- (either a b)`.
+    /// A `(` after a `-`, as in `- (either a b)`.
     Either,
     /// Another function than `total-cost`, or a `(` in place of a number.
     Function,
@@ -59,11 +59,11 @@ pub enum SyntaxError {
     Deep { at: u64 },
     /// A form of PDDL that is left out here.
     LeftOut { at: u64, what: LeftOut },
-    /// Another token must stand there.
+    /// Another token must come there.
     Expected { at: u64, want: Want },
-    /// The text ends; `at` is the innermost `(` that is open, or the text's length where none is.
+    /// The text ends; `at` is the innermost `(` that is open, or the text's length if none is.
     Unclosed { at: u64 },
-    /// A token behind the whole form.
+    /// A token after the whole form.
     Extra { at: u64 },
     /// Memory ran out.
     Memory,

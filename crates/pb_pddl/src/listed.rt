@@ -34,7 +34,7 @@ impl<T> Listed<T> {
         self.items.as_slice()
     }
 
-    /// Adds an element at the end. It fails where memory runs out, and then gives the element back.
+    /// Adds an element at the end. If memory runs out, the call fails and gives the element back.
     pub fn push(&mut self, x: T) -> Result<(), AllocFailed<T>>
         ensures added { OnOk result (self.new ≡ self.old ++ x ∷ []) }
         ensures kept { OnErr result (self.new ≡ self.old) }
@@ -49,7 +49,7 @@ impl<T> Listed<T> {
         self.items.shrink_to_fit();
     }
 
-    /// Removes the last element, where there is one.
+    /// Removes the last element, if there is one.
     pub fn pop(&mut self)
     where
         T: Drop,
@@ -60,7 +60,7 @@ impl<T> Listed<T> {
 }
 
 impl Listed<u8> {
-    /// The list of these bytes. It fails where memory runs out.
+    /// The list of these bytes. The call fails if memory runs out.
     pub fn of(alloc: Global, bytes: &[u8]) -> Result<Listed<u8>, AllocError>
         ensures { IfOk result (λ list. list ≡ bytes.now) }
     {

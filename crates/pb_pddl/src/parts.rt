@@ -24,7 +24,7 @@ pub struct InitParts {
     pub costs: Listed<Cost>,
 }
 
-/// The parts of an action that stood so far; `costs` are those of its effect.
+/// The parts of an action so far; `costs` are those of its effect.
 #[derive(Debug, Drop)]
 pub struct ActionParts {
     pub params: Option<Listed<Typed>>,
@@ -33,7 +33,8 @@ pub struct ActionParts {
     pub costs: Listed<Cost>,
 }
 
-/// The sections of a domain that stood so far: whether `:functions` stood, and whether it declared `total-cost`.
+/// The sections of a domain so far: whether `:functions` came, and whether it declared
+/// `total-cost`.
 #[derive(Debug, Drop)]
 pub struct DomainParts {
     pub requirements: bool,
@@ -45,7 +46,7 @@ pub struct DomainParts {
     pub actions: Listed<Action>,
 }
 
-/// The sections of a problem that stood so far; `costs` are those of `:init`, and `metric` is the place of its
+/// The sections of a problem so far; `costs` are those of `:init`, and `metric` is the place of its
 /// `total-cost`.
 #[derive(Debug, Drop)]
 pub struct ProblemParts {

@@ -5,8 +5,8 @@ use std::alloc::{AllocError, Global};
 use std::marker::Model;
 use std::rc::Rc;
 
-/// A range of bytes, which it shares with its copies and its parts: these take the same time and memory however long
-/// they are. A contract sees the list of the bytes.
+/// A range of bytes, which a text shares with its copies and its parts. Copies and parts of any
+/// length take the same time and memory. A contract sees the list of the bytes.
 #[derive(Debug, Drop)]
 pub struct Text {
     bytes: Rc<Listed<u8>, Global>,
@@ -34,7 +34,7 @@ fn small(number: usize) -> Result<u32, AllocError>
     }
 }
 
-// The place behind this one by so many bytes.
+// The place `by` bytes after this one.
 fn moved(start: u32, by: usize) -> Result<u32, AllocError>
     ensures { IfOk result (λ n. n ≡ start + by) }
 {
@@ -46,7 +46,7 @@ fn moved(start: u32, by: usize) -> Result<u32, AllocError>
 }
 
 impl Text {
-    /// A text of these bytes. It fails where memory runs out.
+    /// A text of these bytes. The call fails if memory runs out.
     pub fn new(alloc: Global, bytes: &[u8]) -> Result<Text, AllocError>
         ensures { IfOk result (λ text. text ≡ bytes.now) }
     {
@@ -54,7 +54,8 @@ impl Text {
         Text::of(alloc, list)
     }
 
-    /// A text of these bytes, which takes them as they are. It fails where memory runs out, and for 4 GiB or more.
+    /// A text of these bytes, which it takes over without a copy. The call fails if memory runs
+    /// out, and for 4 GiB or more.
     pub fn of(alloc: Global, list: Listed<u8>) -> Result<Text, AllocError>
         ensures { IfOk result (λ text. text ≡ list) }
     {
@@ -76,7 +77,8 @@ impl Text {
         front
     }
 
-    /// So many of its bytes from this place on, shared. It fails where no more copies can be counted.
+    /// `len` bytes of the text from this place on, shared. The call fails if no more copies can be
+    /// counted.
     pub fn part(&self, from: usize, len: usize) -> Result<Text, AllocError>
         requires { from + len ≤ length self.now }
         ensures { IfOk result (λ part. part ≡ take len (drop from self.now)) }
@@ -87,7 +89,7 @@ impl Text {
         Ok(Text { bytes, from, len })
     }
 
-    /// A copy, which shares the bytes. It fails where no more copies can be counted.
+    /// A copy, which shares the bytes. The call fails if no more copies can be counted.
     pub fn share(&self) -> Result<Text, AllocError>
         ensures { IfOk result (λ copy. copy ≡ self.now) }
     {

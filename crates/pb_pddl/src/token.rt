@@ -1,7 +1,8 @@
 use crate::listed::Listed;
 use crate::text::Text;
 
-/// Of what kind a token is. Each place of a text has one: where no token begins it is `Byte`, where the text ends `End`.
+/// The kind of a token. Each place of a text has one: `Byte` if no token begins there, and `End` at
+/// the end of the text.
 #[derive(Clone, Copy, Debug, PartialEq, Eq)]
 pub enum TokenKind {
     /// A `(`.
@@ -34,7 +35,7 @@ pub struct Token {
     /// The place of its first byte. At the end of the text that of the innermost `(` that is open.
     pub at: u32,
     pub kind: TokenKind,
-    /// Whether it stands directly after a `(`.
+    /// Whether the token comes directly after a `(`.
     pub head: bool,
 }
 
@@ -44,6 +45,6 @@ pub struct Cursor {
     pub at: u64,
     /// The places of the `(` that are open.
     pub nest: Listed<u64>,
-    /// Whether a `(` stands directly before it.
+    /// Whether a `(` comes directly before the place.
     pub head: bool,
 }

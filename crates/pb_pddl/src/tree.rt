@@ -1,5 +1,5 @@
-//! The trees. Lists are in order of the text, nested conditions and effects are flattened into one list, and a section
-//! or part that is missing is an empty list.
+//! The trees. Lists are in order of the text, nested conditions and effects are flattened into one
+//! list, and a section or part that is missing is an empty list.
 
 use crate::listed::Listed;
 use crate::text::Text;
@@ -11,7 +11,7 @@ pub struct Name {
     pub at: u64,
 }
 
-/// A name or variable and the type behind its `-`, if there is one.
+/// A name or variable and the type after its `-`, if there is one.
 #[derive(Debug, Drop)]
 pub struct Typed {
     pub name: Name,
@@ -32,7 +32,7 @@ pub struct Atom {
     pub terms: Listed<Term>,
 }
 
-/// An atom that an effect adds, or deletes where it is negated.
+/// An atom that an effect adds, or deletes if it is negated.
 #[derive(Debug, Drop)]
 pub struct Literal {
     pub atom: Atom,

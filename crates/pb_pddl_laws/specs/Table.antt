@@ -1,5 +1,6 @@
--- The grammar as a table: what must still stand behind each token, as in a predictive parser (P. M. Lewis and R. E. Stearns, "Syntax-directed
--- transduction", 1968). So the tokens before a place fix the place, and with it the error.
+-- The grammar as a table: the symbols that are due after each token, as in a predictive parser (P.
+-- M. Lewis and R. E. Stearns, "Syntax-directed transduction", 1968). The tokens before a place thus
+-- fix the place, and with it the error.
 use Rattle.std.specs.Prelude.{◌≡◌, ℕ, Bool, true, false, ◌&&◌, ◌||◌, if◌then◌else◌, List, [], ◌∷◌, ◌++◌, codes, Some}
 use Rattle.pb_pddl.specs.declared.token.TokenKind.{TokenKind}
 use Rattle.pb_pddl.specs.declared.token.TokenKind.TheVariants as kinds
@@ -16,9 +17,9 @@ use Rattle.pb_pddl.specs.Reading.{front, no_parts, no_domain, no_problem}
 use Rattle.pb_pddl.specs.Places
 use Rattle.pb_pddl.specs.Places.{Place, is_kind, is_word, is_key, is_equals, fits, refused, Begins}
 
--- what must still stand. Of a part or section that stood is noted only that it did
+-- what is due. Of a part or section that came before, only the fact that it came is noted
 pub data Symbol : Type 0 where
-  -- one token: a ( or a ), this word, this word where another is left out, a NAME, the NAME of a type, the NAME of an ATOM, a NUM, or the word number
+  -- one token: ( or ), this word, the only word, a NAME, a type's or an ATOM's, a NUM, or `number`
   Opening : Symbol
   Closing : Symbol
   ThisWord : List ℕ → Symbol
@@ -28,28 +29,28 @@ pub data Symbol : Type 0 where
   HeadName : Symbol
   Number : Symbol
   NumberType : Symbol
-  -- TERM* ), where there may be variables or not
+  -- TERM* ), with variables allowed or not
   Terms : Bool → Symbol
-  -- a COND, an EFF or what stands in :init, behind its (
+  -- a COND, an EFF or an entry of :init, after its (
   Condition : Bool → Symbol
   Effect : Symbol
   Fact : Symbol
-  -- COND* ) and EFF* ) and PRED* ) and what stands in :init, to its )
+  -- COND* ) and EFF* ) and PRED* ) and the entries of :init, to its )
   Conditions : Bool → Symbol
   Effects : Symbol
   Predicates : Symbol
   Facts : Symbol
-  -- behind ( :functions, and behind its ( total-cost )
+  -- after ( :functions, and after its ( total-cost )
   Functions : Symbol
   FunctionType : Symbol
-  -- LIST ) of variables or of words, where a name waits for its type or none
+  -- LIST ) of variables or of words, with a name waiting for its type or none
   Names : Bool → Bool → Symbol
   -- KEY* ) and PART* ) and DSECT* ) and PSECT* )
   Keys : Symbol
   Parts : ActionParts → Symbol
   DomainSections : DomainParts → Symbol
   ProblemSections : ProblemParts → Symbol
-  -- a DSECT or a PSECT, behind its (
+  -- a DSECT or a PSECT, after its (
   DomainSection : DomainParts → Symbol
   ProblemSection : ProblemParts → Symbol
 
@@ -98,14 +99,14 @@ total_cost_then due = OnlyWord (codes "total-cost") left.Function ∷ Closing �
 abbrev pub cost_due : List Symbol
 cost_due = Opening ∷ total_cost_then (Number ∷ Closing ∷ [])
 
--- behind the keyword of a part
+-- after the keyword of a part
 abbrev pub after_part : ActionParts → Token → List Symbol
 after_part said t =
     if is_key (codes ":parameters") t then Opening ∷ Names true false ∷ Parts (record said { params = Some [] }) ∷ []
     else if is_key (codes ":precondition") t then Opening ∷ Condition true ∷ Parts (record said { pre = Some [] }) ∷ []
     else Opening ∷ Effect ∷ Parts (record said { effect = Some [] }) ∷ []
 
--- behind the keyword of a section
+-- after the keyword of a section
 abbrev pub after_domain_key : DomainParts → Token → List Symbol
 after_domain_key said t =
     if is_key (codes ":requirements") t then Keys ∷ DomainSections (record said { requirements = true }) ∷ []
@@ -124,7 +125,7 @@ after_problem_key said t =
     else if is_key (codes ":goal") t then Opening ∷ Condition false ∷ Closing ∷ ProblemSections (record said { goal = Some [] }) ∷ []
     else OnlyWord (codes "minimize") left.Metric ∷ Opening ∷ total_cost_then (Closing ∷ ProblemSections (record said { metric = Some 0 }) ∷ [])
 
--- what must stand behind a token that fits, up to the end of this
+-- what is due after a token that fits, up to the end of this symbol
 abbrev pub after : Symbol → Token → List Symbol
 after Opening t = []
 after Closing t = []
@@ -174,13 +175,13 @@ domain_form = form (codes "domain") (DomainSections no_domain)
 abbrev pub problem_form : List Symbol
 problem_form = form (codes "problem") (ProblemSections no_problem)
 
--- these tokens fit, one after another, where this is due, and leave the rest due
+-- these symbols are due, these tokens fit, one after another, and they leave the rest due
 abbrev pub Leads : List Symbol → List Token → List Symbol → Type 0
 Leads due [] rest = rest ≡ due
 Leads [] (t ∷ ts) rest = ⊥
 Leads (s ∷ due) (t ∷ ts) rest = (fits (place_of s) t ≡ true) × Leads (after s t ++ due) ts rest
 
--- the place where this is due: behind the whole form the end
+-- the place at which this is due: after the whole form it is the end
 abbrev pub place_due : List Symbol → Place
 place_due [] = Places.TheEnd
 place_due (s ∷ due) = place_of s
@@ -189,8 +190,9 @@ place_due (s ∷ due) = place_of s
 abbrev pub IsWhole : List Symbol → List Token → Type 0
 IsWhole whole ts = (before : List Token) × (after : List Token) × (ts ≡ before ++ after) × Leads whole before [] × (fits Places.TheEnd (front after) ≡ true)
 
--- The tokens before lead to a place, which is the only one. It says which tokens may follow them so that they begin a form, and which may not.
--- The next token is none of these, and the error is the place's.
+-- The tokens before lead to only one place. The place says which tokens may follow them so that
+-- they begin a form, and which may not. The next token is none of these, and the error is the
+-- place's.
 pub record IsTold (X : Type 0) (Is : List Token → X → Type 0) (whole : List Symbol) (ts : List Token) (e : SyntaxError) : Type 0 where
   pub before : List Token
   pub after : List Token
@@ -203,6 +205,6 @@ pub record IsTold (X : Type 0) (Is : List Token → X → Type 0) (whole : List 
   pub stuck : fits (place_due due) (front after) ≡ false
   pub error : e ≡ refused (place_due due) (front after)
 
--- in the text's tokens the first that can't go on is told by this error
+-- this error is that of the first of the text's tokens that can't go on
 abbrev pub ToldFault : (X : Type 0) → (List Token → X → Type 0) → List Symbol → List ℕ → SyntaxError → Type 0
 ToldFault X Is whole text e = (ts : List Token) × TextTokens text ts × IsTold X Is whole ts e

@@ -1,6 +1,10 @@
-//! Laws of the definitions in `pb_pddl`: what a list of tokens is read as is what the grammar has, an error is at the
-//! first token that can't go on, and the limit on nested parentheses changes neither; a text has one list of tokens, and
-//! the names in its tree are words. It has no code that runs.
+//! Laws of the definitions in `pb_pddl`; the crate has no code that runs:
+//!
+//! - The reading of a list of tokens is the one that the grammar has.
+//! - An error is at the first token that can't go on.
+//! - The limit on nested parentheses changes neither.
+//! - A text has one list of tokens.
+//! - The names in its tree are words.
 #![tactic(auto)]
 
 ghost use Rattle.std.specs.Prelude.{◌≡◌, ℕ, List, Ok, Err};
@@ -17,20 +21,20 @@ ghost use Rattle.pb_pddl.specs.Trees.{SpellsDomain, SpellsProblem};
 ghost use Rattle.pb_pddl.specs.Readings.{tokens_of};
 ghost use Rattle.pb_pddl.specs.Words.{DomainHasWords, ProblemHasWords};
 
-/// A law: tokens are read as a domain exactly where the grammar has them as that domain.
+/// A law: tokens are read as a domain exactly if the grammar has them as that domain.
 pub fn domain_reading_is_exact()
     ensures sound { (ts : List Token) (domain : Domain) → domain_at unlimited ts ≡ Ok domain → IsDomain ts domain }
     ensures complete { (ts : List Token) (domain : Domain) → IsDomain ts domain → domain_at unlimited ts ≡ Ok domain }
 {}
 
-/// A law: tokens are read as a problem exactly where the grammar has them as that problem.
+/// A law: tokens are read as a problem exactly if the grammar has them as that problem.
 pub fn problem_reading_is_exact()
     ensures sound { (ts : List Token) (problem : Problem) → problem_at unlimited ts ≡ Ok problem → IsProblem ts problem }
     ensures complete { (ts : List Token) (problem : Problem) → IsProblem ts problem → problem_at unlimited ts ≡ Ok problem }
 {}
 
-/// A law: what stands before the token that is refused is the beginning of a form, that token can't follow it, and the
-/// error is the first that fits it.
+/// A law: the tokens before a refused token are the beginning of a form, the refused token can't
+/// follow them, and the error is the first that fits it.
 pub fn error_is_first()
     ensures domain { (ts : List Token) (e : SyntaxError) → domain_at unlimited ts ≡ Err e → IsFault Domain IsDomain ts e }
     ensures problem { (ts : List Token) (e : SyntaxError) → problem_at unlimited ts ≡ Err e → IsFault Problem IsProblem ts e }
@@ -49,20 +53,21 @@ pub fn table_is_the_grammar()
     ensures problem_whole { (ts : List Token) (problem : Problem) → IsProblem ts problem → IsWhole problem_form ts }
 {}
 
-/// A law: the error of tokens that are refused is told by the only place that the tokens before it lead to.
+/// A law: the tokens before a refused token lead to only one place, and that place gives the error.
 pub fn error_is_told()
     ensures domain { (ts : List Token) (e : SyntaxError) → domain_at unlimited ts ≡ Err e → IsTold Domain IsDomain domain_form ts e }
     ensures problem { (ts : List Token) (e : SyntaxError) → problem_at unlimited ts ≡ Err e → IsTold Problem IsProblem problem_form ts e }
 {}
 
-/// A law: no other error is told of tokens than the one that reading them gives. So there is one error at most.
+/// A law: tokens have no other error than the one that reading them gives. There is thus one error
+/// at most.
 pub fn told_error_is_read()
     ensures domain { (ts : List Token) (e : SyntaxError) → IsTold Domain IsDomain domain_form ts e → domain_at unlimited ts ≡ Err e }
     ensures problem { (ts : List Token) (e : SyntaxError) → IsTold Problem IsProblem problem_form ts e → problem_at unlimited ts ≡ Err e }
 {}
 
-/// A law: in the tokens of a text a `(` that is too deep is refused before the limit on recursion could decide, so what
-/// is read within the limit is what is read without any.
+/// A law: in the tokens of a text a `(` that is too deep is refused before the limit on recursion
+/// could decide. What is read within the limit is thus what is read without any.
 pub fn limit_never_decides()
     ensures domain { (text : List ℕ) (ts : List Token) → TextTokens text ts → domain_at unlimited ts ≡ domain_at limited ts }
     ensures problem { (text : List ℕ) (ts : List Token) → TextTokens text ts → problem_at unlimited ts ≡ problem_at limited ts }
@@ -78,8 +83,9 @@ pub fn tokens_are_unique()
     ensures { (text : List ℕ) (ts : List Token) → TextTokens text ts → ts ≡ tokens_of text }
 {}
 
-/// A law: where a text spells a tree, the names of its actions and constants, or of its objects, are words: lower-case letters,
-/// digits, `-` and `_` alone, of which the first is a letter or a digit.
+/// A law: if a text spells a tree, the names of its actions and constants, or of its objects, are
+/// words. A word is of lower-case letters, digits, `-` and `_` alone, and begins with a letter or a
+/// digit.
 pub fn names_are_words()
     ensures domain { (text : List ℕ) (domain : Domain) → SpellsDomain text domain → DomainHasWords domain }
     ensures problem { (text : List ℕ) (problem : Problem) → SpellsProblem text problem → ProblemHasWords problem }

@@ -10,10 +10,10 @@ use pb_pddl::{
 };
 use std::alloc::Global;
 
-/// How many parentheses may stand inside one another.
+/// How many parentheses may be inside one another.
 pub const DEEPEST: u32 = 32;
 
-// The keyword stood before.
+// The keyword came before.
 #[tactic(auto, unfolding(pb_pddl::specs::Reading::once))]
 pub fn once(tokens: &[Token]) -> SyntaxError
     ensures { result ≡ once tokens.now }
@@ -126,7 +126,7 @@ fn parts<'a>(
     Ok(rest)
 }
 
-// What is wanted behind these parts.
+// What is wanted after these parts.
 #[tactic(auto, unfolding(pb_pddl::specs::Reading::parts_want))]
 fn parts_want(parts: &ActionParts) -> Want
     ensures { result ≡ parts_want parts.now }
@@ -138,7 +138,7 @@ fn parts_want(parts: &ActionParts) -> Want
     }
 }
 
-// An action, behind its keyword.
+// An action, after its keyword.
 #[tactic(auto, unfolding(pb_pddl::specs::Reading::add_action))]
 pub fn add_action<'a>(
     alloc: Global,

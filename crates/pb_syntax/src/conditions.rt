@@ -7,7 +7,7 @@ use crate::pieces::{begins, behind, fault, need, spells};
 use pb_pddl::{Atom, EffectParts, Listed, Literal, SyntaxError, Token, TokenKind, Want};
 use std::alloc::Global;
 
-// Adds an atom, behind its `(`.
+// Adds an atom, after its `(`.
 #[tactic(auto, unfolding(pb_pddl::specs::Reading::add_atom))]
 fn add_atom<'a>(
     alloc: Global,
@@ -68,7 +68,7 @@ fn all_conds<'a>(
     Ok(rest)
 }
 
-// Adds the atoms of the conditions behind `( and`.
+// Adds the atoms of the conditions after `( and`.
 #[cycle(cond)]
 #[tactic(auto, unfolding(pb_pddl::specs::Reading::conds_at))]
 fn conds<'a>(
@@ -84,7 +84,7 @@ fn conds<'a>(
     need(TokenKind::Close, Want::Paren, rest)
 }
 
-// Adds an effect's atom, behind its `(`.
+// Adds an effect's atom, after its `(`.
 #[tactic(auto, unfolding(pb_pddl::specs::Reading::add_literal))]
 fn add_literal<'a>(
     alloc: Global,
@@ -99,7 +99,7 @@ fn add_literal<'a>(
     Ok(rest)
 }
 
-// Adds the atom behind `( not`.
+// Adds the atom after `( not`.
 #[tactic(auto, unfolding(pb_pddl::specs::Reading::negative_at))]
 fn negative<'a>(
     alloc: Global,
@@ -161,7 +161,7 @@ fn all_effects<'a>(
     Ok(rest)
 }
 
-// Adds the atoms of the effects behind `( and`.
+// Adds the atoms of the effects after `( and`.
 #[cycle(effect)]
 #[tactic(auto, unfolding(pb_pddl::specs::Reading::effects_at))]
 fn effects<'a>(

@@ -110,7 +110,7 @@ pub fn add_equal<'a>(out: &mut InitParts, tokens: &'a [Token]) -> Result<&'a [To
     Ok(rest)
 }
 
-// Takes the word `number`, behind the `-` of `:functions`.
+// Takes the word `number`, after the `-` of `:functions`.
 #[tactic(auto, unfolding(pb_pddl::specs::Reading::number_type))]
 fn number_type(tokens: &[Token]) -> Result<&[Token], SyntaxError>
     ensures { Gives (λ x. x.now) result (number_type tokens.now) }
@@ -124,7 +124,7 @@ fn number_type(tokens: &[Token]) -> Result<&[Token], SyntaxError>
     }
 }
 
-// What may follow the declared function, and the `)` behind it.
+// What may follow the declared function, and the `)` after it.
 #[tactic(auto, unfolding(pb_pddl::specs::Reading::function_type))]
 fn function_type(tokens: &[Token]) -> Result<&[Token], SyntaxError>
     ensures { Gives (λ x. x.now) result (function_type tokens.now) }
@@ -137,7 +137,7 @@ fn function_type(tokens: &[Token]) -> Result<&[Token], SyntaxError>
     }
 }
 
-// The declared function, and the `)` behind it.
+// The declared function, and the `)` after it.
 #[tactic(auto, unfolding(pb_pddl::specs::Reading::one_function))]
 fn one_function(tokens: &[Token]) -> Result<(bool, &[Token]), SyntaxError>
     ensures { Gives (λ x. (x.0, x.1.now)) result (one_function tokens.now) }
@@ -147,7 +147,7 @@ fn one_function(tokens: &[Token]) -> Result<(bool, &[Token]), SyntaxError>
     Ok((true, rest))
 }
 
-// Whether `total-cost` is declared, and the `)` behind it.
+// Whether `total-cost` is declared, and the `)` after it.
 #[tactic(auto, unfolding(pb_pddl::specs::Reading::functions_at))]
 pub fn functions(tokens: &[Token]) -> Result<(bool, &[Token]), SyntaxError>
     ensures { Gives (λ x. (x.0, x.1.now)) result (functions_at tokens.now) }

@@ -187,7 +187,7 @@ pub fn title<'a>(
     Ok((name, rest))
 }
 
-// Nothing stands behind the whole form.
+// Nothing comes after the whole form.
 #[tactic(auto, unfolding(pb_pddl::specs::Reading::end_at))]
 pub fn end(tokens: &[Token]) -> Result<&[Token], SyntaxError>
     ensures { Gives (λ x. x.now) result (end_at tokens.now) }

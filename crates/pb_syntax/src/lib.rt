@@ -1,4 +1,5 @@
-//! Reads the STRIPS and typing part of PDDL, and costs of actions, into trees, and refuses everything else by name and place.
+//! Reads the STRIPS and typing part of PDDL, and costs of actions, into trees. Everything else is
+//! refused by name and place.
 #![tactic(auto)]
 
 mod action;

@@ -43,7 +43,7 @@ fn give_type(
     Ok(())
 }
 
-// A type's name, behind a `-`.
+// A type's name, after a `-`.
 #[tactic(auto, unfolding(pb_pddl::specs::Reading::type_at))]
 fn type_name(alloc: Global, tokens: &[Token]) -> Result<(Name, &[Token]), SyntaxError>
     ensures { Gives (λ x. (x.0, x.1.now)) result (type_at tokens.now) }
@@ -110,7 +110,7 @@ fn groups<'a>(
     Ok(rest)
 }
 
-// A list of names with types, and the `)` behind it.
+// A list of names with types, and the `)` after it.
 #[tactic(auto, unfolding(pb_pddl::specs::Reading::list_at))]
 pub fn list(
     alloc: Global,
@@ -163,7 +163,7 @@ fn all_predicates<'a>(
     Ok(rest)
 }
 
-// The predicates, and the `)` behind them.
+// The predicates, and the `)` after them.
 #[tactic(auto, unfolding(pb_pddl::specs::Reading::predicates_at))]
 pub fn predicates(
     alloc: Global,
@@ -214,7 +214,7 @@ fn all_keys<'a>(
     Ok(rest)
 }
 
-// The words of requirements, and the `)` behind them.
+// The words of requirements, and the `)` after them.
 #[tactic(auto, unfolding(pb_pddl::specs::Reading::keys_at))]
 pub fn keys(alloc: Global, tokens: &[Token]) -> Result<&[Token], SyntaxError>
     ensures { Gives (λ x. x.now) result (keys_at tokens.now) }
@@ -224,7 +224,7 @@ pub fn keys(alloc: Global, tokens: &[Token]) -> Result<&[Token], SyntaxError>
     need(TokenKind::Close, Want::Close, rest)
 }
 
-// Adds an atom of a state, behind its `(`.
+// Adds an atom of a state, after its `(`.
 #[tactic(auto, unfolding(pb_pddl::specs::Reading::add_held))]
 fn add_held<'a>(
     alloc: Global,
@@ -271,7 +271,7 @@ fn all_facts<'a>(
     Ok(rest)
 }
 
-// What stands in `:init`, and the `)` behind it.
+// The content of `:init`, and the `)` after it.
 #[tactic(auto, unfolding(pb_pddl::specs::Reading::facts_at))]
 pub fn facts(alloc: Global, tokens: &[Token]) -> Result<(InitParts, &[Token]), SyntaxError>
     ensures { Gives (λ x. (x.0, x.1.now)) result (facts_at tokens.now) }

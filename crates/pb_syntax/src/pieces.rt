@@ -86,7 +86,7 @@ fn is_reserved(text: &[u8]) -> bool
         || same_text(text, b"scale-down")
 }
 
-// Why this token can't go on, where this is wanted.
+// Why this token can't go on, if this is wanted.
 #[tactic(auto, unfolding(pb_pddl::specs::Reading::refusal))]
 fn refusal(want: Want, token: &Token) -> SyntaxError
     ensures { result ≡ refusal want token.now }
@@ -107,7 +107,7 @@ fn refusal(want: Want, token: &Token) -> SyntaxError
     }
 }
 
-// Why the first token can't go on, where this is wanted.
+// Why the first token can't go on, if this is wanted.
 #[tactic(auto, unfolding(pb_pddl::specs::Reading::fault_at, pb_pddl::specs::Reading::front, pb_pddl::specs::Reading::refusal))]
 pub fn fault(want: Want, tokens: &[Token]) -> SyntaxError
     ensures { result ≡ fault_at want tokens.now }
@@ -118,7 +118,7 @@ pub fn fault(want: Want, tokens: &[Token]) -> SyntaxError
     }
 }
 
-// The first token stands for something that is left out.
+// The first token is a feature that is left out.
 #[tactic(auto, unfolding(pb_pddl::specs::Reading::left_at, pb_pddl::specs::Reading::front))]
 pub fn left_out(what: LeftOut, tokens: &[Token]) -> SyntaxError
     ensures { result ≡ left_at what tokens.now }
@@ -132,7 +132,7 @@ pub fn left_out(what: LeftOut, tokens: &[Token]) -> SyntaxError
     }
 }
 
-// What is behind the first token.
+// The tokens after the first.
 pub fn behind(tokens: &[Token]) -> &[Token]
     ensures { result.now ≡ drop 1 tokens.now }
 {
@@ -166,7 +166,7 @@ pub fn need_word<'a>(text: &[u8], tokens: &'a [Token]) -> Result<&'a [Token], Sy
     }
 }
 
-// Whether the first token is a reserved head directly behind a `(`.
+// Whether the first token is a reserved head directly after a `(`.
 #[tactic(auto, unfolding(pb_pddl::specs::Reading::begins_reserved, pb_pddl::specs::Reading::front))]
 fn begins_reserved(tokens: &[Token]) -> bool
     ensures { result ≡ begins_reserved tokens.now }
@@ -177,7 +177,7 @@ fn begins_reserved(tokens: &[Token]) -> bool
     }
 }
 
-// Takes this word, where another is left out.
+// Takes this word, whose alternatives are left out.
 #[tactic(auto, unfolding(pb_pddl::specs::Reading::only_word))]
 pub fn only_word<'a>(
     text: &[u8],

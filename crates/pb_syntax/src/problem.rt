@@ -138,7 +138,7 @@ fn problem_key<'a>(
     }
 }
 
-// Whether each section stood, so that no more may come.
+// Whether each section came, so that no more may come.
 #[tactic(auto, unfolding(pb_pddl::specs::Reading::stood_all))]
 fn stood_all(parts: &ProblemParts) -> bool
     ensures { result ≡ stood_all parts.now }
@@ -151,7 +151,7 @@ fn stood_all(parts: &ProblemParts) -> bool
         && parts.metric.is_some()
 }
 
-// What is wanted behind these sections.
+// What is wanted after these sections.
 #[tactic(auto, unfolding(pb_pddl::specs::Reading::sections_want))]
 fn sections_want(parts: &ProblemParts) -> Want
     ensures { result ≡ sections_want parts.now }
@@ -195,7 +195,7 @@ fn problem_sections<'a>(
     Ok(rest)
 }
 
-// At the last `)`, where a section that must be there is missing.
+// At the last `)`, if a section that must be there is missing.
 #[tactic(auto, unfolding(pb_pddl::specs::Reading::missing))]
 fn missing(tokens: &[Token]) -> SyntaxError
     ensures { result ≡ missing tokens.now }

@@ -36,9 +36,9 @@ fn problem_of(alloc: Global, text: &[u8]) -> Result<Problem, SyntaxError>
     Ok(found)
 }
 
-/// The domain that a text spells: the STRIPS and typing part of PDDL (McDermott and others, 1998), each name with the
-/// place of its first byte. Each error but `Memory` is at the first token that can't go on; the grammar, and why a token
-/// is refused, stand in docs/FORMATS.md.
+/// The domain that a text spells, each name with the place of its first byte: the STRIPS and typing
+/// part of PDDL (McDermott and others, 1998). Each error except `Memory` is at the first token that
+/// can't go on. docs/FORMATS.md has the grammar, and why a token is refused.
 pub fn read_domain(alloc: Global, text: &[u8]) -> Result<Domain, SyntaxError>
     // What is read is spelled so.
     ensures found { IfOk result (SpellsDomain text.now) }
@@ -46,11 +46,13 @@ pub fn read_domain(alloc: Global, text: &[u8]) -> Result<Domain, SyntaxError>
     ensures only { (d : Domain) → SpellsDomain text.now d → Gives (λ x. x) result (Ok d) }
     // With an error but Memory, the text spells no domain.
     ensures none { IfErr result (λ e. e ≢ Memory → (d : Domain) → SpellsDomain text.now d → ⊥) }
-    // What stands before the error's token is the beginning of a domain, that token can't follow, and the error is the first that fits it.
+    // The tokens before the error's token begin a domain, that token can't follow, and the error is
+    // the first that fits it.
     ensures first { IfErr result (λ e. e ≢ Memory → FirstFault Domain IsDomain text.now e) }
-    // The tokens before it lead to one place by the grammar's table, and the error is told of that place.
+    // By the grammar's table the tokens before it lead to one place, and the error is that of the
+    // place.
     ensures told { IfErr result (λ e. e ≢ Memory → ToldFault Domain IsDomain domain_form text.now e) }
-    // The error that is told of a place is answered, unless memory runs out. So a text has one error at most.
+    // The error of a place is reported, unless memory runs out. A text thus has one error at most.
     ensures fault { (e : SyntaxError) → ToldFault Domain IsDomain domain_form text.now e → Gives (λ x. x) result (Err e) }
     // It is the one answer that reading from left to right gives, however deep the parentheses.
     ensures exact { IsRead (domain_at unlimited) text.now result }
@@ -70,11 +72,13 @@ pub fn read_problem(alloc: Global, text: &[u8]) -> Result<Problem, SyntaxError>
     ensures only { (p : Problem) → SpellsProblem text.now p → Gives (λ x. x) result (Ok p) }
     // With an error but Memory, the text spells no problem.
     ensures none { IfErr result (λ e. e ≢ Memory → (p : Problem) → SpellsProblem text.now p → ⊥) }
-    // What stands before the error's token is the beginning of a problem, that token can't follow, and the error is the first that fits it.
+    // The tokens before the error's token begin a problem, that token can't follow, and the error
+    // is the first that fits it.
     ensures first { IfErr result (λ e. e ≢ Memory → FirstFault Problem IsProblem text.now e) }
-    // The tokens before it lead to one place by the grammar's table, and the error is told of that place.
+    // By the grammar's table the tokens before it lead to one place, and the error is that of the
+    // place.
     ensures told { IfErr result (λ e. e ≢ Memory → ToldFault Problem IsProblem problem_form text.now e) }
-    // The error that is told of a place is answered, unless memory runs out. So a text has one error at most.
+    // The error of a place is reported, unless memory runs out. A text thus has one error at most.
     ensures fault { (e : SyntaxError) → ToldFault Problem IsProblem problem_form text.now e → Gives (λ x. x) result (Err e) }
     // It is the one answer that reading from left to right gives, however deep the parentheses.
     ensures exact { IsRead (problem_at unlimited) text.now result }

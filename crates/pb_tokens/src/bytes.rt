@@ -49,7 +49,7 @@ pub fn word_first(text: &[u8]) -> bool
     }
 }
 
-// Behind a byte of white space or of a comment, whether a comment goes on; None for any other byte.
+// After a byte of white space or of a comment, whether a comment goes on; None for any other byte.
 #[tactic(auto, unfolding(pb_pddl::specs::Tokens::gap_next))]
 fn gap_next(comment: bool, byte: u8) -> Option<bool>
     ensures { result ≡ gap_next comment byte }
@@ -70,7 +70,7 @@ fn gap_next(comment: bool, byte: u8) -> Option<bool>
     }
 }
 
-// How many bytes of white space and comments stand first.
+// How many bytes of white space and comments come first.
 pub fn gap_len(text: &[u8]) -> usize
     ensures within { result ≤ length text.now }
     ensures gap { result ≡ gap_len false text.now }
@@ -87,7 +87,7 @@ pub fn gap_len(text: &[u8]) -> usize
     count
 }
 
-// How many bytes that go on with a word stand first.
+// How many bytes that go on with a word come first.
 pub fn run_len(text: &[u8]) -> usize
     ensures within { result ≤ length text.now }
     ensures run { result ≡ run_len text.now }

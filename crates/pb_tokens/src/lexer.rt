@@ -93,7 +93,7 @@ fn is_last(kind: TokenKind) -> bool
     }
 }
 
-// The place of the innermost `(` that is open, or this place where none is.
+// The place of the innermost `(` that is open, or this place if none is.
 #[tactic(auto, unfolding(pb_pddl::specs::Tokens::unclosed))]
 fn unclosed(here: &Cursor) -> u64
     ensures { result ≡ unclosed here.now }
@@ -118,7 +118,7 @@ fn slice(source: &Text, at: u64, text: &[u8], len: usize) -> Result<Text, AllocE
     source.part(at as usize, len)
 }
 
-// Where a token stands. It fails for a place of 4 GiB or more.
+// The place of a token. The call fails for a place of 4 GiB or more.
 fn place_of(at: u64) -> Result<u32, AllocError>
     ensures { IfOk result (λ place. place ≡ at) }
 {
@@ -128,7 +128,8 @@ fn place_of(at: u64) -> Result<u32, AllocError>
     }
 }
 
-// The token that these bytes begin with, behind all white space. In lower case they are the source's from here on.
+// The token that these bytes begin with, after all white space. These bytes, in lower case, are the
+// source's from here on.
 #[tactic(auto, unfolding(pb_pddl::specs::Tokens::token_at, pb_pddl::specs::Tokens::is_last))]
 fn token_at(source: &Text, here: &Cursor, text: &[u8]) -> Result<Token, AllocError>
     requires size { length text.now < 2 ^ 63 }
@@ -213,11 +214,12 @@ fn tokens_in(alloc: Global, source: &Text, text: &[u8]) -> Result<Listed<Token>,
     }
 }
 
-/// The tokens of a text, each the longest at its place. The last is the first that goes on nowhere: the end, bytes that
-/// begin no token, or a `(` inside 32 others. Its only error is want of memory.
+/// The tokens of a text, each the longest at its place. The last is the first that goes on nowhere:
+/// the end, bytes that begin no token, or a `(` inside 32 others. The only error is out of memory.
 pub fn tokens(alloc: Global, text: &[u8]) -> Result<Listed<Token>, AllocError>
     ensures tokens { IfOk result (TextTokens text.now) }
-    // Each but the end is a slice of the text at its place, in lower case, and stands behind the one before it.
+    // Each token except the end is a slice of the text at its place, in lower case, after the one
+    // before it.
     ensures slices { IfOk result (Spans 0 text.now) }
 {
     let source = Text::of(alloc, lower_bytes(alloc, text)?)?;
