@@ -1,5 +1,6 @@
--- What actions cost (action costs by `total-cost`: Fox and Long, PDDL2.1: an extension to PDDL for expressing temporal planning domains, 2003), and
--- where what the texts say of costs is at fault.
+-- What actions cost (action costs by `total-cost`: Fox and Long, PDDL2.1: an extension to PDDL for
+-- expressing temporal planning domains, 2003), and the places of faults in what the texts say of
+-- costs.
 use Rattle.std.specs.Prelude.{ℕ, Bool, not, nat_lt, nat_eq, List, [], ◌∷◌, flat_map, Option, Some, None}
 use Rattle.std.specs.List.{slice_get}
 use Rattle.pb_pddl.specs.declared.tree.Cost.{Cost}
@@ -22,7 +23,7 @@ cost_with (Some at) action = increase_of action.costs
 abbrev pub cost_of : Problem → Action → ℕ
 cost_of problem action = cost_with problem.metric action
 
--- what the action at a place costs; there is none behind the last, and it costs nothing
+-- what the action at a place costs; there is none after the last, and it costs nothing
 abbrev pub cost_if : Problem → Option Action → ℕ
 cost_if problem None = 0
 cost_if problem (Some action) = cost_of problem action
@@ -33,7 +34,7 @@ cost_at domain problem i = cost_if problem (slice_get domain.actions i)
 
 -- ---- faults
 
--- `total-cost` where the domain declares none
+-- `total-cost` if the domain declares none
 abbrev pub undeclared : (has_cost : Bool) → List Cost → List ℕ
 undeclared has_cost costs = flat_map (λ c. fault_if (not has_cost) c.function) costs
 
@@ -55,7 +56,7 @@ abbrev pub zero_increase : Name → List Cost → List ℕ
 zero_increase name [] = name.at ∷ []
 zero_increase name (increase ∷ later) = fault_if (nat_eq increase.number 0) increase.number_at
 
--- the same where there is a metric
+-- the same if there is a metric
 abbrev pub zero_cost : (metric : Option ℕ) → Action → List ℕ
 zero_cost None action = []
 zero_cost (Some at) action = zero_increase action.name action.costs

@@ -1,4 +1,4 @@
--- The facts that atoms by numbers stand for.
+-- The facts that atoms by numbers mean.
 use Rattle.std.specs.Prelude.{◌≡◌, ℕ, zero, suc, true, List, [], ◌∷◌, length, map, slice_index}
 use Rattle.pb_pddl.specs.declared.tree.Typed.{Typed}
 use Rattle.pb_pddl.specs.declared.tree.Term.{Term}
@@ -18,7 +18,8 @@ name_at [] n = []
 name_at (name ∷ names) zero = name
 name_at (name ∷ names) (suc n) = name_at names n
 
--- the number of the object that an argument stands for, where objects of these numbers are given to the parameters
+-- the number of the object that an argument means, if objects of these numbers are given to the
+-- parameters
 abbrev pub value_of : List ℕ → Argument → ℕ
 value_of given (arguments.Object i) = i
 value_of given (arguments.Parameter k) = slice_index given k
@@ -36,7 +37,8 @@ abbrev pub AreKnown : List (List ℕ) → List Typed → List Term → Type 0
 AreKnown objects params [] = Unit {0}
 AreKnown objects params (t ∷ terms) = IsKnown objects params t × AreKnown objects params terms
 
--- An atom of known names stands for one fact, by numbers and by names, whatever objects are given to the parameters.
+-- An atom of known names means the same fact by numbers and by names, whatever objects are given to
+-- the parameters.
 abbrev pub NumbersKeepFacts : Type 0
 NumbersKeepFacts =
     (predicates objects : List (List ℕ)) (params : List Typed) (given : List ℕ) (atom : Atom) → is_among atom.predicate.text predicates ≡ true → AreKnown objects params atom.terms

@@ -29,7 +29,7 @@ number text names = unwrap_or (number_of text names) 0
 abbrev pub kind_numbers : List (List ℕ) → List Typed → List ℕ
 kind_numbers types list = map (λ t. number (kind_text t) types) list
 
--- an argument, where objects and parameters have these names
+-- an argument, for objects and parameters of these names
 abbrev pub argument_of : List (List ℕ) → List (List ℕ) → Term → Argument
 argument_of objects params (terms.Object name) = arguments.Object (number name.text objects)
 argument_of objects params (terms.Variable name) = arguments.Parameter (number name.text params)

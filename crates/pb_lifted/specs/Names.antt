@@ -4,16 +4,16 @@ use Rattle.std.specs.List.{list_any}
 use Rattle.std.specs.Str.{bytes_eq}
 use Rattle.pb_pddl.specs.declared.tree.Name.{Name}
 
--- the number of a name: the place where it stands first in a list, counted from 0
+-- the number of a name: its first place in a list, counted from 0
 abbrev pub number_of : List ℕ → List (List ℕ) → Option ℕ
 number_of text [] = None
 number_of text (name ∷ names) = if bytes_eq text name then Some 0 else option_map suc (number_of text names)
 
--- whether the name stands in the list
+-- whether the name is in the list
 abbrev pub is_among : List ℕ → List (List ℕ) → Bool
 is_among text names = list_any (bytes_eq text) names
 
--- this place where there is a fault
+-- this place if there is a fault
 abbrev pub fault_if : Bool → ℕ → List ℕ
 fault_if true at = at ∷ []
 fault_if false at = []

@@ -1,4 +1,4 @@
--- What a name or a variable stands for: objects, parameters, predicates.
+-- What a name or a variable means: objects, parameters, predicates.
 use Rattle.std.specs.Prelude.{ℕ, List, ◌++◌, Option, find}
 use Rattle.std.specs.Str.{bytes_eq}
 use Rattle.pb_pddl.specs.declared.tree.Name.{Name}
@@ -21,7 +21,7 @@ entry_of list text = find (λ t. bytes_eq text (name_text t)) list
 abbrev pub predicate_of : List Predicate → List ℕ → Option Predicate
 predicate_of list text = find (λ p. bytes_eq text p.name.text) list
 
--- what an argument names, where that is known: an object, or a parameter of the action
+-- what an argument names, if that is known: an object, or a parameter of the action
 abbrev pub entry_of_term : List Typed → List Typed → Term → Option Typed
 entry_of_term objects params (Object name) = entry_of objects name.text
 entry_of_term objects params (Variable name) = entry_of params name.text

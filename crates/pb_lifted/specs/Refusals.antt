@@ -144,7 +144,7 @@ place_in None None = None
 abbrev pub first_place : Cause → Domain → Problem → Option Place
 first_place cause domain problem = place_in (earliest None (in_domain cause domain problem)) (earliest None (in_problem cause domain problem))
 
--- the causes that have a place, in the order in which they are told
+-- the causes that have a place, in the order in which they are reported
 abbrev pub causes_in_order : List Cause
 causes_in_order =
     causes.DomainName ∷ causes.Twice ∷ causes.UnknownType ∷ causes.TypeCycle ∷ causes.UnknownPredicate ∷ causes.Arity ∷ causes.UnknownObject ∷ causes.WrongType
@@ -162,11 +162,11 @@ abbrev pub first_among : List Cause → Domain → Problem → Option TypingRefu
 first_among [] domain problem = too_many (length (objects_of domain problem))
 first_among (cause ∷ later) domain problem = or_refusal cause (first_place cause domain problem) (first_among later domain problem)
 
--- why the two are no task, or None where they are one
+-- why the two are no task, or None if they are one
 abbrev pub first_refusal : Domain → Problem → Option TypingRefusal
 first_refusal domain problem = first_among causes_in_order domain problem
 
--- an error tells this refusal, unless memory ran out
+-- an error reports this refusal, unless memory ran out
 abbrev pub Tells : Option TypingRefusal → LiftedError → Type 0
 Tells found (errors.Refused refusal) = found ≡ Some refusal
 Tells found errors.Memory = Unit {0}

@@ -1,4 +1,4 @@
--- Where an atom stands.
+-- The surroundings of an atom.
 use Rattle.std.specs.Prelude.{◌≡◌, map}
 use Rattle.pb_lifted.specs.declared.scope.Scope.{Scope}
 use Rattle.pb_lifted.specs.Types.{name_text}

@@ -1,5 +1,6 @@
--- A domain and a problem as a state space, by names (McDermott and others, PDDL: the planning domain definition language, 1998): a state is a
--- set of facts, and an action is a schema with objects.
+-- A domain and a problem as a state space, by names (McDermott and others, PDDL: the planning
+-- domain definition language, 1998). A state is a set of facts, and an action is a schema with
+-- objects.
 use Rattle.std.specs.Prelude.{◌≡◌, ℕ, Bool, true, not, cond, ◌&&◌, ◌||◌, if◌then◌else◌, List, [], ◌∷◌, map, flat_map, Option, Some, None}
 use Rattle.std.specs.List.{list_any, slice_get}
 use Rattle.std.specs.Str.{bytes_eq}
@@ -36,7 +37,7 @@ given_to [] objects name = []
 given_to (p ∷ params) [] name = []
 given_to (p ∷ params) (o ∷ objects) name = if bytes_eq name (name_text p) then o else given_to params objects name
 
--- what an argument stands for, where these objects are given to the parameters
+-- what an argument means, if these objects are given to the parameters
 abbrev pub object_of : List Typed → List (List ℕ) → Term → List ℕ
 object_of params objects (Object name) = name.text
 object_of params objects (Variable name) = given_to params objects name.text

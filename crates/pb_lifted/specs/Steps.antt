@@ -34,7 +34,7 @@ is_ground_in f facts = list_any (same_ground f) facts
 abbrev pub GroundState : Type 0
 GroundState = GroundFact → Bool
 
--- what an atom of a schema stands for, where these objects are given to the parameters
+-- what an atom of a schema means, if these objects are given to the parameters
 abbrev pub ground : List ℕ → LiftedAtom → GroundFact
 ground given atom = record { predicate = atom.predicate; objects = map (λ a. value_of given a) atom.arguments }
 
@@ -68,7 +68,7 @@ pub record IsGroundStep (lifted : Lifted) (state : GroundState) (i : ℕ) (given
   pub applicable : AllGroundHold state (ground_all given schema.pre)
   pub result : (f : GroundFact) → next f ≡ ground_after state (ground_all given schema.deletes) (ground_all given schema.adds) f
 
--- what schema i costs; there is none behind the last, and it costs nothing
+-- what schema i costs; there is none after the last, and it costs nothing
 abbrev pub cost_of_schema : Option Schema → ℕ
 cost_of_schema None = 0
 cost_of_schema (Some schema) = schema.cost
@@ -115,7 +115,7 @@ abbrev pub GroundStartIsStart : Type 0
 GroundStartIsStart =
     (domain : Domain) (problem : Problem) → first_refusal domain problem ≡ None → IsSameState domain problem (ground_start (lifted_of domain problem)) (start_of problem)
 
--- The goal holds by numbers exactly where it holds by names.
+-- The goal holds by numbers exactly if it holds by names.
 abbrev pub GroundGoalIsGoal : Type 0
 GroundGoalIsGoal =
     (domain : Domain) (problem : Problem) (now : GroundState) (state : State) → first_refusal domain problem ≡ None → IsSameState domain problem now state
@@ -125,7 +125,7 @@ GroundGoalIsGoal =
 abbrev pub SchemasCostTheSame : Type 0
 SchemasCostTheSame = (domain : Domain) (problem : Problem) (i : ℕ) → ground_cost (lifted_of domain problem) i ≡ cost_at domain problem i
 
--- Where nothing is refused, each action of the domain costs 1 to 2^20.
+-- If nothing is refused, each action of the domain costs 1 to 2^20.
 abbrev pub CostsAreInRange : Type 0
 CostsAreInRange =
     (domain : Domain) (problem : Problem) (i : ℕ) (action : Action) → first_refusal domain problem ≡ None → slice_get domain.actions i ≡ Some action

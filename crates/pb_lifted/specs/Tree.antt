@@ -18,7 +18,7 @@ abbrev pub climb : List ℕ → ℕ → ℕ → ℕ
 climb parents zero i = i
 climb parents (suc n) i = climb parents n (slice_index parents i)
 
--- the number, or one that so many steps up come to, is this one
+-- the number, or one that is at most this many steps up, is this one
 abbrev pub comes_to : List ℕ → ℕ → ℕ → ℕ → Bool
 comes_to parents zero i j = nat_eq i j
 comes_to parents (suc n) i j = nat_eq i j || comes_to parents n (slice_index parents i) j
@@ -31,7 +31,8 @@ followed first second = map (λ i. slice_index second i) first
 pub record IsFar (parents : List ℕ) (n : ℕ) (far : List ℕ) : Type 0 where
   pub each : (i : ℕ) → i < length far → slice_index far i ≡ climb parents n i
 
--- where the whole way up from a type does not come to object, far being where it leads from each number
+-- the whole way up from a type does not come to object; far has where that way leads from each
+-- number
 abbrev pub does_not_lead : List (List ℕ) → List ℕ → Typed → Bool
 does_not_lead names far t =
     if is_object (name_text t) then not (is_object (kind_text t))

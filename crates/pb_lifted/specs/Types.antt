@@ -16,7 +16,7 @@ abbrev pub kind_or : Option Name → List ℕ
 kind_or None = object
 kind_or (Some kind) = kind.text
 
--- the type behind the -, or object
+-- the type after the -, or object
 abbrev pub kind_text : Typed → List ℕ
 kind_text typed = kind_or typed.kind
 
@@ -31,7 +31,7 @@ is_idle typed = is_object (name_text typed) && is_object (kind_text typed)
 abbrev pub declared_types : List Typed → List Typed
 declared_types types = filter (λ t. not (is_idle t)) types
 
--- the names behind the -
+-- the names after the -
 abbrev pub kind_names : Option Name → List (List ℕ)
 kind_names None = []
 kind_names (Some kind) = kind.text ∷ []
@@ -39,11 +39,12 @@ kind_names (Some kind) = kind.text ∷ []
 abbrev pub kinds_of : List Typed → List (List ℕ)
 kinds_of types = flat_map (λ t. kind_names t.kind) types
 
--- all types: object, those that are declared, and those that stand above one of these; a name may stand more than once
+-- all types: object, those that are declared, and those above one of these; a name may be there
+-- more than once
 abbrev pub type_names : List Typed → List (List ℕ)
 type_names types = object ∷ map name_text types ++ kinds_of types
 
--- the type above: where a type is declared the one behind its first -, else object
+-- the type above: if a type is declared, the one after its first -, else object
 abbrev pub above_in : List Typed → List ℕ → List ℕ
 above_in [] text = object
 above_in (t ∷ types) text = if bytes_eq text (name_text t) then kind_text t else above_in types text
@@ -82,7 +83,7 @@ cyclic_in types list = flat_map (λ t. fault_if (is_cyclic types t) t.name.at) l
 abbrev pub cyclic_types : List Typed → List ℕ
 cyclic_types types = cyclic_in types types
 
--- a name behind a - that is no type
+-- a name after a - that is no type
 abbrev pub unknown_kind : List Typed → Option Name → List ℕ
 unknown_kind types None = []
 unknown_kind types (Some kind) = fault_if (not (is_among kind.text (type_names types))) kind.at

@@ -1,5 +1,6 @@
--- What a domain and a problem are that are not refused, and no others: names are distinct and known, types lead to object, arguments are as
--- many as parameters and of their types, the limits are kept, and costs are declared and at least 1.
+-- What a domain and a problem that are not refused are, and no others. Names are distinct and
+-- known, and types lead to object. Arguments are as many as parameters and of their types, the
+-- limits are kept, and costs are declared and at least 1.
 use Rattle.std.specs.Prelude.{◌≡◌, ◌<◌, ◌≤◌, ◌^◌, ℕ, true, false, List, [], ◌∷◌, length, map, Some, None, All}
 use Rattle.pb_pddl.specs.declared.tree.Typed.{Typed}
 use Rattle.pb_pddl.specs.declared.tree.Term.{Term}
@@ -40,11 +41,12 @@ declared_names domain = map name_text (declared_types domain.types)
 abbrev pub named : Domain → Problem → List ℕ → List (List ℕ)
 named domain problem given = map (λ i. name_at (object_names domain problem) i) given
 
--- no name stands twice: each is the first of its name
+-- no name is there twice: each is the first of its name
 abbrev pub AreDistinct : List (List ℕ) → Type 0
 AreDistinct names = (i : ℕ) → i < length names → number_of (name_at names i) names ≡ Some i
 
--- To each parameter of a predicate an argument: an object or a parameter of the action, of the predicate's parameter's type or of one below.
+-- Each parameter of a predicate has an argument: an object or a parameter of the action, of the
+-- predicate's parameter's type or of one below.
 abbrev pub ArgumentsFit : Domain → Problem → List Typed → List Term → List Typed → Type 0
 ArgumentsFit domain problem params [] [] = Unit {0}
 ArgumentsFit domain problem params [] (w ∷ wanted) = ⊥
@@ -58,7 +60,7 @@ pub record AtomFits (domain : Domain) (problem : Problem) (params : List Typed) 
   pub declared : predicate_of domain.predicates atom.predicate.text ≡ Some predicate
   pub arguments : ArgumentsFit domain problem params atom.terms predicate.params
 
--- so many steps up from the type come to object, and object itself stands below no other type
+-- so many steps up from the type come to object, and object itself is below no other type
 pub record IsRooted (types : List Typed) (typed : Typed) : Type 0 where
   pub steps : ℕ
   pub up : ancestor types steps (name_text typed) ≡ object
@@ -122,7 +124,8 @@ AcceptedIsWellTyped = (domain : Domain) (problem : Problem) → first_refusal do
 abbrev pub WellTypedIsAccepted : Type 0
 WellTypedIsAccepted = (domain : Domain) (problem : Problem) → IsWellTyped domain problem → first_refusal domain problem ≡ None
 
--- A fitting atom stands for one fact, by numbers and by names, whatever objects are given to the parameters.
+-- A fitting atom means the same fact by numbers and by names, whatever objects are given to the
+-- parameters.
 abbrev pub FittingAtomsKeepFacts : Type 0
 FittingAtomsKeepFacts =
     (domain : Domain) (problem : Problem) (params : List Typed) (given : List ℕ) (atom : Atom) → AtomFits domain problem params atom → length given ≡ length params

@@ -50,7 +50,8 @@ circle =
     under (name (codes "a") 0) (name (codes "b") 4) ∷ under (name (codes "b") 6) (name (codes "a") 10) ∷ under (name (codes "c") 12) (name (codes "a") 16)
     ∷ alone (name (codes "d") 18) ∷ []
 
--- The two that stand above one another and the one below them come to no root, and the fourth does.
+-- The two types that are above each other and the one below them come to no root, and the fourth
+-- does.
 abbrev pub CycleIsFound : Type 0
 CycleIsFound = cyclic_types circle ≡ 0 ∷ 6 ∷ 12 ∷ []
 
@@ -60,7 +61,8 @@ CycleIsFound = cyclic_types circle ≡ 0 ∷ 6 ∷ 12 ∷ []
 abbrev pub letters : List Name
 letters = name (codes "a") 0 ∷ name (codes "b") 2 ∷ name (codes "a") 4 ∷ name (codes "c") 6 ∷ name (codes "b") 8 ∷ []
 
--- The later ones are told, and those that stand before the list; the earliest place is the least byte.
+-- The later names are reported, and those that are in the list before them; the earliest place is
+-- the least byte.
 abbrev pub RepeatedNamesAreFound : Type 0
 RepeatedNamesAreFound =
     (repeated [] letters ≡ 4 ∷ 8 ∷ []) × (repeated (codes "c" ∷ []) letters ≡ 4 ∷ 6 ∷ 8 ∷ []) × (earliest None (8 ∷ 4 ∷ 6 ∷ []) ≡ Some 4)
@@ -112,7 +114,8 @@ turning_problem kind =
 abbrev pub parked_by_number : LiftedAtom
 parked_by_number = record { predicate = 0; arguments = arguments.Parameter 0 ∷ [] }
 
--- Types are object, car, vehicle, and once more the vehicle that stands behind -, whose number is that of the first.
+-- Types are object, car, vehicle, and once more the vehicle after the -, whose number is that of
+-- the first vehicle.
 abbrev pub TurningIsLifted : Type 0
 TurningIsLifted =
     let lifted : Lifted =
@@ -177,7 +180,8 @@ MetricDecides =
     (cost_of (shopping 0 None) (buy 5) ≡ 1) × (cost_of (shopping 0 None) wait ≡ 1) × (cost_of (shopping 0 (Some 90)) (buy 5) ≡ 5)
     × (first_refusal (shop true 5) (shopping 0 None) ≡ None)
 
--- Each cause of costs has its place, and an earlier cause comes before a later one. A second cost is told, and a third.
+-- Each cause of costs has its place, and an earlier cause comes before a later one. A second cost
+-- is reported, and a third.
 abbrev pub CostsAreRefused : Type 0
 CostsAreRefused =
     let metric : Option ℕ = Some 90 in let in_domain : ℕ → Place = λ at. record { file = files.Domain; at = at } in

@@ -61,7 +61,7 @@ fn first_wrong_type(
     found
 }
 
-/// Whether there are as many arguments as the predicate has parameters, where it is declared.
+/// Whether there are as many arguments as the predicate has parameters, if it is declared.
 fn fits_arity(terms: &[Term], predicate: Option<&Predicate>) -> bool
     ensures { result ≡ fits_arity terms.now (option_copied predicate.entry) }
 {

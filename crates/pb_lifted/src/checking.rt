@@ -13,7 +13,7 @@ use crate::tables::{NameTables, tables_of};
 use pb_pddl::{Domain, Problem};
 use std::alloc::Global;
 
-/// The causes that have a place, in the order in which they are told.
+/// The causes that have a place, in the order in which they are reported.
 const ORDER: [Cause; 13] = [
     Cause::DomainName,
     Cause::Twice,
@@ -60,7 +60,7 @@ fn first_place(
     }
 }
 
-/// The refusal of too many objects, where there are.
+/// The refusal of too many objects, if there are too many.
 fn too_many_objects(domain: &Domain, problem: &Problem) -> Option<TypingRefusal>
     ensures { result ≡ too_many (length (objects_of domain.now problem.now)) }
 {
@@ -91,9 +91,10 @@ fn find_refusal(
     too_many_objects(domain, problem)
 }
 
-/// The lifted task of a domain and a problem: what the names stand for, in numbers. At Refused the two are no task, for the first cause
-/// in the stated order (that of `Cause`, then too many objects), at its first place: in the domain before the problem, and in one of them
-/// the place with the least byte. At Memory nothing is said.
+/// The lifted task of a domain and a problem: the names are resolved to numbers. At `Refused` the
+/// two are no task, for the first cause in the stated order (that of `Cause`, then too many
+/// objects). The place is the cause's first: in the domain before the problem, and in one file the
+/// least byte. `Memory` says nothing of the two.
 pub fn resolve(alloc: Global, domain: &Domain, problem: &Problem) -> Result<Lifted, LiftedError>
     // Nothing is refused.
     ensures task { OnOk result (first_refusal domain.now problem.now ≡ None) }

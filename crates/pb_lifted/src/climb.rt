@@ -3,7 +3,7 @@ ghost use Rattle.pb_lifted.specs.Tree.{climb, comes_to, IsFar, followed};
 
 use std::alloc::{AllocError, Global};
 
-/// The number that a list has at a place, or 0 behind its end.
+/// The number that a list has at a place, or 0 after its end.
 pub(crate) fn at(list: &[usize], place: usize) -> usize
     ensures { result ≡ slice_index list.now place }
 {
@@ -32,7 +32,8 @@ fn places(alloc: Global, n: usize) -> Result<Vec<usize>, AllocError>
     Ok(all)
 }
 
-/// Where as many steps up lead as there are entries. It doubles the steps, so it takes time in n log n. It fails where memory runs out.
+/// Where as many steps up lead as there are entries. It doubles the steps, so it takes time in n
+/// log n. It fails if memory runs out.
 pub(crate) fn far_up(alloc: Global, parents: &[usize]) -> Result<Vec<usize>, AllocError>
     requires { slice_index parents.now 0 ≡ 0 }
     ensures { IfOk result (λ far. IsFar parents.now (length parents.now) far.items × (length far.items ≡ length parents.now)) }

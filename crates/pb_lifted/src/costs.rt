@@ -1,4 +1,4 @@
-//! What actions cost, and where what the texts say of costs is at fault.
+//! What actions cost, and the places of faults in what the texts say of costs.
 ghost use Rattle.std.specs.Prelude.{◌≡◌};
 ghost use Rattle.pb_lifted.specs.Names.{earliest};
 ghost use Rattle.pb_lifted.specs.Costs.{increase_of, cost_of, undeclared, undeclared_metric, costs_again, too_great, zero_increase, zero_cost};
@@ -51,7 +51,8 @@ pub(crate) fn note_metric(has_cost: bool, metric: Option<u64>, first: Option<u64
     }
 }
 
-/// The earlier of the first place and those of the words `increase` and `=` of all costs but the first.
+/// The earlier of the first place and those of the words `increase` and `=` of all costs except the
+/// first.
 #[tactic(auto, using(crate::proofs::Earliest::earliest_append))]
 pub(crate) fn first_again(costs: &[Cost], first: Option<u64>) -> Option<u64>
     ensures { result ≡ earliest first (costs_again costs.now) }

@@ -43,7 +43,7 @@ impl Declared for Action {
     }
 }
 
-/// The earlier of the first place and this one, where there is a fault.
+/// The earlier of the first place and this one, if there is a fault.
 pub(crate) fn note(first: Option<u64>, fault: bool, at: u64) -> Option<u64>
     ensures { result ≡ earliest first (fault_if fault at) }
 {
@@ -63,7 +63,7 @@ pub(crate) fn is_object(text: &[u8]) -> bool
     text == b"object".as_slice()
 }
 
-/// The type behind the `-`, or `object`.
+/// The type after the `-`, or `object`.
 pub(crate) fn kind_text(typed: &Typed) -> &[u8]
     ensures { result.now ≡ kind_text typed.now }
 {
@@ -80,7 +80,8 @@ pub(crate) fn is_idle(typed: &Typed) -> bool
     is_object(typed.name.text.as_slice()) && is_object(kind_text(typed))
 }
 
-/// Adds the names of what is declared, and finds the earlier of the first place and that of a name that was there.
+/// Adds the names of what is declared, and finds the earlier of the first place and that of a name
+/// that was there before.
 #[tactic(auto, using(crate::proofs::Earliest::earliest_append))]
 pub(crate) fn enter_all<T: Declared>(
     names: &mut Names,
@@ -132,7 +133,7 @@ pub(crate) fn enter_types(
     Ok(found)
 }
 
-/// Adds the names behind a `-`.
+/// Adds the names after a `-`.
 pub(crate) fn enter_kinds(names: &mut Names, types: &[Typed]) -> Result<(), AllocError>
     ensures { OnOk result (names.new ≡ names.old ++ kinds_of types.now) }
 {

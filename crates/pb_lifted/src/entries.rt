@@ -7,14 +7,15 @@ use crate::declared::Declared;
 use crate::names::Names;
 use pb_pddl::Typed;
 
-/// The element at a place, or None behind the end.
+/// The element at a place, or None after the end.
 fn item<T>(items: &[T], place: usize) -> Option<&T>
     ensures { option_copied result ≡ slice_get items.now place }
 {
     items.get(place)
 }
 
-/// The first that is declared under a name, or None where none is. The names are those of the list, in order.
+/// The first declaration of a name, or None if there is none. The names are those of the list, in
+/// order.
 #[tactic(auto, using(crate::proofs::Found::first_found))]
 pub(crate) fn entry<'a, T: Declared>(names: &Names, items: &'a [T], text: &[u8]) -> Option<&'a T>
     requires { names.now ≡ map (λ i. (T.name_of i).text) items.now }
@@ -26,7 +27,8 @@ pub(crate) fn entry<'a, T: Declared>(names: &Names, items: &'a [T], text: &[u8])
     }
 }
 
-/// The object of a name, or None where none has it. The names are those of the constants and then of the problem's objects.
+/// The object of a name, or None if no object has the name. The names are those of the constants
+/// and then of the problem's objects.
 #[tactic(auto, using(crate::proofs::Found::first_found))]
 pub(crate) fn object<'a>(
     names: &Names,

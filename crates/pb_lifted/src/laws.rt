@@ -6,25 +6,33 @@ ghost use Rattle.pb_lifted.specs.Facts.{NumbersKeepFacts};
 ghost use Rattle.pb_lifted.specs.Typing.{AcceptedIsWellTyped, WellTypedIsAccepted, FittingAtomsKeepFacts};
 ghost use Rattle.pb_lifted.specs.Steps.{GroundStepsAreSteps, StepsAreGroundSteps, GroundStartIsStart, GroundGoalIsGoal, SchemasCostTheSame, CostsAreInRange};
 
-/// An atom of known names stands for one fact, by numbers and by names, whatever objects are given to the parameters.
+/// An atom of known names means the same fact by numbers and by names, whatever objects are given
+/// to the parameters.
 pub fn numbers_keep_facts()
     ensures { NumbersKeepFacts }
 {}
 
-/// Where nothing is refused, the problem is of this domain, the limits are kept, all types lead to `object`, no two types, objects, predicates
-/// or actions have one name, nor two parameters of one action, names are known, arguments are as many as parameters, and each is of its
-/// parameter's type or of one below. So each atom stands for one fact, by numbers and by names.
+/// If nothing is refused, all of this holds, so that each atom means one fact, by numbers and by
+/// names:
+///
+/// - The problem is of this domain, and the limits are kept.
+/// - All types lead to `object`.
+/// - No two types, objects, predicates or actions have one name, nor two parameters of one action.
+/// - Names are known.
+/// - Arguments are as many as parameters, and each is of its parameter's type or of one below.
 pub fn accepted_is_well_typed()
     ensures typed { AcceptedIsWellTyped }
     ensures facts { FittingAtomsKeepFacts }
 {}
 
-/// A domain and a problem of which all that is so are refused for nothing. So they are refused exactly where they are not well typed.
+/// A domain and a problem that are well typed are refused for nothing. So they are refused exactly
+/// if they are not well typed.
 pub fn well_typed_is_accepted()
     ensures { WellTypedIsAccepted }
 {}
 
-/// Where nothing is refused, the lifted task has the same start, steps and goals by numbers as the domain and the problem by names.
+/// If nothing is refused, the lifted task has the same start, steps and goals by numbers as the
+/// domain and the problem by names.
 pub fn numbers_keep_steps()
     ensures by_names { GroundStepsAreSteps }
     ensures by_numbers { StepsAreGroundSteps }
@@ -32,30 +40,32 @@ pub fn numbers_keep_steps()
     ensures goal { GroundGoalIsGoal }
 {}
 
-/// Where nothing is refused, the plans are the same by numbers and by names: the same actions with the same objects.
+/// If nothing is refused, the plans are the same by numbers and by names: the same actions with the
+/// same objects.
 pub fn numbers_keep_plans()
     ensures by_names { GroundPlansArePlans }
     ensures by_numbers { PlansAreGroundPlans }
 {}
 
-/// A schema costs what its action costs by the trees, and so plans by numbers what they cost by names. Where nothing is refused, each
-/// action costs 1 to 2^20.
+/// A schema costs as much as its action by the trees. So plans by numbers cost as much as plans by
+/// names. If nothing is refused, each action costs 1 to 2^20.
 pub fn numbers_keep_costs()
     ensures schemas { SchemasCostTheSame }
     ensures plans { GroundPlansCostTheSame }
     ensures range { CostsAreInRange }
 {}
 
-/// Where nothing is refused, what the instances of a lifted task need, add and delete, what holds at first and what the goal asks are facts
-/// of declared predicates, each object of its parameter's type or of one below.
+/// If nothing is refused, the facts of the lifted task are of declared predicates, and each object
+/// is of its parameter's type or of one below. These facts are those that instances need, add and
+/// delete, those that hold at first, and those that the goal asks for.
 pub fn instances_are_typed()
     ensures actions { InstancesAreTyped }
     ensures start { StartIsTyped }
     ensures goal { GoalIsTyped }
 {}
 
-/// The way up from a type is counted far enough: more steps come to no other type, by names and by numbers. So to be below is reflexive
-/// and transitive.
+/// The way up from a type is counted far enough: more steps come to no other type, by names and by
+/// numbers. To be below is thus reflexive and transitive.
 pub fn ways_up_are_far_enough()
     ensures numbers { MoreStepsOfNumbersChangeNothing }
     ensures names { MoreStepsChangeNothing }
@@ -64,8 +74,9 @@ pub fn ways_up_are_far_enough()
     ensures transitive { BelowIsTransitive }
 {}
 
-/// The definitions on small trees: a subtype, types in a circle, a name that stands twice, a task and its numbers, an argument of a wrong
-/// type, a fact that is deleted and added, and actions with costs.
+/// The definitions on small trees: a subtype, types in a circle, a name that is declared twice, a
+/// task and its numbers, an argument of a wrong type, a fact that is deleted and added, and actions
+/// with costs.
 pub fn worked_rows()
     ensures subtype { SubtypeIsBelow }
     ensures cycle { CycleIsFound }

@@ -1,4 +1,5 @@
-//! What a PDDL domain and problem mean before they are grounded: names that are resolved, and why two trees are no task.
+//! The meaning of a PDDL domain and problem before they are grounded: resolved names, and why two
+//! trees are no task.
 #![tactic(auto)]
 
 mod atoms;

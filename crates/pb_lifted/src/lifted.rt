@@ -27,17 +27,17 @@ pub struct Schema {
     pub pre: Listed<LiftedAtom>,
     /// The atoms that hold afterwards.
     pub adds: Listed<LiftedAtom>,
-    /// The atoms that no longer hold, but for those that are added.
+    /// The atoms that the action deletes; those that it also adds hold after it.
     pub deletes: Listed<LiftedAtom>,
     /// What each instance costs.
     pub cost: u64,
 }
 
-/// A lifted task. Predicates and actions have the numbers that they have in the domain, and objects are the constants and then the
-/// objects of the problem. Type 0 is `object`.
+/// A lifted task. Predicates and actions have the numbers that they have in the domain. Objects are
+/// the constants and then the objects of the problem. Type 0 is `object`.
 #[derive(Debug, Drop)]
 pub struct Lifted {
-    /// Of each type the number of the type above it. Above a type behind the end there is `object`.
+    /// The number of the type above each type. Above a type after the end there is `object`.
     pub types: Listed<usize>,
     /// Of each object the number of its type.
     pub objects: Listed<usize>,

@@ -6,7 +6,8 @@ use std::alloc::{AllocError, Global};
 use std::collections::BTreeMap;
 use std::marker::Model;
 
-/// Names in order, with their numbers: a name's number is where it stands first. Contracts see the list of their texts.
+/// Names in order, with their numbers: a name's number is its first place. Contracts see the list
+/// of their texts.
 #[derive(Drop)]
 pub(crate) struct Names {
     texts: Vec<Text>,
@@ -38,14 +39,15 @@ impl Names {
         }
     }
 
-    /// The number of a name, or None where it isn't there.
+    /// The number of a name, or None if it isn't there.
     pub(crate) fn find(&self, text: &[u8]) -> Option<usize>
         ensures { result ≡ number_of text.now self.now }
     {
         self.numbers.get(text).copied()
     }
 
-    /// Adds a name at the end, and says whether it is new. An error is want of memory, and nothing changes.
+    /// Adds a name at the end, and says whether it is new. An error means out of memory, and
+    /// nothing changes.
     pub(crate) fn enter(&mut self, text: &Text) -> Result<bool, AllocError>
         ensures added { OnOk result (self.new ≡ self.old ++ text.now ∷ []) }
         ensures fresh { IfOk result (λ fresh. fresh ≡ not (is_among text.now self.old)) }

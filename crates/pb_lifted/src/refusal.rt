@@ -12,14 +12,15 @@ pub enum File {
     Problem,
 }
 
-/// Where a name, a word or a number stands: its file, and its first byte there, counted from 0.
+/// The place of a name, a word or a number: its file, and its first byte there, counted from 0.
 #[derive(Clone, Copy, Debug, PartialEq, Eq)]
 pub struct Place {
     pub file: File,
     pub at: u64,
 }
 
-/// Why a name, or what is said of costs, makes the two trees no task, in the order in which the causes are told.
+/// Why a name, or a statement of costs, makes the two trees no task. The causes are in the order in
+/// which they are reported.
 #[derive(Clone, Copy, Debug, PartialEq, Eq)]
 pub enum Cause {
     /// The problem is of a domain of another name.

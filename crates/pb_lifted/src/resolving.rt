@@ -171,7 +171,7 @@ fn predicate_kinds(
     Ok(list)
 }
 
-/// A domain and a problem by numbers. It fails where memory runs out.
+/// A domain and a problem by numbers. The call fails if memory runs out.
 pub(crate) fn lifted_of(
     alloc: Global,
     tables: &NameTables,

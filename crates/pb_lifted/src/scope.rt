@@ -7,7 +7,8 @@ use crate::names::Names;
 use crate::tables::NameTables;
 use pb_pddl::{Domain, Name, Predicate, Problem, Term, Typed};
 
-/// Where an atom stands: its domain and problem with their tables, and the parameters of its action with their names.
+/// The surroundings of an atom: its domain and problem with their tables, and the parameters of its
+/// action with their names.
 #[derive(Clone, Copy)]
 pub(crate) struct Scope<'a> {
     pub(crate) tables: &'a NameTables,

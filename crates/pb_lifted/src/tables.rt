@@ -23,7 +23,8 @@ pub(crate) struct NameTables {
     pub(crate) cycle: Option<u64>,
 }
 
-/// The names of the parameters of each action, and the earlier of the first place and that of one that is there twice.
+/// The names of the parameters of each action, and the earlier of the first place and that of a
+/// name that is there twice.
 #[tactic(auto, using(crate::proofs::Earliest::earliest_append))]
 fn params_of(
     alloc: Global,
@@ -43,7 +44,7 @@ fn params_of(
     Ok((all, found))
 }
 
-/// The names of a domain and a problem. It fails where memory runs out.
+/// The names of a domain and a problem. The call fails if memory runs out.
 #[tactic(auto, using(crate::proofs::Earliest::earliest_append))]
 pub(crate) fn tables_of(
     alloc: Global,

@@ -9,15 +9,15 @@ use crate::names::Names;
 use pb_pddl::{Text, Typed};
 use std::alloc::{AllocError, Global};
 
-/// The tree of types: their names, `object` first, and of `object` and each declared one the number of the type above it. Above a
-/// type that has no number there is `object`.
+/// The tree of types: the names of the types, `object` first, and the number of the type above
+/// `object` and above each declared type. Above a type that has no number there is `object`.
 #[derive(Drop)]
 pub(crate) struct Tree {
     pub(crate) names: Names,
     pub(crate) parents: Vec<usize>,
 }
 
-/// The number of a name, or 0 where it isn't there.
+/// The number of a name, or 0 if it isn't there.
 pub(crate) fn number(names: &Names, text: &[u8]) -> usize
     ensures { result ≡ unwrap_or (number_of text.now names.now) 0 }
 {
@@ -36,7 +36,7 @@ fn parents_of(alloc: Global, names: &Names, types: &[Typed]) -> Result<Vec<usize
     Ok(parents)
 }
 
-/// The tree of the types. It fails where memory runs out.
+/// The tree of the types. The call fails if memory runs out.
 pub(crate) fn tree_of(alloc: Global, types: &[Typed]) -> Result<Tree, AllocError>
     ensures { IfOk result (λ tree. IsTree tree types.now) }
 {
@@ -49,8 +49,8 @@ pub(crate) fn tree_of(alloc: Global, types: &[Typed]) -> Result<Tree, AllocError
     Ok(Tree { names, parents })
 }
 
-/// Whether the way up from a declared type does not come to `object`, or `object` is declared below another type. Of each type,
-/// far has the number that the whole way comes to.
+/// Whether the way up from a declared type does not come to `object`, or `object` is declared below
+/// another type. `far` has the number that each type's whole way comes to.
 fn is_cyclic(tree: &Tree, far: &[usize], typed: &Typed) -> bool
     ensures { result ≡ does_not_lead tree.now.names far.now typed.now }
 {
@@ -61,7 +61,8 @@ fn is_cyclic(tree: &Tree, far: &[usize], typed: &Typed) -> bool
     at(far, number(&tree.names, name)) != 0
 }
 
-/// The first place of a type whose way up does not come to `object`. It fails where memory runs out.
+/// The first place of a type whose way up does not come to `object`. The call fails if memory runs
+/// out.
 pub(crate) fn first_cycle(
     alloc: Global,
     tree: &Tree,
@@ -78,7 +79,7 @@ pub(crate) fn first_cycle(
     Ok(found)
 }
 
-/// The earlier of the first place and that of the name behind a `-`, where it is no type.
+/// The earlier of the first place and that of the name after a `-`, if that name is no type.
 #[tactic(auto, using(crate::proofs::Numbering::among_number))]
 fn unknown_kind(tree: &Tree, types: &[Typed], typed: &Typed, first: Option<u64>) -> Option<u64>
     requires { IsTree tree.now types.now }
@@ -93,7 +94,7 @@ fn unknown_kind(tree: &Tree, types: &[Typed], typed: &Typed, first: Option<u64>)
     }
 }
 
-/// The earlier of the first place and those of names behind a `-` that are no types.
+/// The earlier of the first place and those of names after a `-` that are no types.
 #[tactic(auto, using(crate::proofs::Earliest::earliest_append))]
 pub(crate) fn first_unknown(
     tree: &Tree,
