@@ -16,7 +16,7 @@ apart n m = (n - m) + (m - n)
 abbrev pub manhattan : (from to : ℕ × ℕ) → ℕ
 manhattan from to = apart from.0 to.0 + apart from.1 to.1
 
--- the cell of a grid that a state stands for
+-- the cell of a grid that a state represents
 abbrev pub cell_of : (state : ℕ) → ℕ × ℕ
 cell_of state = (bits_of state 0 11, bits_of state 11 11)
 

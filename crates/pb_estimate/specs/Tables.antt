@@ -39,19 +39,20 @@ useful_actions count actions = filter (λ action. has_more (atoms_in action.adds
 abbrev pub relaxed_action : (count : ℕ) → GroundAction → RelaxedAction
 relaxed_action count action = record { adds = atoms_in action.adds count; cost = action.cost }
 
--- the action of a number, and one that changes nothing where there are fewer
+-- the action of a number, and one that changes nothing if there are fewer
 abbrev pub action_at : List GroundAction → (number : ℕ) → GroundAction
 action_at actions number = slice_index_or actions number (record { name = []; needs = 0; adds = 0; deletes = 0; cost = 1 })
 
 abbrev pub relaxed_at : List RelaxedAction → (number : ℕ) → RelaxedAction
 relaxed_at actions number = slice_index_or actions number (record { adds = []; cost = 1 })
 
--- an action adds atoms of so many, and costs at most 2^20
+-- an action adds atoms below `count`, and costs at most 2^20
 pub record IsRelaxed (count : ℕ) (action : RelaxedAction) : Type 0 where
   pub adds : All (λ atom. atom < count) action.adds
   pub cost : action.cost ≤ 2 ^ 20
 
--- an action adds an atom, and this cost is enough for it if the atoms that the action needs cost at most `level`
+-- an action adds an atom, and this cost is enough for the atom if the atoms that the action needs
+-- cost at most `level`
 abbrev pub AddsAt : RelaxedAction → (level atom cost : ℕ) → Type 0
 AddsAt action level atom cost = Contains action.adds atom × (level + action.cost ≤ cost)
 
@@ -77,7 +78,8 @@ pub record AreFree (count : ℕ) (actions : List GroundAction) (free : List ℕ)
   pub need : All (λ user. (atom : ℕ) → atom < count → has_atom (action_at actions user).needs atom ≡ false) free
   pub all : (user : ℕ) → user < length actions → ((atom : ℕ) → atom < count → has_atom (action_at actions user).needs atom ≡ false) → Contains free user
 
--- The useful actions without what they delete, and who needs what, of some actions over so many atoms.
+-- The useful actions without what they delete, and which action needs which atom, for some actions
+-- over `count` atoms.
 pub record AreRelaxed (count : ℕ) (actions : List GroundAction) (task : RelaxedTask) : Type 0 where
   pub relaxed : task.actions ≡ map (relaxed_action count) (useful_actions count actions)
   pub needs : task.needs.items ≡ map (λ (action : GroundAction). length (atoms_in action.needs count)) (useful_actions count actions)
@@ -101,7 +103,8 @@ pub record AreCounters (strips : StripsParts) (counters : Counters) : Type 0 whe
   pub costs : length counters.exploration.costs.items ≡ strips.atoms
   pub exploration : IsExploration counters.exploration
 
--- An estimator is of this task: it keeps what the task's estimates need. What more it keeps is its own.
+-- An estimator is of this task: it keeps what the task's estimates need. What it keeps beside that
+-- is its own matter.
 unfoldable pub IsOfTask : Tables → TaskParts → Type 0
 IsOfTask tables.Grid (parts.Grid grid) = Unit {0}
 IsOfTask (tables.Tiles ways) (parts.Tiles tiles) = AreWaysHome tiles.cols tiles.goal ways

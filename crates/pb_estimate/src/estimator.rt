@@ -22,7 +22,8 @@ pub enum Tables {
     Strips(Counters),
 }
 
-/// Tells the estimates of one task's states. Contracts see what it keeps, and that it is of the task.
+/// Computes the estimates of one task's states. Contracts see what it keeps, and that it is of the
+/// task.
 #[derive(Drop)]
 pub struct Estimator {
     tables: Tables,
@@ -37,8 +38,8 @@ impl Model for Estimator {
 }
 
 impl Estimator {
-    /// The estimator of a task. All the memory that its estimates need is taken here; on a grid and for tiles
-    /// they need none.
+    /// The estimator of a task. All the memory that its estimates need is taken here; on a grid and
+    /// for tiles they need none.
     pub fn of(alloc: Global, task: &Task) -> Result<Estimator, AllocError>
         ensures { IfOk result (λ estimator. IsOfTask estimator task.now) }
     {

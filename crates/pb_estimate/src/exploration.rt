@@ -56,7 +56,7 @@ fn lesser(best: Option<(u8, u32)>, other: (u8, u32)) -> Option<(u8, u32)>
     }
 }
 
-// An atom of these that costs least of those whose cost is open. No open cost is less than `level`.
+// The cheapest of these atoms whose cost is open. No open cost is less than `level`.
 fn least(costs: &[AtomCost], atoms: &[u8], level: u32) -> Option<(u8, u32)>
     requires inside { All (λ atom. atom < length costs.now) atoms.now }
     requires level { OpensAreFrom level costs.now }
@@ -80,7 +80,7 @@ fn least(costs: &[AtomCost], atoms: &[u8], level: u32) -> Option<(u8, u32)>
 }
 
 impl Exploration {
-    /// An exploration of so many atoms, with none reached.
+    /// An exploration of `count` atoms, with none reached.
     pub fn of(alloc: Global, count: usize) -> Result<Exploration, AllocError>
         requires { count ≤ 256 }
         ensures is { IfOk result IsExploration }
@@ -151,7 +151,7 @@ impl Exploration {
         }
     }
 
-    /// Lowers the costs of some atoms to this one, where they aren't reached or cost more.
+    /// Lowers the costs of some atoms to this one, if they aren't reached or cost more.
     pub fn lower_each(&mut self, atoms: &[u8], cost: u32)
         requires is { IsExploration self.old }
         requires inside { All (λ atom. atom < length self.old.costs.items) atoms.now }

@@ -9,7 +9,7 @@ use pb_task::GridParts;
 // How many bits of a state hold its two coordinates.
 const BITS: u32 = 22;
 
-// How many columns, or rows, a state can tell apart.
+// How many columns, or rows, a state can distinguish.
 const SIDE: u32 = 2048;
 
 // The column and the row in a state's bits, which are read as one number.

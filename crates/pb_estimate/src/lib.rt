@@ -1,8 +1,10 @@
-//! Lower bounds on the cost of every way from a state to a goal: what guides a search, and what a certificate is judged by.
+//! Lower bounds on the cost of every way from a state to a goal: what guides a search, and what a
+//! certificate is judged by.
 //!
-//! The estimate of a state is the definition `estimate_of` in `specs`. For grids it is the Manhattan distance to the goal, for tiles the
-//! Manhattan distances of all tiles from their cells on the goal board, summed, and for STRIPS tasks hmax: what the dearest atom of the
-//! goal costs where nothing is deleted.
+//! The estimate of a state is the definition `estimate_of` in `specs`. For grids it is the
+//! Manhattan distance to the goal. For tiles it is the sum of the Manhattan distances of all tiles
+//! from their cells on the goal board. For STRIPS tasks it is hmax: the cost of the dearest atom of
+//! the goal if nothing is deleted.
 #![tactic(auto)]
 
 mod distance;

@@ -146,7 +146,7 @@ impl Model for Users {
 }
 
 impl Users {
-    // No action needs any of so many atoms.
+    // No action needs any of `count` atoms.
     fn none(alloc: Global, count: u32) -> Result<Users, AllocError>
         ensures { IfOk result (λ users. users ≡ replicate count []) }
     {

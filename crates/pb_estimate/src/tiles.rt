@@ -13,8 +13,8 @@ const NUMBERS: usize = 16;
 // How many distances there are: one for each number from 0 to 15 in each cell from 0 to 15.
 const WAYS: usize = 256;
 
-/// The distance of each number in each cell from the number's cell on the goal board, in steps. That of a number in a
-/// cell stands at 16 times the cell, plus the number. The blank's are 0.
+/// The distance of each number in each cell from the number's cell on the goal board, in steps.
+/// That of a number in a cell is at 16 times the cell, plus the number. The blank's are 0.
 pub fn ways_home(tiles: &TilesParts) -> [u8; WAYS]
     requires { IsTiles tiles.now }
     ensures { AreWaysHome tiles.now.cols tiles.now.goal result }
@@ -39,7 +39,7 @@ fn way_home(tiles: &TilesParts, cell: u32, number: u8) -> u8
     manhattan(place(tiles.cols, cell), place(tiles.cols, home)) as u8
 }
 
-// The cell of a board that a number is in. 0 where it is in none.
+// The cell of a board that a number is in. 0 if it is in none.
 fn cell_with(board: &[u8], number: u8) -> u8
     requires { length board.now ≤ 16 }
     ensures cell { result ≡ cell_with board.now number }
@@ -67,8 +67,8 @@ fn place(cols: u32, cell: u32) -> (u32, u32)
     (cell % cols, cell / cols)
 }
 
-/// The distances of a state's tiles from their cells on the goal board, summed, in steps. The blank is not counted. `ways` has
-/// the distance of each number in each cell.
+/// The sum of the distances of a state's tiles from their cells on the goal board, in steps. The
+/// blank is not counted. `ways` has the distance of each number in each cell.
 pub fn distance(tiles: &TilesParts, ways: &[u8; WAYS], state: &Packed) -> u64
     requires tiles { IsTiles tiles.now }
     requires ways { AreWaysHome tiles.now.cols tiles.now.goal ways.now }

@@ -16,7 +16,7 @@ predicate_of atom = atom.predicate
 abbrev pub changed_by : Schema → List ℕ
 changed_by schema = map predicate_of schema.adds ++ map predicate_of schema.deletes
 
--- a predicate is fluent where it stands in an effect, else static
+-- a predicate is fluent if it is in an effect, else static
 abbrev pub is_fluent : Lifted → ℕ → Bool
 is_fluent lifted predicate = list_any (nat_eq predicate) (flat_map changed_by lifted.actions)
 
@@ -39,11 +39,11 @@ ground_atoms lifted = atoms_from lifted 0 lifted.predicates
 abbrev pub same_atom : GroundAtom → GroundAtom → Bool
 same_atom a b = nat_eq a.predicate b.predicate && bytes_eq a.objects b.objects
 
--- the number of an atom: the place where it stands first, counted from 0
+-- the number of an atom: its first place, counted from 0
 abbrev pub number_in : GroundAtom → List GroundAtom → Option ℕ
 number_in atom [] = None
 number_in atom (first ∷ later) = if same_atom atom first then Some 0 else option_map suc (number_in atom later)
 
--- what an atom of a schema becomes, where these objects are given to the parameters
+-- what an atom of a schema becomes, if these objects are given to the parameters
 abbrev pub grounded : List ℕ → LiftedAtom → GroundAtom
 grounded given atom = atom_of atom.predicate (map (λ a. value_of given a) atom.arguments)

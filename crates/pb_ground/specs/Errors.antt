@@ -5,11 +5,12 @@ use Rattle.pb_ground.specs.declared.error.GroundError.{GroundError}
 use Rattle.pb_ground.specs.declared.error.GroundError.TheVariants as errors
 use Rattle.pb_ground.specs.Atoms.{ground_atoms}
 
--- a number of atoms, or the greatest of 32 bits where it is greater
+-- a number of atoms, or the greatest of 32 bits if it is greater
 abbrev pub told : ℕ → ℕ
 told n = min n 4294967295
 
--- an error of the atoms: more than 256, of which it tells the number, unless memory ran out
+-- an error of the atoms: there are more than 256, and it reports their number, unless memory ran
+-- out
 abbrev pub TellsAtoms : Lifted → GroundError → Type 0
 TellsAtoms lifted (errors.TooManyAtoms n) = (256 < length (ground_atoms lifted)) × (n ≡ told (length (ground_atoms lifted)))
 TellsAtoms lifted errors.TooManyActions = ⊥

@@ -20,7 +20,7 @@ is_instance lifted [] (object ∷ objects) = false
 is_instance lifted (kind ∷ kinds) [] = false
 is_instance lifted (kind ∷ kinds) (object ∷ objects) = is_fitting lifted kind object && is_instance lifted kinds objects
 
--- the same, where these are the types of a declared predicate's parameters
+-- the same for the types of a declared predicate's parameters
 abbrev pub is_instance_of : Lifted → Option (List ℕ) → List ℕ → Bool
 is_instance_of lifted None objects = false
 is_instance_of lifted (Some kinds) objects = is_instance lifted kinds objects

@@ -1,5 +1,5 @@
--- Steps by atoms, and by the numbers of atoms (Fikes and Nilsson, STRIPS: a new approach to the application of theorem proving to problem
--- solving, 1971).
+-- Steps by atoms, and by the numbers of atoms (Fikes and Nilsson, STRIPS: a new approach to the
+-- application of theorem proving to problem solving, 1971).
 use Rattle.std.specs.Prelude.{◌≡◌, ℕ, Bool, true, false, not, ◌&&◌, ◌||◌, nat_eq, List, [], ◌∷◌, map, Some, is_some, slice_get}
 use Rattle.std.specs.List.{list_any, list_all}
 use Rattle.pb_lifted.specs.declared.lifted.Lifted.{Lifted}
@@ -36,7 +36,7 @@ bits_after bits action n = list_any (nat_eq n) action.adds || (bits n && not (li
 abbrev pub Packs : List GroundAtom → Facts → Bits → Type 0
 Packs atoms state bits = (fact : GroundAtom) (n : ℕ) → number_in fact atoms ≡ Some n → bits n ≡ state fact
 
--- an atom of a static predicate holds where it does at first
+-- an atom of a static predicate holds if it does at first
 abbrev pub KeepsStatics : Lifted → Facts → Type 0
 KeepsStatics lifted state = (fact : GroundAtom) → is_fluent lifted fact.predicate ≡ false → state fact ≡ is_initial lifted fact
 
@@ -47,7 +47,7 @@ AreNumbered lifted atoms given (a ∷ list) = (is_fluent lifted a.predicate ≡ 
 
 -- the step of a schema for these objects, by atoms and by their numbers
 pub record Corresponds (lifted : Lifted) (atoms : List GroundAtom) (state : Facts) (bits : Bits) (i : ℕ) (schema : Schema) (given : List ℕ) : Type 0 where
-  -- its preconditions hold where its static ones hold at first and the atoms that it needs hold
+  -- its preconditions hold if its static ones hold at first and the atoms that it needs hold
   pub applicable : list_all state (all_grounded given schema.pre) ≡ (statics_hold lifted schema.pre given && list_all bits (action_of atoms i schema given).needs)
   -- and it leads to the same state
   pub result : Packs atoms (facts_after state (all_grounded given schema.deletes) (all_grounded given schema.adds)) (bits_after bits (action_of atoms i schema given))

@@ -24,7 +24,7 @@ pub struct ActionInstance {
     pub needs: Listed<usize>,
     /// The ground atoms that hold afterwards.
     pub adds: Listed<usize>,
-    /// The ground atoms that no longer hold, but for those that are added.
+    /// The ground atoms that the action deletes; those that it also adds hold after it.
     pub deletes: Listed<usize>,
     /// What it costs: as much as its schema.
     pub cost: u64,
@@ -33,7 +33,7 @@ pub struct ActionInstance {
 /// How many ground actions there may be.
 const LIMIT: usize = 65_536;
 
-/// The instance of a schema for these objects. It fails where memory runs out.
+/// The instance of a schema for these objects. The call fails if memory runs out.
 fn action_of(
     alloc: Global,
     atoms: &Atoms,
@@ -102,9 +102,11 @@ fn add_actions(
     Ok(())
 }
 
-/// The ground actions of a lifted task: all instances of its schemas by objects of fitting types whose static preconditions hold at
-/// first, schemas in order of the text, and then in the order of their lists of objects, the first most significant. Their atoms have the
-/// numbers that they have among these atoms, which are to be the task's. `TooManyActions`: there are more than 65,536.
+/// The ground actions of a lifted task: all instances of its schemas by objects of fitting types
+/// whose static preconditions hold at first. They are in the order of the schemas in the text, and
+/// then of their lists of objects, the first object most significant. Their atoms have the numbers
+/// that they have in `atoms`, which must be those of the task. `TooManyActions`: there are more
+/// than 65,536.
 pub fn ground_actions(
     alloc: Global,
     lifted: &Lifted,

@@ -53,8 +53,8 @@ impl Atoms {
         self.items.as_slice()
     }
 
-    /// The number of the atom of this predicate and these objects, or None where it is none of these atoms. It takes time in the number
-    /// of the atoms.
+    /// The number of the atom of this predicate and these objects, or None if it is none of these
+    /// atoms. It takes time in the number of the atoms.
     pub fn number(&self, predicate: usize, objects: &[usize]) -> Option<usize>
         ensures { result ≡ number_in (atom_of predicate objects.now) self.now }
     {
@@ -86,7 +86,8 @@ fn add_rows(
     Ok(())
 }
 
-/// Adds the ground atoms of a predicate whose parameters are of these types. It fails where memory runs out.
+/// Adds the ground atoms of a predicate whose parameters are of these types. The call fails if
+/// memory runs out.
 fn add_atoms(
     alloc: Global,
     fluent: &BTreeSet<usize>,
@@ -106,9 +107,10 @@ fn add_atoms(
     add_rows(alloc, predicate, rows.as_slice(), atoms)
 }
 
-/// The ground atoms of a lifted task: all instances of its fluent predicates by objects of fitting types, predicates in order of
-/// declaration, and then in the order of their lists of objects, the first most significant. `TooManyAtoms`: there are more than 256; they
-/// are counted before any is built.
+/// The ground atoms of a lifted task: all instances of its fluent predicates by objects of fitting
+/// types. They are in the order of the declarations, and then of their lists of objects, the first
+/// object most significant. `TooManyAtoms`: there are more than 256; they are counted before any is
+/// built.
 pub fn ground_atoms(alloc: Global, lifted: &Lifted) -> Result<Atoms, GroundError>
     ensures few { OnOk result (length (ground_atoms lifted.now) ≤ 256) }
     ensures atoms { IfOk result (λ atoms. atoms ≡ ground_atoms lifted.now) }

@@ -8,7 +8,7 @@ use crate::fitting::is_below;
 use pb_lifted::Lifted;
 use std::collections::BTreeSet;
 
-/// The greatest number of atoms that is told.
+/// The greatest number of atoms that is reported.
 const MOST: u64 = 4_294_967_295;
 
 /// How many objects fit a parameter of this type.
@@ -25,7 +25,7 @@ fn count_fitting(lifted: &Lifted, wanted: usize) -> usize
     count
 }
 
-/// How many instances parameters of these types have, or the greatest number that is told.
+/// How many instances parameters of these types have, or the greatest number that is reported.
 fn count_instances(lifted: &Lifted, kinds: &[usize]) -> u64
     ensures { result ≡ told (length (instances lifted.now kinds.now)) }
 {
@@ -38,7 +38,7 @@ fn count_instances(lifted: &Lifted, kinds: &[usize]) -> u64
     count
 }
 
-/// How many ground atoms there are, or the greatest number that is told. None of them is built.
+/// How many ground atoms there are, or the greatest number that is reported. None of them is built.
 pub(crate) fn count_atoms(fluent: &BTreeSet<usize>, lifted: &Lifted) -> u64
     requires { AreFluent fluent.now lifted.now }
     ensures { result ≡ told (length (ground_atoms lifted.now)) }

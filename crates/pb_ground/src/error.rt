@@ -6,7 +6,7 @@ use std::alloc::{AllocError, AllocFailed};
 /// Why a lifted task was not grounded.
 #[derive(Clone, Copy, Debug, PartialEq, Eq)]
 pub enum GroundError {
-    /// There are more than 256 ground atoms: n, or 4,294,967,295 where there are more than that.
+    /// There are more than 256 ground atoms: n, or 4,294,967,295 if there are more than that.
     TooManyAtoms { n: u64 },
     /// There are more than 65,536 ground actions.
     TooManyActions,

@@ -7,14 +7,15 @@ use pb_lifted::Lifted;
 use pb_pddl::Listed;
 use std::alloc::{AllocError, Global};
 
-/// The type above a type. Behind the end there is `object` above each.
+/// The type above a type. For a type after the end that is `object`.
 fn above(types: &[usize], kind: usize) -> usize
     ensures { result ≡ slice_index types.now kind }
 {
     if kind < types.len() { types[kind] } else { 0 }
 }
 
-/// Whether the first type is the second or below it. The way up ends at the latest where a type is above itself.
+/// Whether the first type is the second or below it. The way up ends at the latest at a type that
+/// is above itself.
 pub(crate) fn is_below(types: &[usize], from: usize, wanted: usize) -> bool
     ensures { result ≡ comes_to types.now (length types.now) from wanted }
 {
@@ -40,7 +41,7 @@ pub(crate) fn is_fitting(lifted: &Lifted, wanted: usize, object: usize) -> bool
     object < objects.len() && is_below(lifted.types.as_slice(), objects[object], wanted)
 }
 
-/// The numbers of the objects that fit a parameter of this type. It fails where memory runs out.
+/// The numbers of the objects that fit a parameter of this type. The call fails if memory runs out.
 pub(crate) fn fitting(
     alloc: Global,
     lifted: &Lifted,
@@ -58,7 +59,7 @@ pub(crate) fn fitting(
     Ok(list)
 }
 
-/// For each parameter the objects that fit. It fails where memory runs out.
+/// For each parameter the objects that fit. The call fails if memory runs out.
 pub(crate) fn candidates(
     alloc: Global,
     lifted: &Lifted,

@@ -13,7 +13,7 @@ use pb_pddl::Listed;
 use std::alloc::{AllocError, Global};
 use std::collections::BTreeSet;
 
-/// The objects that arguments stand for, where these are given to the parameters.
+/// The objects that arguments mean, if these objects are given to the parameters.
 fn values_of(
     alloc: Global,
     given: &[usize],
@@ -28,7 +28,7 @@ fn values_of(
     Ok(values)
 }
 
-/// The number of what an atom of a schema becomes, or None where that is no ground atom.
+/// The number of what an atom of a schema becomes, or None if that is no ground atom.
 fn number_of(
     alloc: Global,
     atoms: &Atoms,
@@ -53,7 +53,8 @@ fn is_among(number: usize, numbers: &[usize]) -> bool
     false
 }
 
-/// Adds a number, unless it is there: a list so never gets longer than there are atoms. It fails where memory runs out.
+/// Adds a number, unless it is there, so that a list never gets longer than there are atoms. The
+/// call fails if memory runs out.
 fn add_number(numbers: &mut Listed<usize>, number: usize) -> Result<(), AllocError>
     ensures { OnOk result (numbers.new ≡ with_number numbers.old number) }
 {
@@ -63,7 +64,8 @@ fn add_number(numbers: &mut Listed<usize>, number: usize) -> Result<(), AllocErr
     Ok(())
 }
 
-/// The numbers of those of a schema's atoms that are ground atoms, each once. It fails where memory runs out.
+/// The numbers of those of a schema's atoms that are ground atoms, each once. The call fails if
+/// memory runs out.
 pub(crate) fn numbers_of(
     alloc: Global,
     atoms: &Atoms,
@@ -81,14 +83,16 @@ pub(crate) fn numbers_of(
     Ok(numbers)
 }
 
-/// The numbers of the ground atoms that hold at first, each once, in order of the text. It fails where memory runs out.
+/// The numbers of the ground atoms that hold at first, each once, in order of the text. The call
+/// fails if memory runs out.
 pub fn start(alloc: Global, lifted: &Lifted, atoms: &Atoms) -> Result<Listed<usize>, AllocError>
     ensures { IfOk result (λ numbers. numbers ≡ numbers_of atoms.now [] lifted.now.init) }
 {
     numbers_of(alloc, atoms, &[], lifted.init.as_slice())
 }
 
-/// The numbers of the ground atoms of the goal, each once, in order of the text. It fails where memory runs out.
+/// The numbers of the ground atoms of the goal, each once, in order of the text. The call fails if
+/// memory runs out.
 pub fn goal(alloc: Global, lifted: &Lifted, atoms: &Atoms) -> Result<Listed<usize>, AllocError>
     ensures { IfOk result (λ numbers. numbers ≡ numbers_of atoms.now [] lifted.now.goal) }
 {
@@ -108,7 +112,8 @@ fn all_fluent(fluent: &BTreeSet<usize>, lifted: &Lifted, atoms: &[LiftedAtom]) -
     true
 }
 
-/// Whether no state is a goal state, since a static atom of the goal does not hold at first. It fails where memory runs out.
+/// Whether no state is a goal state, since a static atom of the goal does not hold at first. The
+/// call fails if memory runs out.
 pub fn is_never(alloc: Global, lifted: &Lifted) -> Result<bool, AllocError>
     ensures { IfOk result (λ never. never ≡ is_never lifted.now) }
 {

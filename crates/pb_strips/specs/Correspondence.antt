@@ -1,5 +1,6 @@
--- The task by bits and the task by names are the same: states, steps, their costs and names, the start, goals, and plans. By names a state is a set
--- of facts and an action a schema with objects (`pb_lifted`'s Space); neither numbers of atoms nor bits occur there.
+-- The task by bits and the task by names are the same: states, steps, their costs and names, the
+-- start, goals, and plans. By names a state is a set of facts and an action a schema with objects
+-- (`pb_lifted`'s Space); neither numbers of atoms nor bits occur there.
 use Rattle.std.specs.Prelude.{◌≡◌, ◌↔◌, ℕ, ◌<◌, ◌^◌, Bool, false, IsTrue, ◌&&◌, if◌then◌else◌, List, map, Option, Some, None}
 use Rattle.pb_model.specs.Space.{Steps}
 use Rattle.pb_model.specs.Plan as packed
@@ -17,13 +18,14 @@ use Rattle.pb_strips.specs.Grounding.{strips_of}
 use Rattle.pb_strips.specs.Names.{action_text}
 use Rattle.pb_strips.specs.Refusals.{first_fault}
 
--- ---- the state by names that a packed state stands for
+-- ---- the state by names that a packed state represents
 
 abbrev pub holds_by_number : (state : ℕ) → Option ℕ → Bool
 holds_by_number state None = false
 holds_by_number state (Some atom) = has_atom state atom
 
--- a fact of a fluent predicate holds where its ground atom is in the set, and one of a static predicate where it holds at first
+-- a fact of a fluent predicate holds if its ground atom is in the set, and one of a static
+-- predicate if it holds at first
 abbrev pub holds_in : Lifted → (state : ℕ) → GroundFact → Bool
 holds_in lifted state fact =
     if is_fluent lifted fact.predicate then holds_by_number state (number_in (atom_of fact.predicate fact.objects) (ground_atoms lifted))
@@ -34,14 +36,16 @@ facts_of_state domain problem state fact = is_of_task domain problem fact && hol
 
 -- ---- steps
 
--- A step by bits is one by names, at the cost of its action by the trees, under the name that is printed.
+-- A step by bits is a step by names, at the cost of its action by the trees, under the name that is
+-- printed.
 abbrev pub PackedStepsAreSteps : Type 0
 PackedStepsAreSteps =
     (domain : Domain) (problem : Problem) (from action to cost : ℕ) → first_fault domain problem ≡ None → Steps (strips_space (strips_of domain problem)) from action to cost
     → (named : NamedAction) × IsStep domain problem (facts_of_state domain problem from) named.0 named.1 (facts_of_state domain problem to)
     × (name_in (strips_of domain problem).actions action ≡ action_text domain named) × (cost ≡ step_cost domain problem named)
 
--- A step by names is one by bits, at the cost of its action, under the name that is printed, and leads to the same state.
+-- A step by names is a step by bits, at the cost of its action, under the name that is printed, and
+-- leads to the same state.
 abbrev pub StepsArePackedSteps : Type 0
 StepsArePackedSteps =
     (domain : Domain) (problem : Problem) (from : ℕ) (named : NamedAction) (next : State) → first_fault domain problem ≡ None → from < 2 ^ (strips_of domain problem).atoms
@@ -57,7 +61,7 @@ StartsAgree =
     (domain : Domain) (problem : Problem) (f : Fact) → first_fault domain problem ≡ None
     → facts_of_state domain problem (strips_of domain problem).start f ≡ start_of problem f
 
--- A packed state is a goal exactly where the state by names is one.
+-- A packed state is a goal exactly if the state by names is a goal.
 abbrev pub GoalsAgree : Type 0
 GoalsAgree =
     (domain : Domain) (problem : Problem) (state : ℕ) → first_fault domain problem ≡ None → state < 2 ^ (strips_of domain problem).atoms
@@ -65,7 +69,8 @@ GoalsAgree =
 
 -- ---- plans
 
--- A plan by numbers is one by names, whose actions have the names that are printed; it costs the sum of their costs.
+-- A plan by numbers is a plan by names, whose actions have the names that are printed; it costs the
+-- sum of their costs.
 abbrev pub PackedPlansArePlans : Type 0
 PackedPlansArePlans =
     (domain : Domain) (problem : Problem) (plan : packed.Plan) → first_fault domain problem ≡ None → packed.IsPlan (strips_space (strips_of domain problem)) plan

@@ -15,14 +15,16 @@ abbrev pub spaced : List (List ℕ) → List ℕ
 spaced [] = []
 spaced (word ∷ words) = 32 ∷ word ++ spaced words
 
--- `(name object ..)`: the name of an action of the domain, and those of the objects that are given to its parameters
+-- `(name object ..)`: the name of an action of the domain, and the names of the objects that are
+-- given to its parameters
 abbrev pub action_bytes : Domain → NamedAction → List ℕ
 action_bytes domain action = 40 ∷ name_at (map action_word domain.actions) action.0 ++ spaced action.1 ++ 41 ∷ []
 
--- the same as a text: where the names are no UTF-8, as those of no text that is read are, U+FFFD stands for each invalid sequence
+-- the same as a text; U+FFFD is in place of each sequence that is no UTF-8, which the names of no
+-- text that is read have
 abbrev pub action_text : Domain → NamedAction → List ℕ
 action_text domain action = utf8_lossy (action_bytes domain action)
 
--- Where the names are UTF-8, the text has these bytes.
+-- If the names are UTF-8, the text has these bytes.
 abbrev pub TextsKeepNames : Type 0
 TextsKeepNames = (domain : Domain) (action : NamedAction) → IsUtf8 (action_bytes domain action) → action_text domain action ≡ action_bytes domain action

@@ -1,4 +1,4 @@
--- The names under which ground actions are printed tell them apart, and each is one line.
+-- The names under which ground actions are printed differ, and each is one line.
 use Rattle.std.specs.Prelude.{◌≡◌, ◌≢◌, ℕ, ◌<◌, List, map, length, All, None}
 use Rattle.pb_pddl.specs.declared.tree.Domain.{Domain}
 use Rattle.pb_pddl.specs.declared.tree.Problem.{Problem}
@@ -14,13 +14,15 @@ pub record AreTellingNames (count : ℕ) (name : ℕ → List ℕ) : Type 0 wher
   pub different : (one other : ℕ) → one < count → other < count → name one ≡ name other → one ≡ other
   pub lines : (action : ℕ) → All (λ c. c ≢ 10) (name action)
 
--- Where a domain and a problem whose names are words are a task, its ground actions are told apart by the names that are printed, each in one line.
+-- If a domain and a problem whose names are words are a task, the printed names of its ground
+-- actions differ, each in one line.
 abbrev pub NamesTellActions : Type 0
 NamesTellActions =
     (domain : Domain) (problem : Problem) → first_fault domain problem ≡ None → DomainHasWords domain → ProblemHasWords problem
     → AreTellingNames (length (strips_of domain problem).actions) (name_in (strips_of domain problem).actions)
 
--- The actions of a plan by names are printed as they are called: `(name object ..)`, each the bytes of the names themselves.
+-- The actions of a plan by names are printed as they are called: `(name object ..)`, each with the
+-- bytes of the names themselves.
 abbrev pub NamesArePrinted : Type 0
 NamesArePrinted =
     (domain : Domain) (problem : Problem) (actions : List NamedAction) → DomainHasWords domain → ProblemHasWords problem → IsPlan domain problem actions

@@ -26,7 +26,7 @@ or_too_many None lifted = too_many lifted
 abbrev pub first_fault : Domain → Problem → Option StripsError
 first_fault domain problem = or_too_many (first_refusal domain problem) (lifted_of domain problem)
 
--- an error tells the first fault, unless memory ran out
+-- an error reports the first fault, unless memory ran out
 abbrev pub Tells : Option StripsError → StripsError → Type 0
 Tells fault (errors.Refused refusal) = fault ≡ Some (errors.Refused refusal)
 Tells fault (errors.TooManyAtoms n) = fault ≡ Some (errors.TooManyAtoms n)

@@ -25,9 +25,12 @@ fn task_of(alloc: Global, domain: &Domain, problem: &Problem) -> Result<Task, St
     Ok(Task::of_strips(parts))
 }
 
-/// The task of a domain and a problem: its atoms are the ground atoms in their order, and its actions the ground actions in theirs, under the
-/// names that plans print and at their costs. Else the first fault: that of a name, of a cost or of too many objects, then too many atoms, then
-/// too many actions. Both limits are looked at before what they bound is built. At Memory nothing is said.
+/// The task of a domain and a problem. Its atoms are the ground atoms in their order. Its actions
+/// are the ground actions in theirs, under the names that plans print and at their costs.
+///
+/// Else the error is the first fault: a fault of a name, of a cost or of too many objects, then too
+/// many atoms, then too many actions. Both limits are looked at before the atoms or actions are
+/// built. `Memory` says nothing of the texts.
 pub fn ground(alloc: Global, domain: &Domain, problem: &Problem) -> Result<Task, StripsError>
     // The two are a task.
     ensures accepted { OnOk result (first_fault domain.now problem.now ≡ None) }
@@ -35,7 +38,8 @@ pub fn ground(alloc: Global, domain: &Domain, problem: &Problem) -> Result<Task,
     ensures task { IfOk result (λ task. task ≡ Strips (strips_of domain.now problem.now)) }
     // This is the first fault, unless memory ran out.
     ensures refused { IfErr result (Tells (first_fault domain.now problem.now)) }
-    // What is well typed and within the numbers of atoms and actions is never refused, unless memory runs out.
+    // A well-typed task within the numbers of atoms and actions is never refused, unless memory
+    // runs out.
     ensures never { IsWellTyped domain.now problem.now → IsWithinLimits domain.now problem.now → IfErr result (λ e. e ≡ Memory) }
 {
     task_of(alloc, domain, problem)

@@ -2,8 +2,8 @@ ghost use Rattle.pb_strips.specs.Correspondence.{PackedStepsAreSteps, StepsArePa
 ghost use Rattle.pb_strips.specs.Names.{TextsKeepNames};
 ghost use Rattle.pb_strips.specs.Naming.{NamesTellActions, NamesArePrinted};
 
-/// Where a domain and a problem are a task, the steps of the packed states are those of the states by names, in both directions, at the same cost and
-/// under the name that is printed; start and goals agree.
+/// If a domain and a problem are a task, the steps of the packed states are those of the states by
+/// names, in both directions. Costs and printed names agree, and so do start and goals.
 pub fn steps_are_lifted()
     ensures packed { PackedStepsAreSteps }
     ensures lifted { StepsArePackedSteps }
@@ -11,25 +11,27 @@ pub fn steps_are_lifted()
     ensures goals { GoalsAgree }
 {}
 
-/// Where a domain and a problem are a task, the plans by numbers are those by names, with the same cost and the same names of actions.
+/// If a domain and a problem are a task, the plans by numbers are those by names, with the same
+/// cost and the same names of actions.
 pub fn plans_are_lifted()
     ensures packed { PackedPlansArePlans }
     ensures lifted { PlansArePackedPlans }
 {}
 
-/// The text of a ground action's name has the bytes of the names of the action and its objects, where these are UTF-8.
+/// The text of a ground action's name has the bytes of the names of the action and its objects, if
+/// these are UTF-8.
 pub fn texts_keep_names()
     ensures { TextsKeepNames }
 {}
 
-/// Where a domain and a problem whose names are words are a task, its ground actions are told apart by the names that are printed, and no name
-/// has a line feed.
+/// If a domain and a problem whose names are words are a task, the printed names of its ground
+/// actions differ, and no name has a line feed.
 pub fn names_tell_actions()
     ensures { NamesTellActions }
 {}
 
-/// Where the names of a domain and a problem are words, the actions of each plan by names are printed as `(name object ..)`, with the bytes of
-/// these names.
+/// If the names of a domain and a problem are words, the actions of each plan by names are printed
+/// as `(name object ..)`, with the bytes of these names.
 pub fn names_are_printed()
     ensures { NamesArePrinted }
 {}

@@ -1,4 +1,5 @@
-//! STRIPS tasks from PDDL trees: a domain and a problem are typed, grounded and packed, and what comes out is the task by names.
+//! STRIPS tasks from PDDL trees: a domain and a problem are typed, grounded and packed, and the
+//! result is the task by names.
 #![tactic(auto)]
 
 mod error;
