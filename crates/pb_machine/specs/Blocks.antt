@@ -1,19 +1,20 @@
--- Blocks of states (nblocks), and which of them a lease takes: structured duplicate detection (Zhou, Hansen 2004), as Parallel
--- Best-NBlock-First search uses it (Burns, Lemons, Ruml, Zhou 2010).
+-- Blocks of states (nblocks), and which of them a lease takes: structured duplicate detection
+-- (Zhou, Hansen 2004), as Parallel Best-NBlock-First search uses it (Burns, Lemons, Ruml, Zhou
+-- 2010).
 use Rattle.std.specs.Prelude.{ℕ, ◌<◌, Bool, IsTrue, not, ◌&&◌, ◌==◌}
 use Rattle.pb_model.specs.Space.{Space, Steps}
 use Rattle.pb_model.specs.Guide.{Guide}
 use Rattle.pb_machine.specs.Tables.{any_below}
 
--- How many blocks there are, and which of them are in the scope of a block: itself and at least the blocks that its states have
--- successors in.
--- A lease of the block takes the rows of its scope, and no other lease may have any of these.
+-- How many blocks there are, and which of them are in the scope of a block: itself and at least the
+-- blocks that its states have successors in. A lease of the block takes the rows of its scope, and
+-- no other lease may have any of these.
 pub record Blocks : Type 0 where
   pub count : ℕ
   pub scope : (block other : ℕ) → Bool
 
--- Each state's home is a block that there is. Each block is in its own scope, and scopes are of blocks that there are. Each step
--- leads into the scope of the block that it begins in.
+-- Each state's home is one of the blocks. Each block is in its own scope, and a scope has only
+-- blocks of these. Each step leads into the scope of the block that it begins in.
 pub record AreBlocks (space : Space) (guide : Guide) (blocks : Blocks) : Type 0 where
   pub home : (state : ℕ) → IsTrue (space.is_state state) → guide.home state < blocks.count
   pub own : (block : ℕ) → block < blocks.count → IsTrue (blocks.scope block block)

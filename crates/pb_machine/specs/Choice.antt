@@ -8,7 +8,8 @@ use Rattle.pb_machine.specs.Tables.{with_entry}
 use Rattle.pb_machine.specs.Blocks.{Blocks, interferes}
 use Rattle.pb_machine.specs.Counts.{Counts, quota_of, is_taken, is_near_hot}
 
--- block and other in order: the lesser key first, at one key the lesser number, and a block without a key last
+-- block and other in order: the lesser key first, for equal keys the lesser number, and a block
+-- without a key last
 abbrev pub ComesBefore : (key : Option Key) → (block : ℕ) → (other_key : Option Key) → (other : ℕ) → Type 0
 ComesBefore (Some key) block (Some other_key) other = IsBefore key block other_key other
 ComesBefore (Some key) block None other = ⊤
@@ -27,7 +28,8 @@ pub record IsBetterNear (blocks : Blocks) (store : Store) (block other : ℕ) : 
   pub near : IsTrue (interferes blocks block other)
   pub better : IsBetter store other block
 
--- the rival of the block: the best block of its interference that is better than it, or none where no such block is better
+-- the rival of the block: the best block of its interference that is better than it, or none if no
+-- such block is better
 abbrev pub IsRival : Blocks → Store → (block : ℕ) → (rival : Option ℕ) → Type 0
 IsRival blocks store block None = (other : ℕ) → IsBetterNear blocks store block other → ⊥
 IsRival blocks store block (Some rival) = IsBetterNear blocks store block rival
@@ -47,7 +49,8 @@ pub record IsFirstChoice (blocks : Blocks) (settings : Settings) (counts : Count
   pub may : MayBeLeased blocks settings counts store block
   pub best : (other : ℕ) → MayBeLeased blocks settings counts store other → (other ≡ block) ⊎ IsBetter store block other
 
--- the counts with the worker's lease home: what was used is settled, and the hot blocks are as they are
+-- the counts with the worker's lease home: its used expansions are settled, and the hot blocks stay
+-- as before
 abbrev pub counts_with_lease_home : Counts → (worker used : ℕ) → Counts
 counts_with_lease_home counts worker used =
     record counts { leases = with_entry counts.leases worker None; spent = counts.spent + used; left = counts.left + (quota_of (counts.leases worker) - used) }

@@ -1,6 +1,6 @@
--- How many leased and how many hot blocks a block has to wait for (as the sigma values of Parallel Structured Duplicate Detection, Zhou,
--- Hansen 2007), as numbers that are kept beside the sets: each block that is leased, comes back, or is marked changes those of its
--- interference by one.
+-- How many leased and how many hot blocks a block has to wait for (the sigma values of Parallel
+-- Structured Duplicate Detection, Zhou, Hansen 2007). These numbers are kept beside the sets: each
+-- block that is leased, comes back, or is marked changes the numbers of its interference by one.
 use Rattle.std.specs.Prelude.{◌≡◌, ℕ, ◌+◌, Bool, not, ◌&&◌, Option, Some}
 use Rattle.pb_machine.specs.declared.event.Event.{Event}
 use Rattle.pb_machine.specs.declared.event.Event.TheVariants.{Lease, Hot, Cold, Release}
@@ -22,16 +22,16 @@ hot_count blocks hot block = count_below blocks.count (λ other. interferes bloc
 abbrev pub hot_count_of : Blocks → (test hot : ℕ → Bool) → (block : ℕ) → ℕ
 hot_count_of blocks test hot block = count_below blocks.count (λ other. interferes blocks block other && (hot other && test other))
 
--- The number of leased blocks, old and new, where this event comes: a lease adds one to the interference of its block, and a release
--- takes one from it.
+-- The number of leased blocks before and after this event: a lease adds one to the interference of
+-- its block, and a release takes one from it.
 abbrev pub ChangesBusy : Blocks → Counts → Event → (block old new : ℕ) → Type 0
 ChangesBusy blocks counts (Lease worker leased quota) block old new = new ≡ old + one_if (interferes blocks block leased)
 ChangesBusy blocks counts (Release worker used memory) block old new = (grant : Grant) × (counts.leases worker ≡ Some grant)
     × (new + one_if (interferes blocks block grant.block) ≡ old)
 ChangesBusy blocks counts event block old new = new ≡ old
 
--- The number of hot blocks, old and new, where this event comes: a hot mark adds one to the interference of its block, and each
--- block that becomes cold takes one from its own.
+-- The number of hot blocks before and after this event: a hot mark adds one to the interference of
+-- its block, and each block that becomes cold takes one from its own.
 abbrev pub ChangesHot : Blocks → Settings → Counts → Event → (block old new : ℕ) → Type 0
 ChangesHot blocks settings counts (Hot worker marked) block old new =
     new + hot_count_of blocks (interferes blocks marked) counts.hot block ≡ old + one_if (interferes blocks block marked)

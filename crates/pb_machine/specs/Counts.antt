@@ -1,6 +1,6 @@
--- The lease machine without its rows: who has which lease, what is left of the budget, which blocks are hot, and who has signed off.
--- A journal can be judged by these alone. Hot blocks, which others leave so that they become free, are those of Burns, Lemons, Ruml, Zhou
--- (2010).
+-- The lease machine without its rows: who has which lease, what is left of the budget, which blocks
+-- are hot, and who has signed off. A journal can be judged by these alone. Hot blocks, which others
+-- leave so that they become free, are those of Burns, Lemons, Ruml, Zhou (2010).
 use Rattle.std.specs.Prelude.{◌≡◌, ℕ, ◌+◌, ◌-◌, ◌<◌, ◌≤◌, Bool, true, false, IsTrue, IsFalse, not, ◌&&◌, ◌||◌, ◌==◌, is_some, is_none, Option, Some, None}
 use Rattle.pb_machine.specs.declared.event.End.{End}
 use Rattle.pb_machine.specs.declared.event.End.TheVariants.{Quiet, Budget}
@@ -18,10 +18,10 @@ pub record Counts : Type 0 where
   pub spent : ℕ  -- the expansions that were settled
   pub left : ℕ  -- what is left of the budget
   pub end : Option End
-  pub trouble : Bool  -- the last event reported want of memory, while no end stood
+  pub trouble : Bool  -- the last event reported out of memory, before any end
 
--- The counts where a run begins. Runs before it on the same rows, with other weights, spent this much of the one budget: 0 for the
--- first run.
+-- The counts at the begin of a run. Runs before it on the same rows, with other weights, spent this
+-- much of the one budget: 0 for the first run.
 abbrev pub opening_counts : Settings → (before : ℕ) → Counts
 opening_counts settings before =
     record {
@@ -65,8 +65,9 @@ abbrev pub with_quota : ℕ → Option Grant → Option Grant
 with_quota quota None = None
 with_quota quota (Some grant) = Some (record grant { quota = quota })
 
--- What an event leaves. A renewal or a release settles what was used, and gives back what was not. A hot mark makes the hot blocks
--- of its interference cold, and a release those that are no longer busy.
+-- The counts after an event. A renewal or a release settles the used expansions, and gives back the
+-- others. A hot mark makes the hot blocks of its interference cold, and a release those that are no
+-- longer busy.
 abbrev pub counts_after : Blocks → Settings → Counts → Event → Counts
 counts_after blocks settings counts (Lease worker block quota) =
     record counts { leases = with_entry counts.leases worker (Some (record { block = block; quota = quota })); left = counts.left - quota }
@@ -102,10 +103,10 @@ pub record AreLawful (blocks : Blocks) (settings : Settings) (counts : Counts) :
   pub hot_are_apart : (block other : ℕ) → IsTrue (counts.hot block) → IsTrue (counts.hot other)
       → IsFalse (interferes blocks block other)
   pub sum : counts.spent + quotas_out settings.workers counts.leases + counts.left ≡ settings.budget
-  -- who has signed off is a worker without a lease, and an end stands, or follows from the report of want of memory
+  -- a signed-off worker has no lease; the search has ended, or an out-of-memory report is to end it
   pub off : (worker : ℕ) → IsTrue (counts.signed_off worker)
       → (worker < settings.workers) × (counts.leases worker ≡ None) × IsTrue (is_some counts.end || counts.trouble)
-  -- A report of want of memory waits only until the end that follows from it. Until then nobody has signed off but who reported so.
+  -- An out-of-memory report waits only for its end; before, only its worker may have signed off.
   pub trouble : IsTrue counts.trouble → counts.end ≡ None
   pub waiting : IsTrue counts.trouble → count_below settings.workers counts.signed_off ≤ 1
   pub quiet : counts.end ≡ Some Quiet → IsFalse (is_any_out settings.workers counts.leases)

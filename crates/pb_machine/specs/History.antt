@@ -10,14 +10,14 @@ use Rattle.pb_machine.specs.Blocks.{Blocks}
 use Rattle.pb_machine.specs.Counts.{Counts, opening_counts, counts_after}
 use Rattle.pb_machine.specs.Legality.{refusal}
 
--- the counts after these events, or none where one of them may not come after those before it
+-- the counts after these events, or none if one of them may not come after those before it
 abbrev pub replay : Blocks → Settings → Counts → List Event → Option Counts
 replay blocks settings counts [] = Some counts
 replay blocks settings counts (event ∷ events) =
     if is_none (refusal blocks settings counts event) then replay blocks settings (counts_after blocks settings counts event) events else None
 
--- A legal history of a run whose settings are in range, which leads to these counts. Runs before it on the same rows spent this much of
--- the budget: 0 for a first run.
+-- A legal history of a run whose settings are in range, which leads to these counts. Runs before it
+-- on the same rows spent this much of the budget: 0 for a first run.
 pub record IsHistory (blocks : Blocks) (settings : Settings) (before : ℕ) (journal : List Event) (counts : Counts) : Type 0 where
   pub range : AreInRange settings
   pub enough : before ≤ settings.budget
@@ -39,15 +39,15 @@ abbrev pub or_refused : (line : ℕ) → Option EventRefusal → Option (ℕ × 
 or_refused line None later = later
 or_refused line (Some why) later = Some (line, why)
 
--- the line of the first event that may not come after those before it, and why, where the journal's first event is on this line;
--- or none
+-- the line of the first event that may not come after those before it, and why, if the journal's
+-- first event is on this line; or none
 abbrev pub first_refused : Blocks → Settings → Counts → (line : ℕ) → List Event → Option (ℕ × EventRefusal)
 first_refused blocks settings counts line [] = None
 first_refused blocks settings counts line (event ∷ events) =
     or_refused line (refusal blocks settings counts event)
     (first_refused blocks settings (counts_after blocks settings counts event) (line + 1) events)
 
--- an end stands, and every worker has signed off
+-- the search has ended, and every worker has signed off
 pub record AreFinished (settings : Settings) (counts : Counts) : Type 0 where
   pub end : IsSome counts.end
   pub signed_off : (worker : ℕ) → worker < settings.workers → IsTrue (counts.signed_off worker)
@@ -71,7 +71,7 @@ abbrev pub is_off : Event → Bool
 is_off (Off by memory) = true
 is_off event = false
 
--- whether the event reports want of memory
+-- whether the event reports that memory ran out
 abbrev pub is_report : Event → Bool
 is_report (Release by used memory) = memory
 is_report (Off by memory) = memory

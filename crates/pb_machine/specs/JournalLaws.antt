@@ -1,5 +1,6 @@
--- The laws of journals, of the numbers that are kept beside them, of choice, and of what each worker's pass keeps of a journal.
--- Each is proved, as the contract of the public function that has its name.
+-- The laws of journals, of the numbers that are kept beside them, of choice, and of what each
+-- worker's pass keeps of a journal. Each is proved, as the contract of the public function that has
+-- its name.
 use Rattle.std.specs.Prelude.{◌≡◌, ◌≢◌, ℕ, ◌+◌, ◌*◌, ◌<◌, ◌≤◌, length, filter, min, nat_lt, is_some, ◌||◌, Bool, true, false, IsTrue, IsFalse, List, [], ◌∷◌, ◌++◌, Option, Some, None, slice_set, ◌⊎◌, ◌↔◌}
 use Rattle.std.specs.List.{list_any, AllByRecursion}
 use mathlib.Core.Option.{some}
@@ -46,19 +47,21 @@ BeginningsAreHistories =
     → IsHistory blocks settings before journal counts → StartsWith journal start
     → (between : Counts) × IsHistory blocks settings before start between
 
--- What is spent after a legal history is what was spent before it, and the used numbers of its events.
+-- The expansions spent after a legal history are those spent before it, and the used numbers of its
+-- events.
 abbrev pub SpentIsUsed : Type 0
 SpentIsUsed = (blocks : Blocks) (settings : Settings) (before : ℕ) (journal : List Event) (counts : Counts)
     → IsHistory blocks settings before journal counts → counts.spent ≡ before + used_in journal
 
--- So the used numbers never exceed the budget, with what was spent before; and at the budget's end they are all of it.
+-- The used numbers and what was spent before together never exceed the budget; at the budget's end
+-- they are all of it.
 abbrev pub UsedFitsBudget : Type 0
 UsedFitsBudget =
     (blocks : Blocks) (settings : Settings) (before : ℕ) (journal : List Event) (counts : Counts)
     → IsHistory blocks settings before journal counts
     → (before + used_in journal ≤ settings.budget) × (counts.end ≡ Some Budget → before + used_in journal ≡ settings.budget)
 
--- A worker has signed off exactly where one of its own events says so.
+-- A worker has signed off exactly if one of its own events says so.
 abbrev pub SigningOffIsTold : Type 0
 SigningOffIsTold =
     (blocks : Blocks) (settings : Settings) (before : ℕ) (journal : List Event) (counts : Counts) (worker : ℕ)
@@ -72,7 +75,8 @@ FinishedWorkersSignOff =
     → IsHistory blocks settings before journal counts → AreFinished settings counts
     → (worker : ℕ) → worker < settings.workers → IsTrue (list_any is_off (events_of worker journal))
 
--- Where every worker's own events have its signing off, and no report of want of memory waits for its end, a legal history is finished.
+-- If every worker's own events have its signing off, and no out-of-memory report waits for its end,
+-- a legal history is finished.
 abbrev pub SignedOffIsFinished : Type 0
 SignedOffIsFinished =
     (blocks : Blocks) (settings : Settings) (before : ℕ) (journal : List Event) (counts : Counts)
@@ -80,7 +84,7 @@ SignedOffIsFinished =
     → ((worker : ℕ) → worker < settings.workers → IsTrue (list_any is_off (events_of worker journal)))
     → AreFinished settings counts
 
--- After a legal history the end that stands is the one that its journal has.
+-- After a legal history the end of the search is the one that its journal has.
 abbrev pub EndsAreTold : Type 0
 EndsAreTold = (blocks : Blocks) (settings : Settings) (before : ℕ) (journal : List Event) (counts : Counts)
     → IsHistory blocks settings before journal counts → counts.end ≡ end_in journal
@@ -89,7 +93,7 @@ EndsAreTold = (blocks : Blocks) (settings : Settings) (before : ℕ) (journal : 
 abbrev pub EndsStand : Type 0
 EndsStand = (journal more : List Event) (end : End) → end_in journal ≡ Some end → end_in (journal ++ more) ≡ Some end
 
--- Where every worker has signed off, no lease is out.
+-- If every worker has signed off, no lease is out.
 abbrev pub AllOffNoneOut : Type 0
 AllOffNoneOut =
     (blocks : Blocks) (settings : Settings) (counts : Counts) → AreLawful blocks settings counts
@@ -102,8 +106,9 @@ HistoriesHaveAnyWeight =
     → IsWeight weight → IsHistory blocks settings before journal counts
     → IsHistory blocks (settings_with_weight settings weight) before journal counts
 
--- A journal is judged event by event: a line and a reason are given exactly where the event on that line is the first that may
--- not come, for that reason; and none exactly where all may come. The first event is on line `from`.
+-- A journal is judged event by event. A line and a reason are given exactly if the event on that
+-- line is the first that may not come, for that reason. None are given exactly if all events may
+-- come. The first event is on line `from`.
 abbrev pub RefusalsAreFirst : Type 0
 RefusalsAreFirst =
     (blocks : Blocks) (settings : Settings) (counts : Counts) (from : ℕ) (journal : List Event)
@@ -117,8 +122,8 @@ RefusedJournalsFail =
     (blocks : Blocks) (settings : Settings) (counts : Counts) (journal : List Event) (place : ℕ) (why : EventRefusal)
     → IsFirstRefused blocks settings counts journal place why → replay blocks settings counts journal ≡ None
 
--- Where a legal history ends for want of memory, the event directly before that end reports it; and where a report waits for its end, it
--- is the last event.
+-- If a legal history ends because memory ran out, the event directly before that end reports it. A
+-- report that waits for its end is the last event.
 abbrev pub MemoryEndsAreReported : Type 0
 MemoryEndsAreReported =
     (blocks : Blocks) (settings : Settings) (before : ℕ) (journal : List Event) (counts : Counts)
@@ -127,7 +132,8 @@ MemoryEndsAreReported =
     → (start rest : List Event) × (report : Event) × IsTrue (is_report report) × (journal ≡ start ++ report ∷ Ended Memory ∷ rest))
     × (IsTrue counts.trouble → (start : List Event) × (report : Event) × IsTrue (is_report report) × (journal ≡ start ++ report ∷ []))
 
--- And where an event reports want of memory while no end stands, the next event is the end that follows from it, if there is a next one.
+-- If an event reports out of memory before the search has ended, the next event, if there is one,
+-- is the end that follows from the report.
 abbrev pub ReportsEndSearches : Type 0
 ReportsEndSearches =
     (blocks : Blocks) (settings : Settings) (before : ℕ) (start rest : List Event) (report : Event) (between counts : Counts)
@@ -135,22 +141,23 @@ ReportsEndSearches =
     → IsHistory blocks settings before (start ++ report ∷ rest) counts
     → (rest ≡ []) ⊎ ((later : List Event) × (rest ≡ Ended Memory ∷ later))
 
--- A legal history that keeps within the room of its leases has at most 65 events a lease, one sign-off a worker, and one end. With its
--- lease and its return no lease has more than 65.
+-- A legal history that keeps within the room of its leases has at most 65 events a lease, one
+-- sign-off a worker, and one end. These 65 include the lease and its return.
 abbrev pub JournalsAreShort : Type 0
 JournalsAreShort =
     (blocks : Blocks) (settings : Settings) (before : ℕ) (journal : List Event) (counts : Counts)
     → IsHistory blocks settings before journal counts → KeepsWithinRoom journal
     → length journal ≤ 65 * leases_in journal + settings.workers + 1
 
--- A worker renews and marks at most 63 times between two of its leases, whatever others do meanwhile. So no lease of a journal that keeps
--- within room is padded by marks that come and go.
+-- A worker renews and marks at most 63 times between two of its leases, whatever others do
+-- meanwhile. Marks that come and go thus can't make a lease of a journal within room any longer.
 abbrev pub LeasesTakeTheirRoom : Type 0
 LeasesTakeTheirRoom =
     (start more : List Event) (worker block quota : ℕ) → KeepsWithinRoom (start ++ Lease worker block quota ∷ more)
     → leases_in (events_of worker more) ≡ 0 → length (filter (takes_room worker) more) ≤ 63
 
--- A journal keeps within room with more events exactly if it does so without them, and they have the room that it leaves.
+-- A journal and more events keep within room together exactly if the journal does, and the events
+-- have the room that it leaves.
 abbrev pub RoomGoesOn : Type 0
 RoomGoesOn =
     (journal more : List Event)
@@ -178,12 +185,12 @@ LeasedAreNeverHot =
 abbrev pub InterferenceIsMutual : Type 0
 InterferenceIsMutual = (blocks : Blocks) (block other : ℕ) → interferes blocks block other ≡ interferes blocks other block
 
--- A block is busy exactly where the number of leased blocks in its interference is not 0.
+-- A block is busy exactly if the number of leased blocks in its interference is not 0.
 abbrev pub BusyIsCounted : Type 0
 BusyIsCounted = (blocks : Blocks) (workers : ℕ) (leases : ℕ → Option Grant) (block : ℕ)
     → is_busy blocks workers leases block ≡ nat_lt 0 (busy_count blocks workers leases block)
 
--- A hot block interferes exactly where the number of those in the interference is not 0.
+-- A hot block interferes exactly if the number of hot blocks in the interference is not 0.
 abbrev pub HotIsCounted : Type 0
 HotIsCounted = (blocks : Blocks) (hot : ℕ → Bool) (block : ℕ) → is_near_hot blocks hot block ≡ nat_lt 0 (hot_count blocks hot block)
 
@@ -193,7 +200,8 @@ CountersFit =
     (blocks : Blocks) (workers : ℕ) (leases : ℕ → Option Grant) (hot : ℕ → Bool) (block : ℕ)
     → (busy_count blocks workers leases block ≤ workers) × (hot_count blocks hot block ≤ blocks.count)
 
--- With no lease out the number of leased blocks in an interference is 0, and with no hot block that of the hot ones.
+-- If no lease is out, the number of leased blocks in an interference is 0. If no block is hot, that
+-- of the hot ones is 0.
 abbrev pub CountersBeginAtNone : Type 0
 CountersBeginAtNone =
     (blocks : Blocks) (workers : ℕ) (leases : ℕ → Option Grant) (hot : ℕ → Bool) (block : ℕ)
@@ -248,7 +256,7 @@ ChosenLeasesAreLegal =
     → IsFalse counts.trouble → 0 < settings.lot
     → refusal blocks settings counts (Lease worker block (min settings.lot counts.left)) ≡ None
 
--- A lease may be renewed where, with it home, its block may be leased.
+-- A lease may be renewed if, with it home, its block may be leased.
 abbrev pub ChosenRenewalsAreLegal : Type 0
 ChosenRenewalsAreLegal =
     (blocks : Blocks) (settings : Settings) (counts : Counts) (store : Store) (worker used : ℕ) (grant : Grant)
@@ -257,8 +265,8 @@ ChosenRenewalsAreLegal =
     → used ≤ grant.quota → IsFalse counts.trouble → 0 < settings.lot
     → refusal blocks settings counts (Renew worker used (min settings.lot (counts_with_lease_home counts worker used).left)) ≡ None
 
--- A block that may be leased with the worker's lease home, and the hot blocks as they are, may be leased after the release of that lease,
--- where some of them have become cold.
+-- A block may be leased with the worker's lease home and the hot blocks as before. Then it may also
+-- be leased after the release of that lease, when some of the hot blocks have become cold.
 abbrev pub ChoicesOutliveReleases : Type 0
 ChoicesOutliveReleases =
     (blocks : Blocks) (settings : Settings) (counts : Counts) (store : Store) (worker used block : ℕ) (memory : Bool)
@@ -274,15 +282,16 @@ LeasesAreOfWorkers =
     → counts.leases worker ≡ Some grant
     → IsFalse (is_stranger settings counts worker)
 
--- Whoever has a lease may bring it back, with or without a report of want of memory, where it made no more expansions than it might.
+-- Whoever has a lease may bring it back, with or without an out-of-memory report, if it made no
+-- more expansions than it might.
 abbrev pub ReleasesAreLegal : Type 0
 ReleasesAreLegal =
     (blocks : Blocks) (settings : Settings) (counts : Counts) (worker used : ℕ) (memory : Bool) (grant : Grant)
     → IsFalse (is_stranger settings counts worker) → IsFalse counts.trouble → counts.leases worker ≡ Some grant → used ≤ grant.quota
     → refusal blocks settings counts (Release worker used memory) ≡ None
 
--- While no end stands, whoever has a lease may mark a busy block hot that isn't so yet, unless blocks are never marked, and take a
--- mark away.
+-- Before the end, whoever has a lease may mark a busy block hot that isn't hot yet, unless blocks
+-- are never marked. It may also take a mark away.
 abbrev pub MarksAreLegal : Type 0
 MarksAreLegal =
     (blocks : Blocks) (settings : Settings) (counts : Counts) (worker block : ℕ) (grant : Grant)
@@ -291,7 +300,7 @@ MarksAreLegal =
     → (IsFalse settings.plain → IsFalse (counts.hot block) → IsTrue (is_busy blocks settings.workers counts.leases block) → refusal blocks settings counts (Hot worker block) ≡ None)
     × (IsTrue (counts.hot block) → refusal blocks settings counts (Cold worker block) ≡ None)
 
--- A worker without a lease may sign off at an end, or with a report of want of memory.
+-- A worker without a lease may sign off at an end, or with an out-of-memory report.
 abbrev pub SignOffsAreLegal : Type 0
 SignOffsAreLegal =
     (blocks : Blocks) (settings : Settings) (counts : Counts) (worker : ℕ) (memory : Bool)
@@ -299,7 +308,8 @@ SignOffsAreLegal =
     → IsTrue (memory || is_some counts.end)
     → refusal blocks settings counts (Off worker memory) ≡ None
 
--- With no lease out the search may end quietly, and with nothing left by its budget; after a report of want of memory it ends by that.
+-- If no lease is out, the search may end quietly, and by its budget if nothing is left of it. After
+-- an out-of-memory report it ends by that report.
 abbrev pub EndsAreLegal : Type 0
 EndsAreLegal =
     (blocks : Blocks) (settings : Settings) (counts : Counts) → counts.end ≡ None
@@ -335,8 +345,9 @@ MeetingKeepsViews =
     → get_elem? (slice_set views seat (met_view view met)) other ≡ some met → IsTrue met.is_live
     → AreTrueOf workers journal (slice_set (slice_set views seat (met_view view met)) other spent_view)
 
--- A view that is true of the journal begins it and has all events of its worker; and where all other passes were taken in, it has
--- seen the whole journal, and each worker's events are among those that it has, or there are none.
+-- A view that is true of the journal begins it and has all events of its worker. If all other
+-- passes were taken in, the view has seen the whole journal. Each worker's events are then among
+-- those that the view has, or there are none.
 abbrev pub LastViewsTellAll : Type 0
 LastViewsTellAll =
     (workers : ℕ) (journal : List Event) (views : List View) (seat : ℕ) (view : View) → AreTrueOf workers journal views
@@ -345,8 +356,9 @@ LastViewsTellAll =
     × (((other : ℕ) (left : View) → get_elem? views other ≡ some left → other ≢ seat → IsFalse left.is_live)
     → (view.seen ≡ journal) × ((worker : ℕ) → HasWorker worker view ⊎ (events_of worker journal ≡ [])))
 
--- Where a pass has taken in all others, whichever worker's it is, its view counts as many passes as there are workers, and all that the
--- view knows of have signed off, each worker has.
+-- Let a pass have taken in all others, and its view count as many passes as there are workers. If
+-- all workers that the view knows of have signed off, each worker has. The pass may be any
+-- worker's.
 abbrev pub LastViewsSignOff : Type 0
 LastViewsSignOff =
     (workers : ℕ) (journal : List Event) (views : List View) (seat : ℕ) (view : View) → AreTrueOf workers journal views
@@ -357,10 +369,11 @@ LastViewsSignOff =
 
 -- ---- worked journals
 
--- The journal of a search over nine cells has 16 events, and one more where a block was marked hot; without its last line it is not
--- finished. A search whose first lease has nothing to expand has 4 events, and one that ends for want of memory at once has 2. One
--- that renews a lease and ends by its budget has 7. Two workers, of whom one marks a block hot and takes the mark away, have 23, and 11
--- where both report want of memory; as long as one of them hasn't signed off, neither is finished.
+-- The journal of a search over nine cells has 16 events, and 17 if a block was marked hot; without
+-- its last line it is not finished. A search whose first lease has nothing to expand has 4 events,
+-- and one that runs out of memory at once has 2. One that renews a lease and ends by its budget has
+-- 7. Two workers, of which one marks a block hot and takes the mark away, have 23. They have 11 if
+-- both report out of memory. While one of them hasn't signed off, neither journal is finished.
 abbrev pub WorkedJournalsAreLegal : Type 0
 WorkedJournalsAreLegal =
     IsFinishedHistory nine_cells one_worker nine_cells_journal 16 Quiet 4

@@ -35,7 +35,8 @@ MovesKeepLawful =
     (setup : Setup) (greatest_cost : ℕ) (move : Move) (old new : Machine) → IsSetup setup greatest_cost → IsLawful setup old
     → Moves setup old move new → IsLawful setup new
 
--- So it is lawful after any moves from a lawful machine: that of the opening, or one that was opened again.
+-- The machine is lawful after any moves from a lawful machine: that of the opening, or one that was
+-- opened again.
 abbrev pub RunsAreLawful : Type 0
 RunsAreLawful =
     (setup : Setup) (greatest_cost : ℕ) (moves : List Move) (start machine : Machine) → IsSetup setup greatest_cost
@@ -55,7 +56,7 @@ LawfulStoresAreSound =
     (setup : Setup) (greatest_cost : ℕ) (machine : Machine) → IsSetup setup greatest_cost → IsLawful setup machine
     → IsSound setup.space setup.guide machine.store
 
--- The incumbent of a lawful machine, where it is known, is at least the cost of some plan.
+-- The incumbent of a lawful machine, if it is known, is at least the cost of some plan.
 abbrev pub IncumbentsArePlans : Type 0
 IncumbentsArePlans =
     (setup : Setup) (greatest_cost : ℕ) (machine : Machine) → IsSetup setup greatest_cost → IsLawful setup machine
@@ -66,19 +67,20 @@ abbrev pub IncumbentsFall : Type 0
 IncumbentsFall = (setup : Setup) (moves : List Move) (old new : Machine) → Runs setup old moves new
     → AtMost new.store.incumbent old.store.incumbent
 
--- What is known to a worker stays known to it. So whatever it has read it may have read, also later.
+-- What is known to a worker stays known to it. Thus it may have read later whatever it has read.
 abbrev pub KnownStays : Type 0
 KnownStays = (setup : Setup) (moves : List Move) (old new : Machine) → Runs setup old moves new
     → (worker : ℕ) (incumbent : Option ℕ) → IsTrue (old.known worker incumbent) → IsTrue (new.known worker incumbent)
 
--- Moves of other workers, or of nobody, leave a worker's lease as it is, the incumbent that it was given, and the cost that it told.
+-- Moves of other workers, or of nobody, leave these as before: a worker's lease, the incumbent that
+-- it was given, and the cost that it told.
 abbrev pub OthersAreLeft : Type 0
 OthersAreLeft =
     (setup : Setup) (moves : List Move) (old new : Machine) (worker : ℕ) → Runs setup old moves new → AreOfOthers worker moves
     → (new.counts.leases worker ≡ old.counts.leases worker) × (new.given worker ≡ old.given worker) × (new.told worker ≡ old.told worker)
 
--- No g exceeds the greatest cost of an action times the number of expansions so far: those settled, and a broken one for each worker
--- whose lease was released with want of memory.
+-- No g exceeds the greatest cost of an action times the number of expansions so far: those settled,
+-- and a broken one for each worker whose lease was released with an out-of-memory report.
 abbrev pub CostsGrowByExpansions : Type 0
 CostsGrowByExpansions =
     (setup : Setup) (greatest_cost : ℕ) (machine : Machine) → IsSetup setup greatest_cost → IsLawful setup machine
@@ -90,15 +92,15 @@ CostsStaySmall =
     (setup : Setup) (greatest_cost : ℕ) (machine : Machine) → IsSetup setup greatest_cost → IsLawful setup machine
     → CostsAtMost machine.store (greatest_cost * (setup.settings.budget + setup.settings.workers))
 
--- So no g leaves 61 bits, where the settings are in range and no action costs more than 2 ^ 20.
+-- No g needs more than 61 bits if the settings are in range and no action costs more than 2 ^ 20.
 abbrev pub CostsFit : Type 0
 CostsFit =
     (setup : Setup) (machine : Machine) → IsSetup setup (2 ^ 20) → AreInRange setup.settings → IsLawful setup machine
     → CostsAtMost machine.store (2 ^ 61 - 1)
 
--- No g of a lease at work exceeds the greatest cost of an action times the number of expansions of the budget, and a broken one for
--- each worker, where the lease has made no more expansions than its quota, and perhaps a broken one. It is so whatever the worker may have
--- read.
+-- No g of a lease at work exceeds the greatest cost of an action times a number of expansions:
+-- those of the budget, and a broken one for each worker. The lease has made no more expansions than
+-- its quota, and perhaps a broken one. This holds whatever the worker may have read.
 abbrev pub LeaseCostsStaySmall : Type 0
 LeaseCostsStaySmall =
     (setup : Setup) (greatest_cost : ℕ) (machine : Machine) (worker used most_broken : ℕ) (known : Option ℕ → Bool) (grant : Grant) (worked : Store)
@@ -107,7 +109,8 @@ LeaseCostsStaySmall =
     → used ≤ grant.quota
     → CostsAtMost worked (greatest_cost * (setup.settings.budget + setup.settings.workers))
 
--- So no g of such a lease leaves 61 bits either, where the settings are in range and no action costs more than 2 ^ 20.
+-- No g of such a lease needs more than 61 bits either, if the settings are in range and no action
+-- costs more than 2 ^ 20.
 abbrev pub LeaseCostsFit : Type 0
 LeaseCostsFit =
     (setup : Setup) (machine : Machine) (worker used most_broken : ℕ) (known : Option ℕ → Bool) (grant : Grant) (worked : Store)
@@ -124,35 +127,37 @@ ScopesAreApart =
     → IsFalse (worker == other)
     → (block : ℕ) → IsTrue (setup.blocks.scope grant.block block) → IsFalse (setup.blocks.scope second.block block)
 
--- With no lease out and no end, each block that has an Opened row may be leased while something is left of the budget.
+-- If no lease is out and the search has not ended, each block with an Opened row may be leased
+-- while something is left of the budget.
 abbrev pub NoneOutMayLease : Type 0
 NoneOutMayLease =
     (setup : Setup) (greatest_cost : ℕ) (machine : Machine) → IsSetup setup greatest_cost → IsLawful setup machine
     → IsFalse (is_any_out setup.settings.workers machine.counts.leases) → machine.counts.end ≡ None → 0 < machine.counts.left
     → (block : ℕ) → HasOpened (machine.store.rows block) → MayBeLeased setup.blocks setup.settings machine.counts machine.store block
 
--- With no lease out nobody has told a cost that is still to be shown.
+-- If no lease is out, nobody has told a cost that is still to be shown.
 abbrev pub NoneOutUntold : Type 0
 NoneOutUntold = (setup : Setup) (machine : Machine) → IsLawful setup machine
     → IsFalse (is_any_out setup.settings.workers machine.counts.leases) → (worker : ℕ) → machine.told worker ≡ None
 
--- With no lease out the incumbent is shown by a goal's row, where a plan is traced from.
+-- If no lease is out, the incumbent is shown by a goal's row, from which a plan is traced.
 abbrev pub NoneOutIsShown : Type 0
 NoneOutIsShown =
     (setup : Setup) (greatest_cost : ℕ) (machine : Machine) → IsSetup setup greatest_cost → IsLawful setup machine
     → IsFalse (is_any_out setup.settings.workers machine.counts.leases) → IsShown setup.space setup.guide machine.store
 
--- At a quiet end, with admissible estimates, the incumbent shows what it is to show: a plan costs no more, and no plan costs less
--- than it divided by the weight; without an incumbent there is no plan.
+-- At a quiet end, with admissible estimates, the incumbent bounds the costs of plans: a plan costs
+-- no more, and no plan costs less than the incumbent divided by the weight. Without an incumbent
+-- there is no plan.
 abbrev pub QuietEndsAreBest : Type 0
 QuietEndsAreBest =
     (setup : Setup) (greatest_cost : ℕ) (machine : Machine) → IsSetup setup greatest_cost → IsLawful setup machine
     → machine.counts.end ≡ Some Quiet
     → IsAdmissible setup.space setup.guide.estimate → IncumbentHolds setup.space (weight_of setup.settings) machine.store.incumbent
 
--- At the budget's end exactly as many expansions as the budget allows, none of them broken, lead from an opening store to one
--- with an Opened row, with a reopening between one run and the next, each where no row was Opened. The opening store of a first run has
--- the settings' weight.
+-- At the budget's end exactly as many expansions as the budget allows, none of them broken, lead
+-- from an opening store to one with an Opened row. There is a reopening between one run and the
+-- next, when no row was Opened. The opening store of a first run has the settings' weight.
 abbrev pub BudgetEndsAreSpent : Type 0
 BudgetEndsAreSpent =
     (setup : Setup) (greatest_cost : ℕ) (machine : Machine) → IsSetup setup greatest_cost → IsLawful setup machine → machine.counts.end ≡ Some Budget
@@ -161,8 +166,8 @@ BudgetEndsAreSpent =
     × ReopensQuiet setup.space setup.guide works (opening_store setup.space setup.guide weight)
     × (setup.reopenings ≡ 0 → weight ≡ weight_of setup.settings) × ((block : ℕ) × HasOpened (machine.store.rows block))
 
--- A machine at a quiet end is lawful when it is opened again with another weight; what was spent and what is left stay, and so
--- does the incumbent.
+-- A machine at a quiet end is lawful when it is opened again with another weight. The spent and the
+-- left expansions stay, and so does the incumbent.
 abbrev pub ReopeningIsLawful : Type 0
 ReopeningIsLawful =
     (setup : Setup) (greatest_cost : ℕ) (weight : Weight) (machine : Machine) → IsSetup setup greatest_cost → IsLawful setup machine
@@ -172,15 +177,16 @@ ReopeningIsLawful =
     × ((reopened_machine setup weight machine).counts.left ≡ machine.counts.left)
     × ((reopened_machine setup weight machine).store.incumbent ≡ machine.store.incumbent)
 
--- While a report of want of memory waits for its end, exactly one worker has signed off or released its lease so: the one that made it.
+-- While an out-of-memory report waits for its end, exactly one worker has signed off or released
+-- its lease with it: the reporter.
 abbrev pub WaitingReportsAreOne : Type 0
 WaitingReportsAreOne = (setup : Setup) (machine : Machine) → IsLawful setup machine → IsTrue machine.counts.trouble
     → (worker : ℕ) × IsOnlyReporter setup machine worker
 
 -- ---- the work of a lease
 
--- Work of a lease goes on where it stopped, piece after piece, where no expansion was broken off; and what was known stays so where
--- more is.
+-- Work of a lease may go on after other work of the lease in which no expansion was broken off:
+-- both are work of the lease together. The later work knows the incumbents that the first knew.
 abbrev pub LeaseWorkGoesOn : Type 0
 LeaseWorkGoesOn =
     (space : Space) (guide : Guide) (block used more most_broken : ℕ) (known later_known : Option ℕ → Bool) (given between worked : Store)
@@ -188,7 +194,8 @@ LeaseWorkGoesOn =
     → ((incumbent : Option ℕ) → IsTrue (known incumbent) → IsTrue (later_known incumbent))
     → (both : IsWorked space guide block (used + more) most_broken later_known given worked) × (both.works ≡ first.works ++ second.works)
 
--- Work of a lease is that also where more incumbents are known and more expansions may have been broken off.
+-- Work of a lease stays such work if more incumbents are known and more expansions may have been
+-- broken off.
 abbrev pub LeaseWorkStays : Type 0
 LeaseWorkStays =
     (space : Space) (guide : Guide) (block used most_broken more_broken : ℕ) (known later_known : Option ℕ → Bool) (given worked : Store)
@@ -196,16 +203,17 @@ LeaseWorkStays =
     → ((incumbent : Option ℕ) → IsTrue (known incumbent) → IsTrue (later_known incumbent))
     → (later : IsWorked space guide block used more_broken later_known given worked) × (later.works ≡ work.works)
 
--- Turns of a lease go on where they stopped: where some come after others, all together are such turns.
+-- Turns of a lease may go on after other turns of the lease: all together are such turns.
 abbrev pub LeaseTurnsGoOn : Type 0
 LeaseTurnsGoOn =
     (space : Space) (guide : Guide) (works more : List Work) (given between : Store)
     → Comes space guide works given between → AreLeaseTurns space guide works given → AreLeaseTurns space guide more between
     → AreLeaseTurns space guide (works ++ more) given
 
--- The frame lemma. What a lease has done on the rows that it was given may be done, piece by piece, in the whole store as it
--- stands now, whatever other leases did meanwhile; the whole store then has the lease's rows in the block's scope, and all other
--- rows as they were. The lease has no row outside the scope. It is so whatever the worker may have read.
+-- The frame lemma. What a lease has done on the rows that it was given may be done, piece by piece,
+-- in the whole store of now, whatever other leases did meanwhile. The whole store then has the
+-- lease's rows in the block's scope, and all other rows as before. The lease has no row outside the
+-- scope. This holds whatever the worker may have read.
 abbrev pub LeaseWorkStands : Type 0
 LeaseWorkStands =
     (setup : Setup) (greatest_cost : ℕ) (machine : Machine) (worker used most_broken : ℕ) (known : Option ℕ → Bool) (grant : Grant) (worked : Store)
@@ -229,8 +237,8 @@ abbrev pub OrderedRunsAreRuns : Type 0
 OrderedRunsAreRuns = (setup : Setup) (moves : List Move) (old new : Machine) → RunsInOrder setup old moves new
     → Runs setup old moves new
 
--- Moves go on where others stopped: all together are a run, in order where both parts are. Their events are those of the first part, and
--- then those of the later one.
+-- Moves may go on after other moves: all together are a run, in order if both parts are in order.
+-- Their events are those of the first part, and then those of the later one.
 abbrev pub RunsGoOn : Type 0
 RunsGoOn =
     (setup : Setup) (moves more : List Move) (old between new : Machine)
@@ -238,8 +246,8 @@ RunsGoOn =
     × (RunsInOrder setup old moves between → RunsInOrder setup between more new → RunsInOrder setup old (moves ++ more) new)
     × (journal_of (moves ++ more) ≡ journal_of moves ++ journal_of more)
 
--- Where the incumbent that a lease brings back is not below the whole store's, as where each goal's cost was told before, it
--- stays as it is.
+-- If the incumbent that a lease brings back is not below the whole store's, the whole store's
+-- stays. This is the case if each goal's cost was told before.
 abbrev pub ReturnsLeaveIncumbents : Type 0
 ReturnsLeaveIncumbents =
     (setup : Setup) (machine : Machine) (worker used most_broken : ℕ) (new : Store) (back : CameBack setup machine worker used most_broken new)
@@ -254,14 +262,16 @@ ReturnsShowWork =
 
 -- ---- rows at home and rows in leases
 
--- What is recorded for a lease is what it was given or last renewed with: the rows of its scope in the whole store, and no others.
+-- What is recorded for a lease are the rows that it was given or last renewed with: the rows of its
+-- scope in the whole store, and no others.
 abbrev pub RecordedRowsAreLent : Type 0
 RecordedRowsAreLent =
     (setup : Setup) (counts : Counts) (store : Store) (home : Rows) (recorded : ℕ → Rows) (worker : ℕ) (grant : Grant) (incumbent : Option ℕ)
     → IsWhole setup counts home recorded store → counts.leases worker ≡ Some grant
     → (block state : ℕ) → (lent_store setup grant.block store incumbent).rows block state ≡ recorded worker block state
 
--- A lease takes the rows of its scope from home, where none of them stays; they are recorded for it, and the whole store is the same.
+-- A lease takes the rows of its scope from home, and none of them stays there. The rows are
+-- recorded for it, and the whole store is the same.
 abbrev pub LeasingKeepsWhole : Type 0
 LeasingKeepsWhole =
     (setup : Setup) (greatest_cost : ℕ) (counts : Counts) (store : Store) (home left taken : Rows) (recorded : ℕ → Rows) (worker block quota : ℕ)
@@ -281,7 +291,8 @@ RenewingKeepsWhole =
     → IsWhole setup (counts_after setup.blocks setup.settings counts (Renew worker used quota)) home (with_entry recorded worker worked.rows)
     (merged_store (setup.blocks.scope grant.block) worked store)
 
--- A release brings the rows that the lease has home, and the whole store takes them; what is recorded for other leases stays.
+-- A release brings the rows that the lease has home, and the whole store takes them. The rows that
+-- are recorded for other leases stay.
 abbrev pub ReleasingKeepsWhole : Type 0
 ReleasingKeepsWhole =
     (setup : Setup) (greatest_cost : ℕ) (counts : Counts) (store worked : Store) (home together : Rows) (recorded : ℕ → Rows) (worker used : ℕ) (memory : Bool) (grant : Grant)
@@ -291,7 +302,8 @@ ReleasingKeepsWhole =
     → AgreesOn (λ other. not (setup.blocks.scope grant.block other)) together home
     → IsWhole setup (counts_after setup.blocks setup.settings counts (Release worker used memory)) together recorded (merged_store (setup.blocks.scope grant.block) worked store)
 
--- What changes no lease and no row, as a mark, a sign-off, an end or a told cost, leaves each row where it is.
+-- A step that changes no lease and no row, as a mark, a sign-off, an end or a told cost, leaves
+-- each row in its place.
 abbrev pub OthersKeepWhole : Type 0
 OthersKeepWhole =
     (setup : Setup) (counts after : Counts) (store later : Store) (home : Rows) (recorded : ℕ → Rows) → after.leases ≡ counts.leases

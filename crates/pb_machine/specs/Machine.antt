@@ -1,5 +1,6 @@
--- The lease machine with its rows. The machine has one whole store. A lease works on a copy of the rows of its scope, and the whole
--- store takes them when the lease is renewed or released; so the rows at home are those of the blocks outside leased scopes.
+-- The lease machine with its rows. The machine has one whole store. A lease works on a copy of the
+-- rows of its scope, and the whole store takes them when the lease is renewed or released. The rows
+-- at home are thus those of the blocks outside leased scopes.
 use Rattle.std.specs.Prelude.{◌≡◌, ℕ, ◌≤◌, Bool, true, false, ◌||◌, ◌==◌, IsTrue, List, [], ◌∷◌, Option, Some, None, ⊤}
 use Rattle.std.specs.List.{AllByRecursion}
 use Rattle.pb_model.specs.Space.{Space, IsProper}
@@ -45,7 +46,7 @@ is_same (Some cost) (Some other) = cost == other
 abbrev pub with_known : (known : Option ℕ → Bool) → (incumbent other : Option ℕ) → Bool
 with_known known incumbent other = is_same other incumbent || known other
 
--- what each worker can have read, where this is the incumbent
+-- what each worker can have read, if this is the incumbent
 abbrev pub with_incumbent : (known : (worker : ℕ) → Option ℕ → Bool) → (incumbent : Option ℕ) → (worker : ℕ) → Option ℕ → Bool
 with_incumbent known incumbent worker = with_known (known worker) incumbent
 
@@ -54,9 +55,9 @@ pub record Machine : Type 0 where
   pub store : Store
   pub given : ℕ → Option ℕ  -- by worker: the incumbent that its lease was given, or last renewed with
   pub told : ℕ → Option ℕ  -- by worker: the least cost that it has told since then, and not yet shown by a goal's row
-  -- by worker: the incumbents that there were since the run began, and the costs that it told; it can have read no others
+  -- by worker: the incumbents since the run began and the costs it told; it can have read no others
   pub known : (worker : ℕ) → Option ℕ → Bool
-  pub broken : ℕ → Bool  -- by worker: its lease was released with want of memory
+  pub broken : ℕ → Bool  -- by worker: its lease was released with an out-of-memory report
 
 abbrev pub opening_machine : Setup → Machine
 opening_machine setup =
@@ -71,8 +72,8 @@ opening_machine setup =
 
 -- ---- the work of a lease
 
--- The work is on a row of the block, or it lowers the lease's incumbent to a cost that is known, as where the worker reads it. It is
--- no reopening.
+-- The work is on a row of the block, or it lowers the lease's incumbent to a cost that is known, as
+-- when the worker reads it. It is no reopening.
 abbrev pub IsOn : Guide → (block : ℕ) → (known : Option ℕ → Bool) → Work → Type 0
 IsOn guide block known (expand own) = guide.home own ≡ block
 IsOn guide block known (break_off own offers) = guide.home own ≡ block
@@ -81,7 +82,8 @@ IsOn guide block known (take_goal own) = guide.home own ≡ block
 IsOn guide block known (lower cost) = IsTrue (known (Some cost))
 IsOn guide block known (reopen weight) = ⊥
 
--- Want of memory ends the work: nothing comes after an expansion that was broken off. So there is one such at most.
+-- Running out of memory ends the work: nothing comes after an expansion that was broken off. There
+-- is thus at most one such expansion.
 abbrev pub BreaksLast : List Work → Type 0
 BreaksLast [] = ⊤
 BreaksLast (break_off own offers ∷ works) = works ≡ []
@@ -91,8 +93,9 @@ BreaksLast (work ∷ works) = BreaksLast works
 abbrev pub lent_store : Setup → (block : ℕ) → Store → (incumbent : Option ℕ) → Store
 lent_store setup block store incumbent = restriction (setup.blocks.scope block) store incumbent
 
--- The lease's store comes from the one that it was given by work on its block: by exactly `used` expansions, at most this many broken
--- ones, after which nothing comes, and any number of cuts, of goals and of known incumbents that were read.
+-- The lease's store comes from the one that it was given by work on its block. The work is exactly
+-- `used` expansions, and any number of cuts, of goals and of known incumbents that were read. It
+-- has at most `most_broken` broken expansions, after which nothing comes.
 pub record IsWorked (space : Space) (guide : Guide) (block used most_broken : ℕ) (known : Option ℕ → Bool) (given worked : Store) : Type 0 where
   pub works : List Work
   pub on : AllByRecursion (IsOn guide block known) works
@@ -101,14 +104,14 @@ pub record IsWorked (space : Space) (guide : Guide) (block used most_broken : �
   pub few_broken : broken_expansions works ≤ most_broken
   pub stops : BreaksLast works
 
--- This is what the worker's lease can have made of the rows that it was given or last renewed with: what it read as the incumbent was
--- one, or the worker told it.
+-- The worker's lease can have made this store of the rows that it was given or last renewed with.
+-- Each number that it read as the incumbent was the incumbent, or the worker told it.
 abbrev pub HasWorked : Setup → Machine → (worker : ℕ) → Grant → (used most_broken : ℕ) → (worked : Store) → Type 0
 HasWorked setup machine worker grant used most_broken worked =
     IsWorked setup.space setup.guide grant.block used most_broken (machine.known worker) (lent_store setup grant.block machine.store (machine.given worker)) worked
 
--- The worker's lease came back, and the whole store took its rows and the lesser incumbent. What the worker told is shown by a
--- goal's row among the rows that came back.
+-- The worker's lease came back, and the whole store took its rows and the lesser incumbent. The
+-- cost that the worker told is shown by a goal's row among the rows that came back.
 pub record CameBack (setup : Setup) (machine : Machine) (worker used most_broken : ℕ) (new : Store) : Type 0 where
   pub grant : Grant
   pub worked : Store
@@ -156,8 +159,9 @@ pub record Happens (setup : Setup) (old : Machine) (event : Event) (new : Machin
   pub counts : new.counts ≡ counts_after setup.blocks setup.settings old.counts event
   pub rows : RowPart setup old event new
 
--- A worker that has a lease tells a cost, and the incumbent is lowered to it. The rows of the lease, as it has worked on them so
--- far, with its last expansion broken off or not, have a goal's row that costs no more. No journal has this.
+-- A worker that has a lease tells a cost, and the incumbent is lowered to it. The rows of the
+-- lease, as it has worked on them so far, have a goal's row that costs no more. The lease's last
+-- expansion may have been broken off. No journal has this.
 pub record Tells (setup : Setup) (old : Machine) (worker cost : ℕ) (new : Machine) : Type 0 where
   pub grant : Grant
   pub leased : old.counts.leases worker ≡ Some grant

@@ -1,12 +1,13 @@
--- How long a journal may grow: each lease has room for so many events, and the room is all that it may add between its lease and its
--- return.
+-- How long a journal may grow. Each lease has room for so many events: this room bounds what the
+-- lease may add between its begin and its return.
 use Rattle.std.specs.Prelude.{ℕ, ◌+◌, ◌-◌, ◌<◌, Bool, false, ◌==◌, List, [], ◌∷◌, ⊤}
 use Rattle.pb_machine.specs.declared.event.Event.{Event}
 use Rattle.pb_machine.specs.declared.event.Event.TheVariants.{Lease, Renew, Hot, Cold, Release, Off, Ended}
 use Rattle.pb_machine.specs.Tables.{with_entry}
 
--- By worker, for how many events its lease has room after this one. A lease begins with room for 63 renewals, hot marks and marks taken
--- away. Each of these takes one, and the return of the lease takes what is left.
+-- By worker, for how many events its lease has room after this one. A lease begins with room for 63
+-- renewals, hot marks and marks taken away. Each of these takes one, and the return of the lease
+-- takes what is left.
 abbrev pub room_with : (room : ℕ → ℕ) → Event → ℕ → ℕ
 room_with room (Lease worker block quota) = with_entry room worker 63
 room_with room (Renew worker used quota) = with_entry room worker (room worker - 1)
@@ -41,7 +42,7 @@ abbrev pub AreWithinRoom : (room : ℕ → ℕ) → List Event → Type 0
 AreWithinRoom room [] = ⊤
 AreWithinRoom room (event ∷ events) = HasRoom room event × AreWithinRoom (room_with room event) events
 
--- each event of the journal stands within the room of its worker's lease
+-- each event of the journal is within the room of its worker's lease
 abbrev pub KeepsWithinRoom : (journal : List Event) → Type 0
 KeepsWithinRoom journal = AreWithinRoom no_room journal
 

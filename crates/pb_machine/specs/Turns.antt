@@ -11,8 +11,9 @@ use Rattle.pb_machine.specs.Machine.{Setup, Machine, lent_store, CameBack, Move,
 
 -- ---- the rows of a lease
 
--- The work is a turn of a lease: one of a best-first search, on the first Opened row of its block. The expansion of that row may
--- be broken off (which ends the work: `IsWorked.stops`), and between turns the worker may read an incumbent.
+-- The work is a turn of a lease: one of a best-first search, on the first Opened row of its block.
+-- The expansion of that row may be broken off (which ends the work: `IsWorked.stops`), and between
+-- turns the worker may read an incumbent.
 abbrev pub IsLeaseTurn : Guide → Store → Work → Type 0
 IsLeaseTurn guide store (break_off own offers) = IsFirstToKeep guide store own
 IsLeaseTurn guide store (lower cost) = ⊤

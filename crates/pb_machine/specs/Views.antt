@@ -1,5 +1,6 @@
--- What each worker's pass keeps of a journal that grows in one place, where passes are split from the first one and are taken in
--- by others. All views begin the one journal, and have their own workers' events.
+-- What each worker's pass keeps of a journal that grows in one place. Passes are split from the
+-- first one and are taken in by others. All views begin the one journal, and have their own
+-- workers' events.
 use Rattle.std.specs.Prelude.{◌≡◌, ℕ, ◌+◌, ◌<◌, ◌≤◌, Bool, true, false, IsTrue, IsFalse, if◌then◌else◌, ◌==◌, nat_lt, length, List, [], ◌∷◌, ◌++◌, ◌⊎◌, ⊤}
 use Rattle.std.specs.List.{AllByRecursion}
 use mathlib.Core.Option.{some}
@@ -33,7 +34,7 @@ abbrev pub AreDistinct : List Share → Type 0
 AreDistinct [] = ⊤
 AreDistinct (share ∷ shares) = AllByRecursion (λ other. IsFalse (other.worker == share.worker)) shares × AreDistinct shares
 
--- the worker has these events in the journal, and all of them stand in what was seen
+-- the worker has these events in the journal, and all of them are in what was seen
 pub record IsShareOf (journal seen : List Event) (share : Share) : Type 0 where
   pub told : events_of share.worker journal ≡ share.events
   pub covered : events_of share.worker seen ≡ share.events
@@ -47,8 +48,9 @@ pub record IsTrueOf (journal : List Event) (made : ℕ) (seat_of : ℕ → ℕ) 
   pub counts_passes : HasWorker 0 view → view.made ≡ made
   pub counts_none : (HasWorker 0 view → ⊥) → view.made ≡ 0
 
--- The views of all seats, where spent ones say nothing, are true of the journal. Each worker whose pass was made has one seat, and no
--- other has events. What all live views have seen together is the whole journal: one of them has seen it to its end.
+-- The views of all seats are true of the journal; spent ones say nothing. Each worker whose pass
+-- was made has one seat, and no other has events. What all live views have seen together is the
+-- whole journal: one of them has seen it to its end.
 pub record AreTrueOf (workers : ℕ) (journal : List Event) (views : List View) : Type 0 where
   pub made : ℕ
   pub seat_of : ℕ → ℕ

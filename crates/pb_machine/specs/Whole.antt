@@ -1,5 +1,5 @@
--- The whole store, where its rows lie partly at home and partly in leases, each of which has a duplicate-detection scope (Zhou, Hansen 2004)
--- to itself.
+-- The whole store, with its rows partly at home and partly in leases. Each lease has a
+-- duplicate-detection scope (Zhou, Hansen 2004) to itself.
 use Rattle.std.specs.Prelude.{◌≡◌, ℕ, Bool, not, IsTrue, Some, None}
 use Rattle.pb_model.specs.Store.{Rows, Store}
 use Rattle.pb_model.specs.Local.{AgreesOn}
@@ -16,9 +16,9 @@ is_away setup counts block = any_below setup.settings.workers (λ worker. is_lea
 abbrev pub AreGone : (scope : ℕ → Bool) → Rows → Type 0
 AreGone scope rows = (home state : ℕ) → IsTrue (scope home) → rows home state ≡ None
 
--- The whole store has the rows at home, of the blocks outside leased scopes, and for each lease those that were recorded for it when it
--- was given or last renewed, of the blocks of its scope. No row of a block that is away is at home, and no row of another block is
--- recorded for a lease.
+-- The whole store has the rows at home, of the blocks outside leased scopes. For each lease it has
+-- the rows that were recorded when the lease was given or last renewed, of the blocks of its scope.
+-- No row of a block that is away is at home, and no row of another block is recorded for a lease.
 pub record IsWhole (setup : Setup) (counts : Counts) (home : Rows) (recorded : (worker : ℕ) → Rows) (store : Store) : Type 0 where
   pub home_rows : AgreesOn (λ block. not (is_away setup counts block)) store.rows home
   pub none_kept : AreGone (is_away setup counts) home

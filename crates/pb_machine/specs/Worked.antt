@@ -1,6 +1,7 @@
--- Worked journals. One worker, and then two, look for a cheapest path over a map of 3 by 3 land cells, from the first cell to the
--- last, where each cell is a block of its own; and one worker goes along a corridor until its budget is spent. And journals that
--- differ from these in a few places. A journal's text has six lines before its first event, which so stands on line 7.
+-- Worked journals. One worker, and then two, look for a cheapest path over a map of 3 by 3 land
+-- cells, from the first cell to the last, with each cell a block of its own. One worker goes along
+-- a corridor until its budget is spent. Other journals differ from these in a few places. A
+-- journal's text has six lines before its first event, which is thus on line 7.
 use Rattle.std.specs.Prelude.{◌≡◌, ℕ, ◌+◌, Bool, true, false, ◌&&◌, ◌||◌, ◌==◌, not, nat_lt, length, List, [], ◌∷◌, ◌++◌, Some}
 use Rattle.std.specs.List.{AllByRecursion}
 use Rattle.pb_machine.specs.declared.event.End.{End}
@@ -41,8 +42,9 @@ ending = Ended Quiet ∷ Off 0 false ∷ []
 abbrev pub nine_cells_journal : List Event
 nine_cells_journal = visit 0 1 ++ later_visits ++ ending
 
--- Sixteen blocks one behind the other, as of a corridor of 64 cells, four to a block. One worker with a budget of 5 expansions and a
--- lot of 2 leases the first block, renews that lease once, and has one expansion left for the second block.
+-- Sixteen blocks in a row, as of a corridor of 64 cells, four to a block. One worker with a budget
+-- of 5 expansions and a lot of 2 leases the first block, renews that lease once, and has one
+-- expansion left for the second block.
 abbrev pub corridor : Blocks
 corridor = record { count = 16; scope = λ block other. nat_lt block 16 && (nat_lt other 16 && (nat_lt block (other + 2) && nat_lt other (block + 2))) }
 
@@ -58,8 +60,9 @@ corridor_journal = first_block ++ Lease 0 1 1 ∷ Release 0 1 false ∷ Ended Bu
 abbrev pub two_workers : Settings
 two_workers = record one_worker { workers = 2 }
 
--- The search over nine cells by two workers, as far as both have a lease. Worker 1 then marks the block of the middle cell hot, which
--- is its block's rival, and takes the mark away when worker 0 is back.
+-- The search over nine cells by two workers, up to the point at which both have a lease. Worker 1
+-- then marks its block's rival hot, the block of the middle cell, and takes the mark away when
+-- worker 0 is back.
 abbrev pub both_out : List Event
 both_out = visit 0 1 ++ visit 1 1 ++ Lease 0 2 256 ∷ Lease 1 3 256 ∷ []
 
@@ -72,7 +75,7 @@ both_out_again = Lease 0 5 256 ∷ Lease 1 6 256 ∷ Release 0 1 false ∷ Relea
 abbrev pub two_workers_journal : List Event
 two_workers_journal = both_out ++ hot_and_cold ++ both_out_again ++ visit 8 0 ++ visit 7 0 ++ visit 4 0 ++ Ended Quiet ∷ Off 0 false ∷ Off 1 false ∷ []
 
--- both workers report want of memory, one before the end that follows from it and one after
+-- both workers report out of memory, one before the end that follows from it and one after
 abbrev pub both_report : List Event
 both_report = both_out ++ Release 1 1 true ∷ Ended Memory ∷ Release 0 1 true ∷ Off 0 true ∷ Off 1 false ∷ []
 
@@ -151,7 +154,7 @@ refused_in_corridor =
     ∷ (short_budget, corridor_journal ++ Release 0 0 false ∷ [], 14, Worker)
     ∷ []
 
--- and of two workers over the nine cells, where both have a lease on line 13
+-- and of two workers over the nine cells, both of which have a lease on line 13
 abbrev pub refused_of_two : List (Settings × List Event × ℕ × EventRefusal)
 refused_of_two =
     (two_workers, both_out ++ Lease 2 8 256 ∷ [], 13, Worker)
@@ -181,7 +184,7 @@ refused_of_two =
     ∷ (two_workers, both_out ++ Release 1 1 true ∷ Release 0 1 true ∷ [], 14, Trouble)
     ∷ (two_workers, both_out ++ Release 1 1 true ∷ Ended Quiet ∷ [], 14, Trouble)
     ∷ (two_workers, both_report ++ Off 1 true ∷ [], 18, Worker)
-    -- where several tests are true, the first one decides
+    -- if several tests are true, the first one decides
     ∷ (two_workers, two_workers_journal ++ Lease 2 9 0 ∷ [], 30, HasEnded)
     ∷ (two_workers, both_out ++ Lease 2 9 0 ∷ [], 13, Worker)
     ∷ (two_workers, both_out ++ Lease 1 9 0 ∷ [], 13, Holds)

@@ -5,12 +5,13 @@ pub enum End {
     Quiet,
     /// No lease is out, a row is Opened, and nothing is left of the budget.
     Budget,
-    /// A worker reported want of memory.
+    /// A worker reported out of memory.
     Memory,
 }
 
-/// An event of the lease machine of Parallel Best-NBlock-First search (Burns, Lemons, Ruml and Zhou, 2010), as a journal tells it.
-/// Workers and blocks are numbered from 0. Quotas and used numbers are in expansions.
+/// An event of the lease machine of Parallel Best-NBlock-First search (Burns, Lemons, Ruml and
+/// Zhou, 2010), as a line of a journal. Workers and blocks are numbered from 0. Quotas and used
+/// numbers are in expansions.
 #[derive(Clone, Copy, Debug, PartialEq, Eq)]
 pub enum Event {
     /// The worker takes the rows of the block's scope, and may make so many expansions of the block's rows.
@@ -31,8 +32,8 @@ pub enum Event {
         /// How many it may make from now on.
         quota: u64,
     },
-    /// The worker marks a block hot, so that no block that interferes with it is leased or renewed. Hot blocks that interfere with it
-    /// become cold.
+    /// The worker marks a block hot, so that no block that interferes with it is leased or renewed.
+    /// Hot blocks that interfere with it become cold.
     Hot {
         /// Who marks it.
         worker: u32,
@@ -46,20 +47,21 @@ pub enum Event {
         /// The block that is hot no longer.
         block: u32,
     },
-    /// The worker's lease is settled and its rows go home. Hot blocks that are busy no longer become cold.
+    /// The worker's lease is settled and its rows go home. Hot blocks that are no longer busy
+    /// become cold.
     Release {
         /// Whose lease it is.
         worker: u32,
         /// How many expansions it made since it was leased or last renewed.
         used: u64,
-        /// Whether the worker reports want of memory.
+        /// Whether the worker reports out of memory.
         memory: bool,
     },
     /// The worker signs off: it takes no further part.
     Off {
         /// Who signs off.
         worker: u32,
-        /// Whether it reports want of memory.
+        /// Whether the worker reports out of memory.
         memory: bool,
     },
     /// The search ends. Leases that are out may still come back, and workers sign off.
@@ -78,12 +80,12 @@ pub struct Grant {
 /// Why an event may not come next.
 #[derive(Clone, Copy, Debug, PartialEq, Eq)]
 pub enum EventRefusal {
-    /// An end stands.
+    /// The search has ended before.
     Ended,
     /// There is no such worker, or it has signed off.
     Worker,
-    /// The worker has a lease and should have none, or has none and should have one; or a lease is out at a quiet end or at the
-    /// budget's.
+    /// The worker has a lease and should have none, or has none and should have one; or a lease is
+    /// out at a quiet end or at the budget's.
     Holds,
     /// There is no such block.
     Block,
@@ -91,12 +93,13 @@ pub enum EventRefusal {
     Scope,
     /// A hot block interferes with the block; or the block may not be marked hot, or is not hot.
     Hot,
-    /// The quota is 0, or is neither a whole lot nor all that is left; or more expansions were made than the quota allows; or
-    /// something is left of the budget at its end.
+    /// The quota is 0, or is neither a whole lot nor all that is left; or more expansions were made
+    /// than the quota allows; or something is left of the budget at its end.
     Quota,
-    /// No end stands, and the worker reports no want of memory, so it may not sign off.
+    /// The search has not ended, and the worker doesn't report out of memory, so it may not sign
+    /// off.
     NoEnd,
-    /// The event before reported want of memory, and this is not the end that follows from it; or that end comes without such a
-    /// report.
+    /// The event before reported out of memory, and this is not the end that follows from the
+    /// report; or that end comes without a report.
     Trouble,
 }

@@ -20,12 +20,13 @@ pub fn spent_is_used()
     ensures { SpentIsUsed }
 {}
 
-/// The used numbers of a legal history never exceed the budget, with what was spent before, and at the budget's end they are all of it.
+/// The used numbers of a legal history and what was spent before together never exceed the budget;
+/// at the budget's end they are all of it.
 pub fn used_fits_budget()
     ensures { UsedFitsBudget }
 {}
 
-/// A worker has signed off exactly where one of its own events says so.
+/// A worker has signed off exactly if one of its own events says so.
 pub fn signing_off_is_told()
     ensures { SigningOffIsTold }
 {}
@@ -35,7 +36,7 @@ pub fn finished_workers_sign_off()
     ensures { FinishedWorkersSignOff }
 {}
 
-/// After a legal history the end that stands is the one that its journal has.
+/// After a legal history the end of the search is the one that its journal has.
 pub fn ends_are_told()
     ensures { EndsAreTold }
 {}
@@ -45,7 +46,7 @@ pub fn ends_stand()
     ensures { EndsStand }
 {}
 
-/// Where every worker has signed off, no lease is out.
+/// If every worker has signed off, no lease is out.
 pub fn all_off_none_out()
     ensures { AllOffNoneOut }
 {}
@@ -80,12 +81,12 @@ pub fn interference_is_mutual()
     ensures { InterferenceIsMutual }
 {}
 
-/// A block is busy exactly where the number of leased blocks in its interference is not 0.
+/// A block is busy exactly if the number of leased blocks in its interference is not 0.
 pub fn busy_is_counted()
     ensures { BusyIsCounted }
 {}
 
-/// A hot block interferes exactly where the number of those in the interference is not 0.
+/// A hot block interferes exactly if the number of hot blocks in the interference is not 0.
 pub fn hot_is_counted()
     ensures { HotIsCounted }
 {}
@@ -95,7 +96,8 @@ pub fn counters_fit()
     ensures { CountersFit }
 {}
 
-/// With no lease out the number of leased blocks in an interference is 0, and with no hot block that of the hot ones.
+/// If no lease is out, the number of leased blocks in an interference is 0. If no block is hot,
+/// that of the hot ones is 0.
 pub fn counters_begin_at_none()
     ensures { CountersBeginAtNone }
 {}
@@ -135,7 +137,7 @@ pub fn chosen_leases_are_legal()
     ensures { ChosenLeasesAreLegal }
 {}
 
-/// A lease may be renewed where, with it home, its block may be leased.
+/// A lease may be renewed if, with it home, its block may be leased.
 pub fn chosen_renewals_are_legal()
     ensures { ChosenRenewalsAreLegal }
 {}
@@ -150,17 +152,17 @@ pub fn first_views_are_true()
     ensures { FirstViewsAreTrue }
 {}
 
-/// All views stay true where a pass adds events of its own worker to the journal.
+/// All views stay true when a pass adds events of its own worker to the journal.
 pub fn holding_keeps_views()
     ensures { HoldingKeepsViews }
 {}
 
-/// All views stay true where a pass is split from the first one.
+/// All views stay true when a pass is split from the first one.
 pub fn splitting_keeps_views()
     ensures { SplittingKeepsViews }
 {}
 
-/// All views stay true where a pass takes in another.
+/// All views stay true when a pass takes in another.
 pub fn meeting_keeps_views()
     ensures { MeetingKeepsViews }
 {}
@@ -190,35 +192,37 @@ pub fn releases_are_legal()
     ensures { ReleasesAreLegal }
 {}
 
-/// While no end stands, whoever has a lease may mark a busy block hot that isn't so yet, unless blocks are never marked, and take a
-/// mark away.
+/// Before the end, whoever has a lease may mark a busy block hot that isn't hot yet, unless blocks
+/// are never marked. It may also take a mark away.
 pub fn marks_are_legal()
     ensures { MarksAreLegal }
 {}
 
-/// A worker without a lease may sign off at an end, or with a report of want of memory.
+/// A worker without a lease may sign off at an end, or with an out-of-memory report.
 pub fn sign_offs_are_legal()
     ensures { SignOffsAreLegal }
 {}
 
-/// With no lease out the search may end quietly, and with nothing left by its budget; after a report of want of memory it may end by
-/// that.
+/// If no lease is out, the search may end quietly, and by its budget if nothing is left of it.
+/// After an out-of-memory report it may end by that report.
 pub fn ends_are_legal()
     ensures { EndsAreLegal }
 {}
 
-/// In a legal history the event directly before an end for want of memory reports it, and a report that waits for its end is the last
-/// event.
+/// In a legal history the event directly before an end by running out of memory reports it. A
+/// report that waits for its end is the last event.
 pub fn memory_ends_are_reported()
     ensures { MemoryEndsAreReported }
 {}
 
-/// In a legal history a report of want of memory, while no end stands, is followed by the end for want of memory, or is the last event.
+/// In a legal history an out-of-memory report before the end is followed by the end that it causes,
+/// or is the last event.
 pub fn reports_end_searches()
     ensures { ReportsEndSearches }
 {}
 
-/// A legal history in which every worker has signed off, and where no report waits for its end, is finished.
+/// A legal history in which every worker has signed off, and in which no report waits for its end,
+/// is finished.
 pub fn signed_off_is_finished()
     ensures { SignedOffIsFinished }
 {}
@@ -228,17 +232,20 @@ pub fn journals_are_short()
     ensures { JournalsAreShort }
 {}
 
-/// Where a journal keeps within room, a worker renews and marks at most 63 times between two of its leases.
+/// If a journal keeps within room, a worker renews and marks at most 63 times between two of its
+/// leases.
 pub fn leases_take_their_room()
     ensures { LeasesTakeTheirRoom }
 {}
 
-/// A longer journal keeps within room exactly where its first part does, and the rest has the room that this leaves.
+/// A longer journal keeps within room exactly if its first part does, and the rest has the room
+/// that this part leaves.
 pub fn room_goes_on()
     ensures { RoomGoesOn }
 {}
 
-/// Where one pass is left, its view counts as many passes as there are workers, and all that it knows of have signed off, each worker has.
+/// Let one pass be left, and its view count as many passes as there are workers. If all workers
+/// that it knows of have signed off, each worker has.
 pub fn last_views_sign_off()
     ensures { LastViewsSignOff }
 {}

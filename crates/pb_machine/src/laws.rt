@@ -25,7 +25,7 @@ pub fn lawful_stores_are_sound()
     ensures { LawfulStoresAreSound }
 {}
 
-/// The incumbent, where it is known, is at least the cost of some plan.
+/// The incumbent, if it is known, is at least the cost of some plan.
 pub fn incumbents_are_plans()
     ensures { IncumbentsArePlans }
 {}
@@ -40,7 +40,8 @@ pub fn known_stays()
     ensures { KnownStays }
 {}
 
-/// Moves of others leave a worker's lease, what it was given, and what it told.
+/// Moves of others leave these as before: a worker's lease, the incumbent that it was given, and
+/// the cost that it told.
 pub fn others_are_left()
     ensures { OthersAreLeft }
 {}
@@ -55,18 +56,19 @@ pub fn costs_stay_small()
     ensures { CostsStaySmall }
 {}
 
-/// No g leaves 61 bits, where the settings are in range and no action costs more than 2^20.
+/// No g needs more than 61 bits if the settings are in range and no action costs more than 2^20.
 pub fn costs_fit()
     ensures { CostsFit }
 {}
 
-/// No g of a lease that keeps to its quota, with a broken expansion or without, exceeds what the budget and a broken one for each worker
-/// allow.
+/// No g of a lease that keeps to its quota, with a broken expansion or without, exceeds what the
+/// budget and a broken one for each worker allow.
 pub fn lease_costs_stay_small()
     ensures { LeaseCostsStaySmall }
 {}
 
-/// No g of such a lease leaves 61 bits, where the settings are in range and no action costs more than 2^20.
+/// No g of such a lease needs more than 61 bits, if the settings are in range and no action costs
+/// more than 2^20.
 pub fn lease_costs_fit()
     ensures { LeaseCostsFit }
 {}
@@ -76,12 +78,14 @@ pub fn scopes_are_apart()
     ensures { ScopesAreApart }
 {}
 
-/// With no lease out and no end, each block that has an Opened row may be leased while something is left of the budget.
+/// If no lease is out and the search has not ended, each block with an Opened row may be leased
+/// while something is left of the budget.
 pub fn none_out_may_lease()
     ensures { NoneOutMayLease }
 {}
 
-/// At a quiet end the incumbent is backed by a plan, and no plan costs less than it divided by the weight; without one there is no plan.
+/// At a quiet end the incumbent is backed by a plan, and no plan costs less than the incumbent
+/// divided by the weight. Without an incumbent there is no plan.
 pub fn quiet_ends_are_best()
     ensures { QuietEndsAreBest }
 {}
@@ -91,27 +95,29 @@ pub fn reopening_is_lawful()
     ensures { ReopeningIsLawful }
 {}
 
-/// A report of want of memory that waits for its end was made by exactly one worker, and no other has signed off or released so.
+/// An out-of-memory report that waits for its end was made by exactly one worker. No other worker
+/// has signed off or released its lease with a report.
 pub fn waiting_reports_are_one()
     ensures { WaitingReportsAreOne }
 {}
 
-/// Work of a lease goes on where it stopped, unless an expansion was broken off.
+/// Work of a lease may go on after other work of the lease, unless an expansion was broken off.
 pub fn lease_work_goes_on()
     ensures { LeaseWorkGoesOn }
 {}
 
-/// Work of a lease is that also where more incumbents are known and more expansions may have been broken off.
+/// Work of a lease stays such work if more incumbents are known and more expansions may have been
+/// broken off.
 pub fn lease_work_stays()
     ensures { LeaseWorkStays }
 {}
 
-/// Turns of a lease go on where they stopped.
+/// Turns of a lease may go on after other turns of the lease.
 pub fn lease_turns_go_on()
     ensures { LeaseTurnsGoOn }
 {}
 
-/// What a lease has done may be done in the whole store as it stands now.
+/// What a lease has done may be done in the whole store of now.
 pub fn lease_work_stands()
     ensures { LeaseWorkStands }
 {}
@@ -126,7 +132,8 @@ pub fn ordered_runs_are_runs()
     ensures { OrderedRunsAreRuns }
 {}
 
-/// Moves go on where others stopped, in order where both are; the events of all together are those of the first and of the later ones.
+/// Moves may go on after other moves, in order if both are in order. The events of all together are
+/// those of the first and then those of the later ones.
 pub fn runs_go_on()
     ensures { RunsGoOn }
 {}
@@ -136,7 +143,8 @@ pub fn returns_leave_incumbents()
     ensures { ReturnsLeaveIncumbents }
 {}
 
-/// A lease takes the rows of its scope from home, where none of them stays, and the whole store is the same.
+/// A lease takes the rows of its scope from home, and none of them stays there; the whole store is
+/// the same.
 pub fn leasing_keeps_whole()
     ensures { LeasingKeepsWhole }
 {}
@@ -151,7 +159,7 @@ pub fn releasing_keeps_whole()
     ensures { ReleasingKeepsWhole }
 {}
 
-/// What changes no lease and no row leaves each row where it is.
+/// A step that changes no lease and no row leaves each row in its place.
 pub fn others_keep_whole()
     ensures { OthersKeepWhole }
 {}
@@ -171,7 +179,8 @@ pub fn recorded_rows_are_lent()
     ensures { RecordedRowsAreLent }
 {}
 
-/// At the budget's end exactly as many expansions as it allows were made, and an Opened row is left.
+/// At the budget's end exactly as many expansions as the budget allows were made, and an Opened row
+/// is left.
 pub fn budget_ends_are_spent()
     ensures { BudgetEndsAreSpent }
 {}
@@ -181,7 +190,7 @@ pub fn none_out_is_shown()
     ensures { NoneOutIsShown }
 {}
 
-/// With no lease out nobody has told a cost that is still to be shown.
+/// If no lease is out, nobody has told a cost that is still to be shown.
 pub fn none_out_untold()
     ensures { NoneOutUntold }
 {}

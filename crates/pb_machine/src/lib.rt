@@ -1,9 +1,12 @@
-//! The lease machine of a parallel best-first search by blocks: who has leased which block, what is left of the budget,
-//! which blocks are hot, and when the search ends. It is that of Parallel Best-NBlock-First search in its safe form, from Burns,
-//! Lemons, Ruml and Zhou, "Best-First Heuristic Search for Multicore Machines" (Journal of Artificial Intelligence Research 39, 2010),
-//! over structured duplicate detection, from Zhou and Hansen, "Structured Duplicate Detection in External-Memory Graph Search" (2004).
+//! The lease machine of a parallel best-first search by blocks: who has leased which block, what is
+//! left of the budget, which blocks are hot, and when the search ends. It is that of Parallel
+//! Best-NBlock-First search in its safe form, from Burns, Lemons, Ruml and Zhou, "Best-First
+//! Heuristic Search for Multicore Machines" (Journal of Artificial Intelligence Research 39, 2010).
+//! It rests on structured duplicate detection, from Zhou and Hansen, "Structured Duplicate
+//! Detection in External-Memory Graph Search" (2004).
 //!
-//! The definitions are in `specs`. Each law is the contract of a function without a body, whose name says it.
+//! The definitions are in `specs`. Each law is the contract of a function without a body, whose
+//! name says it.
 #![tactic(auto)]
 
 mod event;
