@@ -1,4 +1,5 @@
--- How the edges of a grid's squares are found: along the border of a square in each of the four directions.
+-- How the edges of a grid's squares are found: along the border of a square in each of the four
+-- directions.
 use Rattle.std.specs.Prelude.{ℕ, zero, suc, ◌+◌, ◌-◌, ◌*◌, ◌/◌, ◌%◌, Bool, false, Option, None, Some, ◌==◌, if◌then◌else◌}
 use Rattle.pb_machine.specs.Tables.{any_below}
 use Rattle.pb_task.specs.declared.parts.Class.{Class}
@@ -35,7 +36,8 @@ abbrev pub number_in : (columns : ℕ) → (square : Option (ℕ × ℕ)) → Op
 number_in columns None = None
 number_in columns (Some square) = Some (square.1 * columns + square.0)
 
--- the square beside a square in an action's direction, where a cell on the border between them can be left for the cell beyond it
+-- the square beside a square in an action's direction, if a cell on the border between them can be
+-- left for the cell beyond it
 abbrev pub beyond : GridParts → (side columns block action : ℕ) → Option ℕ
 beyond grid side columns block action =
     if crosses grid side (block % columns) (block / columns) action then number_in columns (cell_beside (block % columns) (block / columns) action) else None

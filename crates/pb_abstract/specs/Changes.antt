@@ -12,7 +12,7 @@ change_of atoms action = record { needs = tracked_set atoms action.needs; adds =
 abbrev pub changes_some : Change → Bool
 changes_some change = not (change.adds == 0 && change.deletes == 0)
 
--- the block that a change leads to from a block, where the atoms that it needs hold there
+-- the block that a change leads to from a block, if the atoms that it needs hold there
 abbrev pub block_after : Change → (block : ℕ) → Option ℕ
 block_after change block =
     if bit_and change.needs block == change.needs then Some (bit_or change.adds (bit_and block (bit_not w32 change.deletes))) else None

@@ -1,6 +1,8 @@
--- The abstract graph of a task, as contracts see it: how states are mapped to blocks, and the scope of each block (R. Zhou and E. A. Hansen,
--- "Structured duplicate detection in external-memory graph search", AAAI 2004), by which several workers share a search (E. Burns, S. Lemons,
--- W. Ruml and R. Zhou, "Best-first heuristic search for multicore machines", Journal of Artificial Intelligence Research 39, 2010).
+-- The abstract graph of a task, as contracts see it: how states are mapped to blocks, and the scope
+-- of each block (R. Zhou and E. A. Hansen, "Structured duplicate detection in external-memory graph
+-- search", AAAI 2004). Several workers share a search by it (E. Burns, S. Lemons, W. Ruml and R.
+-- Zhou, "Best-first heuristic search for multicore machines", Journal of Artificial Intelligence
+-- Research 39, 2010).
 use Rattle.std.specs.Prelude.{◌≡◌, ℕ, ◌<◌, ◌≤◌, Bool, IsTrue, ◌↔◌, ◌⊎◌, ◌==◌, List, [], length, slice_index_or}
 use Rattle.std.specs.List.{list_any}
 use Rattle.pb_machine.specs.Blocks.{Blocks, interferes}
@@ -45,7 +47,8 @@ pub record AreInterference (scopes lists : List (List ℕ)) : Type 0 where
   pub same : length lists ≡ length scopes
   pub each : (block other : ℕ) → block < length scopes → has (slice_index_or lists block []) other ≡ interferes (blocks_in scopes) block other
 
--- It is the graph of a task by its projection, whatever was wished for: the scope of a block is the block and those that an edge leads to from it.
+-- It is the graph of a task by its projection, whatever was wished for. The scope of a block is the
+-- block and those that an edge leads to from it.
 pub record IsGraphOf (parts : TaskParts) (graph : AbstractGraph) : Type 0 where
   pub fits : Fits parts graph.projection
   pub count : (blocks_of graph).count ≡ block_count parts graph.projection

@@ -1,4 +1,5 @@
--- The projection of a task's states to blocks, and the edges between blocks. A further kind of task is one case more of each definition.
+-- The projection of a task's states to blocks, and the edges between blocks. A further kind of task
+-- is one case more of each definition.
 use Rattle.std.specs.Prelude.{◌≡◌, ℕ, ◌^◌, ◌≤◌, length}
 use Rattle.pb_packed.specs.Bits.{bits_of}
 use Rattle.pb_task.specs.declared.parts.TaskParts.{TaskParts}
@@ -28,7 +29,7 @@ Fits (Strips strips) BlankAndOne = ⊥
 Fits (Strips strips) BlankAndTwo = ⊥
 Fits (Strips strips) (Atoms atoms) = AreAtoms strips atoms
 
--- how many blocks there are; 0 where the projection is of another kind
+-- how many blocks there are; 0 if the projection is of another kind
 abbrev pub block_count : TaskParts → Projection → ℕ
 block_count (Grid grid) (Squares side columns) = square_count grid side
 block_count (Grid grid) Blank = 0
@@ -42,7 +43,7 @@ block_count (Strips strips) BlankAndOne = 0
 block_count (Strips strips) BlankAndTwo = 0
 block_count (Strips strips) (Atoms atoms) = 2 ^ length atoms
 
--- the block of a state; 0 where the projection is of another kind
+-- the block of a state; 0 if the projection is of another kind
 abbrev pub block_of : TaskParts → Projection → (state : ℕ) → ℕ
 block_of (Grid grid) (Squares side columns) state = square_of grid side (bits_of state 0 11) (bits_of state 11 11)
 block_of (Grid grid) Blank state = 0
@@ -70,8 +71,8 @@ IsEdge (Strips strips) BlankAndOne block other = ⊥
 IsEdge (Strips strips) BlankAndTwo block other = ⊥
 IsEdge (Strips strips) (Atoms atoms) block other = IsTrackedEdge strips atoms block other
 
--- It is the finest projection that has at most `wish` blocks: the least side of squares, the most tiles that are followed, or
--- the most atoms that are tracked.
+-- It is the finest projection that has at most `wish` blocks: the least side of squares, the most
+-- tiles that are followed, or the most atoms that are tracked.
 abbrev pub IsFinest : TaskParts → (wish : ℕ) → Projection → Type 0
 IsFinest (Grid grid) wish (Squares side columns) = IsLeastSide grid wish side × (columns ≡ column_count grid side)
 IsFinest (Grid grid) wish Blank = ⊥

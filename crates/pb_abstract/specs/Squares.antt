@@ -1,14 +1,16 @@
--- Blocks of a grid: the map is cut into squares, row by row from the upper left one on, and the cells of a square are one block.
+-- Blocks of a grid: the map is cut into squares, row by row from the upper left one on, and the
+-- cells of a square are one block.
 use Rattle.std.specs.Prelude.{◌≡◌, ℕ, ◌+◌, ◌*◌, ◌/◌, ◌<◌, ◌≤◌, true, Some}
 use Rattle.std.specs.Int.{div_ceil}
 use Rattle.pb_task.specs.declared.parts.GridParts.{GridParts}
 use Rattle.pb_task.specs.Grid.{class_at, are_connected, cell_beside}
 
--- how many squares stand side by side, where each side has this many cells
+-- how many squares are side by side, if each side has this many cells
 abbrev pub column_count : GridParts → (side : ℕ) → ℕ
 column_count grid side = div_ceil grid.width side
 
--- how many squares there are, where each side has this many cells; at the right and at the lower end they may be cut off
+-- how many squares there are, if each side has this many cells; at the right and at the lower end a
+-- square may be cut off
 abbrev pub square_count : GridParts → (side : ℕ) → ℕ
 square_count grid side = column_count grid side * div_ceil grid.height side
 
@@ -16,7 +18,8 @@ square_count grid side = column_count grid side * div_ceil grid.height side
 abbrev pub square_of : GridParts → (side x y : ℕ) → ℕ
 square_of grid side x y = (y / side) * column_count grid side + x / side
 
--- Two cells that lie side by side and are both land or both water: the one in the one square, the other in the other.
+-- Two cells that lie side by side and are both land or both water: the one in the one square, the
+-- other in the other.
 pub record IsSquareEdge (grid : GridParts) (side block other : ℕ) : Type 0 where
   pub x : ℕ
   pub y : ℕ

@@ -1,5 +1,6 @@
--- Blocks of STRIPS tasks: the states in which the same of a few tracked atoms hold. Tracked are the atoms that the fewest actions change. The
--- abstract graph is the task itself with all other atoms left out, as in R. Zhou and E. A. Hansen, "Domain-independent structured duplicate
+-- Blocks of STRIPS tasks: the states in which the same of a few tracked atoms hold. The tracked
+-- atoms are those that the fewest actions change. The abstract graph is the task itself with all
+-- other atoms left out, as in R. Zhou and E. A. Hansen, "Domain-independent structured duplicate
 -- detection" (AAAI 2006).
 use Rattle.std.specs.Prelude.{◌≢◌, ℕ, suc, ◌+◌, ◌*◌, ◌^◌, ◌<◌, ◌≤◌, Bool, IsTrue, List, [], ◌∷◌, length, map, All, ◌⊎◌, ◌==◌, ◌&&◌, ◌||◌, nat_lt}
 use Rattle.pb_packed.specs.Bits.{bit_number}
@@ -29,13 +30,14 @@ abbrev pub comes_before : StripsParts → (one other : ℕ) → Bool
 comes_before strips one other =
     nat_lt (changers one strips.actions) (changers other strips.actions) || (changers one strips.actions == changers other strips.actions && nat_lt one other)
 
--- each atom of the list comes before all that stand later
+-- each atom of the list comes before all later ones
 abbrev pub AreInOrder : StripsParts → List ℕ → Type 0
 AreInOrder strips [] = Unit {0}
 AreInOrder strips (atom ∷ atoms) = All (λ other. IsTrue (comes_before strips atom other)) atoms × AreInOrder strips atoms
 
--- They are changed atoms in order, each of them comes before every other changed atom, and they are as many as there can be: with one more there would
--- be more than `wish` blocks, or all that are changed are tracked.
+-- The tracked atoms are changed atoms in order, and each of them comes before every other changed
+-- atom. They are as many as there can be: one more would make more than `wish` blocks, or all
+-- changed atoms are tracked.
 pub record AreTracked (strips : StripsParts) (wish : ℕ) (atoms : List ℕ) : Type 0 where
   pub changed : All (λ atom. IsTrue (is_changed strips atom)) atoms
   pub order : AreInOrder strips atoms

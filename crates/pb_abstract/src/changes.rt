@@ -12,14 +12,15 @@ use crate::tracked::TrackedAtoms;
 use pb_task::{GroundAction, StripsParts};
 use std::alloc::{AllocError, Global};
 
-/// Which of the tracked atoms an action needs, adds and deletes: of each set the first tracked atom is the least bit.
+/// Which of the tracked atoms an action needs, adds and deletes: in each set the first tracked atom
+/// is the least bit.
 #[derive(Clone, Copy, PartialEq, Eq, PartialOrd, Ord)]
 pub struct Change {
     /// Those that must hold before it.
     pub needs: u32,
     /// Those that hold after it.
     pub adds: u32,
-    /// Those that don't hold after it, but for those that it adds.
+    /// The tracked atoms that the action deletes; those that it also adds hold after it.
     pub deletes: u32,
 }
 
@@ -34,7 +35,7 @@ fn change_of(atoms: &TrackedAtoms, action: &GroundAction) -> Change
     }
 }
 
-// The block that a change leads to from a block. None where an atom that it needs doesn't hold there.
+// The block that a change leads to from a block. None if an atom that it needs doesn't hold there.
 fn block_after(change: &Change, block: u32) -> Option<u32>
     ensures { result ≡ block_after change.now block }
 {

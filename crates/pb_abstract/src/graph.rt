@@ -14,8 +14,8 @@ use pb_task::{Task, TaskParts};
 use std::alloc::{AllocError, Global};
 use std::marker::Model;
 
-/// The abstract graph of a task: its blocks, and for each the blocks of its scope and those that interfere with it. Contracts see the
-/// projection and the scopes.
+/// The abstract graph of a task: its blocks, and for each the blocks of its scope and those that
+/// interfere with it. Contracts see the projection and the scopes.
 #[derive(Drop)]
 pub struct AbsGraph {
     projection: Projection,
@@ -34,7 +34,8 @@ impl Model for AbsGraph {
 }
 
 impl AbsGraph {
-    /// The graph of a task by the finest of its projections that has at most `wish` blocks. All the memory that it uses is taken here.
+    /// The graph of a task by the finest of its projections that has at most `wish` blocks. All the
+    /// memory that it uses is taken here.
     pub fn of(alloc: Global, task: &Task, wish: u32) -> Result<AbsGraph, AllocError>
         requires least { 16 ≤ wish }
         requires greatest { wish ≤ 4096 }

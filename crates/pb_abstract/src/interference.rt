@@ -63,7 +63,8 @@ fn without(numbers: Vec<u32>, block: u32) -> Vec<u32>
     numbers
 }
 
-/// For each block, in order of their numbers, the blocks that interfere with it: the others whose scope has a block in common with its own.
+/// For each block, in order of their numbers, the blocks that interfere with it: the others whose
+/// scope has a block in common with its own.
 pub fn interference(alloc: Global, scopes: &[BlockList]) -> Result<Vec<BlockList>, AllocError>
     requires known { AreKnown scopes.now }
     requires few { length scopes.now ≤ 4096 }

@@ -5,7 +5,8 @@ pub fn abstract_graphs_are_blocks()
     ensures { AbstractGraphsAreBlocks }
 {}
 
-/// An edge leads from one block to another exactly where some state of the one has a successor in the other.
+/// An edge leads from one block to another exactly if some state of the one has a successor in the
+/// other.
 pub fn edges_are_steps()
     ensures { EdgesAreSteps }
 {}

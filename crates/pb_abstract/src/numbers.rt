@@ -4,7 +4,7 @@ ghost use Rattle.pb_abstract.specs.Placings.{IsPlacing, placing_count, placing_n
 use crate::placing::Placing;
 use crate::projection::Projection;
 
-/// How many placings a projection of boards tells apart.
+/// How many placings a projection of boards has.
 pub fn placing_count(count: u32, projection: Projection) -> u32
     requires some { 2 ≤ count }
     requires few { count ≤ 16 }
@@ -52,7 +52,7 @@ fn rank_beside_two(taken: u32, other: u32, cell: u32) -> u32
     cell - (u32::from(taken < cell) + u32::from(other < cell))
 }
 
-/// The block of a placing, where a board has `count` cells.
+/// The block of a placing on a board of `count` cells.
 pub fn placing_number(count: u32, projection: Projection, placing: &Placing) -> u32
     requires some { 2 ≤ count }
     requires few { count ≤ 16 }

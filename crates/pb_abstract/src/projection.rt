@@ -7,7 +7,7 @@ pub enum Projection {
     Squares {
         /// How many cells a side of a square has.
         side: u32,
-        /// How many squares stand side by side.
+        /// How many squares are side by side.
         columns: u32,
     },
     /// For tiles: by the blank's cell.

@@ -14,7 +14,7 @@ use std::alloc::{AllocError, Global};
 // How many bits of a state hold its two coordinates.
 const BITS: u32 = 22;
 
-// How many columns, or rows, of cells a state can tell apart.
+// How many columns, or rows, of cells a state can distinguish.
 const SIDE: u32 = 2048;
 
 /// How many squares with this side there are.
@@ -40,7 +40,7 @@ pub fn least_side(grid: &GridParts, wish: u32) -> u32
     side
 }
 
-/// The square that the cell of a state lies in, where so many squares stand side by side.
+/// The square that has the cell of a state, if `columns` squares are side by side.
 pub fn square(grid: &GridParts, side: u32, columns: u32, state: &Packed) -> u32
     requires grid { IsGrid grid.now }
     requires side { 1 ≤ side }
@@ -100,7 +100,8 @@ fn crosses(grid: &GridParts, side: u32, column: u32, row: u32, action: u32) -> b
     false
 }
 
-// The square beside a square in the action's direction, where a cell on the border between them can be left for the cell beyond it.
+// The square beside a square in the action's direction, if a cell on the border between them can be
+// left for the cell beyond it.
 fn beyond(grid: &GridParts, side: u32, block: u32, action: u32) -> Option<u32>
     requires grid { IsGrid grid.now }
     requires side { 1 ≤ side }

@@ -17,7 +17,7 @@ const BITS: u32 = 4;
 // How many numbers a state can have in a cell.
 const NUMBERS: usize = 16;
 
-// The cell of a tile after the blank moved: that of the blank before, where the two met.
+// The cell of a tile after the blank moved: the blank's old cell if the two met.
 fn tile_after(blank: u32, to: u32, tile: u32) -> u32
     ensures { result ≡ tile_after blank to tile }
 {
@@ -89,7 +89,7 @@ pub fn scopes(
     Ok(scopes)
 }
 
-// The cell of each number of a board, where the number in cell i is the one in the bits 4i to 4i+3.
+// The cell of each number of a board, whose cell i has the number in the bits 4i to 4i+3.
 fn cells_of(board: u64, count: u32) -> [u8; NUMBERS]
     requires few { count ≤ 16 }
     requires board { IsTrue (is_board count (board_of count board)) }

@@ -40,7 +40,7 @@ impl TrackedAtoms {
         }
     }
 
-    /// Adds an atom behind the others.
+    /// Adds an atom after the others.
     pub fn push(&mut self, atom: u8)
         requires { length self.old < 12 }
         ensures { self.new ≡ self.old ++ atom ∷ [] }

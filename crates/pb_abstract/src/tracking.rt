@@ -75,8 +75,9 @@ fn better(counts: &[u32], tracked: &TrackedAtoms, atom: u8, best: Option<u8>) ->
     }
 }
 
-// The atom to be tracked next: of those that some action changes, and that aren't tracked yet, the one that the fewest change, and of several
-// the least. None where there is none.
+// The atom to be tracked next, or None if there is none. Of the atoms that some action changes, and
+// that aren't tracked yet, it is the one that the fewest actions change. Of several such atoms it
+// is the least.
 fn next(counts: &[u32], tracked: &TrackedAtoms) -> Option<u8>
     requires { length counts.now ≤ 256 }
     ensures next { IfSome result (IsNext counts.now tracked.now) }
@@ -89,7 +90,7 @@ fn next(counts: &[u32], tracked: &TrackedAtoms) -> Option<u8>
     best
 }
 
-/// The atoms that are tracked where at most so many blocks are wished for.
+/// The atoms that are tracked for a wish of at most so many blocks.
 pub fn choose_atoms(
     alloc: Global,
     strips: &StripsParts,

@@ -10,10 +10,10 @@ use Rattle.pb_lists.specs.Bundle.{Content, row_of, put}
 use Rattle.pb_bundles.specs.Parts.{rows_in}
 
 pub record HomeTable : Type 0 where
-  pub bundles : List (Option Content)  -- by block: the content of its bundle, or none where the bundle is away
-  pub keys : List (Option Key)  -- by block: the key of its first Opened row as it was noted last, or none where no row was Opened
+  pub bundles : List (Option Content)  -- by block: its bundle, or none if that is away
+  pub keys : List (Option Key)  -- by block: the key of its first Opened row when last noted
 
--- the content of the block's bundle, or none where the bundle isn't at home
+-- the content of the block's bundle, or none if the bundle isn't at home
 abbrev pub content_at : HomeTable → (block : ℕ) → Option Content
 content_at table block = get_or table.bundles block None
 

@@ -25,12 +25,13 @@ use Rattle.pb_bundles.specs.Stores.{store_of, HasKeys, TakesRows, BringsRows}
 
 -- ---- the choice by keys is that by rows
 
--- Where the keys are those of a store, the one block is better by them exactly where it is by its rows.
+-- If the keys are those of a store, the one block is better by them exactly if it is better by its
+-- rows.
 abbrev pub BettersAreByKey : Type 0
 BettersAreByKey = (store : Store) (keys : ℕ → Option Key) → HasKeys store keys → (block other : ℕ) → IsBetterBy keys block other ↔ IsBetter store block other
 
--- A block has a key exactly where a row of it is Opened; so some block has one exactly where some row is Opened, and else the store is
--- quiet.
+-- A block has a key exactly if a row of it is Opened. So some block has a key exactly if some row
+-- is Opened, and else the store is quiet.
 abbrev pub OpenedIsByKey : Type 0
 OpenedIsByKey =
     (store : Store) (keys : ℕ → Option Key) → HasKeys store keys
@@ -38,15 +39,16 @@ OpenedIsByKey =
     × (((block : ℕ) × IsSome (keys block)) ↔ ((block : ℕ) × HasOpened (store.rows block)))
     × ((((block : ℕ) × IsSome (keys block)) → ⊥) ↔ IsQuiet store)
 
--- The rival of a block by the keys is its rival, where those are near that interfere with it.
+-- The rival of a block by the keys is its rival, if the blocks near are those that interfere with
+-- it.
 abbrev pub RivalsAreByKey : Type 0
 RivalsAreByKey =
     (blocks : Blocks) (store : Store) (keys : ℕ → Option Key) (near : ℕ → Bool) (block : ℕ) (rival : Option ℕ) → HasKeys store keys
     → ((other : ℕ) → near other ≡ interferes blocks block other) → ((other : ℕ) → IsTrue (near other) → other < blocks.count)
     → IsRivalBy near keys block rival ↔ IsRival blocks store block rival
 
--- The best block by the keys of those that pass is the first choice, where exactly those pass that may be leased but for their rows; and
--- where there is none, no block may be leased.
+-- Let exactly those blocks pass that may be leased, apart from their rows. Then the best of them by
+-- the keys is the first choice. If there is none, no block may be leased.
 abbrev pub FirstChoicesAreByKey : Type 0
 FirstChoicesAreByKey =
     (blocks : Blocks) (settings : Settings) (counts : Counts) (store : Store) (keys : ℕ → Option Key) (pass : ℕ → Bool) → HasKeys store keys
@@ -65,15 +67,15 @@ HomeKeysAreBest =
     → content.weight ≡ store.weight → ((state : ℕ) → store.rows block state ≡ home_rows table block state)
     → IsBest store.weight (store.rows block) (key_at table block)
 
--- Where all blocks are at home, at one weight, the keys are those of the rows at home.
+-- If all blocks are at home, at one weight, the keys are those of the rows at home.
 abbrev pub KeysAtHomeAreBest : Type 0
 KeysAtHomeAreBest =
     (table : HomeTable) (incumbent : Option ℕ) (weight : Weight) → length table.keys ≡ length table.bundles → AreNoted table
     → ((block : ℕ) → block < length table.bundles → (content : Content) × (content_at table block ≡ Some content) × (content.weight ≡ weight))
     → HasKeys (store_of (home_rows table) incumbent weight) (key_at table)
 
--- Homes of one weight without a row, of which the block of the start was offered the start, have the rows of the opening store, and all
--- blocks are at home at that weight.
+-- Let homes of one weight have no row, except that the block of the start was offered the start.
+-- They then have the rows of the opening store, and all blocks are at home at that weight.
 abbrev pub OpeningRowsAreHome : Type 0
 OpeningRowsAreHome =
     (space : Space) (guide : Guide) (weight : Weight) (count : ℕ) (table : HomeTable) → guide.home space.start < count
@@ -81,7 +83,8 @@ OpeningRowsAreHome =
     → ((home state : ℕ) → home_rows table home state ≡ (opening_store space guide weight).rows home state)
     × ((block : ℕ) → block < count → (content : Content) × (content_at table block ≡ Some content) × (content.weight ≡ weight))
 
--- Where the keys were those of a store, and those of some bundles are noted anew, they are those of the store with these bundles' rows.
+-- If the keys were those of a store, and those of some bundles are noted anew, the keys are those
+-- of the store with these bundles' rows.
 abbrev pub NotedKeysAreBest : Type 0
 NotedKeysAreBest =
     (store worked : Store) (scope : ℕ → Bool) (parts : List (ℕ × Content)) (old new : List (Option Key)) → HasKeys store (λ block. get_or old block None)
@@ -101,7 +104,8 @@ MovesTakeRows =
     (list : List ℕ) (scope : ℕ → Bool) (old new : HomeTable) → ((block : ℕ) → is_among list block ≡ scope block) → new.bundles ≡ vacated list old.bundles
     → TakesRows scope (home_rows old) (home_rows new) (away_rows (moved list old.bundles))
 
--- Where the bundles of some blocks left home, the places of these blocks are vacant; so what is kept of them may come back.
+-- If the bundles of some blocks left home, the places of these blocks are vacant. What is kept of
+-- them may thus come back.
 abbrev pub TakenPlacesAreVacant : Type 0
 TakenPlacesAreVacant =
     (list : List ℕ) (old new : HomeTable) (parts : List (ℕ × Content)) → ((block : ℕ) → IsTrue (is_among list block) → IsSome (content_at old block))
@@ -115,7 +119,8 @@ MovesBringRows =
     → ((block : ℕ) → is_among (keys_of parts) block ≡ scope block) → new.bundles ≡ put_back parts old.bundles
     → BringsRows scope (home_rows old) (home_rows new) (away_rows parts)
 
--- A change of one bundle that is away changes no other: the blocks stay, in their order, and each has what it had but that one.
+-- A change of one bundle that is away changes no other: the blocks stay, in their order, and each
+-- other block has the same bundle.
 abbrev pub ChangesAreApart : Type 0
 ChangesAreApart =
     (parts : List (ℕ × Content)) (block : ℕ) (content : Content) → IsSome (content_in parts block)

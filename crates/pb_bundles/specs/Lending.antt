@@ -6,6 +6,7 @@ use Rattle.pb_lists.specs.contracts.bundle.Bundle.{the_row as the_bundle}
 use Rattle.pb_bundles.specs.contracts.parts.LentBundles.{the_row as the_parts}
 use Rattle.pb_bundles.specs.Parts.{with_content}
 
--- what is left behind the reference is the content of the block's bundle, and all other parts are as they were
+-- the reference's last value becomes the content of the block's bundle, and all other parts are as
+-- before
 abbrev pub LendsBundle : MutBor (List (ℕ × Content)) → (block : ℕ) → MutBor Content → Fml
 LendsBundle parts block bundle = Lends the_parts the_bundle parts bundle (with_content parts.now block)

@@ -28,13 +28,15 @@ put_back (part ∷ parts) bundles = slice_set (put_back parts bundles) part.0 (S
 abbrev pub IsVacant : List (Option Content) → (block : ℕ) → Type 0
 IsVacant bundles block = (block < length bundles) × (get_or bundles block None ≡ None)
 
--- the key of this content's first Opened row is noted for the block, or that none is Opened; the keys of all other blocks stay
+-- the key of this content's first Opened row is noted for the block, or that none is Opened; the
+-- keys of all other blocks stay
 pub record NotesKey (content : Content) (old new : List (Option Key)) (block : ℕ) : Type 0 where
   pub key : Option Key
   pub best : IsBest content.weight (row_of content) key
   pub set : new ≡ slice_set old block key
 
--- Of each of these blocks the key of the first Opened row is noted, or that none is Opened; the keys of all other blocks stay.
+-- For each of these blocks the key of the first Opened row is noted, or that none is Opened; the
+-- keys of all other blocks stay.
 pub record NotesKeys (parts : List (ℕ × Content)) (old new : List (Option Key)) : Type 0 where
   pub noted : (block : ℕ) (content : Content) → content_in parts block ≡ Some content → IsBest content.weight (row_of content) (get_or new block None)
   pub others : (block : ℕ) → content_in parts block ≡ None → get_or new block None ≡ get_or old block None

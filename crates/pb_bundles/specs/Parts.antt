@@ -1,10 +1,11 @@
--- What a contract sees of bundles that are away from home: each block with the content of its bundle, in the order in which they left.
+-- What a contract sees of bundles that are away from home: each block with the content of its
+-- bundle, in the order in which they left.
 use Rattle.std.specs.Prelude.{ℕ, List, Option, Some, None, nat_eq}
 use Rattle.std.specs.Map.{lookup, set_value}
 use Rattle.pb_model.specs.Store.{Part, Rows}
 use Rattle.pb_lists.specs.Bundle.{Content, row_of}
 
--- the content of the block's bundle, or none where the block isn't among these
+-- the content of the block's bundle, or none if the block isn't among these
 abbrev pub content_in : List (ℕ × Content) → (block : ℕ) → Option Content
 content_in parts block = lookup (nat_eq block) parts
 
@@ -12,7 +13,7 @@ content_in parts block = lookup (nat_eq block) parts
 abbrev pub with_content : List (ℕ × Content) → (block : ℕ) → Content → List (ℕ × Content)
 with_content parts block content = set_value (nat_eq block) parts content
 
--- the rows of a bundle, or no row where there is none
+-- the rows of a bundle, or no row if there is none
 abbrev pub rows_in : Option Content → Part
 rows_in None state = None
 rows_in (Some content) state = row_of content state

@@ -21,7 +21,8 @@ pub record TakesRows (scope : ℕ → Bool) (home left taken : Rows) : Type 0 wh
   pub left_rows : AgreesOn (λ block. not (scope block)) left home
   pub none_left : AreGone scope left
 
--- The rows that were worked on are home again, those of the scope; all others at home are as they were.
+-- The rows that were worked on, those of the scope, are home again. All other rows at home are as
+-- before.
 pub record BringsRows (scope : ℕ → Bool) (home together worked : Rows) : Type 0 where
   pub brought : AgreesOn scope together worked
   pub stays : AgreesOn (λ block. not (scope block)) together home

@@ -1,5 +1,6 @@
--- The tree of winners over the keys that are noted (a tournament: Knuth, The Art of Computer Programming 3, section 5.4.1). Of n blocks
--- the nodes are 1 to 2n - 1: node n + b is the block b, and below n the node i has the better of the nodes 2i and 2i + 1.
+-- The tree of winners over the keys that are noted (a tournament: Knuth, The Art of Computer
+-- Programming 3, section 5.4.1). Of n blocks the nodes are 1 to 2n - 1. Node n + b is the block b.
+-- Below n the node i has the better of the nodes 2i and 2i + 1.
 use Rattle.std.specs.Prelude.{◌≡◌, ℕ, zero, suc, ◌+◌, ◌-◌, ◌*◌, ◌<◌, ◌≤◌, ◌^◌, ◌⊎◌, nat_lt, if◌then◌else◌, Bool, IsTrue, IsSome, List, Option, Some, None, length, get_or}
 use Rattle.pb_model.specs.declared.key.Key.{Key}
 use Rattle.pb_machine.specs.Choice.{ComesBefore}
@@ -41,7 +42,8 @@ abbrev pub IsNotBehind : Option Winner → Winner → Type 0
 IsNotBehind None other = ⊥
 IsNotBehind (Some winner) other = (winner ≡ other) ⊎ IsAhead winner other
 
--- the best of the blocks below the node that pass and have an Opened row, and of the best one so far
+-- the best of the blocks below the node that pass and have an Opened row, and of the best one so
+-- far
 pub record IsBestBelow (test : ℕ → Bool) (keys : List (Option Key)) (at : ℕ) (best result : Option Winner) : Type 0 where
   pub from : (result ≡ best) ⊎ ((block : ℕ) × (block < length keys) × (result ≡ Some (leaf keys block)) × IsTrue (test block) × IsSome (get_or keys block None))
   pub kept : (other : Winner) → IsNotBehind best other → IsNotBehind result other

@@ -17,15 +17,16 @@ impl Homes {
         self.keys.is_any()
     }
 
-    /// Whether the one block is better than the other: by the lesser key, at one key by the lesser number; a block without an Opened row
-    /// comes last.
+    /// Whether the one block is better than the other: by the lesser key, for equal keys by the
+    /// lesser number. A block without an Opened row comes last.
     pub fn is_better(&self, block: u32, other: u32) -> bool
         ensures { IsTrue result ↔ IsBetterBy (key_at self.now) block other }
     {
         comes_before(self.key(block), block, self.key(other), other)
     }
 
-    /// The best of the blocks that pass and have an Opened row, as far as the keys were noted. None exactly where there is no such block.
+    /// The best of the blocks that pass and have an Opened row, as far as the keys were noted. None
+    /// exactly if there is no such block.
     pub fn first_choice<F: Fn(u32) -> bool>(&self, pass: F) -> Option<u32>
         requires { (block : ℕ) → block < length self.now.bundles → F.pre pass block }
         ensures { (test : ℕ → Bool) → ((block : ℕ) (answer : Bool) → block < length self.now.bundles → F.post pass block answer → answer ≡ test block)
@@ -34,7 +35,8 @@ impl Homes {
         self.keys.first(&pass)
     }
 
-    /// The best of the blocks nearby that are better than the block. None exactly where no such block is better.
+    /// The best of the blocks nearby that are better than the block. None exactly if no such block
+    /// is better.
     pub fn rival(&self, block: u32, near: &[u32]) -> Option<u32>
         ensures { IsRivalBy (is_among near.now) (key_at self.now) block result }
     {

@@ -13,8 +13,8 @@ use pb_packed::Packed;
 use std::alloc::{AllocError, Global};
 use std::marker::Model;
 
-/// The rows of a search at home, by block: for each block its bundle, as long as that is at home, and the key of its first Opened row as it
-/// was noted last. Contracts see both by block.
+/// The rows of a search at home, by block: for each block its bundle, as long as that is at home,
+/// and the key of its first Opened row when last noted. Contracts see both by block.
 #[derive(Drop)]
 pub struct Homes {
     pub(crate) bundles: Vec<Option<Bundle>>,
@@ -32,8 +32,8 @@ impl Model for Homes {
 }
 
 impl Homes {
-    /// So many blocks, numbered from 0, each with a bundle without a row, for a search at the weight num / den. An error is want of
-    /// memory.
+    /// So many blocks, numbered from 0, each with a bundle without a row, for a search at the
+    /// weight num / den. An error means out of memory.
     pub fn new(alloc: Global, count: u32, num: u64, den: u64) -> Result<Homes, AllocError>
         requires positive { 1 ≤ den }
         requires at_least_one { den ≤ num }
@@ -65,7 +65,7 @@ impl Homes {
         }
     }
 
-    /// The key of the block's first Opened row as it was noted last, or None where no row was Opened.
+    /// The key of the block's first Opened row when last noted, or None if no row was Opened.
     pub fn key(&self, block: u32) -> Option<Key>
         ensures { result ≡ key_at self.now block }
     {
@@ -83,8 +83,9 @@ impl Homes {
         }
     }
 
-    /// Offers the start of a search its row at the block's bundle, which is at home: of g 0, without a parent. The block's key is noted. An
-    /// error is want of memory, and all is as it was.
+    /// Offers the start of a search its row at the block's bundle, which is at home: of g 0,
+    /// without a parent. The block's key is noted. An error means out of memory, and all is as
+    /// before.
     pub fn offer_start(
         &mut self,
         block: u32,
@@ -104,7 +105,8 @@ impl Homes {
     }
 }
 
-// Offers the start's row to the bundle that is here, and tells the key of the first Opened row then.
+// Offers the start's row to the bundle that is here, and reports the key of the first Opened row
+// after that.
 fn offer_in(
     place: &mut Option<Bundle>,
     start: Packed,

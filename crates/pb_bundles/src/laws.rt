@@ -1,11 +1,13 @@
 ghost use Rattle.pb_bundles.specs.Laws.{BettersAreByKey, OpenedIsByKey, RivalsAreByKey, FirstChoicesAreByKey, HomeKeysAreBest, KeysAtHomeAreBest, OpeningRowsAreHome, NotedKeysAreBest, IncreasingScopesAreDistinct, MovesTakeRows, TakenPlacesAreVacant, MovesBringRows, ChangesAreApart, AwayRowsAreOfBlocks, TakenRowsAreRestricted, BroughtRowsAreMerged, MovesTurnBack};
 
-/// Where the keys are those of a store, the one block is better by them exactly where it is by its rows.
+/// If the keys are those of a store, the one block is better by them exactly if it is better by its
+/// rows.
 pub fn betters_are_by_key()
     ensures { BettersAreByKey }
 {}
 
-/// A block has a key exactly where a row of it is Opened, and the store is quiet exactly where no block has one.
+/// A block has a key exactly if a row of it is Opened, and the store is quiet exactly if no block
+/// has a key.
 pub fn opened_is_by_key()
     ensures { OpenedIsByKey }
 {}
@@ -25,12 +27,12 @@ pub fn home_keys_are_best()
     ensures { HomeKeysAreBest }
 {}
 
-/// Where all blocks are at home, the keys are those of the rows at home.
+/// If all blocks are at home, the keys are those of the rows at home.
 pub fn keys_at_home_are_best()
     ensures { KeysAtHomeAreBest }
 {}
 
-/// Homes without a row, but for the start's, have the rows of the opening store.
+/// Homes without a row, except the start's, have the rows of the opening store.
 pub fn opening_rows_are_home()
     ensures { OpeningRowsAreHome }
 {}

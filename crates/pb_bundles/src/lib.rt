@@ -1,5 +1,6 @@
-//! The rows at home, by block, and the bundles of a duplicate-detection scope (Zhou, Hansen 2004) that are away from home; and the
-//! choice among blocks, best first, by the keys of their rows (Burns, Lemons, Ruml, Zhou 2010).
+//! The rows at home, by block, and the bundles of a duplicate-detection scope (Zhou, Hansen 2004)
+//! that are away from home. Also the choice among blocks, best first, by the keys of their rows
+//! (Burns, Lemons, Ruml, Zhou 2010).
 #![tactic(auto)]
 
 mod choice;

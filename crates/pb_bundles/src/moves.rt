@@ -16,7 +16,8 @@ use indexmap::IndexMap;
 use pb_lists::Bundle;
 
 impl Homes {
-    /// Moves the bundles of these blocks out, each of which is at home. The keys stay noted as they are. It takes no memory.
+    /// Moves the bundles of these blocks out, each of which is at home. The noted keys stay. It
+    /// takes no memory.
     pub fn take_out(&mut self, scope: &[u32], room: BundleRoom) -> LentBundles
         requires home { (block : _) → IsTrue (is_among scope.now block) → IsSome (content_at self.old block) }
         requires distinct { IsDistinct nat_eq scope.now }
@@ -32,8 +33,8 @@ impl Homes {
         LentBundles { bundles }
     }
 
-    /// Moves bundles home, each to its own place, where none is. Their blocks' keys are noted anew. The room that they leave empty is
-    /// answered. It takes no memory.
+    /// Moves bundles home, each to its own place, which is empty. Their blocks' keys are noted
+    /// anew. The answer is the room that they leave empty. It takes no memory.
     pub fn bring_back(&mut self, parts: LentBundles) -> BundleRoom
         requires { (block : _) → IsSome (content_in parts block) → IsVacant self.old.bundles block }
         ensures back { self.new.bundles ≡ put_back parts self.old.bundles }
@@ -70,7 +71,7 @@ fn move_out(bundles: &mut Vec<Option<Bundle>>, scope: &[u32], parts: &mut IndexM
     }
 }
 
-// Moves the bundle of one block behind the others.
+// Moves the bundle of one block after the others.
 fn move_one(bundles: &mut Vec<Option<Bundle>>, block: u32, parts: &mut IndexMap<u32, Bundle>)
     requires home { IsSome (get_or bundles.old.items block None) }
     requires absent { lookup (nat_eq block) parts.old.entries ≡ None }
@@ -122,7 +123,7 @@ fn note_keys(keys: &mut KeyTree, parts: &IndexMap<u32, Bundle>)
     }
 }
 
-// Notes the key of the bundle that stands here.
+// Notes the key of the bundle at this place.
 fn note_one(keys: &mut KeyTree, parts: &IndexMap<u32, Bundle>, at: usize)
     requires within { at < length parts.now.entries }
     requires place { (block : _) (content : Content) → slice_get parts.now.entries at ≡ Some (block, content) → block < length keys.old }

@@ -10,10 +10,11 @@ use pb_lists::Bundle;
 use std::alloc::{AllocError, Global};
 use std::marker::Model;
 
-// Up to so many blocks are looked through one after another.
+// A list of up to this many blocks is looked through one after another.
 const FEW: usize = 8;
 
-/// The bundles of some blocks that are away from home, as those of a lease are: each with its block, in the order in which they left.
+/// The bundles of some blocks that are away from home, as those of a lease are: each with its
+/// block, in the order in which they left.
 #[derive(Drop)]
 pub struct LentBundles {
     pub(crate) bundles: IndexMap<u32, Bundle>,
@@ -46,7 +47,7 @@ impl Model for BundleRoom {
 }
 
 impl BundleRoom {
-    /// Room for at least so many bundles. An error is want of memory.
+    /// Room for at least so many bundles. An error means out of memory.
     pub fn new(alloc: Global, bundles: usize) -> Result<BundleRoom, AllocError>
         ensures { IfOk result (λ room. bundles ≤ room) }
     {
@@ -55,7 +56,7 @@ impl BundleRoom {
         })
     }
 
-    // The same room, made larger if fewer bundles fit. An error is want of memory.
+    // The same room, made larger if fewer bundles fit. An error means out of memory.
     pub(crate) fn enlarge(self, bundles: usize) -> Result<BundleRoom, AllocError>
         ensures room { IfOk result (λ room. bundles ≤ room) }
         ensures fits { bundles ≤ self → IsOk result }
@@ -79,7 +80,8 @@ impl LentBundles {
         }
     }
 
-    /// The bundle of a block that is among these, to be changed: what is done to it is done to this one alone.
+    /// The bundle of a block that is among these, to be changed. A change to it changes no other
+    /// bundle.
     pub fn bundle_mut(&mut self, block: u32) -> &mut Bundle
         requires { IsSome (content_in self.old block) }
         ensures* writes_back { sem 𝓛 (LendsBundle self.entry block result) }
@@ -89,7 +91,8 @@ impl LentBundles {
         self.bundles.pair_mut(at).1
     }
 
-    // Where a block that is among these stands. A few blocks are looked through, which is faster than a hash.
+    // The place of a block that is among these. A few blocks are looked through, which is faster
+    // than a hash.
     fn place(&self, block: u32) -> usize
         requires { IsSome (content_in self.now block) }
         ensures place { position (nat_eq block) (keys_of self.now) ≡ Some result }
@@ -109,7 +112,7 @@ impl LentBundles {
     }
 }
 
-// Where a block first stands in a list.
+// The first place of a block in a list.
 fn find(blocks: &[u32], block: u32) -> Option<usize>
     ensures { result ≡ position (nat_eq block) blocks.now }
 {

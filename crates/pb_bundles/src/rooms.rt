@@ -6,8 +6,8 @@ use crate::parts::BundleRoom;
 use std::alloc::{AllocError, Global};
 use std::marker::Model;
 
-/// Emptied rooms that are kept for bundles that leave later, so that it takes no memory where enough of them fit. Contracts see how
-/// many bundles fit in each, and how many rooms may be kept.
+/// Emptied rooms that are kept for bundles that leave later, so that no memory is taken if enough
+/// of them fit. Contracts see how many bundles fit in each, and how many rooms may be kept.
 #[derive(Drop)]
 pub struct KeptRooms {
     pub(crate) rooms: Vec<BundleRoom>,
@@ -23,7 +23,7 @@ impl Model for KeptRooms {
 }
 
 impl KeptRooms {
-    /// No room yet, and places for so many. An error is want of memory.
+    /// No room yet, and places for `places` rooms. An error means out of memory.
     pub fn new(alloc: Global, places: usize) -> Result<KeptRooms, AllocError>
         ensures empty { IfOk result (λ kept. kept.rooms ≡ []) }
         ensures places { IfOk result (λ kept. kept.places ≡ places) }
@@ -33,8 +33,8 @@ impl KeptRooms {
         })
     }
 
-    /// Room for at least so many bundles: the one that was kept last, or a new one. An error is want of memory; it never comes where so
-    /// many bundles fit in the one that was kept last.
+    /// Room for at least so many bundles: the one that was kept last, or a new one. An error means
+    /// out of memory. It never comes if so many bundles fit in the room that was kept last.
     pub fn take(&mut self, alloc: Global, bundles: usize) -> Result<BundleRoom, AllocError>
         ensures room { IfOk result (λ room. bundles ≤ room) }
         ensures last { (rest : List ℕ) (last : ℕ) → self.old.rooms ≡ rest ++ last ∷ [] → (self.new ≡ record self.old { rooms = rest }) × (bundles ≤ last → IsOk result) }
@@ -45,7 +45,7 @@ impl KeptRooms {
         }
     }
 
-    /// Keeps the room where a place is left, and lets it go else. It takes no memory.
+    /// Keeps the room if a place is left, and else frees it. It takes no memory.
     pub fn keep(&mut self, room: BundleRoom)
         ensures kept { length self.old.rooms < self.old.places → self.new ≡ record self.old { rooms = self.old.rooms ++ room ∷ [] } }
         ensures full { self.old.places ≤ length self.old.rooms → self.new ≡ self.old }

@@ -9,8 +9,8 @@ use pb_model::Key;
 use std::alloc::{AllocError, Global};
 use std::marker::Model;
 
-/// The keys that are noted, by block. Beside them stands a tree of winners, so that the best block is found without a look at all of
-/// them. Contracts see the keys.
+/// The keys that are noted, by block. Beside them is a tree of winners, which finds the best block
+/// without a look at all of them. Contracts see the keys.
 #[derive(Drop)]
 pub struct KeyTree {
     keys: Vec<Option<Key>>,
@@ -30,7 +30,7 @@ impl Model for KeyTree {
 }
 
 impl KeyTree {
-    /// So many blocks, for which no key is noted. An error is want of memory.
+    /// So many blocks, for which no key is noted. An error means out of memory.
     pub fn new(alloc: Global, count: u32) -> Result<KeyTree, AllocError>
         ensures { IfOk result (λ keys. keys ≡ replicate count None) }
     {
@@ -44,7 +44,7 @@ impl KeyTree {
         Ok(KeyTree { keys, winners })
     }
 
-    /// The key that was noted last for the block, or None where it has none.
+    /// The key that was noted last for the block, or None if it has none.
     pub fn get(&self, block: u32) -> Option<Key>
         ensures { result ≡ get_or self.now block None }
     {
@@ -73,8 +73,8 @@ impl KeyTree {
         climb(&self.keys, &mut self.winners, block);
     }
 
-    /// The best of the blocks that pass and have an Opened row. None exactly where there is no such block. It asks of no block that is
-    /// worse than another that passes and was met.
+    /// The best of the blocks that pass and have an Opened row. None exactly if there is no such
+    /// block. No block is tested that is worse than another block that was met and passes.
     pub fn first<F: Fn(u32) -> bool>(&self, pass: &F) -> Option<u32>
         requires { (block : ℕ) → block < length self.now → F.pre pass.now block }
         ensures { (test : ℕ → Bool) → ((block : ℕ) (answer : Bool) → block < length self.now → F.post pass.now block answer → answer ≡ test block)
@@ -90,7 +90,8 @@ impl KeyTree {
     }
 }
 
-// The best of the blocks below the node that pass and have an Opened row, and of the best one so far.
+// The best of the blocks below the node that pass and have an Opened row, and of the best one so
+// far.
 fn best_below<F: Fn(u32) -> bool>(
     keys: &[Option<Key>],
     winners: &[Winner],

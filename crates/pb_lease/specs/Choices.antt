@@ -12,7 +12,8 @@ use Rattle.pb_lease.specs.Leasing.{can_be_leased}
 use Rattle.pb_lease.specs.LeaseValue.{LeaseValue}
 use Rattle.pb_lease.specs.GraphValue.{GraphValue, counts_in}
 
--- it is the best of the blocks that may be leased, by the numbers and by the keys that are noted; or none, and there is no such block
+-- it is the best of the blocks that may be leased, by the numbers and by the noted keys; or it is
+-- none, and there is no such block
 abbrev pub IsChoice : GraphValue → Option ℕ → Type 0
 IsChoice g = IsFirstBy (can_be_leased (blocks g.table) g.table.settings (counts_in g)) (key_at g.homes)
 
@@ -28,17 +29,18 @@ is_out_in g = is_any_out g.table.settings.workers (counts_in g).leases
 abbrev pub IsAnyOpened : GraphValue → Type 0
 IsAnyOpened g = (block : ℕ) × IsSome (key_at g.homes block)
 
--- With no lease out the search ends: quietly where no row is Opened, and else by the budget where nothing is left of it.
+-- If no lease is out, the search ends: quietly if no row is Opened, and else by the budget if
+-- nothing is left of it.
 abbrev pub IsDone : GraphValue → End → Type 0
 IsDone g Quiet = IsAnyOpened g → ⊥
 IsDone g Budget = IsAnyOpened g × (g.table.left ≡ 0)
 IsDone g Memory = ⊥
 
--- the end stands, or it comes now
+-- the search has this end, or comes to it now
 abbrev pub IsOver : GraphValue → End → Type 0
 IsOver g end = (g.table.end ≡ Some end) ⊎ ((g.table.end ≡ None) × IsFalse (is_out_in g) × IsDone g end)
 
--- no end stands, some lease is out, and no block may be leased
+-- the search has not ended, some lease is out, and no block may be leased
 pub record IsToWait (g : GraphValue) : Type 0 where
   pub no_end : g.table.end ≡ None
   pub out : IsTrue (is_out_in g)

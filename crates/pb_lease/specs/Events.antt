@@ -21,10 +21,10 @@ pub record Adds (old new : Table) (events : List Event) : Type 0 where
   pub graph : new.graph ≡ old.graph
   pub settings : new.settings ≡ old.settings
 
--- the end that follows from a report of want of memory, where none stands
+-- the end that follows from an out-of-memory report, if the search has not ended
 abbrev pub ending : (memory : Bool) → Option End → List Event
 ending memory end = if memory && is_none end then Ended Memory ∷ [] else []
 
--- the end that stands then
+-- the end of the search after that
 abbrev pub end_after : (memory : Bool) → Option End → Option End
 end_after memory end = if memory && is_none end then Some Memory else end

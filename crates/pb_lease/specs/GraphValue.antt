@@ -1,4 +1,5 @@
--- What a contract sees of a graph that gives out leases: the task, the numbers of the lease machine, the rows at home, and the incumbent.
+-- What a contract sees of a graph that gives out leases: the task, the numbers of the lease
+-- machine, the rows at home, and the incumbent.
 use Rattle.std.specs.Prelude.{◌≡◌, ℕ, ◌<◌, not, Option, Some, is_some, length}
 use Rattle.pb_machine.specs.Settings.{weight_of}
 use Rattle.pb_machine.specs.Counts.{Counts}
@@ -28,9 +29,9 @@ setup_in g = setup_of g.task g.table.graph g.table.settings 0
 abbrev pub counts_in : GraphValue → Counts
 counts_in g = counts_of g.table
 
--- What is true of every graph: the blocks are those of its task, and the journal is a legal history. Each block has a place and a key that is
--- noted or not. Its bundle is at its place exactly where the block is in no leased scope, and all bundles at home have the weight of the
--- settings.
+-- What is true of every graph. The blocks are those of its task, and the journal is a legal
+-- history. Each block has a place and a key that is noted or not. Its bundle is at its place
+-- exactly if the block is in no leased scope. All bundles at home have the weight of the settings.
 pub record IsLeaseGraph (g : GraphValue) : Type 0 where
   pub is_task : IsTask g.task
   pub graph_of : IsGraphOf g.task g.table.graph
@@ -40,8 +41,8 @@ pub record IsLeaseGraph (g : GraphValue) : Type 0 where
   pub home : (block : ℕ) → block < (blocks g.table).count → is_some (content_at g.homes block) ≡ not (is_away (setup_in g) (counts_in g) block)
   pub weights : (block : ℕ) (content : Content) → content_at g.homes block ≡ Some content → content.weight ≡ weight_of g.table.settings
 
--- The lease is the one that the graph gave to this worker: the graph's grant is the lease's, at the weight of the search, and it has the
--- bundles of its block's scope.
+-- The lease is the one that the graph gave to this worker. The graph's grant is the lease's, at the
+-- weight of the search, and the lease has the bundles of its block's scope.
 pub record IsOfGraph (g : GraphValue) (lease : LeaseValue) : Type 0 where
   pub leased : (counts_in g).leases lease.worker ≡ Some (grant_of lease)
   pub weight : lease.weight ≡ weight_of g.table.settings

@@ -1,4 +1,5 @@
--- What the tables keep: a legal history, the counters beside the sets, and room in the journal for what must not want memory.
+-- What the tables keep: a legal history, the counters beside the sets, and room in the journal for
+-- events that must not fail for lack of memory.
 use Rattle.std.specs.Prelude.{◌≡◌, ℕ, ◌+◌, ◌<◌, ◌≤◌, length, Bool, false, IsTrue, not, if◌then◌else◌, is_none, is_some, List, Option, get_or}
 use Rattle.std.specs.List.{sum_by}
 use Rattle.pb_machine.specs.declared.event.End.{End}
@@ -23,8 +24,8 @@ pub record AreMarks (of : Blocks) (hot : List Bool) (near : List ℕ) : Type 0 w
   pub near_places : length near ≡ of.count
   pub counted : (block : ℕ) → block < of.count → get_or near block 0 ≡ hot_count of (λ other. get_or hot other false) block
 
--- how many events of a worker may still come for which the journal must have room: those of its lease with its return, and its
--- signing off
+-- how many events of a worker may still come for which the journal must have room: those of its
+-- lease with its return, and its signing off
 abbrev pub due_of : Seat → ℕ
 due_of seat = (if is_some seat.grant then seat.room + 1 else 0) + one_if (not seat.signed_off)
 
@@ -36,8 +37,9 @@ due seats end = sum_by due_of seats + one_if (is_none end)
 abbrev pub HasRoomLeft : Table → Type 0
 HasRoomLeft table = rooms table ≡ room_after table.journal
 
--- What holds of the tables, of the counters beside them, of the number of events that are due, and of the room in the journal. Each event
--- stood within the room of its worker's lease, and the seats have the room that the journal leaves.
+-- What holds of the tables, of the counters beside them, of the number of events that are due, and
+-- of the room in the journal. Each event was within the room of its worker's lease, and the seats
+-- have the room that the journal leaves.
 pub record IsKept (table : Table) (busy near : List ℕ) (promised spare : ℕ) : Type 0 where
   pub seats : length table.seats ≡ table.settings.workers
   pub rooms : (worker : ℕ) → (seat_of table.seats worker).room ≤ 63

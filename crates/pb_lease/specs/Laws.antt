@@ -1,5 +1,5 @@
--- The laws of this crate: what the tests by numbers mean for the choice of a block, and that leases stay out. Each is proved, as the contract of
--- the public function that has its name.
+-- The laws of this crate: what the tests by numbers mean for the choice of a block, and that leases
+-- stay out. Each is proved, as the contract of the public function that has its name.
 use Rattle.std.specs.Prelude.{◌≡◌, ℕ, ◌<◌, Bool, ◌==◌, IsTrue, IsFalse, List, Option, None, ◌↔◌}
 use Rattle.pb_model.specs.Store.{Rows, Store, HasOpened}
 use Rattle.pb_machine.specs.declared.event.Event.{Event}
@@ -19,7 +19,7 @@ use Rattle.pb_lease.specs.Choices.{is_out_in}
 use Rattle.pb_lease.specs.Moments.{IsMomentAt, IsMoment, moves_of}
 use Rattle.pb_lease.specs.Leasing.{can_be_leased}
 
--- A block with an Opened row may be leased exactly where it can be, by the numbers.
+-- A block with an Opened row may be leased exactly if it can be, by the numbers.
 abbrev pub OpenedBlocksMayBeLeased : Type 0
 OpenedBlocksMayBeLeased =
     (of : Blocks) (settings : Settings) (counts : Counts) (store : Store) (block : ℕ) → block < of.count → HasOpened (store.rows block)
@@ -32,15 +32,17 @@ NoneOutCanBeLeased =
     → IsFalse (is_any_out settings.workers counts.leases) → counts.end ≡ None → 0 < counts.left
     → IsTrue (can_be_leased of settings counts block)
 
--- While events of other workers come, and while these tell costs, a lease that is out stays so, and its work stays done in turns where it was.
+-- While events of other workers come, and while these tell costs, a lease that is out stays out. If
+-- its work was done in turns, it still is.
 abbrev pub LeasesStayOut : Type 0
 LeasesStayOut =
     (setup : Setup) (greatest_cost : ℕ) (moves : List Move) (machine next : Machine) → IsSetup setup greatest_cost → IsLawful setup machine → Runs setup machine moves next
     → (lease : LeaseValue) (most_broken : ℕ) → AreOfOthers lease.worker moves → (out : IsOut setup machine most_broken lease)
     → (after : IsOut setup next most_broken lease) × (IsInTurns setup machine most_broken lease out → IsInTurns setup next most_broken lease after)
 
--- A lease that was worked on is out at whatever moment the graph is by now, where what the lease was lent with is recorded for its worker and
--- was given to it, and its worker can have read by then what it read. Its work was done in turns where it was so from what was lent.
+-- A lease that was worked on is out at whatever moment the graph is by now, under three conditions:
+-- what it was lent with is recorded for its worker, it was given to the worker, and the worker can
+-- have read by now what it read. Its work was done in turns if it was from what was lent.
 abbrev pub WorkedLeasesAreOut : Type 0
 WorkedLeasesAreOut =
     (g : GraphValue) (recorded : (worker : ℕ) → Rows) (machine : Machine) → IsMomentAt g recorded machine
@@ -51,13 +53,14 @@ WorkedLeasesAreOut =
     → (out : IsOut (setup_in g) machine most_broken lease)
     × (AreLeaseTurns (setup_in g).space (setup_in g).guide work.works (leased_store lent) → IsInTurns (setup_in g) machine most_broken lease out)
 
--- Where a worker tells a cost, the graph is a moment as before, whatever it has as its incumbent.
+-- When a worker tells a cost, the graph is a moment as before, whatever it has as its incumbent.
 abbrev pub TellsKeepMoments : Type 0
 TellsKeepMoments =
     (g : GraphValue) (recorded : (worker : ℕ) → Rows) (machine next : Machine) (worker cost : ℕ) → IsLeaseGraph g → IsMomentAt g recorded machine
     → Moves (setup_in g) machine (tell_move worker cost) next → IsMomentAt g recorded next
 
--- With no lease out a graph that has its machine's incumbent has nothing that was told and is still to be shown.
+-- If no lease is out, a graph that has its machine's incumbent has no told cost that is still to be
+-- shown.
 abbrev pub NoneOutIsMoment : Type 0
 NoneOutIsMoment =
     (g : GraphValue) (recorded : (worker : ℕ) → Rows) (machine : Machine) → IsMomentAt g recorded machine → IsFalse (is_out_in g)

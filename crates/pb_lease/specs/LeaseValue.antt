@@ -6,8 +6,9 @@ use Rattle.pb_model.specs.Store.{Store, AtMost}
 use Rattle.pb_lists.specs.Bundle.{Content}
 use Rattle.pb_bundles.specs.Parts.{content_in, with_content, away_rows}
 
--- The worker that has it, the block that it is of, how many expansions it may make and has made, the least cost at which a goal is
--- known to be reached, or none, the weight of the search, and the bundles of the block's scope.
+-- The worker that has the lease, its block, how many expansions it may make and has made, the least
+-- cost at which a goal is known to be reached, or none, the weight of the search, and the bundles
+-- of the block's scope.
 pub record LeaseValue : Type 0 where
   pub worker : ℕ
   pub block : ℕ
@@ -35,8 +36,8 @@ pub record IsLease (lease : LeaseValue) : Type 0 where
   pub within : lease.used ≤ lease.quota
   pub few : lease.quota ≤ 2 ^ 20
 
--- It is a lease of the same block for the same worker, with the same quota and weight and with bundles of the same blocks. The
--- incumbent is no greater.
+-- It is a lease of the same block for the same worker, with the same quota and weight and with
+-- bundles of the same blocks. The incumbent is no greater.
 pub record IsSameLease (old new : LeaseValue) : Type 0 where
   pub worker : new.worker ≡ old.worker
   pub block : new.block ≡ old.block

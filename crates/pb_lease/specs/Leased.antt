@@ -25,8 +25,8 @@ setup_of task graph settings reopenings =
 abbrev pub grant_of : LeaseValue → Grant
 grant_of lease = record { block = lease.block; quota = lease.quota }
 
--- The lease is out in this machine, and its rows come from those that it was given or last renewed with by exactly the expansions that it
--- counts, and by at most this many that were broken off.
+-- The lease is out in this machine. Its rows come from those that it was given or last renewed with
+-- by exactly the expansions that it counts, and by at most this many that were broken off.
 pub record IsOut (setup : Setup) (machine : Machine) (most_broken : ℕ) (lease : LeaseValue) : Type 0 where
   pub leased : machine.counts.leases lease.worker ≡ Some (grant_of lease)
   pub work : HasWorked setup machine lease.worker (grant_of lease) lease.used most_broken (leased_store lease)

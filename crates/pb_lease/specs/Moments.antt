@@ -11,9 +11,10 @@ use Rattle.pb_bundles.specs.Stores.{HasKeys}
 use Rattle.pb_lease.specs.LeaseValue.{LeaseValue, leased_store}
 use Rattle.pb_lease.specs.GraphValue.{GraphValue, setup_in, counts_in}
 
--- The graph, with the rows that are recorded for the leases that are out, is this lawful moment of the machine: it has its counts, the whole
--- store has the rows at home and those that are recorded, and the keys that are noted are those of the whole store. Each worker can have
--- read the graph's incumbent; the machine's may be lower by now, since workers tell costs.
+-- The graph, with the rows that are recorded for the leases that are out, is this lawful moment of
+-- the machine. It has the machine's counts, the whole store has the rows at home and those that are
+-- recorded, and the noted keys are those of the whole store. Each worker can have read the graph's
+-- incumbent; the machine's may be lower by now, since workers tell costs.
 pub record IsMomentAt (g : GraphValue) (recorded : (worker : ℕ) → Rows) (machine : Machine) : Type 0 where
   pub lawful : IsLawful (setup_in g) machine
   pub counts : machine.counts ≡ counts_in g
@@ -21,7 +22,8 @@ pub record IsMomentAt (g : GraphValue) (recorded : (worker : ℕ) → Rows) (mac
   pub keys : HasKeys machine.store (key_at g.homes)
   pub incumbent : (worker : ℕ) → IsTrue (machine.known worker g.incumbent)
 
--- The graph is this moment, and its incumbent is the machine's: no worker told a cost that its lease has still to show.
+-- The graph is this moment, and its incumbent is the machine's: no worker told a cost that its
+-- lease has still to show.
 pub record IsMoment (g : GraphValue) (recorded : (worker : ℕ) → Rows) (machine : Machine) : Type 0 where
   pub at : IsMomentAt g recorded machine
   pub incumbent : machine.store.incumbent ≡ g.incumbent
@@ -32,13 +34,15 @@ abbrev pub moves_of : List Event → List Move
 moves_of [] = []
 moves_of (event ∷ events) = event_move event ∷ moves_of events
 
--- From this machine these events lead to one that the new graph is a moment of. It is the same search.
+-- From this machine these events lead to one that the new graph is a moment of. The search is the
+-- same.
 pub record Follows (old : GraphValue) (machine : Machine) (events : List Event) (new : GraphValue) (recorded : (worker : ℕ) → Rows) (next : Machine) : Type 0 where
   pub setup : setup_in new ≡ setup_in old
   pub moves : Runs (setup_in old) machine (moves_of events) next
   pub moment : IsMomentAt new recorded next
 
--- The same, where each of the events is in order, and both graphs have their machine's incumbent.
+-- The same, with each of the events in order, and with both graphs having their machine's
+-- incumbent.
 pub record FollowsInOrder (old : GraphValue) (machine : Machine) (events : List Event) (new : GraphValue) (recorded : (worker : ℕ) → Rows) (next : Machine) : Type 0 where
   pub setup : setup_in new ≡ setup_in old
   pub moves : RunsInOrder (setup_in old) machine (moves_of events) next

@@ -23,9 +23,10 @@ use Rattle.pb_lease.specs.Moments.{IsMomentAt, Follows, ShowsTold, IsKnownThen, 
 
 -- ---- a lease
 
--- The worker has this new lease: of the first choice, with a lot or with all that is left of the budget, with the bundles of the scope,
--- which are no longer at home, with the incumbent and with the search's weight. The lease is the one event, there is room for 63 more of
--- the worker's, and all else is as it was.
+-- The worker has this new lease: of the first choice, with a lot or with all that is left of the
+-- budget, with the incumbent and with the search's weight. The lease has the bundles of the scope,
+-- which are no longer at home. The lease is the one event, there is room for 63 more of the
+-- worker's, and all else is as before.
 pub record IsLeased (old : GraphValue) (worker : ℕ) (lease : LeaseValue) (new : GraphValue) : Type 0 where
   pub first : IsChoice old (Some lease.block)
   pub worker_is : lease.worker ≡ worker
@@ -41,8 +42,9 @@ pub record IsLeased (old : GraphValue) (worker : ℕ) (lease : LeaseValue) (new 
   pub task : new.task ≡ old.task
   pub incumbent : new.incumbent ≡ old.incumbent
 
--- From each moment of the old graph the lease leads to one of the new graph, where what the lease has is recorded for it, and where it
--- has done nothing yet: it has the rows that it was lent. The event is in order.
+-- From each moment of the old graph the lease leads to one of the new graph. What the lease has is
+-- recorded for it there, and it has done nothing yet: it has the rows that it was lent. The event
+-- is in order.
 abbrev pub LeasesNext : (old : GraphValue) → LeaseValue → (new : GraphValue) → Type 0
 LeasesNext old lease new =
     (recorded : (worker : ℕ) → Rows) (machine : Machine) → IsMomentAt old recorded machine
@@ -54,20 +56,20 @@ LeasesNext old lease new =
 
 -- ---- an end
 
--- the event by which the end comes, where none stood
+-- the event of the end, if the search had not ended before
 abbrev pub end_events : Option End → End → List Event
 end_events None end = Ended end ∷ []
 end_events (Some standing) end = []
 
--- the end is the one event, if it didn't stand, and nothing else changed
+-- the end is the one event, if the search had not ended before, and nothing else changed
 pub record IsEnded (old : GraphValue) (end : End) (new : GraphValue) : Type 0 where
   pub standing : old.table.end ≡ Some end → new ≡ old
   pub events : Adds old.table new.table (end_events old.table.end end)
   pub room : rooms new.table ≡ rooms old.table
   pub rest : new ≡ record old { table = new.table }
 
--- From each moment of the old graph these events, which are in order, lead to one of the new graph. No row changes, and the leases that are
--- out stay as they are.
+-- From each moment of the old graph these events, which are in order, lead to one of the new graph.
+-- No row changes, and the leases that are out stay as before.
 abbrev pub KeepsLeases : (old : GraphValue) → List Event → (new : GraphValue) → Type 0
 KeepsLeases old events new =
     (recorded : (worker : ℕ) → Rows) (machine : Machine) → IsMomentAt old recorded machine
@@ -82,8 +84,8 @@ pub record IsMarked (old : GraphValue) (worker : ℕ) (event : Event) (new : Gra
   pub room : rooms new.table ≡ with_entry (rooms old.table) worker (rooms old.table worker - 1)
   pub rest : new ≡ record old { table = new.table }
 
--- The sign-off is the one event, and the end that follows from want of memory where that is reported and no end stood; nothing else
--- changed.
+-- The sign-off is the one event. If out of memory is reported and the search had not ended, the end
+-- that follows is another. Nothing else changed.
 pub record IsSignedOff (old : GraphValue) (worker : ℕ) (trouble : Bool) (new : GraphValue) : Type 0 where
   pub events : Adds old.table new.table (Off worker trouble ∷ ending trouble old.table.end)
   pub room : rooms new.table ≡ rooms old.table
@@ -91,8 +93,9 @@ pub record IsSignedOff (old : GraphValue) (worker : ℕ) (trouble : Bool) (new :
 
 -- ---- a lease that comes back, or goes on
 
--- The lease's bundles are home, their keys are noted, and the incumbent is the lesser of both. The release is the one event, and the
--- end that follows from want of memory where that is reported and no end stood; all else is as it was.
+-- The lease's bundles are home, their keys are noted, and the incumbent is the lesser of both. The
+-- release is the one event. If out of memory is reported and the search had not ended, the end that
+-- follows is another. All else is as before.
 pub record IsReleased (old : GraphValue) (lease : LeaseValue) (trouble : Bool) (new : GraphValue) : Type 0 where
   pub home : (block : ℕ) → content_at new.homes block ≡ option_or (content_in lease.parts block) (content_at old.homes block)
   pub noted : NotesKeys lease.parts old.homes.keys new.homes.keys
@@ -101,9 +104,10 @@ pub record IsReleased (old : GraphValue) (lease : LeaseValue) (trouble : Bool) (
   pub task : new.task ≡ old.task
   pub incumbent : new.incumbent ≡ lesser old.incumbent lease.incumbent
 
--- From each moment of the old graph at which the lease is out, with at most so many expansions broken off, shows what its worker told, and
--- where each worker can then have read the new graph's incumbent, these events lead to one of the new graph. They are in order where the
--- lease has worked in turns.
+-- Take each moment of the old graph at which the lease is out, with at most so many expansions
+-- broken off, and shows what its worker told. If each worker can then have read the new graph's
+-- incumbent, these events lead to a moment of the new graph. They are in order if the lease has
+-- worked in turns.
 abbrev pub ReleasesNext : (old : GraphValue) → LeaseValue → (trouble : Bool) → (new : GraphValue) → Type 0
 ReleasesNext old lease trouble new =
     (recorded : (worker : ℕ) → Rows) (machine : Machine) → IsMomentAt old recorded machine → (out : IsOut (setup_in old) machine (one_if trouble) lease)
@@ -117,8 +121,9 @@ ReleasesNext old lease trouble new =
 abbrev pub renewed_quota : GraphValue → LeaseValue → ℕ
 renewed_quota g lease = min g.table.settings.lot (g.table.left + (lease.quota - lease.used))
 
--- The lease goes on with its bundles, another quota and the lesser incumbent of both, which the graph has too, and the keys of its bundles
--- are noted. The renewal is the one event, and takes one of the worker's room; all else is as it was.
+-- The lease goes on with its bundles, another quota and the lesser incumbent of both, which the
+-- graph has too. The keys of its bundles are noted. The renewal is the one event, and takes one of
+-- the worker's room; all else is as before.
 pub record IsRenewed (old : GraphValue) (lease kept : LeaseValue) (new : GraphValue) : Type 0 where
   pub kept_is : kept ≡ record lease { quota = renewed_quota old lease; used = 0; incumbent = lesser old.incumbent lease.incumbent }
   pub of_graph : IsOfGraph new kept
@@ -129,8 +134,9 @@ pub record IsRenewed (old : GraphValue) (lease kept : LeaseValue) (new : GraphVa
   pub task : new.task ≡ old.task
   pub incumbent : new.incumbent ≡ lesser old.incumbent lease.incumbent
 
--- From each such moment of the old graph the renewal leads to one of the new graph, where what the lease has is recorded for it, and where
--- it has done nothing yet: it has the rows that it is lent again. It is in order where the lease has worked in turns.
+-- From each such moment of the old graph the renewal leads to one of the new graph. What the lease
+-- has is recorded for it there, and it has done nothing yet: it has the rows that it is lent again.
+-- The renewal is in order if the lease has worked in turns.
 abbrev pub RenewsNext : (old : GraphValue) → (lease kept : LeaseValue) → (new : GraphValue) → Type 0
 RenewsNext old lease kept new =
     (recorded : (worker : ℕ) → Rows) (machine : Machine) → IsMomentAt old recorded machine → (out : IsOut (setup_in old) machine 0 lease)
@@ -141,12 +147,14 @@ RenewsNext old lease kept new =
     × (IsInTurns (setup_in old) machine 0 lease out → RunsInOrder (setup_in old) machine (moves_of (Renew lease.worker lease.used kept.quota ∷ [])) next)
     × (leased_store kept ≡ lent_store (setup_in old) kept.block next.store (next.given kept.worker))
 
--- The lease is renewed exactly where, with it home, its block is the first choice, and room is left: else it came back.
+-- The lease is renewed exactly if, with it home, its block is the first choice, and room is left.
+-- Else it came back.
 abbrev pub GoesOn : (old : GraphValue) → LeaseValue → (new : GraphValue) → Type 0
 GoesOn old lease new = IsChoiceWithHome old lease new (Some lease.block) × (0 < rooms old.table lease.worker)
 
--- At each moment of the old graph the lease's block, with the lease home, is the first choice by the keys of the new graph exactly where it is
--- by the rows that the whole store has with the lease's.
+-- At each moment of the old graph, with the lease home, two tests agree: whether the lease's block
+-- is the first choice by the keys of the new graph, and whether it is by the rows of the whole
+-- store with the lease's.
 abbrev pub ChoosesByRows : (old : GraphValue) → LeaseValue → (new : GraphValue) → Type 0
 ChoosesByRows old lease new =
     (recorded : (worker : ℕ) → Rows) (machine : Machine) → IsMomentAt old recorded machine
@@ -156,8 +164,9 @@ ChoosesByRows old lease new =
 
 -- ---- a lease that comes back, and another one at once
 
--- The lease doesn't go on: with it home its block isn't the first choice, or its room is used up. So it comes back, which leaves the graph between,
--- and from there the worker has the next lease, of the first choice. The release and the lease are the two events, each by its own law.
+-- The lease doesn't go on: with it home its block isn't the first choice, or its room is used up.
+-- It comes back, which leaves the graph `between`. From there the worker has the next lease, of the
+-- first choice. The release and the lease are the two events, each by its own law.
 pub record IsSwitched (old : GraphValue) (lease next : LeaseValue) (new : GraphValue) : Type 0 where
   pub between : GraphValue
   pub stays_not : GoesOn old lease between → ⊥
@@ -169,8 +178,8 @@ pub record IsSwitched (old : GraphValue) (lease next : LeaseValue) (new : GraphV
 
 -- ---- a cost that is known before its lease comes back
 
--- At each moment of the old graph at which every worker can have read the cost, the new graph is that moment too, with the same
--- rows recorded.
+-- At each moment of the old graph at which every worker can have read the cost, the new graph is
+-- that moment too, with the same rows recorded.
 abbrev pub TakesBound : (old : GraphValue) → (cost : ℕ) → (new : GraphValue) → Type 0
 TakesBound old cost new =
     (recorded : (worker : ℕ) → Rows) (machine : Machine) → IsMomentAt old recorded machine → ((worker : ℕ) → IsTrue (machine.known worker (Some cost)))

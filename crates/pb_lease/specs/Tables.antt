@@ -1,4 +1,4 @@
--- The tables of the lease machine, and the counts that they stand for.
+-- The tables of the lease machine, and the counts that they represent.
 use Rattle.std.specs.Prelude.{ℕ, Bool, false, List, Option, None, get_or}
 use Rattle.pb_machine.specs.declared.event.End.{End}
 use Rattle.pb_machine.specs.declared.event.Event.{Event}
@@ -30,7 +30,8 @@ seat_of seats worker = get_or seats worker vacant
 abbrev pub blocks : Table → Blocks
 blocks table = blocks_of table.graph
 
--- The counts of the tables. No report of want of memory waits in them, since the end that follows from one comes in the same call.
+-- The counts of the tables. No out-of-memory report waits in them, since the end that follows from
+-- one comes in the same call.
 abbrev pub counts_of : Table → Counts
 counts_of table =
     record {
@@ -43,6 +44,7 @@ counts_of table =
       trouble = false;
     }
 
--- for how many events of each worker there is room in the journal, beside the return of its lease and its signing off
+-- for how many events of each worker there is room in the journal, beside the return of its lease
+-- and its signing off
 abbrev pub rooms : Table → (worker : ℕ) → ℕ
 rooms table worker = (seat_of table.seats worker).room

@@ -6,11 +6,12 @@ use pb_machine::End;
 pub enum LeaseReply {
     /// It has this lease, of the first choice.
     Leased(Lease),
-    /// No end stands, some lease is out, and no block may be leased as things are: the worker asks again when something changed.
+    /// The search has not ended, some lease is out, and no block may be leased now. The worker asks
+    /// again after a change.
     NotYet,
-    /// The search is over: this end stands.
+    /// The search is over, with this end.
     Over(End),
-    /// Want of memory: nothing was leased.
+    /// Out of memory: nothing was leased.
     Memory,
 }
 
@@ -30,6 +31,6 @@ pub enum SwitchReply {
     Kept(Lease),
     /// The lease came back, and its room was used up, or no block may be leased.
     Given,
-    /// The lease came back, and want of memory: no other one was leased.
+    /// The lease came back. Out of memory: no other lease was given.
     Memory,
 }

@@ -8,7 +8,8 @@ ghost use Rattle.pb_lease.specs.Steps.{IsSignedOff, KeepsLeases};
 use crate::graph::LeaseGraph;
 
 impl LeaseGraph {
-    /// The worker signs off: it takes no further part. Where it reports want of memory and no end stands, the search ends by that.
+    /// The worker signs off: it takes no further part. If it reports out of memory and the search
+    /// has not ended, the search ends by that report.
     pub fn sign_off(&mut self, worker: u32, trouble: bool)
         requires worker { worker < self.old.table.settings.workers }
         requires vacant { (counts_in self.old).leases worker ≡ None }

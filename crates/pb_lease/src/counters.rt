@@ -30,7 +30,7 @@ pub fn lower(counters: &mut Vec<u32>, near: &[u32])
     }
 }
 
-/// 1 where the block is among these, and 0 where it isn't.
+/// 1 if the block is among these, and 0 if it isn't.
 pub fn count_of(near: &[u32], block: u32) -> u32
     ensures { result ≡ one_if (has near.now block) }
 {

@@ -12,7 +12,8 @@ use crate::tables::MachineTables;
 use pb_machine::{End, Event};
 
 impl MachineTables {
-    /// The worker signs off. Where it reports want of memory and no end stands, the search ends by that.
+    /// The worker signs off. If it reports out of memory and the search has not ended, the search
+    /// ends by that report.
     pub fn sign_off(&mut self, worker: u32, memory: bool)
         requires worker { worker < self.old.settings.workers }
         requires vacant { (counts_of self.old).leases worker ≡ None }
@@ -56,7 +57,8 @@ impl MachineTables {
     }
 }
 
-/// Where want of memory is reported and no end stands, the search ends by that. The answer is how many events came so.
+/// If out of memory is reported and the search has not ended, the search ends by that report. The
+/// answer is how many events this added.
 pub fn end_by_report(memory: bool, end: &mut Option<End>, journal: &mut Vec<Event>) -> usize
     requires room { (memory && is_none end.old) ≡ true → vec_len journal.old < vec_capacity journal.old }
     ensures end { end.new ≡ end_after memory end.old }

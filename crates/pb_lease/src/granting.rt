@@ -18,10 +18,15 @@ use pb_machine::End;
 use std::alloc::AllocError;
 
 impl LeaseGraph {
-    /// The worker asks for a lease. It gets one of the first choice. The search is over exactly where an end stands, or no lease is out and
-    /// no row is Opened, or some row is and nothing is left of the budget; then the end comes now. The worker is to wait exactly where no
-    /// end stands, some lease is out, and no block may be leased; nothing changes then. All memory is taken first: for the list of the
-    /// bundles, and in the journal for 65 events. At want of memory nothing changes either.
+    /// The worker asks for a lease, and gets one of the first choice.
+    ///
+    /// - The search is over exactly if it had ended, or no lease is out and no row is Opened, or no
+    ///   lease is out, some row is Opened and nothing is left of the budget. The end then comes
+    ///   now.
+    /// - The worker is to wait exactly if the search has not ended, some lease is out, and no block
+    ///   may be leased. Nothing changes then.
+    /// - All memory is taken first: for the list of the bundles, and in the journal for 65 events.
+    ///   If it runs out, nothing changes either.
     pub fn lease(&mut self, worker: u32) -> LeaseReply
         requires worker { worker < self.old.table.settings.workers }
         requires vacant { (counts_in self.old).leases worker ≡ None }
@@ -54,7 +59,7 @@ impl LeaseGraph {
         }
     }
 
-    // The first choice, or None where no block may be leased.
+    // The first choice, or None if no block may be leased.
     pub(crate) fn choice(&self) -> Option<u32>
         ensures { IsChoice self.now result }
     {

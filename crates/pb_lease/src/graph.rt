@@ -29,9 +29,10 @@ use std::alloc::{AllocError, Global};
 use std::marker::Model;
 use std::sync::Arc;
 
-/// A search that gives out leases of its blocks: the task and its blocks, the rows at home, the least cost at which a goal is known to be
-/// reached, and the numbers and the journal of the lease machine. Each call that changes it is one event of that machine, or an event and
-/// the end that follows from it.
+/// A search that gives out leases of its blocks: the task and its blocks, the rows at home, the
+/// least cost at which a goal is known to be reached, and the numbers and the journal of the lease
+/// machine. Each call that changes it is one event of that machine, or an event and the end that
+/// follows from the event.
 #[derive(Drop)]
 pub struct LeaseGraph {
     pub(crate) task: Arc<Task>,
@@ -56,9 +57,10 @@ impl Model for LeaseGraph {
 }
 
 impl LeaseGraph {
-    /// The graph of a search that begins: the start alone has a row, which is Opened, nothing is leased, all of the budget is left, no cost
-    /// is known, and the journal is empty. It takes room for all blocks and workers, for every worker's signing off and for one end. The
-    /// estimate is the start's. An error is want of memory.
+    /// The graph of a search that begins. The start alone has a row, which is Opened, nothing is
+    /// leased, all of the budget is left, no cost is known, and the journal is empty. The call
+    /// takes room for all blocks and workers, for every worker's signing off and for one end. The
+    /// estimate is the start's. An error means out of memory.
     pub fn new(
         alloc: Global,
         task: Arc<Task>,
@@ -104,15 +106,15 @@ impl LeaseGraph {
         self.tables.journal()
     }
 
-    /// The end, or None while none stands.
+    /// The end, or None while the search has not ended.
     pub fn end(&self) -> Option<End>
         ensures { result ≡ self.now.table.end }
     {
         self.tables.end()
     }
 
-    /// The least cost at which a goal is known to be reached, in the unit of the task's action costs, as of the leases that came back or
-    /// were renewed. None where no cost is known.
+    /// The least cost at which a goal is known to be reached, in the unit of the task's action
+    /// costs, as of the leases that came back or were renewed. None if no cost is known.
     pub fn incumbent(&self) -> Option<u64>
         ensures { result ≡ self.now.incumbent }
     {
@@ -135,8 +137,8 @@ impl LeaseGraph {
         self.tables.graph()
     }
 
-    /// For how many more events of the worker there is room in the journal, beside the return of its lease: renewals, hot marks, and marks
-    /// taken away. It is 63 at a lease.
+    /// For how many more events of the worker there is room in the journal, beside the return of
+    /// its lease: renewals, hot marks, and marks taken away. It is 63 for a new lease.
     pub fn room(&self, worker: u32) -> u32
         requires { IsSome ((counts_in self.now).leases worker) }
         ensures { result ≡ rooms self.now.table worker }
@@ -144,7 +146,8 @@ impl LeaseGraph {
         self.tables.room(worker)
     }
 
-    /// The rows of a block, while no lease is out: those of every moment of the search that the graph is one of.
+    /// The rows of a block, while no lease is out: those of every moment of the search that the
+    /// graph is one of.
     pub fn bundle(&self, block: u32) -> &Bundle
         requires home { IsFalse (is_out_in self.now) }
         requires block { block < (blocks self.now.table).count }

@@ -19,8 +19,9 @@ use crate::graph::LeaseGraph;
 use crate::lease::Lease;
 
 impl LeaseGraph {
-    /// The rival of the lease's block: the best block of its interference that is better than it, as the keys were noted when each was
-    /// last home, leased or renewed. None exactly where no such block is better.
+    /// The rival of the lease's block: the best block of its interference that is better than it,
+    /// by the keys that were noted when each block was last home, leased or renewed. None exactly
+    /// if no such block is better.
     pub fn rival(&self, lease: &Lease) -> Option<u32>
         requires { (counts_in self.now).leases lease.now.worker ≡ Some (grant_of lease.now) }
         ensures rival { IsRivalBy (interferes (blocks self.now.table) lease.now.block) (key_at self.now.homes) lease.now.block result }
@@ -30,9 +31,14 @@ impl LeaseGraph {
             .rival(lease.block, self.tables.graph().interference(lease.block))
     }
 
-    /// The worker marks the block hot, so that it becomes free, and the hot blocks of its interference become cold. The answer is false, and
-    /// nothing changes, exactly where an end stands, blocks are never hot, this one is hot, or isn't busy, or a better block of its
-    /// interference is hot, or the worker's room is used up.
+    /// The worker marks the block hot, so that it becomes free, and the hot blocks of its
+    /// interference become cold. The answer is false, and nothing changes, exactly if one of these
+    /// holds:
+    ///
+    /// - The search has ended, or blocks are never hot.
+    /// - The block is hot, or isn't busy.
+    /// - A better block of its interference is hot.
+    /// - The worker's room is used up.
     pub fn mark_hot(&mut self, worker: u32, block: u32) -> bool
         requires leased { IsSome ((counts_in self.old).leases worker) }
         requires block { block < (blocks self.old.table).count }
@@ -45,8 +51,8 @@ impl LeaseGraph {
         self.tables.mark_hot(worker, block, outranked)
     }
 
-    /// The worker takes the block's mark away. The answer is false, and nothing changes, exactly where an end stands, the block isn't hot,
-    /// or the worker's room is used up.
+    /// The worker takes the block's mark away. The answer is false, and nothing changes, exactly if
+    /// the search has ended, the block isn't hot, or the worker's room is used up.
     pub fn cool(&mut self, worker: u32, block: u32) -> bool
         requires leased { IsSome ((counts_in self.old).leases worker) }
         requires block { block < (blocks self.old.table).count }

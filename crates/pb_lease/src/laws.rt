@@ -1,7 +1,8 @@
-//! What the tests by numbers mean for the choice of a block, and that leases stay out. Each law is the contract of a function without a body.
+//! What the tests by numbers mean for the choice of a block, and that leases stay out. Each law is
+//! the contract of a function without a body.
 ghost use Rattle.pb_lease.specs.Laws.{OpenedBlocksMayBeLeased, NoneOutCanBeLeased, LeasesStayOut, WorkedLeasesAreOut, TellsKeepMoments, NoneOutIsMoment, EventsLeaveOthers};
 
-/// A block with an Opened row may be leased exactly where it can be, by the numbers.
+/// A block with an Opened row may be leased exactly if it can be, by the numbers.
 pub fn opened_blocks_may_be_leased()
     ensures { OpenedBlocksMayBeLeased }
 {}
@@ -11,22 +12,25 @@ pub fn none_out_can_be_leased()
     ensures { NoneOutCanBeLeased }
 {}
 
-/// While events of other workers come, and these tell costs, a lease that is out stays so, and its work stays done in turns.
+/// While events of other workers come, and these tell costs, a lease that is out stays out, and its
+/// work stays done in turns.
 pub fn leases_stay_out()
     ensures { LeasesStayOut }
 {}
 
-/// A lease that was worked on is out at whatever moment the graph is by now, where what it was lent with is recorded for its worker.
+/// A lease that was worked on is out at whatever moment the graph is by now, if what it was lent
+/// with is recorded for its worker.
 pub fn worked_leases_are_out()
     ensures { WorkedLeasesAreOut }
 {}
 
-/// Where a worker tells a cost, the graph is a moment as before.
+/// When a worker tells a cost, the graph is a moment as before.
 pub fn tells_keep_moments()
     ensures { TellsKeepMoments }
 {}
 
-/// With no lease out a graph that has its machine's incumbent has nothing that was told and is still to be shown.
+/// If no lease is out, a graph that has its machine's incumbent has no told cost that is still to
+/// be shown.
 pub fn none_out_is_moment()
     ensures { NoneOutIsMoment }
 {}

@@ -9,8 +9,9 @@ use pb_bundles::LentBundles;
 use pb_lists::Bundle;
 use std::marker::Model;
 
-/// The bundles of a block's scope, which a worker has taken to expand rows of the block (structured duplicate detection, Zhou and Hansen
-/// 2004). It goes back to the graph that it came from, and is never dropped.
+/// The bundles of a block's scope, which a worker has taken to expand rows of the block (structured
+/// duplicate detection, Zhou and Hansen 2004). A lease goes back to the graph that it came from,
+/// and is never dropped.
 pub struct Lease {
     pub(crate) worker: u32,
     pub(crate) block: u32,
@@ -80,7 +81,8 @@ impl Lease {
         self.used
     }
 
-    /// The least cost at which a goal is known to be reached, in the unit of the task's action costs. None where no cost is known.
+    /// The least cost at which a goal is known to be reached, in the unit of the task's action
+    /// costs. None if no cost is known.
     pub fn incumbent(&self) -> Option<u64>
         ensures { result ≡ self.now.incumbent }
     {

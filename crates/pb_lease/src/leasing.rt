@@ -29,7 +29,7 @@ impl MachineTables {
         is_any_out(&self.seats)
     }
 
-    /// Whether the block may be leased where it has an Opened row.
+    /// Whether the block may be leased if it has an Opened row.
     pub fn can_be_leased(&self, block: u32) -> bool
         requires { block < (blocks self.now).count }
         ensures { result ≡ can_be_leased (blocks self.now) self.now.settings (counts_of self.now) block }
@@ -42,7 +42,8 @@ impl MachineTables {
         !is_leased(&self.seats, block)
     }
 
-    /// Whether the block could be leased where it has an Opened row, if the worker's lease were home after so many expansions.
+    /// Whether the block, with an Opened row, could be leased if the worker's lease were home after
+    /// so many expansions.
     pub fn can_be_leased_after(&self, worker: u32, used: u64, block: u32) -> bool
         requires block { block < (blocks self.now).count }
         requires leased { IsSome ((counts_of self.now).leases worker) }
@@ -61,8 +62,8 @@ impl MachineTables {
         self.is_clear_without(own.block, block) && !is_leased(&self.seats, block)
     }
 
-    // Whether no leased block but the own one, if that, is in the interference of the block. The interference is looked at only where
-    // the counter doesn't tell.
+    // Whether no leased block except perhaps the worker's own one is in the interference of the
+    // block. The interference is looked at only if the counter doesn't decide.
     fn is_clear_without(&self, own: u32, block: u32) -> bool
         requires own { own < (blocks self.now).count }
         requires block { block < (blocks self.now).count }
@@ -86,8 +87,9 @@ impl MachineTables {
         }
     }
 
-    /// The worker leases the block, with a lot or with all that is left of the budget, and that quota is answered. The journal takes
-    /// room for 65 events first: this one, the return of the lease, and 63 between them. An error is want of memory.
+    /// The worker leases the block, with a lot or with all that is left of the budget. The answer
+    /// is that quota. The journal takes room for 65 events first: this one, the return of the
+    /// lease, and 63 between them. An error means out of memory.
     pub fn lease(&mut self, worker: u32, block: u32) -> Result<u64, AllocError>
         requires worker { worker < self.old.settings.workers }
         requires vacant { (counts_of self.old).leases worker ≡ None }
@@ -117,7 +119,8 @@ impl MachineTables {
         Ok(quota)
     }
 
-    /// The worker's lease is settled and goes on, with a lot or with all that is left of the budget, and that quota is answered.
+    /// The worker's lease is settled and goes on, with a lot or with all that is left of the
+    /// budget. The answer is that quota.
     pub fn renew(&mut self, worker: u32, used: u64) -> u64
         requires free { IsTrue (is_lease_of (can_be_leased (blocks self.old) self.old.settings (counts_with_lease_home (counts_of self.old) worker used)) ((counts_of self.old).leases worker)) }
         requires used { used ≤ quota_of ((counts_of self.old).leases worker) }
@@ -148,8 +151,9 @@ impl MachineTables {
         quota
     }
 
-    /// The worker's lease is settled and comes back, and hot blocks that are busy no longer become cold. Where it reports want of
-    /// memory and no end stands, the search ends by that.
+    /// The worker's lease is settled and comes back, and hot blocks that are no longer busy become
+    /// cold. If the worker reports out of memory and the search has not ended, the search ends by
+    /// that report.
     pub fn release(&mut self, worker: u32, used: u64, memory: bool)
         requires leased { IsSome ((counts_of self.old).leases worker) }
         requires used { used ≤ quota_of ((counts_of self.old).leases worker) }

@@ -1,6 +1,7 @@
-//! The graph of a parallel best-first search, which gives out leases of its blocks (Burns, Lemons, Ruml and Zhou, 2010): the rows at home,
-//! the bundles that leave with a lease and come back, the numbers of the lease machine, its journal, and the counters that are kept beside
-//! them.
+//! The graph of a parallel best-first search, which gives out leases of its blocks (Burns, Lemons,
+//! Ruml and Zhou, 2010). It has the rows at home, the bundles that leave with a lease and come
+//! back, the numbers of the lease machine, its journal, and the counters that are kept beside
+//! these.
 #![tactic(auto)]
 
 mod answer;

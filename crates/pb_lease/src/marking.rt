@@ -11,7 +11,8 @@ use crate::tables::MachineTables;
 use pb_machine::Event;
 
 impl MachineTables {
-    /// Whether the worker may mark the block hot, where the caller tells whether a better block of its interference is hot.
+    /// Whether the worker may mark the block hot. The caller says whether a better block of its
+    /// interference is hot.
     pub fn may_be_marked(&self, worker: u32, block: u32, outranked: bool) -> bool
         requires leased { IsSome ((counts_of self.now).leases worker) }
         requires block { block < (blocks self.now).count }
@@ -36,9 +37,13 @@ impl MachineTables {
         no_end & is_hot & has_room
     }
 
-    /// The worker marks the block hot, and the hot blocks of its interference become cold. The answer is false, and nothing changes,
-    /// exactly where an end stands, blocks are never hot, this one is hot, or isn't busy, or a better block of its interference is hot,
-    /// which the caller tells, or the worker's room is used up.
+    /// The worker marks the block hot, and the hot blocks of its interference become cold. The
+    /// answer is false, and nothing changes, exactly if one of these holds:
+    ///
+    /// - The search has ended, or blocks are never hot.
+    /// - The block is hot, or isn't busy.
+    /// - A better block of its interference is hot, which the caller says.
+    /// - The worker's room is used up.
     pub fn mark_hot(&mut self, worker: u32, block: u32, outranked: bool) -> bool
         requires leased { IsSome ((counts_of self.old).leases worker) }
         requires block { block < (blocks self.old).count }
@@ -63,8 +68,8 @@ impl MachineTables {
         true
     }
 
-    /// The worker takes the block's mark away. The answer is false, and nothing changes, exactly where an end stands, the block isn't hot,
-    /// or the worker's room is used up.
+    /// The worker takes the block's mark away. The answer is false, and nothing changes, exactly if
+    /// the search has ended, the block isn't hot, or the worker's room is used up.
     pub fn cool(&mut self, worker: u32, block: u32) -> bool
         requires leased { IsSome ((counts_of self.old).leases worker) }
         requires block { block < (blocks self.old).count }

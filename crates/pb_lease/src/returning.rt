@@ -17,7 +17,8 @@ use crate::graph::LeaseGraph;
 use crate::lease::Lease;
 
 impl LeaseGraph {
-    /// The worker's lease comes back: its bundles go home. With a report of want of memory the search ends by that, where no end stands.
+    /// The worker's lease comes back: its bundles go home. With an out-of-memory report the search
+    /// ends by that report, if it has not ended.
     pub fn release(&mut self, lease: Lease, trouble: bool)
         requires { IsOfGraph self.old lease }
         ensures released { IsReleased self.old lease trouble self.new }
@@ -38,8 +39,9 @@ impl LeaseGraph {
         self.incumbent = least(self.incumbent, incumbent);
     }
 
-    /// The worker asks to go on with its lease. It does exactly where, with the lease home, its block is the first choice and the room of
-    /// the lease isn't used up, of which that takes one. Else the lease comes back.
+    /// The worker asks to go on with its lease. The lease goes on exactly if, with it home, its
+    /// block is the first choice and its room isn't used up. Going on takes one of the room. Else
+    /// the lease comes back.
     pub fn renew(&mut self, lease: Lease) -> Renewed
         requires { IsOfGraph self.old lease }
         ensures kept { (kept : LeaseValue) → result ≡ Kept kept → GoesOn self.old lease self.new × IsRenewed self.old lease kept self.new }

@@ -9,8 +9,8 @@ use pb_machine::Grant;
 pub struct Seat {
     /// Its lease, or None.
     pub grant: Option<Grant>,
-    /// For how many events there is room in the journal, beside the return of its lease: renewals, hot marks, and marks taken away.
-    /// It is 0 where the worker has no lease.
+    /// For how many events there is room in the journal, beside the return of the worker's lease:
+    /// renewals, hot marks, and marks taken away. It is 0 if the worker has no lease.
     pub room: u32,
     /// Whether it has signed off.
     pub signed_off: bool,

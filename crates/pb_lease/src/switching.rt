@@ -12,9 +12,11 @@ use crate::graph::LeaseGraph;
 use crate::lease::Lease;
 
 impl LeaseGraph {
-    /// The worker asks to go on with its lease, or else with another one. The lease goes on exactly where it would be renewed. Else it comes
-    /// back; and where its room isn't used up, the worker leases the first choice, which the return of the lease leaves. It has no other lease
-    /// then exactly where the room was used up, or no block may be leased, or at want of memory, which is an answer of its own.
+    /// The worker asks to go on with its lease, or else with another one. The lease goes on exactly
+    /// if it would be renewed. Else it comes back. If its room isn't used up, the worker then
+    /// leases the first choice, which the return of the lease leaves. It gets no other lease
+    /// exactly if the room was used up, or no block may be leased, or memory runs out, which is an
+    /// answer of its own.
     pub fn try_switch(&mut self, lease: Lease) -> SwitchReply
         requires { IsOfGraph self.old lease }
         ensures kept { (kept : LeaseValue) → result ≡ Kept kept → GoesOn self.old lease self.new × IsRenewed self.old lease kept self.new }
@@ -38,7 +40,7 @@ impl LeaseGraph {
         }
     }
 
-    // Leases the first choice to the worker, where some block may be leased.
+    // Leases the first choice to the worker, if some block may be leased.
     fn lease_at_once(&mut self, worker: u32) -> SwitchReply
         requires worker { worker < self.old.table.settings.workers }
         requires vacant { (counts_in self.old).leases worker ≡ None }

@@ -16,8 +16,9 @@ use std::alloc::{AllocError, Global};
 use std::marker::Model;
 use std::sync::Arc;
 
-/// The numbers of the lease machine and its journal: who has which lease, what is left of the budget, which blocks are hot, who has
-/// signed off, and every event so far. Each call that changes them adds its events to the journal.
+/// The numbers of the lease machine and its journal: who has which lease, what is left of the
+/// budget, which blocks are hot, who has signed off, and every event so far. Each call that changes
+/// them adds its events to the journal.
 #[derive(Drop)]
 pub struct MachineTables {
     pub(crate) graph: Arc<AbsGraph>,
@@ -30,7 +31,7 @@ pub struct MachineTables {
     pub(crate) left: u64,
     pub(crate) end: Option<End>,
     pub(crate) journal: Vec<Event>,
-    // for how many events that must not want memory the journal has room
+    // for how many events that must not run out of memory the journal has room
     pub(crate) promised: usize,
 }
 
@@ -66,8 +67,9 @@ impl Model for MachineTables {
 }
 
 impl MachineTables {
-    /// Tables of a search that begins: nothing is leased, all of the budget is left, and the journal is empty. It has room for every
-    /// worker's signing off and for one end. An error is want of memory.
+    /// Tables of a search that begins: nothing is leased, all of the budget is left, and the
+    /// journal is empty. They have room for every worker's signing off and for one end. An error
+    /// means out of memory.
     pub fn new(
         alloc: Global,
         graph: Arc<AbsGraph>,
@@ -123,7 +125,7 @@ impl MachineTables {
         &self.journal
     }
 
-    /// The end, or None while none stands.
+    /// The end, or None while the search has not ended.
     pub fn end(&self) -> Option<End>
         ensures { result ≡ self.now.end }
     {
@@ -137,7 +139,8 @@ impl MachineTables {
         self.spent
     }
 
-    /// How many expansions are left of the budget: it is less than that by what was settled, and by the quotas of the leases that are out.
+    /// How many expansions are left of the budget: the budget less those that were settled, and
+    /// less the quotas of the leases that are out.
     pub fn left(&self) -> u64
         ensures { result ≡ self.now.left }
     {
@@ -152,7 +155,8 @@ impl MachineTables {
         self.seats[worker as usize]
     }
 
-    /// For how many events of a worker that has a lease there is room in the journal, beside the return of its lease and its signing off.
+    /// For how many events of a worker that has a lease there is room in the journal, beside the
+    /// return of its lease and its signing off.
     pub fn room(&self, worker: u32) -> u32
         requires { IsSome ((counts_of self.now).leases worker) }
         ensures { result ≡ rooms self.now worker }

@@ -1,6 +1,6 @@
--- The buckets of a bundle: of each sum the estimates and states of Opened rows whose keys have that
--- sum, the least on top. The state of an Opened row is in the bucket of its key's sum, with its
--- key's estimate. A state may stay in a bucket that isn't its row's any more.
+-- The buckets of a bundle, one for each sum. A bucket has the estimates and states of Opened rows
+-- whose keys have that sum, the least on top. The state of an Opened row is in the bucket of its
+-- key's sum, with its key's estimate. A state may stay in a bucket that isn't its row's any more.
 use Rattle.std.specs.Prelude.{◌≡◌, ◌≤◌, ◌<◌, ◌+◌, ◌⊎◌, ◌&&◌, ◌||◌, ℕ, Bool, true, false, Option, None, Some, List, [], ◌∷◌, IfSome, nat_eq, if◌then◌else◌}
 use Rattle.std.specs.List.{list_any}
 use Rattle.std.specs.Ordering.{nat_cmp, ordering_then, is_lt}

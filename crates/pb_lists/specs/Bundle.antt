@@ -1,5 +1,5 @@
--- What a contract sees of a bundle: the rows of one part of a store (the open and closed list of a block), in order of insertion,
--- and the weight of the search.
+-- What a contract sees of a bundle: the rows of one part of a store (the open and closed list of a
+-- block), in order of insertion, and the weight of the search.
 use Rattle.std.specs.Prelude.{◌≡◌, ◌≢◌, ℕ, List, Option, Some, nat_eq}
 use Rattle.std.specs.Map.{lookup}
 use Rattle.indexmap.specs.IndexMap.{insert_entry}

@@ -9,11 +9,13 @@ use Rattle.pb_model.specs.Key.{IsKeyBelow}
 use Rattle.pb_model.specs.KeyOrder.{key_cmp, same_key}
 use Rattle.pb_lists.specs.Bundle.{Content, row_of}
 
--- The comparison of two keys answers Less exactly where the one is below the other, and Equal exactly where they are equal.
+-- The comparison of two keys answers Less exactly if the first is below the second, and Equal
+-- exactly if they are equal.
 abbrev pub KeysAreOrdered : Type 0
 KeysAreOrdered = (key other : Key) → ((key_cmp key other ≡ Less) ↔ IsKeyBelow key other) × ((same_key key other ≡ true) ↔ (key ≡ other))
 
--- Where no state has two entries, as in every bundle, the entries are the states that have a row, with their rows.
+-- If no state has two entries, as in every bundle, the entries are the states that have a row, with
+-- their rows.
 abbrev pub EntriesAreRows : Type 0
 EntriesAreRows =
     (content : Content) → IsDistinct nat_eq (keys_of content.entries)

@@ -11,7 +11,7 @@ parent_of has_parent word = if has_parent then Some word else None
 abbrev pub estimate_of : (is_dead : Bool) (estimate : ℕ) → Estimate
 estimate_of is_dead estimate = if is_dead then Dead else Cost estimate
 
--- the row that a small one stands for
+-- the row that a small one represents
 abbrev pub wide_row : SmallRow → Row
 wide_row small = record {
   g = small.g;
@@ -32,6 +32,6 @@ abbrev pub is_small_estimate : Estimate → Bool
 is_small_estimate (Cost h) = nat_lt h (2 ^ 32)
 is_small_estimate Dead = true
 
--- whether a small row stands for this one
+-- whether a small row can represent this one
 abbrev pub is_small : Row → Bool
 is_small row = nat_lt row.g (2 ^ 32) && (is_small_estimate row.estimate && is_small_parent row.parent)

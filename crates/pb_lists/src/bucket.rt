@@ -11,8 +11,9 @@ use std::alloc::{AllocError, Global};
 use std::cmp::{Ordering, Reverse};
 use std::collections::BinaryHeap;
 
-// The entries at one sum, each an estimate and a state, in two heaps. The least of each, by the
-// estimate and then by the state, is on top. A state whose number fits a word is kept as that word.
+// The entries at one sum, each an estimate and a state, in two heaps. The least entry of each heap,
+// by the estimate and then by the state, is on top. A state whose number fits a word is kept as
+// that word.
 #[derive(Drop)]
 pub(crate) struct Bucket {
     pub(crate) words: BinaryHeap<Reverse<(u64, u64)>>,

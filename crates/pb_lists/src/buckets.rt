@@ -16,7 +16,7 @@ use pb_packed::Packed;
 use std::alloc::{AllocError, Global};
 use std::collections::BTreeMap;
 
-// Of each sum its bucket. A sum stands here as the key with that sum and the estimate 0.
+// For each sum its bucket. The key with that sum and the estimate 0 represents the sum.
 pub(crate) type Buckets = BTreeMap<Key, Bucket>;
 
 // The key of a row with this g and this estimate, at the weight num / den.
@@ -127,8 +127,8 @@ fn is_first(buckets: &Buckets, state: &Packed) -> bool
     }
 }
 
-// Takes what is no longer Opened at its key from the first bucket, until a row that is stands on
-// top, and takes out buckets that become empty.
+// Takes what is no longer Opened at its key from the first bucket, until a row that still is Opened
+// at its key is on top. It takes out buckets that become empty.
 pub(crate) fn tidy(buckets: &mut Buckets, rows: &Rows, num: u64, den: u64)
     requires num { num ≤ 1000 }
     requires den { den ≤ 1000 }
@@ -175,8 +175,8 @@ fn clear_first(buckets: &mut Buckets, rows: &Rows, num: u64, den: u64, sum: &Key
     }
 }
 
-// Takes entries from the top of a bucket until the row of the one on top is Opened at the bucket's
-// sum and the entry's estimate. Answers whether an entry is left.
+// Takes entries from the top of a bucket until the row of the top entry is Opened at the bucket's
+// sum and the entry's estimate. The answer is whether an entry is left.
 fn clear(bucket: &mut Bucket, rows: &Rows, num: u64, den: u64, sum: &Key) -> bool
     requires num { num ≤ 1000 }
     requires den { den ≤ 1000 }

@@ -18,8 +18,8 @@ use std::alloc::{AllocError, Global};
 use std::collections::BTreeMap;
 use std::marker::Model;
 
-/// The rows of one part of a search's store: the open and closed list of a block. Contracts see the states with their rows, in
-/// the order in which the states got one, and the weight of the search.
+/// The rows of one part of a search's store: the open and closed list of a block. Contracts see the
+/// states with their rows, in the order in which the states got one, and the weight of the search.
 #[derive(Drop)]
 pub struct Bundle {
     rows: Rows,
@@ -54,7 +54,7 @@ pub enum Offer {
 }
 
 impl Bundle {
-    /// A bundle without a row, for a search at the weight num / den. An error is want of memory.
+    /// A bundle without a row, for a search at the weight num / den. An error means out of memory.
     pub fn new(alloc: Global, num: u64, den: u64) -> Result<Bundle, AllocError>
         requires positive { 1 ≤ den }
         requires at_least_one { den ≤ num }
@@ -70,7 +70,7 @@ impl Bundle {
         })
     }
 
-    /// The row of a state, or None where it has none.
+    /// The row of a state, or None if it has no row.
     pub fn row(&self, state: &Packed) -> Option<Row>
         ensures { result ≡ row_of self.now state.now }
     {
@@ -93,8 +93,8 @@ impl Bundle {
         self.rows.at(i)
     }
 
-    /// The place of a state's row, at which `at` and `offer_at` find it without a look-up. None where the state has no row. A row
-    /// keeps its place.
+    /// The place of a state's row, at which `at` and `offer_at` find the row without a look-up.
+    /// None if the state has no row. A row keeps its place.
     pub fn place_of(&self, state: &Packed) -> Option<u64>
         ensures some { IfSome result (λ place. (row : _) × (row_of self.now state.now ≡ Some row) × (slice_get self.now.entries place ≡ Some (state.now, row))) }
         ensures within { IfSome result (λ place. place < length self.now.entries) }
@@ -103,7 +103,8 @@ impl Bundle {
         self.rows.place_of(state)
     }
 
-    /// The state of the first Opened row: that of the least key, and at one key that of the least state. None where no row is Opened.
+    /// The state of the first Opened row: that of the least key, and of the least state among equal
+    /// keys. None if no row is Opened.
     pub fn first(&self) -> Option<Packed>
         ensures some { IfSome result (λ state. (row : _) × IsFirstRow self.now.weight (row_of self.now) state row) }
         ensures none { IfNone result (HasOpened (row_of self.now) → ⊥) }
@@ -117,7 +118,7 @@ impl Bundle {
         }
     }
 
-    /// The least key of an Opened row, or None where no row is Opened.
+    /// The least key of an Opened row, or None if no row is Opened.
     pub fn best(&self) -> Option<Key>
         ensures { IsBest self.now.weight (row_of self.now) result }
     {
@@ -130,10 +131,11 @@ impl Bundle {
         }
     }
 
-    /// Offers a state a row with this g, the cost of a walk that comes to it from the parent by the action. A state without a row
-    /// gets this one, Opened. A row with a greater g gets this g, parent and action and is Opened again, whatever its status was
-    /// (Hart, Nilsson, Raphael 1968); its estimate stays. Else nothing changes. An error is want of memory, and the bundle is
-    /// as it was.
+    /// Offers a state a row with this g, the cost of a walk that comes to it from the parent by the
+    /// action. A state without a row gets this one, Opened. A row with a greater g gets this g,
+    /// parent and action and is Opened again, whatever its status was (Hart, Nilsson, Raphael
+    /// 1968); its estimate stays. Else nothing changes. An error means out of memory, and the
+    /// bundle is as before.
     pub fn offer(
         &mut self,
         state: Packed,

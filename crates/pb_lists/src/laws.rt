@@ -1,6 +1,6 @@
 ghost use Rattle.pb_lists.specs.Laws.{KeysAreOrdered, EntriesAreRows};
 
-/// The comparison of two keys tells which comes first.
+/// The comparison of two keys says which comes first.
 pub fn keys_are_ordered()
     ensures { KeysAreOrdered }
 {}

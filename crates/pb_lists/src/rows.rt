@@ -1,4 +1,4 @@
-//! The rows of a bundle by their states, in order of insertion, in few bytes where they fit.
+//! The rows of a bundle by their states, in order of insertion, in few bytes if they fit.
 ghost use Rattle.std.specs.Prelude.{◌≡◌, ◌<◌, ◌^◌, ℕ, true, false, None, Some, [], IsSome, IfOk, IfSome, IfNone, OnOk, nat_eq, map, option_copied, slice_get, length, if◌then◌else◌};
 ghost use Rattle.std.specs.List.{IsDistinct};
 ghost use Rattle.std.specs.Map.{keys_of, lookup};

@@ -41,7 +41,7 @@ impl SmallRow {
         })
     }
 
-    // The row that this one stands for.
+    // The row that this one represents.
     pub(crate) fn row(&self) -> Row
         ensures { result ≡ wide_row self.now }
     {
