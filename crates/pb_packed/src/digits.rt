@@ -15,7 +15,7 @@ fn character(digit: u64) -> u8
     }
 }
 
-// The digit that a character stands for.
+// The digit that a character represents.
 fn digit_of(character: u8) -> Option<u8>
     ensures digit { IfSome result (λ digit. digit < 16) }
     ensures character { IfSome result (λ digit. hex_digit digit ≡ character) }

@@ -1,4 +1,4 @@
--- Where tokens stand in their text.
+-- The places of tokens in their text.
 use Rattle.std.specs.Prelude.{◌≡◌, ◌≤◌, ◌+◌, ◌⊎◌, ℕ, List, [], ◌∷◌, length, take, drop, map}
 use Rattle.pb_pddl.specs.declared.token.TokenKind.TheVariants.{End}
 use Rattle.pb_pddl.specs.declared.token.Token.{Token}

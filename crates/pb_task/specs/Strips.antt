@@ -8,7 +8,7 @@ use Rattle.pb_model.specs.Space.{Space}
 use Rattle.pb_task.specs.declared.parts.GroundAction.{GroundAction}
 use Rattle.pb_task.specs.declared.parts.StripsParts.{StripsParts}
 
--- ---- sets of atoms as numbers: an atom is in the set where the bit of its number is 1
+-- ---- sets of atoms as numbers: an atom is in the set if the bit of its number is 1
 
 abbrev pub has_atom : (set atom : ℕ) → Bool
 has_atom set atom = bits_of set atom 1 == 1

@@ -18,7 +18,7 @@ const SWAMP_COST: u64 = 2;
 // How many bits of a state hold a coordinate.
 const BITS: u32 = 11;
 
-// How many columns these bits can tell apart.
+// How many columns these bits can distinguish.
 const COLUMNS: u64 = 1 << BITS;
 
 /// The state that represents a cell.
