@@ -44,8 +44,8 @@ CostsNeverRise =
 abbrev pub WeightsStay : Type 0
 WeightsStay = (space : Space) (guide : Guide) (works : List Work) (old new : Store) → Comes space guide works old new → reopenings works ≡ 0 → new.weight ≡ old.weight
 
--- The incumbent after some work is at least the g of a goal's row, or that work lowered it to its
--- value, or it was known before.
+-- The incumbent after some work is at least the g of a goal's row, or it was known before.
+-- Otherwise that work lowered the incumbent to its value.
 abbrev pub IncumbentsAreBacked : Type 0
 IncumbentsAreBacked =
     (space : Space) (guide : Guide) (works : List Work) (old new : Store) → Comes space guide works old new
@@ -63,7 +63,7 @@ abbrev pub IncumbentsNeverRise : Type 0
 IncumbentsNeverRise =
     (space : Space) (guide : Guide) (works : List Work) (old new : Store) → Comes space guide works old new → AtMost new.incumbent old.incumbent
 
--- Work can go on after other work, and both together are one piece of work whose counts add up.
+-- Work can go on after other work, and both together are work whose counts add up.
 abbrev pub WorkGoesOn : Type 0
 WorkGoesOn =
     (space : Space) (guide : Guide) (works more : List Work) (old between new : Store) → Comes space guide works old between → Comes space guide more between new
@@ -78,7 +78,7 @@ CostsGrowByWork =
     → CostsAtMost old most → CostsAtMost new (most + greatest_cost * (expansions works + broken_expansions works))
 
 -- Work within a scope is the same work in every store with the same rows there, the same weight,
--- and an incumbent that is no greater. Outside the scope all stays as before.
+-- and no greater incumbent. Outside the scope all stays as before.
 abbrev pub WorkIsLocal : Type 0
 WorkIsLocal =
     (space : Space) (guide : Guide) (scope : ℕ → Bool) (works : List Work) (lent worked store : Store)

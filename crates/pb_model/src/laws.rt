@@ -108,7 +108,7 @@ pub fn incumbents_never_rise()
     ensures { IncumbentsNeverRise }
 {}
 
-/// Work can go on after other work, and both together are one piece of work whose counts add up.
+/// Work can go on after other work, and both together are work whose counts add up.
 pub fn work_goes_on()
     ensures { WorkGoesOn }
 {}

@@ -1,8 +1,8 @@
 use pb_packed::Packed;
 
 /// A lower bound on the cost of every walk from a state to a goal, in the unit of the task's action
-/// costs, or the fact that no walk reaches a goal. This is the heuristic estimate of Hart, Nilsson
-/// and Raphael (1968).
+/// costs. Or else the fact that no walk reaches a goal. This is the heuristic estimate of Hart,
+/// Nilsson and Raphael (1968).
 #[derive(Clone, Copy, Debug, PartialEq, Eq)]
 pub enum Estimate {
     /// No walk to a goal costs less.

@@ -62,8 +62,8 @@ save_calls name pieces = Created name ∷ append_calls name pieces
 abbrev pub HasBytes : List ℕ → Type 0
 HasBytes piece = 1 ≤ length piece
 
--- The calls save pieces that are together this text. Each has a byte, so that there are at most as
--- many as the text has bytes.
+-- The calls save pieces that are together this text. Each piece has a byte, so there are at most as
+-- many pieces as the text has bytes.
 pub record SaveText (calls : List Call) (name text : List ℕ) : Type 0 where
   pub pieces : List (List ℕ)
   pub full : AllByRecursion HasBytes pieces
@@ -71,7 +71,7 @@ pub record SaveText (calls : List Call) (name text : List ℕ) : Type 0 where
   pub text_is : concat pieces ≡ text
 
 -- The calls began to save the text, up to one that failed: so many bytes of a piece were appended,
--- and all before it. Each piece has a byte.
+-- and all pieces before it. Each piece has a byte.
 pub record BreakOff (calls : List Call) (name text : List ℕ) : Type 0 where
   pub pieces : List (List ℕ)
   pub last : List ℕ
@@ -89,16 +89,16 @@ FailToSave calls name text = (calls ≡ CreateFailed name ∷ []) ⊎ BreakOff c
 
 -- ---- promises
 
--- a load failed otherwise than by a fault of the outside
+-- a load failed, but not by a fault of the outside
 abbrev pub IsNoFault : Load → Type 0
 IsNoFault Failed = ⊥
 IsNoFault (TooLong seen) = Unit {0}
 IsNoFault Memory = Unit {0}
 
--- what the shelf can load it can load further on
+-- the shelf can still load whatever it could load
 abbrev pub KeepsLoads : (old new : List ℕ → Type 0) → Type 0
 KeepsLoads old new = (name : List ℕ) → old name → new name
 
--- of what the sink can take so many bytes are gone
+-- so many bytes of what the sink can take are used up
 abbrev pub KeepsTakes : (old new : ℕ → Type 0) → (gone : ℕ) → Type 0
 KeepsTakes old new gone = (n : ℕ) → old (gone + n) → new n

@@ -66,7 +66,7 @@ KeepsOthers old new name = (other : List ℕ) → other ≢ name → new other �
 abbrev pub KeepsAll : Files → Files → Type 0
 KeepsAll old new = (name : List ℕ) → new name ≡ old name
 
--- what the shelf can hold it can hold further on
+-- the shelf can still hold whatever it could hold
 abbrev pub KeepsHolds : (List ℕ → ℕ → Type 0) → (List ℕ → ℕ → Type 0) → Type 0
 KeepsHolds old new = (name : List ℕ) (n : ℕ) → old name n → new name n
 

@@ -1,5 +1,4 @@
--- What saving a text piece by piece under a name does to the file and to the calls, and what it
--- means to have saved it.
+-- What saving a text piece by piece does to the file and to the calls, and what a saved text is.
 use Rattle.std.specs.Prelude.{◌≡◌, ◌⊎◌, ℕ, ◌≤◌, Option, None, Some, List, ◌++◌, length, take}
 use Rattle.std.specs.List.{concat, AllByRecursion}
 use Rattle.pb_outside.specs.Outside.{Files}

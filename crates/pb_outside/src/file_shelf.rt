@@ -15,8 +15,11 @@ use std::rt::Files;
 
 /// The files of the system. A name is a path: relative to the folder that the program runs in, or
 /// absolute. The shelf counts its faults and notes its calls; its files' contents aren't known to
-/// contracts. Whatever the system refuses is a fault: no file of the name, a name that is empty or
-/// has a NUL, a folder, no permission, a full device, or a system that is out of memory.
+/// contracts. Whatever the system refuses is a fault, such as:
+///
+/// - There is no file of the name, or the name is of a folder, is empty or has a NUL.
+/// - The program has no permission.
+/// - The device is full, or the system is out of memory.
 #[derive(Drop)]
 pub struct FileShelf<'a, R: Files> {
     rt: &'a R,
@@ -24,7 +27,7 @@ pub struct FileShelf<'a, R: Files> {
     transcript: Transcript,
 }
 
-// A contract sees its count of faults and its calls.
+// A contract sees the shelf's count of faults and its calls.
 impl<'a, R: Files> Model for FileShelf<'a, R> {
     ghost use Rattle.pb_outside.specs.Streams.{FilesView};
 

@@ -10,8 +10,8 @@ abbrev pub IsHeld : {S : Type 0} → Option S → S → Type 0
 IsHeld {S} held x = (found : S) → held ≡ Some found → found ≡ x
 
 module _ {S V : Type 0} (fact : S → ℕ → List V → Type 0) where
-  -- for any number and any knowledge of the others, the fact stays when the state goes from x to y,
-  -- and this pass's view from v to w
+  -- For any number and knowledge of the others: the fact stays when the state goes from x to y, and
+  -- this pass's view from v to w.
   abbrev pub LeaveKeeps : ℕ → V → S → S → V → Type 0
   LeaveKeeps pass v x y w = (n : ℕ) (views : List V) → fact x n views → get_elem? views pass ≡ some v → fact y n (slice_set views pass w)
 
@@ -20,13 +20,13 @@ module _ {S V : Type 0} (fact : S → ℕ → List V → Type 0) where
   abbrev pub LoadKeeps : ℕ → V → Option S → (ℕ → V) → Type 0
   LoadKeeps pass v held then = (x : S) (n : ℕ) (views : List V) → fact x n views → get_elem? views pass ≡ some v → IsHeld held x → fact x n (slice_set views pass (then n))
 
-  -- for any state and any knowledge of the others, the fact stays when the number becomes the
-  -- lesser of itself and k, and this pass's view w
+  -- For any state and knowledge of the others: the fact stays when the number becomes the lesser of
+  -- itself and k, and this pass's view w.
   abbrev pub LowerKeeps : ℕ → V → ℕ → V → Type 0
   LowerKeeps pass v k w = (x : S) (n : ℕ) (views : List V) → fact x n views → get_elem? views pass ≡ some v → fact x (min n k) (slice_set views pass w)
 
-  -- for any state, number and knowledge of the others, the fact stays when this pass's view v is
-  -- cut in two, and a new pass has the second
+  -- For any state, number and knowledge of the others: the fact stays when this pass's view v is
+  -- cut in two, and a new pass gets the second.
   abbrev pub SplitKeeps : ℕ → V → V → V → Type 0
   SplitKeeps pass v kept given = (x : S) (n : ℕ) (views : List V) → fact x n views → get_elem? views pass ≡ some v → fact x n (slice_set views pass kept ++ given ∷ [])
 

@@ -32,27 +32,27 @@ module _ {R S V : Type 0} {g : Ghosts R S V} where
   abbrev pub view : Pass R S V g → V
   view p = p.seat.me.0.view
 
-  -- its number among the passes of its lock
+  -- the number of a pass among the passes of its lock
   abbrev pub number : Pass R S V g → ℕ
   number p = p.seat.id
 
-  -- its parts of the right to close
+  -- a pass's parts of the right to close
   abbrev pub parts : Pass R S V g → ℕ
   parts p = p.seat.me.0.parts
 
-  -- how often a step of its own found the turn held
+  -- how often a step of the pass's own found the turn held
   abbrev pub misses : Pass R S V g → ℕ
   misses p = p.seat.me.0.misses
 
-  -- it doesn't hold the turn
+  -- the pass doesn't hold the turn
   abbrev pub IsResting : Pass R S V g → Type 0
   IsResting p = (p.seat.me.0.stage ≡ Resting) × (p.seat.me.1 ≡ [])
 
-  -- the state that it found, if it holds the turn
+  -- the state that the pass found, if it holds the turn
   abbrev pub held : Pass R S V g → Option S
   held p = found_by p.seat.me.0.stage
 
-  -- it holds the turn, and found this state
+  -- the pass holds the turn, and found this state
   abbrev pub HoldsTurn : Pass R S V g → S → Type 0
   HoldsTurn p x = (p.seat.me.0.stage ≡ Holding x) × (p.seat.me.1 ≡ (0, None) ∷ [])
 
@@ -61,7 +61,7 @@ module _ {R S V : Type 0} {g : Ghosts R S V} where
   abbrev pub HasLaid : Pass R S V g → S → S → Type 0
   HasLaid p x y = (p.seat.me.0.stage ≡ Holding x) × (p.seat.me.1 ≡ (0, Some y) ∷ [])
 
-  -- it is a pass of this lock
+  -- the pass is one of this lock
   abbrev pub IsPassOf : TurnLock R S V → Pass R S V g → Type 0
   IsPassOf l p = p.seat.table_id ≡ l.table.shared.table_id
 

@@ -51,7 +51,7 @@ module _ {S V : Type 0} where
   abbrev pub parts_of : PassView S V → ℕ
   parts_of d = d.parts
 
-  -- `state` is the one that the last holder left: it lies in the slot, or the holder has found it
+  -- `state` is the one that the last holder left: it is in the slot, or the holder has found it
   pub record Turned (fact : S → ℕ → List V → Type 0) (spent : V) (s : State (Option S) (PassView S V)) : Type 0 where
     pub state : S
     pub turn : ℕ

@@ -111,7 +111,7 @@ impl<R: TurnRule> TurnLock<R> {
         shared.store::<LeaveTurn<N>>(&mut pass.seat, TURN, FREE);
     }
 
-    // The step at which all that the holder did so far takes effect, with the view that M says.
+    // The step at which all that the holder did so far takes effect, with the view of M.
     pub(crate) fn commit_turn<M: Leaving<R>>(
         &self,
         pass: &mut Pass<R>,

@@ -18,22 +18,22 @@ pub(crate) const FREE: u64 = 0;
 
 pub(crate) const TAKEN: u64 = 1;
 
-/// The number of the slot in which the state lies.
+/// The number of the slot that the state is in.
 pub(crate) const STATE: usize = 0;
 
 /// Whether a pass holds the turn.
 pub enum Stage<S> {
     Resting,
-    /// It holds the turn, and found this state.
+    /// The pass holds the turn, and found this state.
     Holding(S),
 }
 
 /// All that is known of a pass. No value of it is made.
 pub struct PassView<S, V> {
     pub stage: Stage<S>,
-    /// Its parts of the right to close the lock.
+    /// The pass's parts of the right to close the lock.
     pub parts: u64,
-    /// How often a step of its own found the turn held.
+    /// How often a step of the pass's own found the turn held.
     pub misses: u64,
     /// What the caller's rule sees.
     pub view: V,

@@ -81,8 +81,8 @@ impl<R: TurnRule> TurnLock<R> {
     }
 
     /// Puts the state back and leaves the turn. All that the holder did takes effect here, at one
-    /// step. The caller shows that the rule stays when the state goes from the one found to the one
-    /// put back, and the view to the one that `M` gives. What the holder says is for `M` alone.
+    /// step. The caller shows that the rule stays: the state goes from the one found to the one put
+    /// back, and `M` gives the new view. What the holder says is for `M` alone.
     pub fn leave<M: Leaving<R>>(&self, pass: &mut Pass<R>, held: Held<R>, said: &M::Said)
         requires own { IsPassOf self.now pass.old }
         requires holds { HoldsTurn pass.old (found held) }
