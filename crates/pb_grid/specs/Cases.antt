@@ -38,7 +38,7 @@ IsHeaderFault lines (suc (suc (suc zero))) = (height : ℕ) × SaysType lines ×
 IsHeaderFault lines (suc (suc (suc (suc zero)))) = (height : ℕ) × (width : ℕ) × SaysType lines × SaysHeight lines height × SaysWidth lines width × (SaysMap lines → ⊥)
 IsHeaderFault lines (suc (suc (suc (suc (suc more))))) = ⊥
 
--- they say this height and this width
+-- the lines say this height and this width
 pub record HasHeader (lines : List (List ℕ)) (height width : ℕ) : Type 0 where
   pub type : SaysType lines
   pub height_is : SaysHeight lines height

@@ -41,9 +41,9 @@ pub record SpellsMap (text : List ℕ) (width height : ℕ) (cells : List Class)
 
 -- ---- scenarios
 
--- The words of a row of a scenario: a bucket, the map's name, which is one word or more, the map's
--- width and height, the start's column and row, the goal's column and row, and the length of a
--- shortest way. Only the six numbers before the length are looked at.
+-- The words of a row of a scenario: a bucket, the map's name, the map's width and height, the
+-- start's column and row, the goal's column and row, and the length of a shortest way. The name is
+-- one word or more. Only the six numbers before the length are looked at.
 pub record SpellsRow (line : List ℕ) (width height : ℕ) (start goal : ℕ × ℕ) : Type 0 where
   pub bucket : List ℕ
   pub name : List (List ℕ)

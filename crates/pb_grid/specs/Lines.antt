@@ -39,7 +39,7 @@ is_blank byte = byte == 32 || byte == 9
 abbrev pub has_bytes : (word : List ℕ) → Bool
 has_bytes word = nat_lt 0 (length word)
 
--- the words of a line are parted by spaces and tabs
+-- the words of a line are separated by spaces and tabs
 unfoldable pub words_of : (line : List ℕ) → List (List ℕ)
 words_of line = filter has_bytes (slice_split is_blank line)
 

@@ -12,8 +12,8 @@ pub enum GridError {
     Header { line: u64 },
     /// The map's height or width is not 1 to 2,048.
     Size,
-    /// This line of the map must be a row of as many bytes as the map is wide, and is missing or is
-    /// not such a row; or it lies below the last row and is not blank.
+    /// This line of the map must be a row of as many bytes as the map is wide, and is no such row
+    /// or is missing. Or the line lies below the last row and is not blank.
     Rows { line: u64 },
     /// The byte in this column of a row of the map represents no cell.
     Cell { line: u64, col: u64 },
@@ -30,7 +30,7 @@ pub enum GridError {
     StartBlocked,
     /// The goal is a blocked cell.
     GoalBlocked,
-    /// There was not enough memory.
+    /// Out of memory.
     Memory,
 }
 

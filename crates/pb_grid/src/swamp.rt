@@ -1,4 +1,5 @@
-//! Which cells of a map are swamp. It is read in a pass of its own: no refusal depends on it.
+//! Which cells of a map are swamp. The swamp is read in a pass of its own: no refusal depends on
+//! it.
 ghost use Rattle.std.specs.Prelude.{◌≡◌, ◌++◌, drop, map, IfOk};
 ghost use Rattle.pb_grid.specs.Lines.{lines_of};
 ghost use Rattle.pb_grid.specs.Reading.{is_swamp_byte, swamp_of};
@@ -31,8 +32,8 @@ fn add_marks(out: &mut Vec<bool>, swamp: bool, row: &[u8]) -> Result<(), AllocEr
     Ok(())
 }
 
-/// A mark for each byte of a map's rows, of which there are as many as the map is high: whether its
-/// cell is swamp. None is, unless swamp is asked for. An error is out of memory.
+/// A mark for each byte of a map's rows, which are as many as the map is high: whether its cell is
+/// swamp. No cell is, unless swamp is asked for. An error means out of memory.
 pub fn read_swamp(
     alloc: Global,
     text: &[u8],

@@ -23,15 +23,15 @@ pub fn tiles_slide()
     ensures { TilesSlide }
 {}
 
-/// The steps of a STRIPS task are by its actions, lead from sets of its atoms to sets of its atoms
-/// and cost 1 to 2^20. Its states have 256 bits.
+/// The steps of a STRIPS task are by its actions, lead between sets of its atoms and cost 1 to
+/// 2^20. Its states have 256 bits.
 pub fn strips_are_proper()
     ensures { StripsAreProper }
 {}
 
-/// The steps of a STRIPS task are those by which an action acts. The atoms that it needs hold
-/// before it. After it those atoms hold that it adds, and those that held before and that it
-/// doesn't delete.
+/// The steps of a STRIPS task are those by which an action acts. The atoms that the action needs
+/// hold before it. After it the atoms hold that it adds, and those from before that it doesn't
+/// delete.
 pub fn strips_act()
     ensures { StripsAct }
 {}

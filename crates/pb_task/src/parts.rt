@@ -170,15 +170,15 @@ impl ActionName {
 /// number: the bit of each atom in the set is 1.
 #[derive(Drop)]
 pub struct GroundAction {
-    /// What it is called in a plan, as `(name object ..)` in lower case.
+    /// The action's name in a plan, as `(name object ..)` in lower case.
     pub name: ActionName,
-    /// The atoms that must hold before it.
+    /// The atoms that must hold before the action.
     pub needs: Packed,
-    /// The atoms that hold after it.
+    /// The atoms that hold after the action.
     pub adds: Packed,
     /// The atoms that the action deletes; those that it also adds hold after it.
     pub deletes: Packed,
-    /// What it costs: 1 to 2^20.
+    /// The action's cost: 1 to 2^20.
     pub cost: u64,
 }
 
@@ -224,7 +224,7 @@ pub struct StripsParts {
     pub start: Packed,
     /// The atoms that must hold in a goal state.
     pub goal: Packed,
-    /// Whether the goal asks besides for what never holds, so that no state is a goal state.
+    /// Whether the goal also asks for a fact that never holds, so that no state is a goal state.
     pub never: bool,
 }
 

@@ -16,7 +16,7 @@ pub fn is_state(strips: &StripsParts, state: &Packed) -> bool
     sets::is_atom_set(strips.atoms, state)
 }
 
-/// Whether all atoms of the goal hold in a state, and the goal asks for nothing that never holds.
+/// Whether all atoms of the goal hold in a state, and the goal asks for no fact that never holds.
 pub fn is_goal(strips: &StripsParts, state: &Packed) -> bool
     requires { IsStrips strips.now }
     ensures { result ≡ is_strips_goal strips.now state.now }
@@ -47,7 +47,7 @@ pub fn step(strips: &StripsParts, from: &Packed, action: u32) -> Option<(Packed,
     }
 }
 
-/// Puts all successors of a state, in order of the actions, in the place of what the list holds.
+/// Replaces the list by all successors of a state, in order of the actions.
 pub fn successors(strips: &StripsParts, from: &Packed, out: &mut Vec<Succ>)
     requires strips { IsStrips strips.now }
     requires state { IsTrue (is_atom_set strips.now.atoms from.now) }

@@ -2,7 +2,7 @@
 -- line.
 use Rattle.std.specs.Prelude.{ℕ, ◌+◌, Bool, ◌==◌, ◌||◌, List, [], ◌∷◌, ◌++◌, if◌then◌else◌}
 
--- space, tab, carriage return and line feed part words
+-- space, tab, carriage return and line feed separate words
 abbrev pub is_blank : (byte : ℕ) → Bool
 is_blank byte = byte == 32 || byte == 9 || byte == 13 || byte == 10
 

@@ -18,7 +18,7 @@ pub enum TilesError {
     Number { at: u64 },
     /// This number came before in the same board.
     Twice { number: u64 },
-    /// There was not enough memory.
+    /// Out of memory.
     Memory,
 }
 

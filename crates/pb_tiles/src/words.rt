@@ -26,7 +26,7 @@ pub fn read_words(alloc: Global, text: &[u8]) -> Result<Numbers, TilesError>
     Ok(numbers)
 }
 
-// Whether a byte parts words.
+// Whether a byte separates words.
 fn is_blank(byte: u8) -> bool
     ensures { result ≡ is_blank byte }
 {
