@@ -19,7 +19,7 @@ known_cost Unreached = None
 known_cost (Open cost) = Some cost
 known_cost (Final cost) = Some cost
 
--- what it costs, if that is final
+-- the cost of an atom, if it is final
 abbrev pub final_cost : AtomCost → Option ℕ
 final_cost Unreached = None
 final_cost (Open cost) = None
@@ -45,7 +45,7 @@ waiting wanted costs below = count (λ atom. wanted atom && not (is_final_in cos
 abbrev pub AreNoLess : (costs costs' : ℕ → Option ℕ) → Type 0
 AreNoLess costs costs' = (atom cost : ℕ) → IsAtMost (costs atom) cost → IsAtMost (costs' atom) cost
 
--- what costs this much at most did so before, or is one of the atoms
+-- the costs of these atoms fell to at most this cost, and all other costs stayed
 abbrev pub AreLowered : (atoms : List ℕ) → (cost : ℕ) → (before after : List AtomCost) → Type 0
 AreLowered atoms cost before after = (atom c : ℕ) → IsAtMost (cost_in after atom) c ↔ (IsAtMost (cost_in before atom) c ⊎ (Contains atoms atom × (cost ≤ c)))
 

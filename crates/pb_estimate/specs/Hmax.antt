@@ -22,7 +22,7 @@ greater None other = None
 greater (Some n) None = None
 greater (Some n) (Some m) = Some (max n m)
 
--- it costs this much at most
+-- the atom costs this much at most
 abbrev pub IsAtMost : Option ℕ → (cost : ℕ) → Type 0
 IsAtMost None cost = ⊥
 IsAtMost (Some n) cost = n ≤ cost
@@ -38,7 +38,7 @@ abbrev pub cost_by : (count : ℕ) → (costs : ℕ → Option ℕ) → (atom : 
 cost_by count costs atom action =
     if has_atom action.adds atom then option_map (λ needed. action.cost + needed) (dearest costs action.needs count) else None
 
--- what it costs by the cheapest of these actions
+-- the cost of an atom by the cheapest of these actions
 abbrev pub cheapest_by : (count : ℕ) → (costs : ℕ → Option ℕ) → (atom : ℕ) → List GroundAction → Option ℕ
 cheapest_by count costs atom [] = None
 cheapest_by count costs atom (action ∷ actions) = lesser (cost_by count costs atom action) (cheapest_by count costs atom actions)

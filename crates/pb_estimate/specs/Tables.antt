@@ -56,11 +56,11 @@ pub record IsRelaxed (count : ℕ) (action : RelaxedAction) : Type 0 where
 abbrev pub AddsAt : RelaxedAction → (level atom cost : ℕ) → Type 0
 AddsAt action level atom cost = Contains action.adds atom × (level + action.cost ≤ cost)
 
--- what an action adds costs at most `level` and the action
+-- what an action adds costs at most `level` plus the action's cost
 abbrev pub AddsAtMost : RelaxedAction → (level : ℕ) → (costs : List AtomCost) → Type 0
 AddsAtMost action level costs = All (λ atom. IsAtMost (cost_in costs atom) (level + action.cost)) action.adds
 
--- an action adds an atom at a cost, by the action of a number, of whose counter nothing is left
+-- the counter of the action `user` is 0, and the action adds the atom at this cost
 abbrev pub IsAddedBy : List RelaxedAction → (level : ℕ) → (counts : List ℕ) → (user atom cost : ℕ) → Type 0
 IsAddedBy actions level counts user atom cost = (slice_index counts user ≡ 0) × AddsAt (relaxed_at actions user) level atom cost
 

@@ -10,9 +10,9 @@ use std::alloc::{AllocError, Global};
 /// What is known of the cost of an atom.
 #[derive(Clone, Copy)]
 pub enum AtomCost {
-    /// No action was found yet that adds it.
+    /// No action was found yet that adds the atom.
     Unreached,
-    /// It costs at most this.
+    /// The atom costs at most this.
     Open(u32),
     /// It costs this.
     Final(u32),

@@ -5,7 +5,7 @@ pub fn estimates_are_admissible()
     ensures { EstimatesAreAdmissible }
 {}
 
-/// The estimate of a board counts each tile but the blank once.
+/// The estimate of a board counts each tile except the blank once.
 pub fn estimates_count_tiles()
     ensures { EstimatesCountTiles }
 {}

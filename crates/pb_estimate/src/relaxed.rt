@@ -74,9 +74,9 @@ impl ActionList {
 /// A ground action without what it deletes.
 #[derive(Drop)]
 pub struct RelaxedAction {
-    /// The atoms that hold after it.
+    /// The atoms that hold after the action.
     pub adds: AtomList,
-    /// What it costs.
+    /// The action's cost.
     pub cost: u32,
 }
 
@@ -180,8 +180,8 @@ impl Users {
     }
 }
 
-/// The delete relaxation of a STRIPS task: what has held goes on holding. Actions that add nothing
-/// but what they need are left out.
+/// The delete relaxation of a STRIPS task: an atom that held once goes on holding. Actions that add
+/// only atoms that they need are left out.
 #[derive(Drop)]
 pub struct RelaxedTask {
     /// The task's actions without what they delete.
@@ -254,7 +254,7 @@ fn add_action(
     Ok(())
 }
 
-// Adds an action at the end of a task's, unless it adds nothing but what it needs.
+// Adds an action at the end of a task's actions, unless it adds only atoms that it needs.
 fn add_useful(
     alloc: Global,
     count: u32,

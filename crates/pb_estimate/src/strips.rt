@@ -38,7 +38,7 @@ pub fn counters_of(alloc: Global, strips: &StripsParts) -> Result<Counters, Allo
 }
 
 // Counts that one more of the atoms that an action needs has a final cost, `level`. After the last
-// of them, what the action adds costs no more than `level` and the action.
+// of them, what the action adds costs at most `level` plus the action's cost.
 fn count_down(
     exploration: &mut Exploration,
     counts: &mut [u16],
@@ -112,7 +112,7 @@ fn count_down_each(
     }
 }
 
-// Lowers the costs of what some actions add to those of the actions.
+// Lowers the costs of the atoms that some actions add to at most the costs of the actions.
 fn lower_free(exploration: &mut Exploration, actions: &[RelaxedAction], free: &[u16])
     requires is { IsExploration exploration.old }
     requires actions { All (IsRelaxed (length exploration.old.costs.items)) actions.now }

@@ -26,7 +26,7 @@ pub struct ActionInstance {
     pub adds: Listed<usize>,
     /// The ground atoms that the action deletes; those that it also adds hold after it.
     pub deletes: Listed<usize>,
-    /// What it costs: as much as its schema.
+    /// The action's cost: that of its schema.
     pub cost: u64,
 }
 

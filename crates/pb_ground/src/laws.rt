@@ -11,9 +11,9 @@ pub fn atoms_are_all()
     ensures { AtomsAreAll }
 {}
 
-/// For a state whose bits say which atoms hold, and an instance of a schema whose fluent
-/// preconditions are numbered: the instance is applicable by atoms exactly if its static
-/// preconditions hold and its ground action is applicable by bits. Both lead to the same state.
+/// For a state by bits, and an instance of a schema whose fluent preconditions are numbered: the
+/// instance is applicable by atoms exactly if its static preconditions hold and its ground action
+/// is applicable by bits. Both lead to the same state.
 pub fn steps_correspond()
     ensures { StepsCorrespond }
 {}

@@ -10,7 +10,7 @@ use Rattle.pb_pddl.specs.declared.tree.Domain.{Domain}
 use Rattle.pb_pddl.specs.declared.tree.Problem.{Problem}
 use Rattle.pb_lifted.specs.Names.{fault_if}
 
--- the number of an action's increase, of which there is one; an action without one adds nothing
+-- the number of an action's only increase; an action without one adds nothing
 abbrev pub increase_of : List Cost → ℕ
 increase_of [] = 0
 increase_of (increase ∷ later) = increase.number
@@ -42,7 +42,7 @@ abbrev pub undeclared_metric : (has_cost : Bool) → (metric : Option ℕ) → L
 undeclared_metric has_cost None = []
 undeclared_metric has_cost (Some at) = fault_if (not has_cost) at
 
--- each `increase` or `=` but the first
+-- each `increase` or `=` except the first
 abbrev pub costs_again : List Cost → List ℕ
 costs_again [] = []
 costs_again (first ∷ later) = flat_map (λ c. c.at ∷ []) later

@@ -1,4 +1,4 @@
--- The facts that the instances of a task speak of are of the types of their predicates.
+-- The facts of the instances of a task are of the types of their predicates.
 use Rattle.std.specs.Prelude.{◌≡◌, ℕ, List, [], Some, None, All}
 use Rattle.std.specs.List.{slice_get}
 use Rattle.pb_pddl.specs.declared.tree.Domain.{Domain}
@@ -9,7 +9,8 @@ use Rattle.pb_lifted.specs.Lifted.{lifted_of}
 use Rattle.pb_lifted.specs.Refusals.{first_refusal}
 use Rattle.pb_lifted.specs.Steps.{GroundFact, AreFitting, ground_all}
 
--- a declared predicate, and to each of its parameters an object of its type or of one below
+-- a declared predicate, with an object for each of its parameters, of the parameter's type or of
+-- one below
 pub record IsTyped (lifted : Lifted) (f : GroundFact) : Type 0 where
   pub kinds : List ℕ
   pub declared : slice_get lifted.predicates f.predicate ≡ Some kinds
@@ -27,7 +28,7 @@ InstancesAreTyped =
     → slice_get (lifted_of domain problem).actions i ≡ Some schema → AreFitting (lifted_of domain problem) schema.params given
     → IsTypedInstance (lifted_of domain problem) schema given
 
--- So is what holds at first, and what the goal asks.
+-- The facts that hold at first are of their predicates' types, and so are those of the goal.
 abbrev pub StartIsTyped : Type 0
 StartIsTyped = (domain : Domain) (problem : Problem) → first_refusal domain problem ≡ None → All (IsTyped (lifted_of domain problem)) (ground_all [] (lifted_of domain problem).init)
 

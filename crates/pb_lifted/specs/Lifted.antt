@@ -25,7 +25,7 @@ use Rattle.pb_lifted.specs.Tables.{predicate_text}
 abbrev pub number : List ℕ → List (List ℕ) → ℕ
 number text names = unwrap_or (number_of text names) 0
 
--- of each object or parameter the number of its type
+-- for each object or parameter the number of its type
 abbrev pub kind_numbers : List (List ℕ) → List Typed → List ℕ
 kind_numbers types list = map (λ t. number (kind_text t) types) list
 

@@ -5,7 +5,7 @@ use Rattle.pb_lifted.specs.declared.tree.Tree.{Tree}
 use Rattle.pb_lifted.specs.Names.{number_of}
 use Rattle.pb_lifted.specs.Types.{is_object, name_text, kind_text, type_names}
 
--- of object and each declared type the number of the type above it
+-- for object and each declared type the number of the type above it
 abbrev pub parent_numbers : List (List ℕ) → List Typed → List ℕ
 parent_numbers names types = 0 ∷ map (λ t. unwrap_or (number_of (kind_text t) names) 0) types
 

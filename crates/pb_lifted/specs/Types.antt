@@ -23,7 +23,7 @@ kind_text typed = kind_or typed.kind
 abbrev pub is_object : List ℕ → Bool
 is_object text = bytes_eq text object
 
--- an entry object of the types that says no more than is so
+-- an entry of the types that only says that object is a type
 abbrev pub is_idle : Typed → Bool
 is_idle typed = is_object (name_text typed) && is_object (kind_text typed)
 
@@ -58,7 +58,7 @@ abbrev pub ancestor : List Typed → ℕ → List ℕ → List ℕ
 ancestor types zero text = text
 ancestor types (suc n) text = ancestor types n (above types text)
 
--- No way up that comes to no type again is longer.
+-- No way up is longer unless it comes to a type twice.
 abbrev pub height : List Typed → ℕ
 height types = suc (length types)
 

@@ -33,7 +33,7 @@ action_text a = a.name.text
 abbrev pub action_names : Domain → List (List ℕ)
 action_names domain = map action_text domain.actions
 
--- the names of the types that are declared: that object is below object declares none
+-- the names of the types that are declared; an entry that object is below object declares none
 abbrev pub declared_names : Domain → List (List ℕ)
 declared_names domain = map name_text (declared_types domain.types)
 

@@ -1,4 +1,4 @@
--- The way up from a type: how far it is counted is far enough.
+-- The way up from a type is counted far enough.
 use Rattle.std.specs.Prelude.{◌≡◌, ◌<◌, ◌+◌, ℕ, true, List, length, slice_index}
 use Rattle.pb_pddl.specs.declared.tree.Typed.{Typed}
 use Rattle.pb_lifted.specs.Types.{ancestor, height, is_within, is_below, is_object}
@@ -16,7 +16,7 @@ MoreStepsOfNumbersChangeNothing =
 abbrev pub ObjectIsReached : Type 0
 ObjectIsReached = (types : List Typed) (n : ℕ) (text : List ℕ) → is_object (ancestor types n text) ≡ true → is_object (ancestor types (height types) text) ≡ true
 
--- A type is below itself, and below what is above one that it is below.
+-- A type is below itself. It is also below each type that is above one that it is below.
 abbrev pub BelowIsReflexive : Type 0
 BelowIsReflexive = (types : List Typed) (text : List ℕ) → is_below types text text ≡ true
 

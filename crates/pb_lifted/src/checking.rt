@@ -33,7 +33,7 @@ const ORDER: [Cause; 13] = [
 /// How many objects there may be.
 const MOST_OBJECTS: u64 = 1000;
 
-/// The first place of this cause. The names are none.
+/// The first place of this cause. `names` has no names.
 fn first_place(
     cause: Cause,
     tables: &NameTables,
@@ -72,7 +72,7 @@ fn too_many_objects(domain: &Domain, problem: &Problem) -> Option<TypingRefusal>
     }
 }
 
-/// The first refusal, from the tables. The names are none.
+/// The first refusal, from the tables. `names` has no names.
 fn find_refusal(
     tables: &NameTables,
     domain: &Domain,
@@ -98,9 +98,9 @@ fn find_refusal(
 pub fn resolve(alloc: Global, domain: &Domain, problem: &Problem) -> Result<Lifted, LiftedError>
     // Nothing is refused.
     ensures task { OnOk result (first_refusal domain.now problem.now ≡ None) }
-    // It is the two trees in numbers.
+    // The lifted task is the two trees in numbers.
     ensures lifted { IfOk result (λ lifted. lifted ≡ lifted_of domain.now problem.now) }
-    // This is the first refusal, unless memory ran out.
+    // The refusal is the first, unless memory ran out.
     ensures refused { IfErr result (Tells (first_refusal domain.now problem.now)) }
 {
     let tables = tables_of(alloc, domain, problem)?;

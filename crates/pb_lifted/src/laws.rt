@@ -55,9 +55,9 @@ pub fn numbers_keep_costs()
     ensures range { CostsAreInRange }
 {}
 
-/// If nothing is refused, the facts of the lifted task are of declared predicates, and each object
-/// is of its parameter's type or of one below. These facts are those that instances need, add and
-/// delete, those that hold at first, and those that the goal asks for.
+/// If nothing is refused, the facts of the lifted task are of declared predicates. Each object in
+/// them is of its parameter's type or of one below. The facts are those that instances need, add
+/// and delete, those of the start, and those of the goal.
 pub fn instances_are_typed()
     ensures actions { InstancesAreTyped }
     ensures start { StartIsTyped }
@@ -74,9 +74,8 @@ pub fn ways_up_are_far_enough()
     ensures transitive { BelowIsTransitive }
 {}
 
-/// The definitions on small trees: a subtype, types in a circle, a name that is declared twice, a
-/// task and its numbers, an argument of a wrong type, a fact that is deleted and added, and actions
-/// with costs.
+/// The definitions on small trees: a subtype, types in a circle, a repeated name, a task and its
+/// numbers, an argument of a wrong type, a fact both deleted and added, and actions with costs.
 pub fn worked_rows()
     ensures subtype { SubtypeIsBelow }
     ensures cycle { CycleIsFound }

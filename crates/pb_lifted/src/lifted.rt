@@ -21,7 +21,7 @@ pub struct LiftedAtom {
 /// An action schema.
 #[derive(Debug, Drop)]
 pub struct Schema {
-    /// Of each parameter the number of its type.
+    /// For each parameter the number of its type.
     pub params: Listed<usize>,
     /// The atoms that must hold.
     pub pre: Listed<LiftedAtom>,
@@ -39,9 +39,9 @@ pub struct Schema {
 pub struct Lifted {
     /// The number of the type above each type. Above a type after the end there is `object`.
     pub types: Listed<usize>,
-    /// Of each object the number of its type.
+    /// For each object the number of its type.
     pub objects: Listed<usize>,
-    /// Of each predicate the numbers of the types of its parameters.
+    /// For each predicate the numbers of the types of its parameters.
     pub predicates: Listed<Listed<usize>>,
     pub actions: Listed<Schema>,
     /// The atoms that hold at first.

@@ -154,7 +154,7 @@ pub(crate) fn first_in_domain(
     }
 }
 
-/// The first place of this cause in the problem. The names are none.
+/// The first place of this cause in the problem. `names` has no names.
 #[tactic(auto, using(crate::proofs::Earliest::earliest_append))]
 pub(crate) fn first_in_problem(
     cause: Cause,

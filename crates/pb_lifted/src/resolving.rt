@@ -156,7 +156,7 @@ fn schemas_of(
     Ok(list)
 }
 
-/// Of each predicate the numbers of the types of its parameters.
+/// For each predicate the numbers of the types of its parameters.
 fn predicate_kinds(
     alloc: Global,
     types: &Names,

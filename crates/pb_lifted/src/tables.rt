@@ -9,7 +9,8 @@ use crate::tree::{Tree, first_cycle, tree_of};
 use pb_pddl::{Action, Domain, Problem};
 use std::alloc::{AllocError, Global};
 
-/// The names of a domain and a problem, to look them up, and the first place in each file of a name that is declared twice.
+/// The names of a domain and a problem, to look them up. For each file also the first place of a
+/// name that is declared twice.
 #[derive(Drop)]
 pub(crate) struct NameTables {
     pub(crate) types: Tree,

@@ -24,7 +24,7 @@ pub(crate) fn number(names: &Names, text: &[u8]) -> usize
     names.find(text).unwrap_or(0)
 }
 
-/// Of `object` and each declared type the number of the type above it.
+/// For `object` and each declared type the number of the type above it.
 fn parents_of(alloc: Global, names: &Names, types: &[Typed]) -> Result<Vec<usize>, AllocError>
     ensures { IfOk result (λ parents. parents.items ≡ parent_numbers names.now types.now) }
 {

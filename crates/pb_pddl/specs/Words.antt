@@ -24,11 +24,11 @@ BeginsWord (first ∷ rest) = IsTrue (is_first_byte first)
 abbrev pub IsWord : List ℕ → Type 0
 IsWord text = BeginsWord text × AreWordBytes text
 
--- the names of a domain's actions and constants, of which plans are printed
+-- the names of a domain's actions and constants, from which plans are printed
 pub record DomainHasWords (domain : Domain) : Type 0 where
   pub actions : All (λ (a : Action). IsWord a.name.text) domain.actions
   pub constants : All (λ (t : Typed). IsWord t.name.text) domain.constants
 
--- those of a problem's objects
+-- the names of a problem's objects
 abbrev pub ProblemHasWords : Problem → Type 0
 ProblemHasWords problem = All (λ (t : Typed). IsWord t.name.text) problem.objects

@@ -3,7 +3,7 @@
 use crate::listed::Listed;
 use crate::tree::{Action, Atom, Cost, Literal, Name, Predicate, Typed};
 
-/// The names of a list that have their type, and those that wait for it.
+/// The names of a list that have their type, and those that wait for a type.
 #[derive(Debug, Drop)]
 pub struct Group {
     pub done: Listed<Typed>,

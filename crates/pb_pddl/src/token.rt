@@ -30,9 +30,10 @@ pub enum TokenKind {
 /// A token and its place: the slice of its text that begins there. The order of the fields keeps it at 24 bytes.
 #[derive(Debug, Drop)]
 pub struct Token {
-    /// Its bytes, in lower case, as a range of the whole text.
+    /// The token's bytes, in lower case, as a range of the whole text.
     pub text: Text,
-    /// The place of its first byte. At the end of the text that of the innermost `(` that is open.
+    /// The place of the token's first byte. At the end of the text, that of the innermost `(` that
+    /// is open.
     pub at: u32,
     pub kind: TokenKind,
     /// Whether the token comes directly after a `(`.

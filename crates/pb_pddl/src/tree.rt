@@ -1,5 +1,5 @@
-//! The trees. Lists are in order of the text, nested conditions and effects are flattened into one
-//! list, and a section or part that is missing is an empty list.
+//! The trees. Lists are in order of the text. Nested conditions and effects are flattened into one
+//! list. A section or part that is missing is an empty list.
 
 use crate::listed::Listed;
 use crate::text::Text;
@@ -69,8 +69,8 @@ pub struct Action {
     pub costs: Listed<Cost>,
 }
 
-/// A domain. Of each name in `types`, `kind` is the type above it; `has_cost` says whether `:functions` declares
-/// `total-cost`.
+/// A domain. Each name in `types` has the type above it as its `kind`. `has_cost` says whether
+/// `:functions` declares `total-cost`.
 #[derive(Debug, Drop)]
 pub struct Domain {
     pub name: Name,
@@ -81,8 +81,8 @@ pub struct Domain {
     pub has_cost: bool,
 }
 
-/// A problem; `domain` is the name that it gives to its domain, `costs` are those of `:init`, and `metric` is the place
-/// of the metric's `total-cost`, if there is a metric.
+/// A problem. `domain` is the name that it gives to its domain, and `costs` are those of `:init`.
+/// `metric` is the place of the metric's `total-cost`, if there is a metric.
 #[derive(Debug, Drop)]
 pub struct Problem {
     pub name: Name,

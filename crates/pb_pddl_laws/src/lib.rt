@@ -33,8 +33,8 @@ pub fn problem_reading_is_exact()
     ensures complete { (ts : List Token) (problem : Problem) → IsProblem ts problem → problem_at unlimited ts ≡ Ok problem }
 {}
 
-/// A law: the tokens before a refused token are the beginning of a form, the refused token can't
-/// follow them, and the error is the first that fits it.
+/// A law: the tokens before a refused token are the beginning of a form, and the refused token
+/// can't follow them. The error is the first that fits that token.
 pub fn error_is_first()
     ensures domain { (ts : List Token) (e : SyntaxError) → domain_at unlimited ts ≡ Err e → IsFault Domain IsDomain ts e }
     ensures problem { (ts : List Token) (e : SyntaxError) → problem_at unlimited ts ≡ Err e → IsFault Problem IsProblem ts e }

@@ -24,8 +24,8 @@ abbrev pub holds_by_number : (state : ℕ) → Option ℕ → Bool
 holds_by_number state None = false
 holds_by_number state (Some atom) = has_atom state atom
 
--- a fact of a fluent predicate holds if its ground atom is in the set, and one of a static
--- predicate if it holds at first
+-- A fact of a fluent predicate holds if its ground atom is in the set. A fact of a static predicate
+-- holds if it does at first.
 abbrev pub holds_in : Lifted → (state : ℕ) → GroundFact → Bool
 holds_in lifted state fact =
     if is_fluent lifted fact.predicate then holds_by_number state (number_in (atom_of fact.predicate fact.objects) (ground_atoms lifted))
@@ -44,8 +44,8 @@ PackedStepsAreSteps =
     → (named : NamedAction) × IsStep domain problem (facts_of_state domain problem from) named.0 named.1 (facts_of_state domain problem to)
     × (name_in (strips_of domain problem).actions action ≡ action_text domain named) × (cost ≡ step_cost domain problem named)
 
--- A step by names is a step by bits, at the cost of its action, under the name that is printed, and
--- leads to the same state.
+-- A step by names is a step by bits, at the cost of its action, under the printed name, and leads
+-- to the same state.
 abbrev pub StepsArePackedSteps : Type 0
 StepsArePackedSteps =
     (domain : Domain) (problem : Problem) (from : ℕ) (named : NamedAction) (next : State) → first_fault domain problem ≡ None → from < 2 ^ (strips_of domain problem).atoms
@@ -77,7 +77,7 @@ PackedPlansArePlans =
     → (actions : List NamedAction) × IsPlan domain problem actions × (map (action_text domain) actions ≡ map (name_in (strips_of domain problem).actions) plan.actions)
     × (plan.cost ≡ plan_cost domain problem actions)
 
--- A plan by names is one by numbers, at the same cost.
+-- A plan by names is a plan by numbers, at the same cost.
 abbrev pub PlansArePackedPlans : Type 0
 PlansArePackedPlans =
     (domain : Domain) (problem : Problem) (actions : List NamedAction) → first_fault domain problem ≡ None → IsPlan domain problem actions

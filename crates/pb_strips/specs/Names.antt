@@ -20,8 +20,8 @@ spaced (word ∷ words) = 32 ∷ word ++ spaced words
 abbrev pub action_bytes : Domain → NamedAction → List ℕ
 action_bytes domain action = 40 ∷ name_at (map action_word domain.actions) action.0 ++ spaced action.1 ++ 41 ∷ []
 
--- the same as a text; U+FFFD is in place of each sequence that is no UTF-8, which the names of no
--- text that is read have
+-- the same as a text; U+FFFD is in place of each sequence that is no UTF-8, but texts that are read
+-- have none in names
 abbrev pub action_text : Domain → NamedAction → List ℕ
 action_text domain action = utf8_lossy (action_bytes domain action)
 

@@ -22,7 +22,7 @@ abbrev pub or_too_many : Option TypingRefusal → Lifted → Option StripsError
 or_too_many (Some refusal) lifted = Some (errors.Refused refusal)
 or_too_many None lifted = too_many lifted
 
--- names, their types and costs are judged first, and then how much there is
+-- names, their types and costs are judged first, and then the numbers of atoms and actions
 abbrev pub first_fault : Domain → Problem → Option StripsError
 first_fault domain problem = or_too_many (first_refusal domain problem) (lifted_of domain problem)
 

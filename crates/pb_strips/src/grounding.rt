@@ -32,11 +32,11 @@ fn task_of(alloc: Global, domain: &Domain, problem: &Problem) -> Result<Task, St
 /// many atoms, then too many actions. Both limits are looked at before the atoms or actions are
 /// built. `Memory` says nothing of the texts.
 pub fn ground(alloc: Global, domain: &Domain, problem: &Problem) -> Result<Task, StripsError>
-    // The two are a task.
+    // The domain and the problem are this task.
     ensures accepted { OnOk result (first_fault domain.now problem.now ≡ None) }
     // It is this task.
     ensures task { IfOk result (λ task. task ≡ Strips (strips_of domain.now problem.now)) }
-    // This is the first fault, unless memory ran out.
+    // The error is the first fault, unless memory ran out.
     ensures refused { IfErr result (Tells (first_fault domain.now problem.now)) }
     // A well-typed task within the numbers of atoms and actions is never refused, unless memory
     // runs out.

@@ -12,7 +12,7 @@ pub fn steps_are_lifted()
 {}
 
 /// If a domain and a problem are a task, the plans by numbers are those by names, with the same
-/// cost and the same names of actions.
+/// cost and names of actions.
 pub fn plans_are_lifted()
     ensures packed { PackedPlansArePlans }
     ensures lifted { PlansArePackedPlans }
@@ -25,13 +25,13 @@ pub fn texts_keep_names()
 {}
 
 /// If a domain and a problem whose names are words are a task, the printed names of its ground
-/// actions differ, and no name has a line feed.
+/// actions differ. No such name has a line feed.
 pub fn names_tell_actions()
     ensures { NamesTellActions }
 {}
 
 /// If the names of a domain and a problem are words, the actions of each plan by names are printed
-/// as `(name object ..)`, with the bytes of these names.
+/// as `(name object ..)`. Each name is printed with its own bytes.
 pub fn names_are_printed()
     ensures { NamesArePrinted }
 {}

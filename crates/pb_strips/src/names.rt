@@ -65,7 +65,7 @@ fn add_objects(
     Ok(())
 }
 
-/// What an action of these objects is called in a plan.
+/// The name in a plan of an action of these objects.
 pub(crate) fn name_of(
     alloc: Global,
     domain: &Domain,

@@ -40,11 +40,11 @@ fn problem_of(alloc: Global, text: &[u8]) -> Result<Problem, SyntaxError>
 /// part of PDDL (McDermott and others, 1998). Each error except `Memory` is at the first token that
 /// can't go on. docs/FORMATS.md has the grammar, and why a token is refused.
 pub fn read_domain(alloc: Global, text: &[u8]) -> Result<Domain, SyntaxError>
-    // What is read is spelled so.
+    // The text spells the domain that is read.
     ensures found { IfOk result (SpellsDomain text.now) }
-    // What is spelled so is read, unless memory runs out.
+    // A domain that the text spells is read, unless memory runs out.
     ensures only { (d : Domain) → SpellsDomain text.now d → Gives (λ x. x) result (Ok d) }
-    // With an error but Memory, the text spells no domain.
+    // With an error except Memory, the text spells no domain.
     ensures none { IfErr result (λ e. e ≢ Memory → (d : Domain) → SpellsDomain text.now d → ⊥) }
     // The tokens before the error's token begin a domain, that token can't follow, and the error is
     // the first that fits it.
@@ -54,7 +54,7 @@ pub fn read_domain(alloc: Global, text: &[u8]) -> Result<Domain, SyntaxError>
     ensures told { IfErr result (λ e. e ≢ Memory → ToldFault Domain IsDomain domain_form text.now e) }
     // The error of a place is reported, unless memory runs out. A text thus has one error at most.
     ensures fault { (e : SyntaxError) → ToldFault Domain IsDomain domain_form text.now e → Gives (λ x. x) result (Err e) }
-    // It is the one answer that reading from left to right gives, however deep the parentheses.
+    // The answer is the one that reading from left to right gives, however deep the parentheses.
     ensures exact { IsRead (domain_at unlimited) text.now result }
     // The same as a function of the text: the answer is its reading, unless memory runs out.
     ensures reading { Gives (λ d. d) result (domain_reading text.now) }
@@ -66,11 +66,11 @@ pub fn read_domain(alloc: Global, text: &[u8]) -> Result<Domain, SyntaxError>
 
 /// The problem that a text spells, as `read_domain` reads a domain. Whether it fits a domain isn't looked at.
 pub fn read_problem(alloc: Global, text: &[u8]) -> Result<Problem, SyntaxError>
-    // What is read is spelled so.
+    // The text spells the problem that is read.
     ensures found { IfOk result (SpellsProblem text.now) }
-    // What is spelled so is read, unless memory runs out.
+    // A problem that the text spells is read, unless memory runs out.
     ensures only { (p : Problem) → SpellsProblem text.now p → Gives (λ x. x) result (Ok p) }
-    // With an error but Memory, the text spells no problem.
+    // With an error except Memory, the text spells no problem.
     ensures none { IfErr result (λ e. e ≢ Memory → (p : Problem) → SpellsProblem text.now p → ⊥) }
     // The tokens before the error's token begin a problem, that token can't follow, and the error
     // is the first that fits it.
@@ -80,7 +80,7 @@ pub fn read_problem(alloc: Global, text: &[u8]) -> Result<Problem, SyntaxError>
     ensures told { IfErr result (λ e. e ≢ Memory → ToldFault Problem IsProblem problem_form text.now e) }
     // The error of a place is reported, unless memory runs out. A text thus has one error at most.
     ensures fault { (e : SyntaxError) → ToldFault Problem IsProblem problem_form text.now e → Gives (λ x. x) result (Err e) }
-    // It is the one answer that reading from left to right gives, however deep the parentheses.
+    // The answer is the one that reading from left to right gives, however deep the parentheses.
     ensures exact { IsRead (problem_at unlimited) text.now result }
     // The same as a function of the text: the answer is its reading, unless memory runs out.
     ensures reading { Gives (λ p. p) result (problem_reading text.now) }

@@ -158,7 +158,7 @@ fn token_at(source: &Text, here: &Cursor, text: &[u8]) -> Result<Token, AllocErr
     })
 }
 
-// Takes a token: where the next may begin.
+// Takes a token: the next one may begin after it.
 #[tactic(auto, unfolding(pb_pddl::specs::Tokens::opened, pb_pddl::specs::Tokens::is_open))]
 fn pass(here: &mut Cursor, token: &Token) -> Result<(), AllocError>
     requires { here.old.at + length token.now.text < 2 ^ 64 }
@@ -186,7 +186,7 @@ fn pass(here: &mut Cursor, token: &Token) -> Result<(), AllocError>
     Ok(())
 }
 
-// The tokens of a text, of which this source is the lower case.
+// The tokens of a text. `source` is the text in lower case.
 fn tokens_in(alloc: Global, source: &Text, text: &[u8]) -> Result<Listed<Token>, AllocError>
     requires { source.now ≡ map lower text.now }
     ensures tokens { IfOk result (TextTokens text.now) }

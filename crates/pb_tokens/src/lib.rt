@@ -1,4 +1,4 @@
-//! The tokens of a PDDL text: `pb_pddl`' `specs/Tokens.antt` says which list is a text's.
+//! The tokens of a PDDL text: `specs/Tokens.antt` of `pb_pddl` says which list is a text's.
 #![tactic(auto)]
 
 mod bytes;
