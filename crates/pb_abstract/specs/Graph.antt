@@ -27,7 +27,7 @@ blocks_in scopes = record { count = length scopes; scope = λ block other. has (
 abbrev pub blocks_of : AbstractGraph → Blocks
 blocks_of graph = blocks_in graph.scopes
 
--- scopes are of blocks that there are
+-- scopes are of blocks of the graph
 abbrev pub AreKnown : (scopes : List (List ℕ)) → Type 0
 AreKnown scopes = (block other : ℕ) → IsTrue ((blocks_in scopes).scope block other) → other < length scopes
 
@@ -35,7 +35,7 @@ AreKnown scopes = (block other : ℕ) → IsTrue ((blocks_in scopes).scope block
 abbrev pub AreSources : (scopes lists : List (List ℕ)) → Type 0
 AreSources scopes lists = (block other : ℕ) → block < length scopes → has (slice_index_or lists block []) other ≡ (blocks_in scopes).scope other block
 
--- There are 1 to 4,096 blocks. Each is in its own scope, and scopes are of blocks that there are.
+-- There are 1 to 4,096 blocks. Each is in its own scope, and scopes are of blocks of the graph.
 pub record IsGraph (graph : AbstractGraph) : Type 0 where
   pub some : 1 ≤ (blocks_of graph).count
   pub few : (blocks_of graph).count ≤ 4096

@@ -4,7 +4,7 @@ use Rattle.pb_task.specs.declared.parts.StripsParts.{StripsParts}
 use Rattle.pb_abstract.specs.Tracked.{changers, is_changed, comes_before, AreInOrder}
 use Rattle.pb_abstract.specs.Graph.{has}
 
--- They say of each atom how many actions change it.
+-- The numbers say of each atom how many actions change it.
 pub record AreCounts (strips : StripsParts) (counts : List ℕ) : Type 0 where
   pub len : length counts ≡ strips.atoms
   pub each : (atom : ℕ) → atom < strips.atoms → slice_index counts atom ≡ changers atom strips.actions
@@ -26,7 +26,7 @@ better counts tracked atom best = if is_left counts tracked atom && is_fewer cou
 abbrev pub precedes : (counts : List ℕ) → (one other : ℕ) → Bool
 precedes counts one other = nat_lt (slice_index counts one) (slice_index counts other) || (slice_index counts one == slice_index counts other && nat_lt one other)
 
--- It is left, and comes before all others that are.
+-- The atom is left, and comes before all others that are left.
 pub record IsNext (counts tracked : List ℕ) (atom : ℕ) : Type 0 where
   pub left : IsTrue (is_left counts tracked atom)
   pub first : (other : ℕ) → IsTrue (is_left counts tracked other) → atom ≢ other → IsTrue (precedes counts atom other)

@@ -16,7 +16,7 @@ use Rattle.pb_task.specs.Strips.{has_atom, strips_space}
 abbrev pub changes : (atom : ℕ) → GroundAction → Bool
 changes atom action = has_atom action.adds atom || has_atom action.deletes atom
 
--- how many of the actions do
+-- how many of the actions add or delete the atom
 abbrev pub changers : (atom : ℕ) → List GroundAction → ℕ
 changers atom [] = 0
 changers atom (action ∷ actions) = one_if (changes atom action) + changers atom actions

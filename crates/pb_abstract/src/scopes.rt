@@ -33,7 +33,8 @@ pub fn finest(alloc: Global, parts: &TaskParts, wish: u32) -> Result<Projection,
     }
 }
 
-/// The scopes of all blocks, in order of their numbers: of each the block itself, and those that an edge leads to.
+/// The scopes of all blocks, in order of their numbers: for each the block itself, and those that
+/// an edge leads to.
 pub fn scopes(
     alloc: Global,
     parts: &TaskParts,

@@ -33,7 +33,7 @@ empty_homes count weight = record { bundles = replicate count (Some (record { en
 abbrev pub with_start : Content → (start : ℕ) → Estimate → Content
 with_start content start estimate = put content start (offered_row 0 estimate None 0 (row_of content start))
 
--- of each block at home the key of its first Opened row is noted
+-- for each block at home the key of its first Opened row is noted
 abbrev pub AreNoted : HomeTable → Type 0
 AreNoted table = (block : ℕ) (content : Content) → content_at table block ≡ Some content → IsBest content.weight (row_of content) (key_at table block)
 

@@ -60,7 +60,8 @@ FirstChoicesAreByKey =
 
 -- ---- the keys that are noted are those of the rows
 
--- The key of a block at home is that of its first Opened row, in every store that has the block's rows and the bundle's weight.
+-- The key of a block at home is that of its first Opened row. The store may be any that has the
+-- block's rows and the bundle's weight.
 abbrev pub HomeKeysAreBest : Type 0
 HomeKeysAreBest =
     (table : HomeTable) (store : Store) (block : ℕ) (content : Content) → AreNoted table → content_at table block ≡ Some content
@@ -83,8 +84,8 @@ OpeningRowsAreHome =
     → ((home state : ℕ) → home_rows table home state ≡ (opening_store space guide weight).rows home state)
     × ((block : ℕ) → block < count → (content : Content) × (content_at table block ≡ Some content) × (content.weight ≡ weight))
 
--- If the keys were those of a store, and those of some bundles are noted anew, the keys are those
--- of the store with these bundles' rows.
+-- If the keys were those of a store, and some bundles' keys are noted anew, the keys are those of
+-- the store with these bundles' rows.
 abbrev pub NotedKeysAreBest : Type 0
 NotedKeysAreBest =
     (store worked : Store) (scope : ℕ → Bool) (parts : List (ℕ × Content)) (old new : List (Option Key)) → HasKeys store (λ block. get_or old block None)
@@ -98,7 +99,7 @@ NotedKeysAreBest =
 abbrev pub IncreasingScopesAreDistinct : Type 0
 IncreasingScopesAreDistinct = (scope : List ℕ) → IsStrictlyIncreasing scope → IsDistinct nat_eq scope
 
--- What leaves home are the rows of the scope.
+-- The rows that leave home are those of the scope.
 abbrev pub MovesTakeRows : Type 0
 MovesTakeRows =
     (list : List ℕ) (scope : ℕ → Bool) (old new : HomeTable) → ((block : ℕ) → is_among list block ≡ scope block) → new.bundles ≡ vacated list old.bundles
@@ -112,7 +113,7 @@ TakenPlacesAreVacant =
     → new.bundles ≡ vacated list old.bundles → keys_of parts ≡ list
     → (block : ℕ) → IsSome (content_in parts block) → IsVacant new.bundles block
 
--- What comes home are the rows of the bundles that come.
+-- The rows that come home are those of the bundles that come.
 abbrev pub MovesBringRows : Type 0
 MovesBringRows =
     (parts : List (ℕ × Content)) (scope : ℕ → Bool) (old new : HomeTable) → ((block : ℕ) → IsSome (content_in parts block) → block < length old.bundles)
@@ -146,7 +147,7 @@ BroughtRowsAreMerged =
     (scope : ℕ → Bool) (home together worked : Rows) (incumbent other : Option ℕ) (weight worked_weight : Weight) → BringsRows scope home together worked
     → store_of together (lesser incumbent other) weight ≡ merged_store scope (store_of worked other worked_weight) (store_of home incumbent weight)
 
--- Rows that are taken and come home as they were leave home as it was.
+-- Rows that are taken and come home unchanged leave home unchanged.
 abbrev pub MovesTurnBack : Type 0
 MovesTurnBack =
     (scope : ℕ → Bool) (home left taken together : Rows) → TakesRows scope home left taken → BringsRows scope left together taken

@@ -9,7 +9,7 @@ use Rattle.pb_lists.specs.Bundle.{Content, row_of}
 abbrev pub content_in : List (ℕ × Content) → (block : ℕ) → Option Content
 content_in parts block = lookup (nat_eq block) parts
 
--- the block's bundle has this content, and all others what they had
+-- the block's bundle has this content, and all other bundles keep theirs
 abbrev pub with_content : List (ℕ × Content) → (block : ℕ) → Content → List (ℕ × Content)
 with_content parts block content = set_value (nat_eq block) parts content
 

@@ -14,7 +14,8 @@ store_of rows incumbent weight = record { rows = rows; incumbent = incumbent; we
 abbrev pub HasKeys : Store → (keys : ℕ → Option Key) → Type 0
 HasKeys store keys = (block : ℕ) → IsBest store.weight (store.rows block) (keys block)
 
--- Of the rows at home those of the scope are taken, and nothing else; all others are left, and none of the scope.
+-- Of the rows at home those of the scope are taken, and no others. All others are left, and none of
+-- the scope.
 pub record TakesRows (scope : ℕ → Bool) (home left taken : Rows) : Type 0 where
   pub taken_rows : AgreesOn scope taken home
   pub none_else : AreGone (λ block. not (scope block)) taken

@@ -37,7 +37,7 @@ abbrev pub Under : (steps : ℕ) → (above below : ℕ) → Type 0
 Under zero above below = above ≡ below
 Under (suc steps) above below = (above ≡ below) ⊎ (Under steps (2 * above) below ⊎ Under steps (2 * above + 1) below)
 
--- the winner that there may be is the other, or better
+-- the winner, if there is one, is the other, or better
 abbrev pub IsNotBehind : Option Winner → Winner → Type 0
 IsNotBehind None other = ⊥
 IsNotBehind (Some winner) other = (winner ≡ other) ⊎ IsAhead winner other

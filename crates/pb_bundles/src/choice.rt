@@ -49,7 +49,7 @@ impl Homes {
         best
     }
 
-    // The better of a block that there may be and another.
+    // The better of a block, if there is one, and another.
     fn better_of(&self, best: Option<u32>, other: u32) -> Option<u32>
         ensures { IsBetterOf (key_at self.now) best other result }
     {

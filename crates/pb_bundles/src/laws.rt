@@ -47,7 +47,7 @@ pub fn increasing_scopes_are_distinct()
     ensures { IncreasingScopesAreDistinct }
 {}
 
-/// What leaves home are the rows of the scope.
+/// The rows that leave home are those of the scope.
 pub fn moves_take_rows()
     ensures { MovesTakeRows }
 {}
@@ -57,7 +57,7 @@ pub fn taken_places_are_vacant()
     ensures { TakenPlacesAreVacant }
 {}
 
-/// What comes home are the rows of the bundles that come.
+/// The rows that come home are those of the bundles that come.
 pub fn moves_bring_rows()
     ensures { MovesBringRows }
 {}
@@ -82,7 +82,7 @@ pub fn brought_rows_are_merged()
     ensures { BroughtRowsAreMerged }
 {}
 
-/// Rows that are taken and come home as they were leave home as it was.
+/// Rows that are taken and come home unchanged leave home unchanged.
 pub fn moves_turn_back()
     ensures { MovesTurnBack }
 {}

@@ -89,7 +89,7 @@ fn move_one(bundles: &mut Vec<Option<Bundle>>, block: u32, parts: &mut IndexMap<
     }
 }
 
-// Moves each bundle to its place, and answers what is left, which is empty.
+// Moves each bundle to its place. The answer is what is left, which is empty.
 fn move_home(
     bundles: &mut Vec<Option<Bundle>>,
     parts: IndexMap<u32, Bundle>,

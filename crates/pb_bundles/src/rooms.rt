@@ -6,8 +6,8 @@ use crate::parts::BundleRoom;
 use std::alloc::{AllocError, Global};
 use std::marker::Model;
 
-/// Emptied rooms that are kept for bundles that leave later, so that no memory is taken if enough
-/// of them fit. Contracts see how many bundles fit in each, and how many rooms may be kept.
+/// Emptied rooms that are kept for bundles that leave later: no memory is taken if enough bundles
+/// fit. Contracts see how many bundles fit in each, and how many rooms may be kept.
 #[derive(Drop)]
 pub struct KeptRooms {
     pub(crate) rooms: Vec<BundleRoom>,

@@ -182,7 +182,7 @@ fn build(keys: &[Option<Key>], winners: &mut Vec<Winner>)
     }
 }
 
-// Plays anew the games on the way up from the block, which are all that aren't as they are to be.
+// Plays anew the games on the way up from the block. No other game is out of date.
 fn climb(keys: &[Option<Key>], winners: &mut Vec<Winner>, block: u32)
     requires block { block < length keys.now }
     requires places { length winners.old.items ≡ length keys.now }

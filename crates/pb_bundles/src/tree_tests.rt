@@ -25,7 +25,7 @@ fn plain_choice(keys: &KeyTree, count: u32, mask: u32) -> Option<u32> {
     best
 }
 
-// Keys of which many are the same, and none for some blocks.
+// Keys, many of them the same, and none for some blocks.
 fn fill(keys: &mut KeyTree, count: u32, seed: u64)
     requires { length keys.old ≡ count }
     ensures { length keys.new ≡ count }

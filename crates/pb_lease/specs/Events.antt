@@ -14,7 +14,7 @@ abbrev pub counts_along : Blocks → Settings → Counts → List Event → Coun
 counts_along of settings counts [] = counts
 counts_along of settings counts (event ∷ events) = counts_along of settings (counts_after of settings counts event) events
 
--- Exactly these events came, and nothing else changed but rooms.
+-- Exactly these events came, and nothing else changed except rooms.
 pub record Adds (old new : Table) (events : List Event) : Type 0 where
   pub counts : counts_of new ≡ counts_along (blocks old) old.settings (counts_of old) events
   pub journal : new.journal ≡ old.journal ++ events

@@ -25,7 +25,8 @@ OpenedBlocksMayBeLeased =
     (of : Blocks) (settings : Settings) (counts : Counts) (store : Store) (block : ℕ) → block < of.count → HasOpened (store.rows block)
     → IsTrue (can_be_leased of settings counts block) ↔ MayBeLeased of settings counts store block
 
--- With no lease out and no end, every block can be leased while something is left of the budget.
+-- If no lease is out before the end, every block can be leased while something is left of the
+-- budget.
 abbrev pub NoneOutCanBeLeased : Type 0
 NoneOutCanBeLeased =
     (of : Blocks) (settings : Settings) (counts : Counts) (block : ℕ) → AreLawful of settings counts → block < of.count
@@ -40,9 +41,10 @@ LeasesStayOut =
     → (lease : LeaseValue) (most_broken : ℕ) → AreOfOthers lease.worker moves → (out : IsOut setup machine most_broken lease)
     → (after : IsOut setup next most_broken lease) × (IsInTurns setup machine most_broken lease out → IsInTurns setup next most_broken lease after)
 
--- A lease that was worked on is out at whatever moment the graph is by now, under three conditions:
--- what it was lent with is recorded for its worker, it was given to the worker, and the worker can
--- have read by now what it read. Its work was done in turns if it was from what was lent.
+-- A lease that was worked on is out at the graph's present moment under three conditions. The rows
+-- that it was lent are recorded for its worker. The incumbent that it was lent is the one that the
+-- worker was given. The worker can have read by now what it read. If the work from what was lent
+-- was in turns, the lease's work was done in turns.
 abbrev pub WorkedLeasesAreOut : Type 0
 WorkedLeasesAreOut =
     (g : GraphValue) (recorded : (worker : ℕ) → Rows) (machine : Machine) → IsMomentAt g recorded machine

@@ -6,9 +6,9 @@ use Rattle.pb_model.specs.Store.{Store, AtMost}
 use Rattle.pb_lists.specs.Bundle.{Content}
 use Rattle.pb_bundles.specs.Parts.{content_in, with_content, away_rows}
 
--- The worker that has the lease, its block, how many expansions it may make and has made, the least
--- cost at which a goal is known to be reached, or none, the weight of the search, and the bundles
--- of the block's scope.
+-- The worker that has the lease, its block, and how many expansions it may make and has made. Then
+-- the least cost at which a goal is known to be reached, or none, the weight of the search, and the
+-- bundles of the block's scope.
 pub record LeaseValue : Type 0 where
   pub worker : ℕ
   pub block : ℕ
@@ -26,7 +26,7 @@ leased_store lease = record { rows = away_rows lease.parts; incumbent = lease.in
 abbrev pub HasWeights : LeaseValue → Type 0
 HasWeights lease = (block : ℕ) (content : Content) → content_in lease.parts block ≡ Some content → content.weight ≡ lease.weight
 
--- the lease with this content as the bundle of the block, and all else as it was
+-- the lease with this content as the bundle of the block, and all else as before
 abbrev pub with_bundle : LeaseValue → (block : ℕ) → Content → LeaseValue
 with_bundle lease block content = record lease { parts = with_content lease.parts block content }
 

@@ -1,4 +1,4 @@
--- What a search by leases is, and what its holder has done with a lease that is out.
+-- What a search by leases is, and what the holder of a lease that is out has done with it.
 use Rattle.std.specs.Prelude.{◌≡◌, ℕ, Some, is_some}
 use Rattle.pb_model.specs.Guide.{Guide}
 use Rattle.pb_machine.specs.declared.event.Grant.{Grant}
@@ -16,7 +16,7 @@ use Rattle.pb_lease.specs.LeaseValue.{LeaseValue, leased_store, HasWeights}
 abbrev pub guide_of : TaskParts → AbstractGraph → Guide
 guide_of task graph = record { estimate = estimate_of task; home = home_of task graph }
 
--- what is searched, and with what: the task, by the blocks of the graph
+-- what is searched, and by what: the task, by the blocks of the graph
 abbrev pub setup_of : TaskParts → AbstractGraph → Settings → (reopenings : ℕ) → Setup
 setup_of task graph settings reopenings =
     record { space = space_of task; guide = guide_of task graph; blocks = blocks_of graph; settings = settings; reopenings = reopenings }
@@ -25,8 +25,9 @@ setup_of task graph settings reopenings =
 abbrev pub grant_of : LeaseValue → Grant
 grant_of lease = record { block = lease.block; quota = lease.quota }
 
--- The lease is out in this machine. Its rows come from those that it was given or last renewed with
--- by exactly the expansions that it counts, and by at most this many that were broken off.
+-- The lease is out in this machine. Its rows come from those that it was given or last renewed
+-- with. The way there is exactly the expansions that it counts, and at most `most_broken` broken
+-- ones.
 pub record IsOut (setup : Setup) (machine : Machine) (most_broken : ℕ) (lease : LeaseValue) : Type 0 where
   pub leased : machine.counts.leases lease.worker ≡ Some (grant_of lease)
   pub work : HasWorked setup machine lease.worker (grant_of lease) lease.used most_broken (leased_store lease)

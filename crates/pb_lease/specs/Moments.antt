@@ -12,9 +12,9 @@ use Rattle.pb_lease.specs.LeaseValue.{LeaseValue, leased_store}
 use Rattle.pb_lease.specs.GraphValue.{GraphValue, setup_in, counts_in}
 
 -- The graph, with the rows that are recorded for the leases that are out, is this lawful moment of
--- the machine. It has the machine's counts, the whole store has the rows at home and those that are
--- recorded, and the noted keys are those of the whole store. Each worker can have read the graph's
--- incumbent; the machine's may be lower by now, since workers tell costs.
+-- the machine. It has the machine's counts. The whole store has the rows at home and the recorded
+-- ones, and the noted keys are its own. Each worker can have read the graph's incumbent; the
+-- machine's may be lower by now, since workers tell costs.
 pub record IsMomentAt (g : GraphValue) (recorded : (worker : ℕ) → Rows) (machine : Machine) : Type 0 where
   pub lawful : IsLawful (setup_in g) machine
   pub counts : machine.counts ≡ counts_in g

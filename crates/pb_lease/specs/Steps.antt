@@ -104,10 +104,9 @@ pub record IsReleased (old : GraphValue) (lease : LeaseValue) (trouble : Bool) (
   pub task : new.task ≡ old.task
   pub incumbent : new.incumbent ≡ lesser old.incumbent lease.incumbent
 
--- Take each moment of the old graph at which the lease is out, with at most so many expansions
--- broken off, and shows what its worker told. If each worker can then have read the new graph's
--- incumbent, these events lead to a moment of the new graph. They are in order if the lease has
--- worked in turns.
+-- At a moment of the old graph the lease is out, with at most so many expansions broken off, and
+-- shows what its worker told. If each worker can then have read the new graph's incumbent, these
+-- events lead to a moment of the new graph. They are in order if the lease has worked in turns.
 abbrev pub ReleasesNext : (old : GraphValue) → LeaseValue → (trouble : Bool) → (new : GraphValue) → Type 0
 ReleasesNext old lease trouble new =
     (recorded : (worker : ℕ) → Rows) (machine : Machine) → IsMomentAt old recorded machine → (out : IsOut (setup_in old) machine (one_if trouble) lease)
@@ -152,9 +151,9 @@ RenewsNext old lease kept new =
 abbrev pub GoesOn : (old : GraphValue) → LeaseValue → (new : GraphValue) → Type 0
 GoesOn old lease new = IsChoiceWithHome old lease new (Some lease.block) × (0 < rooms old.table lease.worker)
 
--- At each moment of the old graph, with the lease home, two tests agree: whether the lease's block
--- is the first choice by the keys of the new graph, and whether it is by the rows of the whole
--- store with the lease's.
+-- At each moment of the old graph, with the lease home, two tests agree on whether the lease's
+-- block is the first choice. One goes by the keys of the new graph, the other by the rows of the
+-- whole store with the lease's.
 abbrev pub ChoosesByRows : (old : GraphValue) → LeaseValue → (new : GraphValue) → Type 0
 ChoosesByRows old lease new =
     (recorded : (worker : ℕ) → Rows) (machine : Machine) → IsMomentAt old recorded machine
@@ -178,7 +177,7 @@ pub record IsSwitched (old : GraphValue) (lease next : LeaseValue) (new : GraphV
 
 -- ---- a cost that is known before its lease comes back
 
--- At each moment of the old graph at which every worker can have read the cost, the new graph is
+-- Take a moment of the old graph at which every worker can have read the cost. The new graph is
 -- that moment too, with the same rows recorded.
 abbrev pub TakesBound : (old : GraphValue) → (cost : ℕ) → (new : GraphValue) → Type 0
 TakesBound old cost new =

@@ -1,4 +1,4 @@
-//! Numbers by block, of which an event changes those of one interference by one.
+//! Numbers by block. An event changes the numbers of one interference by one.
 ghost use Rattle.std.specs.Prelude.{◌≡◌, ◌==◌, ◌+◌, ◌-◌, ◌<◌, ◌≤◌, ◌^◌, ℕ, true, length, All, get_or};
 ghost use Rattle.std.specs.List.Sorted.{IsStrictlyIncreasing};
 ghost use Rattle.pb_machine.specs.Tables.{one_if};

@@ -29,10 +29,9 @@ use std::alloc::{AllocError, Global};
 use std::marker::Model;
 use std::sync::Arc;
 
-/// A search that gives out leases of its blocks: the task and its blocks, the rows at home, the
-/// least cost at which a goal is known to be reached, and the numbers and the journal of the lease
-/// machine. Each call that changes it is one event of that machine, or an event and the end that
-/// follows from the event.
+/// A search that gives out leases of its blocks. It has the task and its blocks, the rows at home,
+/// the least cost at which a goal is known to be reached, and the numbers and the journal of the
+/// lease machine. Each call that changes it is one event of the machine, maybe followed by the end.
 #[derive(Drop)]
 pub struct LeaseGraph {
     pub(crate) task: Arc<Task>,
@@ -57,7 +56,7 @@ impl Model for LeaseGraph {
 }
 
 impl LeaseGraph {
-    /// The graph of a search that begins. The start alone has a row, which is Opened, nothing is
+    /// The graph of a search that begins. The start alone has a row, which is Opened. Nothing is
     /// leased, all of the budget is left, no cost is known, and the journal is empty. The call
     /// takes room for all blocks and workers, for every worker's signing off and for one end. The
     /// estimate is the start's. An error means out of memory.
@@ -114,7 +113,7 @@ impl LeaseGraph {
     }
 
     /// The least cost at which a goal is known to be reached, in the unit of the task's action
-    /// costs, as of the leases that came back or were renewed. None if no cost is known.
+    /// costs. It is known from the leases that came back or were renewed. None if no cost is known.
     pub fn incumbent(&self) -> Option<u64>
         ensures { result ≡ self.now.incumbent }
     {

@@ -19,7 +19,7 @@ use crate::graph::LeaseGraph;
 use crate::lease::Lease;
 
 impl LeaseGraph {
-    /// The rival of the lease's block: the best block of its interference that is better than it,
+    /// The rival of the lease's block: the best block of its interference that is better. It goes
     /// by the keys that were noted when each block was last home, leased or renewed. None exactly
     /// if no such block is better.
     pub fn rival(&self, lease: &Lease) -> Option<u32>

@@ -18,8 +18,8 @@ pub fn leases_stay_out()
     ensures { LeasesStayOut }
 {}
 
-/// A lease that was worked on is out at whatever moment the graph is by now, if what it was lent
-/// with is recorded for its worker.
+/// A lease that was worked on is out at the graph's present moment, if what it was lent with is
+/// recorded for its worker.
 pub fn worked_leases_are_out()
     ensures { WorkedLeasesAreOut }
 {}

@@ -105,7 +105,7 @@ impl Lease {
         self.parts.bundle(block)
     }
 
-    /// The bundle of a block of the scope, to be changed: what is done to it is done to this one alone.
+    /// The bundle of a block of the scope, to be changed. A change to it changes no other bundle.
     pub fn bundle_mut(&mut self, block: u32) -> &mut Bundle
         requires { IsSome (content_in self.old.parts block) }
         ensures* writes_back { sem 𝓛 (LendsBundle self.entry block result) }

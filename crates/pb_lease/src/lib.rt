@@ -1,7 +1,6 @@
 //! The graph of a parallel best-first search, which gives out leases of its blocks (Burns, Lemons,
 //! Ruml and Zhou, 2010). It has the rows at home, the bundles that leave with a lease and come
-//! back, the numbers of the lease machine, its journal, and the counters that are kept beside
-//! these.
+//! back, the numbers of the lease machine, and its journal. Beside these are kept the counters.
 #![tactic(auto)]
 
 mod answer;

@@ -155,8 +155,8 @@ impl MachineTables {
         self.seats[worker as usize]
     }
 
-    /// For how many events of a worker that has a lease there is room in the journal, beside the
-    /// return of its lease and its signing off.
+    /// For how many events there is room in the journal, of a worker that has a lease. The return
+    /// of its lease and its signing off have room beside that.
     pub fn room(&self, worker: u32) -> u32
         requires { IsSome ((counts_of self.now).leases worker) }
         ensures { result ≡ rooms self.now worker }

@@ -24,7 +24,7 @@ Buckets = BTreeMap Key Bucket
 abbrev pub Entry : Type 0
 Entry = ℕ × ℕ
 
--- by the estimate, and at one estimate by the state
+-- by the estimate, and for equal estimates by the state
 abbrev pub entry_cmp : Entry → Entry → Ordering
 entry_cmp entry other = ordering_then (nat_cmp entry.0 other.0) (nat_cmp entry.1 other.1)
 

@@ -31,7 +31,7 @@ store_of content incumbent = one_part_store (row_of content) incumbent content.w
 abbrev pub put : Content → ℕ → Row → Content
 put content state row = record content { entries = insert_entry nat_eq content.entries state row }
 
--- this state has this row, and all others have what they had
+-- this state has this row, and all other states keep theirs
 pub record SetsRow (old new : Part) (state : ℕ) (row : Row) : Type 0 where
   pub here : new state ≡ Some row
   pub others : (other : ℕ) → other ≢ state → new other ≡ old other

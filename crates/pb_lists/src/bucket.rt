@@ -33,8 +33,8 @@ impl Bucket {
         }
     }
 
-    // Puts an entry into the bucket. Its top is then the entry, or what it was: the calls of `top`
-    // are for their clauses alone.
+    // Puts an entry into the bucket. The top is then the entry, or the same as before: the calls of
+    // `top` are for their clauses alone.
     pub(crate) fn push(&mut self, h: u64, state: Packed) -> Result<(), AllocError>
         ensures ordered { IsOrdered self.old → IsOrdered self.new }
         ensures member { OnOk result (has_entry self.new (h, state) ≡ true) }
@@ -64,7 +64,7 @@ impl Bucket {
         Ok(())
     }
 
-    // The first entry: that of the least estimate, and at one estimate that of the least state.
+    // The first entry: that of the least estimate, and of the least state among equal estimates.
     pub(crate) fn top(&self) -> Option<(u64, Packed)>
         ensures top { result ≡ top_of self.now }
         ensures least { IsOrdered self.now → IfSome result (λ entry. (other : Entry)
@@ -128,7 +128,7 @@ fn first_word(words: &BinaryHeap<Reverse<(u64, u64)>>) -> Option<(u64, Packed)>
     }
 }
 
-// Whether an entry comes before another: by the estimate, and at one estimate by the state.
+// Whether an entry comes before another: by the estimate, and for equal estimates by the state.
 fn is_before(entry: &(u64, Packed), other: &(u64, Packed)) -> bool
     ensures { result ≡ is_lt (entry_cmp entry.now other.now) }
 {

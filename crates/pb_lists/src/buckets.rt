@@ -64,8 +64,7 @@ pub(crate) fn key_from(sum: &Key, h: u64) -> Key
     }
 }
 
-// Puts a state into the bucket of its key's sum. If memory runs out, each bucket has the entries
-// that it had.
+// Puts a state into the bucket of its key's sum. If memory runs out, each bucket keeps its entries.
 pub(crate) fn file(
     alloc: Global,
     buckets: &mut Buckets,
@@ -127,8 +126,8 @@ fn is_first(buckets: &Buckets, state: &Packed) -> bool
     }
 }
 
-// Takes what is no longer Opened at its key from the first bucket, until a row that still is Opened
-// at its key is on top. It takes out buckets that become empty.
+// Takes entries from the first bucket until its top row is still Opened at the entry's key. It
+// takes out buckets that become empty.
 pub(crate) fn tidy(buckets: &mut Buckets, rows: &Rows, num: u64, den: u64)
     requires num { num ≤ 1000 }
     requires den { den ≤ 1000 }
@@ -155,7 +154,7 @@ fn first_sum(buckets: &Buckets) -> Option<Key>
     }
 }
 
-// Clears the first bucket, that of this sum. Answers whether an entry is left in it.
+// Clears the first bucket, that of this sum. The answer is whether an entry is left in it.
 fn clear_first(buckets: &mut Buckets, rows: &Rows, num: u64, den: u64, sum: &Key) -> bool
     requires num { num ≤ 1000 }
     requires den { den ≤ 1000 }

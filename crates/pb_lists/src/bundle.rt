@@ -180,7 +180,7 @@ impl Bundle {
         self.lower(state, &was, g, parent, action)
     }
 
-    /// Offers a state that has no row one, as `offer` does, with one look-up less.
+    /// Offers a row to a state that has none, as `offer` does, with one look-up less.
     pub fn offer_new(
         &mut self,
         state: Packed,
@@ -217,8 +217,8 @@ impl Bundle {
         self.settle(state, Status::Cut);
     }
 
-    // Adds an Opened row for a state that has none. Room is taken in the table, then the state enters
-    // its bucket, then the table has its row: what may fail comes first.
+    // Adds an Opened row for a state that has none. Room is taken in the table, then the state
+    // enters its bucket, then the table gets its row: the steps that may fail come first.
     fn add(&mut self, state: Packed, row: Row) -> Result<(), AllocError>
         requires absent { row_of self.old state ≡ None }
         requires opened { row.status ≡ Opened }

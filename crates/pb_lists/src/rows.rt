@@ -143,8 +143,8 @@ impl Rows {
         }
     }
 
-    // Makes the table wide if it has no place for this state or this row. If memory runs out, it is
-    // as it was.
+    // Makes the table wide if it has no place for this state or this row. If memory runs out, the
+    // table is as before.
     pub(crate) fn make_place(&mut self, state: &Packed, row: &Row) -> Result<(), AllocError>
         ensures entries { self.new.entries ≡ self.old.entries }
         ensures place { OnOk result (HasPlaceFor self.new state.now row.now) }

@@ -107,8 +107,8 @@ HistoriesHaveAnyWeight =
     → IsHistory blocks (settings_with_weight settings weight) before journal counts
 
 -- A journal is judged event by event. A line and a reason are given exactly if the event on that
--- line is the first that may not come, for that reason. None are given exactly if all events may
--- come. The first event is on line `from`.
+-- line is the first refused one, for that reason. None are given exactly if all events may come.
+-- The first event is on line `from`.
 abbrev pub RefusalsAreFirst : Type 0
 RefusalsAreFirst =
     (blocks : Blocks) (settings : Settings) (counts : Counts) (from : ℕ) (journal : List Event)
@@ -132,8 +132,8 @@ MemoryEndsAreReported =
     → (start rest : List Event) × (report : Event) × IsTrue (is_report report) × (journal ≡ start ++ report ∷ Ended Memory ∷ rest))
     × (IsTrue counts.trouble → (start : List Event) × (report : Event) × IsTrue (is_report report) × (journal ≡ start ++ report ∷ []))
 
--- If an event reports out of memory before the search has ended, the next event, if there is one,
--- is the end that follows from the report.
+-- If an event reports out of memory before the search has ended, the next event, if any, is the end
+-- that follows from the report.
 abbrev pub ReportsEndSearches : Type 0
 ReportsEndSearches =
     (blocks : Blocks) (settings : Settings) (before : ℕ) (start rest : List Event) (report : Event) (between counts : Counts)
@@ -165,7 +165,7 @@ RoomGoesOn =
     × (room_after (journal ++ more) ≡ room_from (room_after journal) more)
     × (leases_in (journal ++ more) ≡ leases_in journal + leases_in more)
 
--- With no lease out no block is hot.
+-- If no lease is out, no block is hot.
 abbrev pub NoneOutNoneHot : Type 0
 NoneOutNoneHot =
     (blocks : Blocks) (settings : Settings) (counts : Counts) → AreLawful blocks settings counts
@@ -220,7 +220,8 @@ EventsChangeHot =
     (blocks : Blocks) (settings : Settings) (counts : Counts) (event : Event) (block : ℕ) → refusal blocks settings counts event ≡ None
     → ChangesHot blocks settings counts event block (hot_count blocks counts.hot block) (hot_count blocks (counts_after blocks settings counts event).hot block)
 
--- One block that becomes hot adds one to the numbers of its interference, and one that becomes cold takes one.
+-- One block that becomes hot adds one to the numbers of its interference. One that becomes cold
+-- takes one.
 abbrev pub MarksChangeHot : Type 0
 MarksChangeHot =
     (blocks : Blocks) (hot : ℕ → Bool) (marked block : ℕ) → marked < blocks.count
@@ -248,7 +249,8 @@ abbrev pub RivalsAreUnique : Type 0
 RivalsAreUnique = (blocks : Blocks) (store : Store) (block : ℕ) (rival other : Option ℕ) → IsRival blocks store block rival
     → IsRival blocks store block other → rival ≡ other
 
--- A block that may be leased may be leased with a lot, or with all that is left, by a worker that has no lease.
+-- A block that may be leased may be leased with a lot, or with all that is left, by a worker
+-- without a lease.
 abbrev pub ChosenLeasesAreLegal : Type 0
 ChosenLeasesAreLegal =
     (blocks : Blocks) (settings : Settings) (counts : Counts) (store : Store) (worker block : ℕ)
@@ -275,23 +277,23 @@ ChoicesOutliveReleases =
 
 -- ---- events that may come
 
--- Who has a lease is a worker that hasn't signed off.
+-- Only a worker that hasn't signed off has a lease.
 abbrev pub LeasesAreOfWorkers : Type 0
 LeasesAreOfWorkers =
     (blocks : Blocks) (settings : Settings) (counts : Counts) (worker : ℕ) (grant : Grant) → AreLawful blocks settings counts
     → counts.leases worker ≡ Some grant
     → IsFalse (is_stranger settings counts worker)
 
--- Whoever has a lease may bring it back, with or without an out-of-memory report, if it made no
--- more expansions than it might.
+-- A worker that has a lease may bring it back, with or without an out-of-memory report, if the
+-- lease made no more expansions than it might.
 abbrev pub ReleasesAreLegal : Type 0
 ReleasesAreLegal =
     (blocks : Blocks) (settings : Settings) (counts : Counts) (worker used : ℕ) (memory : Bool) (grant : Grant)
     → IsFalse (is_stranger settings counts worker) → IsFalse counts.trouble → counts.leases worker ≡ Some grant → used ≤ grant.quota
     → refusal blocks settings counts (Release worker used memory) ≡ None
 
--- Before the end, whoever has a lease may mark a busy block hot that isn't hot yet, unless blocks
--- are never marked. It may also take a mark away.
+-- Before the end, a worker that has a lease may mark a busy block hot that isn't hot yet, unless
+-- blocks are never marked. The worker may also take a mark away.
 abbrev pub MarksAreLegal : Type 0
 MarksAreLegal =
     (blocks : Blocks) (settings : Settings) (counts : Counts) (worker block : ℕ) (grant : Grant)
@@ -323,7 +325,8 @@ EndsAreLegal =
 abbrev pub FirstViewsAreTrue : Type 0
 FirstViewsAreTrue = (workers : ℕ) → 1 ≤ workers → AreTrueOf workers [] (first_view ∷ [])
 
--- Whoever holds the journal may add events of its own worker, and of nobody; all views stay true.
+-- A pass that holds the journal may add events of its own worker, and of nobody; all views stay
+-- true.
 abbrev pub HoldingKeepsViews : Type 0
 HoldingKeepsViews =
     (workers : ℕ) (journal added : List Event) (views : List View) (seat : ℕ) (view : View) → AreTrueOf workers journal views
@@ -369,11 +372,13 @@ LastViewsSignOff =
 
 -- ---- worked journals
 
--- The journal of a search over nine cells has 16 events, and 17 if a block was marked hot; without
--- its last line it is not finished. A search whose first lease has nothing to expand has 4 events,
--- and one that runs out of memory at once has 2. One that renews a lease and ends by its budget has
--- 7. Two workers, of which one marks a block hot and takes the mark away, have 23. They have 11 if
--- both report out of memory. While one of them hasn't signed off, neither journal is finished.
+-- - The journal of a search over nine cells has 16 events, and 17 if a block was marked hot;
+--   without its last line it is not finished.
+-- - A search whose first lease has nothing to expand has 4 events, and one that runs out of memory
+--   at once has 2.
+-- - One that renews a lease and ends by its budget has 7.
+-- - Two workers, of which one marks a block hot and takes the mark away, have 23. They have 11 if
+--   both report out of memory. While one of them hasn't signed off, neither journal is finished.
 abbrev pub WorkedJournalsAreLegal : Type 0
 WorkedJournalsAreLegal =
     IsFinishedHistory nine_cells one_worker nine_cells_journal 16 Quiet 4

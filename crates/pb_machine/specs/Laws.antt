@@ -29,7 +29,7 @@ abbrev pub OpeningIsLawful : Type 0
 OpeningIsLawful = (setup : Setup) (greatest_cost : ℕ) → IsSetup setup greatest_cost → setup.reopenings ≡ 0
     → IsLawful setup (opening_machine setup)
 
--- Every event and every told cost keeps it lawful.
+-- Every event and every told cost keeps the machine lawful.
 abbrev pub MovesKeepLawful : Type 0
 MovesKeepLawful =
     (setup : Setup) (greatest_cost : ℕ) (move : Move) (old new : Machine) → IsSetup setup greatest_cost → IsLawful setup old
@@ -67,7 +67,8 @@ abbrev pub IncumbentsFall : Type 0
 IncumbentsFall = (setup : Setup) (moves : List Move) (old new : Machine) → Runs setup old moves new
     → AtMost new.store.incumbent old.store.incumbent
 
--- What is known to a worker stays known to it. Thus it may have read later whatever it has read.
+-- What is known to a worker stays known to it. A worker thus may have read later whatever it has
+-- read before.
 abbrev pub KnownStays : Type 0
 KnownStays = (setup : Setup) (moves : List Move) (old new : Machine) → Runs setup old moves new
     → (worker : ℕ) (incumbent : Option ℕ) → IsTrue (old.known worker incumbent) → IsTrue (new.known worker incumbent)
@@ -109,8 +110,8 @@ LeaseCostsStaySmall =
     → used ≤ grant.quota
     → CostsAtMost worked (greatest_cost * (setup.settings.budget + setup.settings.workers))
 
--- No g of such a lease needs more than 61 bits either, if the settings are in range and no action
--- costs more than 2 ^ 20.
+-- No g of such a lease needs more than 61 bits, if the settings are in range and no action costs
+-- more than 2 ^ 20.
 abbrev pub LeaseCostsFit : Type 0
 LeaseCostsFit =
     (setup : Setup) (machine : Machine) (worker used most_broken : ℕ) (known : Option ℕ → Bool) (grant : Grant) (worked : Store)
@@ -127,8 +128,8 @@ ScopesAreApart =
     → IsFalse (worker == other)
     → (block : ℕ) → IsTrue (setup.blocks.scope grant.block block) → IsFalse (setup.blocks.scope second.block block)
 
--- If no lease is out and the search has not ended, each block with an Opened row may be leased
--- while something is left of the budget.
+-- If no lease is out before the end, each block with an Opened row may be leased while something is
+-- left of the budget.
 abbrev pub NoneOutMayLease : Type 0
 NoneOutMayLease =
     (setup : Setup) (greatest_cost : ℕ) (machine : Machine) → IsSetup setup greatest_cost → IsLawful setup machine
@@ -155,8 +156,8 @@ QuietEndsAreBest =
     → machine.counts.end ≡ Some Quiet
     → IsAdmissible setup.space setup.guide.estimate → IncumbentHolds setup.space (weight_of setup.settings) machine.store.incumbent
 
--- At the budget's end exactly as many expansions as the budget allows, none of them broken, lead
--- from an opening store to one with an Opened row. There is a reopening between one run and the
+-- At the budget's end exactly as many expansions as the budget allows lead from an opening store to
+-- one with an Opened row. None of them is broken. There is a reopening between one run and the
 -- next, when no row was Opened. The opening store of a first run has the settings' weight.
 abbrev pub BudgetEndsAreSpent : Type 0
 BudgetEndsAreSpent =
@@ -211,9 +212,9 @@ LeaseTurnsGoOn =
     → AreLeaseTurns space guide (works ++ more) given
 
 -- The frame lemma. What a lease has done on the rows that it was given may be done, piece by piece,
--- in the whole store of now, whatever other leases did meanwhile. The whole store then has the
--- lease's rows in the block's scope, and all other rows as before. The lease has no row outside the
--- scope. This holds whatever the worker may have read.
+-- in the whole store of now. It doesn't matter what other leases did meanwhile. The whole store
+-- then has the lease's rows in the block's scope, and all other rows as before. The lease has no
+-- row outside the scope. This holds whatever the worker may have read.
 abbrev pub LeaseWorkStands : Type 0
 LeaseWorkStands =
     (setup : Setup) (greatest_cost : ℕ) (machine : Machine) (worker used most_broken : ℕ) (known : Option ℕ → Bool) (grant : Grant) (worked : Store)
@@ -302,22 +303,22 @@ ReleasingKeepsWhole =
     → AgreesOn (λ other. not (setup.blocks.scope grant.block other)) together home
     → IsWhole setup (counts_after setup.blocks setup.settings counts (Release worker used memory)) together recorded (merged_store (setup.blocks.scope grant.block) worked store)
 
--- A step that changes no lease and no row, as a mark, a sign-off, an end or a told cost, leaves
--- each row in its place.
+-- A mark, a sign-off, an end or a told cost changes no lease and no row, and leaves each row in its
+-- place.
 abbrev pub OthersKeepWhole : Type 0
 OthersKeepWhole =
     (setup : Setup) (counts after : Counts) (store later : Store) (home : Rows) (recorded : ℕ → Rows) → after.leases ≡ counts.leases
     → later.rows ≡ store.rows
     → IsWhole setup counts home recorded store → IsWhole setup after home recorded later
 
--- What is recorded for a worker without a lease is of no account.
+-- Rows that are recorded for a worker without a lease don't matter.
 abbrev pub RecordedWhereLeased : Type 0
 RecordedWhereLeased =
     (setup : Setup) (counts : Counts) (store : Store) (home : Rows) (recorded other : ℕ → Rows)
     → ((worker : ℕ) (grant : Grant) → counts.leases worker ≡ Some grant → other worker ≡ recorded worker)
     → IsWhole setup counts home recorded store → IsWhole setup counts home other store
 
--- With no lease out, the rows at home are those of the whole store, and no others.
+-- If no lease is out, the rows at home are those of the whole store, and no others.
 abbrev pub AllIsHome : Type 0
 AllIsHome =
     (setup : Setup) (counts : Counts) (store : Store) (home : Rows) (recorded : ℕ → Rows)

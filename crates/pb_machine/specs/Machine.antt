@@ -22,7 +22,7 @@ use Rattle.pb_machine.specs.Legality.{refusal}
 use Rattle.pb_machine.specs.History.{is_event_of}
 use Rattle.pb_machine.specs.Choice.{IsBetter}
 
--- what is searched, and with what
+-- what is searched, by which blocks and settings
 pub record Setup : Type 0 where
   pub space : Space
   pub guide : Guide
@@ -72,8 +72,8 @@ opening_machine setup =
 
 -- ---- the work of a lease
 
--- The work is on a row of the block, or it lowers the lease's incumbent to a cost that is known, as
--- when the worker reads it. It is no reopening.
+-- The work is on a row of the block, or it lowers the lease's incumbent to a known cost, as when
+-- the worker reads it. It is no reopening.
 abbrev pub IsOn : Guide → (block : ℕ) → (known : Option ℕ → Bool) → Work → Type 0
 IsOn guide block known (expand own) = guide.home own ≡ block
 IsOn guide block known (break_off own offers) = guide.home own ≡ block

@@ -1,4 +1,5 @@
--- The order of a search by blocks: which block is leased, and which rows a lease takes: best first (Burns, Lemons, Ruml, Zhou 2010).
+-- The order of a search by blocks, best first: which block is leased, and which rows a lease takes
+-- (Burns, Lemons, Ruml, Zhou 2010).
 use Rattle.std.specs.Prelude.{◌≡◌, ℕ, true, false, List, [], ◌∷◌, ⊤}
 use Rattle.pb_model.specs.Space.{Space}
 use Rattle.pb_model.specs.Guide.{Guide}

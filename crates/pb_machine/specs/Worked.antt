@@ -1,7 +1,7 @@
 -- Worked journals. One worker, and then two, look for a cheapest path over a map of 3 by 3 land
--- cells, from the first cell to the last, with each cell a block of its own. One worker goes along
--- a corridor until its budget is spent. Other journals differ from these in a few places. A
--- journal's text has six lines before its first event, which is thus on line 7.
+-- cells, from the first cell to the last. Each cell is a block of its own. One worker goes along a
+-- corridor until its budget is spent. Other journals differ from these in a few places. A journal's
+-- text has six lines before its first event, which is thus on line 7.
 use Rattle.std.specs.Prelude.{◌≡◌, ℕ, ◌+◌, Bool, true, false, ◌&&◌, ◌||◌, ◌==◌, not, nat_lt, length, List, [], ◌∷◌, ◌++◌, Some}
 use Rattle.std.specs.List.{AllByRecursion}
 use Rattle.pb_machine.specs.declared.event.End.{End}
@@ -42,8 +42,8 @@ ending = Ended Quiet ∷ Off 0 false ∷ []
 abbrev pub nine_cells_journal : List Event
 nine_cells_journal = visit 0 1 ++ later_visits ++ ending
 
--- Sixteen blocks in a row, as of a corridor of 64 cells, four to a block. One worker with a budget
--- of 5 expansions and a lot of 2 leases the first block, renews that lease once, and has one
+-- Sixteen blocks in a row, as of a corridor of 64 cells, four to a block. One worker has a budget
+-- of 5 expansions and a lot of 2. It leases the first block, renews that lease once, and has one
 -- expansion left for the second block.
 abbrev pub corridor : Blocks
 corridor = record { count = 16; scope = λ block other. nat_lt block 16 && (nat_lt other 16 && (nat_lt block (other + 2) && nat_lt other (block + 2))) }

@@ -16,33 +16,33 @@ pub enum End {
 pub enum Event {
     /// The worker takes the rows of the block's scope, and may make so many expansions of the block's rows.
     Lease {
-        /// Who takes the lease.
+        /// The worker that takes the lease.
         worker: u32,
         /// The block whose rows may be expanded.
         block: u32,
-        /// How many expansions it may make, taken from what is left of the budget.
+        /// How many expansions the worker may make, taken from what is left of the budget.
         quota: u64,
     },
     /// The worker's lease is settled, and goes on with another quota.
     Renew {
         /// Whose lease it is.
         worker: u32,
-        /// How many expansions it made since it was leased or last renewed.
+        /// How many expansions the worker made since its lease was given or last renewed.
         used: u64,
-        /// How many it may make from now on.
+        /// How many expansions the worker may make from now on.
         quota: u64,
     },
     /// The worker marks a block hot, so that no block that interferes with it is leased or renewed.
     /// Hot blocks that interfere with it become cold.
     Hot {
-        /// Who marks it.
+        /// The worker that marks the block.
         worker: u32,
         /// The block that becomes hot.
         block: u32,
     },
     /// The worker takes a block's mark away.
     Cold {
-        /// Who takes it away.
+        /// The worker that takes the mark away.
         worker: u32,
         /// The block that is hot no longer.
         block: u32,
@@ -52,14 +52,14 @@ pub enum Event {
     Release {
         /// Whose lease it is.
         worker: u32,
-        /// How many expansions it made since it was leased or last renewed.
+        /// How many expansions the worker made since its lease was given or last renewed.
         used: u64,
         /// Whether the worker reports out of memory.
         memory: bool,
     },
     /// The worker signs off: it takes no further part.
     Off {
-        /// Who signs off.
+        /// The worker that signs off.
         worker: u32,
         /// Whether the worker reports out of memory.
         memory: bool,
@@ -73,14 +73,14 @@ pub enum Event {
 pub struct Grant {
     /// The block whose rows may be expanded.
     pub block: u32,
-    /// How many expansions of them may be made until the lease is settled.
+    /// How many expansions of these rows may be made until the lease is settled.
     pub quota: u64,
 }
 
 /// Why an event may not come next.
 #[derive(Clone, Copy, Debug, PartialEq, Eq)]
 pub enum EventRefusal {
-    /// The search has ended before.
+    /// The search has already ended.
     Ended,
     /// There is no such worker, or it has signed off.
     Worker,

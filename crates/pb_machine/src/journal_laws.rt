@@ -15,7 +15,8 @@ pub fn beginnings_are_histories()
     ensures { BeginningsAreHistories }
 {}
 
-/// What is spent after a legal history is what was before, and the used numbers of its events.
+/// The expansions spent after a legal history are those spent before it, and the used numbers of
+/// its events.
 pub fn spent_is_used()
     ensures { SpentIsUsed }
 {}
@@ -56,7 +57,8 @@ pub fn histories_have_any_weight()
     ensures { HistoriesHaveAnyWeight }
 {}
 
-/// A journal is judged event by event: the reason that is given is that of the first event that may not come.
+/// A journal is judged event by event: the given reason is that of the first event that may not
+/// come.
 pub fn refusals_are_first()
     ensures { RefusalsAreFirst }
 {}
@@ -66,7 +68,7 @@ pub fn refused_journals_fail()
     ensures { RefusedJournalsFail }
 {}
 
-/// With no lease out no block is hot.
+/// If no lease is out, no block is hot.
 pub fn none_out_none_hot()
     ensures { NoneOutNoneHot }
 {}
@@ -182,18 +184,18 @@ pub fn worked_journals_are_refused()
     ensures { WorkedJournalsAreRefused }
 {}
 
-/// Who has a lease is a worker that hasn't signed off.
+/// Only a worker that hasn't signed off has a lease.
 pub fn leases_are_of_workers()
     ensures { LeasesAreOfWorkers }
 {}
 
-/// Whoever has a lease may bring it back, with no more expansions than its quota.
+/// A worker that has a lease may bring it back, with no more expansions than its quota.
 pub fn releases_are_legal()
     ensures { ReleasesAreLegal }
 {}
 
-/// Before the end, whoever has a lease may mark a busy block hot that isn't hot yet, unless blocks
-/// are never marked. It may also take a mark away.
+/// Before the end, a worker that has a lease may mark a busy block hot that isn't hot yet, unless
+/// blocks are never marked. The worker may also take a mark away.
 pub fn marks_are_legal()
     ensures { MarksAreLegal }
 {}

@@ -35,7 +35,7 @@ pub fn incumbents_fall()
     ensures { IncumbentsFall }
 {}
 
-/// What a worker can have read as the incumbent it can have read later too.
+/// A worker may have read later whatever it may have read before as the incumbent.
 pub fn known_stays()
     ensures { KnownStays }
 {}
@@ -61,8 +61,8 @@ pub fn costs_fit()
     ensures { CostsFit }
 {}
 
-/// No g of a lease that keeps to its quota, with a broken expansion or without, exceeds what the
-/// budget and a broken one for each worker allow.
+/// No g of a lease that keeps to its quota exceeds what the budget and a broken expansion for each
+/// worker allow. The lease itself may have a broken expansion.
 pub fn lease_costs_stay_small()
     ensures { LeaseCostsStaySmall }
 {}
@@ -78,8 +78,8 @@ pub fn scopes_are_apart()
     ensures { ScopesAreApart }
 {}
 
-/// If no lease is out and the search has not ended, each block with an Opened row may be leased
-/// while something is left of the budget.
+/// If no lease is out before the end, each block with an Opened row may be leased while something
+/// is left of the budget.
 pub fn none_out_may_lease()
     ensures { NoneOutMayLease }
 {}
@@ -138,7 +138,7 @@ pub fn runs_go_on()
     ensures { RunsGoOn }
 {}
 
-/// A lease that brings back no lower incumbent leaves it as it is.
+/// A lease that brings back no lower incumbent leaves the whole store's incumbent as before.
 pub fn returns_leave_incumbents()
     ensures { ReturnsLeaveIncumbents }
 {}
@@ -164,17 +164,17 @@ pub fn others_keep_whole()
     ensures { OthersKeepWhole }
 {}
 
-/// What is recorded for a worker without a lease is of no account.
+/// Rows that are recorded for a worker without a lease don't matter.
 pub fn recorded_where_leased()
     ensures { RecordedWhereLeased }
 {}
 
-/// With no lease out, the rows at home are those of the whole store.
+/// If no lease is out, the rows at home are those of the whole store.
 pub fn all_is_home()
     ensures { AllIsHome }
 {}
 
-/// What is recorded for a lease is what it was given or last renewed with.
+/// The rows that are recorded for a lease are those that it was given or last renewed with.
 pub fn recorded_rows_are_lent()
     ensures { RecordedRowsAreLent }
 {}
@@ -185,7 +185,7 @@ pub fn budget_ends_are_spent()
     ensures { BudgetEndsAreSpent }
 {}
 
-/// With no lease out the incumbent is shown by a goal's row.
+/// If no lease is out, the incumbent is shown by a goal's row.
 pub fn none_out_is_shown()
     ensures { NoneOutIsShown }
 {}

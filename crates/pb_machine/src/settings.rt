@@ -1,4 +1,4 @@
-/// What a search is run with.
+/// The settings of a search.
 #[derive(Clone, Copy, Debug, PartialEq, Eq)]
 pub struct Settings {
     /// How many workers there are: 1 to 64.
