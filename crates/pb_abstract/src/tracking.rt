@@ -75,9 +75,8 @@ fn better(counts: &[u32], tracked: &TrackedAtoms, atom: u8, best: Option<u8>) ->
     }
 }
 
-// The atom to be tracked next, or None if there is none. It is the one that the fewest actions
-// change, of the atoms that some action changes and that aren't tracked yet. Of several such atoms
-// it is the least.
+// The atom to be tracked next, or None if there is none. Of the changed atoms that aren't tracked
+// yet, it is the one that the fewest actions change. Of several such atoms it is the least.
 fn next(counts: &[u32], tracked: &TrackedAtoms) -> Option<u8>
     requires { length counts.now ≤ 256 }
     ensures next { IfSome result (IsNext counts.now tracked.now) }

@@ -84,8 +84,8 @@ OpeningRowsAreHome =
     → ((home state : ℕ) → home_rows table home state ≡ (opening_store space guide weight).rows home state)
     × ((block : ℕ) → block < count → (content : Content) × (content_at table block ≡ Some content) × (content.weight ≡ weight))
 
--- If the keys were those of a store, and some bundles' keys are noted anew, the keys are those of
--- the store with these bundles' rows.
+-- If the keys were those of a store, and some bundles' keys are noted anew, they are those of the
+-- store with these bundles' rows.
 abbrev pub NotedKeysAreBest : Type 0
 NotedKeysAreBest =
     (store worked : Store) (scope : ℕ → Bool) (parts : List (ℕ × Content)) (old new : List (Option Key)) → HasKeys store (λ block. get_or old block None)

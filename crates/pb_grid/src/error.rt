@@ -12,7 +12,7 @@ pub enum GridError {
     Header { line: u64 },
     /// The map's height or width is not 1 to 2,048.
     Size,
-    /// This line of the map must be a row of as many bytes as the map is wide, and is no such row
+    /// This line of the map must be a row of as many bytes as the map is wide, but is no such row
     /// or is missing. Or the line lies below the last row and is not blank.
     Rows { line: u64 },
     /// The byte in this column of a row of the map represents no cell.

@@ -7,8 +7,8 @@ use Rattle.pb_lists.specs.Bundle.{Content}
 use Rattle.pb_bundles.specs.Parts.{content_in, with_content, away_rows}
 
 -- The worker that has the lease, its block, and how many expansions it may make and has made. Then
--- the least cost at which a goal is known to be reached, or none, the weight of the search, and the
--- bundles of the block's scope.
+-- the least cost at which a goal is known to be reached, or none. Then the weight of the search,
+-- and the bundles of the block's scope.
 pub record LeaseValue : Type 0 where
   pub worker : ℕ
   pub block : ℕ

@@ -84,8 +84,8 @@ pub record IsMarked (old : GraphValue) (worker : ℕ) (event : Event) (new : Gra
   pub room : rooms new.table ≡ with_entry (rooms old.table) worker (rooms old.table worker - 1)
   pub rest : new ≡ record old { table = new.table }
 
--- The sign-off is the one event. If out of memory is reported and the search had not ended, the end
--- that follows is another. Nothing else changed.
+-- The sign-off is the one event. If the worker reports out of memory before the end, the end that
+-- follows is another. Nothing else changed.
 pub record IsSignedOff (old : GraphValue) (worker : ℕ) (trouble : Bool) (new : GraphValue) : Type 0 where
   pub events : Adds old.table new.table (Off worker trouble ∷ ending trouble old.table.end)
   pub room : rooms new.table ≡ rooms old.table
@@ -94,7 +94,7 @@ pub record IsSignedOff (old : GraphValue) (worker : ℕ) (trouble : Bool) (new :
 -- ---- a lease that comes back, or goes on
 
 -- The lease's bundles are home, their keys are noted, and the incumbent is the lesser of both. The
--- release is the one event. If out of memory is reported and the search had not ended, the end that
+-- release is the one event. If the worker reports out of memory before the end, the end that
 -- follows is another. All else is as before.
 pub record IsReleased (old : GraphValue) (lease : LeaseValue) (trouble : Bool) (new : GraphValue) : Type 0 where
   pub home : (block : ℕ) → content_at new.homes block ≡ option_or (content_in lease.parts block) (content_at old.homes block)

@@ -30,8 +30,9 @@ use std::marker::Model;
 use std::sync::Arc;
 
 /// A search that gives out leases of its blocks. It has the task and its blocks, the rows at home,
-/// the least cost at which a goal is known to be reached, and the numbers and the journal of the
-/// lease machine. Each call that changes it is one event of the machine, maybe followed by the end.
+/// and the least cost at which a goal is known to be reached. It also has the numbers and the
+/// journal of the lease machine. Each call that changes it is one event of the machine, maybe
+/// followed by the end.
 #[derive(Drop)]
 pub struct LeaseGraph {
     pub(crate) task: Arc<Task>,

@@ -20,7 +20,7 @@ pub record Counts : Type 0 where
   pub end : Option End
   pub trouble : Bool  -- the last event reported out of memory, before any end
 
--- The counts at the begin of a run. Runs before it on the same rows, with other weights, spent this
+-- The counts at the start of a run. Runs before it on the same rows, with other weights, spent this
 -- much of the one budget: 0 for the first run.
 abbrev pub opening_counts : Settings → (before : ℕ) → Counts
 opening_counts settings before =

@@ -100,8 +100,8 @@ CostsFit =
     → CostsAtMost machine.store (2 ^ 61 - 1)
 
 -- No g of a lease at work exceeds the greatest cost of an action times a number of expansions:
--- those of the budget, and a broken one for each worker. The lease has made no more expansions than
--- its quota, and perhaps a broken one. This holds whatever the worker may have read.
+-- those of the budget, and a broken one for each worker. This holds if the lease made no more
+-- expansions than its quota, and perhaps a broken one. It holds whatever the worker may have read.
 abbrev pub LeaseCostsStaySmall : Type 0
 LeaseCostsStaySmall =
     (setup : Setup) (greatest_cost : ℕ) (machine : Machine) (worker used most_broken : ℕ) (known : Option ℕ → Bool) (grant : Grant) (worked : Store)

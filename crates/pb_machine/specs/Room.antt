@@ -1,5 +1,5 @@
 -- How long a journal may grow. Each lease has room for so many events: this room bounds what the
--- lease may add between its begin and its return.
+-- lease may add between its start and its return.
 use Rattle.std.specs.Prelude.{ℕ, ◌+◌, ◌-◌, ◌<◌, Bool, false, ◌==◌, List, [], ◌∷◌, ⊤}
 use Rattle.pb_machine.specs.declared.event.Event.{Event}
 use Rattle.pb_machine.specs.declared.event.Event.TheVariants.{Lease, Renew, Hot, Cold, Release, Off, Ended}

@@ -1,7 +1,7 @@
 -- Worked journals. One worker, and then two, look for a cheapest path over a map of 3 by 3 land
--- cells, from the first cell to the last. Each cell is a block of its own. One worker goes along a
--- corridor until its budget is spent. Other journals differ from these in a few places. A journal's
--- text has six lines before its first event, which is thus on line 7.
+-- cells, from first to last. Each cell is a block of its own. One worker goes along a corridor
+-- until its budget is spent. Other journals differ from these in a few places. A journal's text has
+-- six lines before its first event, which is thus on line 7.
 use Rattle.std.specs.Prelude.{◌≡◌, ℕ, ◌+◌, Bool, true, false, ◌&&◌, ◌||◌, ◌==◌, not, nat_lt, length, List, [], ◌∷◌, ◌++◌, Some}
 use Rattle.std.specs.List.{AllByRecursion}
 use Rattle.pb_machine.specs.declared.event.End.{End}

@@ -161,7 +161,7 @@ LowersTo [] cost = ⊥
 LowersTo (lower told ∷ works) cost = (told ≤ cost) ⊎ LowersTo works cost
 LowersTo (work ∷ works) cost = LowersTo works cost
 
--- the store at the begin of a search: the row of the start alone, Opened, and no incumbent
+-- the store at the start of a search: the row of the start alone, Opened, and no incumbent
 abbrev pub opening_store : Space → Guide → Weight → Store
 opening_store space guide weight =
     record {
