@@ -15,11 +15,14 @@ use Rattle.pb_model.specs.Store.{Store, row_at, is_place_of, HasOpenedRow, IsQui
 
 -- A piece of work.
 --   expand: every successor of the row is offered, and then the row is Closed.
---   break_off: an expansion that ran out of memory after so many of its offers, before the last; the row stays Opened.
+--   break_off: an expansion that ran out of memory after so many of its offers, before the last;
+--     the row stays Opened.
 --   cut: a row that may be cut is Cut.
 --   take_goal: the row of a goal is Cut, and the incumbent becomes its g if that is lower.
---   lower: the incumbent becomes this cost if that is lower. The caller has to show that such a plan exists.
---   reopen: the search goes on with another weight; a Cut row that may not be cut under it is Opened again.
+--   lower: the incumbent becomes this cost if that is lower. The caller has to show that such a
+--     plan exists.
+--   reopen: the search goes on with another weight; a Cut row that may not be cut under it is
+--     Opened again.
 pub data Work : Type 0 where
   expand : (state : ℕ) → Work
   break_off : (state offers : ℕ) → Work

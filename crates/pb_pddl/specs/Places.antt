@@ -40,7 +40,7 @@ pub data Place : Type 0 where
   ANumberType : Place
   -- in an ATOM, with variables allowed or not: another TERM or the )
   MoreTerms : Bool → Place
-  -- in a LIST of words or of variables, with names waiting for a type or none: another, a -, or the )
+  -- in a LIST of words or variables, with names waiting for a type or none: another, a -, or the )
   MoreNames : TokenKind → Bool → Place
   -- another KEY, or the )
   MoreKeys : Place
