@@ -1,4 +1,5 @@
--- How the tracked atoms are found: one after another, by the numbers of the actions that change each atom.
+-- How the tracked atoms are found: one after another, by the numbers of the actions that change
+-- each atom.
 use Rattle.std.specs.Prelude.{◌≡◌, ◌≢◌, ℕ, ◌<◌, Bool, true, not, IsTrue, List, Option, None, Some, All, if◌then◌else◌, length, slice_index, ◌==◌, ◌&&◌, ◌||◌, nat_lt}
 use Rattle.pb_task.specs.declared.parts.StripsParts.{StripsParts}
 use Rattle.pb_abstract.specs.Tracked.{changers, is_changed, comes_before, AreInOrder}

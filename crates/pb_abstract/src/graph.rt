@@ -91,7 +91,8 @@ impl AbsGraph {
         self.scopes[b as usize].numbers()
     }
 
-    /// The interference of a block: the other blocks whose scope has a block in common with its own.
+    /// The interference of a block: the other blocks whose scope has a block in common with its
+    /// own.
     pub fn interference(&self, b: u32) -> &[u32]
         requires { b < (blocks_of self.now).count }
         ensures each { (c : ℕ) → has result.now c ≡ interferes (blocks_of self.now) b c }

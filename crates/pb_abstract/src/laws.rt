@@ -1,6 +1,7 @@
 ghost use Rattle.pb_abstract.specs.Laws.{AbstractGraphsAreBlocks, EdgesAreSteps, GraphsAreUnique, BlocksAskForNoCosts};
 
-/// Each state's home is a block of the task's graph, and each step stays in its block or goes along an edge.
+/// Each state's home is a block of the task's graph, and each step stays in its block or goes along
+/// an edge.
 pub fn abstract_graphs_are_blocks()
     ensures { AbstractGraphsAreBlocks }
 {}

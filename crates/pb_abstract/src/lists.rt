@@ -25,7 +25,8 @@ impl Model for BlockList {
 }
 
 impl BlockList {
-    /// The list that has these numbers, each once. It takes no memory, and gives back what it doesn't need.
+    /// The list that has these numbers, each once. It takes no memory, and gives back what it
+    /// doesn't need.
     pub fn of(numbers: Vec<u32>) -> BlockList
         ensures { (c : ℕ) → has result c ≡ has numbers.items c }
     {

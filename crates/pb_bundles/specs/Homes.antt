@@ -1,4 +1,5 @@
--- What a contract sees of the rows at home: the bundles that are there and the keys that were noted, by block.
+-- What a contract sees of the rows at home: the bundles that are there and the keys that were
+-- noted, by block.
 use Rattle.std.specs.Prelude.{◌≡◌, ℕ, ◌<◌, ◌^◌, List, [], Option, Some, None, length, get_or, replicate}
 use Rattle.pb_model.specs.declared.key.Key.{Key}
 use Rattle.pb_model.specs.Weight.{Weight}

@@ -29,7 +29,8 @@ impl Model for LentBundles {
     ghost view = { λ p. p.bundles.entries };
 }
 
-/// Room for bundles that are to leave home, taken before they move. Contracts see how many bundles fit.
+/// Room for bundles that are to leave home, taken before they move. Contracts see how many bundles
+/// fit.
 #[derive(Drop)]
 pub struct BundleRoom {
     pub(crate) bundles: IndexMap<u32, Bundle>,

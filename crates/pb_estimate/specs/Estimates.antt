@@ -1,4 +1,5 @@
--- Estimates of the cost of a way to a goal. A further kind of task is one case more of `estimate_of`.
+-- Estimates of the cost of a way to a goal. A further kind of task is one case more of
+-- `estimate_of`.
 use Rattle.std.specs.Prelude.{ℕ, zero, suc, ◌+◌, ◌-◌, ◌/◌, ◌%◌, ◌==◌, List, if◌then◌else◌, position, unwrap_or, slice_index}
 use Rattle.pb_packed.specs.Bits.{bits_of}
 use Rattle.pb_model.specs.declared.row.Estimate.{Estimate}
@@ -34,7 +35,8 @@ cell_with board number = unwrap_or (position (λ other. other == number) board) 
 abbrev pub way_home : (cols : ℕ) → (goal : List ℕ) → (cell number : ℕ) → ℕ
 way_home cols goal cell number = if number == 0 then 0 else manhattan (place_of cols cell) (place_of cols (cell_with goal number))
 
--- the distances of the tiles in the first `count` cells of a board from their cells on the goal board, summed
+-- the distances of the tiles in the first `count` cells of a board from their cells on the goal
+-- board, summed
 abbrev pub ways_home : (cols : ℕ) → (goal board : List ℕ) → (count : ℕ) → ℕ
 ways_home cols goal board zero = 0
 ways_home cols goal board (suc cell) = ways_home cols goal board cell + way_home cols goal cell (slice_index board cell)

@@ -12,7 +12,8 @@ use Rattle.pb_task.specs.Strips.{IsStrips}
 use Rattle.pb_estimate.specs.Hmax.{atom_cost, SatisfyHmax}
 use Rattle.pb_estimate.specs.Estimates.{tile_ways, estimate_of}
 
--- No walk from a state of a task to a goal costs less than the state's estimate (Hart, Nilsson, Raphael 1968).
+-- No walk from a state of a task to a goal costs less than the state's estimate (Hart, Nilsson,
+-- Raphael 1968).
 abbrev pub EstimatesAreAdmissible : Type 0
 EstimatesAreAdmissible = (parts : TaskParts) → IsTask parts → IsAdmissible (space_of parts) (estimate_of parts)
 

@@ -16,7 +16,8 @@ use Rattle.pb_estimate.specs.declared.strips.Counters.{Counters}
 use Rattle.pb_estimate.specs.declared.estimator.Tables.{Tables}
 use Rattle.pb_estimate.specs.declared.estimator.Tables.TheVariants as tables
 
--- the distance of each number in each cell from its cell on the goal board: at 16 times the cell, plus the number
+-- the distance of each number in each cell from its cell on the goal board: at 16 times the cell,
+-- plus the number
 abbrev pub AreWaysHome : (cols : ℕ) → (goal ways : List ℕ) → Type 0
 AreWaysHome cols goal ways = (cell number : ℕ) → cell < 16 → number < 16 → slice_index ways (16 * cell + number) ≡ way_home cols goal cell number
 
@@ -95,7 +96,8 @@ pub record IsWanted (goal atoms : ℕ) (task : RelaxedTask) : Type 0 where
 
 -- ---- estimators
 
--- The counters are of a task: the task's actions and goal, and room for a counter for each action and a cost for each atom.
+-- The counters are of a task: the task's actions and goal, and room for a counter for each action
+-- and a cost for each atom.
 pub record AreCounters (strips : StripsParts) (counters : Counters) : Type 0 where
   pub actions : AreRelaxed strips.atoms strips.actions counters.task
   pub goal : IsWanted strips.goal strips.atoms counters.task

@@ -16,7 +16,8 @@ use std::marker::Model;
 pub enum Tables {
     /// Nothing: the distance on a grid is known from the cells alone.
     Grid,
-    /// The distance of each number in each cell from its cell on the goal board, in steps, and 0 for the blank.
+    /// The distance of each number in each cell from its cell on the goal board, in steps, and 0
+    /// for the blank.
     Tiles([u8; 256]),
     /// The task without what its actions delete, and room for counters and costs.
     Strips(Counters),
@@ -51,7 +52,8 @@ impl Estimator {
         Ok(Estimator { tables })
     }
 
-    /// The estimate of a state of the estimator's own task, in the unit of the task's action costs. It takes no memory.
+    /// The estimate of a state of the estimator's own task, in the unit of the task's action costs.
+    /// It takes no memory.
     pub fn estimate(&mut self, task: &Task, state: &Packed) -> Estimate
         requires task { IsOfTask self.old task.now }
         requires state { IsTrue ((space_of task.now).is_state state.now) }

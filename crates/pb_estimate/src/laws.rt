@@ -10,7 +10,8 @@ pub fn estimates_count_tiles()
     ensures { EstimatesCountTiles }
 {}
 
-/// The costs of hmax satisfy its equation, no others do, and more rounds than there are atoms don't change them.
+/// The costs of hmax satisfy its equation, no others do, and more rounds than there are atoms don't
+/// change them.
 pub fn hmax_is_fixed()
     ensures { HmaxIsFixed }
 {}

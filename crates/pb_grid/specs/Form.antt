@@ -1,4 +1,5 @@
--- How the texts of a MovingAI map and scenario (Sturtevant, "Benchmarks for grid-based pathfinding", 2012) spell a grid.
+-- How the texts of a MovingAI map and scenario (Sturtevant, "Benchmarks for grid-based
+-- pathfinding", 2012) spell a grid.
 use Rattle.std.specs.Prelude.{◌≡◌, ℕ, ◌≤◌, ◌<◌, Bool, IsTrue, List, [], ◌∷◌, ◌++◌, length, map, filter, codes, Some, not}
 use Rattle.std.specs.List.{concat, AllByRecursion}
 use Rattle.pb_task.specs.declared.parts.GridParts.{GridParts}

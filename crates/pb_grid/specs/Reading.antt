@@ -196,7 +196,8 @@ grid_of_parts map swamp scenario = do
       goal = scenario.goal;
     }
 
--- the grid that the texts of a map and of a scenario spell, with swamp or without, or why they spell none
+-- the grid that the texts of a map and of a scenario spell, with swamp or without, or why they
+-- spell none
 unfoldable pub grid_reading : (map_text scenario_text : List ℕ) → (row : ℕ) → (swamp : Bool) → Result GridParts GridError
 grid_reading map_text scenario_text row swamp = do
   map ← map_reading (lines_of map_text)

@@ -1,6 +1,8 @@
-//! Grids from the texts of a MovingAI map and scenario (Sturtevant, "Benchmarks for grid-based pathfinding", 2012).
+//! Grids from the texts of a MovingAI map and scenario (Sturtevant, "Benchmarks for grid-based
+//! pathfinding", 2012).
 //!
-//! The relation `SpellsGrid` in `specs` says which texts spell a grid, and the function `grid_reading` which refusal comes first.
+//! The relation `SpellsGrid` in `specs` says which texts spell a grid, and the function
+//! `grid_reading` which refusal comes first.
 #![tactic(auto)]
 
 mod error;

@@ -12,7 +12,8 @@ use Rattle.pb_abstract.specs.Graph.{AbstractGraph, blocks_of, home_of}
 use Rattle.pb_bundles.specs.Parts.{content_in}
 use Rattle.pb_lease.specs.LeaseValue.{LeaseValue, leased_store, HasWeights}
 
--- the guide of a search by blocks: the task's own estimate of each state, and the block that is its home
+-- the guide of a search by blocks: the task's own estimate of each state, and the block that is its
+-- home
 abbrev pub guide_of : TaskParts → AbstractGraph → Guide
 guide_of task graph = record { estimate = estimate_of task; home = home_of task graph }
 

@@ -1,4 +1,5 @@
--- A graph, with the rows that its leases were given or last renewed with, as a moment of the lease machine.
+-- A graph, with the rows that its leases were given or last renewed with, as a moment of the lease
+-- machine.
 use Rattle.std.specs.Prelude.{◌≡◌, ℕ, IsTrue, None, Some, Option, List, [], ◌∷◌}
 use Rattle.pb_model.specs.Store.{Rows, HasGoalWithin, lesser}
 use Rattle.pb_machine.specs.declared.event.Event.{Event}

@@ -64,7 +64,8 @@ impl Lease {
         self.block
     }
 
-    /// How many expansions the worker may make before it gives the lease back or renews it: at most 2^20.
+    /// How many expansions the worker may make before it gives the lease back or renews it: at most
+    /// 2^20.
     pub fn quota(&self) -> u64
         ensures quota { result ≡ self.now.quota }
         ensures few { self.now.quota ≤ 2 ^ 20 }

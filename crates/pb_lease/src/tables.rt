@@ -116,7 +116,8 @@ impl MachineTables {
         &self.settings
     }
 
-    /// The events so far: a legal history, which leads to these counts, and which keeps within the room of its leases.
+    /// The events so far: a legal history, which leads to these counts, and which keeps within the
+    /// room of its leases.
     pub fn journal(&self) -> &[Event]
         ensures events { result.now ≡ self.now.journal }
         ensures legal { IsHistory (blocks self.now) self.now.settings 0 self.now.journal (counts_of self.now) }

@@ -1,4 +1,5 @@
--- Why a domain and a problem are no task: for each cause the places where it applies, and the first of all.
+-- Why a domain and a problem are no task: for each cause the places where it applies, and the first
+-- of all.
 use Rattle.std.specs.Prelude.{◌≡◌, ℕ, Bool, true, not, nat_lt, nat_eq, if◌then◌else◌, List, [], ◌∷◌, ◌++◌, length, map, flat_map, Option, Some, None, is_none}
 use Rattle.std.specs.Str.{bytes_eq}
 use Rattle.pb_pddl.specs.declared.tree.Name.{Name}

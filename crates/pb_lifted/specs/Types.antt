@@ -71,7 +71,8 @@ is_within types (suc n) text high = bytes_eq text high || is_within types n (abo
 abbrev pub is_below : List Typed → List ℕ → List ℕ → Bool
 is_below types text high = is_within types (height types) text high
 
--- the way up from a declared type does not come to object, or object itself has another type above it
+-- the way up from a declared type does not come to object, or object itself has another type above
+-- it
 abbrev pub is_cyclic : List Typed → Typed → Bool
 is_cyclic types t =
     if is_object (name_text t) then not (is_object (kind_text t))

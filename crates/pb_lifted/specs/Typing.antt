@@ -89,8 +89,8 @@ pub record HasNoCosts (domain : Domain) (problem : Problem) : Type 0 where
   pub initial : problem.costs ≡ []
   pub metric : problem.metric ≡ None
 
--- Costs are declared, if anything is said of them. An action has at most one increase, of at most 2^20, and costs at least 1. At first the cost is
--- set at most once, to 0.
+-- Costs are declared, if anything is said of them. An action has at most one increase, of at most
+-- 2^20, and costs at least 1. At first the cost is set at most once, to 0.
 pub record CostsFit (domain : Domain) (problem : Problem) : Type 0 where
   pub declared : domain.has_cost ≡ false → HasNoCosts domain problem
   pub once : All (λ (a : Action). length a.costs ≤ 1) domain.actions
@@ -99,8 +99,9 @@ pub record CostsFit (domain : Domain) (problem : Problem) : Type 0 where
   pub once_at_first : length problem.costs ≤ 1
   pub none_at_first : All (λ (c : Cost). c.number ≡ 0) problem.costs
 
--- The problem is of the domain of this name. There are at most 1,000 objects. No two types, predicates, actions or objects have one name.
--- All types lead to object, and those of objects are known. Predicates, actions, all atoms and costs fit.
+-- The problem is of the domain of this name. There are at most 1,000 objects. No two types,
+-- predicates, actions or objects have one name. All types lead to object, and those of objects are
+-- known. Predicates, actions, all atoms and costs fit.
 pub record IsWellTyped (domain : Domain) (problem : Problem) : Type 0 where
   pub same_domain : problem.domain.text ≡ domain.name.text
   pub few : length (objects_of domain problem) ≤ 1000

@@ -1,4 +1,5 @@
--- Worked rows of the definitions, over small trees. A name's place is the byte where it begins in the text that is quoted.
+-- Worked rows of the definitions, over small trees. A name's place is the byte where it begins in
+-- the text that is quoted.
 use Rattle.std.specs.Prelude.{◌≡◌, ◌+◌, ℕ, Bool, true, false, List, [], ◌∷◌, codes, Option, Some, None}
 use Rattle.pb_pddl.specs.declared.tree.Name.{Name}
 use Rattle.pb_pddl.specs.declared.tree.Typed.{Typed}
@@ -129,7 +130,8 @@ TurningIsLifted =
     }
     in (first_refusal turning (turning_problem (codes "car")) ≡ None) × (lifted_of turning (turning_problem (codes "car")) ≡ lifted)
 
--- An object that is of no vehicle's type is no argument of parked, and an unknown type comes before.
+-- An object that is of no vehicle's type is no argument of parked, and an unknown type comes
+-- before.
 abbrev pub WrongTypeIsRefused : Type 0
 WrongTypeIsRefused =
     let argument : Place = record { file = files.Problem; at = 67 } in let kind : Place = record { file = files.Problem; at = 45 } in

@@ -39,7 +39,8 @@ fn is_misfit(scope: &Scope<'_>, term: &Term, wanted: &Typed) -> bool
     }
 }
 
-/// The earlier of the first place and those of arguments whose types are neither the parameters' nor below them.
+/// The earlier of the first place and those of arguments whose types are neither the parameters'
+/// nor below them.
 #[tactic(auto, using(crate::proofs::Earliest::earliest_append))]
 fn first_wrong_type(
     scope: &Scope<'_>,

@@ -41,7 +41,8 @@ pub(crate) fn first_undeclared(has_cost: bool, costs: &[Cost], first: Option<u64
     found
 }
 
-/// The earlier of the first place and that of `total-cost` in the metric, if the domain declares none.
+/// The earlier of the first place and that of `total-cost` in the metric, if the domain declares
+/// none.
 pub(crate) fn note_metric(has_cost: bool, metric: Option<u64>, first: Option<u64>) -> Option<u64>
     ensures { result ≡ earliest first (undeclared_metric has_cost metric) }
 {
@@ -79,7 +80,8 @@ pub(crate) fn first_too_great(most: u64, costs: &[Cost], first: Option<u64>) -> 
     found
 }
 
-/// The earlier of the first place and that of the name of an action without an increase, or of the number 0 of one.
+/// The earlier of the first place and that of the name of an action without an increase, or of the
+/// number 0 of one.
 fn note_zero(name: &Name, costs: &[Cost], first: Option<u64>) -> Option<u64>
     ensures { result ≡ earliest first (zero_increase name.now costs.now) }
 {

@@ -100,7 +100,8 @@ pub(crate) fn enter_all<T: Declared>(
     Ok(found)
 }
 
-/// The names of what is declared, and the earlier of the first place and that of a name that is there twice.
+/// The names of what is declared, and the earlier of the first place and that of a name that is
+/// there twice.
 pub(crate) fn names_of<T: Declared>(
     alloc: Global,
     items: &[T],

@@ -64,7 +64,8 @@ fn first_in_predicates(
     found
 }
 
-/// The earlier of the first place and those of this cause in an action. The names are those of its parameters.
+/// The earlier of the first place and those of this cause in an action. The names are those of its
+/// parameters.
 #[tactic(auto, using(crate::proofs::Earliest::earliest_append))]
 fn first_in_action(
     cause: Cause,

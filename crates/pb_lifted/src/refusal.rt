@@ -25,11 +25,13 @@ pub struct Place {
 pub enum Cause {
     /// The problem is of a domain of another name.
     DomainName,
-    /// A type, an object or constant, a predicate, an action, or a parameter of one action was declared before.
+    /// A type, an object or constant, a predicate, an action, or a parameter of one action was
+    /// declared before.
     Twice,
     /// The type of an object or a parameter is neither declared nor above a declared one.
     UnknownType,
-    /// The types above a declared type do not lead to `object`, or `object` is declared below another type.
+    /// The types above a declared type do not lead to `object`, or `object` is declared below
+    /// another type.
     TypeCycle,
     /// An atom of a predicate that is not declared.
     UnknownPredicate,

@@ -22,8 +22,8 @@ pub fn numbers_are_decimal()
     ensures { NumbersAreDecimal }
 {}
 
-/// A word spells a short number exactly if it is one to nine decimal digits, and the number is their
-/// value.
+/// A word spells a short number exactly if it is one to nine decimal digits, and the number is
+/// their value.
 pub fn short_numbers_are_digits()
     ensures { ShortNumbersAreDigits }
 {}

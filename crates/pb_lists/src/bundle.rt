@@ -158,7 +158,8 @@ impl Bundle {
         }
     }
 
-    /// Offers the state at a place a row, as `offer` does, without a look-up. The row keeps its estimate.
+    /// Offers the state at a place a row, as `offer` does, without a look-up. The row keeps its
+    /// estimate.
     pub fn offer_at(
         &mut self,
         place: u64,

@@ -1,4 +1,5 @@
-//! The open and closed list of a part of a search: the rows of its states, and the first of those that are Opened.
+//! The open and closed list of a part of a search: the rows of its states, and the first of those
+//! that are Opened.
 #![tactic(auto)]
 
 mod bucket;

@@ -25,6 +25,7 @@ pub record AreBlocks (space : Space) (guide : Guide) (blocks : Blocks) : Type 0 
 abbrev pub meets : Blocks → (block other : ℕ) → Bool
 meets blocks block other = any_below blocks.count (λ shared. blocks.scope block shared && blocks.scope other shared)
 
--- whether the other block is in the interference of the block: they are two, and their scopes have a block in common
+-- whether the other block is in the interference of the block: they are two, and their scopes have
+-- a block in common
 abbrev pub interferes : Blocks → (block other : ℕ) → Bool
 interferes blocks block other = not (block == other) && meets blocks block other

@@ -1,4 +1,5 @@
--- Which block is leased next: best first, by the best Opened row of each block (Burns, Lemons, Ruml, Zhou 2010).
+-- Which block is leased next: best first, by the best Opened row of each block (Burns, Lemons,
+-- Ruml, Zhou 2010).
 use Rattle.std.specs.Prelude.{◌≡◌, ℕ, ◌+◌, ◌-◌, ◌<◌, IsTrue, IsFalse, Option, Some, None, ◌⊎◌, ⊤}
 use Rattle.pb_model.specs.declared.key.Key.{Key}
 use Rattle.pb_model.specs.Store.{Store, HasOpened}

@@ -391,6 +391,7 @@ WorkedJournalsAreLegal =
     × IsFinishedHistory nine_cells two_workers both_report 11 Memory 4
     × IsUnfinishedHistory nine_cells two_workers (visit 0 0 ++ ending)
 
--- Journals that differ from these in a few places are refused there: each reason of each event, and the first of several.
+-- Journals that differ from these in a few places are refused there: each reason of each event, and
+-- the first of several.
 abbrev pub WorkedJournalsAreRefused : Type 0
 WorkedJournalsAreRefused = AreRefused nine_cells refused_journals × AreRefused corridor refused_in_corridor × AreRefused nine_cells refused_of_two

@@ -1,4 +1,5 @@
--- The laws of the lease machine with its rows. Each is proved, as the contract of the public function that has its name.
+-- The laws of the lease machine with its rows. Each is proved, as the contract of the public
+-- function that has its name.
 use Rattle.std.specs.Prelude.{◌≡◌, ℕ, ◌+◌, ◌-◌, ◌*◌, ◌^◌, ◌<◌, ◌≤◌, Bool, not, IsTrue, IsFalse, ◌==◌, List, ◌++◌, Option, Some, None}
 use Rattle.pb_model.specs.Space.{Space}
 use Rattle.pb_model.specs.Weight.{Weight, IsWeight}
@@ -42,7 +43,8 @@ RunsAreLawful =
     (setup : Setup) (greatest_cost : ℕ) (moves : List Move) (start machine : Machine) → IsSetup setup greatest_cost
     → IsLawful setup start → Runs setup start moves machine → IsLawful setup machine
 
--- The events of a run with settings in range are a legal history, which leads to the machine's counts.
+-- The events of a run with settings in range are a legal history, which leads to the machine's
+-- counts.
 abbrev pub JournalsAreHistories : Type 0
 JournalsAreHistories =
     (setup : Setup) (moves : List Move) (start machine : Machine) (before : ℕ) → AreInRange setup.settings
@@ -87,7 +89,8 @@ CostsGrowByExpansions =
     (setup : Setup) (greatest_cost : ℕ) (machine : Machine) → IsSetup setup greatest_cost → IsLawful setup machine
     → CostsAtMost machine.store (greatest_cost * (machine.counts.spent + broken_leases setup machine)) × (broken_leases setup machine ≤ setup.settings.workers)
 
--- No g exceeds the greatest cost of an action times the number of expansions: those of the budget, and a broken one for each worker.
+-- No g exceeds the greatest cost of an action times the number of expansions: those of the budget,
+-- and a broken one for each worker.
 abbrev pub CostsStaySmall : Type 0
 CostsStaySmall =
     (setup : Setup) (greatest_cost : ℕ) (machine : Machine) → IsSetup setup greatest_cost → IsLawful setup machine
@@ -224,7 +227,8 @@ LeaseWorkStands =
     → Comes setup.space setup.guide work.works machine.store (merged_store (setup.blocks.scope grant.block) worked machine.store)
     × AreGone (λ block. not (setup.blocks.scope grant.block block)) worked.rows
 
--- What a lease did in turns is, in the whole store as well, each time on the first Opened row of its block.
+-- What a lease did in turns is, in the whole store as well, each time on the first Opened row of
+-- its block.
 abbrev pub TurnsCarryOver : Type 0
 TurnsCarryOver =
     (setup : Setup) (greatest_cost : ℕ) (machine : Machine) (worker used most_broken : ℕ) (grant : Grant) (worked : Store)

@@ -30,7 +30,8 @@ no_room worker = 0
 abbrev pub room_after : List Event → (worker : ℕ) → ℕ
 room_after journal = room_from no_room journal
 
--- the event may come in this room: a renewal, a hot mark, or a mark taken away needs room of its worker's lease
+-- the event may come in this room: a renewal, a hot mark, or a mark taken away needs room of its
+-- worker's lease
 abbrev pub HasRoom : (room : ℕ → ℕ) → Event → Type 0
 HasRoom room (Renew worker used quota) = 0 < room worker
 HasRoom room (Hot worker block) = 0 < room worker

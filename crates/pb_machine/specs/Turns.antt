@@ -47,7 +47,8 @@ CameBackInTurns setup old worker used most_broken new =
     (back : CameBack setup old worker used most_broken new)
     × AreLeaseTurns setup.space setup.guide back.work.works (lent_store setup back.grant.block old.store (old.given worker))
 
--- The move is in order: the block that is leased is the first choice, and a lease that comes back has worked in turns.
+-- The move is in order: the block that is leased is the first choice, and a lease that comes back
+-- has worked in turns.
 abbrev pub IsInOrder : Setup → (old : Machine) → Move → (new : Machine) → Type 0
 IsInOrder setup old (event_move (Lease worker block quota)) new = IsFirstChoice setup.blocks setup.settings old.counts old.store block
 IsInOrder setup old (event_move (Renew worker used quota)) new = CameBackInTurns setup old worker used 0 new.store

@@ -16,7 +16,7 @@ pub record Share : Type 0 where
 pub record View : Type 0 where
   pub is_live : Bool  -- its pass was not taken in by another
   pub own : Share  -- of the pass's worker
-  pub seen : List Event  -- the journal as it stood when the pass, or one that it was split from or took in, last held it
+  pub seen : List Event  -- the journal when the pass, its origin, or one that it took in last held it
   pub taken_in : List Share  -- of the passes that it took in, and of those that they had taken in
   pub made : ℕ  -- in the view that has worker 0's events: how many passes were made; in any other 0
 
@@ -39,8 +39,8 @@ pub record IsShareOf (journal seen : List Event) (share : Share) : Type 0 where
   pub told : events_of share.worker journal ≡ share.events
   pub covered : events_of share.worker seen ≡ share.events
 
--- The view at this seat is true of the journal. `seat_of` has the seat of each worker whose pass was made: the seat of its own
--- view, or of the one that took it in.
+-- The view at this seat is true of the journal. `seat_of` has the seat of each worker whose pass
+-- was made: the seat of its own view, or of the one that took it in.
 pub record IsTrueOf (journal : List Event) (made : ℕ) (seat_of : ℕ → ℕ) (seat : ℕ) (view : View) : Type 0 where
   pub seen : StartsWith journal view.seen
   pub shares : AllByRecursion (λ share. IsShareOf journal view.seen share × (share.worker < made) × (seat_of share.worker ≡ seat)) (view.own ∷ view.taken_in)

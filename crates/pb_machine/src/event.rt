@@ -14,7 +14,8 @@ pub enum End {
 /// numbers are in expansions.
 #[derive(Clone, Copy, Debug, PartialEq, Eq)]
 pub enum Event {
-    /// The worker takes the rows of the block's scope, and may make so many expansions of the block's rows.
+    /// The worker takes the rows of the block's scope, and may make so many expansions of the
+    /// block's rows.
     Lease {
         /// The worker that takes the lease.
         worker: u32,

@@ -93,7 +93,8 @@ pub fn hot_is_counted()
     ensures { HotIsCounted }
 {}
 
-/// The numbers of leased and of hot blocks in an interference are at most those of the workers and of the blocks.
+/// The numbers of leased and of hot blocks in an interference are at most those of the workers and
+/// of the blocks.
 pub fn counters_fit()
     ensures { CountersFit }
 {}
@@ -169,17 +170,20 @@ pub fn meeting_keeps_views()
     ensures { MeetingKeepsViews }
 {}
 
-/// A view has all events of its worker; the last one has seen the whole journal, and has those of every worker.
+/// A view has all events of its worker; the last one has seen the whole journal, and has those of
+/// every worker.
 pub fn last_views_tell_all()
     ensures { LastViewsTellAll }
 {}
 
-/// The worked journals of searches over nine cells and along a corridor are finished legal histories, with their ends.
+/// The worked journals of searches over nine cells and along a corridor are finished legal
+/// histories, with their ends.
 pub fn worked_journals_are_legal()
     ensures { WorkedJournalsAreLegal }
 {}
 
-/// Journals that differ from the worked ones in a few places are refused there, for each reason that an event can have.
+/// Journals that differ from the worked ones in a few places are refused there, for each reason
+/// that an event can have.
 pub fn worked_journals_are_refused()
     ensures { WorkedJournalsAreRefused }
 {}
@@ -229,7 +233,8 @@ pub fn signed_off_is_finished()
     ensures { SignedOffIsFinished }
 {}
 
-/// A legal history that keeps within the room of its leases has at most 65 events a lease, one sign-off a worker, and one end.
+/// A legal history that keeps within the room of its leases has at most 65 events a lease, one
+/// sign-off a worker, and one end.
 pub fn journals_are_short()
     ensures { JournalsAreShort }
 {}

@@ -15,7 +15,8 @@ pub fn runs_are_lawful()
     ensures { RunsAreLawful }
 {}
 
-/// The events of a run with settings in range are a legal history, which leads to the machine's counts.
+/// The events of a run with settings in range are a legal history, which leads to the machine's
+/// counts.
 pub fn journals_are_histories()
     ensures { JournalsAreHistories }
 {}

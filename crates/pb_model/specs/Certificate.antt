@@ -1,4 +1,5 @@
--- Certificates of optimality: a plan, or the claim that there is none, and lines that show that no plan is cheaper.
+-- Certificates of optimality: a plan, or the claim that there is none, and lines that show that no
+-- plan is cheaper.
 use Rattle.std.specs.Prelude.{◌≡◌, ℕ, ◌+◌, ◌≤◌, Bool, true, false, IsTrue, IsFalse, Option, None, Some, List, map, All, Contains, ⊤}
 use Rattle.std.specs.List.Sorted.{IsStrictlySortedBy}
 use Rattle.std.specs.Ordering.{nat_cmp}
@@ -40,8 +41,8 @@ abbrev pub IsPlanIfAny : Space → Option Plan → Type 0
 IsPlanIfAny space None = ⊤
 IsPlanIfAny space (Some plan) = IsPlan space plan
 
--- a closed line is of no goal, and each successor has a line that is no dearer than the step from
--- this line
+-- a closed line is of no goal, and each successor has a line whose g is at most this line's g plus
+-- the cost of the step
 pub record IsClosedLine (space : Space) (lines : List Line) (line : Line) : Type 0 where
   pub no_goal : IsFalse (space.is_goal line.state)
   pub successors : (action to cost : ℕ) → Steps space line.state action to cost → HasLineWithin lines to (line.g + cost)

@@ -1,4 +1,5 @@
--- The order of the rows in a weighted best-first search (Pohl 1970): by den * g + num * h, and then by h.
+-- The order of the rows in a weighted best-first search (Pohl 1970): by den * g + num * h, and then
+-- by h.
 use Rattle.std.specs.Prelude.{◌≡◌, ℕ, ◌+◌, ◌*◌, ◌<◌, Option, Some, None, ◌⊎◌, ⊤}
 use Rattle.pb_model.specs.declared.row.Estimate.{Estimate}
 use Rattle.pb_model.specs.declared.row.Estimate.TheVariants.{Cost, Dead}

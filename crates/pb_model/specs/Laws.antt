@@ -18,7 +18,8 @@ use Rattle.pb_model.specs.Trace.{TracesBack}
 use Rattle.pb_model.specs.Local.{IsWithin, AgreesOn, merged_store, one_part_store}
 use Rattle.pb_model.specs.Certificate.{Line, Certificate, IsValid, ClaimHolds, IsPlanIfAny, AreLinesOf, IsBackedBy}
 
--- The list of successors has the steps from the state and no others, in ascending order of the actions.
+-- The list of successors has the steps from the state and no others, in ascending order of the
+-- actions.
 abbrev pub StepsAreSuccessors : Type 0
 StepsAreSuccessors =
     (space : Space) (greatest_cost state : ℕ) → IsProper space greatest_cost
@@ -169,7 +170,8 @@ ValidCertificatesHold =
     (space : Space) (estimate : ℕ → Estimate) (certificate : Certificate) → IsAdmissible space estimate → IsValid space estimate certificate
     → ClaimHolds space certificate.weight certificate.plan
 
--- A sound store in which no row is Opened, with a plan that costs at most its incumbent, makes a valid certificate.
+-- A sound store in which no row is Opened, with a plan that costs at most its incumbent, makes a
+-- valid certificate.
 abbrev pub QuietStoresCertify : Type 0
 QuietStoresCertify =
     (space : Space) (guide : Guide) (store : Store) (plan : Option Plan) (lines : List Line)

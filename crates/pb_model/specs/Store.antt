@@ -16,7 +16,8 @@ Part = (state : ℕ) → Option Row
 abbrev pub Rows : Type 0
 Rows = (home : ℕ) → Part
 
--- the rows, the incumbent (a cost that some plan is known not to exceed, or none), and the weight of the search
+-- the rows, the incumbent (a cost that some plan is known not to exceed, or none), and the weight
+-- of the search
 pub record Store : Type 0 where
   pub rows : Rows
   pub incumbent : Option ℕ

@@ -5,8 +5,8 @@ use Rattle.pb_model.specs.Space.{Space}
 use Rattle.pb_model.specs.Guide.{Guide}
 use Rattle.pb_model.specs.Store.{Store, row_at}
 
--- The actions of the rows on the way from the state back to the start, the state's own first. The way ends where it comes to
--- the start.
+-- The actions of the rows on the way from the state back to the start, the state's own first. The
+-- way ends where it comes to the start.
 abbrev pub TracesBack : Space → Guide → Store → (state : ℕ) → List ℕ → Type 0
 TracesBack space guide store state [] = state ≡ space.start
 TracesBack space guide store state (action ∷ actions) =

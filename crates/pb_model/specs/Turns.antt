@@ -1,4 +1,5 @@
--- The turns of a best-first search with one worker: which row it takes next, and what becomes of it.
+-- The turns of a best-first search with one worker: which row it takes next, and what becomes of
+-- it.
 use Rattle.std.specs.Prelude.{ℕ}
 use Rattle.pb_model.specs.declared.row.Row.{Row}
 use Rattle.pb_model.specs.Guide.{Guide}

@@ -61,7 +61,8 @@ with_status status (Some row) = Some (record row { status = status })
 abbrev pub row_after_status : Guide → (own : ℕ) → Status → (home state : ℕ) → Option Row → Option Row
 row_after_status guide own status home state old = if is_place_of guide own home state then with_status status old else old
 
--- a Cut row that may not be cut under this weight and incumbent is Opened, and any other status stays
+-- a Cut row that may not be cut under this weight and incumbent is Opened, and any other status
+-- stays
 abbrev pub reopened_status : Weight → (incumbent g : ℕ) → Estimate → Status → Status
 reopened_status weight incumbent g estimate Opened = Opened
 reopened_status weight incumbent g estimate Closed = Closed

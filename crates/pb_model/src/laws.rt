@@ -67,7 +67,8 @@ pub fn bounds_hold()
     ensures { BoundsHold }
 {}
 
-/// In a sound store in which no row is Opened, no plan costs less than the incumbent divided by the weight.
+/// In a sound store in which no row is Opened, no plan costs less than the incumbent divided by the
+/// weight.
 pub fn quiet_is_best()
     ensures { QuietIsBest }
 {}

@@ -1,6 +1,7 @@
 //! State spaces, the rows of a search and the work on them, certificates, and their laws.
 //!
-//! The definitions are in `specs`. Each law is the contract of a function without a body, whose name says it.
+//! The definitions are in `specs`. Each law is the contract of a function without a body, whose
+//! name says it.
 #![tactic(auto)]
 
 mod key;

@@ -1,4 +1,5 @@
--- The calls on the outside, with what they were given and what they gave. A list of them, in order, is a transcript.
+-- The calls on the outside, with what they were given and what they gave. A list of them, in order,
+-- is a transcript.
 use Rattle.std.specs.Prelude.{◌≡◌, ◌⊎◌, ℕ, ◌+◌, ◌≤◌, Option, Some, List, [], ◌∷◌, ◌++◌, length, take, map, Result, Ok, Err}
 use Rattle.std.specs.List.{concat, AllByRecursion}
 use Rattle.pb_outside.specs.declared.shelf.Load.{Load}

@@ -1,4 +1,5 @@
-//! The edge of the program: files kept by name, a sink for what is printed, and a gate that holds workers.
+//! The edge of the program: files kept by name, a sink for what is printed, and a gate that holds
+//! workers.
 #![tactic(auto)]
 
 mod buffer;

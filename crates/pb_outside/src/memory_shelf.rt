@@ -13,7 +13,8 @@ use crate::{Failed, Load, Memory, Shelf};
 use std::alloc::Global;
 use std::marker::Model;
 
-/// A shelf in memory: files, room that is reserved for files to come, and a list of calls that are to fail.
+/// A shelf in memory: files, room that is reserved for files to come, and a list of calls that are
+/// to fail.
 #[derive(Drop)]
 pub struct MemShelf {
     alloc: Global,
@@ -124,8 +125,8 @@ impl MemShelf {
         })
     }
 
-    /// Puts a file with these bytes on the shelf, in place of one that may be there. Room that is reserved for
-    /// the name stays. No call of `Shelf`: it is never listed, and isn't counted.
+    /// Puts a file with these bytes on the shelf, in place of one that may be there. Room that is
+    /// reserved for the name stays. No call of `Shelf`: it is never listed, and isn't counted.
     pub fn add(&mut self, name: &str, bytes: &[u8]) -> Result<(), Memory>
         ensures file { OnOk result (file_of self.new name.now ≡ Some bytes.now) }
         ensures others { OnOk result (KeepsOthers (file_of self.old) (file_of self.new) name.now) }

@@ -54,8 +54,8 @@ pub trait Shelf {
         ensures noted_error { IfErr result (λ e. Notes (calls self.old) (calls self.new) (LoadFailed name.now most e)) }
         ensures cause { HasLoadCause (faults self.old) (faults self.new) result };
 
-    /// Begins an empty file under the name, in place of one that may be there. After a failure the file is as
-    /// before, or empty. Takes no memory of the program's.
+    /// Begins an empty file under the name, in place of one that may be there. After a failure the
+    /// file is as before, or empty. Takes no memory of the program's.
     fn create(&mut self, name: &str) -> Result<(), Failed>
         ensures ok { OnOk result (IfTold (files self.old) (files self.new) (λ old new. new name.now ≡ Some [])) }
         ensures err { OnErr result (IfTold (files self.old) (files self.new) (λ old new. IsSameOrEmpty old new name.now)) }
@@ -66,8 +66,8 @@ pub trait Shelf {
         ensures noted { Notes (calls self.old) (calls self.new) (create_call name.now result) }
         ensures cause { HasCause (faults self.old) (faults self.new) result };
 
-    /// Appends the piece to the file of the name. After a failure a first part of the piece was appended. Takes
-    /// no memory of the program's.
+    /// Appends the piece to the file of the name. After a failure a first part of the piece was
+    /// appended. Takes no memory of the program's.
     fn append(&mut self, name: &str, piece: &[u8]) -> Result<(), Failed>
         ensures ok { OnOk result (IfTold (files self.old) (files self.new) (λ old new. AppendsTo old new name.now piece.now)) }
         ensures err { OnErr result (IfTold (files self.old) (files self.new) (λ old new. AppendsPartTo old new name.now piece.now)) }

@@ -22,7 +22,8 @@ pub trait Sink {
     /// All further calls can put so many bytes in all with no fault. Most sinks can't promise it.
     ghost can_take: { Self → ℕ → Type 0 } = { λ _ _. ⊥ };
 
-    /// Appends the piece. After a failure a first part of the piece was appended. Takes no memory of the program's.
+    /// Appends the piece. After a failure a first part of the piece was appended. Takes no memory
+    /// of the program's.
     fn put(&mut self, piece: &[u8]) -> Result<(), Failed>
         ensures ok { OnOk result (IfTold (written self.old) (written self.new) (λ old new. Appends old new piece.now)) }
         ensures err { OnErr result (IfTold (written self.old) (written self.new) (λ old new. AppendsPart old new piece.now)) }

@@ -228,8 +228,8 @@ refused place t =
 abbrev pub Begins : {X : Type 0} → (List Token → X → Type 0) → List Token → Type 0
 Begins {X} Is ts = (more : List Token) × (x : X) × Is (ts ++ more) x
 
--- The tokens before are the beginning of a form. The place says which tokens may follow them, and which may not.
--- The next token is none of these, and the error is the place's.
+-- The tokens before are the beginning of a form. The place says which tokens may follow them, and
+-- which may not. The next token is none of these, and the error is the place's.
 pub record IsFault (X : Type 0) (Is : List Token → X → Type 0) (ts : List Token) (e : SyntaxError) : Type 0 where
   pub before : List Token
   pub after : List Token

@@ -50,7 +50,8 @@ pub enum LeftOut {
     Metric,
 }
 
-/// Why a text is no tree: the first token that can't go on. `at` is the place of its first byte, counted from 0.
+/// Why a text is no tree: the first token that can't go on. `at` is the place of its first byte,
+/// counted from 0.
 #[derive(Clone, Copy, Debug, PartialEq, Eq)]
 pub enum SyntaxError {
     /// The bytes there begin no token.

@@ -1,5 +1,6 @@
-//! The trees of PDDL texts, their tokens and errors, and the definitions that say which text is which tree:
-//! `specs/Tokens.antt`, `specs/Grammar.antt`, `specs/Reading.antt` and `specs/Trees.antt`.
+//! The trees of PDDL texts, their tokens and errors, and the definitions that say which text is
+//! which tree: `specs/Tokens.antt`, `specs/Grammar.antt`, `specs/Reading.antt` and
+//! `specs/Trees.antt`.
 #![tactic(auto)]
 
 mod error;

@@ -3,7 +3,8 @@ ghost use Rattle.std.specs.Prelude.{◌≡◌, ◌++◌, ◌∷◌, ◌-◌, [],
 use std::alloc::{AllocError, AllocFailed, Global};
 use std::marker::Model;
 
-/// A list on the heap, which keeps the allocator of its constructor. A contract sees the list of its elements.
+/// A list on the heap, which keeps the allocator of its constructor. A contract sees the list of
+/// its elements.
 #[derive(Debug, Drop)]
 pub struct Listed<T> {
     items: Vec<T>,

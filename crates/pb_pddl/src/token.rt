@@ -27,7 +27,8 @@ pub enum TokenKind {
     End,
 }
 
-/// A token and its place: the slice of its text that begins there. The order of the fields keeps it at 24 bytes.
+/// A token and its place: the slice of its text that begins there. The order of the fields keeps it
+/// at 24 bytes.
 #[derive(Debug, Drop)]
 pub struct Token {
     /// The token's bytes, in lower case, as a range of the whole text.

@@ -4,7 +4,8 @@
 use crate::listed::Listed;
 use crate::text::Text;
 
-/// A word or a variable: its bytes in lower case, a variable's with its `?`, and the place of its first byte.
+/// A word or a variable: its bytes in lower case, a variable's with its `?`, and the place of its
+/// first byte.
 #[derive(Debug, Drop)]
 pub struct Name {
     pub text: Text,
@@ -59,7 +60,8 @@ pub struct Predicate {
     pub params: Listed<Typed>,
 }
 
-/// An action schema: its parameters, the atoms of its precondition, and the literals and costs of its effect.
+/// An action schema: its parameters, the atoms of its precondition, and the literals and costs of
+/// its effect.
 #[derive(Debug, Drop)]
 pub struct Action {
     pub name: Name,

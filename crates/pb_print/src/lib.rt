@@ -1,4 +1,5 @@
-//! Texts that the program writes: bytes, lines and numbers, into a list of bytes or into a piece of a fixed size.
+//! Texts that the program writes: bytes, lines and numbers, into a list of bytes or into a piece of
+//! a fixed size.
 #![tactic(auto)]
 
 mod piece;

@@ -64,7 +64,8 @@ pub fn read_domain(alloc: Global, text: &[u8]) -> Result<Domain, SyntaxError>
     domain_of(alloc, text)
 }
 
-/// The problem that a text spells, as `read_domain` reads a domain. Whether it fits a domain isn't looked at.
+/// The problem that a text spells, as `read_domain` reads a domain. Whether it fits a domain isn't
+/// looked at.
 pub fn read_problem(alloc: Global, text: &[u8]) -> Result<Problem, SyntaxError>
     // The text spells the problem that is read.
     ensures found { IfOk result (SpellsProblem text.now) }

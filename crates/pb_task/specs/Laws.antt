@@ -65,7 +65,8 @@ SetsAreOfAtoms =
     ((count : ℕ) (accepts : ℕ → Bool) → (set_of count accepts < 2 ^ count) × ((atom : ℕ) → atom < count → has_atom (set_of count accepts) atom ≡ accepts atom))
     × ((count one other : ℕ) → one < 2 ^ count → other < 2 ^ count → ((atom : ℕ) → atom < count → has_atom one atom ≡ has_atom other atom) → one ≡ other)
 
--- The state space of a task is proper: no action costs more than the greatest cost. Its states are numbers of 256 bits.
+-- The state space of a task is proper: no action costs more than the greatest cost. Its states are
+-- numbers of 256 bits.
 abbrev pub TasksAreProper : Type 0
 TasksAreProper =
     (parts : TaskParts) → IsTask parts

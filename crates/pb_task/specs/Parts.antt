@@ -1,4 +1,5 @@
--- What the parts of a task of any kind mean. A further kind of task is one case more of each definition.
+-- What the parts of a task of any kind mean. A further kind of task is one case more of each
+-- definition.
 use Rattle.std.specs.Prelude.{ℕ, ◌^◌, List}
 use Rattle.pb_model.specs.Space.{Space}
 use Rattle.pb_task.specs.declared.parts.TaskParts.{TaskParts}

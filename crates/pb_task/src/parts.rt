@@ -75,7 +75,8 @@ impl Swamp {
     }
 }
 
-/// A grid: a map, and a start and a goal on it. Cells are named by their column and row, (0, 0) being the upper left one.
+/// A grid: a map, and a start and a goal on it. Cells are named by their column and row, (0, 0)
+/// being the upper left one.
 #[derive(Drop)]
 pub struct GridParts {
     /// How many columns the map has.

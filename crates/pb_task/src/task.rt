@@ -13,7 +13,8 @@ use pb_packed::Packed;
 use std::alloc::{AllocError, Global};
 use std::marker::Model;
 
-/// A planning task: a state space with a start, steps by actions, and goals. Contracts see its parts.
+/// A planning task: a state space with a start, steps by actions, and goals. Contracts see its
+/// parts.
 #[derive(Drop)]
 pub struct Task {
     parts: TaskParts,

@@ -99,7 +99,8 @@ fn neighbour(tiles: &TilesParts, column: u32, row: u32, action: u32) -> Option<u
 }
 
 impl TilesParts {
-    /// The cell beside a cell in an action's direction, if the board has one. Cells are numbered row by row from 0.
+    /// The cell beside a cell in an action's direction, if the board has one. Cells are numbered
+    /// row by row from 0.
     pub fn neighbour(&self, cell: u32, action: u32) -> Option<u32>
         requires tiles { IsTiles self.now }
         requires cell { cell < 16 }

@@ -44,7 +44,8 @@ SpellsGoal words tiles =
     ((words ≡ []) × (tiles.goal ≡ range_with_len 0 (cell_count tiles)))
     ⊎ ((numbers : List (List ℕ)) × (words ≡ codes "goal" ∷ numbers) × AreNumbers numbers tiles.goal)
 
--- The text is words: the numbers of rows and of columns, the start, row by row, and maybe the goal. These make up tiles.
+-- The text is words: the numbers of rows and of columns, the start, row by row, and maybe the goal.
+-- These make up tiles.
 pub record SpellsTiles (text : List ℕ) (tiles : TilesParts) : Type 0 where
   pub rows_word : List ℕ
   pub cols_word : List ℕ

@@ -11,7 +11,8 @@ pub enum TilesError {
     Syntax { line: u64 },
     /// The board doesn't have 2 to 4 rows and 2 to 4 columns.
     Size,
-    /// There are not as many numbers as are wanted: of rows and columns, of the board, or of the goal.
+    /// There are not as many numbers as are wanted: of rows and columns, of the board, or of the
+    /// goal.
     Count { seen: u64, wanted: u64 },
     /// A number is too great for the board: the one at this place, counted from 0, among all
     /// numbers of the text.

@@ -1,6 +1,8 @@
-//! Sliding tiles from the text of a start board and, if it differs from the usual one, of a goal board.
+//! Sliding tiles from the text of a start board and, if it differs from the usual one, of a goal
+//! board.
 //!
-//! The definition `SpellsTiles` in `specs` says which texts spell which tiles, and `tiles_reading` which refusal comes first.
+//! The definition `SpellsTiles` in `specs` says which texts spell which tiles, and `tiles_reading`
+//! which refusal comes first.
 #![tactic(auto)]
 
 mod boards;

@@ -36,7 +36,8 @@ impl<R: TurnRule> TurnLock<R> {
         }
     }
 
-    /// Splits a new pass off. It gets one part, so a pass with one part can't be split. The pass may hold the turn.
+    /// Splits a new pass off. It gets one part, so a pass with one part can't be split. The pass
+    /// may hold the turn.
     pub fn split(&self, pass: &mut Pass<R>) -> Pass<R>
         requires own { IsPassOf self.now pass.old }
         requires more { 1 < parts pass.old }
@@ -48,7 +49,8 @@ impl<R: TurnRule> TurnLock<R> {
         self.split_off(pass)
     }
 
-    /// Takes in another pass, which doesn't hold the turn, with its parts. The pass itself may hold it.
+    /// Takes in another pass, which doesn't hold the turn, with its parts. The pass itself may hold
+    /// it.
     pub fn meet(&self, pass: &mut Pass<R>, other: Pass<R>)
         requires own { IsPassOf self.now pass.old × IsPassOf self.now other }
         requires rests { IsResting other }

@@ -9,7 +9,8 @@ use crate::pass::Pass;
 use crate::rule::TurnRule;
 
 impl<R: TurnRule> TurnLock<R> {
-    /// Reads the number, at one step, whether or not this or another pass holds the turn. It never waits.
+    /// Reads the number, at one step, whether or not this or another pass holds the turn. It never
+    /// waits.
     pub fn word(&self, pass: &mut Pass<R>) -> u64
         requires own { IsPassOf self.now pass.old }
         requires rule { LoadKeeps R.fact (passes.number pass.old) (view pass.old) (held pass.old) (R.loaded (held pass.old) (view pass.old)) }
@@ -20,8 +21,8 @@ impl<R: TurnRule> TurnLock<R> {
         self.load_number(pass)
     }
 
-    /// Makes the number the lesser of itself and this one, at one step, whether or not this or another pass holds the
-    /// turn. It never waits.
+    /// Makes the number the lesser of itself and this one, at one step, whether or not this or
+    /// another pass holds the turn. It never waits.
     pub fn lower_word(&self, pass: &mut Pass<R>, number: u64)
         requires own { IsPassOf self.now pass.old }
         requires rule { LowerKeeps R.fact (passes.number pass.old) (view pass.old) number (R.lowered (view pass.old) number) }

@@ -68,7 +68,8 @@ impl<S, V, N: NextView<V>> Play<Option<S>, PassView<S, V>> for LeaveTurn<N> {
     ghost then = { left N.next };
 }
 
-/// What a holder has found, and the view that it has, after all that it did so far took effect: the call picks both.
+/// What a holder has found, and the view that it has, after all that it did so far took effect: the
+/// call picks both.
 pub(crate) trait NextStage<S, V> {
     ghost use Rattle.std.specs.Prelude.{Option};
     ghost use Rattle.pb_turn.specs.declared.table_rule.Stage.{Stage};

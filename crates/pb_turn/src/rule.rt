@@ -22,7 +22,8 @@ pub trait TurnRule {
 
     ghost given: { Self.View → Self.View };
 
-    // The view of a pass that took in another (its own first), and the view that is left at the other's number.
+    // The view of a pass that took in another (its own first), and the view that is left at the
+    // other's number.
     ghost met: { Self.View → Self.View → Self.View };
 
     ghost spent: { Self.View };
@@ -41,6 +42,7 @@ pub trait Leaving<R: TurnRule> {
     /// of the state.
     type Said;
 
-    // Of what it says, of the state that it found, of the state that it leaves, and of its view before.
+    // Of what it says, of the state that it found, of the state that it leaves, and of its view
+    // before.
     ghost after: { Self.Said → R.State → R.State → R.View → R.View };
 }

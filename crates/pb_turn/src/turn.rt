@@ -61,7 +61,8 @@ impl<R: TurnRule> TurnLock<R> {
         unreachable!()
     }
 
-    // Tries a bounded number of times to take the turn. It doesn't sleep between two tries, but pauses, each time twice as long.
+    // Tries a bounded number of times to take the turn. It doesn't sleep between two tries, but
+    // pauses, each time twice as long.
     fn try_often(&self, pass: &mut Pass<R>) -> Option<Held<R>>
         requires own { IsPassOf self.now pass.old }
         requires rests { IsResting pass.old }
