@@ -25,11 +25,13 @@ is_joined grid from (Some cell) = are_connected from (class_at grid cell.0 cell.
 
 -- whether a cell can be left in an action's direction
 abbrev pub are_joined : GridParts → (cell : ℕ × ℕ) → (action : ℕ) → Bool
-are_joined grid cell action = is_joined grid (class_at grid cell.0 cell.1) (cell_beside cell.0 cell.1 action)
+are_joined grid cell action =
+    is_joined grid (class_at grid cell.0 cell.1) (cell_beside cell.0 cell.1 action)
 
 -- whether a cell on the border of a square can be left there
 abbrev pub crosses : GridParts → (side column row action : ℕ) → Bool
-crosses grid side column row action = any_below side (λ i. are_joined grid (border_cell side column row action i) action)
+crosses grid side column row action =
+    any_below side (λ i. are_joined grid (border_cell side column row action i) action)
 
 -- the number of the square in a column and a row of squares
 abbrev pub number_in : (columns : ℕ) → (square : Option (ℕ × ℕ)) → Option ℕ
@@ -40,4 +42,5 @@ number_in columns (Some square) = Some (square.1 * columns + square.0)
 -- left for the cell beyond it
 abbrev pub beyond : GridParts → (side columns block action : ℕ) → Option ℕ
 beyond grid side columns block action =
-    if crosses grid side (block % columns) (block / columns) action then number_in columns (cell_beside (block % columns) (block / columns) action) else None
+    if crosses grid side (block % columns) (block / columns) action
+    then number_in columns (cell_beside (block % columns) (block / columns) action) else None

@@ -22,7 +22,8 @@ abbrev pub cell_with : (board : List ℕ) → (number : ℕ) → ℕ
 cell_with board number = unwrap_or (position (λ other. other == number) board) 0
 
 abbrev pub placing_of : (board : List ℕ) → Placing
-placing_of board = record { blank = cell_with board 0; first = cell_with board 1; second = cell_with board 2 }
+placing_of board =
+    record { blank = cell_with board 0; first = cell_with board 1; second = cell_with board 2 }
 
 -- how many blocks there are for a board of `count` cells; 0 if the projection is of another kind
 abbrev pub placing_count : (count : ℕ) → Projection → ℕ
@@ -44,9 +45,11 @@ rank_beside_two taken other cell = cell - (one_if (nat_lt taken cell) + one_if (
 abbrev pub placing_number : (count : ℕ) → Projection → Placing → ℕ
 placing_number count (Squares side columns) placing = 0
 placing_number count Blank placing = placing.blank
-placing_number count BlankAndOne placing = placing.blank * (count - 1) + rank_beside placing.blank placing.first
+placing_number count BlankAndOne placing =
+    placing.blank * (count - 1) + rank_beside placing.blank placing.first
 placing_number count BlankAndTwo placing =
-    (placing.blank * (count - 1) + rank_beside placing.blank placing.first) * (count - 2) + rank_beside_two placing.blank placing.first placing.second
+    (placing.blank * (count - 1) + rank_beside placing.blank placing.first) * (count - 2)
+    + rank_beside_two placing.blank placing.first placing.second
 placing_number count (Atoms atoms) placing = 0
 
 -- the cell of a tile after the blank moved: the blank's old cell if the two met
@@ -64,20 +67,23 @@ placing_after placing to = record {
 -- the block of the placing after the blank moved to a cell, if there is such a cell
 abbrev pub number_after : (count : ℕ) → Projection → Placing → (cell : Option ℕ) → Option ℕ
 number_after count projection placing None = None
-number_after count projection placing (Some cell) = Some (placing_number count projection (placing_after placing cell))
+number_after count projection placing (Some cell) =
+    Some (placing_number count projection (placing_after placing cell))
 
 -- The blank moves from a placing of the one block to the cell beside it in a direction. The result
 -- is a placing of the other block.
-pub record IsTileEdge (tiles : TilesParts) (projection : Projection) (block other : ℕ) : Type 0 where
-  pub placing : Placing
-  pub action : ℕ
-  pub cell : ℕ
-  pub is : IsPlacing (cell_count tiles) placing
-  pub beside : neighbour tiles.rows tiles.cols placing.blank action ≡ Some cell
-  pub from : placing_number (cell_count tiles) projection placing ≡ block
-  pub to : placing_number (cell_count tiles) projection (placing_after placing cell) ≡ other
+pub record IsTileEdge (tiles : TilesParts) (projection : Projection) (block other : ℕ) : Type 0
+  where
+    pub placing : Placing
+    pub action : ℕ
+    pub cell : ℕ
+    pub is : IsPlacing (cell_count tiles) placing
+    pub beside : neighbour tiles.rows tiles.cols placing.blank action ≡ Some cell
+    pub from : placing_number (cell_count tiles) projection placing ≡ block
+    pub to : placing_number (cell_count tiles) projection (placing_after placing cell) ≡ other
 
 -- the finest of the three projections of a board of `count` cells that has at most so many blocks
 abbrev pub finest_of : (count wish : ℕ) → Projection
 finest_of count wish =
-    if nat_le (count * (count - 1) * (count - 2)) wish then BlankAndTwo else (if nat_le (count * (count - 1)) wish then BlankAndOne else Blank)
+    if nat_le (count * (count - 1) * (count - 2)) wish then BlankAndTwo
+    else (if nat_le (count * (count - 1)) wish then BlankAndOne else Blank)

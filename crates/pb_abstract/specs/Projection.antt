@@ -45,12 +45,14 @@ block_count (Strips strips) (Atoms atoms) = 2 ^ length atoms
 
 -- the block of a state; 0 if the projection is of another kind
 abbrev pub block_of : TaskParts → Projection → (state : ℕ) → ℕ
-block_of (Grid grid) (Squares side columns) state = square_of grid side (bits_of state 0 11) (bits_of state 11 11)
+block_of (Grid grid) (Squares side columns) state =
+    square_of grid side (bits_of state 0 11) (bits_of state 11 11)
 block_of (Grid grid) Blank state = 0
 block_of (Grid grid) BlankAndOne state = 0
 block_of (Grid grid) BlankAndTwo state = 0
 block_of (Grid grid) (Atoms atoms) state = 0
-block_of (Tiles tiles) projection state = placing_number (cell_count tiles) projection (placing_of (board_of (cell_count tiles) state))
+block_of (Tiles tiles) projection state =
+    placing_number (cell_count tiles) projection (placing_of (board_of (cell_count tiles) state))
 block_of (Strips strips) (Squares side columns) state = 0
 block_of (Strips strips) Blank state = 0
 block_of (Strips strips) BlankAndOne state = 0
@@ -74,7 +76,8 @@ IsEdge (Strips strips) (Atoms atoms) block other = IsTrackedEdge strips atoms bl
 -- It is the finest projection that has at most `wish` blocks: the least side of squares, the most
 -- tiles that are followed, or the most atoms that are tracked.
 abbrev pub IsFinest : TaskParts → (wish : ℕ) → Projection → Type 0
-IsFinest (Grid grid) wish (Squares side columns) = IsLeastSide grid wish side × (columns ≡ column_count grid side)
+IsFinest (Grid grid) wish (Squares side columns) =
+    IsLeastSide grid wish side × (columns ≡ column_count grid side)
 IsFinest (Grid grid) wish Blank = ⊥
 IsFinest (Grid grid) wish BlankAndOne = ⊥
 IsFinest (Grid grid) wish BlankAndTwo = ⊥

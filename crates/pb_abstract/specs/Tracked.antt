@@ -28,12 +28,14 @@ is_changed strips atom = nat_lt atom strips.atoms && nat_lt 0 (changers atom str
 -- an atom comes before another: fewer actions change it, or as many, and its number is less
 abbrev pub comes_before : StripsParts → (one other : ℕ) → Bool
 comes_before strips one other =
-    nat_lt (changers one strips.actions) (changers other strips.actions) || (changers one strips.actions == changers other strips.actions && nat_lt one other)
+    nat_lt (changers one strips.actions) (changers other strips.actions)
+    || (changers one strips.actions == changers other strips.actions && nat_lt one other)
 
 -- each atom of the list comes before all later ones
 abbrev pub AreInOrder : StripsParts → List ℕ → Type 0
 AreInOrder strips [] = Unit {0}
-AreInOrder strips (atom ∷ atoms) = All (λ other. IsTrue (comes_before strips atom other)) atoms × AreInOrder strips atoms
+AreInOrder strips (atom ∷ atoms) =
+    All (λ other. IsTrue (comes_before strips atom other)) atoms × AreInOrder strips atoms
 
 -- The tracked atoms are changed atoms in order, and each of them comes before every other changed
 -- atom. They are as many as there can be: one more would make more than `wish` blocks, or all
@@ -41,9 +43,11 @@ AreInOrder strips (atom ∷ atoms) = All (λ other. IsTrue (comes_before strips 
 pub record AreTracked (strips : StripsParts) (wish : ℕ) (atoms : List ℕ) : Type 0 where
   pub changed : All (λ atom. IsTrue (is_changed strips atom)) atoms
   pub order : AreInOrder strips atoms
-  pub first : (other : ℕ) → IsTrue (is_changed strips other) → All (λ atom. atom ≢ other) atoms → All (λ atom. IsTrue (comes_before strips atom other)) atoms
+  pub first : (other : ℕ) → IsTrue (is_changed strips other) → All (λ atom. atom ≢ other) atoms
+      → All (λ atom. IsTrue (comes_before strips atom other)) atoms
   pub few : 2 ^ length atoms ≤ wish
-  pub most : (wish < 2 ^ suc (length atoms)) ⊎ ((other : ℕ) → IsTrue (is_changed strips other) → All (λ atom. atom ≢ other) atoms → ⊥)
+  pub most : (wish < 2 ^ suc (length atoms)) ⊎ ((other : ℕ) → IsTrue (is_changed strips other)
+      → All (λ atom. atom ≢ other) atoms → ⊥)
 
 -- ---- blocks and edges
 

@@ -52,7 +52,10 @@ fn all_changes(
     actions: &[GroundAction],
     atoms: &TrackedAtoms,
 ) -> Result<Vec<Change>, AllocError>
-    ensures { IfOk result (λ changes. (test : Change → Bool) → list_any test changes.items ≡ list_any (λ action. changes_some (change_of atoms.now action) && test (change_of atoms.now action)) actions.now) }
+    ensures { IfOk result (λ changes. (test : Change → Bool)
+        → list_any test changes.items ≡ list_any
+        (λ action. changes_some (change_of atoms.now action) && test (change_of atoms.now action))
+        actions.now) }
 {
     let mut changes = Vec::new(alloc);
     for action in actions {
@@ -76,7 +79,9 @@ fn each_once(changes: Vec<Change>) -> Vec<Change>
 
 // The scope of a block: itself, and those that the changes lead to.
 fn scope(alloc: Global, changes: &[Change], block: u32) -> Result<BlockList, AllocError>
-    ensures { IfOk result (λ list. (c : ℕ) → has list c ≡ ((block == c) || list_any (λ change. is_number (block_after change block) c) changes.now)) }
+    ensures { IfOk result (λ list. (c : ℕ) → has list c
+        ≡ ((block == c) || list_any (λ change. is_number (block_after change block) c)
+        changes.now)) }
 {
     let mut numbers = Vec::new(alloc);
     numbers.push(block)?;
@@ -97,7 +102,9 @@ pub fn scopes(
     requires strips { IsStrips strips.now }
     requires atoms { AreAtoms strips.now atoms.now }
     ensures count { IfOk result (λ scopes. length scopes.items ≡ 2 ^ length atoms.now) }
-    ensures scope { IfOk result (λ scopes. (block other : ℕ) → block < 2 ^ length atoms.now → IsTrue (has (slice_index_or scopes.items block []) other) ↔ ((block ≡ other) ⊎ IsTrackedEdge strips.now atoms.now block other)) }
+    ensures scope { IfOk result (λ scopes. (block other : ℕ) → block < 2 ^ length atoms.now
+        → IsTrue (has (slice_index_or scopes.items block []) other)
+        ↔ ((block ≡ other) ⊎ IsTrackedEdge strips.now atoms.now block other)) }
 {
     let changes = each_once(all_changes(alloc, strips.actions.as_slice(), atoms)?);
     let mut scopes = Vec::new(alloc);

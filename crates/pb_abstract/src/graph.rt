@@ -30,7 +30,8 @@ impl Model for AbsGraph {
 
     ghost view = { λ g. record { projection = g.projection; scopes = g.scopes.items } };
 
-    ghost invariant = { λ g. IsGraph (record { projection = g.projection; scopes = g.scopes.items }) × AreInterference g.scopes.items g.interference.items };
+    ghost invariant = { λ g. IsGraph (record { projection = g.projection; scopes = g.scopes.items })
+        × AreInterference g.scopes.items g.interference.items };
 }
 
 impl AbsGraph {

@@ -9,7 +9,9 @@ use std::alloc::{AllocError, Global};
 // Adds a number to the lists at these places.
 fn add_to(lists: &mut [NumberList], places: &[u32], number: u32) -> Result<(), AllocError>
     requires { All (λ place. place < length lists.old) places.now }
-    ensures { OnOk result ((place c : ℕ) → has (slice_index_or lists.new place []) c ≡ (has (slice_index_or lists.old place []) c || (has places.now place && (number == c)))) }
+    ensures { OnOk result ((place c : ℕ) → has (slice_index_or lists.new place []) c
+        ≡ (has (slice_index_or lists.old place []) c
+        || (has places.now place && (number == c)))) }
 {
     for place in places {
         lists[*place as usize].push(number)?;
@@ -45,7 +47,8 @@ fn sources(alloc: Global, scopes: &[BlockList]) -> Result<Vec<NumberList>, Alloc
 // The blocks that have a block of a scope in their own scope.
 fn near(alloc: Global, scope: &[u32], sources: &[NumberList]) -> Result<Vec<u32>, AllocError>
     requires { All (λ shared. shared < length sources.now) scope.now }
-    ensures { IfOk result (λ found. (c : ℕ) → has found.items c ≡ list_any (λ shared. has (slice_index_or sources.now shared []) c) scope.now) }
+    ensures { IfOk result (λ found. (c : ℕ) → has found.items c
+        ≡ list_any (λ shared. has (slice_index_or sources.now shared []) c) scope.now) }
 {
     let mut found = Vec::new(alloc);
     for shared in scope {

@@ -92,7 +92,8 @@ pub fn scope_of(
     block: u32,
     beyond: [Option<u32>; 4],
 ) -> Result<BlockList, AllocError>
-    ensures { IfOk result (λ list. (c : ℕ) → has list c ≡ ((block == c) || list_any (λ other. is_number other c) beyond)) }
+    ensures { IfOk result (λ list. (c : ℕ) → has list c
+        ≡ ((block == c) || list_any (λ other. is_number other c) beyond)) }
 {
     let mut numbers = Vec::new(alloc);
     numbers.push(block)?;

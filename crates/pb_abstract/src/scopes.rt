@@ -17,7 +17,8 @@ pub fn finest(alloc: Global, parts: &TaskParts, wish: u32) -> Result<Projection,
     requires greatest { wish ≤ 4096 }
     ensures finest { IfOk result (IsFinest parts.now wish) }
     ensures fits { IfOk result (Fits parts.now) }
-    ensures side { IfOk result (λ projection. (side columns : ℕ) → projection ≡ Squares side columns → side ≤ 2048) }
+    ensures side { IfOk result (λ projection. (side columns : ℕ) → projection ≡ Squares side columns
+        → side ≤ 2048) }
 {
     match parts {
         TaskParts::Grid(grid) => {
@@ -44,8 +45,12 @@ pub fn scopes(
     requires fits { Fits parts.now projection.now }
     requires side { (side columns : ℕ) → projection.now ≡ Squares side columns → side ≤ 2048 }
     requires few { block_count parts.now projection.now ≤ 4096 }
-    ensures count { IfOk result (λ scopes. length scopes.items ≡ block_count parts.now projection.now) }
-    ensures scope { IfOk result (λ scopes. (block other : ℕ) → block < block_count parts.now projection.now → IsTrue (has (slice_index_or scopes.items block []) other) ↔ ((block ≡ other) ⊎ IsEdge parts.now projection.now block other)) }
+    ensures count { IfOk result (λ scopes. length scopes.items
+        ≡ block_count parts.now projection.now) }
+    ensures scope { IfOk result (λ scopes. (block other : ℕ)
+        → block < block_count parts.now projection.now
+        → IsTrue (has (slice_index_or scopes.items block []) other)
+        ↔ ((block ≡ other) ⊎ IsEdge parts.now projection.now block other)) }
 {
     match (parts, projection) {
         (TaskParts::Grid(grid), Projection::Squares { side, .. }) => squares::scopes(

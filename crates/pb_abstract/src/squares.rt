@@ -125,7 +125,8 @@ fn scope(alloc: Global, grid: &GridParts, side: u32, block: u32) -> Result<Block
     requires small { side ≤ 2048 }
     requires few { square_count grid.now side ≤ 4096 }
     requires block { block < square_count grid.now side }
-    ensures { IfOk result (λ list. (c : ℕ) → IsTrue (has list c) ↔ ((block ≡ c) ⊎ IsSquareEdge grid.now side block c)) }
+    ensures { IfOk result (λ list. (c : ℕ) → IsTrue (has list c)
+        ↔ ((block ≡ c) ⊎ IsSquareEdge grid.now side block c)) }
 {
     let beyond = [
         beyond(grid, side, block, 0),
@@ -143,7 +144,9 @@ pub fn scopes(alloc: Global, grid: &GridParts, side: u32) -> Result<Vec<BlockLis
     requires small { side ≤ 2048 }
     requires few { square_count grid.now side ≤ 4096 }
     ensures count { IfOk result (λ scopes. length scopes.items ≡ square_count grid.now side) }
-    ensures scope { IfOk result (λ scopes. (block other : ℕ) → block < square_count grid.now side → IsTrue (has (slice_index_or scopes.items block []) other) ↔ ((block ≡ other) ⊎ IsSquareEdge grid.now side block other)) }
+    ensures scope { IfOk result (λ scopes. (block other : ℕ) → block < square_count grid.now side
+        → IsTrue (has (slice_index_or scopes.items block []) other)
+        ↔ ((block ≡ other) ⊎ IsSquareEdge grid.now side block other)) }
 {
     let mut scopes = Vec::new(alloc);
     for block in 0..square_count(grid, side) {

@@ -44,7 +44,8 @@ fn beyond(
 ) -> Option<u32>
     requires tiles { IsTiles tiles.now }
     requires placing { IsPlacing (cell_count tiles.now) placing.now }
-    ensures { result ≡ number_after (cell_count tiles.now) projection.now placing.now (neighbour tiles.now.rows tiles.now.cols placing.now.blank action) }
+    ensures { result ≡ number_after (cell_count tiles.now) projection.now placing.now
+        (neighbour tiles.now.rows tiles.now.cols placing.now.blank action) }
 {
     let to = tiles.neighbour(placing.blank, action)?;
     let after = placing_after(placing, to);
@@ -60,7 +61,8 @@ fn scope(
 ) -> Result<BlockList, AllocError>
     requires tiles { IsTiles tiles.now }
     requires block { block < placing_count (cell_count tiles.now) projection.now }
-    ensures { IfOk result (λ list. (c : ℕ) → IsTrue (has list c) ↔ ((block ≡ c) ⊎ IsTileEdge tiles.now projection.now block c)) }
+    ensures { IfOk result (λ list. (c : ℕ) → IsTrue (has list c)
+        ↔ ((block ≡ c) ⊎ IsTileEdge tiles.now projection.now block c)) }
 {
     let placing = placing_at(tiles.rows * tiles.cols, *projection, block);
     let beyond = [
@@ -79,8 +81,12 @@ pub fn scopes(
     projection: &Projection,
 ) -> Result<Vec<BlockList>, AllocError>
     requires { IsTiles tiles.now }
-    ensures count { IfOk result (λ scopes. length scopes.items ≡ placing_count (cell_count tiles.now) projection.now) }
-    ensures scope { IfOk result (λ scopes. (block other : ℕ) → block < placing_count (cell_count tiles.now) projection.now → IsTrue (has (slice_index_or scopes.items block []) other) ↔ ((block ≡ other) ⊎ IsTileEdge tiles.now projection.now block other)) }
+    ensures count { IfOk result (λ scopes. length scopes.items
+        ≡ placing_count (cell_count tiles.now) projection.now) }
+    ensures scope { IfOk result (λ scopes. (block other : ℕ)
+        → block < placing_count (cell_count tiles.now) projection.now
+        → IsTrue (has (slice_index_or scopes.items block []) other)
+        ↔ ((block ≡ other) ⊎ IsTileEdge tiles.now projection.now block other)) }
 {
     let mut scopes = Vec::new(alloc);
     for block in 0..placing_count(tiles.rows * tiles.cols, *projection) {
@@ -93,7 +99,8 @@ pub fn scopes(
 fn cells_of(board: u64, count: u32) -> [u8; NUMBERS]
     requires few { count ≤ 16 }
     requires board { IsTrue (is_board count (board_of count board)) }
-    ensures { (number : ℕ) → number < count → slice_index result number ≡ cell_with (board_of count board) number }
+    ensures { (number : ℕ) → number < count → slice_index result number
+        ≡ cell_with (board_of count board) number }
 {
     let mut cells = [0; NUMBERS];
     let mut rest = board;
@@ -108,7 +115,8 @@ fn cells_of(board: u64, count: u32) -> [u8; NUMBERS]
 pub fn block(tiles: &TilesParts, projection: Projection, state: &Packed) -> u32
     requires tiles { IsTiles tiles.now }
     requires state { IsTrue (is_board_state (cell_count tiles.now) state.now) }
-    ensures { result ≡ placing_number (cell_count tiles.now) projection (placing_of (board_of (cell_count tiles.now) state.now)) }
+    ensures { result ≡ placing_number (cell_count tiles.now) projection
+        (placing_of (board_of (cell_count tiles.now) state.now)) }
 {
     let count = tiles.rows * tiles.cols;
     let cells = cells_of(state.bits(0, BITS * count), count);

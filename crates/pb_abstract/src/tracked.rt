@@ -22,11 +22,18 @@ impl Model for TrackedAtoms {
 
     ghost view = { λ t. take t.count t.atoms };
 
-    ghost invariant = { λ t. (length t.atoms ≡ 12) × (t.count ≤ 12) × (drop t.count t.atoms ≡ replicate (12 - t.count) 0) };
+    ghost invariant = { λ t. (length t.atoms ≡ 12) × (t.count ≤ 12)
+        × (drop t.count t.atoms ≡ replicate (12 - t.count) 0) };
 
-    ghost inverse = { λ atoms. record { atoms = atoms ++ replicate (12 - length atoms) 0; count = length atoms } };
+    ghost inverse = { λ atoms. record {
+      atoms = atoms ++ replicate (12 - length atoms) 0;
+      count = length atoms;
+    } };
 
-    ghost inverse_ok = { λ t h i. record { atoms = (padded_again t.count t.atoms h.0 h.1 h.2).0 i; count = (padded_again t.count t.atoms h.0 h.1 h.2).1 i } };
+    ghost inverse_ok = { λ t h i. record {
+      atoms = (padded_again t.count t.atoms h.0 h.1 h.2).0 i;
+      count = (padded_again t.count t.atoms h.0 h.1 h.2).1 i;
+    } };
 }
 
 impl TrackedAtoms {

@@ -11,7 +11,8 @@ IsBetterBy keys block other = ComesBefore (keys block) block (keys other) other
 -- the best of the candidates, or none if there is no candidate
 abbrev pub IsBestOf : (candidate : ℕ → Type 0) → (keys : ℕ → Option Key) → Option ℕ → Type 0
 IsBestOf candidate keys None = (block : ℕ) → candidate block → ⊥
-IsBestOf candidate keys (Some best) = candidate best × ((block : ℕ) → candidate block → (block ≡ best) ⊎ IsBetterBy keys best block)
+IsBestOf candidate keys (Some best) =
+    candidate best × ((block : ℕ) → candidate block → (block ≡ best) ⊎ IsBetterBy keys best block)
 
 -- the block passes, and a row of it is Opened
 abbrev pub MayBeFirst : (pass : ℕ → Bool) → (keys : ℕ → Option Key) → (block : ℕ) → Type 0
@@ -30,6 +31,9 @@ abbrev pub IsRivalBy : (near : ℕ → Bool) → (keys : ℕ → Option Key) →
 IsRivalBy near keys block = IsBestOf (MayRival near keys block) keys
 
 -- the better of the two, or the other if it is the only one
-abbrev pub IsBetterOf : (keys : ℕ → Option Key) → (best : Option ℕ) → (other : ℕ) → Option ℕ → Type 0
+abbrev pub IsBetterOf : (keys : ℕ → Option Key) → (best : Option ℕ) → (other : ℕ) → Option ℕ
+    → Type 0
 IsBetterOf keys None other result = result ≡ Some other
-IsBetterOf keys (Some best) other result = ((result ≡ Some other) × IsBetterBy keys other best) ⊎ ((result ≡ Some best) × (IsBetterBy keys other best → ⊥))
+IsBetterOf keys (Some best) other result =
+    ((result ≡ Some other) × IsBetterBy keys other best)
+    ⊎ ((result ≡ Some best) × (IsBetterBy keys other best → ⊥))

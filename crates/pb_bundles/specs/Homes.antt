@@ -28,15 +28,22 @@ home_rows table home = rows_in (content_at table home)
 
 -- so many blocks, each with a bundle without a row
 abbrev pub empty_homes : (count : ℕ) → Weight → HomeTable
-empty_homes count weight = record { bundles = replicate count (Some (record { entries = []; weight = weight })); keys = replicate count None }
+empty_homes count weight =
+    record {
+      bundles = replicate count (Some (record { entries = []; weight = weight }));
+      keys = replicate count None;
+    }
 
 -- the content after the start was offered a row of g 0, without a parent
 abbrev pub with_start : Content → (start : ℕ) → Estimate → Content
-with_start content start estimate = put content start (offered_row 0 estimate None 0 (row_of content start))
+with_start content start estimate =
+    put content start (offered_row 0 estimate None 0 (row_of content start))
 
 -- for each block at home the key of its first Opened row is noted
 abbrev pub AreNoted : HomeTable → Type 0
-AreNoted table = (block : ℕ) (content : Content) → content_at table block ≡ Some content → IsBest content.weight (row_of content) (key_at table block)
+AreNoted table =
+    (block : ℕ) (content : Content) → content_at table block ≡ Some content
+    → IsBest content.weight (row_of content) (key_at table block)
 
 -- what is true of every table
 pub record AreHomes (table : HomeTable) : Type 0 where

@@ -9,4 +9,5 @@ use Rattle.pb_bundles.specs.Parts.{with_content}
 -- the reference's last value becomes the content of the block's bundle, and all other parts are as
 -- before
 abbrev pub LendsBundle : MutBor (List (ℕ × Content)) → (block : ℕ) → MutBor Content → Fml
-LendsBundle parts block bundle = Lends the_parts the_bundle parts bundle (with_content parts.now block)
+LendsBundle parts block bundle =
+    Lends the_parts the_bundle parts bundle (with_content parts.now block)

@@ -17,7 +17,8 @@ vacated (block ∷ scope) bundles = vacated scope (slice_set bundles block None)
 
 -- the bundles of these blocks, as far as they are at home, in the order of the blocks
 abbrev pub moved : (scope : List ℕ) → List (Option Content) → List (ℕ × Content)
-moved scope bundles = filter_map (λ block. option_map (λ content. (block, content)) (get_or bundles block None)) scope
+moved scope bundles =
+    filter_map (λ block. option_map (λ content. (block, content)) (get_or bundles block None)) scope
 
 -- the places after the bundles came back, each to its own
 abbrev pub put_back : List (ℕ × Content) → List (Option Content) → List (Option Content)
@@ -38,6 +39,8 @@ pub record NotesKey (content : Content) (old new : List (Option Key)) (block : �
 -- For each of these blocks the key of the first Opened row is noted, or that none is Opened; the
 -- keys of all other blocks stay.
 pub record NotesKeys (parts : List (ℕ × Content)) (old new : List (Option Key)) : Type 0 where
-  pub noted : (block : ℕ) (content : Content) → content_in parts block ≡ Some content → IsBest content.weight (row_of content) (get_or new block None)
-  pub others : (block : ℕ) → content_in parts block ≡ None → get_or new block None ≡ get_or old block None
+  pub noted : (block : ℕ) (content : Content) → content_in parts block ≡ Some content
+      → IsBest content.weight (row_of content) (get_or new block None)
+  pub others : (block : ℕ) → content_in parts block ≡ None
+      → get_or new block None ≡ get_or old block None
   pub count : length new ≡ length old

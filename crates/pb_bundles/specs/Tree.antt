@@ -12,7 +12,9 @@ leaf keys block = record { key = get_or keys block None; block = block }
 
 -- what the node has
 abbrev pub node : List (Option Key) → List Winner → (at : ℕ) → Winner
-node keys winners at = if nat_lt at (length keys) then get_or winners at (leaf keys 0) else leaf keys (at - length keys)
+node keys winners at =
+    if nat_lt at (length keys) then get_or winners at (leaf keys 0)
+    else leaf keys (at - length keys)
 
 -- the one block is better than the other
 abbrev pub IsAhead : Winner → Winner → Type 0
@@ -20,11 +22,13 @@ IsAhead one other = ComesBefore one.key one.block other.key other.block
 
 -- the better of the two
 abbrev pub IsWonBy : (left right winner : Winner) → Type 0
-IsWonBy left right winner = ((winner ≡ left) × (IsAhead right left → ⊥)) ⊎ ((winner ≡ right) × IsAhead right left)
+IsWonBy left right winner =
+    ((winner ≡ left) × (IsAhead right left → ⊥)) ⊎ ((winner ≡ right) × IsAhead right left)
 
 -- the node has the better of the two below it
 abbrev pub IsWon : List (Option Key) → List Winner → (at : ℕ) → Type 0
-IsWon keys winners at = IsWonBy (node keys winners (2 * at)) (node keys winners (2 * at + 1)) (node keys winners at)
+IsWon keys winners at =
+    IsWonBy (node keys winners (2 * at)) (node keys winners (2 * at + 1)) (node keys winners at)
 
 -- what is true of every tree
 pub record IsKeyTree (keys : List (Option Key)) (winners : List Winner) : Type 0 where
@@ -35,7 +39,8 @@ pub record IsKeyTree (keys : List (Option Key)) (winners : List Winner) : Type 0
 -- the node is reached from the other by so many steps down at most
 abbrev pub Under : (steps : ℕ) → (above below : ℕ) → Type 0
 Under zero above below = above ≡ below
-Under (suc steps) above below = (above ≡ below) ⊎ (Under steps (2 * above) below ⊎ Under steps (2 * above + 1) below)
+Under (suc steps) above below =
+    (above ≡ below) ⊎ (Under steps (2 * above) below ⊎ Under steps (2 * above + 1) below)
 
 -- the winner, if there is one, is the other, or better
 abbrev pub IsNotBehind : Option Winner → Winner → Type 0
@@ -44,7 +49,10 @@ IsNotBehind (Some winner) other = (winner ≡ other) ⊎ IsAhead winner other
 
 -- the best of the blocks below the node that pass and have an Opened row, and of the best one so
 -- far
-pub record IsBestBelow (test : ℕ → Bool) (keys : List (Option Key)) (at : ℕ) (best result : Option Winner) : Type 0 where
-  pub from : (result ≡ best) ⊎ ((block : ℕ) × (block < length keys) × (result ≡ Some (leaf keys block)) × IsTrue (test block) × IsSome (get_or keys block None))
+pub record IsBestBelow (test : ℕ → Bool) (keys : List (Option Key)) (at : ℕ)
+    (best result : Option Winner) : Type 0 where
+  pub from : (result ≡ best) ⊎ ((block : ℕ) × (block < length keys)
+      × (result ≡ Some (leaf keys block)) × IsTrue (test block) × IsSome (get_or keys block None))
   pub kept : (other : Winner) → IsNotBehind best other → IsNotBehind result other
-  pub least : (block steps : ℕ) → block < length keys → Under steps at (length keys + block) → IsTrue (test block) → IsSome (get_or keys block None) → IsNotBehind result (leaf keys block)
+  pub least : (block steps : ℕ) → block < length keys → Under steps at (length keys + block)
+      → IsTrue (test block) → IsSome (get_or keys block None) → IsNotBehind result (leaf keys block)

@@ -29,7 +29,8 @@ impl Homes {
     /// exactly if there is no such block.
     pub fn first_choice<F: Fn(u32) -> bool>(&self, pass: F) -> Option<u32>
         requires { (block : ℕ) → block < length self.now.bundles → F.pre pass block }
-        ensures { (test : ℕ → Bool) → ((block : ℕ) (answer : Bool) → block < length self.now.bundles → F.post pass block answer → answer ≡ test block)
+        ensures { (test : ℕ → Bool) → ((block : ℕ) (answer : Bool) → block < length self.now.bundles
+            → F.post pass block answer → answer ≡ test block)
             → IsFirstBy test (key_at self.now) result }
     {
         self.keys.first(&pass)

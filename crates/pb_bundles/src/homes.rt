@@ -38,7 +38,8 @@ impl Homes {
         requires positive { 1 ≤ den }
         requires at_least_one { den ≤ num }
         requires small { num ≤ 1000 }
-        ensures { IfOk result (λ homes. homes ≡ empty_homes count (record { num = num; den = den })) }
+        ensures { IfOk result (λ homes. homes ≡ empty_homes count
+            (record { num = num; den = den })) }
     {
         Ok(Homes {
             bundles: empty_bundles(alloc, count as usize, num, den)?,
@@ -93,10 +94,15 @@ impl Homes {
         estimate: Estimate,
     ) -> Result<(), AllocError>
         requires { IsSome (content_at self.old block) }
-        ensures put { OnOk result ((content : Content) → content_at self.old block ≡ Some content → self.new.bundles ≡ slice_set self.old.bundles block (Some (with_start content start estimate))) }
-        ensures noted { OnOk result ((content : Content) → content_at self.new block ≡ Some content → NotesKey content self.old.keys self.new.keys block) }
-        ensures rows { OnOk result (SetsRow (home_rows self.old block) (home_rows self.new block) start (offered_row 0 estimate None 0 (home_rows self.old block start))) }
-        ensures others { OnOk result ((other : _) → other ≢ block → content_at self.new other ≡ content_at self.old other) }
+        ensures put { OnOk result ((content : Content) → content_at self.old block ≡ Some content
+            → self.new.bundles ≡ slice_set self.old.bundles block
+            (Some (with_start content start estimate))) }
+        ensures noted { OnOk result ((content : Content) → content_at self.new block ≡ Some content
+            → NotesKey content self.old.keys self.new.keys block) }
+        ensures rows { OnOk result (SetsRow (home_rows self.old block) (home_rows self.new block)
+            start (offered_row 0 estimate None 0 (home_rows self.old block start))) }
+        ensures others { OnOk result ((other : _) → other ≢ block
+            → content_at self.new other ≡ content_at self.old other) }
         ensures err { OnErr result (self.new ≡ self.old) }
     {
         let key = offer_in(&mut self.bundles[block as usize], start, estimate)?;
@@ -113,9 +119,13 @@ fn offer_in(
     estimate: Estimate,
 ) -> Result<Option<Key>, AllocError>
     requires { IsSome place.old }
-    ensures put { OnOk result ((content : Content) → place.old ≡ Some content → place.new ≡ Some (with_start content start estimate)) }
-    ensures sets { OnOk result ((old new : Content) → place.old ≡ Some old → place.new ≡ Some new → SetsRow (row_of old) (row_of new) start (offered_row 0 estimate None 0 (row_of old start))) }
-    ensures best { IfOk result (λ key. (content : Content) → place.new ≡ Some content → IsBest content.weight (row_of content) key) }
+    ensures put { OnOk result ((content : Content) → place.old ≡ Some content
+        → place.new ≡ Some (with_start content start estimate)) }
+    ensures sets { OnOk result ((old new : Content) → place.old ≡ Some old → place.new ≡ Some new
+        → SetsRow (row_of old) (row_of new) start
+        (offered_row 0 estimate None 0 (row_of old start))) }
+    ensures best { IfOk result (λ key. (content : Content) → place.new ≡ Some content
+        → IsBest content.weight (row_of content) key) }
     ensures err { OnErr result (place.new ≡ place.old) }
 {
     match place {
@@ -137,7 +147,8 @@ fn empty_bundles(
     requires positive { 1 ≤ den }
     requires at_least_one { den ≤ num }
     requires small { num ≤ 1000 }
-    ensures { IfOk result (λ bundles. bundles.items ≡ (empty_homes count (record { num = num; den = den })).bundles) }
+    ensures { IfOk result (λ bundles. bundles.items
+        ≡ (empty_homes count (record { num = num; den = den })).bundles) }
 {
     let mut bundles = Vec::with_capacity(alloc, count)?;
     for _ in 0..count {

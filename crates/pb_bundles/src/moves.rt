@@ -19,13 +19,19 @@ impl Homes {
     /// Moves the bundles of these blocks out, each of which is at home. The noted keys stay. It
     /// takes no memory.
     pub fn take_out(&mut self, scope: &[u32], room: BundleRoom) -> LentBundles
-        requires home { (block : _) → IsTrue (is_among scope.now block) → IsSome (content_at self.old block) }
+        requires home { (block : _) → IsTrue (is_among scope.now block)
+            → IsSome (content_at self.old block) }
         requires distinct { IsDistinct nat_eq scope.now }
         requires room { length scope.now ≤ room }
-        ensures left { self.new ≡ record { bundles = vacated scope.now self.old.bundles; keys = self.old.keys } }
+        ensures left { self.new ≡ record {
+          bundles = vacated scope.now self.old.bundles;
+          keys = self.old.keys;
+        } }
         ensures moved { result ≡ moved scope.now self.old.bundles }
-        ensures out { (block : _) → content_at self.new block ≡ (if is_among scope.now block then None else content_at self.old block) }
-        ensures taken { (block : _) → content_in result block ≡ (if is_among scope.now block then content_at self.old block else None) }
+        ensures out { (block : _) → content_at self.new block
+            ≡ (if is_among scope.now block then None else content_at self.old block) }
+        ensures taken { (block : _) → content_in result block
+            ≡ (if is_among scope.now block then content_at self.old block else None) }
         ensures order { keys_of result ≡ scope.now }
     {
         let mut bundles = room.bundles;
@@ -39,7 +45,8 @@ impl Homes {
         requires { (block : _) → IsSome (content_in parts block) → IsVacant self.old.bundles block }
         ensures back { self.new.bundles ≡ put_back parts self.old.bundles }
         ensures noted { NotesKeys parts self.old.keys self.new.keys }
-        ensures home { (block : _) → content_at self.new block ≡ option_or (content_in parts block) (content_at self.old block) }
+        ensures home { (block : _) → content_at self.new block
+            ≡ option_or (content_in parts block) (content_at self.old block) }
     {
         note_keys(&mut self.keys, &parts.bundles);
         BundleRoom {
@@ -49,7 +56,8 @@ impl Homes {
 
     /// Notes the keys of blocks whose bundles are away, and stay so. It takes no memory.
     pub fn note(&mut self, parts: &LentBundles)
-        requires { (block : _) → IsSome (content_in parts.now block) → IsVacant self.old.bundles block }
+        requires { (block : _) → IsSome (content_in parts.now block)
+            → IsVacant self.old.bundles block }
         ensures noted { NotesKeys parts.now self.old.keys self.new.keys }
         ensures bundles { self.new.bundles ≡ self.old.bundles }
     {
@@ -59,7 +67,8 @@ impl Homes {
 
 // Moves the bundles of these blocks to the others.
 fn move_out(bundles: &mut Vec<Option<Bundle>>, scope: &[u32], parts: &mut IndexMap<u32, Bundle>)
-    requires home { (block : _) → IsTrue (is_among scope.now block) → IsSome (get_or bundles.old.items block None) }
+    requires home { (block : _) → IsTrue (is_among scope.now block)
+        → IsSome (get_or bundles.old.items block None) }
     requires distinct { IsDistinct nat_eq scope.now }
     requires empty { parts.old.entries ≡ [] }
     requires room { length scope.now ≤ spare parts.old }
@@ -77,7 +86,8 @@ fn move_one(bundles: &mut Vec<Option<Bundle>>, block: u32, parts: &mut IndexMap<
     requires absent { lookup (nat_eq block) parts.old.entries ≡ None }
     requires room { 0 < spare parts.old }
     ensures left { bundles.new.items ≡ slice_set bundles.old.items block None }
-    ensures moved { (content : Content) → get_or bundles.old.items block None ≡ Some content → parts.new.entries ≡ parts.old.entries ++ (block, content) ∷ [] }
+    ensures moved { (content : Content) → get_or bundles.old.items block None ≡ Some content
+        → parts.new.entries ≡ parts.old.entries ++ (block, content) ∷ [] }
     ensures room { spare parts.old ≤ spare parts.new + 1 }
 {
     match bundles[block as usize].take() {
@@ -94,7 +104,8 @@ fn move_home(
     bundles: &mut Vec<Option<Bundle>>,
     parts: IndexMap<u32, Bundle>,
 ) -> IndexMap<u32, Bundle>
-    requires { (block : _) → IsSome (content_in parts.entries block) → block < length bundles.old.items }
+    requires { (block : _) → IsSome (content_in parts.entries block)
+        → block < length bundles.old.items }
     ensures back { bundles.new.items ≡ put_back parts.entries bundles.old.items }
     ensures empty { result.entries ≡ [] }
 {
@@ -126,8 +137,10 @@ fn note_keys(keys: &mut KeyTree, parts: &IndexMap<u32, Bundle>)
 // Notes the key of the bundle at this place.
 fn note_one(keys: &mut KeyTree, parts: &IndexMap<u32, Bundle>, at: usize)
     requires within { at < length parts.now.entries }
-    requires place { (block : _) (content : Content) → slice_get parts.now.entries at ≡ Some (block, content) → block < length keys.old }
-    ensures { (block : _) (content : Content) → slice_get parts.now.entries at ≡ Some (block, content) → NotesKey content keys.old keys.new block }
+    requires place { (block : _) (content : Content) → slice_get parts.now.entries at
+        ≡ Some (block, content) → block < length keys.old }
+    ensures { (block : _) (content : Content) → slice_get parts.now.entries at
+        ≡ Some (block, content) → NotesKey content keys.old keys.new block }
 {
     match parts.get_index(at) {
         Some((block, bundle)) => keys.set(*block, bundle.best()),

@@ -37,7 +37,8 @@ impl KeptRooms {
     /// out of memory. It never comes if so many bundles fit in the room that was kept last.
     pub fn take(&mut self, alloc: Global, bundles: usize) -> Result<BundleRoom, AllocError>
         ensures room { IfOk result (λ room. bundles ≤ room) }
-        ensures last { (rest : List ℕ) (last : ℕ) → self.old.rooms ≡ rest ++ last ∷ [] → (self.new ≡ record self.old { rooms = rest }) × (bundles ≤ last → IsOk result) }
+        ensures last { (rest : List ℕ) (last : ℕ) → self.old.rooms ≡ rest ++ last ∷ []
+            → (self.new ≡ record self.old { rooms = rest }) × (bundles ≤ last → IsOk result) }
     {
         match self.rooms.pop() {
             Some(room) => room.enlarge(bundles),
@@ -47,7 +48,8 @@ impl KeptRooms {
 
     /// Keeps the room if a place is left, and else frees it. It takes no memory.
     pub fn keep(&mut self, room: BundleRoom)
-        ensures kept { length self.old.rooms < self.old.places → self.new ≡ record self.old { rooms = self.old.rooms ++ room ∷ [] } }
+        ensures kept { length self.old.rooms < self.old.places
+            → self.new ≡ record self.old { rooms = self.old.rooms ++ room ∷ [] } }
         ensures full { self.old.places ≤ length self.old.rooms → self.new ≡ self.old }
     {
         if self.rooms.len() < self.rooms.capacity() {

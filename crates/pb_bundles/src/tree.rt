@@ -77,7 +77,8 @@ impl KeyTree {
     /// block. No block is tested that is worse than another block that was met and passes.
     pub fn first<F: Fn(u32) -> bool>(&self, pass: &F) -> Option<u32>
         requires { (block : ℕ) → block < length self.now → F.pre pass.now block }
-        ensures { (test : ℕ → Bool) → ((block : ℕ) (answer : Bool) → block < length self.now → F.post pass.now block answer → answer ≡ test block)
+        ensures { (test : ℕ → Bool) → ((block : ℕ) (answer : Bool) → block < length self.now
+            → F.post pass.now block answer → answer ≡ test block)
             → IsFirstBy test (λ block. get_or self.now block None) result }
     {
         if self.keys.is_empty() {
@@ -104,7 +105,8 @@ fn best_below<F: Fn(u32) -> bool>(
     requires best { (other : _) → best ≡ Some other → other ≡ leaf keys.now other.block }
     requires pass { (block : ℕ) → block < length keys.now → F.pre pass.now block }
     ensures leaf { (other : _) → result ≡ Some other → other ≡ leaf keys.now other.block }
-    ensures best { (test : ℕ → Bool) → ((block : ℕ) (answer : Bool) → block < length keys.now → F.post pass.now block answer → answer ≡ test block)
+    ensures best { (test : ℕ → Bool) → ((block : ℕ) (answer : Bool) → block < length keys.now
+        → F.post pass.now block answer → answer ≡ test block)
         → IsBestBelow test keys.now at best result }
 {
     let winner = node_of(keys, winners, at);
@@ -123,8 +125,10 @@ fn best_below<F: Fn(u32) -> bool>(
 
 // Whether the block has an Opened row and is better than the best one so far, if there is one.
 fn improves(best: Option<Winner>, winner: Winner) -> bool
-    ensures better { IsTrue result → IsSome winner.key × ((other : _) → best ≡ Some other → IsAhead winner other) }
-    ensures worse { IsFalse result → IsSome winner.key → (other : _) × (best ≡ Some other) × (IsAhead winner other → ⊥) }
+    ensures better { IsTrue result → IsSome winner.key
+        × ((other : _) → best ≡ Some other → IsAhead winner other) }
+    ensures worse { IsFalse result → IsSome winner.key → (other : _) × (best ≡ Some other)
+        × (IsAhead winner other → ⊥) }
 {
     if winner.key.is_none() {
         return false;
@@ -158,7 +162,8 @@ fn winner_at(keys: &[Option<Key>], winners: &[Winner], at: usize) -> Winner
     requires node { at < length keys.now }
     requires places { length winners.now ≡ length keys.now }
     requires few { length keys.now < 2 ^ 32 }
-    ensures { IsWonBy (node keys.now winners.now (2 * at)) (node keys.now winners.now (2 * at + 1)) result }
+    ensures { IsWonBy (node keys.now winners.now (2 * at)) (node keys.now winners.now (2 * at + 1))
+        result }
 {
     let left = node_of(keys, winners, 2 * at);
     let right = node_of(keys, winners, 2 * at + 1);
@@ -187,7 +192,8 @@ fn climb(keys: &[Option<Key>], winners: &mut Vec<Winner>, block: u32)
     requires block { block < length keys.now }
     requires places { length winners.old.items ≡ length keys.now }
     requires few { length keys.now < 2 ^ 32 }
-    requires others { (at : ℕ) → 1 ≤ at → at < length keys.now → at ≢ (length keys.now + block) / 2 → IsWon keys.now winners.old.items at }
+    requires others { (at : ℕ) → 1 ≤ at → at < length keys.now → at ≢ (length keys.now + block) / 2
+        → IsWon keys.now winners.old.items at }
     ensures { IsKeyTree keys.now winners.new.items }
 {
     let mut at = (keys.len() + block as usize) / 2;

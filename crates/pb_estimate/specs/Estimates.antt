@@ -33,25 +33,31 @@ cell_with board number = unwrap_or (position (λ other. other == number) board) 
 
 -- the distance of the tile in a cell from its cell on the goal board; the blank is no tile
 abbrev pub way_home : (cols : ℕ) → (goal : List ℕ) → (cell number : ℕ) → ℕ
-way_home cols goal cell number = if number == 0 then 0 else manhattan (place_of cols cell) (place_of cols (cell_with goal number))
+way_home cols goal cell number =
+    if number == 0 then 0 else manhattan (place_of cols cell)
+    (place_of cols (cell_with goal number))
 
 -- the distances of the tiles in the first `count` cells of a board from their cells on the goal
 -- board, summed
 abbrev pub ways_home : (cols : ℕ) → (goal board : List ℕ) → (count : ℕ) → ℕ
 ways_home cols goal board zero = 0
-ways_home cols goal board (suc cell) = ways_home cols goal board cell + way_home cols goal cell (slice_index board cell)
+ways_home cols goal board (suc cell) =
+    ways_home cols goal board cell + way_home cols goal cell (slice_index board cell)
 
 -- the distance of a tile's cell on a board from its cell on the goal board
 abbrev pub tile_way : (cols : ℕ) → (goal board : List ℕ) → (number : ℕ) → ℕ
-tile_way cols goal board number = manhattan (place_of cols (cell_with board number)) (place_of cols (cell_with goal number))
+tile_way cols goal board number =
+    manhattan (place_of cols (cell_with board number)) (place_of cols (cell_with goal number))
 
 -- the distances of the tiles 1, 2 and so on up to a number, summed
 abbrev pub tile_ways : (cols : ℕ) → (goal board : List ℕ) → (number : ℕ) → ℕ
 tile_ways cols goal board zero = 0
-tile_ways cols goal board (suc number) = tile_ways cols goal board number + tile_way cols goal board (suc number)
+tile_ways cols goal board (suc number) =
+    tile_ways cols goal board number + tile_way cols goal board (suc number)
 
 -- the estimate of a state of a task
 abbrev pub estimate_of : TaskParts → (state : ℕ) → Estimate
 estimate_of (Grid grid) state = Cost (manhattan (cell_of state) grid.goal)
-estimate_of (Tiles tiles) state = Cost (ways_home tiles.cols tiles.goal (board_of (cell_count tiles) state) (cell_count tiles))
+estimate_of (Tiles tiles) state =
+    Cost (ways_home tiles.cols tiles.goal (board_of (cell_count tiles) state) (cell_count tiles))
 estimate_of (Strips strips) state = hmax strips state

@@ -47,7 +47,9 @@ AreNoLess costs costs' = (atom cost : ℕ) → IsAtMost (costs atom) cost → Is
 
 -- the costs of these atoms fell to at most this cost, and all other costs stayed
 abbrev pub AreLowered : (atoms : List ℕ) → (cost : ℕ) → (before after : List AtomCost) → Type 0
-AreLowered atoms cost before after = (atom c : ℕ) → IsAtMost (cost_in after atom) c ↔ (IsAtMost (cost_in before atom) c ⊎ (Contains atoms atom × (cost ≤ c)))
+AreLowered atoms cost before after =
+    (atom c : ℕ) → IsAtMost (cost_in after atom) c
+    ↔ (IsAtMost (cost_in before atom) c ⊎ (Contains atoms atom × (cost ≤ c)))
 
 -- the same atoms have the same final costs
 abbrev pub HaveSameFinals : (before after : List AtomCost) → Type 0
@@ -68,11 +70,14 @@ OpensAreFrom cost costs = (atom c : ℕ) → known_in costs atom ≡ Open c → 
 pub record IsExploration (e : Exploration) : Type 0 where
   pub few : length e.costs.items ≤ 256
   pub places : length e.queue.items ≡ length e.costs.items
-  pub reached : e.reached ≡ count (λ atom. is_some (cost_in e.costs.items atom)) (length e.costs.items)
+  pub reached : e.reached ≡ count (λ atom. is_some (cost_in e.costs.items atom))
+      (length e.costs.items)
   pub inside : (k : ℕ) → k < e.reached → slice_index e.queue.items k < length e.costs.items
-  pub all : (atom : ℕ) → is_some (cost_in e.costs.items atom) ≡ true → (k : ℕ) × (k < e.reached) × (slice_index e.queue.items k ≡ atom)
+  pub all : (atom : ℕ) → is_some (cost_in e.costs.items atom) ≡ true
+      → (k : ℕ) × (k < e.reached) × (slice_index e.queue.items k ≡ atom)
   pub first : e.first ≤ e.reached
-  pub passed : (k : ℕ) → k < e.first → is_final_in e.costs.items (slice_index e.queue.items k) ≡ true
+  pub passed : (k : ℕ) → k < e.first → is_final_in e.costs.items (slice_index e.queue.items k)
+      ≡ true
 
 -- an atom whose cost is open, and no other open cost is less
 pub record IsLeastOpen (costs : List AtomCost) (atom cost : ℕ) : Type 0 where

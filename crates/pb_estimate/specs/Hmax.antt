@@ -31,24 +31,29 @@ IsAtMost (Some n) cost = n ≤ cost
 -- none
 abbrev pub dearest : (costs : ℕ → Option ℕ) → (set count : ℕ) → Option ℕ
 dearest costs set zero = Some 0
-dearest costs set (suc atom) = greater (dearest costs set atom) (if has_atom set atom then costs atom else Some 0)
+dearest costs set (suc atom) =
+    greater (dearest costs set atom) (if has_atom set atom then costs atom else Some 0)
 
 -- what an atom costs by an action: the action's cost, with the dearest of the atoms that it needs
 abbrev pub cost_by : (count : ℕ) → (costs : ℕ → Option ℕ) → (atom : ℕ) → GroundAction → Option ℕ
 cost_by count costs atom action =
-    if has_atom action.adds atom then option_map (λ needed. action.cost + needed) (dearest costs action.needs count) else None
+    if has_atom action.adds atom then option_map (λ needed. action.cost + needed)
+    (dearest costs action.needs count) else None
 
 -- the cost of an atom by the cheapest of these actions
-abbrev pub cheapest_by : (count : ℕ) → (costs : ℕ → Option ℕ) → (atom : ℕ) → List GroundAction → Option ℕ
+abbrev pub cheapest_by : (count : ℕ) → (costs : ℕ → Option ℕ) → (atom : ℕ) → List GroundAction
+    → Option ℕ
 cheapest_by count costs atom [] = None
-cheapest_by count costs atom (action ∷ actions) = lesser (cost_by count costs atom action) (cheapest_by count costs atom actions)
+cheapest_by count costs atom (action ∷ actions) =
+    lesser (cost_by count costs atom action) (cheapest_by count costs atom actions)
 
 -- What an atom costs from a state after so many rounds. In each round an atom becomes as cheap as
 -- the actions make it by the costs of the round before.
 abbrev pub atom_cost : StripsParts → (state round atom : ℕ) → Option ℕ
 atom_cost strips state zero atom = if has_atom state atom then Some 0 else None
 atom_cost strips state (suc round) atom =
-    lesser (atom_cost strips state round atom) (cheapest_by strips.atoms (atom_cost strips state round) atom strips.actions)
+    lesser (atom_cost strips state round atom)
+    (cheapest_by strips.atoms (atom_cost strips state round) atom strips.actions)
 
 -- ---- the estimate
 
@@ -72,4 +77,5 @@ hmax strips state = estimate_by strips.never (goal_cost strips state)
 -- together with the dearest of the atoms that this action needs.
 abbrev pub SatisfyHmax : StripsParts → (state : ℕ) → (costs : ℕ → Option ℕ) → Type 0
 SatisfyHmax strips state costs =
-    (atom : ℕ) → atom < strips.atoms → costs atom ≡ (if has_atom state atom then Some 0 else cheapest_by strips.atoms costs atom strips.actions)
+    (atom : ℕ) → atom < strips.atoms → costs atom
+    ≡ (if has_atom state atom then Some 0 else cheapest_by strips.atoms costs atom strips.actions)

@@ -15,14 +15,18 @@ use Rattle.pb_estimate.specs.Estimates.{tile_ways, estimate_of}
 -- No walk from a state of a task to a goal costs less than the state's estimate (Hart, Nilsson,
 -- Raphael 1968).
 abbrev pub EstimatesAreAdmissible : Type 0
-EstimatesAreAdmissible = (parts : TaskParts) → IsTask parts → IsAdmissible (space_of parts) (estimate_of parts)
+EstimatesAreAdmissible =
+    (parts : TaskParts) → IsTask parts → IsAdmissible (space_of parts) (estimate_of parts)
 
 -- The estimate of a board is a sum over all tiles, from 1 to the last: the distance between the
 -- tile's cells on the board and on the goal board.
 abbrev pub EstimatesCountTiles : Type 0
 EstimatesCountTiles =
-    (tiles : TilesParts) → IsTiles tiles → (state : ℕ) → IsTrue (is_board_state (cell_count tiles) state)
-    → estimate_of (Tiles tiles) state ≡ Cost (tile_ways tiles.cols tiles.goal (board_of (cell_count tiles) state) (cell_count tiles - 1))
+    (tiles : TilesParts) → IsTiles tiles → (state : ℕ)
+    → IsTrue (is_board_state (cell_count tiles) state)
+    → estimate_of (Tiles tiles) state
+    ≡ Cost (tile_ways tiles.cols tiles.goal (board_of (cell_count tiles) state)
+    (cell_count tiles - 1))
 
 -- The costs of the atoms of a STRIPS task after as many rounds as there are atoms satisfy the
 -- equation of hmax. No other costs do, and later rounds don't change them.
@@ -30,5 +34,7 @@ abbrev pub HmaxIsFixed : Type 0
 HmaxIsFixed =
     (strips : StripsParts) → IsStrips strips → (state : ℕ)
     → SatisfyHmax strips state (atom_cost strips state strips.atoms)
-    × ((costs : ℕ → Option ℕ) → SatisfyHmax strips state costs → (atom : ℕ) → atom < strips.atoms → costs atom ≡ atom_cost strips state strips.atoms atom)
-    × ((round atom : ℕ) → strips.atoms ≤ round → atom < strips.atoms → atom_cost strips state round atom ≡ atom_cost strips state strips.atoms atom)
+    × ((costs : ℕ → Option ℕ) → SatisfyHmax strips state costs → (atom : ℕ) → atom < strips.atoms
+    → costs atom ≡ atom_cost strips state strips.atoms atom)
+    × ((round atom : ℕ) → strips.atoms ≤ round → atom < strips.atoms
+    → atom_cost strips state round atom ≡ atom_cost strips state strips.atoms atom)

@@ -19,7 +19,9 @@ use Rattle.pb_estimate.specs.declared.estimator.Tables.TheVariants as tables
 -- the distance of each number in each cell from its cell on the goal board: at 16 times the cell,
 -- plus the number
 abbrev pub AreWaysHome : (cols : ℕ) → (goal ways : List ℕ) → Type 0
-AreWaysHome cols goal ways = (cell number : ℕ) → cell < 16 → number < 16 → slice_index ways (16 * cell + number) ≡ way_home cols goal cell number
+AreWaysHome cols goal ways =
+    (cell number : ℕ) → cell < 16 → number < 16 → slice_index ways (16 * cell + number)
+    ≡ way_home cols goal cell number
 
 -- ---- actions without what they delete
 
@@ -34,7 +36,8 @@ has_more atoms set = list_any (λ atom. not (has_atom set atom)) atoms
 
 -- those of some actions that add an atom that they don't need: no other makes an atom cheaper
 abbrev pub useful_actions : (count : ℕ) → List GroundAction → List GroundAction
-useful_actions count actions = filter (λ action. has_more (atoms_in action.adds count) action.needs) actions
+useful_actions count actions =
+    filter (λ action. has_more (atoms_in action.adds count) action.needs) actions
 
 -- an action without what it deletes
 abbrev pub relaxed_action : (count : ℕ) → GroundAction → RelaxedAction
@@ -42,7 +45,8 @@ relaxed_action count action = record { adds = atoms_in action.adds count; cost =
 
 -- the action of a number, and one that changes nothing if there are fewer
 abbrev pub action_at : List GroundAction → (number : ℕ) → GroundAction
-action_at actions number = slice_index_or actions number (record { name = []; needs = 0; adds = 0; deletes = 0; cost = 1 })
+action_at actions number =
+    slice_index_or actions number (record { name = []; needs = 0; adds = 0; deletes = 0; cost = 1 })
 
 abbrev pub relaxed_at : List RelaxedAction → (number : ℕ) → RelaxedAction
 relaxed_at actions number = slice_index_or actions number (record { adds = []; cost = 1 })
@@ -59,39 +63,50 @@ AddsAt action level atom cost = Contains action.adds atom × (level + action.cos
 
 -- what an action adds costs at most `level` plus the action's cost
 abbrev pub AddsAtMost : RelaxedAction → (level : ℕ) → (costs : List AtomCost) → Type 0
-AddsAtMost action level costs = All (λ atom. IsAtMost (cost_in costs atom) (level + action.cost)) action.adds
+AddsAtMost action level costs =
+    All (λ atom. IsAtMost (cost_in costs atom) (level + action.cost)) action.adds
 
 -- the counter of the action `user` is 0, and the action adds the atom at this cost
-abbrev pub IsAddedBy : List RelaxedAction → (level : ℕ) → (counts : List ℕ) → (user atom cost : ℕ) → Type 0
-IsAddedBy actions level counts user atom cost = (slice_index counts user ≡ 0) × AddsAt (relaxed_at actions user) level atom cost
+abbrev pub IsAddedBy : List RelaxedAction → (level : ℕ) → (counts : List ℕ) → (user atom cost : ℕ)
+    → Type 0
+IsAddedBy actions level counts user atom cost =
+    (slice_index counts user ≡ 0) × AddsAt (relaxed_at actions user) level atom cost
 
 -- ---- who needs what
 
 -- exactly the numbers of those actions that need an atom, in ascending order
 pub record AreUsers (actions : List GroundAction) (atom : ℕ) (users : List ℕ) : Type 0 where
-  pub need : All (λ user. (user < length actions) × (has_atom (action_at actions user).needs atom ≡ true)) users
-  pub all : (user : ℕ) → user < length actions → has_atom (action_at actions user).needs atom ≡ true → Contains users user
+  pub need : All (λ user. (user < length actions)
+      × (has_atom (action_at actions user).needs atom ≡ true)) users
+  pub all : (user : ℕ) → user < length actions → has_atom (action_at actions user).needs atom ≡ true
+      → Contains users user
   pub ascend : (j k : ℕ) → j < k → k < length users → slice_index users j < slice_index users k
 
 -- all numbers of those actions that need none of the first `count` atoms, and no others
 pub record AreFree (count : ℕ) (actions : List GroundAction) (free : List ℕ) : Type 0 where
   pub inside : All (λ user. user < length actions) free
-  pub need : All (λ user. (atom : ℕ) → atom < count → has_atom (action_at actions user).needs atom ≡ false) free
-  pub all : (user : ℕ) → user < length actions → ((atom : ℕ) → atom < count → has_atom (action_at actions user).needs atom ≡ false) → Contains free user
+  pub need : All (λ user. (atom : ℕ) → atom < count → has_atom (action_at actions user).needs atom
+      ≡ false) free
+  pub all : (user : ℕ) → user < length actions
+      → ((atom : ℕ) → atom < count → has_atom (action_at actions user).needs atom ≡ false)
+      → Contains free user
 
 -- The useful actions without what they delete, and which action needs which atom, for some actions
 -- over `count` atoms.
 pub record AreRelaxed (count : ℕ) (actions : List GroundAction) (task : RelaxedTask) : Type 0 where
   pub relaxed : task.actions ≡ map (relaxed_action count) (useful_actions count actions)
-  pub needs : task.needs.items ≡ map (λ (action : GroundAction). length (atoms_in action.needs count)) (useful_actions count actions)
+  pub needs : task.needs.items ≡ map (λ (action : GroundAction). length
+      (atoms_in action.needs count)) (useful_actions count actions)
   pub many : length task.users ≡ count
-  pub users : (atom : ℕ) → atom < count → AreUsers (useful_actions count actions) atom (slice_index_or task.users atom [])
+  pub users : (atom : ℕ) → atom < count → AreUsers (useful_actions count actions) atom
+      (slice_index_or task.users atom [])
   pub free : AreFree count (useful_actions count actions) task.free
 
 -- Which atoms the goal has, and how many.
 pub record IsWanted (goal atoms : ℕ) (task : RelaxedTask) : Type 0 where
   pub long : length task.goal.items ≡ atoms
-  pub flags : (atom : ℕ) → atom < atoms → slice_index_or task.goal.items atom false ≡ has_atom goal atom
+  pub flags : (atom : ℕ) → atom < atoms → slice_index_or task.goal.items atom false
+      ≡ has_atom goal atom
   pub wanted : task.wanted ≡ count (has_atom goal) atoms
 
 -- ---- estimators

@@ -72,7 +72,8 @@ fn place(cols: u32, cell: u32) -> (u32, u32)
 pub fn distance(tiles: &TilesParts, ways: &[u8; WAYS], state: &Packed) -> u64
     requires tiles { IsTiles tiles.now }
     requires ways { AreWaysHome tiles.now.cols tiles.now.goal ways.now }
-    ensures { result ≡ ways_home tiles.now.cols tiles.now.goal (board_of (cell_count tiles.now) state.now) (cell_count tiles.now) }
+    ensures { result ≡ ways_home tiles.now.cols tiles.now.goal
+        (board_of (cell_count tiles.now) state.now) (cell_count tiles.now) }
 {
     let count = (tiles.rows * tiles.cols) as usize;
     let mut rest = state.bits(0, 64);

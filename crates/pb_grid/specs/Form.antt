@@ -55,7 +55,8 @@ pub record SpellsRow (line : List ℕ) (width height : ℕ) (start goal : ℕ ×
   pub goal_x : List ℕ
   pub goal_y : List ℕ
   pub way : List ℕ
-  pub words : words_of line ≡ bucket ∷ (name ++ width_word ∷ height_word ∷ start_x ∷ start_y ∷ goal_x ∷ goal_y ∷ way ∷ [])
+  pub words : words_of line ≡ bucket ∷ (name ++ width_word ∷ height_word ∷ start_x ∷ start_y
+      ∷ goal_x ∷ goal_y ∷ way ∷ [])
   pub named : 1 ≤ length name
   pub width_is : IsShortNumber width_word width
   pub height_is : IsShortNumber height_word height
@@ -78,7 +79,8 @@ pub record SpellsScenario (text : List ℕ) (row width height : ℕ) (start goal
 -- The two texts spell the grid, with swamp or without. The scenario's sizes are the map's, and its
 -- start and goal lie on the map and are not blocked. A cell is swamp exactly if swamp is asked for
 -- and its byte is `S`.
-pub record SpellsGrid (map_text scenario_text : List ℕ) (row : ℕ) (swamp : Bool) (grid : GridParts) : Type 0 where
+pub record SpellsGrid (map_text scenario_text : List ℕ) (row : ℕ) (swamp : Bool)
+    (grid : GridParts) : Type 0 where
   pub map_is : SpellsMap map_text grid.width grid.height grid.cells
   pub swamp_is : grid.swamp ≡ map (is_swamp_byte swamp) (concat map_is.rows)
   pub scenario_is : SpellsScenario scenario_text row grid.width grid.height grid.start grid.goal

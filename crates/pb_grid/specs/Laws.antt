@@ -14,33 +14,44 @@ use Rattle.pb_grid.specs.declared.error.GridError.{GridError}
 abbrev pub ReadAsSpelled : Type 0
 ReadAsSpelled =
     (map_text scenario_text : List ℕ) (row : ℕ) (swamp : Bool) (grid : GridParts)
-    → (grid_reading map_text scenario_text row swamp ≡ Ok grid → SpellsGrid map_text scenario_text row swamp grid)
-    × (SpellsGrid map_text scenario_text row swamp grid → grid_reading map_text scenario_text row swamp ≡ Ok grid)
+    → (grid_reading map_text scenario_text row swamp ≡ Ok grid
+    → SpellsGrid map_text scenario_text row swamp grid)
+    × (SpellsGrid map_text scenario_text row swamp grid
+    → grid_reading map_text scenario_text row swamp ≡ Ok grid)
 
 -- Two texts and a row spell one grid at most, with swamp or without.
 abbrev pub SpelledGridsAreUnique : Type 0
 SpelledGridsAreUnique =
     (map_text scenario_text : List ℕ) (row : ℕ) (swamp : Bool) (grid other : GridParts)
-    → SpellsGrid map_text scenario_text row swamp grid → SpellsGrid map_text scenario_text row swamp other → grid ≡ other
+    → SpellsGrid map_text scenario_text row swamp grid
+    → SpellsGrid map_text scenario_text row swamp other → grid ≡ other
 
 -- Two texts that spell a grid with swamp spell the same grid without it, and the other way round:
 -- only the marks differ.
 abbrev pub SwampChangesMarksAlone : Type 0
 SwampChangesMarksAlone =
-    (map_text scenario_text : List ℕ) (row : ℕ) (swamp other : Bool) (grid : GridParts) → grid_reading map_text scenario_text row swamp ≡ Ok grid
-    → grid_reading map_text scenario_text row other ≡ Ok (record grid { swamp = swamp_of other grid.height (lines_of map_text) })
+    (map_text scenario_text : List ℕ) (row : ℕ) (swamp other : Bool) (grid : GridParts)
+    → grid_reading map_text scenario_text row swamp ≡ Ok grid
+    → grid_reading map_text scenario_text row other
+    ≡ Ok (record grid { swamp = swamp_of other grid.height (lines_of map_text) })
 
 -- What two texts spell makes up a task.
 abbrev pub SpelledGridsAreGrids : Type 0
-SpelledGridsAreGrids = (map_text scenario_text : List ℕ) (row : ℕ) (swamp : Bool) (grid : GridParts) → SpellsGrid map_text scenario_text row swamp grid → IsGrid grid
+SpelledGridsAreGrids =
+    (map_text scenario_text : List ℕ) (row : ℕ) (swamp : Bool) (grid : GridParts)
+    → SpellsGrid map_text scenario_text row swamp grid → IsGrid grid
 
 -- Running out of memory is no refusal of a text.
 abbrev pub RefusalsAreOfTexts : Type 0
-RefusalsAreOfTexts = (map_text scenario_text : List ℕ) (row : ℕ) (swamp : Bool) → grid_reading map_text scenario_text row swamp ≡ Err Memory → ⊥
+RefusalsAreOfTexts =
+    (map_text scenario_text : List ℕ) (row : ℕ) (swamp : Bool)
+    → grid_reading map_text scenario_text row swamp ≡ Err Memory → ⊥
 
 -- Each refusal is reported exactly in its case, with swamp or without.
 abbrev pub RefusalsHaveTheirCase : Type 0
 RefusalsHaveTheirCase =
     (map_text scenario_text : List ℕ) (row : ℕ) (swamp : Bool) (error : GridError)
-    → (grid_reading map_text scenario_text row swamp ≡ Err error → IsCaseOf map_text scenario_text row error)
-    × (IsCaseOf map_text scenario_text row error → grid_reading map_text scenario_text row swamp ≡ Err error)
+    → (grid_reading map_text scenario_text row swamp ≡ Err error
+    → IsCaseOf map_text scenario_text row error)
+    × (IsCaseOf map_text scenario_text row error → grid_reading map_text scenario_text row swamp
+    ≡ Err error)

@@ -20,7 +20,8 @@ use Rattle.pb_grid.specs.Lines.{lines_of, line_at, words_of, is_blank_line}
 
 -- goes on with what the first gave, or ends with its error
 infixl 10 ◌>>=◌
-abbrev pub ◌>>=◌ : {A B : Type 0} → Result A GridError → (A → Result B GridError) → Result B GridError
+abbrev pub ◌>>=◌ : {A B : Type 0} → Result A GridError → (A → Result B GridError)
+    → Result B GridError
 (Ok x) >>= f = f x
 (Err e) >>= f = Err e
 
@@ -35,7 +36,8 @@ must error true = Ok true
 must error false = Err error
 
 -- what a function returned, seen by `view`, is what is given, unless memory ran out
-abbrev pub Gives : {X Y : Type 0} → (view : X → Y) → Result X GridError → (given : Result Y GridError) → Type 0
+abbrev pub Gives : {X Y : Type 0} → (view : X → Y) → Result X GridError
+    → (given : Result Y GridError) → Type 0
 Gives view (Ok x) given = given ≡ Ok (view x)
 Gives view (Err e) given = e ≢ errors.Memory → given ≡ Err e
 
@@ -57,7 +59,8 @@ number_named name (word ∷ number ∷ more ∷ words) = None
 -- the height and the width
 unfoldable pub size_of_map : (lines : List (List ℕ)) → Result (ℕ × ℕ) GridError
 size_of_map lines = do
-  first ← must (errors.Header 1) (are_words (words_of (line_at lines 1)) (codes "type" ∷ codes "octile" ∷ []))
+  first ← must (errors.Header 1) (are_words (words_of (line_at lines 1))
+      (codes "type" ∷ codes "octile" ∷ []))
   height ← wanted (errors.Header 2) (number_named (codes "height") (words_of (line_at lines 2)))
   width ← wanted (errors.Header 3) (number_named (codes "width") (words_of (line_at lines 3)))
   fourth ← must (errors.Header 4) (are_words (words_of (line_at lines 4)) (codes "map" ∷ []))
@@ -89,7 +92,8 @@ cells_of line column (byte ∷ bytes) = do
   Ok (cell ∷ cells)
 
 -- the cells that were read, after these
-abbrev pub added_to : (before : List Class) → Result (List Class) GridError → Result (List Class) GridError
+abbrev pub added_to : (before : List Class) → Result (List Class) GridError
+    → Result (List Class) GridError
 added_to before read = read >>= λ cells. Ok (before ++ cells)
 
 -- the cells of a row, which has as many bytes as the map is wide
@@ -99,7 +103,8 @@ row_of_map width line row = do
   cells_of line 1 row
 
 -- the cells of that many rows
-unfoldable pub rows_of_map : (width count line : ℕ) → (lines : List (List ℕ)) → Result (List Class) GridError
+unfoldable pub rows_of_map : (width count line : ℕ) → (lines : List (List ℕ))
+    → Result (List Class) GridError
 rows_of_map width zero line lines = Ok []
 rows_of_map width (suc count) line [] = Err (errors.Rows line)
 rows_of_map width (suc count) line (row ∷ lines) = do
@@ -152,20 +157,24 @@ abbrev pub scenario_of : (size start goal : Option (ℕ × ℕ)) → Option Scen
 scenario_of None start goal = None
 scenario_of (Some size) None goal = None
 scenario_of (Some size) (Some start) None = None
-scenario_of (Some size) (Some start) (Some goal) = Some (record { width = size.0; height = size.1; start = start; goal = goal })
+scenario_of (Some size) (Some start) (Some goal) =
+    Some (record { width = size.0; height = size.1; start = start; goal = goal })
 
 -- What the words of a row say, the last word first: the length of a shortest way, the goal's row
 -- and column, the start's row and column, and the map's height and width. Before these come at
 -- least two words more: a bucket and the map's name.
 unfoldable pub scenario_of_words : (words : List (List ℕ)) → Option ScenarioParts
-scenario_of_words (way ∷ goal_y ∷ goal_x ∷ start_y ∷ start_x ∷ height ∷ width ∷ name ∷ bucket ∷ more) =
+scenario_of_words (way ∷ goal_y ∷ goal_x ∷ start_y ∷ start_x ∷ height ∷ width ∷ name ∷ bucket
+    ∷ more) =
     scenario_of (pair_of width height) (pair_of start_x start_y) (pair_of goal_x goal_y)
 scenario_of_words fewer = None
 
-unfoldable pub scenario_reading : (lines : List (List ℕ)) → (row : ℕ) → Result ScenarioParts GridError
+unfoldable pub scenario_reading : (lines : List (List ℕ)) → (row : ℕ)
+    → Result ScenarioParts GridError
 scenario_reading lines row = do
   version ← must (errors.Scenario 1) (starts_with nat_eq (line_at lines 1) (codes "version"))
-  chosen ← wanted (errors.NoRow row (length (rows_of_scenario lines))) (slice_get (rows_of_scenario lines) row)
+  chosen ← wanted (errors.NoRow row (length (rows_of_scenario lines)))
+      (slice_get (rows_of_scenario lines) row)
   wanted (errors.Scenario chosen.0) (scenario_of_words (reverse (words_of chosen.1)))
 
 -- ---- both
@@ -178,10 +187,12 @@ is_on_map width height cell = nat_lt cell.0 width && nat_lt cell.1 height
 abbrev pub is_free : GridParts → (cell : ℕ × ℕ) → Bool
 is_free grid cell = is_passable (class_at grid cell.0 cell.1)
 
-unfoldable pub grid_of_parts : MapParts → (swamp : List Bool) → ScenarioParts → Result GridParts GridError
+unfoldable pub grid_of_parts : MapParts → (swamp : List Bool) → ScenarioParts
+    → Result GridParts GridError
 grid_of_parts map swamp scenario = do
   sizes ← must errors.ScenarioSize (scenario.width == map.width && scenario.height == map.height)
-  inside ← must errors.Outside (is_on_map map.width map.height scenario.start && is_on_map map.width map.height scenario.goal)
+  inside ← must errors.Outside (is_on_map map.width map.height scenario.start
+      && is_on_map map.width map.height scenario.goal)
   start ← must errors.StartBlocked (is_free (grid_of map swamp scenario) scenario.start)
   goal ← must errors.GoalBlocked (is_free (grid_of map swamp scenario) scenario.goal)
   Ok (grid_of map swamp scenario)
@@ -198,7 +209,8 @@ grid_of_parts map swamp scenario = do
 
 -- the grid that the texts of a map and of a scenario spell, with swamp or without, or why they
 -- spell none
-unfoldable pub grid_reading : (map_text scenario_text : List ℕ) → (row : ℕ) → (swamp : Bool) → Result GridParts GridError
+unfoldable pub grid_reading : (map_text scenario_text : List ℕ) → (row : ℕ) → (swamp : Bool)
+    → Result GridParts GridError
 grid_reading map_text scenario_text row swamp = do
   map ← map_reading (lines_of map_text)
   scenario ← scenario_reading (lines_of scenario_text) row

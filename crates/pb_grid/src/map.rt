@@ -54,7 +54,8 @@ fn add_cells(out: &mut Vec<Class>, line: u64, row: &[u8]) -> Result<(), GridErro
 // Adds the cells of a row, which has as many bytes as the map is wide.
 #[tactic(auto, unfolding(crate::specs::Reading::row_of_map))]
 fn add_row(out: &mut Vec<Class>, width: u32, line: u64, row: &[u8]) -> Result<(), GridError>
-    ensures { Gives (λ _. out.new.items) result (added_to out.old.items (row_of_map width line row.now)) }
+    ensures { Gives (λ _. out.new.items) result
+        (added_to out.old.items (row_of_map width line row.now)) }
 {
     if row.len() != width as usize {
         return Err(GridError::Rows { line });

@@ -93,16 +93,21 @@ pub fn read_grid(
     swamp: bool,
 ) -> Result<Task, GridError>
     // Which grid or refusal it is, unless memory ran out.
-    ensures exact { Gives (λ task. task) result (task_of (grid_reading map.now scenario.now row swamp)) }
+    ensures exact { Gives (λ task. task) result
+        (task_of (grid_reading map.now scenario.now row swamp)) }
     // What is read is a grid that the texts spell.
-    ensures spelled { IfOk result (λ task. (grid : GridParts) × (task ≡ Grid grid) × SpellsGrid map.now scenario.now row swamp grid) }
+    ensures spelled { IfOk result (λ task. (grid : GridParts) × (task ≡ Grid grid)
+        × SpellsGrid map.now scenario.now row swamp grid) }
     // A grid that the texts spell is read, unless memory ran out.
-    ensures only { (grid : GridParts) → SpellsGrid map.now scenario.now row swamp grid → Gives (λ task. task) result (Ok (Grid grid)) }
+    ensures only { (grid : GridParts) → SpellsGrid map.now scenario.now row swamp grid
+        → Gives (λ task. task) result (Ok (Grid grid)) }
     // A refusal comes only in its case: all that is judged before is well-formed, and then comes
     // the fault.
-    ensures refused { IfErr result (λ error. error ≢ Memory → IsCaseOf map.now scenario.now row error) }
+    ensures refused { IfErr result (λ error. error ≢ Memory
+        → IsCaseOf map.now scenario.now row error) }
     // In its case a refusal is reported, unless memory ran out.
-    ensures told { (error : GridError) → IsCaseOf map.now scenario.now row error → Gives (λ task. task) result (Err error) }
+    ensures told { (error : GridError) → IsCaseOf map.now scenario.now row error
+        → Gives (λ task. task) result (Err error) }
 {
     let grid = parts_of_texts(alloc, map, scenario, row, swamp)?;
     Ok(Task::of_grid(grid))

@@ -30,7 +30,9 @@ struct NumberWords<'a> {
 
 // The words of a row that are to be numbers. None if the row has fewer than nine words.
 fn number_words(line: &[u8]) -> Option<NumberWords<'_>>
-    ensures some { IfSome result (λ w. scenario_of_words (reverse (words_of line.now)) ≡ scenario_of (pair_of w.width.now w.height.now) (pair_of w.start_x.now w.start_y.now) (pair_of w.goal_x.now w.goal_y.now)) }
+    ensures some { IfSome result (λ w. scenario_of_words (reverse (words_of line.now))
+        ≡ scenario_of (pair_of w.width.now w.height.now) (pair_of w.start_x.now w.start_y.now)
+        (pair_of w.goal_x.now w.goal_y.now)) }
     ensures none { IfNone result (scenario_of_words (reverse (words_of line.now)) ≡ None) }
 {
     let Some((before_way, _)) = split_last_word(line) else {
@@ -109,7 +111,9 @@ fn scenario_of_line(line: &[u8]) -> Option<ScenarioParts>
 
 // The chosen row of a scenario, with its line's number.
 fn chosen_row(text: &[u8], row: u64) -> Result<(u64, &[u8]), GridError>
-    ensures { Gives (λ x. (x.0, x.1.now)) result (wanted (NoRow row (length (rows_of_scenario (lines_of text.now)))) (slice_get (rows_of_scenario (lines_of text.now)) row)) }
+    ensures { Gives (λ x. (x.0, x.1.now)) result
+        (wanted (NoRow row (length (rows_of_scenario (lines_of text.now))))
+        (slice_get (rows_of_scenario (lines_of text.now)) row)) }
 {
     let (_, rows) = next_line(text);
     let mut number = 2;

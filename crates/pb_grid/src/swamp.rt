@@ -24,7 +24,8 @@ fn behind_lines(text: &[u8], count: u32) -> &[u8]
 
 // Adds a mark for each byte of a row.
 fn add_marks(out: &mut Vec<bool>, swamp: bool, row: &[u8]) -> Result<(), AllocError>
-    ensures { IfOk result (λ _. out.new.items ≡ out.old.items ++ map (is_swamp_byte swamp) row.now) }
+    ensures { IfOk result (λ _. out.new.items ≡ out.old.items
+        ++ map (is_swamp_byte swamp) row.now) }
 {
     for byte in row {
         out.push(swamp & (*byte == b'S'))?;

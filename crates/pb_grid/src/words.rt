@@ -25,7 +25,8 @@ fn word_at(line: &[u8]) -> Option<usize>
 // The place of the last blank.
 fn last_blank_at(line: &[u8]) -> Option<usize>
     ensures some { IfSome result (λ at. IsLastAt is_blank line.now at) }
-    ensures none { IfNone result ((k : ℕ) → k < length line.now → is_blank (slice_index line.now k) ≡ false) }
+    ensures none { IfNone result ((k : ℕ) → k < length line.now
+        → is_blank (slice_index line.now k) ≡ false) }
 {
     line.iter().rposition(|byte| is_blank(*byte))
 }
@@ -33,7 +34,8 @@ fn last_blank_at(line: &[u8]) -> Option<usize>
 // The place of the last byte of a line's last word.
 fn word_end_at(line: &[u8]) -> Option<usize>
     ensures some { IfSome result (λ at. IsLastAt (λ byte. not (is_blank byte)) line.now at) }
-    ensures none { IfNone result ((k : ℕ) → k < length line.now → not (is_blank (slice_index line.now k)) ≡ false) }
+    ensures none { IfNone result ((k : ℕ) → k < length line.now
+        → not (is_blank (slice_index line.now k)) ≡ false) }
 {
     line.iter().rposition(|byte| !is_blank(*byte))
 }
@@ -55,7 +57,8 @@ pub fn split_word(line: &[u8]) -> Option<(&[u8], &[u8])>
 
 /// The last word of a line, and the line before it. None if the line has no word.
 pub fn split_last_word(line: &[u8]) -> Option<(&[u8], &[u8])>
-    ensures some { IfSome result (λ x. reverse (words_of line.now) ≡ x.1.now ∷ reverse (words_of x.0.now)) }
+    ensures some { IfSome result (λ x. reverse (words_of line.now)
+        ≡ x.1.now ∷ reverse (words_of x.0.now)) }
     ensures none { IfNone result (words_of line.now ≡ []) }
 {
     let Some(last) = word_end_at(line) else {

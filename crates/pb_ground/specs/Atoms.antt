@@ -25,12 +25,15 @@ atom_of predicate objects = record { predicate = predicate; objects = objects }
 
 -- the atoms of a predicate whose parameters are of these types
 abbrev pub atoms_of : Lifted → ℕ → List ℕ → List GroundAtom
-atoms_of lifted predicate kinds = cond (is_fluent lifted predicate) (map (λ objects. atom_of predicate objects) (instances lifted kinds)) []
+atoms_of lifted predicate kinds =
+    cond (is_fluent lifted predicate) (map (λ objects. atom_of predicate objects)
+    (instances lifted kinds)) []
 
 -- those of the predicates from this number on
 abbrev pub atoms_from : Lifted → ℕ → List (List ℕ) → List GroundAtom
 atoms_from lifted predicate [] = []
-atoms_from lifted predicate (kinds ∷ later) = atoms_of lifted predicate kinds ++ atoms_from lifted (suc predicate) later
+atoms_from lifted predicate (kinds ∷ later) =
+    atoms_of lifted predicate kinds ++ atoms_from lifted (suc predicate) later
 
 -- the ground atoms in the order of their numbers
 abbrev pub ground_atoms : Lifted → List GroundAtom
@@ -42,7 +45,8 @@ same_atom a b = nat_eq a.predicate b.predicate && bytes_eq a.objects b.objects
 -- the number of an atom: its first place, counted from 0
 abbrev pub number_in : GroundAtom → List GroundAtom → Option ℕ
 number_in atom [] = None
-number_in atom (first ∷ later) = if same_atom atom first then Some 0 else option_map suc (number_in atom later)
+number_in atom (first ∷ later) =
+    if same_atom atom first then Some 0 else option_map suc (number_in atom later)
 
 -- what an atom of a schema becomes, if these objects are given to the parameters
 abbrev pub grounded : List ℕ → LiftedAtom → GroundAtom

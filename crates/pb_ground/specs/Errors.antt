@@ -12,6 +12,7 @@ told n = min n 4294967295
 -- an error of the atoms: there are more than 256, and it reports their number, unless memory ran
 -- out
 abbrev pub TellsAtoms : Lifted → GroundError → Type 0
-TellsAtoms lifted (errors.TooManyAtoms n) = (256 < length (ground_atoms lifted)) × (n ≡ told (length (ground_atoms lifted)))
+TellsAtoms lifted (errors.TooManyAtoms n) =
+    (256 < length (ground_atoms lifted)) × (n ≡ told (length (ground_atoms lifted)))
 TellsAtoms lifted errors.TooManyActions = ⊥
 TellsAtoms lifted errors.Memory = Unit {0}

@@ -30,36 +30,49 @@ abbrev pub facts_after : Facts → List GroundAtom → List GroundAtom → Facts
 facts_after state gone come fact = is_in fact come || (state fact && not (is_in fact gone))
 
 abbrev pub bits_after : Bits → ActionInstance → Bits
-bits_after bits action n = list_any (nat_eq n) action.adds || (bits n && not (list_any (nat_eq n) action.deletes))
+bits_after bits action n =
+    list_any (nat_eq n) action.adds || (bits n && not (list_any (nat_eq n) action.deletes))
 
 -- the bits say of each of these atoms whether it holds
 abbrev pub Packs : List GroundAtom → Facts → Bits → Type 0
-Packs atoms state bits = (fact : GroundAtom) (n : ℕ) → number_in fact atoms ≡ Some n → bits n ≡ state fact
+Packs atoms state bits =
+    (fact : GroundAtom) (n : ℕ) → number_in fact atoms ≡ Some n → bits n ≡ state fact
 
 -- an atom of a static predicate holds if it does at first
 abbrev pub KeepsStatics : Lifted → Facts → Type 0
-KeepsStatics lifted state = (fact : GroundAtom) → is_fluent lifted fact.predicate ≡ false → state fact ≡ is_initial lifted fact
+KeepsStatics lifted state =
+    (fact : GroundAtom) → is_fluent lifted fact.predicate ≡ false
+    → state fact ≡ is_initial lifted fact
 
 -- each of a schema's atoms that is fluent becomes one of these atoms
 abbrev pub AreNumbered : Lifted → List GroundAtom → List ℕ → List LiftedAtom → Type 0
 AreNumbered lifted atoms given [] = Unit {0}
-AreNumbered lifted atoms given (a ∷ list) = (is_fluent lifted a.predicate ≡ true → is_some (number_in (grounded given a) atoms) ≡ true) × AreNumbered lifted atoms given list
+AreNumbered lifted atoms given (a ∷ list) =
+    (is_fluent lifted a.predicate ≡ true → is_some (number_in (grounded given a) atoms) ≡ true)
+    × AreNumbered lifted atoms given list
 
 -- the step of a schema for these objects, by atoms and by their numbers
-pub record Corresponds (lifted : Lifted) (atoms : List GroundAtom) (state : Facts) (bits : Bits) (i : ℕ) (schema : Schema) (given : List ℕ) : Type 0 where
+pub record Corresponds (lifted : Lifted) (atoms : List GroundAtom) (state : Facts) (bits : Bits)
+    (i : ℕ) (schema : Schema) (given : List ℕ) : Type 0 where
   -- its preconditions hold if its static ones hold at first and the atoms that it needs hold
-  pub applicable : list_all state (all_grounded given schema.pre) ≡ (statics_hold lifted schema.pre given && list_all bits (action_of atoms i schema given).needs)
+  pub applicable : list_all state (all_grounded given schema.pre)
+      ≡ (statics_hold lifted schema.pre given && list_all bits
+      (action_of atoms i schema given).needs)
   -- and it leads to the same state
-  pub result : Packs atoms (facts_after state (all_grounded given schema.deletes) (all_grounded given schema.adds)) (bits_after bits (action_of atoms i schema given))
+  pub result : Packs atoms (facts_after state (all_grounded given schema.deletes)
+      (all_grounded given schema.adds)) (bits_after bits (action_of atoms i schema given))
 
 -- Steps by atoms and by numbers are the same, in both directions.
 abbrev pub StepsCorrespond : Type 0
 StepsCorrespond =
-    (lifted : Lifted) (atoms : List GroundAtom) (state : Facts) (bits : Bits) (i : ℕ) (schema : Schema) (given : List ℕ) → Packs atoms state bits → KeepsStatics lifted state
+    (lifted : Lifted) (atoms : List GroundAtom) (state : Facts) (bits : Bits) (i : ℕ)
+    (schema : Schema) (given : List ℕ) → Packs atoms state bits → KeepsStatics lifted state
     → AreNumbered lifted atoms given schema.pre → Corresponds lifted atoms state bits i schema given
 
 -- A step changes no atom of a static predicate.
 abbrev pub StaticsAreKept : Type 0
 StaticsAreKept =
-    (lifted : Lifted) (state : Facts) (i : ℕ) (schema : Schema) (given : List ℕ) → slice_get lifted.actions i ≡ Some schema → KeepsStatics lifted state
-    → KeepsStatics lifted (facts_after state (all_grounded given schema.deletes) (all_grounded given schema.adds))
+    (lifted : Lifted) (state : Facts) (i : ℕ) (schema : Schema) (given : List ℕ)
+    → slice_get lifted.actions i ≡ Some schema → KeepsStatics lifted state
+    → KeepsStatics lifted (facts_after state (all_grounded given schema.deletes)
+    (all_grounded given schema.adds))

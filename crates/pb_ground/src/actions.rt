@@ -66,7 +66,8 @@ fn add_rows(
     rows: &[Listed<usize>],
     actions: &mut Listed<ActionInstance>,
 ) -> Result<(), AllocError>
-    ensures { OnOk result (actions.new ≡ actions.old ++ map (λ given. action_of atoms.now i schema.now given) rows.now) }
+    ensures { OnOk result (actions.new ≡ actions.old ++ map
+        (λ given. action_of atoms.now i schema.now given) rows.now) }
 {
     for row in rows {
         actions.push(action_of(alloc, atoms, i, schema, row.as_slice())?)?;
@@ -86,9 +87,11 @@ fn add_actions(
 ) -> Result<(), GroundError>
     requires statics { AreStatics statics.now lifted.now }
     requires few { length actions.old ≤ 65536 }
-    ensures added { OnOk result (actions.new ≡ actions.old ++ actions_of lifted.now atoms.now i schema.now) }
+    ensures added { OnOk result (actions.new ≡ actions.old
+        ++ actions_of lifted.now atoms.now i schema.now) }
     ensures few { OnOk result (length actions.new ≤ 65536) }
-    ensures full { IfErr result (TellsFull 65536 (actions.old ++ actions_of lifted.now atoms.now i schema.now)) }
+    ensures full { IfErr result (TellsFull 65536 (actions.old ++ actions_of lifted.now atoms.now i
+        schema.now)) }
 {
     let search = Search {
         statics,

@@ -77,7 +77,8 @@ fn add_rows(
     rows: &[Listed<usize>],
     atoms: &mut Listed<GroundAtom>,
 ) -> Result<(), AllocError>
-    ensures { OnOk result (atoms.new ≡ atoms.old ++ map (λ objects. atom_of predicate objects) rows.now) }
+    ensures { OnOk result (atoms.new ≡ atoms.old ++ map (λ objects. atom_of predicate objects)
+        rows.now) }
 {
     for row in rows {
         let objects = copy_of(alloc, row.as_slice())?;

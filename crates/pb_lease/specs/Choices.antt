@@ -15,12 +15,15 @@ use Rattle.pb_lease.specs.GraphValue.{GraphValue, counts_in}
 -- it is the best of the blocks that may be leased, by the numbers and by the noted keys; or it is
 -- none, and there is no such block
 abbrev pub IsChoice : GraphValue → Option ℕ → Type 0
-IsChoice g = IsFirstBy (can_be_leased (blocks g.table) g.table.settings (counts_in g)) (key_at g.homes)
+IsChoice g =
+    IsFirstBy (can_be_leased (blocks g.table) g.table.settings (counts_in g)) (key_at g.homes)
 
 -- the same with the lease home, at the keys of the other graph
-abbrev pub IsChoiceWithHome : (old : GraphValue) → LeaseValue → (keyed : GraphValue) → Option ℕ → Type 0
+abbrev pub IsChoiceWithHome : (old : GraphValue) → LeaseValue → (keyed : GraphValue) → Option ℕ
+    → Type 0
 IsChoiceWithHome old lease keyed =
-    IsFirstBy (can_be_leased (blocks old.table) old.table.settings (counts_with_lease_home (counts_in old) lease.worker lease.used)) (key_at keyed.homes)
+    IsFirstBy (can_be_leased (blocks old.table) old.table.settings
+    (counts_with_lease_home (counts_in old) lease.worker lease.used)) (key_at keyed.homes)
 
 abbrev pub is_out_in : GraphValue → Bool
 is_out_in g = is_any_out g.table.settings.workers (counts_in g).leases
@@ -38,7 +41,8 @@ IsDone g Memory = ⊥
 
 -- the search has this end, or comes to it now
 abbrev pub IsOver : GraphValue → End → Type 0
-IsOver g end = (g.table.end ≡ Some end) ⊎ ((g.table.end ≡ None) × IsFalse (is_out_in g) × IsDone g end)
+IsOver g end =
+    (g.table.end ≡ Some end) ⊎ ((g.table.end ≡ None) × IsFalse (is_out_in g) × IsDone g end)
 
 -- the search has not ended, some lease is out, and no block may be leased
 pub record IsToWait (g : GraphValue) : Type 0 where
@@ -48,7 +52,9 @@ pub record IsToWait (g : GraphValue) : Type 0 where
 
 -- a better block of its interference is hot
 abbrev pub IsOutranked : GraphValue → (block : ℕ) → Type 0
-IsOutranked g block = (other : ℕ) × IsTrue (interferes (blocks g.table) block other) × IsTrue ((counts_in g).hot other)
+IsOutranked g block =
+    (other : ℕ) × IsTrue (interferes (blocks g.table) block other)
+    × IsTrue ((counts_in g).hot other)
     × IsBetterBy (key_at g.homes) other block
 
 -- the worker may mark the block hot

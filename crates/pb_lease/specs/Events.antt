@@ -12,7 +12,8 @@ use Rattle.pb_lease.specs.Tables.{Table, blocks, counts_of}
 -- the counts after these events, in this order
 abbrev pub counts_along : Blocks → Settings → Counts → List Event → Counts
 counts_along of settings counts [] = counts
-counts_along of settings counts (event ∷ events) = counts_along of settings (counts_after of settings counts event) events
+counts_along of settings counts (event ∷ events) =
+    counts_along of settings (counts_after of settings counts event) events
 
 -- Exactly these events came, and nothing else changed except rooms.
 pub record Adds (old new : Table) (events : List Event) : Type 0 where

@@ -38,8 +38,10 @@ pub record IsLeaseGraph (g : GraphValue) : Type 0 where
   pub legal : IsHistory (blocks g.table) g.table.settings 0 g.table.journal (counts_in g)
   pub places : length g.homes.bundles ≡ (blocks g.table).count
   pub key_places : length g.homes.keys ≡ (blocks g.table).count
-  pub home : (block : ℕ) → block < (blocks g.table).count → is_some (content_at g.homes block) ≡ not (is_away (setup_in g) (counts_in g) block)
-  pub weights : (block : ℕ) (content : Content) → content_at g.homes block ≡ Some content → content.weight ≡ weight_of g.table.settings
+  pub home : (block : ℕ) → block < (blocks g.table).count
+      → is_some (content_at g.homes block) ≡ not (is_away (setup_in g) (counts_in g) block)
+  pub weights : (block : ℕ) (content : Content) → content_at g.homes block ≡ Some content
+      → content.weight ≡ weight_of g.table.settings
 
 -- The lease is the one that the graph gave to this worker. The graph's grant is the lease's, at the
 -- weight of the search, and the lease has the bundles of its block's scope.

@@ -13,16 +13,19 @@ use Rattle.pb_lease.specs.declared.seat.Seat.{Seat}
 use Rattle.pb_lease.specs.Tables.{Table, seat_of, blocks, counts_of, rooms}
 
 -- the counters by block are the numbers of leased blocks in each interference
-pub record AreBusy (of : Blocks) (workers : ℕ) (leases : ℕ → Option Grant) (busy : List ℕ) : Type 0 where
-  pub places : length busy ≡ of.count
-  pub counted : (block : ℕ) → block < of.count → get_or busy block 0 ≡ busy_count of workers leases block
+pub record AreBusy (of : Blocks) (workers : ℕ) (leases : ℕ → Option Grant) (busy : List ℕ) : Type 0
+  where
+    pub places : length busy ≡ of.count
+    pub counted : (block : ℕ) → block < of.count → get_or busy block 0
+        ≡ busy_count of workers leases block
 
 -- the counters by block are the numbers of hot blocks in each interference
 pub record AreMarks (of : Blocks) (hot : List Bool) (near : List ℕ) : Type 0 where
   pub few : of.count ≤ 4096
   pub hot_places : length hot ≡ of.count
   pub near_places : length near ≡ of.count
-  pub counted : (block : ℕ) → block < of.count → get_or near block 0 ≡ hot_count of (λ other. get_or hot other false) block
+  pub counted : (block : ℕ) → block < of.count → get_or near block 0
+      ≡ hot_count of (λ other. get_or hot other false) block
 
 -- how many events of a worker may still come for which the journal must have room: those of its
 -- lease with its return, and its signing off

@@ -20,11 +20,14 @@ pub record LeaseValue : Type 0 where
 
 -- the lease's rows with its incumbent, as a store
 abbrev pub leased_store : LeaseValue → Store
-leased_store lease = record { rows = away_rows lease.parts; incumbent = lease.incumbent; weight = lease.weight }
+leased_store lease =
+    record { rows = away_rows lease.parts; incumbent = lease.incumbent; weight = lease.weight }
 
 -- every bundle has the lease's weight
 abbrev pub HasWeights : LeaseValue → Type 0
-HasWeights lease = (block : ℕ) (content : Content) → content_in lease.parts block ≡ Some content → content.weight ≡ lease.weight
+HasWeights lease =
+    (block : ℕ) (content : Content) → content_in lease.parts block ≡ Some content
+    → content.weight ≡ lease.weight
 
 -- the lease with this content as the bundle of the block, and all else as before
 abbrev pub with_bundle : LeaseValue → (block : ℕ) → Content → LeaseValue

@@ -20,7 +20,13 @@ guide_of task graph = record { estimate = estimate_of task; home = home_of task 
 -- what is searched, and by what: the task, by the blocks of the graph
 abbrev pub setup_of : TaskParts → AbstractGraph → Settings → (reopenings : ℕ) → Setup
 setup_of task graph settings reopenings =
-    record { space = space_of task; guide = guide_of task graph; blocks = blocks_of graph; settings = settings; reopenings = reopenings }
+    record {
+      space = space_of task;
+      guide = guide_of task graph;
+      blocks = blocks_of graph;
+      settings = settings;
+      reopenings = reopenings;
+    }
 
 -- what the lease machine has of a lease
 abbrev pub grant_of : LeaseValue → Grant
@@ -29,20 +35,27 @@ grant_of lease = record { block = lease.block; quota = lease.quota }
 -- The lease is out in this machine. Its rows come from those that it was given or last renewed
 -- with. The way there is exactly the expansions that it counts, and at most `most_broken` broken
 -- ones.
-pub record IsOut (setup : Setup) (machine : Machine) (most_broken : ℕ) (lease : LeaseValue) : Type 0 where
-  pub leased : machine.counts.leases lease.worker ≡ Some (grant_of lease)
-  pub work : HasWorked setup machine lease.worker (grant_of lease) lease.used most_broken (leased_store lease)
+pub record IsOut (setup : Setup) (machine : Machine) (most_broken : ℕ) (lease : LeaseValue) : Type 0
+  where
+    pub leased : machine.counts.leases lease.worker ≡ Some (grant_of lease)
+    pub work : HasWorked setup machine lease.worker (grant_of lease) lease.used most_broken
+        (leased_store lease)
 
 -- the work of a lease that is out was done in turns
-abbrev pub IsInTurns : (setup : Setup) (machine : Machine) (most_broken : ℕ) (lease : LeaseValue) → IsOut setup machine most_broken lease → Type 0
+abbrev pub IsInTurns : (setup : Setup) (machine : Machine) (most_broken : ℕ) (lease : LeaseValue)
+    → IsOut setup machine most_broken lease → Type 0
 IsInTurns setup machine most_broken lease out =
-    AreLeaseTurns setup.space setup.guide out.work.works (lent_store setup lease.block machine.store (machine.given lease.worker))
+    AreLeaseTurns setup.space setup.guide out.work.works
+    (lent_store setup lease.block machine.store (machine.given lease.worker))
 
 -- the lease is out, and its work was done in turns
-abbrev pub IsOutInTurns : (setup : Setup) (machine : Machine) (most_broken : ℕ) (lease : LeaseValue) → Type 0
-IsOutInTurns setup machine most_broken lease = (out : IsOut setup machine most_broken lease) × IsInTurns setup machine most_broken lease out
+abbrev pub IsOutInTurns : (setup : Setup) (machine : Machine) (most_broken : ℕ) (lease : LeaseValue)
+    → Type 0
+IsOutInTurns setup machine most_broken lease =
+    (out : IsOut setup machine most_broken lease) × IsInTurns setup machine most_broken lease out
 
 -- The lease has the bundles of its block's scope and no others, each with its weight.
 pub record HasScope (graph : AbstractGraph) (lease : LeaseValue) : Type 0 where
-  pub blocks : (block : ℕ) → is_some (content_in lease.parts block) ≡ (blocks_of graph).scope lease.block block
+  pub blocks : (block : ℕ) → is_some (content_in lease.parts block)
+      ≡ (blocks_of graph).scope lease.block block
   pub weights : HasWeights lease

@@ -9,4 +9,5 @@ use Rattle.pb_machine.specs.Counts.{Counts, is_taken, is_near_hot}
 -- common with a leased one.
 abbrev pub can_be_leased : Blocks → Settings → Counts → (block : ℕ) → Bool
 can_be_leased of settings counts block =
-    is_none counts.end && nat_lt 0 counts.left && not (is_near_hot of counts.hot block) && not (is_taken of settings.workers counts.leases block)
+    is_none counts.end && nat_lt 0 counts.left && not (is_near_hot of counts.hot block)
+    && not (is_taken of settings.workers counts.leases block)

@@ -9,4 +9,5 @@ use Rattle.pb_lease.specs.LeaseValue.{LeaseValue, with_bundle}
 -- the reference's last value becomes the content of the block's bundle, and all else of the lease
 -- is as before
 abbrev pub LendsBundle : MutBor LeaseValue → (block : ℕ) → MutBor Content → Fml
-LendsBundle lease block bundle = Lends the_lease the_bundle lease bundle (with_bundle lease.now block)
+LendsBundle lease block bundle =
+    Lends the_lease the_bundle lease bundle (with_bundle lease.now block)

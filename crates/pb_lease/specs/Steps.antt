@@ -27,20 +27,23 @@ use Rattle.pb_lease.specs.Moments.{IsMomentAt, Follows, ShowsTold, IsKnownThen, 
 -- budget, with the incumbent and with the search's weight. The lease has the bundles of the scope,
 -- which are no longer at home. The lease is the one event, there is room for 63 more of the
 -- worker's, and all else is as before.
-pub record IsLeased (old : GraphValue) (worker : ℕ) (lease : LeaseValue) (new : GraphValue) : Type 0 where
-  pub first : IsChoice old (Some lease.block)
-  pub worker_is : lease.worker ≡ worker
-  pub quota : lease.quota ≡ min old.table.settings.lot old.table.left
-  pub used : lease.used ≡ 0
-  pub lent_incumbent : lease.incumbent ≡ old.incumbent
-  pub of_graph : IsOfGraph new lease
-  pub moved : (block : ℕ) → content_in lease.parts block ≡ (if (blocks old.table).scope lease.block block then content_at old.homes block else None)
-  pub left : (block : ℕ) → content_at new.homes block ≡ (if (blocks old.table).scope lease.block block then None else content_at old.homes block)
-  pub keys : new.homes.keys ≡ old.homes.keys
-  pub events : Adds old.table new.table (Lease worker lease.block lease.quota ∷ [])
-  pub room : rooms new.table ≡ with_entry (rooms old.table) worker 63
-  pub task : new.task ≡ old.task
-  pub incumbent : new.incumbent ≡ old.incumbent
+pub record IsLeased (old : GraphValue) (worker : ℕ) (lease : LeaseValue) (new : GraphValue) : Type 0
+  where
+    pub first : IsChoice old (Some lease.block)
+    pub worker_is : lease.worker ≡ worker
+    pub quota : lease.quota ≡ min old.table.settings.lot old.table.left
+    pub used : lease.used ≡ 0
+    pub lent_incumbent : lease.incumbent ≡ old.incumbent
+    pub of_graph : IsOfGraph new lease
+    pub moved : (block : ℕ) → content_in lease.parts block
+        ≡ (if (blocks old.table).scope lease.block block then content_at old.homes block else None)
+    pub left : (block : ℕ) → content_at new.homes block
+        ≡ (if (blocks old.table).scope lease.block block then None else content_at old.homes block)
+    pub keys : new.homes.keys ≡ old.homes.keys
+    pub events : Adds old.table new.table (Lease worker lease.block lease.quota ∷ [])
+    pub room : rooms new.table ≡ with_entry (rooms old.table) worker 63
+    pub task : new.task ≡ old.task
+    pub incumbent : new.incumbent ≡ old.incumbent
 
 -- From each moment of the old graph the lease leads to one of the new graph. What the lease has is
 -- recorded for it there, and it has done nothing yet: it has the rows that it was lent. The event
@@ -48,11 +51,14 @@ pub record IsLeased (old : GraphValue) (worker : ℕ) (lease : LeaseValue) (new 
 abbrev pub LeasesNext : (old : GraphValue) → LeaseValue → (new : GraphValue) → Type 0
 LeasesNext old lease new =
     (recorded : (worker : ℕ) → Rows) (machine : Machine) → IsMomentAt old recorded machine
-    → (next : Machine) × Follows old machine (Lease lease.worker lease.block lease.quota ∷ []) new (with_entry recorded lease.worker (away_rows lease.parts)) next
+    → (next : Machine) × Follows old machine (Lease lease.worker lease.block lease.quota ∷ []) new
+    (with_entry recorded lease.worker (away_rows lease.parts)) next
     × (next.given lease.worker ≡ lease.incumbent) × IsOutInTurns (setup_in new) next 0 lease
     × (next.store ≡ machine.store) × (next.told ≡ with_entry machine.told lease.worker None)
-    × RunsInOrder (setup_in old) machine (moves_of (Lease lease.worker lease.block lease.quota ∷ [])) next
-    × (leased_store lease ≡ lent_store (setup_in old) lease.block next.store (next.given lease.worker))
+    × RunsInOrder (setup_in old) machine
+    (moves_of (Lease lease.worker lease.block lease.quota ∷ [])) next
+    × (leased_store lease ≡ lent_store (setup_in old) lease.block next.store
+    (next.given lease.worker))
 
 -- ---- an end
 
@@ -73,33 +79,39 @@ pub record IsEnded (old : GraphValue) (end : End) (new : GraphValue) : Type 0 wh
 abbrev pub KeepsLeases : (old : GraphValue) → List Event → (new : GraphValue) → Type 0
 KeepsLeases old events new =
     (recorded : (worker : ℕ) → Rows) (machine : Machine) → IsMomentAt old recorded machine
-    → (next : Machine) × Follows old machine events new recorded next × KeepsRows machine next × (next.counts.leases ≡ machine.counts.leases)
+    → (next : Machine) × Follows old machine events new recorded next × KeepsRows machine next
+    × (next.counts.leases ≡ machine.counts.leases)
     × RunsInOrder (setup_in old) machine (moves_of events) next
 
 -- ---- marks, and workers that sign off
 
 -- the mark is the one event and takes one of the worker's room; nothing else changed
-pub record IsMarked (old : GraphValue) (worker : ℕ) (event : Event) (new : GraphValue) : Type 0 where
-  pub events : Adds old.table new.table (event ∷ [])
-  pub room : rooms new.table ≡ with_entry (rooms old.table) worker (rooms old.table worker - 1)
-  pub rest : new ≡ record old { table = new.table }
+pub record IsMarked (old : GraphValue) (worker : ℕ) (event : Event) (new : GraphValue) : Type 0
+  where
+    pub events : Adds old.table new.table (event ∷ [])
+    pub room : rooms new.table ≡ with_entry (rooms old.table) worker (rooms old.table worker - 1)
+    pub rest : new ≡ record old { table = new.table }
 
 -- The sign-off is the one event. If the worker reports out of memory before the end, the end that
 -- follows is another. Nothing else changed.
-pub record IsSignedOff (old : GraphValue) (worker : ℕ) (trouble : Bool) (new : GraphValue) : Type 0 where
-  pub events : Adds old.table new.table (Off worker trouble ∷ ending trouble old.table.end)
-  pub room : rooms new.table ≡ rooms old.table
-  pub rest : new ≡ record old { table = new.table }
+pub record IsSignedOff (old : GraphValue) (worker : ℕ) (trouble : Bool) (new : GraphValue) : Type 0
+  where
+    pub events : Adds old.table new.table (Off worker trouble ∷ ending trouble old.table.end)
+    pub room : rooms new.table ≡ rooms old.table
+    pub rest : new ≡ record old { table = new.table }
 
 -- ---- a lease that comes back, or goes on
 
 -- The lease's bundles are home, their keys are noted, and the incumbent is the lesser of both. The
 -- release is the one event. If the worker reports out of memory before the end, the end that
 -- follows is another. All else is as before.
-pub record IsReleased (old : GraphValue) (lease : LeaseValue) (trouble : Bool) (new : GraphValue) : Type 0 where
-  pub home : (block : ℕ) → content_at new.homes block ≡ option_or (content_in lease.parts block) (content_at old.homes block)
+pub record IsReleased (old : GraphValue) (lease : LeaseValue) (trouble : Bool) (new : GraphValue) :
+    Type 0 where
+  pub home : (block : ℕ) → content_at new.homes block
+      ≡ option_or (content_in lease.parts block) (content_at old.homes block)
   pub noted : NotesKeys lease.parts old.homes.keys new.homes.keys
-  pub events : Adds old.table new.table (Release lease.worker lease.used trouble ∷ ending trouble old.table.end)
+  pub events : Adds old.table new.table (Release lease.worker lease.used trouble
+      ∷ ending trouble old.table.end)
   pub room : rooms new.table ≡ with_entry (rooms old.table) lease.worker 0
   pub task : new.task ≡ old.task
   pub incumbent : new.incumbent ≡ lesser old.incumbent lease.incumbent
@@ -107,14 +119,19 @@ pub record IsReleased (old : GraphValue) (lease : LeaseValue) (trouble : Bool) (
 -- At a moment of the old graph the lease is out, with at most so many expansions broken off, and
 -- shows what its worker told. If each worker can then have read the new graph's incumbent, these
 -- events lead to a moment of the new graph. They are in order if the lease has worked in turns.
-abbrev pub ReleasesNext : (old : GraphValue) → LeaseValue → (trouble : Bool) → (new : GraphValue) → Type 0
+abbrev pub ReleasesNext : (old : GraphValue) → LeaseValue → (trouble : Bool) → (new : GraphValue)
+    → Type 0
 ReleasesNext old lease trouble new =
-    (recorded : (worker : ℕ) → Rows) (machine : Machine) → IsMomentAt old recorded machine → (out : IsOut (setup_in old) machine (one_if trouble) lease)
+    (recorded : (worker : ℕ) → Rows) (machine : Machine) → IsMomentAt old recorded machine
+    → (out : IsOut (setup_in old) machine (one_if trouble) lease)
     → ShowsTold old machine lease → IsKnownThen machine lease new.incumbent
-    → (next : Machine) × Follows old machine (Release lease.worker lease.used trouble ∷ ending trouble old.table.end) new recorded next
-    × (next.store.incumbent ≡ brought_incumbent machine lease) × (next.told ≡ with_entry machine.told lease.worker None)
+    → (next : Machine) × Follows old machine (Release lease.worker lease.used trouble
+    ∷ ending trouble old.table.end) new recorded next
+    × (next.store.incumbent ≡ brought_incumbent machine lease)
+    × (next.told ≡ with_entry machine.told lease.worker None)
     × (IsInTurns (setup_in old) machine (one_if trouble) lease out
-    → RunsInOrder (setup_in old) machine (moves_of (Release lease.worker lease.used trouble ∷ ending trouble old.table.end)) next)
+    → RunsInOrder (setup_in old) machine
+    (moves_of (Release lease.worker lease.used trouble ∷ ending trouble old.table.end)) next)
 
 -- the quota that a lease is renewed with: a lot, or all that is left with what it didn't use
 abbrev pub renewed_quota : GraphValue → LeaseValue → ℕ
@@ -124,12 +141,18 @@ renewed_quota g lease = min g.table.settings.lot (g.table.left + (lease.quota - 
 -- graph has too. The keys of its bundles are noted. The renewal is the one event, and takes one of
 -- the worker's room; all else is as before.
 pub record IsRenewed (old : GraphValue) (lease kept : LeaseValue) (new : GraphValue) : Type 0 where
-  pub kept_is : kept ≡ record lease { quota = renewed_quota old lease; used = 0; incumbent = lesser old.incumbent lease.incumbent }
+  pub kept_is : kept ≡ record lease {
+    quota = renewed_quota old lease;
+    used = 0;
+    incumbent = lesser old.incumbent lease.incumbent;
+  }
   pub of_graph : IsOfGraph new kept
   pub bundles : new.homes.bundles ≡ old.homes.bundles
   pub noted : NotesKeys lease.parts old.homes.keys new.homes.keys
-  pub events : Adds old.table new.table (Renew lease.worker lease.used (renewed_quota old lease) ∷ [])
-  pub room : rooms new.table ≡ with_entry (rooms old.table) lease.worker (rooms old.table lease.worker - 1)
+  pub events : Adds old.table new.table (Renew lease.worker lease.used (renewed_quota old lease)
+      ∷ [])
+  pub room : rooms new.table ≡ with_entry (rooms old.table) lease.worker
+      (rooms old.table lease.worker - 1)
   pub task : new.task ≡ old.task
   pub incumbent : new.incumbent ≡ lesser old.incumbent lease.incumbent
 
@@ -138,18 +161,24 @@ pub record IsRenewed (old : GraphValue) (lease kept : LeaseValue) (new : GraphVa
 -- The renewal is in order if the lease has worked in turns.
 abbrev pub RenewsNext : (old : GraphValue) → (lease kept : LeaseValue) → (new : GraphValue) → Type 0
 RenewsNext old lease kept new =
-    (recorded : (worker : ℕ) → Rows) (machine : Machine) → IsMomentAt old recorded machine → (out : IsOut (setup_in old) machine 0 lease)
+    (recorded : (worker : ℕ) → Rows) (machine : Machine) → IsMomentAt old recorded machine
+    → (out : IsOut (setup_in old) machine 0 lease)
     → ShowsTold old machine lease → IsKnownThen machine lease new.incumbent
-    → (next : Machine) × Follows old machine (Renew lease.worker lease.used kept.quota ∷ []) new (with_entry recorded lease.worker (away_rows kept.parts)) next
+    → (next : Machine) × Follows old machine (Renew lease.worker lease.used kept.quota ∷ []) new
+    (with_entry recorded lease.worker (away_rows kept.parts)) next
     × (next.given kept.worker ≡ kept.incumbent) × IsOutInTurns (setup_in new) next 0 kept
-    × (next.store.incumbent ≡ brought_incumbent machine lease) × (next.told ≡ with_entry machine.told lease.worker None)
-    × (IsInTurns (setup_in old) machine 0 lease out → RunsInOrder (setup_in old) machine (moves_of (Renew lease.worker lease.used kept.quota ∷ [])) next)
+    × (next.store.incumbent ≡ brought_incumbent machine lease)
+    × (next.told ≡ with_entry machine.told lease.worker None)
+    × (IsInTurns (setup_in old) machine 0 lease out
+    → RunsInOrder (setup_in old) machine
+    (moves_of (Renew lease.worker lease.used kept.quota ∷ [])) next)
     × (leased_store kept ≡ lent_store (setup_in old) kept.block next.store (next.given kept.worker))
 
 -- The lease is renewed exactly if, with it home, its block is the first choice, and room is left.
 -- Else it came back.
 abbrev pub GoesOn : (old : GraphValue) → LeaseValue → (new : GraphValue) → Type 0
-GoesOn old lease new = IsChoiceWithHome old lease new (Some lease.block) × (0 < rooms old.table lease.worker)
+GoesOn old lease new =
+    IsChoiceWithHome old lease new (Some lease.block) × (0 < rooms old.table lease.worker)
 
 -- At each moment of the old graph, with the lease home, two tests agree on whether the lease's
 -- block is the first choice. One goes by the keys of the new graph, the other by the rows of the
@@ -158,8 +187,10 @@ abbrev pub ChoosesByRows : (old : GraphValue) → LeaseValue → (new : GraphVal
 ChoosesByRows old lease new =
     (recorded : (worker : ℕ) → Rows) (machine : Machine) → IsMomentAt old recorded machine
     → IsChoiceWithHome old lease new (Some lease.block)
-    ↔ IsFirstChoice (blocks old.table) old.table.settings (counts_with_lease_home machine.counts lease.worker lease.used)
-    (merged_store ((blocks old.table).scope lease.block) (leased_store lease) machine.store) lease.block
+    ↔ IsFirstChoice (blocks old.table) old.table.settings
+    (counts_with_lease_home machine.counts lease.worker lease.used)
+    (merged_store ((blocks old.table).scope lease.block) (leased_store lease) machine.store)
+    lease.block
 
 -- ---- a lease that comes back, and another one at once
 
@@ -181,5 +212,6 @@ pub record IsSwitched (old : GraphValue) (lease next : LeaseValue) (new : GraphV
 -- that moment too, with the same rows recorded.
 abbrev pub TakesBound : (old : GraphValue) → (cost : ℕ) → (new : GraphValue) → Type 0
 TakesBound old cost new =
-    (recorded : (worker : ℕ) → Rows) (machine : Machine) → IsMomentAt old recorded machine → ((worker : ℕ) → IsTrue (machine.known worker (Some cost)))
+    (recorded : (worker : ℕ) → Rows) (machine : Machine) → IsMomentAt old recorded machine
+    → ((worker : ℕ) → IsTrue (machine.known worker (Some cost)))
     → IsMomentAt new recorded machine

@@ -16,7 +16,8 @@ impl LeaseGraph {
         requires stays { IsFalse ((counts_in self.old).signed_off worker) }
         requires cause { IsTrue (trouble || is_some self.old.table.end) }
         ensures signed_off { IsSignedOff self.old worker trouble self.new }
-        ensures moment { KeepsLeases self.old (Off worker trouble ∷ ending trouble self.old.table.end) self.new }
+        ensures moment { KeepsLeases self.old
+            (Off worker trouble ∷ ending trouble self.old.table.end) self.new }
     {
         self.tables.sign_off(worker, trouble);
     }

@@ -10,7 +10,8 @@ pub fn raise(counters: &mut Vec<u32>, near: &[u32])
     requires ascending { IsStrictlyIncreasing near.now }
     requires small { (c : ℕ) → get_or counters.old.items c 0 + 1 < 2 ^ 32 }
     ensures length { length counters.new.items ≡ length counters.old.items }
-    ensures each { (c : ℕ) → get_or counters.new.items c 0 ≡ get_or counters.old.items c 0 + one_if (has near.now c) }
+    ensures each { (c : ℕ) → get_or counters.new.items c 0
+        ≡ get_or counters.old.items c 0 + one_if (has near.now c) }
 {
     for block in near {
         counters[*block as usize] += 1;
@@ -23,7 +24,8 @@ pub fn lower(counters: &mut Vec<u32>, near: &[u32])
     requires ascending { IsStrictlyIncreasing near.now }
     requires some { (c : ℕ) → has near.now c ≡ true → 1 ≤ get_or counters.old.items c 0 }
     ensures length { length counters.new.items ≡ length counters.old.items }
-    ensures each { (c : ℕ) → get_or counters.new.items c 0 + one_if (has near.now c) ≡ get_or counters.old.items c 0 }
+    ensures each { (c : ℕ) → get_or counters.new.items c 0 + one_if (has near.now c)
+        ≡ get_or counters.old.items c 0 }
 {
     for block in near {
         counters[*block as usize] -= 1;

@@ -60,7 +60,8 @@ impl MachineTables {
 /// If a worker reports out of memory and the search has not ended, the search ends by that report.
 /// The answer is how many events this added.
 pub fn end_by_report(memory: bool, end: &mut Option<End>, journal: &mut Vec<Event>) -> usize
-    requires room { (memory && is_none end.old) ≡ true → vec_len journal.old < vec_capacity journal.old }
+    requires room { (memory && is_none end.old) ≡ true
+        → vec_len journal.old < vec_capacity journal.old }
     ensures end { end.new ≡ end_after memory end.old }
     ensures journal { journal.new.items ≡ journal.old.items ++ ending memory end.old }
     ensures count { result ≡ one_if (memory && is_none end.old) }

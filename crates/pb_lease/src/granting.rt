@@ -30,15 +30,21 @@ impl LeaseGraph {
         requires worker { worker < self.old.table.settings.workers }
         requires vacant { (counts_in self.old).leases worker ≡ None }
         requires stays { IsFalse ((counts_in self.old).signed_off worker) }
-        ensures leased { (lease : LeaseValue) → result ≡ Leased lease → IsLeased self.old worker lease self.new }
+        ensures leased { (lease : LeaseValue) → result ≡ Leased lease
+            → IsLeased self.old worker lease self.new }
         ensures not_yet { (result ≡ NotYet) ↔ IsToWait self.old }
         ensures over { (end : _) → (result ≡ Over end) ↔ IsOver self.old end }
         ensures ended { (end : _) → result ≡ Over end → IsEnded self.old end self.new }
         ensures same { (result ≡ NotYet) ⊎ (result ≡ Memory) → self.new ≡ self.old }
-        ensures leased_moment { (lease : LeaseValue) → result ≡ Leased lease → LeasesNext self.old lease self.new }
-        ensures ended_moment { (end : _) → result ≡ Over end → KeepsLeases self.old (end_events self.old.table.end end) self.new }
-        ensures not_yet_moment { result ≡ NotYet → (recorded : (worker : ℕ) → Rows) (machine : Machine) → IsMomentAt self.old recorded machine
-            → (block : ℕ) → MayBeLeased (blocks self.old.table) self.old.table.settings machine.counts machine.store block → ⊥ }
+        ensures leased_moment { (lease : LeaseValue) → result ≡ Leased lease
+            → LeasesNext self.old lease self.new }
+        ensures ended_moment { (end : _) → result ≡ Over end
+            → KeepsLeases self.old (end_events self.old.table.end end) self.new }
+        ensures not_yet_moment { result ≡ NotYet
+            → (recorded : (worker : ℕ) → Rows) (machine : Machine)
+            → IsMomentAt self.old recorded machine
+            → (block : ℕ) → MayBeLeased (blocks self.old.table) self.old.table.settings
+            machine.counts machine.store block → ⊥ }
     {
         if let Some(end) = self.tables.end() {
             return LeaseReply::Over(end);

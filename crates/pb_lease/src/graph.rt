@@ -51,9 +51,20 @@ impl Model for LeaseGraph {
 
     ghost Value = { GraphValue };
 
-    ghost view = { λ g. record { task = arc_value g.task; table = g.tables; homes = g.homes; incumbent = g.incumbent } };
+    ghost view = { λ g. record {
+      task = arc_value g.task;
+      table = g.tables;
+      homes = g.homes;
+      incumbent = g.incumbent;
+    } };
 
-    ghost invariant = { λ g. IsLeaseGraph (record { task = arc_value g.task; table = g.tables; homes = g.homes; incumbent = g.incumbent }) };
+    ghost invariant = { λ g. IsLeaseGraph
+        (record {
+          task = arc_value g.task;
+          table = g.tables;
+          homes = g.homes;
+          incumbent = g.incumbent;
+        }) };
 }
 
 impl LeaseGraph {
@@ -69,7 +80,8 @@ impl LeaseGraph {
         settings: Settings,
     ) -> Result<LeaseGraph, AllocError>
         requires graph { IsGraphOf (arc_value task) (arc_value graph) }
-        requires estimate { estimate ≡ estimate_of (arc_value task) (space_of (arc_value task)).start }
+        requires estimate { estimate ≡ estimate_of (arc_value task)
+            (space_of (arc_value task)).start }
         requires settings { AreInRange settings }
         ensures task { IfOk result (λ g. g.task ≡ arc_value task) }
         ensures graph { IfOk result (λ g. g.table.graph ≡ arc_value graph) }
@@ -78,8 +90,12 @@ impl LeaseGraph {
         ensures journal { IfOk result (λ g. g.table.journal ≡ []) }
         ensures rooms { IfOk result (λ g. (worker : ℕ) → rooms g.table worker ≡ 0) }
         ensures incumbent { IfOk result (λ g. g.incumbent ≡ None) }
-        ensures rows { IfOk result (λ g. (home state : ℕ) → home_rows g.homes home state ≡ (opening_store (setup_in g).space (setup_in g).guide (weight_of settings)).rows home state) }
-        ensures moment { IfOk result (λ g. (recorded : (worker : ℕ) → Rows) → IsMoment g recorded (opening_machine (setup_in g))) }
+        ensures rows { IfOk result (λ g. (home state : ℕ)
+            → home_rows g.homes home state
+            ≡ (opening_store (setup_in g).space (setup_in g).guide (weight_of settings)).rows home
+            state) }
+        ensures moment { IfOk result (λ g. (recorded : (worker : ℕ) → Rows)
+            → IsMoment g recorded (opening_machine (setup_in g))) }
     {
         let start = task.initial();
         let block = graph.block(&task, &start);
@@ -100,7 +116,8 @@ impl LeaseGraph {
     /// The events so far: a legal history, which keeps within the room of its leases.
     pub fn journal(&self) -> &[Event]
         ensures events { result.now ≡ self.now.table.journal }
-        ensures legal { IsHistory (blocks self.now.table) self.now.table.settings 0 self.now.table.journal (counts_in self.now) }
+        ensures legal { IsHistory (blocks self.now.table) self.now.table.settings 0
+            self.now.table.journal (counts_in self.now) }
         ensures within { KeepsWithinRoom self.now.table.journal }
     {
         self.tables.journal()
@@ -153,7 +170,9 @@ impl LeaseGraph {
         requires block { block < (blocks self.now.table).count }
         ensures bundle { content_at self.now.homes block ≡ Some result.now }
         ensures weight { result.now.weight ≡ weight_of self.now.table.settings }
-        ensures moment { (recorded : (worker : ℕ) → Rows) (machine : Machine) → IsMomentAt self.now recorded machine → (state : ℕ) → machine.store.rows block state ≡ row_of result.now state }
+        ensures moment { (recorded : (worker : ℕ) → Rows) (machine : Machine)
+            → IsMomentAt self.now recorded machine → (state : ℕ)
+            → machine.store.rows block state ≡ row_of result.now state }
     {
         self.homes.bundle(block)
     }

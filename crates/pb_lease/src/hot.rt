@@ -24,8 +24,11 @@ impl LeaseGraph {
     /// if no such block is better.
     pub fn rival(&self, lease: &Lease) -> Option<u32>
         requires { (counts_in self.now).leases lease.now.worker ≡ Some (grant_of lease.now) }
-        ensures rival { IsRivalBy (interferes (blocks self.now.table) lease.now.block) (key_at self.now.homes) lease.now.block result }
-        ensures moment { (recorded : (worker : ℕ) → Rows) (machine : Machine) → IsMomentAt self.now recorded machine → IsRival (blocks self.now.table) machine.store lease.now.block result }
+        ensures rival { IsRivalBy (interferes (blocks self.now.table) lease.now.block)
+            (key_at self.now.homes) lease.now.block result }
+        ensures moment { (recorded : (worker : ℕ) → Rows) (machine : Machine)
+            → IsMomentAt self.now recorded machine
+            → IsRival (blocks self.now.table) machine.store lease.now.block result }
     {
         self.homes
             .rival(lease.block, self.tables.graph().interference(lease.block))

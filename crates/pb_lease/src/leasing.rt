@@ -32,7 +32,8 @@ impl MachineTables {
     /// Whether the block may be leased if it has an Opened row.
     pub fn can_be_leased(&self, block: u32) -> bool
         requires { block < (blocks self.now).count }
-        ensures { result ≡ can_be_leased (blocks self.now) self.now.settings (counts_of self.now) block }
+        ensures { result ≡ can_be_leased (blocks self.now) self.now.settings (counts_of self.now)
+            block }
     {
         let is_open = self.end.is_none() & (self.left > 0);
         let is_clear = (self.marks.near[block as usize] == 0) & (self.busy[block as usize] == 0);
@@ -48,7 +49,8 @@ impl MachineTables {
         requires block { block < (blocks self.now).count }
         requires leased { IsSome ((counts_of self.now).leases worker) }
         requires used { used ≤ quota_of ((counts_of self.now).leases worker) }
-        ensures { result ≡ can_be_leased (blocks self.now) self.now.settings (counts_with_lease_home (counts_of self.now) worker used) block }
+        ensures { result ≡ can_be_leased (blocks self.now) self.now.settings
+            (counts_with_lease_home (counts_of self.now) worker used) block }
     {
         let own = self.grant_of(worker);
         let has_left = self.left + (own.quota - used) > 0;
@@ -67,7 +69,9 @@ impl MachineTables {
     fn is_clear_without(&self, own: u32, block: u32) -> bool
         requires own { own < (blocks self.now).count }
         requires block { block < (blocks self.now).count }
-        ensures { result ≡ (busy_count (blocks self.now) self.now.settings.workers (counts_of self.now).leases block - one_if (interferes (blocks self.now) own block) == 0) }
+        ensures { result ≡ (busy_count (blocks self.now) self.now.settings.workers
+            (counts_of self.now).leases block - one_if (interferes (blocks self.now) own block)
+            == 0) }
     {
         let busy = self.busy[block as usize];
         if busy != 1 {
@@ -97,7 +101,8 @@ impl MachineTables {
         requires block { block < (blocks self.old).count }
         requires free { IsTrue (can_be_leased (blocks self.old) self.old.settings (counts_of self.old) block) }
         ensures quota { IfOk result (λ quota. quota ≡ min self.old.settings.lot self.old.left) }
-        ensures events { OnOk result (Adds self.old self.new (Lease worker block (min self.old.settings.lot self.old.left) ∷ [])) }
+        ensures events { OnOk result (Adds self.old self.new
+            (Lease worker block (min self.old.settings.lot self.old.left) ∷ [])) }
         ensures room { OnOk result (rooms self.new ≡ with_entry (rooms self.old) worker 63) }
         ensures err { OnErr result (self.new ≡ self.old) }
     {
@@ -122,12 +127,18 @@ impl MachineTables {
     /// The worker's lease is settled and goes on, with a lot or with all that is left of the
     /// budget. The answer is that quota.
     pub fn renew(&mut self, worker: u32, used: u64) -> u64
-        requires free { IsTrue (is_lease_of (can_be_leased (blocks self.old) self.old.settings (counts_with_lease_home (counts_of self.old) worker used)) ((counts_of self.old).leases worker)) }
+        requires free { IsTrue (is_lease_of (can_be_leased (blocks self.old) self.old.settings
+            (counts_with_lease_home (counts_of self.old) worker used))
+            ((counts_of self.old).leases worker)) }
         requires used { used ≤ quota_of ((counts_of self.old).leases worker) }
         requires room { 0 < rooms self.old worker }
-        ensures quota { result ≡ min self.old.settings.lot (self.old.left + (quota_of ((counts_of self.old).leases worker) - used)) }
-        ensures events { Adds self.old self.new (Renew worker used (min self.old.settings.lot (self.old.left + (quota_of ((counts_of self.old).leases worker) - used))) ∷ []) }
-        ensures room { rooms self.new ≡ with_entry (rooms self.old) worker (rooms self.old worker - 1) }
+        ensures quota { result ≡ min self.old.settings.lot
+            (self.old.left + (quota_of ((counts_of self.old).leases worker) - used)) }
+        ensures events { Adds self.old self.new
+            (Renew worker used (min self.old.settings.lot
+            (self.old.left + (quota_of ((counts_of self.old).leases worker) - used))) ∷ []) }
+        ensures room { rooms self.new ≡ with_entry (rooms self.old) worker
+            (rooms self.old worker - 1) }
     {
         let seat = self.seats[worker as usize];
         let Some(own) = seat.grant else {
@@ -157,7 +168,8 @@ impl MachineTables {
     pub fn release(&mut self, worker: u32, used: u64, memory: bool)
         requires leased { IsSome ((counts_of self.old).leases worker) }
         requires used { used ≤ quota_of ((counts_of self.old).leases worker) }
-        ensures events { Adds self.old self.new (Release worker used memory ∷ ending memory self.old.end) }
+        ensures events { Adds self.old self.new
+            (Release worker used memory ∷ ending memory self.old.end) }
         ensures room { rooms self.new ≡ with_entry (rooms self.old) worker 0 }
     {
         let seat = self.seats[worker as usize];

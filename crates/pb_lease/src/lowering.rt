@@ -10,7 +10,8 @@ impl LeaseGraph {
     /// Takes a cost at which a goal is known to be reached, in the unit of the task's action costs:
     /// the incumbent becomes the lesser of both. All else stays, the journal too.
     pub fn take_bound(&mut self, cost: u64)
-        ensures lowered { self.new ≡ record self.old { incumbent = lesser self.old.incumbent (Some cost) } }
+        ensures lowered { self.new ≡ record self.old
+            { incumbent = lesser self.old.incumbent (Some cost) } }
         ensures moment { TakesBound self.old cost self.new }
     {
         self.incumbent = least(self.incumbent, Some(cost));

@@ -49,7 +49,8 @@ impl MachineTables {
         requires block { block < (blocks self.old).count }
         ensures answer { result ≡ may_be_marked self.old worker block outranked }
         ensures events { IsTrue result → Adds self.old self.new (Hot worker block ∷ []) }
-        ensures room { IsTrue result → rooms self.new ≡ with_entry (rooms self.old) worker (rooms self.old worker - 1) }
+        ensures room { IsTrue result → rooms self.new
+            ≡ with_entry (rooms self.old) worker (rooms self.old worker - 1) }
         ensures refused { IsFalse result → self.new ≡ self.old }
     {
         if !self.may_be_marked(worker, block, outranked) {
@@ -75,7 +76,8 @@ impl MachineTables {
         requires block { block < (blocks self.old).count }
         ensures answer { result ≡ may_be_cooled self.old worker block }
         ensures events { IsTrue result → Adds self.old self.new (Cold worker block ∷ []) }
-        ensures room { IsTrue result → rooms self.new ≡ with_entry (rooms self.old) worker (rooms self.old worker - 1) }
+        ensures room { IsTrue result → rooms self.new
+            ≡ with_entry (rooms self.old) worker (rooms self.old worker - 1) }
         ensures refused { IsFalse result → self.new ≡ self.old }
     {
         if !self.may_be_cooled(worker, block) {

@@ -43,7 +43,8 @@ impl Marks {
     pub fn cool_all(&mut self, graph: &AbsGraph, blocks: &[u32])
         requires marks { AreMarks (blocks_of graph.now) self.old.hot.items self.old.near.items }
         requires blocks { All (λ c. c < (blocks_of graph.now).count) blocks.now }
-        ensures hot { (c : ℕ) → get_or self.new.hot.items c false ≡ (get_or self.old.hot.items c false && not (has blocks.now c)) }
+        ensures hot { (c : ℕ) → get_or self.new.hot.items c false
+            ≡ (get_or self.old.hot.items c false && not (has blocks.now c)) }
         ensures marks { AreMarks (blocks_of graph.now) self.new.hot.items self.new.near.items }
     {
         for block in blocks {
@@ -58,7 +59,9 @@ impl Marks {
         requires marks { AreMarks (blocks_of graph.now) self.old.hot.items self.old.near.items }
         requires blocks { All (λ c. c < (blocks_of graph.now).count) blocks.now }
         requires busy { length busy.now ≡ (blocks_of graph.now).count }
-        ensures hot { (c : ℕ) → get_or self.new.hot.items c false ≡ (get_or self.old.hot.items c false && not (has blocks.now c && (get_or busy.now c 0 == 0))) }
+        ensures hot { (c : ℕ) → get_or self.new.hot.items c false
+            ≡ (get_or self.old.hot.items c false
+            && not (has blocks.now c && (get_or busy.now c 0 == 0))) }
         ensures marks { AreMarks (blocks_of graph.now) self.new.hot.items self.new.near.items }
     {
         for block in blocks {

@@ -44,10 +44,13 @@ impl LeaseGraph {
     /// the lease comes back.
     pub fn renew(&mut self, lease: Lease) -> Renewed
         requires { IsOfGraph self.old lease }
-        ensures kept { (kept : LeaseValue) → result ≡ Kept kept → GoesOn self.old lease self.new × IsRenewed self.old lease kept self.new }
-        ensures given { result ≡ Given → (GoesOn self.old lease self.new → ⊥) × IsReleased self.old lease false self.new }
+        ensures kept { (kept : LeaseValue) → result ≡ Kept kept
+            → GoesOn self.old lease self.new × IsRenewed self.old lease kept self.new }
+        ensures given { result ≡ Given → (GoesOn self.old lease self.new → ⊥)
+            × IsReleased self.old lease false self.new }
         ensures first { ChoosesByRows self.old lease self.new }
-        ensures kept_moment { (kept : LeaseValue) → result ≡ Kept kept → RenewsNext self.old lease kept self.new }
+        ensures kept_moment { (kept : LeaseValue) → result ≡ Kept kept
+            → RenewsNext self.old lease kept self.new }
         ensures given_moment { result ≡ Given → ReleasesNext self.old lease false self.new }
     {
         self.homes.note(&lease.parts);
@@ -71,7 +74,8 @@ impl LeaseGraph {
     // Whether, with the lease home, its block is the first choice.
     fn is_choice_with_home(&self, lease: &Lease) -> bool
         requires { (counts_in self.now).leases lease.now.worker ≡ Some (grant_of lease.now) }
-        ensures { IsTrue result ↔ IsChoiceWithHome self.now lease.now self.now (Some lease.now.block) }
+        ensures { IsTrue result ↔ IsChoiceWithHome self.now lease.now self.now
+            (Some lease.now.block) }
     {
         let choice = self.homes.first_choice(|block| {
             self.tables
@@ -84,11 +88,20 @@ impl LeaseGraph {
     fn go_on(&mut self, lease: Lease) -> Lease
         requires of_graph { IsOfGraph self.old lease }
         requires first { GoesOn self.old lease self.old }
-        ensures quota { result ≡ record lease { quota = renewed_quota self.old lease; used = 0; incumbent = lesser self.old.incumbent lease.incumbent } }
+        ensures quota { result ≡ record lease {
+          quota = renewed_quota self.old lease;
+          used = 0;
+          incumbent = lesser self.old.incumbent lease.incumbent;
+        } }
         ensures of_graph { IsOfGraph self.new result }
-        ensures events { Adds self.old.table self.new.table (Renew lease.worker lease.used (renewed_quota self.old lease) ∷ []) }
-        ensures room { rooms self.new.table ≡ with_entry (rooms self.old.table) lease.worker (rooms self.old.table lease.worker - 1) }
-        ensures rest { self.new ≡ record self.old { table = self.new.table; incumbent = lesser self.old.incumbent lease.incumbent } }
+        ensures events { Adds self.old.table self.new.table
+            (Renew lease.worker lease.used (renewed_quota self.old lease) ∷ []) }
+        ensures room { rooms self.new.table ≡ with_entry (rooms self.old.table) lease.worker
+            (rooms self.old.table lease.worker - 1) }
+        ensures rest { self.new ≡ record self.old {
+          table = self.new.table;
+          incumbent = lesser self.old.incumbent lease.incumbent;
+        } }
     {
         let quota = self.tables.renew(lease.worker, lease.used);
         let incumbent = least(self.incumbent, lease.incumbent);

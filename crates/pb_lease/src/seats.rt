@@ -8,7 +8,8 @@ use crate::seat::Seat;
 
 /// Whether some worker has a lease of this very block.
 pub fn is_leased(seats: &[Seat], block: u32) -> bool
-    ensures { result ≡ any_below (length seats.now) (λ worker. is_lease_of (λ b. b == block) (seat_of seats.now worker).grant) }
+    ensures { result ≡ any_below (length seats.now)
+        (λ worker. is_lease_of (λ b. b == block) (seat_of seats.now worker).grant) }
 {
     for seat in seats {
         if let Some(grant) = seat.grant {
@@ -22,7 +23,8 @@ pub fn is_leased(seats: &[Seat], block: u32) -> bool
 
 /// Whether some worker has a lease.
 pub fn is_any_out(seats: &[Seat]) -> bool
-    ensures { result ≡ any_below (length seats.now) (λ worker. is_some (seat_of seats.now worker).grant) }
+    ensures { result ≡ any_below (length seats.now)
+        (λ worker. is_some (seat_of seats.now worker).grant) }
 {
     for seat in seats {
         if seat.grant.is_some() {

@@ -19,12 +19,20 @@ impl LeaseGraph {
     /// memory is an answer of its own.
     pub fn try_switch(&mut self, lease: Lease) -> SwitchReply
         requires { IsOfGraph self.old lease }
-        ensures kept { (kept : LeaseValue) → result ≡ Kept kept → GoesOn self.old lease self.new × IsRenewed self.old lease kept self.new }
-        ensures kept_moment { (kept : LeaseValue) → result ≡ Kept kept → ChoosesByRows self.old lease self.new × RenewsNext self.old lease kept self.new }
-        ensures switched { (next : LeaseValue) → result ≡ Switched next → (0 < rooms self.old.table lease.worker) × IsSwitched self.old lease next self.new }
-        ensures given { result ≡ Given → ((rooms self.old.table lease.worker ≡ 0) ⊎ IsChoice self.new None) × IsReleased self.old lease false self.new }
-        ensures memory { result ≡ Memory → (0 < rooms self.old.table lease.worker) × (IsChoice self.new None → ⊥) × IsReleased self.old lease false self.new }
-        ensures came_back { (result ≡ Given) ⊎ (result ≡ Memory) → (GoesOn self.old lease self.new → ⊥) × ChoosesByRows self.old lease self.new × ReleasesNext self.old lease false self.new }
+        ensures kept { (kept : LeaseValue) → result ≡ Kept kept
+            → GoesOn self.old lease self.new × IsRenewed self.old lease kept self.new }
+        ensures kept_moment { (kept : LeaseValue) → result ≡ Kept kept
+            → ChoosesByRows self.old lease self.new × RenewsNext self.old lease kept self.new }
+        ensures switched { (next : LeaseValue) → result ≡ Switched next
+            → (0 < rooms self.old.table lease.worker) × IsSwitched self.old lease next self.new }
+        ensures given { result ≡ Given
+            → ((rooms self.old.table lease.worker ≡ 0) ⊎ IsChoice self.new None)
+            × IsReleased self.old lease false self.new }
+        ensures memory { result ≡ Memory → (0 < rooms self.old.table lease.worker)
+            × (IsChoice self.new None → ⊥) × IsReleased self.old lease false self.new }
+        ensures came_back { (result ≡ Given) ⊎ (result ≡ Memory)
+            → (GoesOn self.old lease self.new → ⊥) × ChoosesByRows self.old lease self.new
+            × ReleasesNext self.old lease false self.new }
     {
         let worker = lease.worker;
         let has_room = self.tables.room(worker) > 0;
@@ -46,7 +54,8 @@ impl LeaseGraph {
         requires vacant { (counts_in self.old).leases worker ≡ None }
         requires stays { IsFalse ((counts_in self.old).signed_off worker) }
         ensures kept { (kept : LeaseValue) → result ≡ Kept kept → ⊥ }
-        ensures switched { (next : LeaseValue) → result ≡ Switched next → IsLeased self.old worker next self.new × LeasesNext self.old next self.new }
+        ensures switched { (next : LeaseValue) → result ≡ Switched next
+            → IsLeased self.old worker next self.new × LeasesNext self.old next self.new }
         ensures given { result ≡ Given → IsChoice self.old None × (self.new ≡ self.old) }
         ensures memory { result ≡ Memory → (IsChoice self.old None → ⊥) × (self.new ≡ self.old) }
     {

@@ -120,7 +120,8 @@ impl MachineTables {
     /// room of its leases.
     pub fn journal(&self) -> &[Event]
         ensures events { result.now ≡ self.now.journal }
-        ensures legal { IsHistory (blocks self.now) self.now.settings 0 self.now.journal (counts_of self.now) }
+        ensures legal { IsHistory (blocks self.now) self.now.settings 0 self.now.journal
+            (counts_of self.now) }
         ensures within { KeepsWithinRoom self.now.journal }
     {
         &self.journal
@@ -168,7 +169,8 @@ impl MachineTables {
     /// How many leased blocks are in the interference of the block.
     pub fn leased_near(&self, block: u32) -> u32
         requires { block < (blocks self.now).count }
-        ensures { result ≡ busy_count (blocks self.now) self.now.settings.workers (counts_of self.now).leases block }
+        ensures { result ≡ busy_count (blocks self.now) self.now.settings.workers
+            (counts_of self.now).leases block }
     {
         self.busy[block as usize]
     }

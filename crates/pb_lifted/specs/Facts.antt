@@ -26,7 +26,10 @@ value_of given (arguments.Parameter k) = slice_index given k
 
 abbrev pub fact_by_numbers : List (List ℕ) → List (List ℕ) → List ℕ → LiftedAtom → Fact
 fact_by_numbers predicates objects given atom =
-    record { predicate = name_at predicates atom.predicate; objects = map (λ a. name_at objects (value_of given a)) atom.arguments }
+    record {
+      predicate = name_at predicates atom.predicate;
+      objects = map (λ a. name_at objects (value_of given a)) atom.arguments;
+    }
 
 -- each argument is an object or a parameter
 abbrev pub IsKnown : List (List ℕ) → List Typed → Term → Type 0
@@ -41,6 +44,9 @@ AreKnown objects params (t ∷ terms) = IsKnown objects params t × AreKnown obj
 -- the parameters.
 abbrev pub NumbersKeepFacts : Type 0
 NumbersKeepFacts =
-    (predicates objects : List (List ℕ)) (params : List Typed) (given : List ℕ) (atom : Atom) → is_among atom.predicate.text predicates ≡ true → AreKnown objects params atom.terms
+    (predicates objects : List (List ℕ)) (params : List Typed) (given : List ℕ) (atom : Atom)
+    → is_among atom.predicate.text predicates ≡ true → AreKnown objects params atom.terms
     → length given ≡ length params
-    → fact_by_numbers predicates objects given (atom_of predicates objects (map name_text params) atom) ≡ fact_of params (map (λ i. name_at objects i) given) atom
+    → fact_by_numbers predicates objects given
+    (atom_of predicates objects (map name_text params) atom)
+    ≡ fact_of params (map (λ i. name_at objects i) given) atom

@@ -24,13 +24,19 @@ pub record IsTypedInstance (lifted : Lifted) (schema : Schema) (given : List ℕ
 -- What an action's instance needs, adds and deletes is of its predicates' types.
 abbrev pub InstancesAreTyped : Type 0
 InstancesAreTyped =
-    (domain : Domain) (problem : Problem) (i : ℕ) (schema : Schema) (given : List ℕ) → first_refusal domain problem ≡ None
-    → slice_get (lifted_of domain problem).actions i ≡ Some schema → AreFitting (lifted_of domain problem) schema.params given
+    (domain : Domain) (problem : Problem) (i : ℕ) (schema : Schema) (given : List ℕ)
+    → first_refusal domain problem ≡ None
+    → slice_get (lifted_of domain problem).actions i ≡ Some schema
+    → AreFitting (lifted_of domain problem) schema.params given
     → IsTypedInstance (lifted_of domain problem) schema given
 
 -- The facts that hold at first are of their predicates' types, and so are those of the goal.
 abbrev pub StartIsTyped : Type 0
-StartIsTyped = (domain : Domain) (problem : Problem) → first_refusal domain problem ≡ None → All (IsTyped (lifted_of domain problem)) (ground_all [] (lifted_of domain problem).init)
+StartIsTyped =
+    (domain : Domain) (problem : Problem) → first_refusal domain problem ≡ None
+    → All (IsTyped (lifted_of domain problem)) (ground_all [] (lifted_of domain problem).init)
 
 abbrev pub GoalIsTyped : Type 0
-GoalIsTyped = (domain : Domain) (problem : Problem) → first_refusal domain problem ≡ None → All (IsTyped (lifted_of domain problem)) (ground_all [] (lifted_of domain problem).goal)
+GoalIsTyped =
+    (domain : Domain) (problem : Problem) → first_refusal domain problem ≡ None
+    → All (IsTyped (lifted_of domain problem)) (ground_all [] (lifted_of domain problem).goal)

@@ -38,18 +38,27 @@ abbrev pub arguments_of : List (List ℕ) → List (List ℕ) → List Term → 
 arguments_of objects params list = map (λ t. argument_of objects params t) list
 
 abbrev pub atom_of : List (List ℕ) → List (List ℕ) → List (List ℕ) → Atom → LiftedAtom
-atom_of predicates objects params atom = record { predicate = number atom.predicate.text predicates; arguments = arguments_of objects params atom.terms }
+atom_of predicates objects params atom =
+    record {
+      predicate = number atom.predicate.text predicates;
+      arguments = arguments_of objects params atom.terms;
+    }
 
 abbrev pub atoms_of : List (List ℕ) → List (List ℕ) → List (List ℕ) → List Atom → List LiftedAtom
 atoms_of predicates objects params atoms = map (λ a. atom_of predicates objects params a) atoms
 
 -- the atoms of an effect that are negated, or those that are not
-abbrev pub atom_if : Bool → List (List ℕ) → List (List ℕ) → List (List ℕ) → Literal → List LiftedAtom
-atom_if true predicates objects params literal = cond literal.negated (atom_of predicates objects params literal.atom ∷ []) []
-atom_if false predicates objects params literal = cond literal.negated [] (atom_of predicates objects params literal.atom ∷ [])
+abbrev pub atom_if : Bool → List (List ℕ) → List (List ℕ) → List (List ℕ) → Literal
+    → List LiftedAtom
+atom_if true predicates objects params literal =
+    cond literal.negated (atom_of predicates objects params literal.atom ∷ []) []
+atom_if false predicates objects params literal =
+    cond literal.negated [] (atom_of predicates objects params literal.atom ∷ [])
 
-abbrev pub effect_of : Bool → List (List ℕ) → List (List ℕ) → List (List ℕ) → List Literal → List LiftedAtom
-effect_of negated predicates objects params effect = flat_map (λ l. atom_if negated predicates objects params l) effect
+abbrev pub effect_of : Bool → List (List ℕ) → List (List ℕ) → List (List ℕ) → List Literal
+    → List LiftedAtom
+effect_of negated predicates objects params effect =
+    flat_map (λ l. atom_if negated predicates objects params l) effect
 
 abbrev pub schema_of : Problem → List (List ℕ) → List (List ℕ) → List (List ℕ) → Action → Schema
 schema_of problem types predicates objects action =
@@ -62,8 +71,10 @@ schema_of problem types predicates objects action =
       cost = cost_of problem action;
     }
 
-abbrev pub schemas_of : Problem → List (List ℕ) → List (List ℕ) → List (List ℕ) → List Action → List Schema
-schemas_of problem types predicates objects actions = map (λ a. schema_of problem types predicates objects a) actions
+abbrev pub schemas_of : Problem → List (List ℕ) → List (List ℕ) → List (List ℕ) → List Action
+    → List Schema
+schemas_of problem types predicates objects actions =
+    map (λ a. schema_of problem types predicates objects a) actions
 
 abbrev pub predicate_kinds : List (List ℕ) → List Predicate → List (List ℕ)
 predicate_kinds types predicates = map (λ p. kind_numbers types p.params) predicates

@@ -7,7 +7,8 @@ use Rattle.pb_pddl.specs.declared.tree.Name.{Name}
 -- the number of a name: its first place in a list, counted from 0
 abbrev pub number_of : List ℕ → List (List ℕ) → Option ℕ
 number_of text [] = None
-number_of text (name ∷ names) = if bytes_eq text name then Some 0 else option_map suc (number_of text names)
+number_of text (name ∷ names) =
+    if bytes_eq text name then Some 0 else option_map suc (number_of text names)
 
 -- whether the name is in the list
 abbrev pub is_among : List ℕ → List (List ℕ) → Bool
@@ -21,7 +22,8 @@ fault_if false at = []
 -- the places of the names that are declared twice: before the list, or earlier in it
 abbrev pub repeated : List (List ℕ) → List Name → List ℕ
 repeated before [] = []
-repeated before (name ∷ names) = fault_if (is_among name.text before) name.at ++ repeated (before ++ name.text ∷ []) names
+repeated before (name ∷ names) =
+    fault_if (is_among name.text before) name.at ++ repeated (before ++ name.text ∷ []) names
 
 -- the earlier of a place, if there is one, and another
 abbrev pub earlier : Option ℕ → ℕ → ℕ

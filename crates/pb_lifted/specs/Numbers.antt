@@ -8,4 +8,6 @@ use Rattle.pb_lifted.specs.Names.{number_of}
 
 -- each name has its number there
 abbrev pub AreNumbers : BTreeMap (Vec ℕ) ℕ → List (List ℕ) → Type 0
-AreNumbers numbers names = (text : List ℕ) → get_by (λ key. slice_cmp nat_cmp text key.items) numbers ≡ number_of text names
+AreNumbers numbers names =
+    (text : List ℕ) → get_by (λ key. slice_cmp nat_cmp text key.items) numbers
+    ≡ number_of text names

@@ -33,7 +33,8 @@ fits_arity terms (Some predicate) = nat_eq (length terms) (length predicate.para
 
 abbrev pub unknown_terms : Domain → Problem → List Typed → List Term → List ℕ
 unknown_terms domain problem params terms =
-    flat_map (λ t. fault_if (is_none (entry_of_term (objects_of domain problem) params t)) (term_name t).at) terms
+    flat_map (λ t. fault_if (is_none (entry_of_term (objects_of domain problem) params t))
+    (term_name t).at) terms
 
 -- the type of an argument is that of the parameter or below it
 abbrev pub fits_kind : List Typed → Option Typed → List ℕ → Bool
@@ -42,32 +43,40 @@ fits_kind types (Some entry) high = is_below types (kind_text entry) high
 
 abbrev pub is_misfit : Domain → Problem → List Typed → Term → Typed → Bool
 is_misfit domain problem params term wanted =
-    not (fits_kind domain.types (entry_of_term (objects_of domain problem) params term) (kind_text wanted))
+    not (fits_kind domain.types (entry_of_term (objects_of domain problem) params term)
+    (kind_text wanted))
 
 abbrev pub wrong_types : Domain → Problem → List Typed → List Term → List Typed → List ℕ
 wrong_types domain problem params [] wanted = []
 wrong_types domain problem params (t ∷ terms) [] = []
 wrong_types domain problem params (t ∷ terms) (w ∷ wanted) =
-    fault_if (is_misfit domain problem params t w) (term_name t).at ++ wrong_types domain problem params terms wanted
+    fault_if (is_misfit domain problem params t w) (term_name t).at
+    ++ wrong_types domain problem params terms wanted
 
 abbrev pub params_of : Option Predicate → List Typed
 params_of None = []
 params_of (Some predicate) = predicate.params
 
 abbrev pub in_atom : Cause → Domain → Problem → List Typed → Atom → List ℕ
-in_atom causes.UnknownPredicate domain problem params atom = fault_if (is_none (predicate_of domain.predicates atom.predicate.text)) atom.predicate.at
+in_atom causes.UnknownPredicate domain problem params atom =
+    fault_if (is_none (predicate_of domain.predicates atom.predicate.text)) atom.predicate.at
 in_atom causes.Arity domain problem params atom =
-    fault_if (not (fits_arity atom.terms (predicate_of domain.predicates atom.predicate.text))) atom.predicate.at
-in_atom causes.UnknownObject domain problem params atom = unknown_terms domain problem params atom.terms
+    fault_if (not (fits_arity atom.terms (predicate_of domain.predicates atom.predicate.text)))
+    atom.predicate.at
+in_atom causes.UnknownObject domain problem params atom =
+    unknown_terms domain problem params atom.terms
 in_atom causes.WrongType domain problem params atom =
-    wrong_types domain problem params atom.terms (params_of (predicate_of domain.predicates atom.predicate.text))
+    wrong_types domain problem params atom.terms
+    (params_of (predicate_of domain.predicates atom.predicate.text))
 in_atom cause domain problem params atom = []
 
 abbrev pub in_atoms : Cause → Domain → Problem → List Typed → List Atom → List ℕ
-in_atoms cause domain problem params atoms = flat_map (λ a. in_atom cause domain problem params a) atoms
+in_atoms cause domain problem params atoms =
+    flat_map (λ a. in_atom cause domain problem params a) atoms
 
 abbrev pub in_effect : Cause → Domain → Problem → List Typed → List Literal → List ℕ
-in_effect cause domain problem params literals = flat_map (λ l. in_atom cause domain problem params l.atom) literals
+in_effect cause domain problem params literals =
+    flat_map (λ l. in_atom cause domain problem params l.atom) literals
 
 -- ---- in a declaration
 
@@ -101,7 +110,8 @@ in_action causes.CostTwice domain problem action = costs_again action.costs
 in_action causes.CostRange domain problem action = too_great 1048576 action.costs
 in_action causes.ZeroCost domain problem action = zero_cost problem.metric action
 in_action cause domain problem action =
-    in_atoms cause domain problem action.params action.pre ++ in_effect cause domain problem action.params action.effect
+    in_atoms cause domain problem action.params action.pre
+    ++ in_effect cause domain problem action.params action.effect
 
 abbrev pub in_predicates : Cause → List Typed → List Predicate → List ℕ
 in_predicates cause types predicates = flat_map (λ p. in_predicate cause types p) predicates
@@ -114,25 +124,34 @@ in_actions cause domain problem = flat_map (λ a. in_action cause domain problem
 abbrev pub in_domain : Cause → Domain → Problem → List ℕ
 in_domain causes.DomainName domain problem = []
 in_domain causes.Twice domain problem =
-    repeated [] (map typed_name (declared_types domain.types)) ++ repeated [] (map typed_name domain.constants)
-    ++ repeated [] (map predicate_name domain.predicates) ++ repeated [] (map action_name domain.actions) ++ repeated_params domain.actions
+    repeated [] (map typed_name (declared_types domain.types))
+    ++ repeated [] (map typed_name domain.constants)
+    ++ repeated [] (map predicate_name domain.predicates)
+    ++ repeated [] (map action_name domain.actions) ++ repeated_params domain.actions
 in_domain causes.UnknownType domain problem =
-    unknown_kinds domain.types domain.constants ++ in_predicates causes.UnknownType domain.types domain.predicates ++ in_actions causes.UnknownType domain problem
+    unknown_kinds domain.types domain.constants ++ in_predicates causes.UnknownType domain.types
+    domain.predicates ++ in_actions causes.UnknownType domain problem
 in_domain causes.TypeCycle domain problem = cyclic_types domain.types
-in_domain causes.TooWide domain problem = in_predicates causes.TooWide domain.types domain.predicates ++ in_actions causes.TooWide domain problem
+in_domain causes.TooWide domain problem =
+    in_predicates causes.TooWide domain.types domain.predicates
+    ++ in_actions causes.TooWide domain problem
 in_domain cause domain problem = in_actions cause domain problem
 
 abbrev pub in_problem : Cause → Domain → Problem → List ℕ
-in_problem causes.DomainName domain problem = fault_if (not (bytes_eq problem.domain.text domain.name.text)) problem.domain.at
-in_problem causes.Twice domain problem = repeated (map name_text domain.constants) (map typed_name problem.objects)
+in_problem causes.DomainName domain problem =
+    fault_if (not (bytes_eq problem.domain.text domain.name.text)) problem.domain.at
+in_problem causes.Twice domain problem =
+    repeated (map name_text domain.constants) (map typed_name problem.objects)
 in_problem causes.UnknownType domain problem = unknown_kinds domain.types problem.objects
 in_problem causes.TypeCycle domain problem = []
 in_problem causes.TooWide domain problem = []
-in_problem causes.NoFunction domain problem = undeclared domain.has_cost problem.costs ++ undeclared_metric domain.has_cost problem.metric
+in_problem causes.NoFunction domain problem =
+    undeclared domain.has_cost problem.costs ++ undeclared_metric domain.has_cost problem.metric
 in_problem causes.CostTwice domain problem = costs_again problem.costs
 in_problem causes.CostRange domain problem = too_great 0 problem.costs
 in_problem causes.ZeroCost domain problem = []
-in_problem cause domain problem = in_atoms cause domain problem [] problem.init ++ in_atoms cause domain problem [] problem.goal
+in_problem cause domain problem =
+    in_atoms cause domain problem [] problem.init ++ in_atoms cause domain problem [] problem.goal
 
 -- ---- the first of all
 
@@ -143,13 +162,17 @@ place_in None (Some at) = Some (record { file = files.Problem; at = at })
 place_in None None = None
 
 abbrev pub first_place : Cause → Domain → Problem → Option Place
-first_place cause domain problem = place_in (earliest None (in_domain cause domain problem)) (earliest None (in_problem cause domain problem))
+first_place cause domain problem =
+    place_in (earliest None (in_domain cause domain problem))
+    (earliest None (in_problem cause domain problem))
 
 -- the causes that have a place, in the order in which they are reported
 abbrev pub causes_in_order : List Cause
 causes_in_order =
-    causes.DomainName ∷ causes.Twice ∷ causes.UnknownType ∷ causes.TypeCycle ∷ causes.UnknownPredicate ∷ causes.Arity ∷ causes.UnknownObject ∷ causes.WrongType
-    ∷ causes.TooWide ∷ causes.NoFunction ∷ causes.CostTwice ∷ causes.CostRange ∷ causes.ZeroCost ∷ []
+    causes.DomainName ∷ causes.Twice ∷ causes.UnknownType ∷ causes.TypeCycle
+    ∷ causes.UnknownPredicate ∷ causes.Arity ∷ causes.UnknownObject ∷ causes.WrongType
+    ∷ causes.TooWide ∷ causes.NoFunction ∷ causes.CostTwice ∷ causes.CostRange ∷ causes.ZeroCost
+    ∷ []
 
 abbrev pub or_refusal : Cause → Option Place → Option TypingRefusal → Option TypingRefusal
 or_refusal cause None later = later
@@ -161,7 +184,8 @@ too_many n = if nat_lt 1000 n then Some (refusals.TooManyObjects n) else None
 -- the first of these causes that applies, or else too many objects
 abbrev pub first_among : List Cause → Domain → Problem → Option TypingRefusal
 first_among [] domain problem = too_many (length (objects_of domain problem))
-first_among (cause ∷ later) domain problem = or_refusal cause (first_place cause domain problem) (first_among later domain problem)
+first_among (cause ∷ later) domain problem =
+    or_refusal cause (first_place cause domain problem) (first_among later domain problem)
 
 -- why the two are no task, or None if they are one
 abbrev pub first_refusal : Domain → Problem → Option TypingRefusal

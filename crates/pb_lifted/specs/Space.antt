@@ -35,7 +35,8 @@ State = Fact → Bool
 abbrev pub given_to : List Typed → List (List ℕ) → List ℕ → List ℕ
 given_to [] objects name = []
 given_to (p ∷ params) [] name = []
-given_to (p ∷ params) (o ∷ objects) name = if bytes_eq name (name_text p) then o else given_to params objects name
+given_to (p ∷ params) (o ∷ objects) name =
+    if bytes_eq name (name_text p) then o else given_to params objects name
 
 -- what an argument means, if these objects are given to the parameters
 abbrev pub object_of : List Typed → List (List ℕ) → Term → List ℕ
@@ -43,16 +44,23 @@ object_of params objects (Object name) = name.text
 object_of params objects (Variable name) = given_to params objects name.text
 
 abbrev pub fact_of : List Typed → List (List ℕ) → Atom → Fact
-fact_of params objects atom = record { predicate = atom.predicate.text; objects = map (λ t. object_of params objects t) atom.terms }
+fact_of params objects atom =
+    record {
+      predicate = atom.predicate.text;
+      objects = map (λ t. object_of params objects t)
+          atom.terms;
+    }
 
 abbrev pub facts_of : List Typed → List (List ℕ) → List Atom → List Fact
 facts_of params objects atoms = map (λ a. fact_of params objects a) atoms
 
 abbrev pub added : List Typed → List (List ℕ) → List Literal → List Fact
-added params objects effect = flat_map (λ l. cond l.negated [] (fact_of params objects l.atom ∷ [])) effect
+added params objects effect =
+    flat_map (λ l. cond l.negated [] (fact_of params objects l.atom ∷ [])) effect
 
 abbrev pub deleted : List Typed → List (List ℕ) → List Literal → List Fact
-deleted params objects effect = flat_map (λ l. cond l.negated (fact_of params objects l.atom ∷ []) []) effect
+deleted params objects effect =
+    flat_map (λ l. cond l.negated (fact_of params objects l.atom ∷ []) []) effect
 
 abbrev pub AllHold : State → List Fact → Type 0
 AllHold state [] = Unit {0}
@@ -69,19 +77,22 @@ AreGiven domain problem [] [] = Unit {0}
 AreGiven domain problem [] (o ∷ objects) = ⊥
 AreGiven domain problem (p ∷ params) [] = ⊥
 AreGiven domain problem (p ∷ params) (o ∷ objects) =
-    FitsParameter domain.types (entry_of (objects_of domain problem) o) p × AreGiven domain problem params objects
+    FitsParameter domain.types (entry_of (objects_of domain problem) o) p
+    × AreGiven domain problem params objects
 
 -- the state less the deleted facts, with the added facts: a fact that is deleted and added holds
 abbrev pub after : State → List Fact → List Fact → State
 after state gone come f = is_fact_in f come || state f && not (is_fact_in f gone)
 
 -- action i, with these objects, leads from a state to the next
-pub record IsStep (domain : Domain) (problem : Problem) (state : State) (i : ℕ) (objects : List (List ℕ)) (next : State) : Type 0 where
+pub record IsStep (domain : Domain) (problem : Problem) (state : State) (i : ℕ)
+    (objects : List (List ℕ)) (next : State) : Type 0 where
   pub action : Action
   pub declared : slice_get domain.actions i ≡ Some action
   pub fits : AreGiven domain problem action.params objects
   pub applicable : AllHold state (facts_of action.params objects action.pre)
-  pub result : (f : Fact) → next f ≡ after state (deleted action.params objects action.effect) (added action.params objects action.effect) f
+  pub result : (f : Fact) → next f ≡ after state (deleted action.params objects action.effect)
+      (added action.params objects action.effect) f
 
 -- at first the facts of :init hold and no others
 abbrev pub start_of : Problem → State

@@ -23,6 +23,8 @@ pub record AreTables (tables : NameTables) (domain : Domain) (problem : Problem)
   pub objects : tables.objects ≡ map name_text (objects_of domain problem)
   pub predicates : tables.predicates ≡ map predicate_text domain.predicates
   pub params : tables.params.items ≡ names_of_params domain.actions
-  pub twice_in_domain : tables.twice_in_domain ≡ earliest None (in_domain causes.Twice domain problem)
-  pub twice_in_problem : tables.twice_in_problem ≡ earliest None (in_problem causes.Twice domain problem)
+  pub twice_in_domain : tables.twice_in_domain ≡ earliest None
+      (in_domain causes.Twice domain problem)
+  pub twice_in_problem : tables.twice_in_problem ≡ earliest None
+      (in_problem causes.Twice domain problem)
   pub cycle : tables.cycle ≡ earliest None (cyclic_types domain.types)

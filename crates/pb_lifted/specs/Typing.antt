@@ -52,10 +52,12 @@ ArgumentsFit domain problem params [] [] = Unit {0}
 ArgumentsFit domain problem params [] (w ∷ wanted) = ⊥
 ArgumentsFit domain problem params (t ∷ terms) [] = ⊥
 ArgumentsFit domain problem params (t ∷ terms) (w ∷ wanted) =
-    FitsParameter domain.types (entry_of_term (objects_of domain problem) params t) w × ArgumentsFit domain problem params terms wanted
+    FitsParameter domain.types (entry_of_term (objects_of domain problem) params t) w
+    × ArgumentsFit domain problem params terms wanted
 
 -- an atom of a declared predicate with such arguments
-pub record AtomFits (domain : Domain) (problem : Problem) (params : List Typed) (atom : Atom) : Type 0 where
+pub record AtomFits (domain : Domain) (problem : Problem) (params : List Typed) (atom : Atom) : Type
+    0 where
   pub predicate : Predicate
   pub declared : predicate_of domain.predicates atom.predicate.text ≡ Some predicate
   pub arguments : ArgumentsFit domain problem params atom.terms predicate.params
@@ -119,16 +121,22 @@ pub record IsWellTyped (domain : Domain) (problem : Problem) : Type 0 where
 
 -- What is not refused is well typed.
 abbrev pub AcceptedIsWellTyped : Type 0
-AcceptedIsWellTyped = (domain : Domain) (problem : Problem) → first_refusal domain problem ≡ None → IsWellTyped domain problem
+AcceptedIsWellTyped =
+    (domain : Domain) (problem : Problem) → first_refusal domain problem ≡ None
+    → IsWellTyped domain problem
 
 -- What is well typed is not refused.
 abbrev pub WellTypedIsAccepted : Type 0
-WellTypedIsAccepted = (domain : Domain) (problem : Problem) → IsWellTyped domain problem → first_refusal domain problem ≡ None
+WellTypedIsAccepted =
+    (domain : Domain) (problem : Problem) → IsWellTyped domain problem
+    → first_refusal domain problem ≡ None
 
 -- A fitting atom means the same fact by numbers and by names, whatever objects are given to the
 -- parameters.
 abbrev pub FittingAtomsKeepFacts : Type 0
 FittingAtomsKeepFacts =
-    (domain : Domain) (problem : Problem) (params : List Typed) (given : List ℕ) (atom : Atom) → AtomFits domain problem params atom → length given ≡ length params
-    → fact_by_numbers (predicate_names domain) (object_names domain problem) given (atom_of (predicate_names domain) (object_names domain problem) (map name_text params) atom)
+    (domain : Domain) (problem : Problem) (params : List Typed) (given : List ℕ) (atom : Atom)
+    → AtomFits domain problem params atom → length given ≡ length params
+    → fact_by_numbers (predicate_names domain) (object_names domain problem) given
+    (atom_of (predicate_names domain) (object_names domain problem) (map name_text params) atom)
     ≡ fact_of params (named domain problem given) atom

@@ -13,7 +13,8 @@ use pb_pddl::{Atom, Literal, Predicate, Term, Typed};
 #[tactic(auto, using(crate::proofs::Earliest::earliest_append))]
 fn first_unknown_term(scope: &Scope<'_>, terms: &[Term], first: Option<u64>) -> Option<u64>
     requires { IsScope scope.now }
-    ensures { result ≡ earliest first (unknown_terms scope.now.domain.now scope.now.problem.now scope.now.params.now terms.now) }
+    ensures { result ≡ earliest first (unknown_terms scope.now.domain.now scope.now.problem.now
+        scope.now.params.now terms.now) }
 {
     let mut found = first;
     for term in terms {
@@ -26,7 +27,8 @@ fn first_unknown_term(scope: &Scope<'_>, terms: &[Term], first: Option<u64>) -> 
 /// Whether the type of an argument is neither a parameter's nor below it.
 fn is_misfit(scope: &Scope<'_>, term: &Term, wanted: &Typed) -> bool
     requires { IsScope scope.now }
-    ensures { result ≡ is_misfit scope.now.domain.now scope.now.problem.now scope.now.params.now term.now wanted.now }
+    ensures { result ≡ is_misfit scope.now.domain.now scope.now.problem.now scope.now.params.now
+        term.now wanted.now }
 {
     match entry_of_term(scope, term) {
         Some(entry) => !is_below(
@@ -49,7 +51,8 @@ fn first_wrong_type(
     first: Option<u64>,
 ) -> Option<u64>
     requires { IsScope scope.now }
-    ensures { result ≡ earliest first (wrong_types scope.now.domain.now scope.now.problem.now scope.now.params.now terms.now wanted.now) }
+    ensures { result ≡ earliest first (wrong_types scope.now.domain.now scope.now.problem.now
+        scope.now.params.now terms.now wanted.now) }
 {
     let mut found = first;
     for (i, term) in terms.iter().enumerate() {
@@ -75,7 +78,8 @@ fn fits_arity(terms: &[Term], predicate: Option<&Predicate>) -> bool
 /// The earlier of the first place and those of this cause in an atom.
 fn first_in_atom(cause: Cause, scope: &Scope<'_>, atom: &Atom, first: Option<u64>) -> Option<u64>
     requires { IsScope scope.now }
-    ensures { result ≡ earliest first (in_atom cause scope.now.domain.now scope.now.problem.now scope.now.params.now atom.now) }
+    ensures { result ≡ earliest first (in_atom cause scope.now.domain.now scope.now.problem.now
+        scope.now.params.now atom.now) }
 {
     let terms = atom.terms.as_slice();
     let predicate = predicate_of(scope, &atom.predicate);
@@ -100,7 +104,8 @@ pub(crate) fn first_in_atoms(
     first: Option<u64>,
 ) -> Option<u64>
     requires { IsScope scope.now }
-    ensures { result ≡ earliest first (in_atoms cause scope.now.domain.now scope.now.problem.now scope.now.params.now atoms.now) }
+    ensures { result ≡ earliest first (in_atoms cause scope.now.domain.now scope.now.problem.now
+        scope.now.params.now atoms.now) }
 {
     let mut found = first;
     for atom in atoms {
@@ -118,7 +123,8 @@ pub(crate) fn first_in_effect(
     first: Option<u64>,
 ) -> Option<u64>
     requires { IsScope scope.now }
-    ensures { result ≡ earliest first (in_effect cause scope.now.domain.now scope.now.problem.now scope.now.params.now literals.now) }
+    ensures { result ≡ earliest first (in_effect cause scope.now.domain.now scope.now.problem.now
+        scope.now.params.now literals.now) }
 {
     let mut found = first;
     for literal in literals {

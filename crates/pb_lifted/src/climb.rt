@@ -36,7 +36,8 @@ fn places(alloc: Global, n: usize) -> Result<Vec<usize>, AllocError>
 /// log n. It fails if memory runs out.
 pub(crate) fn far_up(alloc: Global, parents: &[usize]) -> Result<Vec<usize>, AllocError>
     requires { slice_index parents.now 0 ≡ 0 }
-    ensures { IfOk result (λ far. IsFar parents.now (length parents.now) far.items × (length far.items ≡ length parents.now)) }
+    ensures { IfOk result (λ far. IsFar parents.now (length parents.now) far.items
+        × (length far.items ≡ length parents.now)) }
 {
     let mut far = places(alloc, parents.len())?;
     let mut step = Vec::from_slice(alloc, parents)?;

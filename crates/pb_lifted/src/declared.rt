@@ -89,7 +89,8 @@ pub(crate) fn enter_all<T: Declared>(
     first: Option<u64>,
 ) -> Result<Option<u64>, AllocError>
     ensures added { OnOk result (names.new ≡ names.old ++ map (λ i. (T.name_of i).text) items.now) }
-    ensures twice { IfOk result (λ found. found ≡ earliest first (repeated names.old (map T.name_of items.now))) }
+    ensures twice { IfOk result (λ found. found ≡ earliest first
+        (repeated names.old (map T.name_of items.now))) }
 {
     let mut found = first;
     for item in items {
@@ -108,7 +109,8 @@ pub(crate) fn names_of<T: Declared>(
     first: Option<u64>,
 ) -> Result<(Names, Option<u64>), AllocError>
     ensures names { IfOk result (λ r. r.0 ≡ map (λ i. (T.name_of i).text) items.now) }
-    ensures twice { IfOk result (λ r. r.1 ≡ earliest first (repeated [] (map T.name_of items.now))) }
+    ensures twice { IfOk result (λ r. r.1 ≡ earliest first
+        (repeated [] (map T.name_of items.now))) }
 {
     let mut names = Names::new(alloc);
     let found = enter_all(&mut names, items, first)?;
@@ -122,7 +124,8 @@ pub(crate) fn enter_types(
     types: &[Typed],
     first: Option<u64>,
 ) -> Result<Option<u64>, AllocError>
-    ensures { IfOk result (λ found. found ≡ earliest first (repeated names.old (map typed_name (declared_types types.now)))) }
+    ensures { IfOk result (λ found. found ≡ earliest first
+        (repeated names.old (map typed_name (declared_types types.now)))) }
 {
     let mut found = first;
     for typed in types {

@@ -83,7 +83,8 @@ fn atoms_of(
     params: &Names,
     atoms: &[Atom],
 ) -> Result<Listed<LiftedAtom>, AllocError>
-    ensures { IfOk result (λ list. list ≡ atoms_of predicates.now objects.now params.now atoms.now) }
+    ensures { IfOk result (λ list. list ≡ atoms_of predicates.now objects.now params.now
+        atoms.now) }
 {
     let mut list = Listed::new(alloc);
     for atom in atoms {
@@ -101,7 +102,8 @@ fn effect_of(
     params: &Names,
     effect: &[Literal],
 ) -> Result<Listed<LiftedAtom>, AllocError>
-    ensures { IfOk result (λ list. list ≡ effect_of negated predicates.now objects.now params.now effect.now) }
+    ensures { IfOk result (λ list. list ≡ effect_of negated predicates.now objects.now params.now
+        effect.now) }
 {
     let mut list = Listed::new(alloc);
     for literal in effect {
@@ -121,7 +123,8 @@ fn schema_of(
     action: &Action,
 ) -> Result<Schema, AllocError>
     requires { names.now ≡ map name_text action.now.params }
-    ensures { IfOk result (λ s. s ≡ schema_of problem.now tables.now.types.names tables.now.predicates tables.now.objects action.now) }
+    ensures { IfOk result (λ s. s ≡ schema_of problem.now tables.now.types.names
+        tables.now.predicates tables.now.objects action.now) }
 {
     let predicates = &tables.predicates;
     let objects = &tables.objects;
@@ -147,7 +150,8 @@ fn schemas_of(
     actions: &[Action],
 ) -> Result<Listed<Schema>, AllocError>
     requires { tables.now.params.items ≡ names_of_params actions.now }
-    ensures { IfOk result (λ list. list ≡ schemas_of problem.now tables.now.types.names tables.now.predicates tables.now.objects actions.now) }
+    ensures { IfOk result (λ list. list ≡ schemas_of problem.now tables.now.types.names
+        tables.now.predicates tables.now.objects actions.now) }
 {
     let mut list = Listed::new(alloc);
     for (i, action) in actions.iter().enumerate() {

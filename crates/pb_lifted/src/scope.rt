@@ -31,7 +31,8 @@ pub(crate) fn term_name(term: &Term) -> &Name
 /// The entry of an object, or of a parameter, that an argument names.
 pub(crate) fn entry_of_term<'a>(scope: &Scope<'a>, term: &Term) -> Option<&'a Typed>
     requires { IsScope scope.now }
-    ensures { option_copied result ≡ entry_of_term (objects_of scope.now.domain.now scope.now.problem.now) scope.now.params.now term.now }
+    ensures { option_copied result ≡ entry_of_term
+        (objects_of scope.now.domain.now scope.now.problem.now) scope.now.params.now term.now }
 {
     match term {
         Term::Object(name) => object(

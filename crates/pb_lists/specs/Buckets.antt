@@ -43,7 +43,8 @@ abbrev pub is_among : Entry → List (Reverse Entry) → Bool
 is_among entry items = list_any (λ item. is_same entry item.0) items
 
 abbrev pub has_entry : Bucket → Entry → Bool
-has_entry bucket entry = is_among entry (heap_items bucket.words) || is_among entry (heap_items bucket.wide)
+has_entry bucket entry =
+    is_among entry (heap_items bucket.words) || is_among entry (heap_items bucket.wide)
 
 abbrev pub count_of : Bucket → ℕ
 count_of bucket = heap_len bucket.words + heap_len bucket.wide

@@ -19,7 +19,8 @@ abbrev pub wide_entry : ℕ × SmallRow → ℕ × Row
 wide_entry entry = (entry.0, wide_row entry.1)
 
 abbrev pub listed_of : Table → ListedRows
-listed_of (Small rows) = record { entries = map wide_entry rows.entries; is_wide = false; room = spare rows }
+listed_of (Small rows) =
+    record { entries = map wide_entry rows.entries; is_wide = false; room = spare rows }
 listed_of (Wide rows) = record { entries = rows.entries; is_wide = true; room = spare rows }
 
 -- no state that is greater than a word has a row

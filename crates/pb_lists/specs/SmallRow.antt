@@ -34,4 +34,5 @@ is_small_estimate Dead = true
 
 -- whether a small row can represent this one
 abbrev pub is_small : Row → Bool
-is_small row = nat_lt row.g (2 ^ 32) && (is_small_estimate row.estimate && is_small_parent row.parent)
+is_small row =
+    nat_lt row.g (2 ^ 32) && (is_small_estimate row.estimate && is_small_parent row.parent)

@@ -89,7 +89,8 @@ impl Bucket {
     // Whether the first entry is one of a state that doesn't fit a word.
     fn is_wide_first(&self) -> bool
         ensures { result
-            ≡ is_wide_before (first_of (heap_items self.now.words)) (first_of (heap_items self.now.wide)) }
+            ≡ is_wide_before (first_of (heap_items self.now.words))
+            (first_of (heap_items self.now.wide)) }
     {
         match self.wide.peek() {
             Some(item) => match first_word(&self.words) {

@@ -59,7 +59,10 @@ impl Bundle {
         requires positive { 1 ≤ den }
         requires at_least_one { den ≤ num }
         requires small { num ≤ 1000 }
-        ensures { IfOk result (λ b. b ≡ record { entries = []; weight = record { num = num; den = den } }) }
+        ensures { IfOk result (λ b. b ≡ record {
+          entries = [];
+          weight = record { num = num; den = den };
+        }) }
     {
         Ok(Bundle {
             rows: Rows::new(alloc),
@@ -96,7 +99,8 @@ impl Bundle {
     /// The place of a state's row, at which `at` and `offer_at` find the row without a look-up.
     /// None if the state has no row. A row keeps its place.
     pub fn place_of(&self, state: &Packed) -> Option<u64>
-        ensures some { IfSome result (λ place. (row : _) × (row_of self.now state.now ≡ Some row) × (slice_get self.now.entries place ≡ Some (state.now, row))) }
+        ensures some { IfSome result (λ place. (row : _) × (row_of self.now state.now ≡ Some row)
+            × (slice_get self.now.entries place ≡ Some (state.now, row))) }
         ensures within { IfSome result (λ place. place < length self.now.entries) }
         ensures none { IfNone result (row_of self.now state.now ≡ None) }
     {
@@ -106,7 +110,8 @@ impl Bundle {
     /// The state of the first Opened row: that of the least key, and of the least state among equal
     /// keys. None if no row is Opened.
     pub fn first(&self) -> Option<Packed>
-        ensures some { IfSome result (λ state. (row : _) × IsFirstRow self.now.weight (row_of self.now) state row) }
+        ensures some { IfSome result (λ state. (row : _)
+            × IsFirstRow self.now.weight (row_of self.now) state row) }
         ensures none { IfNone result (HasOpened (row_of self.now) → ⊥) }
     {
         match self.opened.first_key_value() {
@@ -144,8 +149,10 @@ impl Bundle {
         parent: Option<Packed>,
         action: u32,
     ) -> Result<Offer, AllocError>
-        ensures put { OnOk result (self.new ≡ put self.old state (offered_row g estimate parent action (row_of self.old state))) }
-        ensures sets { OnOk result (SetsRow (row_of self.old) (row_of self.new) state (offered_row g estimate parent action (row_of self.old state))) }
+        ensures put { OnOk result (self.new ≡ put self.old state
+            (offered_row g estimate parent action (row_of self.old state))) }
+        ensures sets { OnOk result (SetsRow (row_of self.old) (row_of self.new) state
+            (offered_row g estimate parent action (row_of self.old state))) }
         ensures answer { IfOk result (λ answer. answer ≡ offer_of (row_of self.old state) g) }
         ensures err { OnErr result (self.new ≡ self.old) }
     {
@@ -168,9 +175,17 @@ impl Bundle {
         action: u32,
     ) -> Result<Offer, AllocError>
         requires { place < length self.old.entries }
-        ensures put { OnOk result ((state : _) (row : _) → slice_get self.old.entries place ≡ Some (state, row) → self.new ≡ put self.old state (offered_row g row.estimate parent action (Some row))) }
-        ensures sets { OnOk result ((state : _) (row : _) → slice_get self.old.entries place ≡ Some (state, row) → SetsRow (row_of self.old) (row_of self.new) state (offered_row g row.estimate parent action (Some row))) }
-        ensures answer { IfOk result (λ answer. (state : ℕ) (row : _) → slice_get self.old.entries place ≡ Some (state, row) → answer ≡ offer_of (Some row) g) }
+        ensures put { OnOk result ((state : _) (row : _)
+            → slice_get self.old.entries place ≡ Some (state, row)
+            → self.new ≡ put self.old state
+            (offered_row g row.estimate parent action (Some row))) }
+        ensures sets { OnOk result ((state : _) (row : _)
+            → slice_get self.old.entries place ≡ Some (state, row)
+            → SetsRow (row_of self.old) (row_of self.new) state
+            (offered_row g row.estimate parent action (Some row))) }
+        ensures answer { IfOk result (λ answer. (state : ℕ) (row : _)
+            → slice_get self.old.entries place ≡ Some (state, row)
+            → answer ≡ offer_of (Some row) g) }
         ensures err { OnErr result (self.new ≡ self.old) }
     {
         let _ = self.len();
@@ -191,8 +206,10 @@ impl Bundle {
         action: u32,
     ) -> Result<(), AllocError>
         requires { row_of self.old state ≡ None }
-        ensures put { OnOk result (self.new ≡ put self.old state (offered_row g estimate parent action None)) }
-        ensures sets { OnOk result (SetsRow (row_of self.old) (row_of self.new) state (offered_row g estimate parent action None)) }
+        ensures put { OnOk result (self.new ≡ put self.old state
+            (offered_row g estimate parent action None)) }
+        ensures sets { OnOk result (SetsRow (row_of self.old) (row_of self.new) state
+            (offered_row g estimate parent action None)) }
         ensures err { OnErr result (self.new ≡ self.old) }
     {
         self.add(state, opened_row(g, estimate, parent, action))
@@ -201,7 +218,8 @@ impl Bundle {
     /// Closes an Opened row: its state was expanded. It takes no memory.
     pub fn close_row(&mut self, state: &Packed)
         requires { IsOpened (row_of self.old state.now) }
-        ensures put { (row : _) → row_of self.old state.now ≡ Some row → self.new ≡ put self.old state.now (record row { status = Closed }) }
+        ensures put { (row : _) → row_of self.old state.now ≡ Some row
+            → self.new ≡ put self.old state.now (record row { status = Closed }) }
         ensures sets { SetsStatus (row_of self.old) (row_of self.new) state.now Closed }
         ensures weight { self.new.weight ≡ self.old.weight }
     {
@@ -211,7 +229,8 @@ impl Bundle {
     /// Cuts an Opened row: its state needs no expansion. It takes no memory.
     pub fn cut_row(&mut self, state: &Packed)
         requires { IsOpened (row_of self.old state.now) }
-        ensures put { (row : _) → row_of self.old state.now ≡ Some row → self.new ≡ put self.old state.now (record row { status = Cut }) }
+        ensures put { (row : _) → row_of self.old state.now ≡ Some row
+            → self.new ≡ put self.old state.now (record row { status = Cut }) }
         ensures sets { SetsStatus (row_of self.old) (row_of self.new) state.now Cut }
         ensures weight { self.new.weight ≡ self.old.weight }
     {
@@ -245,8 +264,10 @@ impl Bundle {
         action: u32,
     ) -> Result<Offer, AllocError>
         requires { row_of self.old state ≡ Some was.now }
-        ensures put { OnOk result (self.new ≡ put self.old state (offered_row g was.now.estimate parent action (Some was.now))) }
-        ensures sets { OnOk result (SetsRow (row_of self.old) (row_of self.new) state (offered_row g was.now.estimate parent action (Some was.now))) }
+        ensures put { OnOk result (self.new ≡ put self.old state
+            (offered_row g was.now.estimate parent action (Some was.now))) }
+        ensures sets { OnOk result (SetsRow (row_of self.old) (row_of self.new) state
+            (offered_row g was.now.estimate parent action (Some was.now))) }
         ensures answer { IfOk result (λ answer. answer ≡ offer_of (Some was.now) g) }
         ensures err { OnErr result (self.new ≡ self.old) }
     {
@@ -278,7 +299,8 @@ impl Bundle {
     fn settle(&mut self, state: &Packed, status: Status)
         requires opened { IsOpened (row_of self.old state.now) }
         requires settled { is_opened status ≡ false }
-        ensures put { (row : _) → row_of self.old state.now ≡ Some row → self.new ≡ put self.old state.now (record row { status = status }) }
+        ensures put { (row : _) → row_of self.old state.now ≡ Some row
+            → self.new ≡ put self.old state.now (record row { status = status }) }
         ensures sets { SetsStatus (row_of self.old) (row_of self.new) state.now status }
         ensures weight { self.new.weight ≡ self.old.weight }
     {
@@ -288,7 +310,13 @@ impl Bundle {
 }
 
 fn opened_row(g: u64, estimate: Estimate, parent: Option<Packed>, action: u32) -> Row
-    ensures { result ≡ record { g = g; estimate = estimate; parent = parent; action = action; status = Opened } }
+    ensures { result ≡ record {
+      g = g;
+      estimate = estimate;
+      parent = parent;
+      action = action;
+      status = Opened;
+    } }
 {
     Row {
         g,

@@ -117,7 +117,8 @@ impl Rows {
     // The g of the row that came after i others.
     pub(crate) fn g_at(&self, i: u64) -> u64
         requires { i < length self.now.entries }
-        ensures { (state : ℕ) (row : _) → slice_get self.now.entries i ≡ Some (state, row) → result ≡ row.g }
+        ensures { (state : ℕ) (row : _) → slice_get self.now.entries i ≡ Some (state, row)
+            → result ≡ row.g }
     {
         match &self.table {
             Table::Small(rows) => match rows.get_index(i as usize) {
@@ -133,7 +134,9 @@ impl Rows {
 
     // The place of a state's row, or None if it has none.
     pub(crate) fn place_of(&self, state: &Packed) -> Option<u64>
-        ensures some { IfSome result (λ place. (row : _) × (row_in self.now.entries state.now ≡ Some row) × (slice_get self.now.entries place ≡ Some (state.now, row))) }
+        ensures some { IfSome result (λ place. (row : _)
+            × (row_in self.now.entries state.now ≡ Some row)
+            × (slice_get self.now.entries place ≡ Some (state.now, row))) }
         ensures within { IfSome result (λ place. place < length self.now.entries) }
         ensures none { IfNone result (row_in self.now.entries state.now ≡ None) }
     {
@@ -148,7 +151,8 @@ impl Rows {
     pub(crate) fn make_place(&mut self, state: &Packed, row: &Row) -> Result<(), AllocError>
         ensures entries { self.new.entries ≡ self.old.entries }
         ensures place { OnOk result (HasPlaceFor self.new state.now row.now) }
-        ensures small { HasPlaceFor self.old state.now row.now → self.new.is_wide ≡ self.old.is_wide }
+        ensures small { HasPlaceFor self.old state.now row.now
+            → self.new.is_wide ≡ self.old.is_wide }
     {
         if let Table::Small(rows) = &self.table {
             if word_of(state).is_none() || SmallRow::of(row).is_none() {
@@ -176,7 +180,8 @@ impl Rows {
         requires place { HasPlaceFor self.old state row }
         requires room { row_in self.old.entries state ≡ None → 0 < self.old.room }
         ensures entries { self.new.entries ≡ insert_entry nat_eq self.old.entries state row }
-        ensures updates { (other : ℕ) → row_in self.new.entries other ≡ (if nat_eq state other then Some row else row_in self.old.entries other) }
+        ensures updates { (other : ℕ) → row_in self.new.entries other
+            ≡ (if nat_eq state other then Some row else row_in self.old.entries other) }
     {
         match &mut self.table {
             Table::Small(rows) => insert_small(rows, &state, &row),
@@ -190,8 +195,13 @@ impl Rows {
     // Writes the status of a state's row, by one look-up.
     pub(crate) fn set_status(&mut self, state: &Packed, status: Status)
         requires found { IsSome (row_in self.old.entries state.now) }
-        ensures entries { (row : _) → row_in self.old.entries state.now ≡ Some row → self.new.entries ≡ insert_entry nat_eq self.old.entries state.now (record row { status = status }) }
-        ensures updates { (row : _) → row_in self.old.entries state.now ≡ Some row → (other : _) → row_in self.new.entries other ≡ (if nat_eq state.now other then Some (record row { status = status }) else row_in self.old.entries other) }
+        ensures entries { (row : _) → row_in self.old.entries state.now ≡ Some row
+            → self.new.entries ≡ insert_entry nat_eq self.old.entries state.now
+            (record row { status = status }) }
+        ensures updates { (row : _) → row_in self.old.entries state.now ≡ Some row → (other : _)
+            → row_in self.new.entries other
+            ≡ (if nat_eq state.now other then Some (record row { status = status })
+            else row_in self.old.entries other) }
     {
         match &mut self.table {
             Table::Small(rows) => set_small_status(rows, state, status),
@@ -214,7 +224,9 @@ fn small_row_in<'a>(rows: &'a IndexMap<u64, SmallRow>, state: &Packed) -> Option
 // The place of a state among small rows, or None if it has none.
 fn place_of_small(rows: &IndexMap<u64, SmallRow>, state: &Packed) -> Option<u64>
     requires { HasWords rows.now.entries }
-    ensures some { IfSome result (λ place. (row : _) × (lookup (nat_eq state.now) rows.now.entries ≡ Some row) × (slice_get rows.now.entries place ≡ Some (state.now, row))) }
+    ensures some { IfSome result (λ place. (row : _)
+        × (lookup (nat_eq state.now) rows.now.entries ≡ Some row)
+        × (slice_get rows.now.entries place ≡ Some (state.now, row))) }
     ensures within { IfSome result (λ place. place < length rows.now.entries) }
     ensures none { IfNone result (lookup (nat_eq state.now) rows.now.entries ≡ None) }
 {
@@ -227,7 +239,9 @@ fn place_of_small(rows: &IndexMap<u64, SmallRow>, state: &Packed) -> Option<u64>
 
 // The place of a state in a wide table, or None if it has none.
 fn place_of_wide(rows: &IndexMap<Packed, Row>, state: &Packed) -> Option<u64>
-    ensures some { IfSome result (λ place. (row : _) × (row_in rows.now.entries state.now ≡ Some row) × (slice_get rows.now.entries place ≡ Some (state.now, row))) }
+    ensures some { IfSome result (λ place. (row : _)
+        × (row_in rows.now.entries state.now ≡ Some row)
+        × (slice_get rows.now.entries place ≡ Some (state.now, row))) }
     ensures within { IfSome result (λ place. place < length rows.now.entries) }
     ensures none { IfNone result (row_in rows.now.entries state.now ≡ None) }
 {
@@ -242,7 +256,8 @@ fn insert_small(rows: &mut IndexMap<u64, SmallRow>, state: &Packed, row: &Row)
     requires word { state.now < 2 ^ 64 }
     requires small { is_small row.now ≡ true }
     requires room { lookup (nat_eq state.now) rows.old.entries ≡ None → 0 < spare rows.old }
-    ensures entries { map wide_entry rows.new.entries ≡ insert_entry nat_eq (map wide_entry rows.old.entries) state.now row.now }
+    ensures entries { map wide_entry rows.new.entries
+        ≡ insert_entry nat_eq (map wide_entry rows.old.entries) state.now row.now }
     ensures words { HasWords rows.old.entries → HasWords rows.new.entries }
 {
     let Some(word) = word_of(state) else {
@@ -261,7 +276,9 @@ fn insert_small(rows: &mut IndexMap<u64, SmallRow>, state: &Packed, row: &Row)
 fn set_small_status(rows: &mut IndexMap<u64, SmallRow>, state: &Packed, status: Status)
     requires words { HasWords rows.old.entries }
     requires found { IsSome (lookup (nat_eq state.now) rows.old.entries) }
-    ensures entries { (row : _) → lookup (nat_eq state.now) rows.old.entries ≡ Some row → rows.new.entries ≡ insert_entry nat_eq rows.old.entries state.now (record row { status = status }) }
+    ensures entries { (row : _) → lookup (nat_eq state.now) rows.old.entries ≡ Some row
+        → rows.new.entries ≡ insert_entry nat_eq rows.old.entries state.now
+        (record row { status = status }) }
     ensures words { HasWords rows.new.entries }
 {
     let Some(word) = word_of(state) else {
@@ -276,7 +293,9 @@ fn set_small_status(rows: &mut IndexMap<u64, SmallRow>, state: &Packed, status: 
 // Writes the status of a state's row in a wide table.
 fn set_wide_status(rows: &mut IndexMap<Packed, Row>, state: &Packed, status: Status)
     requires found { IsSome (row_in rows.old.entries state.now) }
-    ensures entries { (row : _) → row_in rows.old.entries state.now ≡ Some row → rows.new.entries ≡ insert_entry nat_eq rows.old.entries state.now (record row { status = status }) }
+    ensures entries { (row : _) → row_in rows.old.entries state.now ≡ Some row
+        → rows.new.entries ≡ insert_entry nat_eq rows.old.entries state.now
+        (record row { status = status }) }
 {
     match rows.get_mut(state) {
         Some(row) => row.status = status,

@@ -19,11 +19,13 @@ pub record AreBlocks (space : Space) (guide : Guide) (blocks : Blocks) : Type 0 
   pub home : (state : ℕ) → IsTrue (space.is_state state) → guide.home state < blocks.count
   pub own : (block : ℕ) → block < blocks.count → IsTrue (blocks.scope block block)
   pub known : (block other : ℕ) → IsTrue (blocks.scope block other) → other < blocks.count
-  pub steps : (from action to cost : ℕ) → Steps space from action to cost → IsTrue (blocks.scope (guide.home from) (guide.home to))
+  pub steps : (from action to cost : ℕ) → Steps space from action to cost
+      → IsTrue (blocks.scope (guide.home from) (guide.home to))
 
 -- whether the scopes of the two blocks have a block in common
 abbrev pub meets : Blocks → (block other : ℕ) → Bool
-meets blocks block other = any_below blocks.count (λ shared. blocks.scope block shared && blocks.scope other shared)
+meets blocks block other =
+    any_below blocks.count (λ shared. blocks.scope block shared && blocks.scope other shared)
 
 -- whether the other block is in the interference of the block: they are two, and their scopes have
 -- a block in common

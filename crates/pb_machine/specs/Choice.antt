@@ -11,7 +11,8 @@ use Rattle.pb_machine.specs.Counts.{Counts, quota_of, is_taken, is_near_hot}
 
 -- block and other in order: the lesser key first, for equal keys the lesser number, and a block
 -- without a key last
-abbrev pub ComesBefore : (key : Option Key) → (block : ℕ) → (other_key : Option Key) → (other : ℕ) → Type 0
+abbrev pub ComesBefore : (key : Option Key) → (block : ℕ) → (other_key : Option Key) → (other : ℕ)
+    → Type 0
 ComesBefore (Some key) block (Some other_key) other = IsBefore key block other_key other
 ComesBefore (Some key) block None other = ⊤
 ComesBefore None block (Some other_key) other = ⊥
@@ -34,10 +35,12 @@ pub record IsBetterNear (blocks : Blocks) (store : Store) (block other : ℕ) : 
 abbrev pub IsRival : Blocks → Store → (block : ℕ) → (rival : Option ℕ) → Type 0
 IsRival blocks store block None = (other : ℕ) → IsBetterNear blocks store block other → ⊥
 IsRival blocks store block (Some rival) = IsBetterNear blocks store block rival
-    × ((other : ℕ) → IsBetterNear blocks store block other → (other ≡ rival) ⊎ IsBetter store rival other)
+    × ((other : ℕ) → IsBetterNear blocks store block other
+    → (other ≡ rival) ⊎ IsBetter store rival other)
 
 -- the block may be leased
-pub record MayBeLeased (blocks : Blocks) (settings : Settings) (counts : Counts) (store : Store) (block : ℕ) : Type 0 where
+pub record MayBeLeased (blocks : Blocks) (settings : Settings) (counts : Counts) (store : Store)
+    (block : ℕ) : Type 0 where
   pub known : block < blocks.count
   pub opened : HasOpened (store.rows block)
   pub free : IsFalse (is_taken blocks settings.workers counts.leases block)
@@ -46,12 +49,18 @@ pub record MayBeLeased (blocks : Blocks) (settings : Settings) (counts : Counts)
   pub no_end : counts.end ≡ None
 
 -- the best of the blocks that may be leased
-pub record IsFirstChoice (blocks : Blocks) (settings : Settings) (counts : Counts) (store : Store) (block : ℕ) : Type 0 where
+pub record IsFirstChoice (blocks : Blocks) (settings : Settings) (counts : Counts) (store : Store)
+    (block : ℕ) : Type 0 where
   pub may : MayBeLeased blocks settings counts store block
-  pub best : (other : ℕ) → MayBeLeased blocks settings counts store other → (other ≡ block) ⊎ IsBetter store block other
+  pub best : (other : ℕ) → MayBeLeased blocks settings counts store other
+      → (other ≡ block) ⊎ IsBetter store block other
 
 -- the counts with the worker's lease home: its used expansions are settled, and the hot blocks stay
 -- as before
 abbrev pub counts_with_lease_home : Counts → (worker used : ℕ) → Counts
 counts_with_lease_home counts worker used =
-    record counts { leases = with_entry counts.leases worker None; spent = counts.spent + used; left = counts.left + (quota_of (counts.leases worker) - used) }
+    record counts {
+      leases = with_entry counts.leases worker None;
+      spent = counts.spent + used;
+      left = counts.left + (quota_of (counts.leases worker) - used);
+    }

@@ -51,15 +51,18 @@ is_any_out workers leases = any_below workers (λ worker. is_some (leases worker
 
 -- whether a leased block is in the interference of the block
 abbrev pub is_busy : Blocks → (workers : ℕ) → (ℕ → Option Grant) → (block : ℕ) → Bool
-is_busy blocks workers leases block = any_below workers (λ worker. is_lease_of (interferes blocks block) (leases worker))
+is_busy blocks workers leases block =
+    any_below workers (λ worker. is_lease_of (interferes blocks block) (leases worker))
 
 -- whether a leased scope has a block in common with the block's
 abbrev pub is_taken : Blocks → (workers : ℕ) → (ℕ → Option Grant) → (block : ℕ) → Bool
-is_taken blocks workers leases block = any_below workers (λ worker. is_lease_of (meets blocks block) (leases worker))
+is_taken blocks workers leases block =
+    any_below workers (λ worker. is_lease_of (meets blocks block) (leases worker))
 
 -- whether a hot block is in the interference of the block
 abbrev pub is_near_hot : Blocks → (hot : ℕ → Bool) → (block : ℕ) → Bool
-is_near_hot blocks hot block = any_below blocks.count (λ other. interferes blocks block other && hot other)
+is_near_hot blocks hot block =
+    any_below blocks.count (λ other. interferes blocks block other && hot other)
 
 abbrev pub with_quota : ℕ → Option Grant → Option Grant
 with_quota quota None = None
@@ -70,44 +73,66 @@ with_quota quota (Some grant) = Some (record grant { quota = quota })
 -- longer busy.
 abbrev pub counts_after : Blocks → Settings → Counts → Event → Counts
 counts_after blocks settings counts (Lease worker block quota) =
-    record counts { leases = with_entry counts.leases worker (Some (record { block = block; quota = quota })); left = counts.left - quota }
+    record counts {
+      leases = with_entry counts.leases worker
+          (Some (record { block = block; quota = quota }));
+      left = counts.left - quota;
+    }
 counts_after blocks settings counts (Renew worker used quota) =
     record counts {
       leases = with_entry counts.leases worker (with_quota quota (counts.leases worker));
       spent = counts.spent + used;
       left = (counts.left + (quota_of (counts.leases worker) - used)) - quota;
     }
-counts_after blocks settings counts (Hot worker block) = record counts { hot = λ other. (other == block) || (counts.hot other && not (interferes blocks block other)) }
-counts_after blocks settings counts (Cold worker block) = record counts { hot = λ other. counts.hot other && not (other == block) }
+counts_after blocks settings counts (Hot worker block) =
+    record counts {
+      hot = λ other. (other == block)
+          || (counts.hot other && not (interferes blocks block other));
+    }
+counts_after blocks settings counts (Cold worker block) =
+    record counts { hot = λ other. counts.hot other && not (other == block) }
 counts_after blocks settings counts (Release worker used memory) =
     record counts {
       leases = with_entry counts.leases worker None;
-      hot = λ block. counts.hot block && is_busy blocks settings.workers (with_entry counts.leases worker None) block;
+      hot =
+          λ block. counts.hot block && is_busy blocks settings.workers
+          (with_entry counts.leases worker None) block;
       spent = counts.spent + used;
       left = counts.left + (quota_of (counts.leases worker) - used);
       trouble = memory && is_none counts.end;
     }
-counts_after blocks settings counts (Off worker memory) = record counts { signed_off = with_entry counts.signed_off worker true; trouble = memory && is_none counts.end }
+counts_after blocks settings counts (Off worker memory) =
+    record counts {
+      signed_off = with_entry counts.signed_off worker true;
+      trouble = memory && is_none counts.end;
+    }
 counts_after blocks settings counts (Ended end) = record counts { end = Some end; trouble = false }
 
 -- what is true of the counts after every legal history
 pub record AreLawful (blocks : Blocks) (settings : Settings) (counts : Counts) : Type 0 where
-  pub known : (worker : ℕ) (grant : Grant) → counts.leases worker ≡ Some grant → (worker < settings.workers)
+  pub known : (worker : ℕ) (grant : Grant) → counts.leases worker ≡ Some grant
+      → (worker < settings.workers)
       × (grant.block < blocks.count)
-  pub quota : (worker : ℕ) (grant : Grant) → counts.leases worker ≡ Some grant → (0 < grant.quota) × (grant.quota ≤ settings.lot)
+  pub quota : (worker : ℕ) (grant : Grant) → counts.leases worker ≡ Some grant
+      → (0 < grant.quota) × (grant.quota ≤ settings.lot)
   -- the scopes of two leases have no block in common
-  pub apart : (worker other : ℕ) (grant second : Grant) → counts.leases worker ≡ Some grant → counts.leases other ≡ Some second
+  pub apart : (worker other : ℕ) (grant second : Grant) → counts.leases worker ≡ Some grant
+      → counts.leases other ≡ Some second
       → IsFalse (worker == other) → IsFalse (meets blocks grant.block second.block)
-  pub hot_is_known : (block : ℕ) → IsTrue (counts.hot block) → (block < blocks.count) × IsFalse settings.plain
-  pub hot_is_busy : (block : ℕ) → IsTrue (counts.hot block) → IsTrue (is_busy blocks settings.workers counts.leases block)
+  pub hot_is_known : (block : ℕ) → IsTrue (counts.hot block)
+      → (block < blocks.count) × IsFalse settings.plain
+  pub hot_is_busy : (block : ℕ) → IsTrue (counts.hot block)
+      → IsTrue (is_busy blocks settings.workers counts.leases block)
   pub hot_are_apart : (block other : ℕ) → IsTrue (counts.hot block) → IsTrue (counts.hot other)
       → IsFalse (interferes blocks block other)
   pub sum : counts.spent + quotas_out settings.workers counts.leases + counts.left ≡ settings.budget
   -- a signed-off worker has no lease; the search has ended, or an out-of-memory report is to end it
   pub off : (worker : ℕ) → IsTrue (counts.signed_off worker)
-      → (worker < settings.workers) × (counts.leases worker ≡ None) × IsTrue (is_some counts.end || counts.trouble)
+      → (worker < settings.workers) × (counts.leases worker ≡ None)
+      × IsTrue (is_some counts.end || counts.trouble)
   -- An out-of-memory report waits only for its end; before, only its worker may have signed off.
   pub trouble : IsTrue counts.trouble → counts.end ≡ None
   pub waiting : IsTrue counts.trouble → count_below settings.workers counts.signed_off ≤ 1
   pub quiet : counts.end ≡ Some Quiet → IsFalse (is_any_out settings.workers counts.leases)
-  pub budget : counts.end ≡ Some Budget → IsFalse (is_any_out settings.workers counts.leases) × (counts.left ≡ 0)
+  pub budget : counts.end ≡ Some Budget → IsFalse (is_any_out settings.workers counts.leases)
+      × (counts.left ≡ 0)

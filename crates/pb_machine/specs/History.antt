@@ -14,17 +14,20 @@ use Rattle.pb_machine.specs.Legality.{refusal}
 abbrev pub replay : Blocks → Settings → Counts → List Event → Option Counts
 replay blocks settings counts [] = Some counts
 replay blocks settings counts (event ∷ events) =
-    if is_none (refusal blocks settings counts event) then replay blocks settings (counts_after blocks settings counts event) events else None
+    if is_none (refusal blocks settings counts event)
+    then replay blocks settings (counts_after blocks settings counts event) events else None
 
 -- A legal history of a run whose settings are in range, which leads to these counts. Runs before it
 -- on the same rows spent this much of the budget: 0 for a first run.
-pub record IsHistory (blocks : Blocks) (settings : Settings) (before : ℕ) (journal : List Event) (counts : Counts) : Type 0 where
+pub record IsHistory (blocks : Blocks) (settings : Settings) (before : ℕ) (journal : List Event)
+    (counts : Counts) : Type 0 where
   pub range : AreInRange settings
   pub enough : before ≤ settings.budget
   pub replays : replay blocks settings (opening_counts settings before) journal ≡ Some counts
 
 -- the first event of the journal that may not come, with the number of events before it, and why
-pub record IsFirstRefused (blocks : Blocks) (settings : Settings) (counts : Counts) (journal : List Event) (place : ℕ) (why : EventRefusal) : Type 0 where
+pub record IsFirstRefused (blocks : Blocks) (settings : Settings) (counts : Counts)
+    (journal : List Event) (place : ℕ) (why : EventRefusal) : Type 0 where
   pub start : List Event
   pub event : Event
   pub rest : List Event
@@ -35,13 +38,15 @@ pub record IsFirstRefused (blocks : Blocks) (settings : Settings) (counts : Coun
   pub refused : refusal blocks settings between event ≡ Some why
 
 -- what refuses the event on this line, or else a later one
-abbrev pub or_refused : (line : ℕ) → Option EventRefusal → Option (ℕ × EventRefusal) → Option (ℕ × EventRefusal)
+abbrev pub or_refused : (line : ℕ) → Option EventRefusal → Option (ℕ × EventRefusal)
+    → Option (ℕ × EventRefusal)
 or_refused line None later = later
 or_refused line (Some why) later = Some (line, why)
 
 -- the line of the first event that may not come after those before it, and why, if the journal's
 -- first event is on this line; or none
-abbrev pub first_refused : Blocks → Settings → Counts → (line : ℕ) → List Event → Option (ℕ × EventRefusal)
+abbrev pub first_refused : Blocks → Settings → Counts → (line : ℕ) → List Event
+    → Option (ℕ × EventRefusal)
 first_refused blocks settings counts line [] = None
 first_refused blocks settings counts line (event ∷ events) =
     or_refused line (refusal blocks settings counts event)

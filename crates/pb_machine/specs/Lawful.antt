@@ -26,7 +26,8 @@ reports workers counts broken = count_below workers broken + count_below workers
 -- made by one worker, by its release or by its sign-off. An end by running out of memory was
 -- reported by at least one worker.
 pub record AreReported (workers : ℕ) (counts : Counts) (broken : ℕ → Bool) : Type 0 where
-  pub released : (worker : ℕ) → IsTrue (broken worker) → (worker < workers) × (counts.leases worker ≡ None)
+  pub released : (worker : ℕ) → IsTrue (broken worker) → (worker < workers)
+      × (counts.leases worker ≡ None)
       × (IsTrue counts.trouble ⊎ (counts.end ≡ Some Memory))
   pub waiting : IsTrue counts.trouble → reports workers counts broken ≡ 1
   pub ended : counts.end ≡ Some Memory → 0 < reports workers counts broken
@@ -45,16 +46,19 @@ pub record IsReached (setup : Setup) (machine : Machine) : Type 0 where
   pub first_weight : Weight
   pub is_weight : IsWeight first_weight
   pub works : List Work
-  pub comes : Comes setup.space setup.guide works (opening_store setup.space setup.guide first_weight) machine.store
+  pub comes : Comes setup.space setup.guide works
+      (opening_store setup.space setup.guide first_weight) machine.store
   pub spent : expansions works ≡ machine.counts.spent
   pub broken : broken_expansions works ≤ broken_leases setup machine
   pub reopened : reopenings works ≡ setup.reopenings
-  pub between : ReopensQuiet setup.space setup.guide works (opening_store setup.space setup.guide first_weight)
+  pub between : ReopensQuiet setup.space setup.guide works
+      (opening_store setup.space setup.guide first_weight)
   pub read : setup.reopenings ≡ 0 → AllByRecursion (IsRead machine.known) works
 
 -- some worker that has a lease told this cost or a lower one
 abbrev pub IsTold : Machine → (cost : ℕ) → Type 0
-IsTold machine cost = (worker : ℕ) × (grant : Grant) × (told : ℕ) × (machine.counts.leases worker ≡ Some grant)
+IsTold machine cost =
+    (worker : ℕ) × (grant : Grant) × (told : ℕ) × (machine.counts.leases worker ≡ Some grant)
     × (machine.told worker ≡ Some told) × (told ≤ cost)
 
 pub record IsLawful (setup : Setup) (machine : Machine) : Type 0 where
@@ -63,17 +67,20 @@ pub record IsLawful (setup : Setup) (machine : Machine) : Type 0 where
   pub weight : machine.store.weight ≡ weight_of setup.settings
   -- the incumbent is known to each worker, and no known one is lower, nor any that a worker read
   pub is_known : (worker : ℕ) → IsTrue (machine.known worker machine.store.incumbent)
-  pub least : (worker : ℕ) (incumbent : Option ℕ) → IsTrue (machine.known worker incumbent) → AtMost machine.store.incumbent incumbent
+  pub least : (worker : ℕ) (incumbent : Option ℕ) → IsTrue (machine.known worker incumbent)
+      → AtMost machine.store.incumbent incumbent
   -- the incumbent that a worker's lease was given is known to it
   pub given : (worker : ℕ) → IsTrue (machine.known worker (machine.given worker))
   -- a goal's row backs the incumbent, or a worker that told it and has still to bring the row
   pub backed : (cost : ℕ) → machine.store.incumbent ≡ Some cost
       → HasGoalWithin setup.space setup.guide machine.store cost ⊎ IsTold machine cost
   -- a worker that told a cost has a lease and knows the cost, so the incumbent is no greater
-  pub teller : (worker cost : ℕ) → machine.told worker ≡ Some cost → ((grant : Grant) × (machine.counts.leases worker ≡ Some grant))
+  pub teller : (worker cost : ℕ) → machine.told worker ≡ Some cost
+      → ((grant : Grant) × (machine.counts.leases worker ≡ Some grant))
       × IsTrue (machine.known worker (Some cost))
   -- some plan costs at most as much as each told cost
-  pub told : (worker cost : ℕ) → machine.told worker ≡ Some cost → (plan : Plan) × IsPlan setup.space plan × (plan.cost ≤ cost)
+  pub told : (worker cost : ℕ) → machine.told worker ≡ Some cost
+      → (plan : Plan) × IsPlan setup.space plan × (plan.cost ≤ cost)
   pub quiet : machine.counts.end ≡ Some Quiet → IsQuiet machine.store
   pub budget : machine.counts.end ≡ Some Budget → (block : ℕ) × HasOpened (machine.store.rows block)
   pub reported : AreReported setup.settings.workers machine.counts machine.broken
@@ -85,7 +92,8 @@ pub record IsOnlyReporter (setup : Setup) (machine : Machine) (worker : ℕ) : T
   pub reported : IsTrue (machine.broken worker || machine.counts.signed_off worker)
   pub once : IsFalse (machine.broken worker && machine.counts.signed_off worker)
   pub unleased : machine.counts.leases worker ≡ None
-  pub no_other : (other : ℕ) → IsFalse (other == worker) → IsFalse (machine.broken other || machine.counts.signed_off other)
+  pub no_other : (other : ℕ) → IsFalse (other == worker)
+      → IsFalse (machine.broken other || machine.counts.signed_off other)
 
 -- The machine with another weight. Rows that may not be cut under the weight are Opened again,
 -- nobody has signed off, and the search has not ended. The spent and the left expansions stay.
@@ -101,4 +109,8 @@ reopened_machine setup weight machine =
     }
 
 abbrev pub reopened_setup : Setup → Weight → Setup
-reopened_setup setup weight = record setup { settings = settings_with_weight setup.settings weight; reopenings = setup.reopenings + 1 }
+reopened_setup setup weight =
+    record setup {
+      settings = settings_with_weight setup.settings weight;
+      reopenings = setup.reopenings + 1;
+    }

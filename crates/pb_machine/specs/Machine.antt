@@ -47,7 +47,8 @@ abbrev pub with_known : (known : Option ℕ → Bool) → (incumbent other : Opt
 with_known known incumbent other = is_same other incumbent || known other
 
 -- what each worker can have read, if this is the incumbent
-abbrev pub with_incumbent : (known : (worker : ℕ) → Option ℕ → Bool) → (incumbent : Option ℕ) → (worker : ℕ) → Option ℕ → Bool
+abbrev pub with_incumbent : (known : (worker : ℕ) → Option ℕ → Bool) → (incumbent : Option ℕ)
+    → (worker : ℕ) → Option ℕ → Bool
 with_incumbent known incumbent worker = with_known (known worker) incumbent
 
 pub record Machine : Type 0 where
@@ -96,7 +97,8 @@ lent_store setup block store incumbent = restriction (setup.blocks.scope block) 
 -- The lease's store comes from the one that it was given by work on its block. The work is exactly
 -- `used` expansions, and any number of cuts, of goals and of known incumbents that were read. It
 -- has at most `most_broken` broken expansions, after which nothing comes.
-pub record IsWorked (space : Space) (guide : Guide) (block used most_broken : ℕ) (known : Option ℕ → Bool) (given worked : Store) : Type 0 where
+pub record IsWorked (space : Space) (guide : Guide) (block used most_broken : ℕ)
+    (known : Option ℕ → Bool) (given worked : Store) : Type 0 where
   pub works : List Work
   pub on : AllByRecursion (IsOn guide block known) works
   pub comes : Comes space guide works given worked
@@ -106,51 +108,66 @@ pub record IsWorked (space : Space) (guide : Guide) (block used most_broken : �
 
 -- The worker's lease can have made this store of the rows that it was given or last renewed with.
 -- Each number that it read as the incumbent was the incumbent, or the worker told it.
-abbrev pub HasWorked : Setup → Machine → (worker : ℕ) → Grant → (used most_broken : ℕ) → (worked : Store) → Type 0
+abbrev pub HasWorked : Setup → Machine → (worker : ℕ) → Grant → (used most_broken : ℕ)
+    → (worked : Store) → Type 0
 HasWorked setup machine worker grant used most_broken worked =
-    IsWorked setup.space setup.guide grant.block used most_broken (machine.known worker) (lent_store setup grant.block machine.store (machine.given worker)) worked
+    IsWorked setup.space setup.guide grant.block used most_broken (machine.known worker)
+    (lent_store setup grant.block machine.store (machine.given worker)) worked
 
 -- The worker's lease came back, and the whole store took its rows and the lesser incumbent. The
 -- cost that the worker told is shown by a goal's row among the rows that came back.
-pub record CameBack (setup : Setup) (machine : Machine) (worker used most_broken : ℕ) (new : Store) : Type 0 where
+pub record CameBack (setup : Setup) (machine : Machine) (worker used most_broken : ℕ)
+    (new : Store) : Type 0 where
   pub grant : Grant
   pub worked : Store
   pub leased : machine.counts.leases worker ≡ Some grant
   pub work : HasWorked setup machine worker grant used most_broken worked
   pub back : new ≡ merged_store (setup.blocks.scope grant.block) worked machine.store
-  pub shown : (cost : ℕ) → machine.told worker ≡ Some cost → HasGoalWithin setup.space setup.guide worked cost
+  pub shown : (cost : ℕ) → machine.told worker ≡ Some cost
+      → HasGoalWithin setup.space setup.guide worked cost
 
 -- ---- events
 
 -- only the counts change
 abbrev pub KeepsRows : (old new : Machine) → Type 0
-KeepsRows old new = (new.store ≡ old.store) × (new.given ≡ old.given) × (new.told ≡ old.told) × (new.known ≡ old.known) × (new.broken ≡ old.broken)
+KeepsRows old new =
+    (new.store ≡ old.store) × (new.given ≡ old.given) × (new.told ≡ old.told)
+    × (new.known ≡ old.known) × (new.broken ≡ old.broken)
 
 -- the worker's lease is given the incumbent, or one that was known before it fell
 abbrev pub GivesIncumbent : (old new : Machine) → (worker : ℕ) → Type 0
-GivesIncumbent old new worker = (incumbent : Option ℕ) × IsTrue (new.known worker incumbent) × (new.given ≡ with_entry old.given worker incumbent)
+GivesIncumbent old new worker =
+    (incumbent : Option ℕ) × IsTrue (new.known worker incumbent)
+    × (new.given ≡ with_entry old.given worker incumbent)
 
 -- what an event does to the rows, and which rows it needs
 abbrev pub RowPart : Setup → (old : Machine) → Event → (new : Machine) → Type 0
 RowPart setup old (Lease worker block quota) new =
     HasOpened (old.store.rows block) × (new.store ≡ old.store) × GivesIncumbent old new worker
-    × (new.told ≡ with_entry old.told worker None) × (new.known ≡ old.known) × (new.broken ≡ old.broken)
+    × (new.told ≡ with_entry old.told worker None) × (new.known ≡ old.known)
+    × (new.broken ≡ old.broken)
 RowPart setup old (Renew worker used quota) new =
-    CameBack setup old worker used 0 new.store × GivesIncumbent old new worker × (new.told ≡ with_entry old.told worker None)
+    CameBack setup old worker used 0 new.store × GivesIncumbent old new worker
+    × (new.told ≡ with_entry old.told worker None)
     × (new.known ≡ with_incumbent old.known new.store.incumbent) × (new.broken ≡ old.broken)
 RowPart setup old (Hot worker block) new =
-    ((other : ℕ) → IsTrue (interferes setup.blocks block other) → IsTrue (old.counts.hot other) → IsBetter old.store other block → ⊥)
+    ((other : ℕ) → IsTrue (interferes setup.blocks block other) → IsTrue (old.counts.hot other)
+    → IsBetter old.store other block → ⊥)
     × KeepsRows old new
 RowPart setup old (Cold worker block) new = KeepsRows old new
 RowPart setup old (Release worker used false) new =
-    CameBack setup old worker used 0 new.store × (new.given ≡ old.given) × (new.told ≡ with_entry old.told worker None)
+    CameBack setup old worker used 0 new.store × (new.given ≡ old.given)
+    × (new.told ≡ with_entry old.told worker None)
     × (new.known ≡ with_incumbent old.known new.store.incumbent) × (new.broken ≡ old.broken)
 RowPart setup old (Release worker used true) new =
-    CameBack setup old worker used 1 new.store × (new.given ≡ old.given) × (new.told ≡ with_entry old.told worker None)
-    × (new.known ≡ with_incumbent old.known new.store.incumbent) × (new.broken ≡ with_entry old.broken worker true)
+    CameBack setup old worker used 1 new.store × (new.given ≡ old.given)
+    × (new.told ≡ with_entry old.told worker None)
+    × (new.known ≡ with_incumbent old.known new.store.incumbent)
+    × (new.broken ≡ with_entry old.broken worker true)
 RowPart setup old (Off worker memory) new = KeepsRows old new
 RowPart setup old (Ended Quiet) new = IsQuiet old.store × KeepsRows old new
-RowPart setup old (Ended Budget) new = ((block : ℕ) × HasOpened (old.store.rows block)) × KeepsRows old new
+RowPart setup old (Ended Budget) new =
+    ((block : ℕ) × HasOpened (old.store.rows block)) × KeepsRows old new
 RowPart setup old (Ended Memory) new = KeepsRows old new
 
 -- an event that may come, with its counts and its rows
@@ -170,10 +187,15 @@ pub record Tells (setup : Setup) (old : Machine) (worker cost : ℕ) (new : Mach
   pub work : HasWorked setup old worker grant used 1 worked
   pub shown : HasGoalWithin setup.space setup.guide worked cost
   pub counts : new.counts ≡ old.counts
-  pub store : new.store ≡ record { rows = old.store.rows; incumbent = lesser old.store.incumbent (Some cost); weight = old.store.weight }
+  pub store : new.store ≡ record {
+    rows = old.store.rows;
+    incumbent = lesser old.store.incumbent (Some cost);
+    weight = old.store.weight;
+  }
   pub given : new.given ≡ old.given
   pub told : new.told ≡ with_entry old.told worker (lesser (old.told worker) (Some cost))
-  pub known : new.known ≡ with_incumbent (with_entry old.known worker (with_known (old.known worker) (Some cost))) new.store.incumbent
+  pub known : new.known ≡ with_incumbent (with_entry old.known worker
+      (with_known (old.known worker) (Some cost))) new.store.incumbent
   pub broken : new.broken ≡ old.broken
 
 pub data Move : Type 0 where
@@ -187,7 +209,8 @@ Moves setup old (tell_move worker cost) new = Tells setup old worker cost new
 -- these moves, one after another
 abbrev pub Runs : Setup → (old : Machine) → List Move → (new : Machine) → Type 0
 Runs setup old [] new = new ≡ old
-Runs setup old (move ∷ moves) new = (between : Machine) × Moves setup old move between × Runs setup between moves new
+Runs setup old (move ∷ moves) new =
+    (between : Machine) × Moves setup old move between × Runs setup between moves new
 
 -- the events among the moves
 abbrev pub journal_of : List Move → List Event

@@ -41,7 +41,8 @@ HasRoom room event = ⊤
 -- each event has room after those before it
 abbrev pub AreWithinRoom : (room : ℕ → ℕ) → List Event → Type 0
 AreWithinRoom room [] = ⊤
-AreWithinRoom room (event ∷ events) = HasRoom room event × AreWithinRoom (room_with room event) events
+AreWithinRoom room (event ∷ events) =
+    HasRoom room event × AreWithinRoom (room_with room event) events
 
 -- each event of the journal is within the room of its worker's lease
 abbrev pub KeepsWithinRoom : (journal : List Event) → Type 0

@@ -37,27 +37,35 @@ IsOnFirst guide store (reopen weight) = ⊥
 
 abbrev pub AreOnFirst : Space → Guide → List Work → (old : Store) → Type 0
 AreOnFirst space guide [] old = ⊤
-AreOnFirst space guide (work ∷ works) old = IsOnFirst guide old work × AreOnFirst space guide works (store_after space guide work old)
+AreOnFirst space guide (work ∷ works) old =
+    IsOnFirst guide old work × AreOnFirst space guide works (store_after space guide work old)
 
 -- ---- a run in order
 
 -- the worker's lease came back, and its work was done in turns
-abbrev pub CameBackInTurns : Setup → (old : Machine) → (worker used most_broken : ℕ) → (new : Store) → Type 0
+abbrev pub CameBackInTurns : Setup → (old : Machine) → (worker used most_broken : ℕ) → (new : Store)
+    → Type 0
 CameBackInTurns setup old worker used most_broken new =
     (back : CameBack setup old worker used most_broken new)
-    × AreLeaseTurns setup.space setup.guide back.work.works (lent_store setup back.grant.block old.store (old.given worker))
+    × AreLeaseTurns setup.space setup.guide back.work.works
+    (lent_store setup back.grant.block old.store (old.given worker))
 
 -- The move is in order: the block that is leased is the first choice, and a lease that comes back
 -- has worked in turns.
 abbrev pub IsInOrder : Setup → (old : Machine) → Move → (new : Machine) → Type 0
-IsInOrder setup old (event_move (Lease worker block quota)) new = IsFirstChoice setup.blocks setup.settings old.counts old.store block
-IsInOrder setup old (event_move (Renew worker used quota)) new = CameBackInTurns setup old worker used 0 new.store
-IsInOrder setup old (event_move (Release worker used false)) new = CameBackInTurns setup old worker used 0 new.store
-IsInOrder setup old (event_move (Release worker used true)) new = CameBackInTurns setup old worker used 1 new.store
+IsInOrder setup old (event_move (Lease worker block quota)) new =
+    IsFirstChoice setup.blocks setup.settings old.counts old.store block
+IsInOrder setup old (event_move (Renew worker used quota)) new =
+    CameBackInTurns setup old worker used 0 new.store
+IsInOrder setup old (event_move (Release worker used false)) new =
+    CameBackInTurns setup old worker used 0 new.store
+IsInOrder setup old (event_move (Release worker used true)) new =
+    CameBackInTurns setup old worker used 1 new.store
 IsInOrder setup old move new = ⊤
 
 -- these moves, one after another, each in order
 abbrev pub RunsInOrder : Setup → (old : Machine) → List Move → (new : Machine) → Type 0
 RunsInOrder setup old [] new = new ≡ old
 RunsInOrder setup old (move ∷ moves) new =
-    (between : Machine) × Moves setup old move between × IsInOrder setup old move between × RunsInOrder setup between moves new
+    (between : Machine) × Moves setup old move between × IsInOrder setup old move between
+    × RunsInOrder setup between moves new

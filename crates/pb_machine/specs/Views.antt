@@ -32,7 +32,8 @@ HasWorker worker view = IsAmong worker (view.own ∷ view.taken_in)
 -- the shares are of workers that differ
 abbrev pub AreDistinct : List Share → Type 0
 AreDistinct [] = ⊤
-AreDistinct (share ∷ shares) = AllByRecursion (λ other. IsFalse (other.worker == share.worker)) shares × AreDistinct shares
+AreDistinct (share ∷ shares) =
+    AllByRecursion (λ other. IsFalse (other.worker == share.worker)) shares × AreDistinct shares
 
 -- the worker has these events in the journal, and all of them are in what was seen
 pub record IsShareOf (journal seen : List Event) (share : Share) : Type 0 where
@@ -41,9 +42,11 @@ pub record IsShareOf (journal seen : List Event) (share : Share) : Type 0 where
 
 -- The view at this seat is true of the journal. `seat_of` has the seat of each worker whose pass
 -- was made: the seat of its own view, or of the one that took it in.
-pub record IsTrueOf (journal : List Event) (made : ℕ) (seat_of : ℕ → ℕ) (seat : ℕ) (view : View) : Type 0 where
+pub record IsTrueOf (journal : List Event) (made : ℕ) (seat_of : ℕ → ℕ) (seat : ℕ) (view : View) :
+    Type 0 where
   pub seen : StartsWith journal view.seen
-  pub shares : AllByRecursion (λ share. IsShareOf journal view.seen share × (share.worker < made) × (seat_of share.worker ≡ seat)) (view.own ∷ view.taken_in)
+  pub shares : AllByRecursion (λ share. IsShareOf journal view.seen share × (share.worker < made)
+      × (seat_of share.worker ≡ seat)) (view.own ∷ view.taken_in)
   pub distinct : AreDistinct (view.own ∷ view.taken_in)
   pub counts_passes : HasWorker 0 view → view.made ≡ made
   pub counts_none : (HasWorker 0 view → ⊥) → view.made ≡ 0
@@ -57,20 +60,36 @@ pub record AreTrueOf (workers : ℕ) (journal : List Event) (views : List View) 
   pub few : made ≤ workers
   pub each : (seat : ℕ) (view : View) → get_elem? views seat ≡ some view → IsTrue view.is_live
       → IsTrueOf journal made seat_of seat view
-  pub found : (worker : ℕ) → worker < made → (view : View) × (get_elem? views (seat_of worker) ≡ some view) × IsTrue view.is_live
+  pub found : (worker : ℕ) → worker < made → (view : View)
+      × (get_elem? views (seat_of worker) ≡ some view) × IsTrue view.is_live
       × HasWorker worker view
   pub unmade : (worker : ℕ) → made ≤ worker → events_of worker journal ≡ []
-  pub whole : (seat : ℕ) × (view : View) × (get_elem? views seat ≡ some view) × IsTrue view.is_live × (view.seen ≡ journal)
+  pub whole : (seat : ℕ) × (view : View) × (get_elem? views seat ≡ some view) × IsTrue view.is_live
+      × (view.seen ≡ journal)
 
 -- ---- how views change
 
 -- the first pass's
 abbrev pub first_view : View
-first_view = record { is_live = true; own = record { worker = 0; events = [] }; seen = []; taken_in = []; made = 1 }
+first_view =
+    record {
+      is_live = true;
+      own = record { worker = 0; events = [] };
+      seen = [];
+      taken_in = [];
+      made = 1;
+    }
 
 -- of a pass that was taken in
 abbrev pub spent_view : View
-spent_view = record { is_live = false; own = record { worker = 0; events = [] }; seen = []; taken_in = []; made = 0 }
+spent_view =
+    record {
+      is_live = false;
+      own = record { worker = 0; events = [] };
+      seen = [];
+      taken_in = [];
+      made = 0;
+    }
 
 -- the events are of this worker, or of nobody
 abbrev pub AreBy : (worker : ℕ) → List Event → Type 0
@@ -79,14 +98,27 @@ AreBy worker events = (other : ℕ) → IsFalse (other == worker) → events_of 
 -- after its pass held the journal, and these events were added
 abbrev pub view_after : (journal added : List Event) → View → View
 view_after journal added view =
-    record view { own = record { worker = view.own.worker; events = view.own.events ++ events_of view.own.worker added }; seen = journal ++ added }
+    record view {
+      own = record {
+        worker = view.own.worker;
+        events = view.own.events ++ events_of view.own.worker added;
+      };
+      seen = journal ++ added;
+    }
 
 -- after a pass was split from it, and that pass's
 abbrev pub with_one_more : View → View
 with_one_more view = record view { made = view.made + 1 }
 
 abbrev pub next_view : View → View
-next_view view = record { is_live = true; own = record { worker = view.made; events = [] }; seen = view.seen; taken_in = []; made = 0 }
+next_view view =
+    record {
+      is_live = true;
+      own = record { worker = view.made; events = [] };
+      seen = view.seen;
+      taken_in = [];
+      made = 0;
+    }
 
 abbrev pub longer : (first second : List Event) → List Event
 longer first second = if nat_lt (length first) (length second) then second else first
@@ -94,4 +126,8 @@ longer first second = if nat_lt (length first) (length second) then second else 
 -- after its pass took in another's
 abbrev pub met_view : (view other : View) → View
 met_view view other =
-    record view { seen = longer view.seen other.seen; taken_in = view.taken_in ++ other.own ∷ other.taken_in; made = view.made + other.made }
+    record view {
+      seen = longer view.seen other.seen;
+      taken_in = view.taken_in ++ other.own ∷ other.taken_in;
+      made = view.made + other.made;
+    }

@@ -17,17 +17,30 @@ use Rattle.pb_machine.specs.History.{IsHistory, AreFinished, first_refused}
 
 -- whether the one cell is directly left of the other or above it; cells are numbered row by row
 abbrev pub is_before : (cell other : ℕ) → Bool
-is_before cell other = (other == cell + 3) || ((other == cell + 1) && not ((other == 3) || (other == 6)))
+is_before cell other =
+    (other == cell + 3) || ((other == cell + 1) && not ((other == 3) || (other == 6)))
 
 abbrev pub nine_cells : Blocks
 nine_cells =
     record {
       count = 9;
-      scope = λ block other. nat_lt block 9 && (nat_lt other 9 && ((block == other) || (is_before block other || is_before other block)));
+      scope =
+          λ block other. nat_lt block 9
+          && (nat_lt other 9 && ((block == other)
+          || (is_before block other || is_before other block)));
     }
 
 abbrev pub one_worker : Settings
-one_worker = record { workers = 1; num = 1; den = 1; budget = 16777216; lot = 256; wish = 256; plain = false }
+one_worker =
+    record {
+      workers = 1;
+      num = 1;
+      den = 1;
+      budget = 16777216;
+      lot = 256;
+      wish = 256;
+      plain = false;
+    }
 
 -- a block that is leased and comes back after so many expansions
 abbrev pub visit : (block used : ℕ) → List Event
@@ -46,7 +59,12 @@ nine_cells_journal = visit 0 1 ++ later_visits ++ ending
 -- of 5 expansions and a lot of 2. It leases the first block, renews that lease once, and has one
 -- expansion left for the second block.
 abbrev pub corridor : Blocks
-corridor = record { count = 16; scope = λ block other. nat_lt block 16 && (nat_lt other 16 && (nat_lt block (other + 2) && nat_lt other (block + 2))) }
+corridor =
+    record {
+      count = 16;
+      scope = λ block other. nat_lt block 16
+          && (nat_lt other 16 && (nat_lt block (other + 2) && nat_lt other (block + 2)));
+    }
 
 abbrev pub short_budget : Settings
 short_budget = record one_worker { budget = 5; lot = 2; wish = 16 }
@@ -73,25 +91,32 @@ abbrev pub both_out_again : List Event
 both_out_again = Lease 0 5 256 ∷ Lease 1 6 256 ∷ Release 0 1 false ∷ Release 1 1 false ∷ []
 
 abbrev pub two_workers_journal : List Event
-two_workers_journal = both_out ++ hot_and_cold ++ both_out_again ++ visit 8 0 ++ visit 7 0 ++ visit 4 0 ++ Ended Quiet ∷ Off 0 false ∷ Off 1 false ∷ []
+two_workers_journal =
+    both_out ++ hot_and_cold ++ both_out_again ++ visit 8 0 ++ visit 7 0 ++ visit 4 0 ++ Ended Quiet
+    ∷ Off 0 false ∷ Off 1 false ∷ []
 
 -- both workers report out of memory, one before the end that follows from it and one after
 abbrev pub both_report : List Event
-both_report = both_out ++ Release 1 1 true ∷ Ended Memory ∷ Release 0 1 true ∷ Off 0 true ∷ Off 1 false ∷ []
+both_report =
+    both_out ++ Release 1 1 true ∷ Ended Memory ∷ Release 0 1 true ∷ Off 0 true ∷ Off 1 false ∷ []
 
 -- the journal is a finished legal history of this many events, with this end and so many expansions
-abbrev pub IsFinishedHistory : Blocks → Settings → List Event → (events : ℕ) → End → (spent : ℕ) → Type 0
+abbrev pub IsFinishedHistory : Blocks → Settings → List Event → (events : ℕ) → End → (spent : ℕ)
+    → Type 0
 IsFinishedHistory blocks settings journal events end spent =
     (length journal ≡ events)
-    × ((counts : Counts) × IsHistory blocks settings 0 journal counts × AreFinished settings counts × (counts.end ≡ Some end) × (counts.spent ≡ spent))
+    × ((counts : Counts) × IsHistory blocks settings 0 journal counts × AreFinished settings counts
+    × (counts.end ≡ Some end) × (counts.spent ≡ spent))
 
 -- the journal is refused on this line, for this reason
 abbrev pub IsRefused : Blocks → Settings → List Event → (line : ℕ) → EventRefusal → Type 0
-IsRefused blocks settings journal line why = first_refused blocks settings (opening_counts settings 0) 7 journal ≡ Some (line, why)
+IsRefused blocks settings journal line why =
+    first_refused blocks settings (opening_counts settings 0) 7 journal ≡ Some (line, why)
 
 -- without its last line the journal is a legal history that is not finished
 abbrev pub IsUnfinishedHistory : Blocks → Settings → List Event → Type 0
-IsUnfinishedHistory blocks settings journal = (counts : Counts) × IsHistory blocks settings 0 journal counts
+IsUnfinishedHistory blocks settings journal =
+    (counts : Counts) × IsHistory blocks settings 0 journal counts
     × (AreFinished settings counts → ⊥)
 
 abbrev pub plain_worker : Settings
@@ -174,7 +199,13 @@ refused_of_two =
     ∷ (two_workers, both_out ++ Hot 1 4 ∷ Hot 0 4 ∷ [], 14, IsHot)
     ∷ (two_workers, both_out ++ Hot 1 4 ∷ Renew 1 1 256 ∷ [], 14, IsHot)
     ∷ (two_workers, both_out ++ Hot 1 4 ∷ Release 0 1 false ∷ Lease 0 8 256 ∷ [], 15, IsHot)
-    ∷ (two_workers, both_out ++ Hot 1 4 ∷ Release 0 1 false ∷ Release 1 1 false ∷ Lease 0 8 256 ∷ Lease 1 7 256 ∷ [], 17, Scope)
+    ∷ (
+      two_workers,
+      both_out ++ Hot 1 4 ∷ Release 0 1 false ∷ Release 1 1 false ∷ Lease 0 8 256
+          ∷ Lease 1 7 256 ∷ [],
+      17,
+      Scope,
+    )
     ∷ (two_workers, both_out ++ Hot 1 4 ∷ Hot 0 1 ∷ Cold 1 4 ∷ [], 15, IsHot)
     ∷ (two_workers, both_out ++ hot_and_cold ++ Cold 1 4 ∷ [], 17, Holds)
     ∷ (two_workers, both_out ++ hot_and_cold ++ Hot 1 4 ∷ [], 17, Holds)

@@ -30,7 +30,8 @@ Ascends lines = IsStrictlySortedBy nat_cmp (map (λ line. line.state) lines)
 
 -- the state has a line whose g is at most this
 abbrev pub HasLineWithin : List Line → (state most : ℕ) → Type 0
-HasLineWithin lines state most = (line : Line) × Contains lines line × (line.state ≡ state) × (line.g ≤ most)
+HasLineWithin lines state most =
+    (line : Line) × Contains lines line × (line.state ≡ state) × (line.g ≤ most)
 
 -- the cost of the plan, if there is one
 abbrev pub cost_of : Option Plan → Option ℕ
@@ -45,18 +46,23 @@ IsPlanIfAny space (Some plan) = IsPlan space plan
 -- the cost of the step
 pub record IsClosedLine (space : Space) (lines : List Line) (line : Line) : Type 0 where
   pub no_goal : IsFalse (space.is_goal line.state)
-  pub successors : (action to cost : ℕ) → Steps space line.state action to cost → HasLineWithin lines to (line.g + cost)
+  pub successors : (action to cost : ℕ) → Steps space line.state action to cost
+      → HasLineWithin lines to (line.g + cost)
 
 -- Each condition speaks of the space, the estimates and the lines alone, and can be tested without
 -- the search. The kind of task that a certificate's text states is judged with the text.
-pub record IsValid (space : Space) (estimate : ℕ → Estimate) (certificate : Certificate) : Type 0 where
-  pub weight : IsWeight certificate.weight
-  pub plan : IsPlanIfAny space certificate.plan
-  pub ascending : Ascends certificate.lines
-  pub states : All (λ line. IsTrue (space.is_state line.state)) certificate.lines
-  pub start : HasLineWithin certificate.lines space.start 0
-  pub closed : All (λ line. IsTrue line.is_closed → IsClosedLine space certificate.lines line) certificate.lines
-  pub cut : All (λ line. IsFalse line.is_closed → MayBeCut certificate.weight (cost_of certificate.plan) line.g (estimate line.state)) certificate.lines
+pub record IsValid (space : Space) (estimate : ℕ → Estimate) (certificate : Certificate) : Type 0
+  where
+    pub weight : IsWeight certificate.weight
+    pub plan : IsPlanIfAny space certificate.plan
+    pub ascending : Ascends certificate.lines
+    pub states : All (λ line. IsTrue (space.is_state line.state)) certificate.lines
+    pub start : HasLineWithin certificate.lines space.start 0
+    pub closed : All (λ line. IsTrue line.is_closed → IsClosedLine space certificate.lines line)
+        certificate.lines
+    pub cut : All (λ line. IsFalse line.is_closed
+        → MayBeCut certificate.weight (cost_of certificate.plan) line.g (estimate line.state))
+        certificate.lines
 
 -- what a certificate claims: its plan is a plan, and no plan costs less than the plan's cost
 -- divided by the weight; or there is no plan
@@ -77,8 +83,10 @@ line_of state row = record { state = state; g = row.g; is_closed = is_closed row
 -- the lines are those of all rows, in ascending order of the states
 pub record AreLinesOf (guide : Guide) (rows : Rows) (lines : List Line) : Type 0 where
   pub ascending : Ascends lines
-  pub sound : All (λ line. (row : Row) × (rows (guide.home line.state) line.state ≡ Some row) × (line ≡ line_of line.state row)) lines
-  pub complete : (state : ℕ) (row : Row) → rows (guide.home state) state ≡ Some row → Contains lines (line_of state row)
+  pub sound : All (λ line. (row : Row) × (rows (guide.home line.state) line.state ≡ Some row)
+      × (line ≡ line_of line.state row)) lines
+  pub complete : (state : ℕ) (row : Row) → rows (guide.home state) state ≡ Some row
+      → Contains lines (line_of state row)
 
 -- the plan costs at most the incumbent, or there is neither
 abbrev pub IsBackedBy : (incumbent : Option ℕ) → Option Plan → Type 0

@@ -21,22 +21,29 @@ IsKeyBelow Last other = ⊥
 
 -- the key is that of an Opened row of this part
 abbrev pub HasOpenedKey : Weight → Part → Key → Type 0
-HasOpenedKey weight part key = (state : ℕ) × (row : Row) × (part state ≡ Some row) × (row.status ≡ Opened) × (key_of weight row.g row.estimate ≡ key)
+HasOpenedKey weight part key =
+    (state : ℕ) × (row : Row) × (part state ≡ Some row) × (row.status ≡ Opened)
+    × (key_of weight row.g row.estimate ≡ key)
 
 -- the least key of an Opened row of this part, or none if no row is Opened
 abbrev pub IsBest : Weight → Part → Option Key → Type 0
 IsBest weight part None = HasOpened part → ⊥
-IsBest weight part (Some key) = HasOpenedKey weight part key × ((other : Key) → HasOpenedKey weight part other → IsKeyBelow other key → ⊥)
+IsBest weight part (Some key) =
+    HasOpenedKey weight part key × ((other : Key) → HasOpenedKey weight part other
+    → IsKeyBelow other key → ⊥)
 
 -- the one number comes before the other: its key is less, or the keys are equal and the number is
 -- less
 abbrev pub IsBefore : (key : Key) → (number : ℕ) → (other_key : Key) → (other : ℕ) → Type 0
-IsBefore key number other_key other = IsKeyBelow key other_key ⊎ ((key ≡ other_key) × (number < other))
+IsBefore key number other_key other =
+    IsKeyBelow key other_key ⊎ ((key ≡ other_key) × (number < other))
 
 -- the row of the state is the first Opened row of this part: the one of least key, and of least
 -- state among equal keys
 pub record IsFirstRow (weight : Weight) (part : Part) (state : ℕ) (row : Row) : Type 0 where
   pub found : part state ≡ Some row
   pub opened : row.status ≡ Opened
-  pub first : (other : ℕ) (other_row : Row) → part other ≡ Some other_row → other_row.status ≡ Opened
-      → (other ≡ state) ⊎ IsBefore (key_of weight row.g row.estimate) state (key_of weight other_row.g other_row.estimate) other
+  pub first : (other : ℕ) (other_row : Row) → part other ≡ Some other_row
+      → other_row.status ≡ Opened
+      → (other ≡ state) ⊎ IsBefore (key_of weight row.g row.estimate) state
+      (key_of weight other_row.g other_row.estimate) other

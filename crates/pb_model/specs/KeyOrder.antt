@@ -21,7 +21,8 @@ h_of Dead = 0
 -- a dead row's key comes last; others are compared by the sum and then by h
 abbrev pub key_cmp : Key → Key → Ordering
 key_cmp key other =
-    ordering_then (nat_cmp (rank_of key) (rank_of other)) (ordering_then (nat_cmp (sum_of key) (sum_of other)) (nat_cmp (h_of key) (h_of other)))
+    ordering_then (nat_cmp (rank_of key) (rank_of other))
+    (ordering_then (nat_cmp (sum_of key) (sum_of other)) (nat_cmp (h_of key) (h_of other)))
 
 abbrev pub same_key : Key → Key → Bool
 same_key key other = is_eq (key_cmp key other)

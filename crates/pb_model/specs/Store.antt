@@ -33,15 +33,18 @@ is_place_of guide other home state = (home == guide.home other) && (state == oth
 
 -- the state has a row whose g is at most this
 abbrev pub HasRowWithin : Guide → Store → (state most : ℕ) → Type 0
-HasRowWithin guide store state most = (row : Row) × (row_at guide store state ≡ Some row) × (row.g ≤ most)
+HasRowWithin guide store state most =
+    (row : Row) × (row_at guide store state ≡ Some row) × (row.g ≤ most)
 
 -- some goal has a row whose g is at most this
 abbrev pub HasGoalWithin : Space → Guide → Store → (most : ℕ) → Type 0
-HasGoalWithin space guide store most = (goal : ℕ) × IsTrue (space.is_goal goal) × HasRowWithin guide store goal most
+HasGoalWithin space guide store most =
+    (goal : ℕ) × IsTrue (space.is_goal goal) × HasRowWithin guide store goal most
 
 -- the state has a row that is Opened
 abbrev pub HasOpenedRow : Guide → Store → ℕ → Type 0
-HasOpenedRow guide store state = (row : Row) × (row_at guide store state ≡ Some row) × (row.status ≡ Opened)
+HasOpenedRow guide store state =
+    (row : Row) × (row_at guide store state ≡ Some row) × (row.status ≡ Opened)
 
 -- some row of this part is Opened
 abbrev pub HasOpened : Part → Type 0
@@ -53,11 +56,13 @@ IsQuiet store = (home : ℕ) → HasOpened (store.rows home) → ⊥
 
 -- the incumbent is none, or some goal has a row whose g is no greater
 abbrev pub IsShown : Space → Guide → Store → Type 0
-IsShown space guide store = (cost : ℕ) → store.incumbent ≡ Some cost → HasGoalWithin space guide store cost
+IsShown space guide store =
+    (cost : ℕ) → store.incumbent ≡ Some cost → HasGoalWithin space guide store cost
 
 -- no row has a greater g
 abbrev pub CostsAtMost : Store → (most : ℕ) → Type 0
-CostsAtMost store most = (home state : ℕ) (row : Row) → store.rows home state ≡ Some row → row.g ≤ most
+CostsAtMost store most =
+    (home state : ℕ) (row : Row) → store.rows home state ≡ Some row → row.g ≤ most
 
 -- the lesser of two costs, of which one or both may be unknown
 abbrev pub lesser : Option ℕ → Option ℕ → Option ℕ

@@ -24,7 +24,8 @@ spaced first second = first ++ 32 ∷ second
 -- a plan: its cost and the number of its steps, a line for each step, and the bound
 abbrev pub plan_report : (steps : List (List ℕ)) → (cost bound : ℕ) → List ℕ
 plan_report steps cost bound =
-    line (spaced (codes "plan") (spaced (decimal cost) (decimal (length steps)))) ++ lines steps ++ line (spaced (codes "bound") (decimal bound))
+    line (spaced (codes "plan") (spaced (decimal cost) (decimal (length steps)))) ++ lines steps
+    ++ line (spaced (codes "bound") (decimal bound))
 
 -- no plan exists
 abbrev pub none_report : List ℕ
@@ -38,19 +39,24 @@ stopped_report budget = line (spaced (codes "stopped budget") (decimal budget))
 
 -- a state in so many hexadecimal digits, its g, and what became of it
 abbrev pub line_text : (digits : ℕ) → Line → List ℕ
-line_text digits row = spaced (hex_digits digits row.state) (spaced (decimal row.g) (if row.is_closed then codes "closed" else codes "cut"))
+line_text digits row =
+    spaced (hex_digits digits row.state) (spaced (decimal row.g)
+    (if row.is_closed then codes "closed" else codes "cut"))
 
 -- the plan's actions and its cost, or that there is none
 abbrev pub plan_text : Option Plan → List ℕ
 plan_text None = line (codes "none")
 plan_text (Some plan) =
-    line (spaced (codes "plan") (decimal (length plan.actions))) ++ lines (map decimal plan.actions) ++ line (spaced (codes "cost") (decimal plan.cost))
+    line (spaced (codes "plan") (decimal (length plan.actions))) ++ lines (map decimal plan.actions)
+    ++ line (spaced (codes "cost") (decimal plan.cost))
 
 abbrev pub weight_text : Weight → List ℕ
-weight_text weight = line (spaced (codes "weight") (spaced (decimal weight.num) (decimal weight.den)))
+weight_text weight =
+    line (spaced (codes "weight") (spaced (decimal weight.num) (decimal weight.den)))
 
 abbrev pub rows_text : (digits : ℕ) → List Line → List ℕ
-rows_text digits rows = line (spaced (codes "rows") (decimal (length rows))) ++ lines (map (line_text digits) rows)
+rows_text digits rows =
+    line (spaced (codes "rows") (decimal (length rows))) ++ lines (map (line_text digits) rows)
 
 -- the text of a certificate under these first lines, with states of so many digits
 abbrev pub certificate_text : (head : List (List ℕ)) → (digits : ℕ) → Certificate → List ℕ

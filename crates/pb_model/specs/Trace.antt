@@ -11,4 +11,5 @@ abbrev pub TracesBack : Space → Guide → Store → (state : ℕ) → List ℕ
 TracesBack space guide store state [] = state ≡ space.start
 TracesBack space guide store state (action ∷ actions) =
     IsFalse (state == space.start)
-    × ((row : Row) × (parent : ℕ) × (row_at guide store state ≡ Some row) × (row.action ≡ action) × (row.parent ≡ Some parent) × TracesBack space guide store parent actions)
+    × ((row : Row) × (parent : ℕ) × (row_at guide store state ≡ Some row) × (row.action ≡ action)
+    × (row.parent ≡ Some parent) × TracesBack space guide store parent actions)

@@ -9,12 +9,14 @@ use Rattle.pb_model.specs.Work.{Work, expand, break_off, cut, take_goal, lower, 
 
 -- the state has the first Opened row of its part of the store
 abbrev pub IsFirst : Guide → Store → (state : ℕ) → Type 0
-IsFirst guide store state = (row : Row) × IsFirstRow store.weight (store.rows (guide.home state)) state row
+IsFirst guide store state =
+    (row : Row) × IsFirstRow store.weight (store.rows (guide.home state)) state row
 
 -- the state has the first Opened row of its part of the store, and that row may not be cut
 abbrev pub IsFirstToKeep : Guide → Store → (state : ℕ) → Type 0
 IsFirstToKeep guide store state =
-    (row : Row) × IsFirstRow store.weight (store.rows (guide.home state)) state row × ¬ MayBeCut store.weight store.incumbent row.g row.estimate
+    (row : Row) × IsFirstRow store.weight (store.rows (guide.home state)) state row
+    × ¬ MayBeCut store.weight store.incumbent row.g row.estimate
 
 -- The work is a turn in the order of a best-first search: it is on the first Opened row. A row that
 -- may be cut is cut. Of the others a goal's row is taken, and any other row is expanded (by `May` a

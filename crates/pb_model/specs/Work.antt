@@ -36,20 +36,31 @@ pub data Work : Type 0 where
 -- The row of a state after it was offered at this g. A state without a row gets one, and a row with
 -- a greater g becomes cheaper; both are Opened then. Any other row stays.
 abbrev pub offered_row : (g : ℕ) → Estimate → (parent : Option ℕ) → (action : ℕ) → Option Row → Row
-offered_row g estimate parent action None = record { g = g; estimate = estimate; parent = parent; action = action; status = Opened }
+offered_row g estimate parent action None =
+    record { g = g; estimate = estimate; parent = parent; action = action; status = Opened }
 offered_row g estimate parent action (Some row) =
-    if nat_lt g row.g then record { g = g; estimate = row.estimate; parent = parent; action = action; status = Opened } else row
+    if nat_lt g row.g then record {
+      g = g;
+      estimate = row.estimate;
+      parent = parent;
+      action = action;
+      status = Opened;
+    } else row
 
 -- what a place has after one successor of a row with this g was offered
-abbrev pub row_after_offer : Guide → (parent g : ℕ) → Succ → (home state : ℕ) → Option Row → Option Row
+abbrev pub row_after_offer : Guide → (parent g : ℕ) → Succ → (home state : ℕ) → Option Row
+    → Option Row
 row_after_offer guide parent g succ home state old =
-    if is_place_of guide succ.state home state then Some (offered_row (g + succ.cost) (guide.estimate state) (Some parent) succ.action old) else old
+    if is_place_of guide succ.state home state then Some
+    (offered_row (g + succ.cost) (guide.estimate state) (Some parent) succ.action old) else old
 
 -- what this place has after these successors were offered, one after another
-abbrev pub row_after_offers : Guide → (parent g : ℕ) → List Succ → (home state : ℕ) → Option Row → Option Row
+abbrev pub row_after_offers : Guide → (parent g : ℕ) → List Succ → (home state : ℕ) → Option Row
+    → Option Row
 row_after_offers guide parent g [] home state old = old
 row_after_offers guide parent g (succ ∷ succs) home state old =
-    row_after_offers guide parent g succs home state (row_after_offer guide parent g succ home state old)
+    row_after_offers guide parent g succs home state
+    (row_after_offer guide parent g succ home state old)
 
 -- ---- one piece of work
 
@@ -58,8 +69,10 @@ with_status status None = None
 with_status status (Some row) = Some (record row { status = status })
 
 -- what a place has after the row of the state `own` got this status
-abbrev pub row_after_status : Guide → (own : ℕ) → Status → (home state : ℕ) → Option Row → Option Row
-row_after_status guide own status home state old = if is_place_of guide own home state then with_status status old else old
+abbrev pub row_after_status : Guide → (own : ℕ) → Status → (home state : ℕ) → Option Row
+    → Option Row
+row_after_status guide own status home state old =
+    if is_place_of guide own home state then with_status status old else old
 
 -- a Cut row that may not be cut under this weight and incumbent is Opened, and any other status
 -- stays
@@ -67,20 +80,27 @@ abbrev pub reopened_status : Weight → (incumbent g : ℕ) → Estimate → Sta
 reopened_status weight incumbent g estimate Opened = Opened
 reopened_status weight incumbent g estimate Closed = Closed
 reopened_status weight incumbent g Dead Cut = Cut
-reopened_status weight incumbent g (Cost h) Cut = if nat_lt (weight.num * (g + h)) (weight.den * incumbent) then Opened else Cut
+reopened_status weight incumbent g (Cost h) Cut =
+    if nat_lt (weight.num * (g + h)) (weight.den * incumbent) then Opened else Cut
 
 abbrev pub reopened_row : Weight → (incumbent : Option ℕ) → Option Row → Option Row
 reopened_row weight incumbent None = None
 reopened_row weight None (Some row) = Some row
-reopened_row weight (Some incumbent) (Some row) = Some (record row { status = reopened_status weight incumbent row.g row.estimate row.status })
+reopened_row weight (Some incumbent) (Some row) =
+    Some (record row { status = reopened_status weight incumbent row.g row.estimate row.status })
 
 -- what a place has after the work, given the g of the row that the work is on
-abbrev pub row_after : Space → Guide → Work → (g : ℕ) → (incumbent : Option ℕ) → (home state : ℕ) → Option Row → Option Row
+abbrev pub row_after : Space → Guide → Work → (g : ℕ) → (incumbent : Option ℕ) → (home state : ℕ)
+    → Option Row → Option Row
 row_after space guide (expand own) g incumbent home state old =
-    row_after_status guide own Closed home state (row_after_offers guide own g (steps space own) home state old)
-row_after space guide (break_off own offers) g incumbent home state old = row_after_offers guide own g (take offers (steps space own)) home state old
-row_after space guide (cut own) g incumbent home state old = row_after_status guide own Cut home state old
-row_after space guide (take_goal own) g incumbent home state old = row_after_status guide own Cut home state old
+    row_after_status guide own Closed home state
+    (row_after_offers guide own g (steps space own) home state old)
+row_after space guide (break_off own offers) g incumbent home state old =
+    row_after_offers guide own g (take offers (steps space own)) home state old
+row_after space guide (cut own) g incumbent home state old =
+    row_after_status guide own Cut home state old
+row_after space guide (take_goal own) g incumbent home state old =
+    row_after_status guide own Cut home state old
 row_after space guide (lower cost) g incumbent home state old = old
 row_after space guide (reopen weight) g incumbent home state old = reopened_row weight incumbent old
 
@@ -110,7 +130,9 @@ g_before guide store (reopen weight) = 0
 abbrev pub store_after : Space → Guide → Work → Store → Store
 store_after space guide work store =
     record {
-      rows = λ home state. row_after space guide work (g_before guide store work) store.incumbent home state (store.rows home state);
+      rows =
+          λ home state. row_after space guide work (g_before guide store work) store.incumbent home
+          state (store.rows home state);
       incumbent = incumbent_after work (g_before guide store work) store.incumbent;
       weight = weight_after work store.weight;
     }
@@ -118,9 +140,11 @@ store_after space guide work store =
 -- when the work may be done
 abbrev pub May : Space → Guide → Work → Store → Type 0
 May space guide (expand own) store = HasOpenedRow guide store own × IsFalse (space.is_goal own)
-May space guide (break_off own offers) store = HasOpenedRow guide store own × IsFalse (space.is_goal own) × (offers < length (steps space own))
+May space guide (break_off own offers) store =
+    HasOpenedRow guide store own × IsFalse (space.is_goal own) × (offers < length (steps space own))
 May space guide (cut own) store =
-    (row : Row) × (row_at guide store own ≡ Some row) × (row.status ≡ Opened) × MayBeCut store.weight store.incumbent row.g row.estimate
+    (row : Row) × (row_at guide store own ≡ Some row) × (row.status ≡ Opened)
+    × MayBeCut store.weight store.incumbent row.g row.estimate
 May space guide (take_goal own) store = HasOpenedRow guide store own × IsTrue (space.is_goal own)
 May space guide (lower cost) store = ⊤
 May space guide (reopen weight) store = IsWeight weight
@@ -130,7 +154,8 @@ May space guide (reopen weight) store = IsWeight weight
 -- the new store comes from the old one by these pieces of work, in this order
 abbrev pub Comes : Space → Guide → List Work → (old new : Store) → Type 0
 Comes space guide [] old new = new ≡ old
-Comes space guide (work ∷ works) old new = May space guide work old × Comes space guide works (store_after space guide work old) new
+Comes space guide (work ∷ works) old new =
+    May space guide work old × Comes space guide works (store_after space guide work old) new
 
 abbrev pub expansions : List Work → ℕ
 expansions [] = 0
@@ -156,8 +181,10 @@ reopenings (work ∷ works) = reopenings works
 -- and then another with the next weight
 abbrev pub ReopensQuiet : Space → Guide → List Work → (old : Store) → Type 0
 ReopensQuiet space guide [] old = ⊤
-ReopensQuiet space guide (reopen weight ∷ works) old = IsQuiet old × ReopensQuiet space guide works (store_after space guide (reopen weight) old)
-ReopensQuiet space guide (work ∷ works) old = ReopensQuiet space guide works (store_after space guide work old)
+ReopensQuiet space guide (reopen weight ∷ works) old =
+    IsQuiet old × ReopensQuiet space guide works (store_after space guide (reopen weight) old)
+ReopensQuiet space guide (work ∷ works) old =
+    ReopensQuiet space guide works (store_after space guide work old)
 
 -- some work of the list lowered the incumbent to this cost or below
 abbrev pub LowersTo : List Work → (cost : ℕ) → Type 0
@@ -169,7 +196,9 @@ LowersTo (work ∷ works) cost = LowersTo works cost
 abbrev pub opening_store : Space → Guide → Weight → Store
 opening_store space guide weight =
     record {
-      rows = λ home state. if is_place_of guide space.start home state then Some (offered_row 0 (guide.estimate space.start) None 0 None) else None;
+      rows =
+          λ home state. if is_place_of guide space.start home state
+          then Some (offered_row 0 (guide.estimate space.start) None 0 None) else None;
       incumbent = None;
       weight = weight;
     }

@@ -13,8 +13,12 @@ FieldsAreReplaced =
 
 -- The digits of a number are hexadecimal digits, as many as are asked for.
 abbrev pub DigitsAreHex : Type 0
-DigitsAreHex = (count n : ℕ) → (length (hex_digits count n) ≡ count) × All (λ c. IsTrue (is_hex_digit c)) (hex_digits count n)
+DigitsAreHex =
+    (count n : ℕ) → (length (hex_digits count n) ≡ count)
+    × All (λ c. IsTrue (is_hex_digit c)) (hex_digits count n)
 
 -- Two numbers that are small enough for this count of digits are equal if their digits are equal.
 abbrev pub DigitsTellNumbers : Type 0
-DigitsTellNumbers = (count n m : ℕ) → n < 16 ^ count → m < 16 ^ count → hex_digits count n ≡ hex_digits count m → n ≡ m
+DigitsTellNumbers =
+    (count n m : ℕ) → n < 16 ^ count → m < 16 ^ count → hex_digits count n ≡ hex_digits count m
+    → n ≡ m

@@ -24,9 +24,15 @@ impl Model for Packed {
 
     ghost view = { λ p. (p.fourth * 2 ^ 64 + p.third) * 2 ^ 128 + (p.second * 2 ^ 64 + p.first) };
 
-    ghost invariant = { λ p. (p.first < 2 ^ 64) × (p.second < 2 ^ 64) × (p.third < 2 ^ 64) × (p.fourth < 2 ^ 64) };
+    ghost invariant = { λ p. (p.first < 2 ^ 64) × (p.second < 2 ^ 64) × (p.third < 2 ^ 64)
+        × (p.fourth < 2 ^ 64) };
 
-    ghost inverse = { λ n. record { first = n % 2 ^ 64; second = n / 2 ^ 64 % 2 ^ 64; third = n / 2 ^ 128 % 2 ^ 64; fourth = n / 2 ^ 192 } };
+    ghost inverse = { λ n. record {
+      first = n % 2 ^ 64;
+      second = n / 2 ^ 64 % 2 ^ 64;
+      third = n / 2 ^ 128 % 2 ^ 64;
+      fourth = n / 2 ^ 192;
+    } };
 
     ghost inverse_ok = { λ a h i. record {
       first = (words_of_sum a.first a.second a.third a.fourth h.0 h.1 h.2).0 i;

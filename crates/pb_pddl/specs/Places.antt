@@ -114,18 +114,24 @@ fits AType t = is_kind kinds.Word t
 fits AHead t = is_head t
 fits ANumber t = is_numeral t
 fits InCondition t = is_kind kinds.Close t || is_word (codes "and") t || is_head t
-fits InEffect t = is_kind kinds.Close t || is_word (codes "and") t || is_word (codes "not") t || is_word (codes "increase") t || is_head t
+fits InEffect t =
+    is_kind kinds.Close t || is_word (codes "and") t || is_word (codes "not") t
+    || is_word (codes "increase") t || is_head t
 fits InFact t = is_equals t || is_head t
 fits MoreFunction t = is_kind kinds.Dash t || is_kind kinds.Close t
 fits ANumberType t = is_word (codes "number") t
-fits (MoreTerms variables) t = is_kind kinds.Word t || variables && is_kind kinds.Variable t || is_kind kinds.Close t
-fits (MoreNames kind some) t = is_kind kind t || some && is_kind kinds.Dash t || is_kind kinds.Close t
+fits (MoreTerms variables) t =
+    is_kind kinds.Word t || variables && is_kind kinds.Variable t || is_kind kinds.Close t
+fits (MoreNames kind some) t =
+    is_kind kind t || some && is_kind kinds.Dash t || is_kind kinds.Close t
 fits MoreKeys t = is_kind kinds.Key t || is_kind kinds.Close t
 fits MoreForms t = is_kind kinds.Open t || is_kind kinds.Close t
 fits (MoreParts said) t = fits_part said t || is_kind kinds.Close t
 fits (ADomainSection said) t = fits_domain said t
 fits (AProblemSection said) t = fits_problem said t
-fits (MoreSections said) t = is_kind kinds.Open t && not (stood_all said) || is_kind kinds.Close t && is_some said.domain && is_some said.goal
+fits (MoreSections said) t =
+    is_kind kinds.Open t && not (stood_all said) || is_kind kinds.Close t && is_some said.domain
+    && is_some said.goal
 fits TheEnd t = is_kind kinds.End t
 
 -- ---- the first that fits
@@ -162,16 +168,21 @@ abbrev pub reserved_head : Token → Option LeftOut
 reserved_head t = if t.head && is_reserved t.text then Some left.Head else None
 
 abbrev pub is_part_key : List ℕ → Bool
-is_part_key text = bytes_eq text (codes ":parameters") || bytes_eq text (codes ":precondition") || bytes_eq text (codes ":effect")
+is_part_key text =
+    bytes_eq text (codes ":parameters") || bytes_eq text (codes ":precondition")
+    || bytes_eq text (codes ":effect")
 
 abbrev pub is_domain_key : List ℕ → Bool
 is_domain_key text =
-    bytes_eq text (codes ":requirements") || bytes_eq text (codes ":types") || bytes_eq text (codes ":constants") || bytes_eq text (codes ":predicates")
+    bytes_eq text (codes ":requirements") || bytes_eq text (codes ":types")
+    || bytes_eq text (codes ":constants") || bytes_eq text (codes ":predicates")
     || bytes_eq text (codes ":functions") || bytes_eq text (codes ":action")
 
 abbrev pub is_problem_key : List ℕ → Bool
 is_problem_key text =
-    bytes_eq text (codes ":domain") || bytes_eq text (codes ":requirements") || bytes_eq text (codes ":objects") || bytes_eq text (codes ":init") || bytes_eq text (codes ":goal")
+    bytes_eq text (codes ":domain") || bytes_eq text (codes ":requirements")
+    || bytes_eq text (codes ":objects") || bytes_eq text (codes ":init")
+    || bytes_eq text (codes ":goal")
     || bytes_eq text (codes ":metric")
 
 -- a keyword that is none of those that there are
@@ -180,7 +191,9 @@ other_key known what = if known then None else Some what
 
 -- a word that is no reserved head
 abbrev pub other_word : LeftOut → Token → Option LeftOut
-other_word what t = if is_kind kinds.Word t && not (t.head && is_reserved t.text) then Some what else reserved_head t
+other_word what t =
+    if is_kind kinds.Word t && not (t.head && is_reserved t.text) then Some what
+    else reserved_head t
 
 -- what of the language is left out here
 unfoldable pub left_out : Place → Token → Option LeftOut
@@ -188,9 +201,12 @@ left_out (OnlyWord text what) t = other_word what t
 left_out AType t = if is_kind kinds.Open t then Some left.Either else reserved_head t
 left_out ANumberType t = if is_kind kinds.Open t then Some left.Either else reserved_head t
 left_out ANumber t = if is_kind kinds.Open t then Some left.Function else reserved_head t
-left_out (MoreParts said) t = if is_kind kinds.Key t then other_key (is_part_key t.text) left.Part else reserved_head t
-left_out (ADomainSection said) t = if is_kind kinds.Key t then other_key (is_domain_key t.text) left.Section else reserved_head t
-left_out (AProblemSection said) t = if is_kind kinds.Key t then other_key (is_problem_key t.text) left.Section else reserved_head t
+left_out (MoreParts said) t =
+    if is_kind kinds.Key t then other_key (is_part_key t.text) left.Part else reserved_head t
+left_out (ADomainSection said) t =
+    if is_kind kinds.Key t then other_key (is_domain_key t.text) left.Section else reserved_head t
+left_out (AProblemSection said) t =
+    if is_kind kinds.Key t then other_key (is_problem_key t.text) left.Section else reserved_head t
 left_out (MoreSections said) t = if is_kind kinds.Close t then None else reserved_head t
 left_out place t = reserved_head t
 
@@ -201,16 +217,25 @@ wanted (OnlyWord text what) t = wants.Word
 wanted AType t = wants.TypeName
 wanted ANumberType t = wants.TypeName
 wanted ANumber t = wants.Number
-wanted (MoreNames kind some) t = if is_kind kinds.Dash t then wants.Group else first_fit (MoreNames kind some)
+wanted (MoreNames kind some) t =
+    if is_kind kinds.Dash t then wants.Group else first_fit (MoreNames kind some)
 wanted (MoreParts said) t = if is_kind kinds.Key t then wants.Once else first_fit (MoreParts said)
-wanted (ADomainSection said) t = if is_kind kinds.Key t then wants.Once else first_fit (ADomainSection said)
-wanted (AProblemSection said) t = if is_kind kinds.Key t then wants.Once else first_fit (AProblemSection said)
-wanted (MoreSections said) t = if is_kind kinds.Close t then wants.Missing else first_fit (MoreSections said)
+wanted (ADomainSection said) t =
+    if is_kind kinds.Key t then wants.Once else first_fit (ADomainSection said)
+wanted (AProblemSection said) t =
+    if is_kind kinds.Key t then wants.Once else first_fit (AProblemSection said)
+wanted (MoreSections said) t =
+    if is_kind kinds.Close t then wants.Missing else first_fit (MoreSections said)
 wanted place t = first_fit place
 
 unfoldable pub refused_token : Place → Token → SyntaxError
 refused_token TheEnd t = errors.Extra t.at
-refused_token place t = elim (left_out place t) [ Some what ↦ errors.LeftOut t.at what | None ↦ errors.Expected t.at (wanted place t) ]
+refused_token place t =
+    elim (left_out place t) [
+      | Some what ↦ errors.LeftOut t.at what
+      | None ↦ errors.Expected t.at
+          (wanted place t)
+    ]
 
 -- the error of a token that does not fit, the first of the list
 unfoldable pub refused : Place → Token → SyntaxError
@@ -230,7 +255,8 @@ Begins {X} Is ts = (more : List Token) × (x : X) × Is (ts ++ more) x
 
 -- The tokens before are the beginning of a form. The place says which tokens may follow them, and
 -- which may not. The next token is none of these, and the error is the place's.
-pub record IsFault (X : Type 0) (Is : List Token → X → Type 0) (ts : List Token) (e : SyntaxError) : Type 0 where
+pub record IsFault (X : Type 0) (Is : List Token → X → Type 0) (ts : List Token) (e : SyntaxError) :
+    Type 0 where
   pub before : List Token
   pub after : List Token
   pub place : Place

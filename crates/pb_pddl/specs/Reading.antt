@@ -33,7 +33,8 @@ abbrev pub Read : Type 0 → Type 0
 Read X = Result (X × List Token) SyntaxError
 
 infixl 10 ◌>>=◌
-abbrev pub ◌>>=◌ : {A B : Type 0} → Result A SyntaxError → (A → Result B SyntaxError) → Result B SyntaxError
+abbrev pub ◌>>=◌ : {A B : Type 0} → Result A SyntaxError → (A → Result B SyntaxError)
+    → Result B SyntaxError
 (Ok x) >>= f = f x
 (Err e) >>= f = Err e
 
@@ -77,9 +78,12 @@ spells kind text ts = begins kind ts && bytes_eq (front ts).text text
 -- no atom has one of these heads
 unfoldable pub is_reserved : List ℕ → Bool
 is_reserved text =
-    bytes_eq text (codes "and") || bytes_eq text (codes "or") || bytes_eq text (codes "not") || bytes_eq text (codes "imply")
-    || bytes_eq text (codes "exists") || bytes_eq text (codes "forall") || bytes_eq text (codes "when") || bytes_eq text (codes "=")
-    || bytes_eq text (codes "increase") || bytes_eq text (codes "decrease") || bytes_eq text (codes "assign")
+    bytes_eq text (codes "and") || bytes_eq text (codes "or") || bytes_eq text (codes "not")
+    || bytes_eq text (codes "imply")
+    || bytes_eq text (codes "exists") || bytes_eq text (codes "forall")
+    || bytes_eq text (codes "when") || bytes_eq text (codes "=")
+    || bytes_eq text (codes "increase") || bytes_eq text (codes "decrease")
+    || bytes_eq text (codes "assign")
     || bytes_eq text (codes "scale-up") || bytes_eq text (codes "scale-down")
 
 -- why this token can't go on, if this is wanted
@@ -89,7 +93,8 @@ refusal want t =
       | kinds.Byte ↦ errors.Byte t.at
       | kinds.Deep ↦ errors.Deep t.at
       | kinds.End ↦ errors.Unclosed t.at
-      | _ ↦ if t.head && is_reserved t.text then errors.LeftOut t.at left.Head else errors.Expected t.at want
+      | _ ↦ if t.head && is_reserved t.text then errors.LeftOut t.at left.Head
+          else errors.Expected t.at want
     ]
 
 unfoldable pub fault_at : Want → List Token → SyntaxError
@@ -102,22 +107,27 @@ unfoldable pub need : TokenKind → Want → List Token → Result (List Token) 
 need kind want ts = if begins kind ts then Ok (drop 1 ts) else Err (fault_at want ts)
 
 unfoldable pub need_word : List ℕ → List Token → Result (List Token) SyntaxError
-need_word text ts = if spells kinds.Word text ts then Ok (drop 1 ts) else Err (fault_at wants.Word ts)
+need_word text ts =
+    if spells kinds.Word text ts then Ok (drop 1 ts) else Err (fault_at wants.Word ts)
 
 abbrev pub name_of : Token → Name
 name_of t = record { text = t.text; at = t.at }
 
 unfoldable pub name_at : TokenKind → Want → List Token → Read Name
-name_at kind want ts = if begins kind ts then Ok (name_of (front ts), drop 1 ts) else Err (fault_at want ts)
+name_at kind want ts =
+    if begins kind ts then Ok (name_of (front ts), drop 1 ts) else Err (fault_at want ts)
 
 -- ---- many pieces, one after another: at most n
 
-unfoldable pub folds : {S : Type 0} → (List Token → Bool) → (S → List Token → Read S) → ℕ → S → List Token → Read S
+unfoldable pub folds : {S : Type 0} → (List Token → Bool) → (S → List Token → Read S) → ℕ → S
+    → List Token → Read S
 folds more step zero s ts = Ok (s, ts)
-folds more step (suc n) s ts = cond (more ts) (step s ts >>= λ next. folds more step n next.0 next.1) (Ok (s, ts))
+folds more step (suc n) s ts =
+    cond (more ts) (step s ts >>= λ next. folds more step n next.0 next.1) (Ok (s, ts))
 
 -- as long as a piece begins
-unfoldable pub all_of : {S : Type 0} → (List Token → Bool) → (S → List Token → Read S) → S → List Token → Read S
+unfoldable pub all_of : {S : Type 0} → (List Token → Bool) → (S → List Token → Read S) → S
+    → List Token → Read S
 all_of more step s ts = folds more step (length ts) s ts
 
 -- ---- atoms
@@ -126,7 +136,8 @@ unfoldable pub begins_term : Bool → List Token → Bool
 begins_term variables ts = begins kinds.Word ts || variables && begins kinds.Variable ts
 
 unfoldable pub term_of : Token → Term
-term_of t = if same_kind t.kind kinds.Variable then terms.Variable (name_of t) else terms.Object (name_of t)
+term_of t =
+    if same_kind t.kind kinds.Variable then terms.Variable (name_of t) else terms.Object (name_of t)
 
 unfoldable pub add_term : List Term → List Token → Read (List Term)
 add_term out ts = Ok (out ++ term_of (front ts) ∷ [], drop 1 ts)
@@ -136,7 +147,8 @@ unfoldable pub begins_head : List Token → Bool
 begins_head ts = begins kinds.Word ts && not (is_reserved (front ts).text)
 
 unfoldable pub head_at : List Token → Read Name
-head_at ts = if begins_head ts then Ok (name_of (front ts), drop 1 ts) else Err (fault_at wants.Name ts)
+head_at ts =
+    if begins_head ts then Ok (name_of (front ts), drop 1 ts) else Err (fault_at wants.Name ts)
 
 -- an atom, after its (
 unfoldable pub atom_at : Bool → List Token → Read Atom
@@ -157,7 +169,8 @@ add_atom variables out ts = do
   Ok (out ++ atom.0 ∷ [], atom.1)
 
 -- after ( and
-unfoldable pub conds_at : Bool → (List Atom → List Token → Read (List Atom)) → List Atom → List Token → Read (List Atom)
+unfoldable pub conds_at : Bool → (List Atom → List Token → Read (List Atom)) → List Atom
+    → List Token → Read (List Atom)
 conds_at variables one out ts = do
   all ← all_of begins_open one out ts
   rest ← need kinds.Close wants.Paren all.1
@@ -169,7 +182,8 @@ cond_at variables zero out ts = Err (fault_at wants.Paren ts)
 cond_at variables (suc room) out ts = do
   inside ← need kinds.Open wants.Paren ts
   if begins kinds.Close inside then Ok (out, drop 1 inside)
-      else if spells kinds.Word (codes "and") inside then conds_at variables (cond_at variables room) out (drop 1 inside)
+      else if spells kinds.Word (codes "and") inside
+      then conds_at variables (cond_at variables room) out (drop 1 inside)
       else add_atom variables out inside
 
 -- ---- ( total-cost ) and numbers
@@ -182,7 +196,8 @@ begins_reserved ts = (front ts).head && is_reserved (front ts).text
 unfoldable pub only_word : List ℕ → LeftOut → List Token → Result (List Token) SyntaxError
 only_word text what ts =
     if spells kinds.Word text ts then Ok (drop 1 ts)
-    else Err (if begins kinds.Word ts && not (begins_reserved ts) then left_at what ts else fault_at wants.Word ts)
+    else Err (if begins kinds.Word ts && not (begins_reserved ts) then left_at what ts
+    else fault_at wants.Word ts)
 
 -- ( total-cost ): the place of the word
 unfoldable pub total_cost_at : List Token → Read ℕ
@@ -196,7 +211,9 @@ unfoldable pub begins_number : List Token → Bool
 begins_number ts = begins kinds.Word ts && is_number (front ts).text
 
 unfoldable pub number_at : List Token → Read ℕ
-number_at ts = if begins_number ts then Ok (number_of (front ts).text, drop 1 ts) else Err (if begins kinds.Open ts then left_at left.Function ts else fault_at wants.Number ts)
+number_at ts =
+    if begins_number ts then Ok (number_of (front ts).text, drop 1 ts)
+    else Err (if begins kinds.Open ts then left_at left.Function ts else fault_at wants.Number ts)
 
 -- a cost, at its increase or =
 unfoldable pub cost_at : List Token → Read Cost
@@ -204,14 +221,28 @@ cost_at ts = do
   function ← total_cost_at (drop 1 ts)
   number ← number_at function.1
   rest ← need kinds.Close wants.Close number.1
-  Ok (record { at = (front ts).at; function = function.0; number = number.0; number_at = (front function.1).at }, rest)
+  Ok (
+    record {
+      at = (front ts).at;
+      function = function.0;
+      number = number.0;
+      number_at = (front function.1).at;
+    },
+    rest,
+  )
 
 -- ---- effects
 
 unfoldable pub add_literal : Bool → EffectParts → List Token → Read EffectParts
 add_literal negated out ts = do
   atom ← atom_at true ts
-  Ok (record { literals = out.literals ++ record { atom = atom.0; negated = negated } ∷ []; costs = out.costs }, atom.1)
+  Ok (
+    record {
+      literals = out.literals ++ record { atom = atom.0; negated = negated } ∷ [];
+      costs = out.costs;
+    },
+    atom.1,
+  )
 
 -- a cost, at its increase
 unfoldable pub add_increase : EffectParts → List Token → Read EffectParts
@@ -228,7 +259,8 @@ negative_at out ts = do
   Ok (literal.0, rest)
 
 -- after ( and
-unfoldable pub effects_at : (EffectParts → List Token → Read EffectParts) → EffectParts → List Token → Read EffectParts
+unfoldable pub effects_at : (EffectParts → List Token → Read EffectParts) → EffectParts → List Token
+    → Read EffectParts
 effects_at one out ts = do
   all ← all_of begins_open one out ts
   rest ← need kinds.Close wants.Paren all.1
@@ -239,7 +271,8 @@ effect_at zero out ts = Err (fault_at wants.Paren ts)
 effect_at (suc room) out ts = do
   inside ← need kinds.Open wants.Paren ts
   if begins kinds.Close inside then Ok (out, drop 1 inside)
-      else if spells kinds.Word (codes "and") inside then effects_at (effect_at room) out (drop 1 inside)
+      else if spells kinds.Word (codes "and") inside
+      then effects_at (effect_at room) out (drop 1 inside)
       else if spells kinds.Word (codes "not") inside then negative_at out (drop 1 inside)
       else if spells kinds.Word (codes "increase") inside then add_increase out inside
       else add_literal false out inside
@@ -257,11 +290,15 @@ typed kind names = map (λ n. record { name = n; kind = kind }) names
 
 -- a type's name, after a -
 unfoldable pub type_at : List Token → Read Name
-type_at ts = if begins kinds.Word ts then Ok (name_of (front ts), drop 1 ts) else Err (if begins kinds.Open ts then left_at left.Either ts else fault_at wants.TypeName ts)
+type_at ts =
+    if begins kinds.Word ts then Ok (name_of (front ts), drop 1 ts)
+    else Err (if begins kinds.Open ts then left_at left.Either ts else fault_at wants.TypeName ts)
 
 -- the word number, after the - of :functions
 unfoldable pub number_type : List Token → Result (List Token) SyntaxError
-number_type ts = if spells kinds.Word (codes "number") ts then Ok (drop 1 ts) else Err (if begins kinds.Open ts then left_at left.Either ts else fault_at wants.TypeName ts)
+number_type ts =
+    if spells kinds.Word (codes "number") ts then Ok (drop 1 ts)
+    else Err (if begins kinds.Open ts then left_at left.Either ts else fault_at wants.TypeName ts)
 
 -- a - and what follows it: all that wait get this type
 unfoldable pub close_group : Group → List Token → Read Group
@@ -271,7 +308,12 @@ close_group g ts = do
 
 unfoldable pub group_step : TokenKind → Group → List Token → Read Group
 group_step kind g ts =
-    if begins kind ts then Ok (record { done = g.done; waiting = g.waiting ++ name_of (front ts) ∷ [] }, drop 1 ts)
+    if begins kind ts
+    then Ok (
+      record { done = g.done; waiting = g.waiting ++ name_of (front ts) ∷ [] },
+      drop 1
+          ts,
+    )
     else if length g.waiting == 0 then Err (fault_at wants.Group ts)
     else close_group g ts
 
@@ -364,7 +406,10 @@ pre_part room a ts = if is_some a.pre then Err (once ts) else (do
 unfoldable pub effect_part : (List Token → ℕ) → ActionParts → List Token → Read ActionParts
 effect_part room a ts = if is_some a.effect then Err (once ts) else (do
   all ← effect_at (room (drop 1 ts)) no_effects (drop 1 ts)
-  Ok (record { params = a.params; pre = a.pre; effect = Some all.0.literals; costs = all.0.costs }, all.1))
+  Ok (
+    record { params = a.params; pre = a.pre; effect = Some all.0.literals; costs = all.0.costs },
+    all.1,
+  ))
 
 -- a part of an action, at its keyword
 unfoldable pub part_at : (List Token → ℕ) → ActionParts → List Token → Read ActionParts
@@ -383,7 +428,8 @@ no_parts = record { params = None; pre = None; effect = None; costs = [] }
 
 -- what is wanted after these parts: the keyword of a part that did not come yet, else the )
 unfoldable pub parts_want : ActionParts → Want
-parts_want a = if is_some a.params && is_some a.pre && is_some a.effect then wants.Close else wants.Part
+parts_want a =
+    if is_some a.params && is_some a.pre && is_some a.effect then wants.Close else wants.Part
 
 -- an action, after its keyword
 unfoldable pub add_action : (List Token → ℕ) → List Action → List Token → Read (List Action)
@@ -391,33 +437,88 @@ add_action room out ts = do
   name ← name_at kinds.Word wants.Name ts
   all ← all_of begins_key (part_at room) no_parts name.1
   rest ← need kinds.Close (parts_want all.0) all.1
-  Ok (out ++ record { name = name.0; params = or_empty all.0.params; pre = or_empty all.0.pre; effect = or_empty all.0.effect; costs = all.0.costs } ∷ [], rest)
+  Ok (
+    out ++ record {
+      name = name.0;
+      params = or_empty all.0.params;
+      pre = or_empty all.0.pre;
+      effect = or_empty all.0.effect;
+      costs = all.0.costs;
+    } ∷ [],
+    rest,
+  )
 
 -- ---- sections of a domain, at their keyword
 
 unfoldable pub requirements_section : DomainParts → List Token → Read DomainParts
 requirements_section d ts = if d.requirements then Err (once ts) else (do
   rest ← keys_at (drop 1 ts)
-  Ok (record { requirements = true; types = d.types; constants = d.constants; predicates = d.predicates; functions = d.functions; has_cost = d.has_cost; actions = d.actions }, rest))
+  Ok (
+    record {
+      requirements = true;
+      types = d.types;
+      constants = d.constants;
+      predicates = d.predicates;
+      functions = d.functions;
+      has_cost = d.has_cost;
+      actions = d.actions;
+    },
+    rest,
+  ))
 
 unfoldable pub types_section : DomainParts → List Token → Read DomainParts
 types_section d ts = if is_some d.types then Err (once ts) else (do
   list ← list_at kinds.Word wants.Name (drop 1 ts)
-  Ok (record { requirements = d.requirements; types = Some list.0; constants = d.constants; predicates = d.predicates; functions = d.functions; has_cost = d.has_cost; actions = d.actions }, list.1))
+  Ok (
+    record {
+      requirements = d.requirements;
+      types = Some list.0;
+      constants = d.constants;
+      predicates = d.predicates;
+      functions = d.functions;
+      has_cost = d.has_cost;
+      actions = d.actions;
+    },
+    list.1,
+  ))
 
 unfoldable pub constants_section : DomainParts → List Token → Read DomainParts
 constants_section d ts = if is_some d.constants then Err (once ts) else (do
   list ← list_at kinds.Word wants.Name (drop 1 ts)
-  Ok (record { requirements = d.requirements; types = d.types; constants = Some list.0; predicates = d.predicates; functions = d.functions; has_cost = d.has_cost; actions = d.actions }, list.1))
+  Ok (
+    record {
+      requirements = d.requirements;
+      types = d.types;
+      constants = Some list.0;
+      predicates = d.predicates;
+      functions = d.functions;
+      has_cost = d.has_cost;
+      actions = d.actions;
+    },
+    list.1,
+  ))
 
 unfoldable pub predicates_section : DomainParts → List Token → Read DomainParts
 predicates_section d ts = if is_some d.predicates then Err (once ts) else (do
   list ← predicates_at (drop 1 ts)
-  Ok (record { requirements = d.requirements; types = d.types; constants = d.constants; predicates = Some list.0; functions = d.functions; has_cost = d.has_cost; actions = d.actions }, list.1))
+  Ok (
+    record {
+      requirements = d.requirements;
+      types = d.types;
+      constants = d.constants;
+      predicates = Some list.0;
+      functions = d.functions;
+      has_cost = d.has_cost;
+      actions = d.actions;
+    },
+    list.1,
+  ))
 
 -- after ( :functions ( total-cost )
 unfoldable pub function_type : List Token → Result (List Token) SyntaxError
-function_type ts = if begins kinds.Dash ts then (number_type (drop 1 ts) >>= λ last. need kinds.Close wants.Close last) else need kinds.Close wants.Close ts
+function_type ts =
+    if begins kinds.Dash ts then (number_type (drop 1 ts) >>= λ last. need kinds.Close wants.Close
+    last) else need kinds.Close wants.Close ts
 
 -- the declared function, and the ) after it
 unfoldable pub one_function : List Token → Read Bool
@@ -433,12 +534,34 @@ functions_at ts = if begins kinds.Close ts then Ok (false, drop 1 ts) else one_f
 unfoldable pub functions_section : DomainParts → List Token → Read DomainParts
 functions_section d ts = if d.functions then Err (once ts) else (do
   has_cost ← functions_at (drop 1 ts)
-  Ok (record { requirements = d.requirements; types = d.types; constants = d.constants; predicates = d.predicates; functions = true; has_cost = has_cost.0; actions = d.actions }, has_cost.1))
+  Ok (
+    record {
+      requirements = d.requirements;
+      types = d.types;
+      constants = d.constants;
+      predicates = d.predicates;
+      functions = true;
+      has_cost = has_cost.0;
+      actions = d.actions;
+    },
+    has_cost.1,
+  ))
 
 unfoldable pub action_section : (List Token → ℕ) → DomainParts → List Token → Read DomainParts
 action_section room d ts = do
   all ← add_action room d.actions (drop 1 ts)
-  Ok (record { requirements = d.requirements; types = d.types; constants = d.constants; predicates = d.predicates; functions = d.functions; has_cost = d.has_cost; actions = all.0 }, all.1)
+  Ok (
+    record {
+      requirements = d.requirements;
+      types = d.types;
+      constants = d.constants;
+      predicates = d.predicates;
+      functions = d.functions;
+      has_cost = d.has_cost;
+      actions = all.0;
+    },
+    all.1,
+  )
 
 -- no keyword of a section that there is
 unfoldable pub no_section : List Token → SyntaxError
@@ -479,7 +602,16 @@ end_at ts =
     else Err (errors.Extra (front ts).at)
 
 abbrev pub no_domain : DomainParts
-no_domain = record { requirements = false; types = None; constants = None; predicates = None; functions = false; has_cost = false; actions = [] }
+no_domain =
+    record {
+      requirements = false;
+      types = None;
+      constants = None;
+      predicates = None;
+      functions = false;
+      has_cost = false;
+      actions = [];
+    }
 
 unfoldable pub domain_at : (List Token → ℕ) → List Token → Result Domain SyntaxError
 domain_at room ts = do
@@ -487,7 +619,14 @@ domain_at room ts = do
   all ← all_of begins_open (domain_section room) no_domain name.1
   rest ← need kinds.Close wants.Paren all.1
   end ← end_at rest
-  Ok (record { name = name.0; types = or_empty all.0.types; constants = or_empty all.0.constants; predicates = or_empty all.0.predicates; actions = all.0.actions; has_cost = all.0.has_cost })
+  Ok (record {
+    name = name.0;
+    types = or_empty all.0.types;
+    constants = or_empty all.0.constants;
+    predicates = or_empty all.0.predicates;
+    actions = all.0.actions;
+    has_cost = all.0.has_cost;
+  })
 
 -- ---- sections of a problem, at their keyword
 
@@ -495,35 +634,101 @@ unfoldable pub domain_name_section : ProblemParts → List Token → Read Proble
 domain_name_section p ts = if is_some p.domain then Err (once ts) else (do
   name ← name_at kinds.Word wants.Name (drop 1 ts)
   rest ← need kinds.Close wants.Close name.1
-  Ok (record { requirements = p.requirements; domain = Some name.0; objects = p.objects; init = p.init; goal = p.goal; costs = p.costs; metric = p.metric }, rest))
+  Ok (
+    record {
+      requirements = p.requirements;
+      domain = Some name.0;
+      objects = p.objects;
+      init = p.init;
+      goal = p.goal;
+      costs = p.costs;
+      metric = p.metric;
+    },
+    rest,
+  ))
 
 unfoldable pub problem_requirements : ProblemParts → List Token → Read ProblemParts
 problem_requirements p ts = if p.requirements then Err (once ts) else (do
   rest ← keys_at (drop 1 ts)
-  Ok (record { requirements = true; domain = p.domain; objects = p.objects; init = p.init; goal = p.goal; costs = p.costs; metric = p.metric }, rest))
+  Ok (
+    record {
+      requirements = true;
+      domain = p.domain;
+      objects = p.objects;
+      init = p.init;
+      goal = p.goal;
+      costs = p.costs;
+      metric = p.metric;
+    },
+    rest,
+  ))
 
 unfoldable pub objects_section : ProblemParts → List Token → Read ProblemParts
 objects_section p ts = if is_some p.objects then Err (once ts) else (do
   list ← list_at kinds.Word wants.Name (drop 1 ts)
-  Ok (record { requirements = p.requirements; domain = p.domain; objects = Some list.0; init = p.init; goal = p.goal; costs = p.costs; metric = p.metric }, list.1))
+  Ok (
+    record {
+      requirements = p.requirements;
+      domain = p.domain;
+      objects = Some list.0;
+      init = p.init;
+      goal = p.goal;
+      costs = p.costs;
+      metric = p.metric;
+    },
+    list.1,
+  ))
 
 unfoldable pub init_section : ProblemParts → List Token → Read ProblemParts
 init_section p ts = if is_some p.init then Err (once ts) else (do
   list ← facts_at (drop 1 ts)
-  Ok (record { requirements = p.requirements; domain = p.domain; objects = p.objects; init = Some list.0.atoms; goal = p.goal; costs = list.0.costs; metric = p.metric }, list.1))
+  Ok (
+    record {
+      requirements = p.requirements;
+      domain = p.domain;
+      objects = p.objects;
+      init = Some list.0.atoms;
+      goal = p.goal;
+      costs = list.0.costs;
+      metric = p.metric;
+    },
+    list.1,
+  ))
 
 unfoldable pub goal_section : (List Token → ℕ) → ProblemParts → List Token → Read ProblemParts
 goal_section room p ts = if is_some p.goal then Err (once ts) else (do
   all ← cond_at false (room (drop 1 ts)) [] (drop 1 ts)
   rest ← need kinds.Close wants.Close all.1
-  Ok (record { requirements = p.requirements; domain = p.domain; objects = p.objects; init = p.init; goal = Some all.0; costs = p.costs; metric = p.metric }, rest))
+  Ok (
+    record {
+      requirements = p.requirements;
+      domain = p.domain;
+      objects = p.objects;
+      init = p.init;
+      goal = Some all.0;
+      costs = p.costs;
+      metric = p.metric;
+    },
+    rest,
+  ))
 
 unfoldable pub metric_section : ProblemParts → List Token → Read ProblemParts
 metric_section p ts = if is_some p.metric then Err (once ts) else (do
   word ← only_word (codes "minimize") left.Metric (drop 1 ts)
   function ← total_cost_at word
   rest ← need kinds.Close wants.Close function.1
-  Ok (record { requirements = p.requirements; domain = p.domain; objects = p.objects; init = p.init; goal = p.goal; costs = p.costs; metric = Some function.0 }, rest))
+  Ok (
+    record {
+      requirements = p.requirements;
+      domain = p.domain;
+      objects = p.objects;
+      init = p.init;
+      goal = p.goal;
+      costs = p.costs;
+      metric = Some function.0;
+    },
+    rest,
+  ))
 
 unfoldable pub problem_key : (List Token → ℕ) → ProblemParts → List Token → Read ProblemParts
 problem_key room p ts =
@@ -537,17 +742,30 @@ problem_key room p ts =
 
 -- each section came: no more may come
 unfoldable pub stood_all : ProblemParts → Bool
-stood_all p = p.requirements && is_some p.domain && is_some p.objects && is_some p.init && is_some p.goal && is_some p.metric
+stood_all p =
+    p.requirements && is_some p.domain && is_some p.objects && is_some p.init && is_some p.goal
+    && is_some p.metric
 
 unfoldable pub problem_section : (List Token → ℕ) → ProblemParts → List Token → Read ProblemParts
-problem_section room p ts = if stood_all p then Err (fault_at wants.Close ts) else (need kinds.Open wants.Paren ts >>= λ inside. problem_key room p inside)
+problem_section room p ts =
+    if stood_all p then Err (fault_at wants.Close ts)
+    else (need kinds.Open wants.Paren ts >>= λ inside. problem_key room p inside)
 
 -- what is wanted after these sections: another, else the )
 unfoldable pub sections_want : ProblemParts → Want
 sections_want p = if stood_all p then wants.Close else wants.Paren
 
 abbrev pub no_problem : ProblemParts
-no_problem = record { requirements = false; domain = None; objects = None; init = None; goal = None; costs = []; metric = None }
+no_problem =
+    record {
+      requirements = false;
+      domain = None;
+      objects = None;
+      init = None;
+      goal = None;
+      costs = [];
+      metric = None;
+    }
 
 -- at the last ), if a section that must be there is missing
 unfoldable pub missing : List Token → SyntaxError
@@ -566,4 +784,12 @@ problem_at room ts = do
   domain ← there all.0.domain all.1
   goal ← there all.0.goal all.1
   end ← end_at rest
-  Ok (record { name = name.0; domain = domain; objects = or_empty all.0.objects; init = or_empty all.0.init; goal = goal; costs = all.0.costs; metric = all.0.metric })
+  Ok (record {
+    name = name.0;
+    domain = domain;
+    objects = or_empty all.0.objects;
+    init = or_empty all.0.init;
+    goal = goal;
+    costs = all.0.costs;
+    metric = all.0.metric;
+  })

@@ -23,7 +23,9 @@ next_bytes h bytes = drop (length (first_token h bytes).text) (drop (gap_len fal
 -- the tokens of these bytes up to the first that is Byte, Deep or End, at most this many
 unfoldable pub tokens_from : ℕ → Cursor → List ℕ → List Token
 tokens_from zero h bytes = []
-tokens_from (suc room) h bytes = first_token h bytes ∷ (if is_last (first_token h bytes).kind then [] else tokens_from room (next_cursor h bytes) (next_bytes h bytes))
+tokens_from (suc room) h bytes =
+    first_token h bytes ∷ (if is_last (first_token h bytes).kind then []
+    else tokens_from room (next_cursor h bytes) (next_bytes h bytes))
 
 -- the tokens of a text: one for each byte at most, and the end
 unfoldable pub tokens_of : (text : List ℕ) → List Token

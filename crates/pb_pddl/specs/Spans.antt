@@ -9,4 +9,6 @@ use Rattle.pb_pddl.specs.Tokens.{lower}
 abbrev pub Spans : ℕ → List ℕ → List Token → Type 0
 Spans from source [] = Unit {0}
 Spans from source (t ∷ ts) =
-    ((t.kind ≡ End) ⊎ ((from ≤ t.at) × (t.text ≡ map lower (take (length t.text) (drop t.at source))) × Spans (t.at + length t.text) source ts))
+    ((t.kind ≡ End)
+    ⊎ ((from ≤ t.at) × (t.text ≡ map lower (take (length t.text) (drop t.at source)))
+    × Spans (t.at + length t.text) source ts))

@@ -31,7 +31,8 @@ gap_next false b = if b == 59 then Some true else if is_white b then Some false 
 -- how many bytes of white space and comments come first; in a comment, or not
 unfoldable pub gap_len : Bool → List ℕ → ℕ
 gap_len comment [] = 0
-gap_len comment (b ∷ bs) = elim (gap_next comment b) [ None ↦ 0 | Some next ↦ suc (gap_len next bs) ]
+gap_len comment (b ∷ bs) =
+    elim (gap_next comment b) [ None ↦ 0 | Some next ↦ suc (gap_len next bs) ]
 
 -- how many bytes that go on with a word come first
 unfoldable pub run_len : List ℕ → ℕ
@@ -83,7 +84,12 @@ unfoldable pub token_at : Cursor → List ℕ → Token
 token_at h [] = record { kind = End; text = []; at = unclosed h; head = h.head }
 token_at h (b ∷ bs) =
     let kind = kind_inside (length h.nest) (kind_of b (word_first bs)) in
-    record { kind = kind; text = map lower (take (len_of kind bs) (b ∷ bs)); at = h.at; head = h.head }
+    record {
+      kind = kind;
+      text = map lower (take (len_of kind bs) (b ∷ bs));
+      at = h.at;
+      head = h.head;
+    }
 
 -- the open parentheses after a token
 unfoldable pub opened : Cursor → TokenKind → List ℕ

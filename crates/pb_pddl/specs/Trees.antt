@@ -17,9 +17,11 @@ abbrev pub SpellsProblem : List ℕ → Problem → Type 0
 SpellsProblem text problem = (ts : List Token) × TextTokens text ts × IsProblem ts problem
 
 -- What reading gives of the text's tokens, unless memory ran out.
-abbrev pub IsRead : {X : Type 0} → (List Token → Result X SyntaxError) → List ℕ → Result X SyntaxError → Type 0
+abbrev pub IsRead : {X : Type 0} → (List Token → Result X SyntaxError) → List ℕ
+    → Result X SyntaxError → Type 0
 IsRead reading text (Ok x) = (ts : List Token) × TextTokens text ts × (reading ts ≡ Ok x)
-IsRead reading text (Err e) = e ≢ errors.Memory → (ts : List Token) × TextTokens text ts × (reading ts ≡ Err e)
+IsRead reading text (Err e) =
+    e ≢ errors.Memory → (ts : List Token) × TextTokens text ts × (reading ts ≡ Err e)
 
 -- This error is that of the first of the text's tokens that can't go on.
 abbrev pub FirstFault : (X : Type 0) → (List Token → X → Type 0) → List ℕ → SyntaxError → Type 0

@@ -102,28 +102,41 @@ cost_due = Opening ∷ total_cost_then (Number ∷ Closing ∷ [])
 -- after the keyword of a part
 abbrev pub after_part : ActionParts → Token → List Symbol
 after_part said t =
-    if is_key (codes ":parameters") t then Opening ∷ Names true false ∷ Parts (record said { params = Some [] }) ∷ []
-    else if is_key (codes ":precondition") t then Opening ∷ Condition true ∷ Parts (record said { pre = Some [] }) ∷ []
+    if is_key (codes ":parameters") t then Opening ∷ Names true false
+    ∷ Parts (record said { params = Some [] }) ∷ []
+    else if is_key (codes ":precondition") t then Opening ∷ Condition true
+    ∷ Parts (record said { pre = Some [] }) ∷ []
     else Opening ∷ Effect ∷ Parts (record said { effect = Some [] }) ∷ []
 
 -- after the keyword of a section
 abbrev pub after_domain_key : DomainParts → Token → List Symbol
 after_domain_key said t =
-    if is_key (codes ":requirements") t then Keys ∷ DomainSections (record said { requirements = true }) ∷ []
-    else if is_key (codes ":types") t then Names false false ∷ DomainSections (record said { types = Some [] }) ∷ []
-    else if is_key (codes ":constants") t then Names false false ∷ DomainSections (record said { constants = Some [] }) ∷ []
-    else if is_key (codes ":predicates") t then Predicates ∷ DomainSections (record said { predicates = Some [] }) ∷ []
-    else if is_key (codes ":functions") t then Functions ∷ DomainSections (record said { functions = true }) ∷ []
+    if is_key (codes ":requirements") t then Keys ∷ DomainSections
+    (record said { requirements = true }) ∷ []
+    else if is_key (codes ":types") t then Names false false
+    ∷ DomainSections (record said { types = Some [] }) ∷ []
+    else if is_key (codes ":constants") t then Names false false
+    ∷ DomainSections (record said { constants = Some [] }) ∷ []
+    else if is_key (codes ":predicates") t then Predicates
+    ∷ DomainSections (record said { predicates = Some [] }) ∷ []
+    else if is_key (codes ":functions") t then Functions ∷ DomainSections
+    (record said { functions = true }) ∷ []
     else AnyName ∷ Parts no_parts ∷ DomainSections said ∷ []
 
 abbrev pub after_problem_key : ProblemParts → Token → List Symbol
 after_problem_key said t =
-    if is_key (codes ":domain") t then AnyName ∷ Closing ∷ ProblemSections (record said { domain = Some no_name }) ∷ []
-    else if is_key (codes ":requirements") t then Keys ∷ ProblemSections (record said { requirements = true }) ∷ []
-    else if is_key (codes ":objects") t then Names false false ∷ ProblemSections (record said { objects = Some [] }) ∷ []
-    else if is_key (codes ":init") t then Facts ∷ ProblemSections (record said { init = Some [] }) ∷ []
-    else if is_key (codes ":goal") t then Opening ∷ Condition false ∷ Closing ∷ ProblemSections (record said { goal = Some [] }) ∷ []
-    else OnlyWord (codes "minimize") left.Metric ∷ Opening ∷ total_cost_then (Closing ∷ ProblemSections (record said { metric = Some 0 }) ∷ [])
+    if is_key (codes ":domain") t then AnyName ∷ Closing ∷ ProblemSections
+    (record said { domain = Some no_name }) ∷ []
+    else if is_key (codes ":requirements") t then Keys ∷ ProblemSections
+    (record said { requirements = true }) ∷ []
+    else if is_key (codes ":objects") t then Names false false
+    ∷ ProblemSections (record said { objects = Some [] }) ∷ []
+    else if is_key (codes ":init") t then Facts ∷ ProblemSections (record said { init = Some [] })
+    ∷ []
+    else if is_key (codes ":goal") t then Opening ∷ Condition false ∷ Closing
+    ∷ ProblemSections (record said { goal = Some [] }) ∷ []
+    else OnlyWord (codes "minimize") left.Metric ∷ Opening
+    ∷ total_cost_then (Closing ∷ ProblemSections (record said { metric = Some 0 }) ∷ [])
 
 -- what is due after a token that fits, up to the end of this symbol
 abbrev pub after : Symbol → Token → List Symbol
@@ -136,7 +149,9 @@ after TypeName t = []
 after HeadName t = []
 after Number t = []
 after NumberType t = []
-after (Terms variables) t = if is_kind kinds.Word t || variables && is_kind kinds.Variable t then Terms variables ∷ [] else []
+after (Terms variables) t =
+    if is_kind kinds.Word t || variables && is_kind kinds.Variable t then Terms variables ∷ []
+    else []
 after (Condition variables) t =
     if is_kind kinds.Close t then []
     else if is_word (codes "and") t then Conditions variables ∷ []
@@ -148,9 +163,11 @@ after Effect t =
     else if is_word (codes "increase") t then cost_due
     else Terms true ∷ []
 after Fact t = if is_equals t then cost_due else Terms false ∷ []
-after (Conditions variables) t = if is_kind kinds.Open t then Condition variables ∷ Conditions variables ∷ [] else []
+after (Conditions variables) t =
+    if is_kind kinds.Open t then Condition variables ∷ Conditions variables ∷ [] else []
 after Effects t = if is_kind kinds.Open t then Effect ∷ Effects ∷ [] else []
-after Predicates t = if is_kind kinds.Open t then AnyName ∷ Names true false ∷ Predicates ∷ [] else []
+after Predicates t =
+    if is_kind kinds.Open t then AnyName ∷ Names true false ∷ Predicates ∷ [] else []
 after Facts t = if is_kind kinds.Open t then Fact ∷ Facts ∷ [] else []
 after Functions t = if is_kind kinds.Open t then total_cost_then (FunctionType ∷ []) else []
 after FunctionType t = if is_kind kinds.Dash t then NumberType ∷ Closing ∷ [] else []
@@ -167,7 +184,9 @@ after (ProblemSection said) t = after_problem_key said t
 
 -- the whole forms
 abbrev pub form : List ℕ → Symbol → List Symbol
-form word sections = Opening ∷ ThisWord (codes "define") ∷ Opening ∷ ThisWord word ∷ AnyName ∷ Closing ∷ sections ∷ []
+form word sections =
+    Opening ∷ ThisWord (codes "define") ∷ Opening ∷ ThisWord word ∷ AnyName ∷ Closing ∷ sections
+    ∷ []
 
 abbrev pub domain_form : List Symbol
 domain_form = form (codes "domain") (DomainSections no_domain)
@@ -188,12 +207,15 @@ place_due (s ∷ due) = place_of s
 
 -- these tokens fit, one after another, up to the end, and nothing is due there
 abbrev pub IsWhole : List Symbol → List Token → Type 0
-IsWhole whole ts = (before : List Token) × (after : List Token) × (ts ≡ before ++ after) × Leads whole before [] × (fits Places.TheEnd (front after) ≡ true)
+IsWhole whole ts =
+    (before : List Token) × (after : List Token) × (ts ≡ before ++ after) × Leads whole before []
+    × (fits Places.TheEnd (front after) ≡ true)
 
 -- The tokens before lead to only one place. The place says which tokens may follow them so that
 -- they begin a form, and which may not. The next token is none of these, and the error is the
 -- place's.
-pub record IsTold (X : Type 0) (Is : List Token → X → Type 0) (whole : List Symbol) (ts : List Token) (e : SyntaxError) : Type 0 where
+pub record IsTold (X : Type 0) (Is : List Token → X → Type 0) (whole : List Symbol)
+    (ts : List Token) (e : SyntaxError) : Type 0 where
   pub before : List Token
   pub after : List Token
   pub due : List Symbol
@@ -206,5 +228,6 @@ pub record IsTold (X : Type 0) (Is : List Token → X → Type 0) (whole : List 
   pub error : e ≡ refused (place_due due) (front after)
 
 -- this error is that of the first of the text's tokens that can't go on
-abbrev pub ToldFault : (X : Type 0) → (List Token → X → Type 0) → List Symbol → List ℕ → SyntaxError → Type 0
+abbrev pub ToldFault : (X : Type 0) → (List Token → X → Type 0) → List Symbol → List ℕ → SyntaxError
+    → Type 0
 ToldFault X Is whole text e = (ts : List Token) × TextTokens text ts × IsTold X Is whole ts e

@@ -28,11 +28,14 @@ holds_by_number state (Some atom) = has_atom state atom
 -- holds if it does at first.
 abbrev pub holds_in : Lifted → (state : ℕ) → GroundFact → Bool
 holds_in lifted state fact =
-    if is_fluent lifted fact.predicate then holds_by_number state (number_in (atom_of fact.predicate fact.objects) (ground_atoms lifted))
+    if is_fluent lifted fact.predicate then holds_by_number state
+    (number_in (atom_of fact.predicate fact.objects) (ground_atoms lifted))
     else is_initial lifted (atom_of fact.predicate fact.objects)
 
 abbrev pub facts_of_state : Domain → Problem → (state : ℕ) → State
-facts_of_state domain problem state fact = is_of_task domain problem fact && holds_in (lifted_of domain problem) state (by_number domain problem fact)
+facts_of_state domain problem state fact =
+    is_of_task domain problem fact && holds_in (lifted_of domain problem) state
+    (by_number domain problem fact)
 
 -- ---- steps
 
@@ -40,18 +43,25 @@ facts_of_state domain problem state fact = is_of_task domain problem fact && hol
 -- printed.
 abbrev pub PackedStepsAreSteps : Type 0
 PackedStepsAreSteps =
-    (domain : Domain) (problem : Problem) (from action to cost : ℕ) → first_fault domain problem ≡ None → Steps (strips_space (strips_of domain problem)) from action to cost
-    → (named : NamedAction) × IsStep domain problem (facts_of_state domain problem from) named.0 named.1 (facts_of_state domain problem to)
-    × (name_in (strips_of domain problem).actions action ≡ action_text domain named) × (cost ≡ step_cost domain problem named)
+    (domain : Domain) (problem : Problem) (from action to cost : ℕ)
+    → first_fault domain problem ≡ None → Steps (strips_space (strips_of domain problem)) from
+    action to cost
+    → (named : NamedAction) × IsStep domain problem (facts_of_state domain problem from) named.0
+    named.1 (facts_of_state domain problem to)
+    × (name_in (strips_of domain problem).actions action ≡ action_text domain named)
+    × (cost ≡ step_cost domain problem named)
 
 -- A step by names is a step by bits, at the cost of its action, under the printed name, and leads
 -- to the same state.
 abbrev pub StepsArePackedSteps : Type 0
 StepsArePackedSteps =
-    (domain : Domain) (problem : Problem) (from : ℕ) (named : NamedAction) (next : State) → first_fault domain problem ≡ None → from < 2 ^ (strips_of domain problem).atoms
+    (domain : Domain) (problem : Problem) (from : ℕ) (named : NamedAction) (next : State)
+    → first_fault domain problem ≡ None → from < 2 ^ (strips_of domain problem).atoms
     → IsStep domain problem (facts_of_state domain problem from) named.0 named.1 next
-    → (action : ℕ) × (to : ℕ) × Steps (strips_space (strips_of domain problem)) from action to (step_cost domain problem named)
-    × (name_in (strips_of domain problem).actions action ≡ action_text domain named) × ((f : Fact) → next f ≡ facts_of_state domain problem to f)
+    → (action : ℕ) × (to : ℕ) × Steps (strips_space (strips_of domain problem)) from action to
+    (step_cost domain problem named)
+    × (name_in (strips_of domain problem).actions action ≡ action_text domain named)
+    × ((f : Fact) → next f ≡ facts_of_state domain problem to f)
 
 -- ---- start and goals
 
@@ -64,8 +74,10 @@ StartsAgree =
 -- A packed state is a goal exactly if the state by names is a goal.
 abbrev pub GoalsAgree : Type 0
 GoalsAgree =
-    (domain : Domain) (problem : Problem) (state : ℕ) → first_fault domain problem ≡ None → state < 2 ^ (strips_of domain problem).atoms
-    → IsTrue ((strips_space (strips_of domain problem)).is_goal state) ↔ IsGoal problem (facts_of_state domain problem state)
+    (domain : Domain) (problem : Problem) (state : ℕ) → first_fault domain problem ≡ None
+    → state < 2 ^ (strips_of domain problem).atoms
+    → IsTrue ((strips_space (strips_of domain problem)).is_goal state)
+    ↔ IsGoal problem (facts_of_state domain problem state)
 
 -- ---- plans
 
@@ -73,13 +85,18 @@ GoalsAgree =
 -- sum of their costs.
 abbrev pub PackedPlansArePlans : Type 0
 PackedPlansArePlans =
-    (domain : Domain) (problem : Problem) (plan : packed.Plan) → first_fault domain problem ≡ None → packed.IsPlan (strips_space (strips_of domain problem)) plan
-    → (actions : List NamedAction) × IsPlan domain problem actions × (map (action_text domain) actions ≡ map (name_in (strips_of domain problem).actions) plan.actions)
+    (domain : Domain) (problem : Problem) (plan : packed.Plan) → first_fault domain problem ≡ None
+    → packed.IsPlan (strips_space (strips_of domain problem)) plan
+    → (actions : List NamedAction) × IsPlan domain problem actions
+    × (map (action_text domain) actions ≡ map (name_in (strips_of domain problem).actions)
+    plan.actions)
     × (plan.cost ≡ plan_cost domain problem actions)
 
 -- A plan by names is a plan by numbers, at the same cost.
 abbrev pub PlansArePackedPlans : Type 0
 PlansArePackedPlans =
-    (domain : Domain) (problem : Problem) (actions : List NamedAction) → first_fault domain problem ≡ None → IsPlan domain problem actions
-    → (numbers : List ℕ) × packed.IsPlan (strips_space (strips_of domain problem)) (record { actions = numbers; cost = plan_cost domain problem actions })
+    (domain : Domain) (problem : Problem) (actions : List NamedAction)
+    → first_fault domain problem ≡ None → IsPlan domain problem actions
+    → (numbers : List ℕ) × packed.IsPlan (strips_space (strips_of domain problem))
+    (record { actions = numbers; cost = plan_cost domain problem actions })
     × (map (name_in (strips_of domain problem).actions) numbers ≡ map (action_text domain) actions)

@@ -18,7 +18,8 @@ spaced (word ∷ words) = 32 ∷ word ++ spaced words
 -- `(name object ..)`: the name of an action of the domain, and the names of the objects that are
 -- given to its parameters
 abbrev pub action_bytes : Domain → NamedAction → List ℕ
-action_bytes domain action = 40 ∷ name_at (map action_word domain.actions) action.0 ++ spaced action.1 ++ 41 ∷ []
+action_bytes domain action =
+    40 ∷ name_at (map action_word domain.actions) action.0 ++ spaced action.1 ++ 41 ∷ []
 
 -- the same as a text; U+FFFD is in place of each sequence that is no UTF-8, but texts that are read
 -- have none in names
@@ -27,4 +28,6 @@ action_text domain action = utf8_lossy (action_bytes domain action)
 
 -- If the names are UTF-8, the text has these bytes.
 abbrev pub TextsKeepNames : Type 0
-TextsKeepNames = (domain : Domain) (action : NamedAction) → IsUtf8 (action_bytes domain action) → action_text domain action ≡ action_bytes domain action
+TextsKeepNames =
+    (domain : Domain) (action : NamedAction) → IsUtf8 (action_bytes domain action)
+    → action_text domain action ≡ action_bytes domain action

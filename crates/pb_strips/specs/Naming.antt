@@ -11,19 +11,23 @@ use Rattle.pb_strips.specs.Refusals.{first_fault}
 
 -- no two actions have one name, and no name has a line feed
 pub record AreTellingNames (count : ℕ) (name : ℕ → List ℕ) : Type 0 where
-  pub different : (one other : ℕ) → one < count → other < count → name one ≡ name other → one ≡ other
+  pub different : (one other : ℕ) → one < count → other < count → name one ≡ name other
+      → one ≡ other
   pub lines : (action : ℕ) → All (λ c. c ≢ 10) (name action)
 
 -- If a domain and a problem whose names are words are a task, the printed names of its ground
 -- actions differ, each in one line.
 abbrev pub NamesTellActions : Type 0
 NamesTellActions =
-    (domain : Domain) (problem : Problem) → first_fault domain problem ≡ None → DomainHasWords domain → ProblemHasWords problem
-    → AreTellingNames (length (strips_of domain problem).actions) (name_in (strips_of domain problem).actions)
+    (domain : Domain) (problem : Problem) → first_fault domain problem ≡ None
+    → DomainHasWords domain → ProblemHasWords problem
+    → AreTellingNames (length (strips_of domain problem).actions)
+    (name_in (strips_of domain problem).actions)
 
 -- The actions of a plan by names are printed as they are called: `(name object ..)`, each with the
 -- bytes of the names themselves.
 abbrev pub NamesArePrinted : Type 0
 NamesArePrinted =
-    (domain : Domain) (problem : Problem) (actions : List NamedAction) → DomainHasWords domain → ProblemHasWords problem → IsPlan domain problem actions
+    (domain : Domain) (problem : Problem) (actions : List NamedAction) → DomainHasWords domain
+    → ProblemHasWords problem → IsPlan domain problem actions
     → map (action_text domain) actions ≡ map (action_bytes domain) actions

@@ -15,8 +15,10 @@ use Rattle.pb_strips.specs.declared.error.StripsError.TheVariants as errors
 -- more than 256 ground atoms, or else more than 65,536 ground actions
 abbrev pub too_many : Lifted → Option StripsError
 too_many lifted =
-    if nat_lt 256 (length (ground_atoms lifted)) then Some (errors.TooManyAtoms (told (length (ground_atoms lifted))))
-    else (if nat_lt 65536 (length (ground_actions lifted (ground_atoms lifted))) then Some errors.TooManyActions else None)
+    if nat_lt 256 (length (ground_atoms lifted)) then Some
+    (errors.TooManyAtoms (told (length (ground_atoms lifted))))
+    else (if nat_lt 65536 (length (ground_actions lifted (ground_atoms lifted)))
+    then Some errors.TooManyActions else None)
 
 abbrev pub or_too_many : Option TypingRefusal → Lifted → Option StripsError
 or_too_many (Some refusal) lifted = Some (errors.Refused refusal)
@@ -36,4 +38,6 @@ Tells fault errors.Memory = Unit {0}
 -- at most 256 ground atoms and 65,536 ground actions
 abbrev pub IsWithinLimits : Domain → Problem → Type 0
 IsWithinLimits domain problem =
-    (length (ground_atoms (lifted_of domain problem)) ≤ 256) × (length (ground_actions (lifted_of domain problem) (ground_atoms (lifted_of domain problem))) ≤ 65536)
+    (length (ground_atoms (lifted_of domain problem)) ≤ 256)
+    × (length (ground_actions (lifted_of domain problem) (ground_atoms (lifted_of domain problem)))
+    ≤ 65536)

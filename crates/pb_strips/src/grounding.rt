@@ -40,7 +40,8 @@ pub fn ground(alloc: Global, domain: &Domain, problem: &Problem) -> Result<Task,
     ensures refused { IfErr result (Tells (first_fault domain.now problem.now)) }
     // A well-typed task within the numbers of atoms and actions is never refused, unless memory
     // runs out.
-    ensures never { IsWellTyped domain.now problem.now → IsWithinLimits domain.now problem.now → IfErr result (λ e. e ≡ Memory) }
+    ensures never { IsWellTyped domain.now problem.now → IsWithinLimits domain.now problem.now
+        → IfErr result (λ e. e ≡ Memory) }
 {
     task_of(alloc, domain, problem)
 }

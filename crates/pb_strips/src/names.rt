@@ -56,7 +56,8 @@ fn add_objects(
     objects: &[usize],
     bytes: &mut Vec<u8>,
 ) -> Result<(), AllocError>
-    ensures { OnOk result (bytes.new.items ≡ bytes.old.items ++ spaced (named domain.now problem.now objects.now)) }
+    ensures { OnOk result (bytes.new.items ≡ bytes.old.items
+        ++ spaced (named domain.now problem.now objects.now)) }
 {
     for object in objects {
         bytes.push(b' ')?;
@@ -73,7 +74,8 @@ pub(crate) fn name_of(
     schema: usize,
     objects: &[usize],
 ) -> Result<ActionName, AllocError>
-    ensures { IfOk result (λ name. name ≡ action_text domain.now (schema, named domain.now problem.now objects.now)) }
+    ensures { IfOk result (λ name. name ≡ action_text domain.now
+        (schema, named domain.now problem.now objects.now)) }
 {
     let mut bytes = Vec::new(alloc);
     bytes.push(b'(')?;

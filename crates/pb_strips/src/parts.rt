@@ -21,7 +21,8 @@ fn packed_action(
     action: &ActionInstance,
 ) -> Result<pb_task::GroundAction, AllocError>
     requires { HasAtoms 256 action.now }
-    ensures { IfOk result (λ packed. (count : ℕ) → count ≤ 256 → HasAtoms count action.now → packed ≡ packed_action domain.now problem.now count action.now) }
+    ensures { IfOk result (λ packed. (count : ℕ) → count ≤ 256 → HasAtoms count action.now
+        → packed ≡ packed_action domain.now problem.now count action.now) }
 {
     let name = name_of(
         alloc,
@@ -47,7 +48,8 @@ fn packed_actions(
     actions: &[ActionInstance],
 ) -> Result<Actions, AllocError>
     requires { All (HasAtoms 256) actions.now }
-    ensures { IfOk result (λ all. (count : ℕ) → count ≤ 256 → All (HasAtoms count) actions.now → all ≡ map (packed_action domain.now problem.now count) actions.now) }
+    ensures { IfOk result (λ all. (count : ℕ) → count ≤ 256 → All (HasAtoms count) actions.now
+        → all ≡ map (packed_action domain.now problem.now count) actions.now) }
 {
     let mut all = Vec::new(alloc);
     for action in actions {

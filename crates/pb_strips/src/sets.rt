@@ -7,7 +7,8 @@ use pb_packed::Packed;
 /// The set of the atoms of these numbers.
 pub(crate) fn set_of(numbers: &[usize]) -> Packed
     requires { AreAtoms 256 numbers.now }
-    ensures { (count : ℕ) → count ≤ 256 → AreAtoms count numbers.now → result ≡ numbered_set count numbers.now }
+    ensures { (count : ℕ) → count ≤ 256 → AreAtoms count numbers.now
+        → result ≡ numbered_set count numbers.now }
 {
     let mut set = Packed::zero();
     for n in numbers {

@@ -114,7 +114,8 @@ fn parts<'a>(
     out: &mut ActionParts,
     tokens: &'a [Token],
 ) -> Result<&'a [Token], SyntaxError>
-    ensures { Gives (λ rest. (out.new, rest.now)) result (all_of begins_key (part_at limited) out.old tokens.now) }
+    ensures { Gives (λ rest. (out.new, rest.now)) result
+        (all_of begins_key (part_at limited) out.old tokens.now) }
 {
     let mut rest = tokens;
     for _ in 0..tokens.len() {

@@ -42,7 +42,8 @@ fn terms<'a>(
     variables: bool,
     tokens: &'a [Token],
 ) -> Result<(Listed<Term>, &'a [Token]), SyntaxError>
-    ensures { Gives (λ x. (x.0, x.1.now)) result (all_of (begins_term variables) add_term [] tokens.now) }
+    ensures { Gives (λ x. (x.0, x.1.now)) result
+        (all_of (begins_term variables) add_term [] tokens.now) }
 {
     let mut out = Listed::new(alloc);
     let mut rest = tokens;

@@ -32,7 +32,8 @@ pub fn cond<'a>(
     out: &mut Listed<Atom>,
     tokens: &'a [Token],
 ) -> Result<&'a [Token], SyntaxError>
-    ensures { Gives (λ rest. (out.new, rest.now)) result (cond_at variables room out.old tokens.now) }
+    ensures { Gives (λ rest. (out.new, rest.now)) result
+        (cond_at variables room out.old tokens.now) }
 {
     if room == 0 {
         return Err(fault(Want::Paren, tokens));
@@ -56,7 +57,8 @@ fn all_conds<'a>(
     out: &mut Listed<Atom>,
     tokens: &'a [Token],
 ) -> Result<&'a [Token], SyntaxError>
-    ensures { Gives (λ rest. (out.new, rest.now)) result (all_of begins_open (cond_at variables room) out.old tokens.now) }
+    ensures { Gives (λ rest. (out.new, rest.now)) result
+        (all_of begins_open (cond_at variables room) out.old tokens.now) }
 {
     let mut rest = tokens;
     for _ in 0..tokens.len() {
@@ -78,7 +80,8 @@ fn conds<'a>(
     out: &mut Listed<Atom>,
     tokens: &'a [Token],
 ) -> Result<&'a [Token], SyntaxError>
-    ensures { Gives (λ rest. (out.new, rest.now)) result (conds_at variables (cond_at variables room) out.old tokens.now) }
+    ensures { Gives (λ rest. (out.new, rest.now)) result
+        (conds_at variables (cond_at variables room) out.old tokens.now) }
 {
     let rest = all_conds(alloc, variables, room, out, tokens)?;
     need(TokenKind::Close, Want::Paren, rest)
@@ -149,7 +152,8 @@ fn all_effects<'a>(
     out: &mut EffectParts,
     tokens: &'a [Token],
 ) -> Result<&'a [Token], SyntaxError>
-    ensures { Gives (λ rest. (out.new, rest.now)) result (all_of begins_open (effect_at room) out.old tokens.now) }
+    ensures { Gives (λ rest. (out.new, rest.now)) result
+        (all_of begins_open (effect_at room) out.old tokens.now) }
 {
     let mut rest = tokens;
     for _ in 0..tokens.len() {
@@ -170,7 +174,8 @@ fn effects<'a>(
     out: &mut EffectParts,
     tokens: &'a [Token],
 ) -> Result<&'a [Token], SyntaxError>
-    ensures { Gives (λ rest. (out.new, rest.now)) result (effects_at (effect_at room) out.old tokens.now) }
+    ensures { Gives (λ rest. (out.new, rest.now)) result
+        (effects_at (effect_at room) out.old tokens.now) }
 {
     let rest = all_effects(alloc, room, out, tokens)?;
     need(TokenKind::Close, Want::Paren, rest)

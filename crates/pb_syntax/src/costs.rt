@@ -48,7 +48,8 @@ fn is_number_first(tokens: &[Token]) -> bool
 // The number that the first token is.
 #[tactic(auto, unfolding(pb_pddl::specs::Reading::front))]
 fn first_value(tokens: &[Token]) -> u64
-    ensures { is_number (front tokens.now).text ≡ true → result ≡ number_of (front tokens.now).text }
+    ensures { is_number (front tokens.now).text ≡ true → result
+        ≡ number_of (front tokens.now).text }
 {
     match tokens {
         [] => value_of(&[]),

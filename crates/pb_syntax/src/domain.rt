@@ -97,7 +97,8 @@ fn action_section<'a>(
     out: &mut DomainParts,
     tokens: &'a [Token],
 ) -> Result<&'a [Token], SyntaxError>
-    ensures { Gives (λ rest. (out.new, rest.now)) result (action_section limited out.old tokens.now) }
+    ensures { Gives (λ rest. (out.new, rest.now)) result
+        (action_section limited out.old tokens.now) }
 {
     let rest = add_action(alloc, &mut out.actions, behind(tokens))?;
     Ok(rest)
@@ -146,7 +147,8 @@ fn domain_section<'a>(
     out: &mut DomainParts,
     tokens: &'a [Token],
 ) -> Result<&'a [Token], SyntaxError>
-    ensures { Gives (λ rest. (out.new, rest.now)) result (domain_section limited out.old tokens.now) }
+    ensures { Gives (λ rest. (out.new, rest.now)) result
+        (domain_section limited out.old tokens.now) }
 {
     let inside = need(TokenKind::Open, Want::Paren, tokens)?;
     domain_key(alloc, out, inside)
@@ -157,7 +159,8 @@ fn domain_sections<'a>(
     out: &mut DomainParts,
     tokens: &'a [Token],
 ) -> Result<&'a [Token], SyntaxError>
-    ensures { Gives (λ rest. (out.new, rest.now)) result (all_of begins_open (domain_section limited) out.old tokens.now) }
+    ensures { Gives (λ rest. (out.new, rest.now)) result
+        (all_of begins_open (domain_section limited) out.old tokens.now) }
 {
     let mut rest = tokens;
     for _ in 0..tokens.len() {

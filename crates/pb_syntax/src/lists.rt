@@ -98,7 +98,8 @@ fn groups<'a>(
     out: &mut Group,
     tokens: &'a [Token],
 ) -> Result<&'a [Token], SyntaxError>
-    ensures { Gives (λ rest. (out.new, rest.now)) result (all_of (begins_group kind) (group_step kind) out.old tokens.now) }
+    ensures { Gives (λ rest. (out.new, rest.now)) result
+        (all_of (begins_group kind) (group_step kind) out.old tokens.now) }
 {
     let mut rest = tokens;
     for _ in 0..tokens.len() {
@@ -151,7 +152,8 @@ fn all_predicates<'a>(
     out: &mut Listed<Predicate>,
     tokens: &'a [Token],
 ) -> Result<&'a [Token], SyntaxError>
-    ensures { Gives (λ rest. (out.new, rest.now)) result (all_of begins_open add_predicate out.old tokens.now) }
+    ensures { Gives (λ rest. (out.new, rest.now)) result
+        (all_of begins_open add_predicate out.old tokens.now) }
 {
     let mut rest = tokens;
     for _ in 0..tokens.len() {
@@ -202,7 +204,8 @@ fn all_keys<'a>(
     out: &mut Listed<Name>,
     tokens: &'a [Token],
 ) -> Result<&'a [Token], SyntaxError>
-    ensures { Gives (λ rest. (out.new, rest.now)) result (all_of begins_key add_key out.old tokens.now) }
+    ensures { Gives (λ rest. (out.new, rest.now)) result
+        (all_of begins_key add_key out.old tokens.now) }
 {
     let mut rest = tokens;
     for _ in 0..tokens.len() {
@@ -259,7 +262,8 @@ fn all_facts<'a>(
     out: &mut InitParts,
     tokens: &'a [Token],
 ) -> Result<&'a [Token], SyntaxError>
-    ensures { Gives (λ rest. (out.new, rest.now)) result (all_of begins_open add_fact out.old tokens.now) }
+    ensures { Gives (λ rest. (out.new, rest.now)) result
+        (all_of begins_open add_fact out.old tokens.now) }
 {
     let mut rest = tokens;
     for _ in 0..tokens.len() {

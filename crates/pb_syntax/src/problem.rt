@@ -169,7 +169,8 @@ fn problem_section<'a>(
     out: &mut ProblemParts,
     tokens: &'a [Token],
 ) -> Result<&'a [Token], SyntaxError>
-    ensures { Gives (λ rest. (out.new, rest.now)) result (problem_section limited out.old tokens.now) }
+    ensures { Gives (λ rest. (out.new, rest.now)) result
+        (problem_section limited out.old tokens.now) }
 {
     if stood_all(out) {
         return Err(fault(Want::Close, tokens));
@@ -183,7 +184,8 @@ fn problem_sections<'a>(
     out: &mut ProblemParts,
     tokens: &'a [Token],
 ) -> Result<&'a [Token], SyntaxError>
-    ensures { Gives (λ rest. (out.new, rest.now)) result (all_of begins_open (problem_section limited) out.old tokens.now) }
+    ensures { Gives (λ rest. (out.new, rest.now)) result
+        (all_of begins_open (problem_section limited) out.old tokens.now) }
 {
     let mut rest = tokens;
     for _ in 0..tokens.len() {

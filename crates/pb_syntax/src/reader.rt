@@ -20,7 +20,8 @@ use std::alloc::Global;
 
 fn domain_of(alloc: Global, text: &[u8]) -> Result<Domain, SyntaxError>
     ensures is { IsRead (domain_at unlimited) text.now result }
-    ensures only { (ts : List Token) → TextTokens text.now ts → Gives (λ d. d) result (domain_at unlimited ts) }
+    ensures only { (ts : List Token) → TextTokens text.now ts
+        → Gives (λ d. d) result (domain_at unlimited ts) }
 {
     let list = tokens(alloc, text)?;
     let found = domain(alloc, list.as_slice())?;
@@ -29,7 +30,8 @@ fn domain_of(alloc: Global, text: &[u8]) -> Result<Domain, SyntaxError>
 
 fn problem_of(alloc: Global, text: &[u8]) -> Result<Problem, SyntaxError>
     ensures is { IsRead (problem_at unlimited) text.now result }
-    ensures only { (ts : List Token) → TextTokens text.now ts → Gives (λ p. p) result (problem_at unlimited ts) }
+    ensures only { (ts : List Token) → TextTokens text.now ts
+        → Gives (λ p. p) result (problem_at unlimited ts) }
 {
     let list = tokens(alloc, text)?;
     let found = problem(alloc, list.as_slice())?;
@@ -51,9 +53,11 @@ pub fn read_domain(alloc: Global, text: &[u8]) -> Result<Domain, SyntaxError>
     ensures first { IfErr result (λ e. e ≢ Memory → FirstFault Domain IsDomain text.now e) }
     // By the grammar's table the tokens before it lead to one place, and the error is that of the
     // place.
-    ensures told { IfErr result (λ e. e ≢ Memory → ToldFault Domain IsDomain domain_form text.now e) }
+    ensures told { IfErr result (λ e. e ≢ Memory
+        → ToldFault Domain IsDomain domain_form text.now e) }
     // The error of a place is reported, unless memory runs out. A text thus has one error at most.
-    ensures fault { (e : SyntaxError) → ToldFault Domain IsDomain domain_form text.now e → Gives (λ x. x) result (Err e) }
+    ensures fault { (e : SyntaxError) → ToldFault Domain IsDomain domain_form text.now e
+        → Gives (λ x. x) result (Err e) }
     // The answer is the one that reading from left to right gives, however deep the parentheses.
     ensures exact { IsRead (domain_at unlimited) text.now result }
     // The same as a function of the text: the answer is its reading, unless memory runs out.
@@ -78,9 +82,11 @@ pub fn read_problem(alloc: Global, text: &[u8]) -> Result<Problem, SyntaxError>
     ensures first { IfErr result (λ e. e ≢ Memory → FirstFault Problem IsProblem text.now e) }
     // By the grammar's table the tokens before it lead to one place, and the error is that of the
     // place.
-    ensures told { IfErr result (λ e. e ≢ Memory → ToldFault Problem IsProblem problem_form text.now e) }
+    ensures told { IfErr result (λ e. e ≢ Memory
+        → ToldFault Problem IsProblem problem_form text.now e) }
     // The error of a place is reported, unless memory runs out. A text thus has one error at most.
-    ensures fault { (e : SyntaxError) → ToldFault Problem IsProblem problem_form text.now e → Gives (λ x. x) result (Err e) }
+    ensures fault { (e : SyntaxError) → ToldFault Problem IsProblem problem_form text.now e
+        → Gives (λ x. x) result (Err e) }
     // The answer is the one that reading from left to right gives, however deep the parentheses.
     ensures exact { IsRead (problem_at unlimited) text.now result }
     // The same as a function of the text: the answer is its reading, unless memory runs out.

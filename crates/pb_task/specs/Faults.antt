@@ -13,5 +13,7 @@ LeadTo space actions state = (cost : ℕ) × Walk space space.start actions cost
 -- NotGoal: all actions are applicable, and they lead to no goal.
 abbrev pub IsFault : Space → List ℕ → PlanFault → Type 0
 IsFault space actions (Step at) =
-    (state : ℕ) × (action : ℕ) × LeadTo space (take at actions) state × (slice_get actions at ≡ Some action) × (space.step state action ≡ None)
-IsFault space actions NotGoal = (state : ℕ) × LeadTo space actions state × (space.is_goal state ≡ false)
+    (state : ℕ) × (action : ℕ) × LeadTo space (take at actions) state
+    × (slice_get actions at ≡ Some action) × (space.step state action ≡ None)
+IsFault space actions NotGoal =
+    (state : ℕ) × LeadTo space actions state × (space.is_goal state ≡ false)

@@ -27,12 +27,14 @@ are_connected Blocked to = false
 -- cell is blocked
 abbrev pub class_at : GridParts → (x y : ℕ) → Class
 class_at grid x y =
-    if nat_lt x grid.width && nat_lt y grid.height then unwrap_or (slice_get grid.cells (y * grid.width + x)) Blocked else Blocked
+    if nat_lt x grid.width && nat_lt y grid.height then unwrap_or
+    (slice_get grid.cells (y * grid.width + x)) Blocked else Blocked
 
 -- the cell in this column and row is swamp; off the map none is
 abbrev pub is_swamp : GridParts → (x y : ℕ) → Bool
 is_swamp grid x y =
-    if nat_lt x grid.width && nat_lt y grid.height then unwrap_or (slice_get grid.swamp (y * grid.width + x)) false else false
+    if nat_lt x grid.width && nat_lt y grid.height then unwrap_or
+    (slice_get grid.swamp (y * grid.width + x)) false else false
 
 -- what it costs to enter a cell
 abbrev pub entry_cost : GridParts → (x y : ℕ) → ℕ
@@ -45,7 +47,9 @@ cell_state x y = x + y * 2 ^ 11
 -- the class of the cell that a state represents; a number with another bit that is 1 represents no
 -- cell
 abbrev pub class_of_state : GridParts → (state : ℕ) → Class
-class_of_state grid state = if nat_lt state (2 ^ 22) then class_at grid (bits_of state 0 11) (bits_of state 11 11) else Blocked
+class_of_state grid state =
+    if nat_lt state (2 ^ 22) then class_at grid (bits_of state 0 11) (bits_of state 11 11)
+    else Blocked
 
 -- the cell beside a cell in an action's direction: 0 is up, 1 down, 2 left, 3 right
 abbrev pub cell_beside : (x y action : ℕ) → Option (ℕ × ℕ)
@@ -58,10 +62,14 @@ cell_beside x y (suc (suc (suc (suc more)))) = None
 -- the step from a cell of the class to this cell, if the two are connected
 abbrev pub step_to : GridParts → (from : Class) → (cell : Option (ℕ × ℕ)) → Option (ℕ × ℕ)
 step_to grid from None = None
-step_to grid from (Some cell) = if are_connected from (class_at grid cell.0 cell.1) then Some (cell_state cell.0 cell.1, entry_cost grid cell.0 cell.1) else None
+step_to grid from (Some cell) =
+    if are_connected from (class_at grid cell.0 cell.1)
+    then Some (cell_state cell.0 cell.1, entry_cost grid cell.0 cell.1) else None
 
 abbrev pub grid_step : GridParts → (state action : ℕ) → Option (ℕ × ℕ)
-grid_step grid state action = step_to grid (class_of_state grid state) (cell_beside (bits_of state 0 11) (bits_of state 11 11) action)
+grid_step grid state action =
+    step_to grid (class_of_state grid state)
+    (cell_beside (bits_of state 0 11) (bits_of state 11 11) action)
 
 -- the state space of a grid
 abbrev pub grid_space : GridParts → Space

@@ -9,7 +9,8 @@ abbrev pub LiesBeside : (cols from to action : ℕ) → Type 0
 LiesBeside cols from to zero = (from % cols ≡ to % cols) × (from / cols ≡ to / cols + 1)
 LiesBeside cols from to (suc zero) = (from % cols ≡ to % cols) × (to / cols ≡ from / cols + 1)
 LiesBeside cols from to (suc (suc zero)) = (from / cols ≡ to / cols) × (from % cols ≡ to % cols + 1)
-LiesBeside cols from to (suc (suc (suc zero))) = (from / cols ≡ to / cols) × (to % cols ≡ from % cols + 1)
+LiesBeside cols from to (suc (suc (suc zero))) =
+    (from / cols ≡ to / cols) × (to % cols ≡ from % cols + 1)
 LiesBeside cols from to (suc (suc (suc (suc more)))) = ⊥
 
 -- The blank and the tile beside it in the action's direction have changed places, and all other
@@ -22,4 +23,5 @@ pub record Slides (tiles : TilesParts) (action : ℕ) (before after : List ℕ) 
   pub blank_was : slice_index before blank ≡ 0
   pub blank_is : slice_index after tile ≡ 0
   pub tile_is : slice_index after blank ≡ slice_index before tile
-  pub others_stay : (cell : ℕ) → cell ≢ blank → cell ≢ tile → slice_index after cell ≡ slice_index before cell
+  pub others_stay : (cell : ℕ) → cell ≢ blank → cell ≢ tile
+      → slice_index after cell ≡ slice_index before cell

@@ -21,13 +21,15 @@ set_of (suc atom) accepts = set_of atom accepts + bit_number (accepts atom) * 2 
 -- those of the first `count` atoms that are in the one set are in the other
 abbrev pub is_within : (count small large : ℕ) → Bool
 is_within zero small large = true
-is_within (suc atom) small large = is_within atom small large && (not (has_atom small atom) || has_atom large atom)
+is_within (suc atom) small large =
+    is_within atom small large && (not (has_atom small atom) || has_atom large atom)
 
 -- ---- steps
 
 -- whether an atom holds after an action: it is added, or it held and is not deleted
 abbrev pub holds_after : GroundAction → (state atom : ℕ) → Bool
-holds_after action state atom = has_atom action.adds atom || (has_atom state atom && not (has_atom action.deletes atom))
+holds_after action state atom =
+    has_atom action.adds atom || (has_atom state atom && not (has_atom action.deletes atom))
 
 -- the state after an action
 abbrev pub state_after : (count : ℕ) → GroundAction → (state : ℕ) → ℕ
@@ -36,14 +38,18 @@ state_after count action state = set_of count (holds_after action state)
 -- the step by an action, if there is such an action and the atoms that it needs hold
 abbrev pub step_by : (count : ℕ) → (action : Option GroundAction) → (state : ℕ) → Option (ℕ × ℕ)
 step_by count None state = None
-step_by count (Some action) state = if is_within count action.needs state then Some (state_after count action state, action.cost) else None
+step_by count (Some action) state =
+    if is_within count action.needs state then Some (state_after count action state, action.cost)
+    else None
 
 -- a state is a set of the task's atoms, with all other bits 0
 abbrev pub is_atom_set : (count state : ℕ) → Bool
 is_atom_set count state = nat_lt state (2 ^ count)
 
 abbrev pub strips_step : StripsParts → (state action : ℕ) → Option (ℕ × ℕ)
-strips_step strips state action = if is_atom_set strips.atoms state then step_by strips.atoms (slice_get strips.actions action) state else None
+strips_step strips state action =
+    if is_atom_set strips.atoms state then step_by strips.atoms (slice_get strips.actions action)
+    state else None
 
 -- a goal state holds all atoms of the goal; there is none if the goal asks for a fact that can
 -- never hold
@@ -90,7 +96,8 @@ pub record Acts (strips : StripsParts) (from action to cost : ℕ) : Type 0 wher
   pub act : GroundAction
   pub is : slice_get strips.actions action ≡ Some act
   pub from_set : from < 2 ^ strips.atoms
-  pub needed : (atom : ℕ) → atom < strips.atoms → IsTrue (has_atom act.needs atom) → IsTrue (has_atom from atom)
+  pub needed : (atom : ℕ) → atom < strips.atoms → IsTrue (has_atom act.needs atom)
+      → IsTrue (has_atom from atom)
   pub to_set : to < 2 ^ strips.atoms
   pub result : (atom : ℕ) → atom < strips.atoms → has_atom to atom ≡ holds_after act from atom
   pub price : cost ≡ act.cost

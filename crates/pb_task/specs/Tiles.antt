@@ -16,11 +16,13 @@ cell_count tiles = tiles.rows * tiles.cols
 -- no number is twice in the list
 abbrev pub are_distinct : List ℕ → Bool
 are_distinct [] = true
-are_distinct (number ∷ numbers) = not (list_any (λ other. other == number) numbers) && are_distinct numbers
+are_distinct (number ∷ numbers) =
+    not (list_any (λ other. other == number) numbers) && are_distinct numbers
 
 -- the list has the numbers from 0 to below `count`, each once
 abbrev pub is_board : (count : ℕ) → List ℕ → Bool
-is_board count board = length board == count && (list_all (λ number. nat_lt number count) board && are_distinct board)
+is_board count board =
+    length board == count && (list_all (λ number. nat_lt number count) board && are_distinct board)
 
 -- ---- boards as states
 
@@ -43,7 +45,8 @@ is_board_state count state = nat_lt state (16 ^ count) && is_board count (board_
 -- the cell in a column and a row, if the board has it
 abbrev pub cell_on : (rows cols : ℕ) → (place : Option (ℕ × ℕ)) → Option ℕ
 cell_on rows cols None = None
-cell_on rows cols (Some place) = if nat_lt place.0 cols && nat_lt place.1 rows then Some (place.1 * cols + place.0) else None
+cell_on rows cols (Some place) =
+    if nat_lt place.0 cols && nat_lt place.1 rows then Some (place.1 * cols + place.0) else None
 
 -- the cell beside a cell in an action's direction: 0 is up, 1 down, 2 left, 3 right; none if the
 -- board ends there
@@ -56,7 +59,8 @@ exchange board blank None = None
 exchange board blank (Some other) = Some (board_state (swap board blank other), 1)
 
 -- the blank of a board, which is in this cell, moves in an action's direction
-abbrev pub slide : (rows cols : ℕ) → (board : List ℕ) → (blank : Option ℕ) → (action : ℕ) → Option (ℕ × ℕ)
+abbrev pub slide : (rows cols : ℕ) → (board : List ℕ) → (blank : Option ℕ) → (action : ℕ)
+    → Option (ℕ × ℕ)
 slide rows cols board None action = None
 slide rows cols board (Some blank) action = exchange board blank (neighbour rows cols blank action)
 
@@ -69,7 +73,8 @@ slide_on rows cols board action = slide rows cols board (blank_of board) action
 
 abbrev pub tiles_step : TilesParts → (state action : ℕ) → Option (ℕ × ℕ)
 tiles_step tiles state action =
-    if is_board_state (cell_count tiles) state then slide_on tiles.rows tiles.cols (board_of (cell_count tiles) state) action else None
+    if is_board_state (cell_count tiles) state then slide_on tiles.rows tiles.cols
+    (board_of (cell_count tiles) state) action else None
 
 -- the state space of sliding tiles
 abbrev pub tiles_space : TilesParts → Space

@@ -18,8 +18,10 @@ impl Task {
     /// What a plan costs, or why a list of actions is no plan. It takes no memory.
     pub fn validate(&self, plan: &[u32]) -> Result<u64, PlanFault>
         requires { length plan.now ≤ 2 ^ 40 }
-        ensures cost { IfOk result (λ cost. IsPlan (space_of self.now) (record { actions = plan.now; cost = cost })) }
-        ensures plan { (cost : ℕ) → IsPlan (space_of self.now) (record { actions = plan.now; cost = cost }) → result ≡ Ok cost }
+        ensures cost { IfOk result (λ cost. IsPlan (space_of self.now)
+            (record { actions = plan.now; cost = cost })) }
+        ensures plan { (cost : ℕ) → IsPlan (space_of self.now)
+            (record { actions = plan.now; cost = cost }) → result ≡ Ok cost }
         ensures fault { IfErr result (IsFault (space_of self.now) plan.now) }
     {
         let mut state = self.initial();

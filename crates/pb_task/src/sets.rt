@@ -34,7 +34,8 @@ pub fn is_atom_set(count: u32, set: &Packed) -> bool
 fn is_word_within(small: &Packed, large: &Packed, at: u32) -> bool
     requires { at + 64 ≤ 256 }
     ensures { IsTrue result
-        ↔ ((atom : ℕ) → atom < 64 → IsTrue (has_atom small.now (at + atom)) → IsTrue (has_atom large.now (at + atom))) }
+        ↔ ((atom : ℕ) → atom < 64 → IsTrue (has_atom small.now (at + atom))
+        → IsTrue (has_atom large.now (at + atom))) }
 {
     let word = small.bits(at, WORD);
     word & large.bits(at, WORD) == word
@@ -43,7 +44,8 @@ fn is_word_within(small: &Packed, large: &Packed, at: u32) -> bool
 /// Whether the one set of at most 256 atoms is within the other.
 pub fn is_within(small: &Packed, large: &Packed) -> bool
     ensures { IsTrue result
-        ↔ ((atom : ℕ) → atom < 256 → IsTrue (has_atom small.now atom) → IsTrue (has_atom large.now atom)) }
+        ↔ ((atom : ℕ) → atom < 256 → IsTrue (has_atom small.now atom)
+        → IsTrue (has_atom large.now atom)) }
 {
     is_word_within(small, large, 0)
         && is_word_within(small, large, WORD)
@@ -54,7 +56,8 @@ pub fn is_within(small: &Packed, large: &Packed) -> bool
 // Which of the 64 atoms from atom `at` on hold after an action: the word of the state after it.
 fn word_after(action: &GroundAction, state: &Packed, at: u32) -> u64
     requires { at + 64 ≤ 256 }
-    ensures { (atom : ℕ) → atom < 64 → has_atom result atom ≡ holds_after action.now state.now (at + atom) }
+    ensures { (atom : ℕ) → atom < 64 → has_atom result atom
+        ≡ holds_after action.now state.now (at + atom) }
 {
     let held = state.bits(at, WORD);
     let deleted = action.deletes.bits(at, WORD);
@@ -64,7 +67,8 @@ fn word_after(action: &GroundAction, state: &Packed, at: u32) -> u64
 
 /// The set of those of 256 atoms that hold after an action.
 pub fn after(action: &GroundAction, state: &Packed) -> Packed
-    ensures atoms { (atom : ℕ) → atom < 256 → has_atom result atom ≡ holds_after action.now state.now atom }
+    ensures atoms { (atom : ℕ) → atom < 256 → has_atom result atom
+        ≡ holds_after action.now state.now atom }
     ensures bits { result < 2 ^ 256 }
 {
     let first = word_after(action, state, 0);

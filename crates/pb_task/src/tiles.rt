@@ -185,7 +185,8 @@ fn slide_word(
     requires blank { blank_of (board_of (cell_count tiles.now) word) ≡ Some blank }
     requires column { column ≡ blank % tiles.now.cols }
     requires row { row ≡ blank / tiles.now.cols }
-    ensures { result ≡ slide_on tiles.now.rows tiles.now.cols (board_of (cell_count tiles.now) word) action }
+    ensures { result ≡ slide_on tiles.now.rows tiles.now.cols (board_of (cell_count tiles.now) word)
+        action }
 {
     let other = neighbour(tiles, column, row, action)?;
     let moved = exchanged(word, tiles.rows * tiles.cols, blank, other);

@@ -18,7 +18,8 @@ nothing_said = record { before = []; has_goal = false; behind = [] }
 -- one more number is said
 abbrev pub with_number : Said → (number : ℕ) → Said
 with_number said number =
-    if said.has_goal then record said { behind = said.behind ++ number ∷ [] } else record said { before = said.before ++ number ∷ [] }
+    if said.has_goal then record said { behind = said.behind ++ number ∷ [] }
+    else record said { before = said.before ++ number ∷ [] }
 
 -- the word `goal` may come once, after two numbers or more
 abbrev pub may_have_goal : Said → Bool
@@ -27,7 +28,8 @@ may_have_goal said = not said.has_goal && nat_le 2 (length said.before)
 -- what is said after one more word, which spells this number or is `goal`
 abbrev pub with_word : Said → (number : Option ℕ) → (is_goal : Bool) → Option Said
 with_word said (Some number) is_goal = Some (with_number said number)
-with_word said None is_goal = if may_have_goal said && is_goal then Some (record said { has_goal = true }) else None
+with_word said None is_goal =
+    if may_have_goal said && is_goal then Some (record said { has_goal = true }) else None
 
 abbrev pub next : Said → (word : List ℕ) → Option Said
 next said word = with_word said (short_number_of word) (bytes_eq word (codes "goal"))
@@ -35,7 +37,8 @@ next said word = with_word said (short_number_of word) (bytes_eq word (codes "go
 -- what is said after more words, or the line of the first word that can't be at its place
 abbrev pub said_by : Said → List Word → Result Said TilesError
 said_by said [] = Ok said
-said_by said (word ∷ more) = option_map_or (λ after. said_by after more) (next said word.text) (Err (Syntax word.line))
+said_by said (word ∷ more) =
+    option_map_or (λ after. said_by after more) (next said word.text) (Err (Syntax word.line))
 
 -- ---- what numbers mean
 
@@ -53,7 +56,8 @@ abbrev pub board_fault : (count place : ℕ) → (before board : List ℕ) → O
 board_fault count place before [] = None
 board_fault count place before (number ∷ board) =
     if nat_lt number count
-    then (if list_any (λ other. other == number) before then Some (Twice number) else board_fault count (place + 1) (before ++ number ∷ []) board)
+    then (if list_any (λ other. other == number) before then Some (Twice number)
+    else board_fault count (place + 1) (before ++ number ∷ []) board)
     else Some (Number place)
 
 abbrev pub first_fault : Option TilesError → Option TilesError → Option TilesError
@@ -64,21 +68,27 @@ first_fault (Some fault) later = Some fault
 -- of numbers
 abbrev pub boards_fault : (count : ℕ) → (start goal : List ℕ) → Option TilesError
 boards_fault count start goal =
-    first_fault (count_fault count start) (first_fault (count_fault count goal) (first_fault (board_fault count 2 [] start) (board_fault count (2 + count) [] goal)))
+    first_fault (count_fault count start)
+    (first_fault (count_fault count goal)
+    (first_fault (board_fault count 2 [] start) (board_fault count (2 + count) [] goal)))
 
 abbrev pub unless_fault : Option TilesError → TilesParts → Result TilesParts TilesError
 unless_fault None tiles = Ok tiles
 unless_fault (Some fault) tiles = Err fault
 
 abbrev pub boards_reading : (rows cols : ℕ) → (start goal : List ℕ) → Result TilesParts TilesError
-boards_reading rows cols start goal = unless_fault (boards_fault (rows * cols) start goal) (record { rows = rows; cols = cols; start = start; goal = goal })
+boards_reading rows cols start goal =
+    unless_fault (boards_fault (rows * cols) start goal)
+    (record { rows = rows; cols = cols; start = start; goal = goal })
 
 -- the numbers are rows, columns and the start; if no goal is said, it is 0, 1, 2 and so on
-abbrev pub numbers_reading : (before : List ℕ) → (has_goal : Bool) → (behind : List ℕ) → Result TilesParts TilesError
+abbrev pub numbers_reading : (before : List ℕ) → (has_goal : Bool) → (behind : List ℕ)
+    → Result TilesParts TilesError
 numbers_reading [] has_goal behind = Err (Count 0 2)
 numbers_reading (rows ∷ []) has_goal behind = Err (Count 1 2)
 numbers_reading (rows ∷ cols ∷ start) has_goal behind =
-    if is_side rows && is_side cols then boards_reading rows cols start (if has_goal then behind else range_with_len 0 (rows * cols)) else Err Size
+    if is_side rows && is_side cols then boards_reading rows cols start
+    (if has_goal then behind else range_with_len 0 (rows * cols)) else Err Size
 
 abbrev pub reading : Said → Result TilesParts TilesError
 reading said = numbers_reading said.before said.has_goal said.behind

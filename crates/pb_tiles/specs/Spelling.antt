@@ -25,7 +25,8 @@ IsWord word = (1 ≤ length word) × AllByRecursion (λ byte. is_blank byte ≡ 
 abbrev pub AreWordsOf : (text : List ℕ) → (words : List (List ℕ)) → Type 0
 AreWordsOf text [] = AreBlanks text
 AreWordsOf text (word ∷ words) =
-    (blanks : List ℕ) × (rest : List ℕ) × (text ≡ blanks ++ (word ++ rest)) × AreBlanks blanks × IsWord word × BeginsBlank rest × AreWordsOf rest words
+    (blanks : List ℕ) × (rest : List ℕ) × (text ≡ blanks ++ (word ++ rest)) × AreBlanks blanks
+    × IsWord word × BeginsBlank rest × AreWordsOf rest words
 
 -- ---- numbers
 

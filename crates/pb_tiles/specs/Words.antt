@@ -23,7 +23,8 @@ line_behind line byte = if byte == 10 then line + 1 else line
 abbrev pub words_behind : (line : ℕ) → (word text : List ℕ) → List Word
 words_behind line word [] = word_end line word
 words_behind line word (byte ∷ text) =
-    if is_blank byte then word_end line word ++ words_behind (line_behind line byte) [] text else words_behind line (word ++ byte ∷ []) text
+    if is_blank byte then word_end line word ++ words_behind (line_behind line byte) [] text
+    else words_behind line (word ++ byte ∷ []) text
 
 abbrev pub words : (text : List ℕ) → List Word
 words text = words_behind 1 [] text

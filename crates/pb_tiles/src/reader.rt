@@ -15,9 +15,12 @@ use std::alloc::Global;
 
 /// Reads the tiles that a text spells. What it reserves grows with the bytes that it reads.
 pub fn read_tiles(alloc: Global, text: &[u8]) -> Result<Task, TilesError>
-    ensures exact { IfOk result (λ task. (tiles : TilesParts) × (task ≡ Tiles tiles) × (tiles_reading text.now ≡ Ok tiles)) }
-    ensures spelled { IfOk result (λ task. (tiles : TilesParts) × (task ≡ Tiles tiles) × SpellsTiles text.now tiles) }
-    ensures only { (tiles : TilesParts) → SpellsTiles text.now tiles → MatchResult result (λ task. task ≡ Tiles tiles) (λ e. e ≡ Memory) }
+    ensures exact { IfOk result (λ task. (tiles : TilesParts) × (task ≡ Tiles tiles)
+        × (tiles_reading text.now ≡ Ok tiles)) }
+    ensures spelled { IfOk result (λ task. (tiles : TilesParts) × (task ≡ Tiles tiles)
+        × SpellsTiles text.now tiles) }
+    ensures only { (tiles : TilesParts) → SpellsTiles text.now tiles
+        → MatchResult result (λ task. task ≡ Tiles tiles) (λ e. e ≡ Memory) }
     ensures refused { IfErr result (λ e. e ≢ Memory → tiles_reading text.now ≡ Err e) }
 {
     match tiles_in(alloc, text) {
@@ -77,7 +80,8 @@ fn boards(
     requires rows { (2 ≤ rows) × (rows ≤ 4) }
     requires cols { (2 ≤ cols) × (cols ≤ 4) }
     ensures said { IfOk result (λ tiles. boards_reading rows cols start.now goal.now ≡ Ok tiles) }
-    ensures refused { IfErr result (λ e. e ≢ Memory → boards_reading rows cols start.now goal.now ≡ Err e) }
+    ensures refused { IfErr result (λ e. e ≢ Memory → boards_reading rows cols start.now goal.now
+        ≡ Err e) }
     ensures lawful { IfOk result IsTiles }
 {
     if let Some(fault) = boards_fault(rows * cols, start, goal) {

@@ -24,7 +24,11 @@ impl Model for Numbers {
 
     ghost Value = { Said };
 
-    ghost view = { λ n. record { before = n.before.items; has_goal = n.has_goal; behind = n.behind.items } };
+    ghost view = { λ n. record {
+      before = n.before.items;
+      has_goal = n.has_goal;
+      behind = n.behind.items;
+    } };
 }
 
 impl Numbers {
@@ -63,7 +67,8 @@ impl Numbers {
     /// Takes the word that ends here, if it has bytes.
     pub fn take(&mut self, line: u64, word: &[u8]) -> Result<(), TilesError>
         ensures said { IfOk result (λ _. said_by self.old (word_end line word.now) ≡ Ok self.new) }
-        ensures refused { IfErr result (λ e. e ≢ Memory → said_by self.old (word_end line word.now) ≡ Err e) }
+        ensures refused { IfErr result (λ e. e ≢ Memory
+            → said_by self.old (word_end line word.now) ≡ Err e) }
     {
         if word.is_empty() {
             return Ok(());

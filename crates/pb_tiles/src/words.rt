@@ -10,7 +10,8 @@ use std::alloc::Global;
 /// The numbers that the words of a text say.
 pub fn read_words(alloc: Global, text: &[u8]) -> Result<Numbers, TilesError>
     ensures said { IfOk result (λ said. said_by nothing_said (words text.now) ≡ Ok said) }
-    ensures refused { IfErr result (λ e. e ≢ Memory → said_by nothing_said (words text.now) ≡ Err e) }
+    ensures refused { IfErr result (λ e. e ≢ Memory → said_by nothing_said (words text.now)
+        ≡ Err e) }
 {
     let mut numbers = Numbers::new(alloc);
     let mut line = 1;

@@ -67,8 +67,12 @@ module _ {R S V : Type 0} {g : Ghosts R S V} where
 
   -- the same pass of the same lock, with as many parts
   abbrev pub IsSamePass : Pass R S V g → Pass R S V g → Type 0
-  IsSamePass p q = (q.seat.table_id ≡ p.seat.table_id) × (q.seat.id ≡ p.seat.id) × (q.seat.me.0.parts ≡ p.seat.me.0.parts)
+  IsSamePass p q =
+      (q.seat.table_id ≡ p.seat.table_id) × (q.seat.id ≡ p.seat.id)
+      × (q.seat.me.0.parts ≡ p.seat.me.0.parts)
 
   -- the same pass of the same lock, which holds the turn, or doesn't, as before
   abbrev pub IsSamePlace : Pass R S V g → Pass R S V g → Type 0
-  IsSamePlace p q = (q.seat.table_id ≡ p.seat.table_id) × (q.seat.id ≡ p.seat.id) × (q.seat.me.0.stage ≡ p.seat.me.0.stage) × (q.seat.me.1 ≡ p.seat.me.1)
+  IsSamePlace p q =
+      (q.seat.table_id ≡ p.seat.table_id) × (q.seat.id ≡ p.seat.id)
+      × (q.seat.me.0.stage ≡ p.seat.me.0.stage) × (q.seat.me.1 ≡ p.seat.me.1)

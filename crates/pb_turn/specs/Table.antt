@@ -28,7 +28,8 @@ Known S V = Me (Option S) (PassView S V)
 
 module _ {S V : Type 0} where
   abbrev pub pass_view : Stage S → ℕ → ℕ → V → PassView S V
-  pass_view stage parts misses v = record { stage = stage; parts = parts; misses = misses; view = v }
+  pass_view stage parts misses v =
+      record { stage = stage; parts = parts; misses = misses; view = v }
 
   abbrev pub first_pass : V → PassView S V
   first_pass v = pass_view Resting whole 0 v
@@ -52,7 +53,8 @@ module _ {S V : Type 0} where
   parts_of d = d.parts
 
   -- `state` is the one that the last holder left: it is in the slot, or the holder has found it
-  pub record Turned (fact : S → ℕ → List V → Type 0) (spent : V) (s : State (Option S) (PassView S V)) : Type 0 where
+  pub record Turned (fact : S → ℕ → List V → Type 0) (spent : V)
+      (s : State (Option S) (PassView S V)) : Type 0 where
     pub state : S
     pub turn : ℕ
     pub holder : ℕ
@@ -60,38 +62,59 @@ module _ {S V : Type 0} where
     pub low : turn ≤ 1
     pub words : s.words ≡ turn ∷ number ∷ []
     pub homes : s.homes ≡ home_of turn state ∷ []
-    pub each_pass : (j : ℕ) (d : PassView S V) → get_elem? s.views j ≡ some d → Knows turn holder state j d.stage
-    pub holds_it : turn ≡ 1 → (d : PassView S V) × (get_elem? s.views holder ≡ some d) × (d.stage ≡ Holding state)
+    pub each_pass : (j : ℕ) (d : PassView S V) → get_elem? s.views j ≡ some d
+        → Knows turn holder state j d.stage
+    pub holds_it : turn ≡ 1 → (d : PassView S V) × (get_elem? s.views holder ≡ some d)
+        × (d.stage ≡ Holding state)
     pub all_parts : sum_by parts_of s.views ≡ whole
-    pub no_parts : (j : ℕ) (d : PassView S V) → get_elem? s.views j ≡ some d → d.parts ≡ 0 → d ≡ spent_pass spent
+    pub no_parts : (j : ℕ) (d : PassView S V) → get_elem? s.views j ≡ some d → d.parts ≡ 0
+        → d ≡ spent_pass spent
     pub kept : fact state number (map view_of s.views)
 
   -- the pass has the turn and the state x, of which the fact holds
   abbrev pub Won : (S → ℕ → List V → Type 0) → ℕ → Known S V → S → Known S V → Type 0
-  Won fact pass m x m' = (m' ≡ (pass_view (Holding x) m.0.parts m.0.misses m.0.view, (0, Some x) ∷ m.1)) × Stands fact pass m.0.view x
+  Won fact pass m x m' =
+      (m' ≡ (pass_view (Holding x) m.0.parts m.0.misses m.0.view, (0, Some x) ∷ m.1))
+      × Stands fact pass m.0.view x
 
   -- the pass counts a miss. It isn't the only one, and the fact holds of what the holder found
   abbrev pub Missed : (S → ℕ → List V → Type 0) → ℕ → Known S V → Known S V → Type 0
-  Missed fact pass m m' = (m' ≡ (pass_view m.0.stage m.0.parts (m.0.misses + 1) m.0.view, m.1)) × (m.0.parts ≢ whole) × ((x : S) × Stands fact pass m.0.view x)
+  Missed fact pass m m' =
+      (m' ≡ (pass_view m.0.stage m.0.parts (m.0.misses + 1) m.0.view, m.1)) × (m.0.parts ≢ whole)
+      × ((x : S) × Stands fact pass m.0.view x)
 
   -- a try for the turn, by what it found
-  abbrev pub tried : (S → ℕ → List V → Type 0) → ℕ → Step (Option S) → Known S V → ℕ → Known S V → Type 0
-  tried fact pass st m n m' = (n ≡ 0 → (x : S) × Won fact pass m x m') × (n ≢ 0 → (n ≡ 1) × Missed fact pass m m')
+  abbrev pub tried : (S → ℕ → List V → Type 0) → ℕ → Step (Option S) → Known S V → ℕ → Known S V
+      → Type 0
+  tried fact pass st m n m' =
+      (n ≡ 0 → (x : S) × Won fact pass m x m') × (n ≢ 0 → (n ≡ 1) × Missed fact pass m m')
 
   -- what a load of the number finds: the fact holds of the number and of some state, which a holder
   -- has found. The pass has the view that a load leaves
-  abbrev pub read : (S → ℕ → List V → Type 0) → (Option S → V → ℕ → V) → ℕ → Step (Option S) → Known S V → ℕ → Known S V → Type 0
-  read fact loaded pass st m n m' = (m' ≡ (pass_view m.0.stage m.0.parts m.0.misses (loaded (found_by m.0.stage) m.0.view n), m.1)) × ((x : S) × StandsAt fact pass m.0.view x n × IsHeld (found_by m.0.stage) x)
+  abbrev pub read : (S → ℕ → List V → Type 0) → (Option S → V → ℕ → V) → ℕ → Step (Option S)
+      → Known S V → ℕ → Known S V → Type 0
+  read fact loaded pass st m n m' =
+      (m' ≡ (
+        pass_view m.0.stage m.0.parts m.0.misses (loaded (found_by m.0.stage) m.0.view n),
+        m.1,
+      )) × ((x : S) × StandsAt fact pass m.0.view x n × IsHeld (found_by m.0.stage) x)
 
   -- a lowering: the fact held of some state and number. The pass has the view that a lowering
   -- leaves
-  abbrev pub sunk : (S → ℕ → List V → Type 0) → (V → ℕ → V) → ℕ → Step (Option S) → Known S V → ℕ → Known S V → Type 0
-  sunk fact lowered pass st m n m' = (m' ≡ (pass_view m.0.stage m.0.parts m.0.misses (lowered m.0.view st.first), m.1)) × ((x : S) × StandsAt fact pass m.0.view x n)
+  abbrev pub sunk : (S → ℕ → List V → Type 0) → (V → ℕ → V) → ℕ → Step (Option S) → Known S V → ℕ
+      → Known S V → Type 0
+  sunk fact lowered pass st m n m' =
+      (m' ≡ (pass_view m.0.stage m.0.parts m.0.misses (lowered m.0.view st.first), m.1))
+      × ((x : S) × StandsAt fact pass m.0.view x n)
 
   -- the store that leaves
   abbrev pub left : Option V → Step (Option S) → Known S V → ℕ → Known S V → Type 0
-  left next st m n m' = (m'.0.stage ≡ Resting) × (m'.0.parts ≡ m.0.parts) × (m'.0.misses ≡ m.0.misses) × (next ≡ Some m'.0.view) × (m'.1 ≡ [])
+  left next st m n m' =
+      (m'.0.stage ≡ Resting) × (m'.0.parts ≡ m.0.parts) × (m'.0.misses ≡ m.0.misses)
+      × (next ≡ Some m'.0.view) × (m'.1 ≡ [])
 
   -- the step at which what a holder did takes effect, while it keeps the turn
   abbrev pub committed : Stage S → Option V → Step (Option S) → Known S V → ℕ → Known S V → Type 0
-  committed stage next st m n m' = (m'.0.stage ≡ stage) × (m'.0.parts ≡ m.0.parts) × (m'.0.misses ≡ m.0.misses) × (next ≡ Some m'.0.view) × (m'.1 ≡ m.1)
+  committed stage next st m n m' =
+      (m'.0.stage ≡ stage) × (m'.0.parts ≡ m.0.parts) × (m'.0.misses ≡ m.0.misses)
+      × (next ≡ Some m'.0.view) × (m'.1 ≡ m.1)

@@ -18,7 +18,8 @@ impl<R: TurnRule> Held<R> {
     /// Lends the state for writing. When the borrow ends, the holder has what was written through
     /// it, and still knows what it found.
     pub fn state_mut(&mut self) -> &mut R::State
-        ensures* writes_back { sem 𝓛 (Lends (the_row R.row R.State.row R.View.row) R.State.row self.entry result (with_state self.old)) }
+        ensures* writes_back { sem 𝓛 (Lends (the_row R.row R.State.row R.View.row) R.State.row self.entry result
+            (with_state self.old)) }
         ensures value { result.now ≡ state self.old }
     {
         &mut self.state

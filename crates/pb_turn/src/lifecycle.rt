@@ -21,7 +21,8 @@ impl<R: TurnRule> TurnLock<R> {
         number: u64,
     ) -> Result<(TurnLock<R>, Pass<R>), (AllocError, R::State)>
         requires rule { R.fact state number (R.first state ∷ []) }
-        ensures ok { IfOk result (λ r. IsPassOf r.0 r.1 × IsResting r.1 × (view r.1 ≡ R.first state) × (parts r.1 ≡ whole)) }
+        ensures ok { IfOk result (λ r. IsPassOf r.0 r.1 × IsResting r.1 × (view r.1 ≡ R.first state)
+            × (parts r.1 ≡ whole)) }
         ensures first { IfOk result (λ r. (passes.number r.1 ≡ 0) × (misses r.1 ≡ 0)) }
         ensures err { IfErr result (λ r. r.1 ≡ state) }
     {
@@ -41,10 +42,13 @@ impl<R: TurnRule> TurnLock<R> {
     pub fn split(&self, pass: &mut Pass<R>) -> Pass<R>
         requires own { IsPassOf self.now pass.old }
         requires more { 1 < parts pass.old }
-        requires rule { SplitKeeps R.fact (number pass.old) (view pass.old) (R.kept (view pass.old)) (R.given (view pass.old)) }
+        requires rule { SplitKeeps R.fact (number pass.old) (view pass.old) (R.kept (view pass.old))
+            (R.given (view pass.old)) }
         ensures same { IsSamePlace pass.old pass.new × (misses pass.new ≡ misses pass.old) }
-        ensures kept { (view pass.new ≡ R.kept (view pass.old)) × (parts pass.new + 1 ≡ parts pass.old) }
-        ensures given { IsPassOf self.now result × IsResting result × (view result ≡ R.given (view pass.old)) × (parts result ≡ 1) × (misses result ≡ 0) }
+        ensures kept { (view pass.new ≡ R.kept (view pass.old))
+            × (parts pass.new + 1 ≡ parts pass.old) }
+        ensures given { IsPassOf self.now result × IsResting result
+            × (view result ≡ R.given (view pass.old)) × (parts result ≡ 1) × (misses result ≡ 0) }
     {
         self.split_off(pass)
     }
@@ -54,9 +58,12 @@ impl<R: TurnRule> TurnLock<R> {
     pub fn meet(&self, pass: &mut Pass<R>, other: Pass<R>)
         requires own { IsPassOf self.now pass.old × IsPassOf self.now other }
         requires rests { IsResting other }
-        requires rule { MeetKeeps R.fact (number pass.old) (view pass.old) (number other) (view other) (R.met (view pass.old) (view other)) R.spent }
-        ensures same { IsSamePlace pass.old pass.new × (misses pass.new ≡ misses pass.old + misses other) }
-        ensures met { (view pass.new ≡ R.met (view pass.old) (view other)) × (parts pass.new ≡ parts pass.old + parts other) }
+        requires rule { MeetKeeps R.fact (number pass.old) (view pass.old) (number other)
+            (view other) (R.met (view pass.old) (view other)) R.spent }
+        ensures same { IsSamePlace pass.old pass.new
+            × (misses pass.new ≡ misses pass.old + misses other) }
+        ensures met { (view pass.new ≡ R.met (view pass.old) (view other))
+            × (parts pass.new ≡ parts pass.old + parts other) }
     {
         self.take_in(pass, other);
     }

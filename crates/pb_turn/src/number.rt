@@ -13,10 +13,13 @@ impl<R: TurnRule> TurnLock<R> {
     /// waits.
     pub fn word(&self, pass: &mut Pass<R>) -> u64
         requires own { IsPassOf self.now pass.old }
-        requires rule { LoadKeeps R.fact (passes.number pass.old) (view pass.old) (held pass.old) (R.loaded (held pass.old) (view pass.old)) }
-        ensures same { IsSamePlace pass.old pass.new × (parts pass.new ≡ parts pass.old) × (misses pass.new ≡ misses pass.old) }
+        requires rule { LoadKeeps R.fact (passes.number pass.old) (view pass.old) (held pass.old)
+            (R.loaded (held pass.old) (view pass.old)) }
+        ensures same { IsSamePlace pass.old pass.new × (parts pass.new ≡ parts pass.old)
+            × (misses pass.new ≡ misses pass.old) }
         ensures view { view pass.new ≡ R.loaded (held pass.old) (view pass.old) result }
-        ensures rule { (x : R.State) × StandsAt R.fact (passes.number pass.old) (view pass.old) x result × IsHeld (held pass.old) x }
+        ensures rule { (x : R.State) × StandsAt R.fact (passes.number pass.old) (view pass.old) x
+            result × IsHeld (held pass.old) x }
     {
         self.load_number(pass)
     }
@@ -25,10 +28,13 @@ impl<R: TurnRule> TurnLock<R> {
     /// another pass holds the turn. It never waits.
     pub fn lower_word(&self, pass: &mut Pass<R>, number: u64)
         requires own { IsPassOf self.now pass.old }
-        requires rule { LowerKeeps R.fact (passes.number pass.old) (view pass.old) number (R.lowered (view pass.old) number) }
-        ensures same { IsSamePlace pass.old pass.new × (parts pass.new ≡ parts pass.old) × (misses pass.new ≡ misses pass.old) }
+        requires rule { LowerKeeps R.fact (passes.number pass.old) (view pass.old) number
+            (R.lowered (view pass.old) number) }
+        ensures same { IsSamePlace pass.old pass.new × (parts pass.new ≡ parts pass.old)
+            × (misses pass.new ≡ misses pass.old) }
         ensures view { view pass.new ≡ R.lowered (view pass.old) number }
-        ensures rule { (x : R.State) × (found : ℕ) × StandsAt R.fact (passes.number pass.old) (view pass.old) x found }
+        ensures rule { (x : R.State) × (found : ℕ)
+            × StandsAt R.fact (passes.number pass.old) (view pass.old) x found }
     {
         self.lower_number(pass, number);
     }

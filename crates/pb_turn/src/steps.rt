@@ -23,9 +23,12 @@ impl<R: TurnRule> TurnLock<R> {
         requires own { IsPassOf self.now pass.old }
         requires rests { IsResting pass.old }
         ensures same { IsSamePass pass.old pass.new × (view pass.new ≡ view pass.old) }
-        ensures misses { MatchBool result (misses pass.new ≡ misses pass.old) (misses pass.new ≡ misses pass.old + 1) }
-        ensures turn { MatchBool result ((x : R.State) × HasLaid pass.new x x × Stands R.fact (number pass.old) (view pass.old) x) (IsResting pass.new) }
-        ensures held { MatchBool result ⊤ ((parts pass.old ≢ whole) × ((x : R.State) × Stands R.fact (number pass.old) (view pass.old) x)) }
+        ensures misses { MatchBool result (misses pass.new ≡ misses pass.old)
+            (misses pass.new ≡ misses pass.old + 1) }
+        ensures turn { MatchBool result ((x : R.State) × HasLaid pass.new x x
+            × Stands R.fact (number pass.old) (view pass.old) x) (IsResting pass.new) }
+        ensures held { MatchBool result ⊤ ((parts pass.old ≢ whole)
+            × ((x : R.State) × Stands R.fact (number pass.old) (view pass.old) x)) }
     {
         self.try_turn_as::<Brand>(pass)
     }
@@ -36,9 +39,12 @@ impl<R: TurnRule> TurnLock<R> {
         requires rests { IsResting pass.old }
         requires number { N.number ≡ number pass.old }
         ensures same { IsSamePass pass.old pass.new × (view pass.new ≡ view pass.old) }
-        ensures misses { MatchBool result (misses pass.new ≡ misses pass.old) (misses pass.new ≡ misses pass.old + 1) }
-        ensures turn { MatchBool result ((x : R.State) × HasLaid pass.new x x × Stands R.fact (number pass.old) (view pass.old) x) (IsResting pass.new) }
-        ensures held { MatchBool result ⊤ ((parts pass.old ≢ whole) × ((x : R.State) × Stands R.fact (number pass.old) (view pass.old) x)) }
+        ensures misses { MatchBool result (misses pass.new ≡ misses pass.old)
+            (misses pass.new ≡ misses pass.old + 1) }
+        ensures turn { MatchBool result ((x : R.State) × HasLaid pass.new x x
+            × Stands R.fact (number pass.old) (view pass.old) x) (IsResting pass.new) }
+        ensures held { MatchBool result ⊤ ((parts pass.old ≢ whole)
+            × ((x : R.State) × Stands R.fact (number pass.old) (view pass.old) x)) }
     {
         let seat = &mut pass.seat;
         let shared = &self.table.shared;
@@ -50,8 +56,10 @@ impl<R: TurnRule> TurnLock<R> {
     pub(crate) fn take_state(&self, pass: &mut Pass<R>) -> Held<R>
         requires own { IsPassOf self.now pass.old }
         requires laid { (x : R.State) × HasLaid pass.old x x }
-        ensures same { IsSamePass pass.old pass.new × (view pass.new ≡ view pass.old) × (misses pass.new ≡ misses pass.old) }
-        ensures held { HasLaid pass.old (found result) (found result) × HoldsTurn pass.new (found result) × (state result ≡ found result) }
+        ensures same { IsSamePass pass.old pass.new × (view pass.new ≡ view pass.old)
+            × (misses pass.new ≡ misses pass.old) }
+        ensures held { HasLaid pass.old (found result) (found result)
+            × HoldsTurn pass.new (found result) × (state result ≡ found result) }
     {
         let shared = &self.table.shared;
         let was = shared.exchange(&mut pass.seat, STATE, None);
@@ -64,7 +72,8 @@ impl<R: TurnRule> TurnLock<R> {
     pub(crate) fn put_state(&self, pass: &mut Pass<R>, state: R::State, found: &Snapshot<R::State>)
         requires own { IsPassOf self.now pass.old }
         requires holds { HoldsTurn pass.old found.now.value }
-        ensures same { IsSamePass pass.old pass.new × (view pass.new ≡ view pass.old) × (misses pass.new ≡ misses pass.old) }
+        ensures same { IsSamePass pass.old pass.new × (view pass.new ≡ view pass.old)
+            × (misses pass.new ≡ misses pass.old) }
         ensures laid { HasLaid pass.new found.now.value state }
     {
         let _ = found;
@@ -83,9 +92,12 @@ impl<R: TurnRule> TurnLock<R> {
     )
         requires own { IsPassOf self.now pass.old }
         requires laid { HasLaid pass.old found.now.value leaves.now.value }
-        requires rule { LeaveKeeps R.fact (number pass.old) (view pass.old) found.now.value leaves.now.value (M.after said.now found.now.value leaves.now.value (view pass.old)) }
-        ensures same { IsSamePass pass.old pass.new × IsResting pass.new × (misses pass.new ≡ misses pass.old) }
-        ensures view { view pass.new ≡ M.after said.now found.now.value leaves.now.value (view pass.old) }
+        requires rule { LeaveKeeps R.fact (number pass.old) (view pass.old) found.now.value
+            leaves.now.value (M.after said.now found.now.value leaves.now.value (view pass.old)) }
+        ensures same { IsSamePass pass.old pass.new × IsResting pass.new
+            × (misses pass.new ≡ misses pass.old) }
+        ensures view { view pass.new ≡ M.after said.now found.now.value leaves.now.value
+            (view pass.old) }
     {
         self.leave_turn_as::<Brand, M>(pass, found, leaves, said);
     }
@@ -100,8 +112,11 @@ impl<R: TurnRule> TurnLock<R> {
     )
         requires own { IsPassOf self.now pass.old }
         requires laid { HasLaid pass.old found.now.value leaves.now.value }
-        requires rule { (w : R.View) × (N.next ≡ Some w) × LeaveKeeps R.fact (number pass.old) (view pass.old) found.now.value leaves.now.value w }
-        ensures same { IsSamePass pass.old pass.new × IsResting pass.new × (misses pass.new ≡ misses pass.old) }
+        requires rule { (w : R.View) × (N.next ≡ Some w)
+            × LeaveKeeps R.fact (number pass.old) (view pass.old) found.now.value leaves.now.value
+            w }
+        ensures same { IsSamePass pass.old pass.new × IsResting pass.new
+            × (misses pass.new ≡ misses pass.old) }
         ensures view { N.next ≡ Some (view pass.new) }
     {
         let _ = found;
@@ -121,10 +136,12 @@ impl<R: TurnRule> TurnLock<R> {
     )
         requires own { IsPassOf self.now pass.old }
         requires holds { HoldsTurn pass.old found.now.value }
-        requires rule { LeaveKeeps R.fact (number pass.old) (view pass.old) found.now.value leaves.now.value (M.after said.now found.now.value leaves.now.value (view pass.old)) }
+        requires rule { LeaveKeeps R.fact (number pass.old) (view pass.old) found.now.value
+            leaves.now.value (M.after said.now found.now.value leaves.now.value (view pass.old)) }
         ensures same { IsSamePass pass.old pass.new × (misses pass.new ≡ misses pass.old) }
         ensures holds { HoldsTurn pass.new leaves.now.value }
-        ensures view { view pass.new ≡ M.after said.now found.now.value leaves.now.value (view pass.old) }
+        ensures view { view pass.new ≡ M.after said.now found.now.value leaves.now.value
+            (view pass.old) }
     {
         self.commit_turn_as::<Brand, M>(pass, found, leaves, said);
     }
@@ -140,7 +157,9 @@ impl<R: TurnRule> TurnLock<R> {
         requires own { IsPassOf self.now pass.old }
         requires holds { HoldsTurn pass.old found.now.value }
         requires stage { N.stage ≡ Holding leaves.now.value }
-        requires rule { (w : R.View) × (N.next ≡ Some w) × LeaveKeeps R.fact (number pass.old) (view pass.old) found.now.value leaves.now.value w }
+        requires rule { (w : R.View) × (N.next ≡ Some w)
+            × LeaveKeeps R.fact (number pass.old) (view pass.old) found.now.value leaves.now.value
+            w }
         ensures same { IsSamePass pass.old pass.new × (misses pass.new ≡ misses pass.old) }
         ensures holds { HoldsTurn pass.new leaves.now.value }
         ensures view { N.next ≡ Some (view pass.new) }
@@ -155,10 +174,13 @@ impl<R: TurnRule> TurnLock<R> {
     // Reads the number.
     pub(crate) fn load_number(&self, pass: &mut Pass<R>) -> u64
         requires own { IsPassOf self.now pass.old }
-        requires rule { LoadKeeps R.fact (number pass.old) (view pass.old) (held pass.old) (R.loaded (held pass.old) (view pass.old)) }
-        ensures same { IsSamePlace pass.old pass.new × (parts pass.new ≡ parts pass.old) × (misses pass.new ≡ misses pass.old) }
+        requires rule { LoadKeeps R.fact (number pass.old) (view pass.old) (held pass.old)
+            (R.loaded (held pass.old) (view pass.old)) }
+        ensures same { IsSamePlace pass.old pass.new × (parts pass.new ≡ parts pass.old)
+            × (misses pass.new ≡ misses pass.old) }
         ensures view { view pass.new ≡ R.loaded (held pass.old) (view pass.old) result }
-        ensures rule { (x : R.State) × StandsAt R.fact (number pass.old) (view pass.old) x result × IsHeld (held pass.old) x }
+        ensures rule { (x : R.State) × StandsAt R.fact (number pass.old) (view pass.old) x result
+            × IsHeld (held pass.old) x }
     {
         self.load_number_as::<Brand>(pass)
     }
@@ -167,10 +189,13 @@ impl<R: TurnRule> TurnLock<R> {
     fn load_number_as<N: PassNumber>(&self, pass: &mut Pass<R>) -> u64
         requires own { IsPassOf self.now pass.old }
         requires number { N.number ≡ number pass.old }
-        requires rule { LoadKeeps R.fact (number pass.old) (view pass.old) (held pass.old) (R.loaded (held pass.old) (view pass.old)) }
-        ensures same { IsSamePlace pass.old pass.new × (parts pass.new ≡ parts pass.old) × (misses pass.new ≡ misses pass.old) }
+        requires rule { LoadKeeps R.fact (number pass.old) (view pass.old) (held pass.old)
+            (R.loaded (held pass.old) (view pass.old)) }
+        ensures same { IsSamePlace pass.old pass.new × (parts pass.new ≡ parts pass.old)
+            × (misses pass.new ≡ misses pass.old) }
         ensures view { view pass.new ≡ R.loaded (held pass.old) (view pass.old) result }
-        ensures rule { (x : R.State) × StandsAt R.fact (number pass.old) (view pass.old) x result × IsHeld (held pass.old) x }
+        ensures rule { (x : R.State) × StandsAt R.fact (number pass.old) (view pass.old) x result
+            × IsHeld (held pass.old) x }
     {
         let shared = &self.table.shared;
         shared.load::<ReadNumber<R, N>>(&mut pass.seat, NUMBER)
@@ -179,10 +204,13 @@ impl<R: TurnRule> TurnLock<R> {
     // Lowers the number to this one, unless it is at most this already.
     pub(crate) fn lower_number(&self, pass: &mut Pass<R>, to: u64)
         requires own { IsPassOf self.now pass.old }
-        requires rule { LowerKeeps R.fact (number pass.old) (view pass.old) to (R.lowered (view pass.old) to) }
-        ensures same { IsSamePlace pass.old pass.new × (parts pass.new ≡ parts pass.old) × (misses pass.new ≡ misses pass.old) }
+        requires rule { LowerKeeps R.fact (number pass.old) (view pass.old) to
+            (R.lowered (view pass.old) to) }
+        ensures same { IsSamePlace pass.old pass.new × (parts pass.new ≡ parts pass.old)
+            × (misses pass.new ≡ misses pass.old) }
         ensures view { view pass.new ≡ R.lowered (view pass.old) to }
-        ensures rule { (x : R.State) × (found : ℕ) × StandsAt R.fact (number pass.old) (view pass.old) x found }
+        ensures rule { (x : R.State) × (found : ℕ)
+            × StandsAt R.fact (number pass.old) (view pass.old) x found }
     {
         self.lower_number_as::<Brand>(pass, to);
     }
@@ -191,10 +219,13 @@ impl<R: TurnRule> TurnLock<R> {
     fn lower_number_as<N: PassNumber>(&self, pass: &mut Pass<R>, to: u64)
         requires own { IsPassOf self.now pass.old }
         requires number { N.number ≡ number pass.old }
-        requires rule { LowerKeeps R.fact (number pass.old) (view pass.old) to (R.lowered (view pass.old) to) }
-        ensures same { IsSamePlace pass.old pass.new × (parts pass.new ≡ parts pass.old) × (misses pass.new ≡ misses pass.old) }
+        requires rule { LowerKeeps R.fact (number pass.old) (view pass.old) to
+            (R.lowered (view pass.old) to) }
+        ensures same { IsSamePlace pass.old pass.new × (parts pass.new ≡ parts pass.old)
+            × (misses pass.new ≡ misses pass.old) }
         ensures view { view pass.new ≡ R.lowered (view pass.old) to }
-        ensures rule { (x : R.State) × (found : ℕ) × StandsAt R.fact (number pass.old) (view pass.old) x found }
+        ensures rule { (x : R.State) × (found : ℕ)
+            × StandsAt R.fact (number pass.old) (view pass.old) x found }
     {
         let shared = &self.table.shared;
         shared.fetch_min::<LowerNumber<R, N>>(&mut pass.seat, NUMBER, to);
@@ -204,10 +235,13 @@ impl<R: TurnRule> TurnLock<R> {
     pub(crate) fn split_off(&self, pass: &mut Pass<R>) -> Pass<R>
         requires own { IsPassOf self.now pass.old }
         requires more { 1 < parts pass.old }
-        requires rule { SplitKeeps R.fact (number pass.old) (view pass.old) (R.kept (view pass.old)) (R.given (view pass.old)) }
+        requires rule { SplitKeeps R.fact (number pass.old) (view pass.old) (R.kept (view pass.old))
+            (R.given (view pass.old)) }
         ensures same { IsSamePlace pass.old pass.new × (misses pass.new ≡ misses pass.old) }
-        ensures kept { (view pass.new ≡ R.kept (view pass.old)) × (parts pass.new + 1 ≡ parts pass.old) }
-        ensures given { IsPassOf self.now result × IsResting result × (view result ≡ R.given (view pass.old)) × (parts result ≡ 1) × (misses result ≡ 0) }
+        ensures kept { (view pass.new ≡ R.kept (view pass.old))
+            × (parts pass.new + 1 ≡ parts pass.old) }
+        ensures given { IsPassOf self.now result × IsResting result
+            × (view result ≡ R.given (view pass.old)) × (parts result ≡ 1) × (misses result ≡ 0) }
     {
         let shared = &self.table.shared;
         let seat = shared.split_seat::<SplitPass<R>>(&mut pass.seat);
@@ -218,9 +252,12 @@ impl<R: TurnRule> TurnLock<R> {
     pub(crate) fn take_in(&self, pass: &mut Pass<R>, other: Pass<R>)
         requires own { IsPassOf self.now pass.old × IsPassOf self.now other }
         requires rests { IsResting other }
-        requires rule { MeetKeeps R.fact (number pass.old) (view pass.old) (number other) (view other) (R.met (view pass.old) (view other)) R.spent }
-        ensures same { IsSamePlace pass.old pass.new × (misses pass.new ≡ misses pass.old + misses other) }
-        ensures met { (view pass.new ≡ R.met (view pass.old) (view other)) × (parts pass.new ≡ parts pass.old + parts other) }
+        requires rule { MeetKeeps R.fact (number pass.old) (view pass.old) (number other)
+            (view other) (R.met (view pass.old) (view other)) R.spent }
+        ensures same { IsSamePlace pass.old pass.new
+            × (misses pass.new ≡ misses pass.old + misses other) }
+        ensures met { (view pass.new ≡ R.met (view pass.old) (view other))
+            × (parts pass.new ≡ parts pass.old + parts other) }
     {
         let Pass { seat } = other;
         let shared = &self.table.shared;

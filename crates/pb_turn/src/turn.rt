@@ -31,11 +31,15 @@ impl<R: TurnRule> TurnLock<R> {
         requires own { IsPassOf self.now pass.old }
         requires rests { IsResting pass.old }
         ensures same { IsSamePass pass.old pass.new × (view pass.new ≡ view pass.old) }
-        ensures won { IfSome result (λ h. HoldsTurn pass.new (found h) × (state h ≡ found h) × (misses pass.new ≡ misses pass.old)) }
-        ensures rule { IfSome result (λ h. Stands R.fact (number pass.old) (view pass.old) (found h)) }
-        ensures lost { IfNone result (IsResting pass.new × (misses pass.new ≡ misses pass.old + 1)) }
+        ensures won { IfSome result (λ h. HoldsTurn pass.new (found h) × (state h ≡ found h)
+            × (misses pass.new ≡ misses pass.old)) }
+        ensures rule { IfSome result (λ h. Stands R.fact (number pass.old) (view pass.old)
+            (found h)) }
+        ensures lost { IfNone result (IsResting pass.new
+            × (misses pass.new ≡ misses pass.old + 1)) }
         ensures shared { IfNone result (parts pass.old ≢ whole) }
-        ensures others { IfNone result ((x : R.State) × Stands R.fact (number pass.old) (view pass.old) x) }
+        ensures others { IfNone result ((x : R.State)
+            × Stands R.fact (number pass.old) (view pass.old) x) }
     {
         if !self.try_turn(pass) {
             return None;
@@ -68,7 +72,8 @@ impl<R: TurnRule> TurnLock<R> {
         requires rests { IsResting pass.old }
         ensures same { IsSamePass pass.old pass.new × (view pass.new ≡ view pass.old) }
         ensures won { IfSome result (λ h. HoldsTurn pass.new (found h) × (state h ≡ found h)) }
-        ensures rule { IfSome result (λ h. Stands R.fact (number pass.old) (view pass.old) (found h)) }
+        ensures rule { IfSome result (λ h. Stands R.fact (number pass.old) (view pass.old)
+            (found h)) }
         ensures lost { IfNone result (IsResting pass.new) }
         ensures misses { misses pass.old ≤ misses pass.new }
     {
@@ -87,8 +92,10 @@ impl<R: TurnRule> TurnLock<R> {
     pub fn leave<M: Leaving<R>>(&self, pass: &mut Pass<R>, held: Held<R>, said: &M::Said)
         requires own { IsPassOf self.now pass.old }
         requires holds { HoldsTurn pass.old (found held) }
-        requires rule { LeaveKeeps R.fact (number pass.old) (view pass.old) (found held) (state held) (M.after said.now (found held) (state held) (view pass.old)) }
-        ensures same { IsSamePass pass.old pass.new × IsResting pass.new × (misses pass.new ≡ misses pass.old) }
+        requires rule { LeaveKeeps R.fact (number pass.old) (view pass.old) (found held)
+            (state held) (M.after said.now (found held) (state held) (view pass.old)) }
+        ensures same { IsSamePass pass.old pass.new × IsResting pass.new
+            × (misses pass.new ≡ misses pass.old) }
         ensures view { view pass.new ≡ M.after said.now (found held) (state held) (view pass.old) }
     {
         let Held { state, found } = held;
@@ -109,7 +116,8 @@ impl<R: TurnRule> TurnLock<R> {
     ) -> Held<R>
         requires own { IsPassOf self.now pass.old }
         requires holds { HoldsTurn pass.old (found held) }
-        requires rule { LeaveKeeps R.fact (number pass.old) (view pass.old) (found held) (state held) (M.after said.now (found held) (state held) (view pass.old)) }
+        requires rule { LeaveKeeps R.fact (number pass.old) (view pass.old) (found held)
+            (state held) (M.after said.now (found held) (state held) (view pass.old)) }
         ensures same { IsSamePass pass.old pass.new × (misses pass.new ≡ misses pass.old) }
         ensures holds { HoldsTurn pass.new (found result) }
         ensures state { (found result ≡ state held) × (state result ≡ state held) }
