@@ -13,8 +13,8 @@ use Rattle.pb_lists.specs.Bundle.{Content}
 use Rattle.pb_bundles.specs.Parts.{content_in, away_rows}
 use Rattle.pb_lease.specs.LeaseValue.{LeaseValue, HasWeights}
 
--- Rows of the lease's bundles may have changed, and nothing else did: each block has a bundle that had one, and each has the lease's
--- weight where each had it.
+-- Rows of the lease's bundles may have changed, and nothing else did. The same blocks have a
+-- bundle. If each bundle had the lease's weight, each still has it.
 pub record ChangesRows (old new : LeaseValue) : Type 0 where
   pub others : new ≡ record old { parts = new.parts }
   pub places : keys_of new.parts ≡ keys_of old.parts

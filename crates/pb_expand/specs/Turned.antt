@@ -21,8 +21,9 @@ use Rattle.pb_lease.specs.Leased.{setup_of, guide_of, grant_of, HasScope}
 abbrev pub own_rows : LeaseValue → Part
 own_rows lease = (leased_store lease).rows lease.block
 
--- The lease is out in the machine of a lawful moment of a search for this task by the blocks of this graph, and its rows come from those that it
--- was given or last renewed with, where no expansion was broken off. What its worker has read as the incumbent may be younger than that moment.
+-- The lease is out in the machine of a lawful moment of a search for this task by the blocks of
+-- this graph. Its rows come from those that it was given or last renewed with, and no expansion was
+-- broken off. Its worker may have read the incumbent after that moment.
 pub record IsAtWork (task : TaskParts) (graph : AbstractGraph) (lease : LeaseValue) : Type 0 where
   pub settings : Settings
   pub reopenings : ℕ
@@ -40,8 +41,9 @@ pub record IsAtWork (task : TaskParts) (graph : AbstractGraph) (lease : LeaseVal
 abbrev pub reads_none : Option ℕ → Bool
 reads_none incumbent = false
 
--- From the one store to the other a worker did turns of a lease of this block: exactly `used` expansions, exactly `broken` that
--- were broken off, and any number of cuts and of goals. What it read as the incumbent is known.
+-- From the one store to the other a worker did turns of a lease of this block. There were exactly
+-- `used` expansions, exactly `broken` that were broken off, and any number of cuts and of goals.
+-- What the worker read as the incumbent is known.
 pub record HasTurned (space : Space) (guide : Guide) (known : Option ℕ → Bool) (block used broken : ℕ) (old new : Store) : Type 0 where
   pub work : IsWorked space guide block used broken known old new
   pub broken_is : broken_expansions work.works ≡ broken
@@ -57,7 +59,7 @@ abbrev pub copies_of : Space → Guide → List Work → (old : Store) → (befo
 copies_of space guide [] old before = before
 copies_of space guide (work ∷ works) old before = copies_of space guide works (store_after space guide work old) (with_copy work old.incumbent before)
 
--- the same by one turn
+-- the same for one turn
 pub record HasTurnedOnce (space : Space) (guide : Guide) (known : Option ℕ → Bool) (block used broken : ℕ) (old new : Store) : Type 0 where
   pub turned : HasTurned space guide known block used broken old new
   pub once : (before : List (Option ℕ)) → copies_of space guide turned.work.works old before ≡ old.incumbent ∷ before

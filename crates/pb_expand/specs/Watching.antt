@@ -12,9 +12,12 @@ use Rattle.pb_lease.specs.LeaseValue.{LeaseValue, leased_store, HasWeights, IsSa
 use Rattle.pb_lease.specs.Leased.{guide_of}
 use Rattle.pb_expand.specs.Turned.{IsAtWork, HasTurned, copies_of}
 
--- What a watch knows: what is searched and by which blocks, the lease as it was given or last renewed, what it has read as the
--- incumbent, what each of its reads has found, the last one first, the least cost that it has read or told, and the least one that it
--- has told since the lease was given or last renewed.
+-- What a watch knows:
+-- - what is searched and by which blocks,
+-- - the lease as it was given or last renewed,
+-- - what it has read as the incumbent, and what each of its reads has found, the last one first,
+-- - the least cost that it has read or told,
+-- - the least cost that it has told since the lease was given or last renewed.
 pub record WatchView : Type 0 where
   pub task : TaskParts
   pub graph : AbstractGraph
@@ -24,8 +27,9 @@ pub record WatchView : Type 0 where
   pub least : Option ℕ
   pub told : Option ℕ
 
--- The lease came from the one that the watch's worker was lent, by exactly the expansions that it counts, and by at most this many
--- that were broken off, in turns. What its worker read as the incumbent the watch has read.
+-- The lease came from the one that the watch's worker was lent: by exactly the expansions that it
+-- counts, and by at most this many that were broken off, in turns. The watch has read what the
+-- worker read as the incumbent.
 pub record IsFromLent (space : Space) (guide : Guide) (view : WatchView) (most_broken : ℕ) (lease : LeaseValue) : Type 0 where
   pub lent : LeaseValue
   pub lent_is : view.lent ≡ Some lent
@@ -40,8 +44,8 @@ pub record IsWatched (space : Space) (guide : Guide) (view : WatchView) (most_br
   pub copy : AtMost view.least lease.incumbent
   pub shown : (cost : ℕ) → view.told ≡ Some cost → HasGoalWithin space guide (leased_store lease) cost
 
--- The cost may be told: the lease has a goal's row that costs no more, and the lease doesn't have it as its incumbent before it is told.
--- The greatest number stands for a cost that is unknown.
+-- The cost may be told: the lease has a goal's row that costs no more, and the lease doesn't have
+-- the cost as its incumbent before it is told. The greatest number stands for an unknown cost.
 pub record MayTell (view : WatchView) (lease : LeaseValue) (cost : ℕ) : Type 0 where
   pub below : cost < 2 ^ 64 - 1
   pub watched : IsWatched (space_of view.task) (guide_of view.task view.graph) view 0 lease
@@ -83,15 +87,17 @@ abbrev pub with_read : (is_read : Bool) → (incumbent : Option ℕ) → (before
 with_read true incumbent before = incumbent ∷ before
 with_read false incumbent before = before
 
--- These turns, with a read before each: what was read, one after another, is what the turns were done with, one after another. Each
--- turn has a read of its own, and there is no other read but the last, where it came after the last turn: it found what the store has.
+-- These turns, with a read before each. The turns were done with what was read, in the same order.
+-- Each turn has a read of its own, and there is no other read but one after the last turn, which
+-- found what the store has.
 pub record HasTurnedReading (space : Space) (guide : Guide) (known : Option ℕ → Bool) (block used broken : ℕ) (read_after : Bool) (old new : Store) (was now : List (Option ℕ)) : Type 0 where
   pub turned : HasTurned space guide known block used broken old new
   pub reads : now ≡ with_read read_after new.incumbent (copies_of space guide turned.work.works old was)
 
--- From the one lease to the other its worker did turns under the watch, with exactly this many expansions more, and exactly this many
--- that were broken off. If the lease's incumbent was what the watch had read or told, it still is. Each turn has a read of its own
--- before it, where `read_before` says whether one was made before the first, and `read_after` whether one was made after the last.
+-- From the one lease to the other its worker did turns under the watch, with exactly this many
+-- expansions more, and exactly this many that were broken off. If the lease's incumbent was what
+-- the watch had read or told, it still is. Each turn has a read of its own before it. `read_before`
+-- says whether a read came before the first turn, and `read_after` whether one came after the last.
 pub record HasTurnedWatched (space : Space) (guide : Guide) (more broken : ℕ) (read_before read_after : Bool) (old : LeaseValue) (was : WatchView) (new : LeaseValue) (now : WatchView) : Type 0 where
   pub turned : HasTurned space guide now.read old.block more broken (leased_store old) (leased_store new)
   pub same : IsSameLease old new

@@ -55,8 +55,9 @@ pub fn close(lease: &mut Lease, state: &Packed)
     lease.bundle_mut(block).close_row(state);
 }
 
-/// Offers a successor with this g, that of the walk to it by its parent, to the bundle of a block. A state that has a row there keeps that
-/// row's estimate, and any other gets the task's. After want of memory the lease is as it was.
+/// Offers a successor to the bundle of a block, with this g: that of the walk to it by its parent.
+/// A state that has a row there keeps that row's estimate; any other state gets the task's
+/// estimate. If memory runs out, the lease is as it was.
 pub fn offer(
     task: &Task,
     estimator: &mut Estimator,

@@ -1,8 +1,9 @@
-//! The expansion of rows in a lease: what a worker of a parallel best-first search does with the block that it has leased (Burns, Lemons,
-//! Ruml and Zhou, "Best-First Heuristic Search for Multicore Machines", Journal of Artificial Intelligence Research 39, 2010).
+//! The expansion of rows in a lease: what a worker of a parallel best-first search does with the
+//! block that it has leased (Burns, Lemons, Ruml and Zhou, "Best-First Heuristic Search for
+//! Multicore Machines", Journal of Artificial Intelligence Research 39, 2010).
 //!
-//! What the contracts cite is in `specs`: `IsAtWork` says which leases may be worked on, `HasTurned` what was done, and `Watching` what a
-//! worker knows that watches the incumbent.
+//! The contracts cite `specs`: `IsAtWork` says which leases may be worked on, and `HasTurned` says
+//! what was done. `Watching` says what a worker knows while it watches the incumbent.
 #![tactic(auto)]
 
 mod bundles;

@@ -16,8 +16,8 @@ use pb_packed::Packed;
 use pb_task::Task;
 use std::alloc::AllocError;
 
-/// Offers the successors of a row with this g, one after another, each to the bundle of its own block. After want of memory the first of
-/// them were offered.
+/// Offers the successors of a row with this g, one after another, each to the bundle of its own
+/// block. If memory runs out, only the first of them were offered.
 pub fn offer_all(
     task: &Task,
     estimator: &mut Estimator,

@@ -22,7 +22,8 @@ use pb_packed::Packed;
 use pb_task::Task;
 use std::alloc::AllocError;
 
-// Cuts the first Opened row where it may be cut, or takes it where it is a goal's. Answers whether it did either.
+// Cuts the first Opened row if it may be cut, or takes it if it is a goal's. Answers whether it did
+// either.
 fn settle_row(task: &Task, lease: &mut Lease, state: &Packed, row: &Row) -> bool
     requires first { IsFirstRow lease.old.weight (own_rows lease.old) state.now row.now }
     ensures turned { (graph : AbstractGraph) → IsAtWork task.now graph lease.old
@@ -65,8 +66,9 @@ pub fn settle(task: &Task, lease: &mut Lease) -> Option<(Packed, Row)>
     None
 }
 
-/// Expands the first Opened row: offers its successors, closes it, and counts the expansion. After want of memory the first of them were
-/// offered, the row is still Opened, and the expansion isn't counted. The list is for the successors alone.
+/// Expands the first Opened row: offers its successors, closes it, and counts the expansion. If
+/// memory runs out, only the first successors were offered, the row is still Opened, and the
+/// expansion isn't counted. The list is for the successors alone.
 pub fn expand(
     task: &Task,
     estimator: &mut Estimator,

@@ -1,4 +1,5 @@
-//! The turns of a worker that reads the incumbent before each, and tells each better cost before it has it.
+//! The turns of a worker that reads the incumbent before each turn. It tells its watch each better
+//! cost before its lease has that cost as its incumbent.
 ghost use Rattle.std.specs.Prelude.{◌≡◌, ◌-◌, ◌<◌, ◌≤◌, ◌↔◌, ◌∷◌, ℕ, true, false, not, IsSome, IfSome, IfNone, vec_capacity};
 ghost use Rattle.pb_model.specs.Space.{Space};
 ghost use Rattle.pb_model.specs.Guide.{Guide};
@@ -29,7 +30,8 @@ use pb_model::{Row, Succ};
 use pb_packed::Packed;
 use pb_task::Task;
 
-// Takes a cost that was read, if there is one: the lease's incumbent becomes the lesser of both.
+// Takes a cost that was read, if there is one: the lease's incumbent becomes the lesser of both
+// costs.
 fn take_read(lease: &mut Lease, found: Option<u64>)
     ensures { lease.new ≡ record lease.old { incumbent = lesser lease.old.incumbent found } }
 {
@@ -58,7 +60,8 @@ fn next_row<W: Watch>(lease: &mut Lease, watch: &mut W) -> Option<(Packed, Row)>
     first(lease)
 }
 
-// Cuts the first Opened row where it may be cut, or takes it where it is a goal's, after its cost was told. Answers whether it did either.
+// Cuts the first Opened row if it may be cut. If it is a goal's, takes it after its cost was told.
+// Answers whether it did either.
 fn settle_row_watched<W: Watch>(
     task: &Task,
     lease: &mut Lease,
@@ -112,8 +115,9 @@ fn settle_watched<W: Watch>(task: &Task, lease: &mut Lease, watch: &mut W) -> Op
     None
 }
 
-/// Works on a lease as `work` does, under a watch of the incumbent. Before each turn the incumbent is read and taken into the lease. Where
-/// the first Opened row is a goal's its cost is told before the lease has it. The list is for successors alone. Only bundles take memory.
+/// Works on a lease as `work` does, under a watch of the incumbent. Before each turn the incumbent
+/// is read and taken into the lease. If the first Opened row is a goal's, its cost is told before
+/// the lease has it as its incumbent. The list is for successors alone. Only bundles take memory.
 pub fn work_watched<W: Watch>(
     task: &Task,
     estimator: &mut Estimator,
@@ -131,7 +135,8 @@ pub fn work_watched<W: Watch>(
     requires graph_is { (W.seen watch.old).graph ≡ graph.now }
     requires watched { IsWatched (space_of task.now) (guide_of task.now graph.now) (W.seen watch.old) 0 lease.old }
 
-    // What was done: as many expansions as are counted, one that was broken off if it ran out of memory, and a read before each turn.
+    // What was done: the counted expansions, one that was broken off if memory ran out, and a read
+    // before each turn.
     ensures turned { HasTurnedReading (space_of task.now) (guide_of task.now graph.now) (W.seen watch.new).read lease.old.block (lease.new.used - lease.old.used) (broken_by result)
         (ends_with_read result) (leased_store lease.old) (leased_store lease.new) (W.seen watch.old).answers (W.seen watch.new).answers }
     ensures counted { lease.old.used ≤ lease.new.used }

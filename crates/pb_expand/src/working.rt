@@ -26,13 +26,16 @@ pub enum Worked {
     Spent,
     /// No row of the block is Opened.
     Empty,
-    /// Memory was wanted for a successor of a row. The row is still Opened, and its expansion isn't counted.
+    /// Memory ran out at a successor of a row. The row is still Opened, and its expansion isn't
+    /// counted.
     Memory,
 }
 
-/// Works on a lease, in turns, as a best-first search does that opens rows again (Hart, Nilsson, Raphael 1968) on the rows of one
-/// block: cuts the first Opened row where it may be cut, takes it where it is a goal's, and else expands it, until no row of the block is
-/// Opened or the lease's quota is used up. The list is for successors alone. Only bundles take memory.
+/// Works on a lease, in turns, as a best-first search does that opens rows again (Hart, Nilsson,
+/// Raphael 1968), on the rows of one block. A turn cuts the first Opened row if it may be cut,
+/// takes it if it is a goal's, and else expands it. The turns end when no row of the block is
+/// Opened, or the lease's quota is used up. The list is for successors alone. Only bundles take
+/// memory.
 pub fn work(
     task: &Task,
     estimator: &mut Estimator,
@@ -45,13 +48,13 @@ pub fn work(
     requires room { max_degree_of task.now ≤ vec_capacity succs.old }
     requires at_work { IsAtWork task.now graph.now lease.old }
 
-    // What was done: as many expansions as are counted, and one that was broken off where memory was wanted.
+    // What was done: the counted expansions, and one that was broken off if memory ran out.
     ensures turned { HasTurned (space_of task.now) (guide_of task.now graph.now) reads_none lease.old.block (lease.new.used - lease.old.used) (broken_by result)
         (leased_store lease.old) (leased_store lease.new) }
     ensures counted { lease.old.used ≤ lease.new.used }
     ensures within { lease.new.used ≤ lease.new.quota }
 
-    // So a lease that was out in a machine still is, and has worked in turns where it had.
+    // So a lease that was out in a machine still is. Its work there is in turns, if it was before.
     ensures out { (settings : Settings) (reopenings : ℕ) (machine : Machine)
         → (before : IsOut (setup_of task.now graph.now settings reopenings) machine 0 lease.old)
         → (after : IsOut (setup_of task.now graph.now settings reopenings) machine (broken_by result) lease.new)

@@ -1,4 +1,4 @@
--- What the calls of a yard tell.
+-- What the calls of a yard report.
 use Rattle.std.specs.Prelude.{◌≡◌, ◌≤◌, ℕ, Bool, IsTrue, IsFalse, List, [], ◌∷◌, ◌++◌, Option, Some, None}
 use Rattle.std.specs.List.{list_any, AllByRecursion}
 use Rattle.pb_model.specs.Plan.{Plan, IsPlan}
@@ -64,7 +64,7 @@ pub record HasRead (old between : View) : Type 0 where
   pub falls : AtMost incumbent old.last
   pub view : between ≡ view_read (Some held) old incumbent
 
--- the same, and then it held the graph so
+-- the same, and then the pass held the graph, with this step and these events
 abbrev pub ReadsAndHolds : (step : (found left : GraphValue) → Type 0) → (events : (found : GraphValue) → List Event) → (old : View) → (lent : Option LeaseValue) → (told : Option ℕ) → (new : View) → Type 0
 ReadsAndHolds step events old lent told new = (between : View) × HasRead old between × Holds step events between lent told new
 
@@ -132,9 +132,9 @@ pub record AllSignedOff (view : View) : Type 0 where
   pub off : AllByRecursion (λ share. IsTrue (list_any is_off share.events)) (view.journal.own ∷ view.journal.taken_in)
 
 -- The graph is of the search that the yard began with. Its journal is what the pass has seen, and
--- is a finished history: an end stands and every worker has signed off. Each worker's events in it
--- are those that the pass has of it. No lease is out, and the graph is the moment of the lease
--- machine to which moves from the opening lead, in order and in time, whose events are the journal.
+-- is a finished history: it has an end, and every worker has signed off. Each worker's events in it
+-- are those that the pass has of it. No lease is out. Moves from the opening lead to the graph's
+-- moment of the lease machine, in order and in time, and their events are the journal.
 pub record IsClosed (view : View) (g : GraphValue) : Type 0 where
   pub search : IsSearchOf g view
   pub seen : view.journal.seen ≡ g.table.journal

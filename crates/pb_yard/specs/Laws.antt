@@ -34,8 +34,7 @@ YardsAreLawful =
     × ((block other : ℕ) → IsTrue ((counts_in g).hot block) → IsTrue ((counts_in g).hot other) → IsFalse (interferes (blocks g.table) block other))
 
 -- At every moment the lease machine has each lease that is out as it was given or last renewed,
--- whatever other workers did meanwhile: so what its worker did to it is work from what the machine
--- gave.
+-- whatever other workers did meanwhile. So its worker's work begins with what the machine gave.
 abbrev pub LentLeasesAreOut : Type 0
 LentLeasesAreOut =
     (g : GraphValue) (shared : Option ℕ) (views : List View) → (yard : IsYard g shared views)
@@ -56,17 +55,17 @@ LentLeasesMayComeBack =
     (g : GraphValue) (view : View) → IsAt g view → IsTrue view.journal.is_live → (lease : LeaseValue) → view.lent ≡ Some lease → view.told ≡ None
     → (most_broken : ℕ) → IsBrought view most_broken lease
 
--- A pass that was answered that the search is over has seen its end.
+-- If a pass was answered that the search is over, it has seen the end.
 abbrev pub EndsAreSeen : Type 0
 EndsAreSeen = (worker : ℕ) (old new : View) (end : End) → Leases worker old (Over end) new → end_in new.journal.seen ≡ Some end
 
--- A call that adds no signing off leaves a worker that has not signed off so.
+-- If a call adds no sign-off, a worker that hasn't signed off before it hasn't after it.
 abbrev pub ActiveStay : Type 0
 ActiveStay =
     (journal added : List Event) (lent : Option LeaseValue) (told : Option ℕ) (old new : View) → new ≡ view_then journal added lent told old
     → IsFalse (list_any is_off added) → IsActive old → IsActive new
 
--- After its own sign-off it has signed off.
+-- After its own sign-off a worker has signed off.
 abbrev pub SigningOffIsSeen : Type 0
 SigningOffIsSeen = (worker : ℕ) (trouble : Bool) (old new : View) → old.journal.own.worker ≡ worker → SignsOff worker trouble old new
     → HasSignedOff new

@@ -17,8 +17,7 @@ leases_out workers counts = count_below workers (λ worker. is_some (counts.leas
 
 -- How many leases there can be, by the number of actions, the expansions that were settled, the
 -- leases that came back out of memory, and those that are out. The start has one Opened row, and an
--- expansion brings at most one for each action. Each lease that came back without want of memory
--- closed one.
+-- expansion brings at most one for each action. Each other lease that came back closed one.
 abbrev pub most_leases : (actions spent broken out : ℕ) → ℕ
 most_leases actions spent broken out = 1 + actions * spent + (1 + actions) * broken + out
 
@@ -28,7 +27,7 @@ abbrev pub most_events : (actions spent workers : ℕ) → ℕ
 most_events actions spent workers = 65 * (1 + actions * spent) + workers + 1
 
 -- A run in time from the opening has few leases, at each moment. So no run is padded by leases that
--- have nothing to do. Where it finished, and didn't run out of memory, it has at most one lease more
+-- have nothing to do. If it finished, and didn't run out of memory, it has at most one lease more
 -- than the expansions can have brought rows.
 abbrev pub LeasesAreFew : Type 0
 LeasesAreFew =
@@ -37,7 +36,7 @@ LeasesAreFew =
     → (leases_in (journal_of moves) ≤ most_leases setup.space.actions machine.counts.spent (broken_leases setup machine) (leases_out setup.settings.workers machine.counts))
     × (AreFinished setup.settings machine.counts → (machine.counts.end ≡ Some Memory → ⊥) → leases_in (journal_of moves) ≤ 1 + setup.space.actions * machine.counts.spent)
 
--- So where it keeps within the room of its leases its journal is short.
+-- So if a run keeps within the room of its leases, its journal is short.
 abbrev pub RunsAreShort : Type 0
 RunsAreShort =
     (setup : Setup) (greatest_cost : ℕ) (moves : List Move) (machine : Machine) → IsSetup setup greatest_cost → setup.reopenings ≡ 0

@@ -10,8 +10,8 @@ use Rattle.pb_lease.specs.LeaseValue.{LeaseValue, leased_store}
 
 -- ---- a lease that comes back
 
--- Why a lease comes back: its worker reports want of memory; or its quota is used up, or no row of
--- its block is Opened.
+-- Why a lease comes back: its worker reports that it is out of memory, its quota is used up, or no
+-- row of its block is Opened.
 abbrev pub HasCause : LeaseValue → (trouble : Bool) → Type 0
 HasCause lease true = ⊤
 HasCause lease false =
@@ -19,8 +19,8 @@ HasCause lease false =
 
 -- ---- a run
 
--- A lease that is given, or goes on, is given at most the incumbent that the whole store had at the
--- last event before: a cost that another worker told since then it may have or not.
+-- A lease that is given, or goes on, gets at most the incumbent that the whole store had at the
+-- last event. If another worker told a cost since then, the lease may have it or not.
 abbrev pub GivesWholeIncumbent : Move → (settled : Option ℕ) → (new : Machine) → Type 0
 GivesWholeIncumbent (event_move (Lease worker block quota)) settled new =
     AtMost (new.given worker) settled
@@ -33,9 +33,9 @@ abbrev pub settled_after : Move → (settled : Option ℕ) → (new : Machine) �
 settled_after (event_move event) settled new = new.store.incumbent
 settled_after (tell_move worker cost) settled new = settled
 
--- A lease goes on if its quota is used up and its block, with the lease home, is the first choice at
--- that moment, whatever other workers did meanwhile. A lease comes back, without want of memory, if
--- its quota is used up or no row of its block is Opened.
+-- A lease goes on if its quota is used up and its block, with the lease home, is the first choice
+-- at that moment, whatever other workers did meanwhile. A lease comes back, unless its worker is
+-- out of memory, only if its quota is used up or no row of its block is Opened.
 abbrev pub IsTimely : Setup → (old : Machine) → Move → (new : Machine) → Type 0
 IsTimely setup old (event_move (Renew worker used quota)) new =
     (grant : Grant) × (old.counts.leases worker ≡ Some grant) × (used ≡ grant.quota)
@@ -47,10 +47,10 @@ IsTimely setup old (event_move (Release worker used false)) new =
 IsTimely setup old move new = ⊤
 
 -- A run of any number of workers, in order and in time: these moves, one after another. So each
--- block that was leased was the first choice of those that might be leased at that moment, each row
--- that was taken the first of its block, and no lease was given a greater incumbent than that of the
--- whole store at the last event. Each lease used up its quota before it went on, and had a cause to
--- come back. The incumbent of the last event stands at both ends.
+-- block that was leased was the first choice of those that might be leased at that moment. Each row
+-- that was taken was the first of its block. No lease was given a greater incumbent than that of
+-- the whole store at the last event. Each lease used up its quota before it went on, and had a
+-- cause to come back. The incumbent of the last event is stated at both ends.
 abbrev pub RunsSettled : Setup → (old : Machine) → (settled : Option ℕ) → List Move → (new : Machine) → (later : Option ℕ) → Type 0
 RunsSettled setup old settled [] new later = (new ≡ old) × (later ≡ settled)
 RunsSettled setup old settled (move ∷ moves) new later =
@@ -58,6 +58,6 @@ RunsSettled setup old settled (move ∷ moves) new later =
     × GivesWholeIncumbent move settled between × IsTimely setup old move between
     × RunsSettled setup between (settled_after move settled between) moves new later
 
--- the same, where the run begins as after an event
+-- the same for a run that begins just after an event
 abbrev pub RunsInTime : Setup → (old : Machine) → List Move → (new : Machine) → Type 0
 RunsInTime setup old moves new = (later : Option ℕ) × RunsSettled setup old old.store.incumbent moves new later

@@ -1,4 +1,4 @@
--- What each call of a graph leaves, by cases of its reply: as the graph's own contracts say. And
+-- What each call of a graph leaves, by cases of its reply, as the graph's own contracts say; and
 -- which events it adds.
 use Rattle.std.specs.Prelude.{◌≡◌, ℕ, Bool, true, false, if◌then◌else◌, List, [], ◌∷◌, Option, Some, None}
 use Rattle.pb_model.specs.Store.{Rows}
@@ -30,8 +30,8 @@ NoneMayBeLeased g =
     (recorded : (worker : ℕ) → Rows) (machine : Machine) → IsMomentAt g recorded machine
     → (block : ℕ) → MayBeLeased (blocks g.table) g.table.settings machine.counts machine.store block → ⊥
 
--- A worker asked for a lease. At want of memory it was neither to wait, nor was the search over;
--- and then, as where it is to wait, nothing changes.
+-- A worker asked for a lease. If memory ran out, the worker didn't have to wait, and the search
+-- wasn't over. Nothing changes in that case, nor if the worker has to wait.
 abbrev pub LeasesAs : (worker : ℕ) → LeaseReply → (old new : GraphValue) → Type 0
 LeasesAs worker (Leased lease) old new = IsLeased old worker lease new × LeasesNext old lease new
 LeasesAs worker NotYet old new = IsToWait old × NoneMayBeLeased old × (new ≡ old)

@@ -57,14 +57,15 @@ pub record IsSearchOf (g : GraphValue) (view : View) : Type 0 where
   pub graph : view.graph ≡ g.table.graph
   pub settings : view.settings ≡ g.table.settings
 
--- What the pass has read as the incumbent every worker can have read, and its own worker what it
--- has told.
+-- Every worker can have read what the pass has read as the incumbent. The pass's own worker can
+-- have read what it has told.
 pub record IsKnownTo (machine : Machine) (view : View) : Type 0 where
   pub read : (incumbent : Option ℕ) → IsTrue (was_read view incumbent) → (worker : ℕ) → IsTrue (machine.known worker incumbent)
   pub last : IsTrue (machine.known view.journal.own.worker view.last)
 
--- What a live view says is so: its pass has the lease that its worker was lent, and its worker told
--- what it says. What the pass has read or told is at most the incumbent that its lease was lent with.
+-- What a live view says is true: its pass has the lease that its worker was lent, and its worker
+-- told what it says. What the pass has read or told is at most the incumbent that its lease was
+-- lent with.
 pub record IsViewOf (g : GraphValue) (machine : Machine) (lent_to : (worker : ℕ) → Option LeaseValue) (view : View) : Type 0 where
   pub lent : lent_to view.journal.own.worker ≡ view.lent
   pub told : machine.told view.journal.own.worker ≡ view.told
@@ -83,10 +84,11 @@ abbrev pub HasNoPass : (worker : ℕ) → List View → Type 0
 HasNoPass worker views = (seat : ℕ) (view : View) → get_elem? views seat ≡ some view → IsTrue view.journal.is_live
     → IsFalse (view.journal.own.worker == worker)
 
--- The graph, with what its workers were lent, is a lawful moment of the lease machine, to which
--- moves from the opening lead, in order and in time, whose events are the journal. The shared number
--- is the least cost that was found or told: the incumbent of the whole store. The views of all passes are true of the journal and of what is
--- lent, and who has no live pass has no lease.
+-- The graph, with what its workers were lent, is a lawful moment of the lease machine. Moves from
+-- the opening lead to that moment, in order and in time, and their events are the journal. The
+-- shared number is the least cost that was found or told: the incumbent of the whole store. The
+-- views of all passes are true of the journal and of what is lent. A worker that has no live pass
+-- has no lease.
 pub record IsYard (g : GraphValue) (shared : Option ℕ) (views : List View) : Type 0 where
   pub is_setup : IsSetup (setup_in g) greatest_cost
   pub in_range : AreInRange g.table.settings
@@ -105,7 +107,7 @@ pub record IsYard (g : GraphValue) (shared : Option ℕ) (views : List View) : T
   pub recent : (seat : ℕ) (view : View) → get_elem? views seat ≡ some view → IsTrue view.journal.is_live → IsRecent g settled view
   pub others : (worker : ℕ) → HasNoPass worker views → lent worker ≡ None
 
--- what the lock keeps: the yard's rule, where the number says the shared one
+-- what the lock keeps: the yard's rule, for the shared incumbent that the number says
 abbrev pub YardFact : GraphValue → ℕ → List View → Type 0
 YardFact g number views = IsYard g (cost_of number) views
 

@@ -18,19 +18,20 @@ abbrev pub bounded : GraphValue → Option ℕ → GraphValue
 bounded g None = g
 bounded g (Some cost) = record g { incumbent = lesser g.incumbent (Some cost) }
 
--- the first pass's
+-- the view of the first pass
 abbrev pub opening_view : GraphValue → View
 opening_view g = record { journal = first_view; lent = None; task = g.task; graph = g.table.graph; settings = g.table.settings; told = None; last = None; read = []; read_at = None }
 
--- after a pass was split from it, and that pass's: it has the next worker's number, no lease and no
--- events, and has seen what the first has
+-- the view of a pass after another was split from it, and then the view of the other: it has the
+-- next worker's number, no lease and no events, and has seen what the first has
 abbrev pub split_view : View → View
 split_view view = record view { journal = with_one_more view.journal }
 
 abbrev pub next_pass_view : View → View
 next_pass_view view = record view { journal = next_view view.journal; lent = None; told = None; last = None; read = []; read_at = None }
 
--- after its pass took in another's; and what is left at that one's number, which says nothing
+-- the view of a pass after it took in another's; and then what is left at the other's number, which
+-- says nothing
 abbrev pub met_pass_view : (view other : View) → View
 met_pass_view view other = record view { journal = met_view view.journal other.journal }
 
@@ -53,17 +54,17 @@ abbrev pub events_held : Option GraphValue → Option ℕ
 events_held None = None
 events_held (Some g) = Some (length g.table.journal)
 
--- after its pass read this as the incumbent
+-- the view after its pass read this as the incumbent
 abbrev pub view_read : (held : Option GraphValue) → View → Option ℕ → View
 view_read held view incumbent = record view { last = incumbent; read = incumbent ∷ view.read; read_at = events_held held }
 
--- after its pass told this cost
+-- the view after its pass told this cost
 abbrev pub view_told : View → (cost : ℕ) → View
 view_told view cost = record view { told = lesser view.told (Some cost); last = lesser view.last (Some cost); read_at = None }
 
--- After its pass held the graph, where these events were added to the journal: it has seen the
--- whole journal, and has the events that are its own worker's; it has this lease, and has told this
--- cost.
+-- The view after its pass held the graph and these events were added to the journal: it has seen
+-- the whole journal, and has the events that are its own worker's. It has this lease, and has told
+-- this cost.
 abbrev pub view_then : (journal added : List Event) → (lent : Option LeaseValue) → (told : Option ℕ) → View → View
 view_then journal added lent told view = record view { journal = view_after journal added view.journal; lent = lent; told = told; read_at = None }
 

@@ -23,12 +23,12 @@ pub fn lent_leases_may_come_back()
     ensures { LentLeasesMayComeBack }
 {}
 
-/// A pass that was answered that the search is over has seen its end.
+/// If a pass was answered that the search is over, it has seen the end.
 pub fn ends_are_seen()
     ensures { EndsAreSeen }
 {}
 
-/// A call that adds no signing off leaves a worker that has not signed off so.
+/// If a call adds no sign-off, a worker that hasn't signed off before it hasn't after it.
 pub fn active_stay()
     ensures { ActiveStay }
 {}

@@ -34,8 +34,8 @@ impl Yard {
         reply
     }
 
-    /// The pass's worker asks to go on with its lease, which came from the one that it was lent by
-    /// its work alone, in turns. The lease's quota is used up.
+    /// The pass's worker asks to go on with its lease. Only its work, in turns, made this lease
+    /// from the one that it was lent. The lease's quota is used up.
     pub fn renew<W: Wait>(&self, rt: &W, pass: &mut Pass, lease: Lease) -> Renewed
         requires own { IsOf self.now pass.old }
         requires brought { IsBrought (view_of pass.old) 0 lease }
@@ -55,9 +55,10 @@ impl Yard {
         reply
     }
 
-    /// The pass's worker brings its lease back, which came from the one that it was lent by its
-    /// work alone, in turns. It has a cause: its quota is used up, no row of its block is Opened, or
-    /// want of memory is reported. Only then an expansion may have been broken off.
+    /// The pass's worker brings its lease back. Only its work, in turns, made this lease from the
+    /// one that it was lent. The return has a cause: the lease's quota is used up, no row of its
+    /// block is Opened, or the worker reports that it is out of memory. Only in the last case an
+    /// expansion may have been broken off.
     pub fn release<W: Wait>(&self, rt: &W, pass: &mut Pass, lease: Lease, trouble: bool)
         requires own { IsOf self.now pass.old }
         requires brought { IsBrought (view_of pass.old) (one_if trouble) lease }

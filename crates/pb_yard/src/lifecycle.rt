@@ -12,8 +12,8 @@ use pb_turn::TurnLock;
 use std::alloc::{AllocError, Global};
 
 impl Yard {
-    /// A yard over the graph of a search that begins, and the pass of worker 0. An error is want of
-    /// memory: the graph comes back.
+    /// A yard over the graph of a search that begins, and the pass of worker 0. An error is out of
+    /// memory: the graph comes back with it.
     pub fn new(alloc: Global, graph: LeaseGraph) -> Result<(Yard, Pass), (AllocError, LeaseGraph)>
         requires { IsOpening graph }
         ensures pass { IfOk result (λ r. IsFirstPass r.0 r.1) }
@@ -34,7 +34,7 @@ impl Yard {
         ))
     }
 
-    /// The next worker's pass. Worker 0's pass makes them, which counts them.
+    /// The next worker's pass. Only worker 0's pass makes the others, and it counts them.
     pub fn split(&self, pass: &mut Pass) -> Pass
         requires own { IsOf self.now pass.old }
         requires first { worker_of pass.old ≡ 0 }

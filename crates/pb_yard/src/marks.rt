@@ -60,7 +60,7 @@ impl Yard {
     }
 
     /// The pass's worker, which has no lease, signs off: it saw that the search ended, or reports
-    /// want of memory.
+    /// that it is out of memory.
     pub fn sign_off<W: Wait>(&self, rt: &W, pass: &mut Pass, trouble: bool)
         requires own { IsOf self.now pass.old }
         requires vacant { (view_of pass.old).lent ≡ None }

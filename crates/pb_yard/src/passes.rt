@@ -1,4 +1,4 @@
-//! What a pass tells its worker.
+//! What a pass reports to its worker.
 ghost use Rattle.std.specs.Prelude.{◌≡◌, length};
 ghost use Rattle.pb_yard.specs.Passes.{view_of, worker_of};
 
@@ -13,8 +13,8 @@ impl Pass {
         self.worker
     }
 
-    /// How many events the journal had when this pass last held the graph, or when a pass did that
-    /// this one was split from or took in, whichever was later. It never falls.
+    /// How many events the journal had when this pass last held the graph. If a pass that this one
+    /// was split from or took in held it later, it is the number at that time. It never falls.
     pub fn seen(&self) -> u64
         ensures { result ≡ length (view_of self.now).journal.seen }
     {

@@ -16,10 +16,12 @@ use crate::yard::Yard;
 use pb_lease::{Lease, Renewed};
 
 impl Yard {
-    /// The pass's worker tries to go on, in one holding of the turn, and never waits. Its lease came from the one that it was lent by its
-    /// work alone, in turns, and its quota is used up, or no row of its block is Opened. The lease goes on where a renewal would keep it.
-    /// Else it comes back, and the worker asks for another one before any other pass holds the graph. Busy comes only where this call's
-    /// own step found the turn held, and the lease is unchanged then.
+    /// The pass's worker tries to go on, in one holding of the turn, and never waits. Only its
+    /// work, in turns, made its lease from the one that it was lent. The lease's quota is used up,
+    /// or no row of its block is Opened. The lease goes on if a renewal would keep it. Else it
+    /// comes back, and the worker asks for another one before any other pass holds the graph. The
+    /// answer is Busy only if this call's own step found the turn held; then the lease is
+    /// unchanged.
     pub fn try_switch(&self, pass: &mut Pass, lease: Lease) -> Switch
         requires own { IsOf self.now pass.old }
         requires brought { IsBrought (view_of pass.old) 0 lease }

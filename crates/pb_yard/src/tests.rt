@@ -30,7 +30,7 @@ use std::sync::{Arc, Wait};
 use std::test::Fail;
 use std::thread::{Threads, join, yield_now};
 
-// How often a thread looks at most how far the other one came.
+// How often a thread looks, at most, at how far the other one came.
 const TURNS: u32 = 10_000_000;
 
 // How far both came: the worker has worked on its lease; the other pass holds the turn; the worker
@@ -87,7 +87,7 @@ fn leased<R: Abort>(rt: &R, reply: LeaseReply) -> Lease
     }
 }
 
-// The lease that a pass still has, as it was told that another one holds the turn.
+// The lease that a pass still has, since another pass holds the turn.
 fn busy<R: Abort>(rt: &R, answer: Switch) -> Lease
     ensures { answer ≡ Busy result }
 {
@@ -98,7 +98,7 @@ fn busy<R: Abort>(rt: &R, answer: Switch) -> Lease
     }
 }
 
-// What a pass was answered whose lease came back.
+// The answer to a pass whose lease came back.
 fn gave<R: Abort>(rt: &R, answer: Switch) -> LeaseReply
     ensures { answer ≡ Gave result }
 {
@@ -214,7 +214,7 @@ fn sign_off<W: Wait>(rt: &W, yard: &Yard, mut pass: Pass) -> Pass
 }
 
 // The worker: its first lease after the work and after the try beside the other pass, and its next
-// one. That comes back with a report of want of memory, and the worker signs off.
+// lease. The next lease comes back with a report that memory ran out, and the worker signs off.
 fn switch_twice<R: Wait + Abort>(
     rt: &R,
     alloc: Global,
@@ -306,7 +306,7 @@ fn finish(yard: Yard, mut first: Pass, second: Pass) -> LeaseGraph
     yard.close(first)
 }
 
-// The same by the two passes of a new yard, which is closed then.
+// The same run by the two passes of a new yard, which is closed after it.
 fn search_by_two<R: Threads + Wait + Abort + Sync>(
     rt: &R,
     alloc: Global,

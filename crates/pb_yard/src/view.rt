@@ -47,7 +47,7 @@ pub struct View {
     pub task: Task,
     /// By which blocks.
     pub graph: AbsGraph,
-    /// With what.
+    /// With which settings.
     pub settings: Settings,
     /// The least cost that it told since its lease was given or last renewed.
     pub told: Option<u64>,

@@ -1,4 +1,4 @@
-//! The incumbent of the whole search, which stands in a word beside the graph.
+//! The incumbent of the whole search, which is kept in a word beside the graph.
 ghost use Rattle.std.specs.Prelude.{◌≡◌, ◌≢◌, ◌<◌, ◌+◌, ℕ, true, Some, None, IfSome, IfNone};
 ghost use Rattle.pb_turn.specs.Obligations.{Stands};
 ghost use Rattle.pb_turn.specs.Passes.{view, number, parts, misses, whole, found, state, HoldsTurn, IsResting, IsPassOf};
@@ -87,7 +87,7 @@ impl Yard {
         self.read_on(turn, held)
     }
 
-    // The same in one try, which never waits: None where this call's own step found the turn held.
+    // The same in one try, which never waits: None if this call's own step found the turn held.
     pub(crate) fn try_enter_reading(
         &self,
         turn: &mut pb_turn::Pass<YardRule>,
