@@ -32,8 +32,8 @@ HasSmallCosts graph = CostsAtMost (home_store graph) (2 ^ 61 - 1)
 
 -- A search of this task at the weight of these settings came to a quiet end with this graph, all of
 -- whose rows are at home: they are a sound store without an Opened row. The incumbent is shown by a
--- goal's row, some plan costs no more, and no plan costs less than it divided by the weight; without
--- an incumbent there is no plan.
+-- goal's row, some plan costs no more, and no plan costs less than the incumbent divided by the
+-- weight. Without an incumbent there is no plan.
 pub record IsBestOf (parts : TaskParts) (settings : Settings) (graph : GraphValue) : Type 0 where
   pub task : graph.task ≡ parts
   pub weight : weight_of graph.table.settings ≡ weight_of settings
@@ -73,14 +73,15 @@ HasEndedSo Budget settings store expanded =
     (expanded ≡ settings.budget) × ((block : ℕ) × HasOpened (store.rows block))
 HasEndedSo Memory settings store expanded = ⊥
 
--- A search by leases of this task, with these settings, came to this end by these moves: over the
--- finest abstract graph of the task that has no more blocks than are wished for, they lead from the
--- machine that has the start's row alone to a lawful one, whose end is that, and where every worker
--- has signed off. So their events are a finished legal history. Whatever the number of workers, the
--- moves are in order and in time: each lease is of the first choice at its moment, with the
--- incumbent of the whole store. Expansions, none of them broken off, lead from the start's row alone
--- to the rows of that machine, as the end says. The journal isn't padded: each of its events stands
--- within the room of its lease, and there are no more than the expansions can have brought about.
+-- A search by leases of this task, with these settings, came to this end by these moves. They are
+-- over the finest abstract graph of the task that has no more blocks than are wished for. They lead
+-- from the machine that has the start's row alone to a lawful one with this end, at which every
+-- worker has signed off. So their events are a finished legal history. Whatever the number of
+-- workers, the moves are in order and in time: each lease is of the first choice at its moment,
+-- with the incumbent of the whole store. Expansions, none of them broken off, lead from the start's
+-- row alone to the rows of that machine, as the end says. The journal isn't padded: each of its
+-- events is within the room of its lease, and there are no more than the expansions can have
+-- brought about.
 pub record EndsBy (parts : TaskParts) (settings : Settings) (end : End) (moves : List Move)
     : Type 0 where
   pub graph : AbstractGraph

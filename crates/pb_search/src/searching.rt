@@ -46,7 +46,7 @@ pub fn search<R: Threads + Wait + Sync, G: Gate>(
     ensures quiet { IfOk result (λ graph. graph.table.end ≡ Some Quiet
         → IsBestOf (arc_value task.now) settings graph) }
 
-    // The journal is that of this search, which came to its end so.
+    // The journal is that of a search that ended this way.
     ensures quiet_run { IfOk result (λ graph. graph.table.end ≡ Some Quiet
         → EndsQuietly (arc_value task.now) settings graph.table.journal graph) }
     ensures budget { IfOk result (λ graph. graph.table.end ≡ Some Budget

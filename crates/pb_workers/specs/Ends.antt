@@ -15,8 +15,9 @@ use Rattle.pb_lease.specs.GraphValue.{GraphValue}
 abbrev pub home_store : GraphValue → Store
 home_store g = store_of (home_rows g.homes) g.incumbent (weight_of g.table.settings)
 
--- The rows at home are a sound store without an Opened row. The incumbent is shown by a goal's row; some plan costs no more, and no plan costs
--- less than it divided by the weight; without an incumbent there is no plan.
+-- The rows at home are a sound store without an Opened row. The incumbent is shown by a goal's row;
+-- some plan costs no more, and no plan costs less than the incumbent divided by the weight. Without
+-- an incumbent there is no plan.
 pub record IsBestEnd (g : GraphValue) : Type 0 where
   pub sound : IsSound (space_of g.task) (guide_of g.task g.table.graph) (home_store g)
   pub quiet : IsQuiet (home_store g)

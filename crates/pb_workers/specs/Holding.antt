@@ -37,13 +37,15 @@ pub record IsHeld (g : GraphValue) (lease : LeaseValue) : Type 0 where
   pub moment : IsMoment g recorded machine
   pub out : IsOutInTurns (setup_in g) machine 0 lease
 
--- from whichever machine at which the lease is out a run in order leads to one that the new graph is a moment of, where this lease is out
+-- from each machine at which the old lease is out, a run in order leads to a machine that the new
+-- graph is a moment of, and at which this lease is out
 abbrev pub RunsOut : (old : GraphValue) → LeaseValue → (new : GraphValue) → (kept : LeaseValue) → Type 0
 RunsOut old lease new kept =
     (recorded : (worker : ℕ) → Rows) (machine : Machine) → IsMoment old recorded machine → IsOutInTurns (setup_in old) machine 0 lease
     → (after : (worker : ℕ) → Rows) × (next : Machine) × RunsTo old machine new after next × IsOutInTurns (setup_in new) next 0 kept
 
--- from whichever machine at which the lease is out a run in order leads to one that the new graph is a moment of
+-- from each machine at which the lease is out, a run in order leads to a machine that the new graph
+-- is a moment of
 abbrev pub RunsHome : (old : GraphValue) → LeaseValue → (new : GraphValue) → Type 0
 RunsHome old lease new =
     (recorded : (worker : ℕ) → Rows) (machine : Machine) → IsMoment old recorded machine → IsOutInTurns (setup_in old) machine 0 lease
@@ -62,12 +64,12 @@ abbrev pub IsNearer : (old : GraphValue) → LeaseValue → (new : GraphValue) �
 IsNearer old lease new =
     IsSome new.table.end ⊎ (new.table.left < left_with old lease) ⊎ ((new.table.left ≡ left_with old lease) × (opened_blocks new < opened_blocks old))
 
--- the block became hot where it might, and else nothing changed
+-- the block became hot if it might, and else nothing changed
 pub record MarksWhereMay (old : GraphValue) (worker block : ℕ) (new : GraphValue) : Type 0 where
   pub may : MayMark old worker block → IsMarked old worker (Hot worker block) new
   pub may_not : (MayMark old worker block → ⊥) → new ≡ old
 
--- the rival of the lease's block became hot where there is one and it might
+-- the rival of the lease's block became hot, if there is one and it might
 abbrev pub MarksRival : (old : GraphValue) → LeaseValue → (new : GraphValue) → Type 0
 MarksRival old lease new =
     (IsRivalBy (interferes (blocks old.table) lease.block) (key_at old.homes) lease.block None × (new ≡ old))

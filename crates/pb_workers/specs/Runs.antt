@@ -24,7 +24,8 @@ pub record RunsTo (old : GraphValue) (machine : Machine) (new : GraphValue) (rec
   pub events : new.table.journal ≡ old.table.journal ++ journal_of moves
   pub moment : IsMoment new recorded next
 
--- from whichever machine the old graph is a moment of such a run leads to one that the new graph is a moment of
+-- from each machine that the old graph is a moment of, such a run leads to one that the new graph
+-- is a moment of
 abbrev pub RunsOn : (old new : GraphValue) → Type 0
 RunsOn old new =
     (recorded : (worker : ℕ) → Rows) (machine : Machine) → IsMoment old recorded machine

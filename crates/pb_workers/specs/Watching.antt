@@ -7,7 +7,7 @@ use Rattle.pb_yard.specs.Rule.{was_read}
 use Rattle.pb_yard.specs.Passes.{view_of, IsOf, KeepsPass}
 use Rattle.pb_workers.specs.declared.yard_watch.YardWatch.{YardWatch}
 
--- what a watch knows whose pass has this view
+-- what a watch knows if its pass has this view
 abbrev pub watch_view : View → WatchView
 watch_view view = record { task = view.task; graph = view.graph; lent = view.lent; read = was_read view; answers = view.read; least = view.last; told = view.told }
 

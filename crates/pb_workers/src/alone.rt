@@ -16,9 +16,11 @@ use pb_outside::Gate;
 use pb_task::Task;
 use std::alloc::{AllocError, Global};
 
-/// Searches as the only worker of the graph, from whatever moment it is at, until the search ends: leases blocks, best first, works on each and
-/// brings it back, and signs off. The gate is told each time that a block was leased, and each time before a lease is renewed or comes back. It
-/// waits for nobody. An error is want of memory: then nothing was leased, or the search ended by that.
+/// Searches as the only worker of the graph, from whatever moment it is at, until the search ends:
+/// leases blocks, best first, works on each and brings it back, and signs off. It waits for nobody.
+/// The gate is told each time that a block was leased, and each time before a lease is renewed or
+/// comes back. An error is out of memory: then nothing was leased, or the search ended because of
+/// it.
 pub fn run_alone<G: Gate>(
     alloc: Global,
     task: &Task,
@@ -33,7 +35,8 @@ pub fn run_alone<G: Gate>(
     requires home { IsFalse (is_out_in graph.old) }
     requires stays { IsFalse ((counts_in graph.old).signed_off 0) }
 
-    // From whichever machine the graph was a moment of, the events that the journal got are those of a run in order, at whose end it is.
+    // If the graph was a moment of a machine, a run in order leads on from that machine. Its events
+    // are those that the journal got, and the graph is now at its end.
     ensures run { RunsOn graph.old graph.new }
 
     // How it ends.
@@ -55,7 +58,8 @@ pub fn run_alone<G: Gate>(
     sign_off(graph, end)
 }
 
-// Leases blocks and works on them until the search ends, and answers the end, or none where memory is wanted for a lease.
+// Leases blocks and works on them until the search ends, and answers the end. Answers None if
+// memory for a lease runs out.
 fn search<G: Gate>(worker: &mut Worker, graph: &mut LeaseGraph, gate: &G) -> Option<End>
     requires serves { Serves worker.old graph.old }
     requires alone { graph.old.table.settings.workers ≡ 1 }

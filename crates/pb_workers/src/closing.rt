@@ -8,8 +8,8 @@ use pb_lease::LeaseGraph;
 use pb_machine::End;
 use std::alloc::AllocError;
 
-/// The worker signs off when the search ended, or, where no end stands, with a report of want of memory, by which the search ends. An
-/// error is an end by that.
+/// The worker signs off if the search ended. Else it signs off with a report that it is out of
+/// memory, and the search ends because of it. An error is an end that came out of memory.
 pub fn sign_off(graph: &mut LeaseGraph, end: Option<End>) -> Result<(), AllocError>
     requires workers { 0 < graph.old.table.settings.workers }
     requires vacant { (counts_in graph.old).leases 0 ≡ None }

@@ -6,7 +6,8 @@ ghost use Rattle.pb_workers.specs.Holding.{MarksRival, IsMarkedAtMost};
 
 use pb_lease::{Lease, LeaseGraph};
 
-/// Marks the rival of the lease's block hot, where there is one and it may be marked: in a plain search it never may.
+/// Marks the rival of the lease's block hot, if there is one and it may be marked: in a plain
+/// search it never may.
 pub fn mark_rival(graph: &mut LeaseGraph, lease: &Lease)
     requires leased { (counts_in graph.old).leases lease.now.worker ≡ Some (grant_of lease.now) }
     requires moment { IsAnyMoment graph.old }

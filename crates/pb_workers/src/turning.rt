@@ -11,8 +11,9 @@ use pb_expand::Worked;
 use pb_lease::{Lease, LeaseGraph, Renewed};
 use pb_outside::Gate;
 
-/// Works on a lease until its quota is used up, no row of its block is Opened, or memory is wanted. Then the lease goes on, where with it home
-/// its block would be the first choice, or comes back.
+/// Works on a lease until its quota is used up, no row of its block is Opened, or memory runs out.
+/// Then the lease goes on, if its block would be the first choice with the lease home. Else it
+/// comes back.
 pub fn turn<G: Gate>(
     worker: &mut Worker,
     graph: &mut LeaseGraph,

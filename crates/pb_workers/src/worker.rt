@@ -67,7 +67,7 @@ impl<'a> Worker<'a> {
         }
     }
 
-    /// Works on a lease until its quota is used up, no row of its block is Opened, or memory is
+    /// Works on a lease until its quota is used up, no row of its block is Opened, or memory runs
     /// out.
     pub fn work(&mut self, lease: &mut Lease) -> Worked
         requires graph { IsGraphOf self.old.task.now self.old.abstraction.now }

@@ -19,8 +19,8 @@ use pb_task::Task;
 use pb_yard::{Pass, Yard};
 use std::sync::Wait;
 
-// Leases blocks and works on them until the search ends, or memory for a lease is out. Answers
-// whether it is.
+// Leases blocks and works on them until the search ends, or memory for a lease runs out. Answers
+// whether memory ran out.
 fn take_leases<W: Wait, G: Gate>(
     rt: &W,
     count: &EventCount,

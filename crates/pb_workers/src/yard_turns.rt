@@ -20,7 +20,7 @@ use pb_task::Task;
 use pb_yard::{Pass, Switch, Yard};
 use std::sync::Wait;
 
-/// Marks the rival of the lease's block hot, where there is one and it may be marked: in a plain
+/// Marks the rival of the lease's block hot, if there is one and it may be marked: in a plain
 /// search it never may.
 fn mark_rival<W: Wait>(rt: &W, yard: &Yard, pass: &mut Pass, lease: &Lease)
     requires own { IsOf yard.now pass.old }
@@ -38,8 +38,8 @@ fn mark_rival<W: Wait>(rt: &W, yard: &Yard, pass: &mut Pass, lease: &Lease)
     }
 }
 
-// Goes on without waiting, with the lease or with another one, or gives it back. Where another pass
-// holds the graph, the lease is renewed by waiting if its quota is used up, and else comes back.
+// Goes on without waiting, with the lease or with another one, or gives it back. If another pass
+// holds the graph, a lease whose quota is used up is renewed by waiting, and any other comes back.
 fn go_on<W: Wait, G: Gate>(
     rt: &W,
     count: &EventCount,
@@ -88,7 +88,7 @@ fn go_on<W: Wait, G: Gate>(
     }
 }
 
-/// Works on a lease until its quota is used up, no row of its block is Opened, or memory is out.
+/// Works on a lease until its quota is used up, no row of its block is Opened, or memory runs out.
 /// Then the worker goes on, with the lease or with another one, or its lease comes back.
 pub fn yard_turn<W: Wait, G: Gate>(
     rt: &W,
