@@ -22,7 +22,8 @@ HomeRowsAreWhole =
     (g : GraphValue) (recorded : (worker : ℕ) → Rows) (machine : Machine) → IsLeaseGraph g → IsFalse (is_out_in g) → IsMoment g recorded machine
     → machine.store ≡ store_with (home_rows g.homes) (weight_of g.table.settings) g.incumbent
 
--- Where a sound store has an incumbent that is shown, a goal has a row, and the rows are those of a sound store: what a trace asks for.
+-- If a sound store has an incumbent that is shown, a goal has a row, and the rows are those of a
+-- sound store: what a trace asks for.
 abbrev pub ShownRowsCanBeTraced : Type 0
 ShownRowsCanBeTraced =
     (space : Space) (guide : Guide) (rows : Rows) (weight : Weight) (incumbent : Option ℕ) (cost : ℕ) → IsSound space guide (store_with rows weight incumbent)

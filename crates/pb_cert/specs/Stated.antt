@@ -32,10 +32,11 @@ abbrev pub rows_lines : Certificate → List (List ℕ)
 rows_lines certificate =
     spaced (codes "rows") (decimal (length certificate.lines)) ∷ (map (line_text 64) certificate.lines ++ codes "end" ∷ [])
 
--- all of them
+-- all lines of the text
 unfoldable pub lines_of : Stated → List (List ℕ)
 lines_of stated = head_lines stated ++ plan_lines stated.certificate.plan ++ rows_lines stated.certificate
 
--- the line of this number, counted from 0, was put behind the piece, which grew by at most 128 bytes
+-- the line of this number, counted from 0, was put at the end of the piece, which grew by at most
+-- 128 bytes
 abbrev pub PutsLine : (old new : List ℕ) → List (List ℕ) → (at : ℕ) → Type 0
 PutsLine old new texts at = (text : List ℕ) × (slice_get texts at ≡ Some text) × (new ≡ old ++ line text) × (length new ≤ length old + 128)

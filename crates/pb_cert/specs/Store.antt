@@ -18,7 +18,7 @@ store_with rows weight incumbent = record { rows = rows; incumbent = incumbent; 
 abbrev pub guide_with : (estimate : ℕ → Estimate) → (homes : ℕ → ℕ) → Guide
 guide_with estimate homes = record { estimate = estimate; home = homes }
 
--- the same where the estimates are not looked at
+-- the same, if the estimates are not looked at
 abbrev pub guide_to : (homes : ℕ → ℕ) → Guide
 guide_to homes = guide_with (λ state. Cost 0) homes
 

@@ -54,8 +54,9 @@ impl<'a> Model for Certificate<'a> {
 }
 
 impl<'a> Certificate<'a> {
-    /// The certificate of a store's rows, for a search at the weight num / den, with a plan or with the claim that there is
-    /// none. `kind` is what a task of its kind is called on a command line. An error is want of memory.
+    /// The certificate of a store's rows, for a search at the weight num / den, with a plan or with
+    /// the claim that there is none. `kind` is what a task of its kind is called on a command line.
+    /// An error is out of memory.
     pub fn of<S: Store>(
         alloc: Global,
         kind: &'static str,
@@ -91,7 +92,7 @@ impl<'a> Certificate<'a> {
         })
     }
 
-    /// The plan, or None where the certificate claims that there is none.
+    /// The plan, or None if the certificate claims that there is none.
     pub fn plan(&self) -> Option<&Plan>
         ensures { option_copied result ≡ self.now.certificate.plan }
     {

@@ -16,7 +16,8 @@ pub(crate) struct Goal {
     pub(crate) g: u64,
 }
 
-// The goal whose row has the least g, and at one g the goal that is the least state. None where no goal has a row.
+// The goal whose row has the least g, and at one g the goal that is the least state. None if no
+// goal has a row.
 pub(crate) fn first_goal<S: Store>(task: &Task, store: &S) -> Option<Goal>
     requires whole { S.is_whole store.now }
     ensures some { IfSome result (λ goal. IsFirstGoal (space_of task.now) (S.rows store.now) goal.state goal.g) }
@@ -30,7 +31,8 @@ pub(crate) fn first_goal<S: Store>(task: &Task, store: &S) -> Option<Goal>
     first
 }
 
-// The first of the goal so far, if there is one, and of the goals that have a row in this part.
+// The first goal of the goal so far, if there is one, and of the goals that have a row in this
+// part.
 fn first_in(task: &Task, so_far: Option<Goal>, bundle: &Bundle) -> Option<Goal>
     ensures kept { (g other : ℕ) → HasNoLater so_far g other → HasNoLater result g other }
     ensures small { IfSome so_far (λ goal. goal.g < 2 ^ 64) → IfSome result (λ goal. goal.g < 2 ^ 64) }
@@ -45,7 +47,8 @@ fn first_in(task: &Task, so_far: Option<Goal>, bundle: &Bundle) -> Option<Goal>
     first
 }
 
-// The first of the goal so far, if there is one, and of a state with its row, if that is a goal.
+// The first goal of the goal so far, if there is one, and of a state with its row, if the state is
+// a goal.
 fn first_of(task: &Task, so_far: Option<Goal>, state: &Packed, row: &Row) -> Option<Goal>
     ensures kept { (g other : ℕ) → HasNoLater so_far g other → HasNoLater result g other }
     ensures small { IfSome so_far (λ goal. goal.g < 2 ^ 64) → IfSome result (λ goal. goal.g < 2 ^ 64) }

@@ -8,7 +8,7 @@ use crate::certificate::{Certificate, Line};
 use crate::rows::line_at;
 use pb_print::Piece;
 
-// Puts a line of a word and a number behind the piece.
+// Puts a line of a word and a number at the piece's end.
 fn put_numbered(word: &[u8], n: u64, out: &mut Piece)
     requires word { length word.now ≤ 8 }
     requires room { length out.old + 128 ≤ 4096 }
@@ -21,7 +21,7 @@ fn put_numbered(word: &[u8], n: u64, out: &mut Piece)
     out.push(b"\n");
 }
 
-// Puts the line of an action behind the piece.
+// Puts the line of an action at the piece's end.
 fn put_action(action: u32, out: &mut Piece)
     requires room { length out.old + 128 ≤ 4096 }
     ensures line { out.new ≡ out.old ++ line (decimal action) }
@@ -31,7 +31,7 @@ fn put_action(action: u32, out: &mut Piece)
     out.push(b"\n");
 }
 
-// Puts the line of a state behind the piece.
+// Puts the line of a state at the piece's end.
 fn put_row(row: &Line, out: &mut Piece)
     requires room { length out.old + 128 ≤ 4096 }
     ensures line { out.new ≡ out.old ++ line (line_text 64 row.now) }
@@ -48,7 +48,7 @@ fn put_row(row: &Line, out: &mut Piece)
     out.push(status);
 }
 
-// Puts a line that states a plan behind the piece.
+// Puts a line that states a plan at the piece's end.
 fn put_plan_line(plan: &Plan, at: u128, out: &mut Piece)
     requires within { at < length plan.now.actions + 2 }
     requires room { length out.old + 128 ≤ 4096 }
@@ -99,7 +99,7 @@ impl Certificate<'_> {
         3 + self.plan_count() + self.rows() as u128 + 2
     }
 
-    // Puts the line of this number, counted from 0, behind the piece.
+    // Puts the line of this number, counted from 0, at the piece's end.
     pub(crate) fn put_line(&self, at: u128, out: &mut Piece)
         requires within { at < length (lines_of self.now) }
         requires room { length out.old + 128 ≤ 4096 }

@@ -36,7 +36,7 @@ fn append_piece<H: Shelf>(shelf: &mut H, name: &str, piece: &mut Piece) -> Resul
     Ok(())
 }
 
-// Makes room for a line in the piece, where there is none by appending what it holds to the file.
+// Makes room for a line in the piece: if there is none, what it holds is appended to the file.
 fn make_room<H: Shelf>(shelf: &mut H, name: &str, piece: &mut Piece) -> Result<(), Failed>
     requires lines { AreLines piece.old }
     ensures lines { OnOk result (AreLines piece.new) }

@@ -12,7 +12,7 @@ use pb_packed::Packed;
 use pb_task::Task;
 use std::alloc::{AllocError, Global};
 
-// The last step of the way to a state: its action and its cost, and the state that it is made from.
+// The last step of the way to a state: its action, its cost, and the state that it comes from.
 #[derive(Drop)]
 struct Step {
     action: u32,
@@ -20,7 +20,7 @@ struct Step {
     cost: u64,
 }
 
-// The row of a state in the part that is its home, or None where it has none.
+// The row of a state in the part that is its home, or None if it has none.
 fn row_at_home<S: Store>(task: &Task, store: &S, state: &Packed) -> Option<Row>
     requires whole { S.is_whole store.now }
     requires of_task { S.is_of store.now task.now }
@@ -31,7 +31,7 @@ fn row_at_home<S: Store>(task: &Task, store: &S, state: &Packed) -> Option<Row>
     store.part(home).row(state)
 }
 
-// The last step of the way to a state, as its row tells.
+// The last step of the way to a state, as its row says.
 fn last_step<S: Store>(task: &Task, store: &S, state: &Packed) -> Step
     requires lawful { IsTask task.now }
     requires whole { S.is_whole store.now }
@@ -57,9 +57,9 @@ fn last_step<S: Store>(task: &Task, store: &S, state: &Packed) -> Step
     }
 }
 
-/// The plan that the rows tell: the actions on the way from the start to the goal whose row has the least g (at one g, the goal
-/// that is the least state), as parents and actions of the rows have it, and the sum of what these actions cost. An error is
-/// want of memory.
+/// The plan that the rows give: the actions on the way from the start to a goal, as parents and
+/// actions of the rows say, and the sum of what these actions cost. The goal is the one whose row
+/// has the least g, and at one g the least state. An error is out of memory.
 pub fn trace<S: Store>(alloc: Global, task: &Task, store: &S) -> Result<Plan, AllocError>
     requires whole { S.is_whole store.now }
     requires of_task { S.is_of store.now task.now }

@@ -16,7 +16,7 @@ abbrev pub wanted : {A : Type 0} → (line : ℕ) → Option A → Result A Cert
 wanted line None = Err (Syntax line)
 wanted line (Some x) = Ok x
 
--- the fault is the one that is given; want of memory says nothing
+-- the fault is the one that is given; nothing is said if memory ran out
 abbrev pub Fails : {Y : Type 0} → CheckError → (given : Result Y CertificateFault) → Type 0
 Fails errors.Memory given = ⊤
 Fails (errors.Fault fault) given = given ≡ Err fault

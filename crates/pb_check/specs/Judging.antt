@@ -45,12 +45,13 @@ is_weight weight = nat_le 1 weight.den && (nat_le weight.den weight.num && nat_l
 
 -- ---- the plan
 
--- goes on behind a step, if it is one
+-- goes on after a step, if it is one
 abbrev pub after_step : (done : ℕ) → ((next first : ℕ) → Result (ℕ × ℕ) CertificateFault) → Option (ℕ × ℕ) → Result (ℕ × ℕ) CertificateFault
 after_step done rest None = Err (faults.PlanStep done)
 after_step done rest (Some step) = rest step.0 step.1
 
--- where the actions lead, and at what cost, behind so many steps of this cost; or the first step that is none
+-- where the actions lead, and at what cost, after so many steps of this cost; or the first step
+-- that is none
 unfoldable pub walk : Space → (from done cost : ℕ) → List ℕ → Result (ℕ × ℕ) CertificateFault
 walk space from done cost [] = Ok (from, cost)
 walk space from done cost (action ∷ actions) = after_step done (λ next first. walk space next (done + 1) (cost + first) actions) (space.step from action)

@@ -17,7 +17,7 @@ line_at line text = wanted line (part 10 text)
 
 -- ---- what a line says
 
--- the number behind this piece
+-- the number after this piece
 abbrev pub number_behind : (line : ℕ) → (piece text : List ℕ) → Result ℕ CertificateFault
 number_behind line piece text = wanted line (behind piece text) >>= λ word. wanted line (number_of word)
 
@@ -121,7 +121,7 @@ pub record Text : Type 0 where
   pub certificate : Certificate
   pub first : ℕ
 
--- the end, with nothing behind it
+-- the end, with nothing after it
 unfoldable pub end_at : (line : ℕ) → List ℕ → Result Bool CertificateFault
 end_at line text = do
   rest ← fixed_at line (codes "end") text

@@ -3,8 +3,8 @@ ghost use Rattle.pb_check.specs.declared.fault.CheckError.TheVariants.{Memory};
 
 use std::alloc::{AllocError, AllocFailed};
 
-/// Why a certificate is refused. Where it has several faults, the first in the order of these names is told, and of one
-/// name the first row or action. Lines are counted from 1.
+/// Why a certificate is refused. If it has several faults, the first in the order of these names is
+/// reported, and of one name the first row or action. Lines are counted from 1.
 #[derive(Clone, Copy, Debug, PartialEq, Eq)]
 pub enum CertificateFault {
     /// The first line that is not spelled as a certificate's; a line that is missing is the one after the last.
@@ -40,7 +40,7 @@ pub enum CertificateFault {
 pub enum CheckError {
     /// The certificate is not valid for the task: its first fault.
     Fault(CertificateFault),
-    /// There was not enough memory to tell.
+    /// Memory ran out before there was a verdict.
     Memory,
 }
 

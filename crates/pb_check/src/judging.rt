@@ -37,7 +37,7 @@ fn unless(holds: bool, fault: CertificateFault) -> Option<CertificateFault>
     if holds { None } else { Some(fault) }
 }
 
-// Goes on only where this holds.
+// Goes on only if this holds.
 fn need(holds: bool, fault: CertificateFault) -> Result<bool, CheckError>
     ensures gives { Gives (λ x. x) result (passes (unless holds fault)) }
     ensures holds { IfOk result (λ x. holds ≡ true) }
@@ -234,8 +234,9 @@ fn keep_near(places: &mut [usize], action: u32, near: usize) {
     }
 }
 
-// The fault of the first action that has one. Of each action it is kept where the row behind that of
-// its state stands: of rows that rise, the next one often leads there by the same action.
+// The fault of the first action that has one. For each action, the place after the row of the state
+// that it leads to is kept. Rows rise, so the next state that the action leads to often has its row
+// there.
 fn steps_fault(
     task: &Task,
     rows: &StatedRows,
@@ -381,7 +382,7 @@ fn is_zero(g: Option<u64>) -> bool
     }
 }
 
-// Goes on only where no row has a fault.
+// Goes on only if no row has a fault.
 fn need_rows(
     alloc: Global,
     task: &Task,
