@@ -56,7 +56,7 @@ header_text settings = lines (header_lines settings)
 abbrev pub events_text : List Event → List ℕ
 events_text journal = lines (map event_line journal)
 
--- all of it
+-- the whole text
 abbrev pub journal_text : Settings → List Event → List ℕ
 journal_text settings journal = header_text settings ++ events_text journal
 

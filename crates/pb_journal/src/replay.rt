@@ -13,8 +13,8 @@ use pb_machine::{End, Grant, Settings};
 use std::alloc::{AllocError, Global};
 
 /// Who has which lease and who has signed off, by worker; which blocks are hot; what was spent and
-/// what is left of the budget; the end that stands; and whether the event before reported want of
-/// memory while no end stood.
+/// what is left of the budget; and the end that stands. Also whether the event before, while no end
+/// stood, reported that a worker is out of memory.
 #[derive(Debug, Drop)]
 pub struct Replay {
     pub leases: Vec<Option<Grant>>,
@@ -45,7 +45,7 @@ impl Replay {
         })
     }
 
-    /// The lease of the worker. A worker that there isn't has none.
+    /// The lease of the worker. A worker that doesn't exist has none.
     pub fn lease_of(&self, worker: u64) -> Option<Grant>
         ensures { result ≡ (counts_of self.now).leases worker }
     {
@@ -107,7 +107,7 @@ impl Replay {
         false
     }
 
-    /// Whether the block is hot. A block that there isn't is not.
+    /// Whether the block is hot. A block that doesn't exist is not hot.
     pub fn is_hot(&self, block: u64) -> bool
         ensures { result ≡ (counts_of self.now).hot block }
     {

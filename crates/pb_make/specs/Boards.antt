@@ -31,7 +31,7 @@ abbrev pub target_of : (blank : Option ℕ) → (direction : ℕ) → Option ℕ
 target_of None direction = None
 target_of (Some cell) direction = cell_beside cell direction
 
--- the board after a draw, which moves the blank where the board allows it
+-- the board after a draw, which moves the blank if the board allows it
 abbrev pub moved : (board : List ℕ) → (draw : ℕ) → List ℕ
 moved board draw = exchanged board (blank_of board) (target_of (blank_of board) (draw % 4))
 

@@ -10,7 +10,7 @@ next_number number = (6364136223846793005 * number + 1442695040888963407) % 2 ^ 
 unfoldable pub draw_from : (number : ℕ) → ℕ
 draw_from number = next_number number / 2 ^ 32
 
--- so many draws of a generator that holds this number: at first it holds the seed
+-- so many draws of a generator that holds this number; at first a generator holds the seed
 abbrev pub draws : (count number : ℕ) → List ℕ
 draws zero number = []
 draws (suc count) number = draw_from number ∷ draws count (next_number number)

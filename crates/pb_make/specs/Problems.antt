@@ -20,7 +20,7 @@ objects_from block (suc count) = object block ++ objects_from (block + 1) count
 abbrev pub facts_of : (block : ℕ) → List ℕ
 facts_of block = codes "( clear " ++ (block_name block ++ (codes " ) ( ontable " ++ (block_name block ++ codes " ) ")))
 
--- that so many blocks are
+-- that so many blocks are clear and on the table
 abbrev pub facts_from : (block count : ℕ) → List ℕ
 facts_from block zero = []
 facts_from block (suc count) = facts_of block ++ facts_from (block + 1) count
