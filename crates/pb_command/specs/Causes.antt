@@ -101,7 +101,7 @@ IsPrinted fault.Size text = IsLine (codes "words size") text
 IsPrinted fault.Form text = IsErrorText text
 IsPrinted fault.Kind text = IsErrorText text
 
--- the refusal of words that fail this test, unless memory is wanting
+-- the refusal of words that fail this test, unless memory ran out
 abbrev pub IsRefusal : CommandFault → CommandRefusal → Type 0
 IsRefusal f (refusal.Words g message) = (f ≡ g) × IsPrinted f message
 IsRefusal f refusal.Memory = Unit {0}

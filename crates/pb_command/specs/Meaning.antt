@@ -104,7 +104,7 @@ solve_meaning n plain swamp certificate journal input = record {
   journal = journal;
 }
 
--- clap sees to it that a word that must stand is there, and that a number lies in its range
+-- clap sees to it that a required word is there, and that a number lies in its range
 abbrev pub solve_with : Option Text → Option Text → Option SolveNumbers → (plain swamp : Bool) → Option Text → Option Text → KindWord → Reading
 solve_with (Some first) second (Some numbers) plain swamp certificate journal kind =
     with_input (input_of kind first second) (λ input. solve_tested (solve_meaning numbers plain swamp certificate journal input))
@@ -164,7 +164,8 @@ abbrev pub unless_faulty : Kinds → Reading → Reading
 unless_faulty [] reading = reading
 unless_faulty (k ∷ ks) reading = Refused fault.Form
 
--- the words are refused where clap finds a fault in them, and else are what the values of their subcommand ask for
+-- the words are refused if clap finds a fault in them, and else are what the values of their
+-- subcommand ask for
 abbrev pub reading_of_words : List Text → Reading
 reading_of_words words = unless_faulty (fault_of the_program words) (command_met (subcommand_of the_program words))
 

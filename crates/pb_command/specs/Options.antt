@@ -65,7 +65,7 @@ is_same_flag Plain Swamp = false
 is_same_flag Swamp Plain = false
 is_same_flag Swamp Swamp = true
 
--- an argument of a command: a word that its place tells, an option with its value, or a flag
+-- an argument of a command: a word that is known by its place, an option with its value, or a flag
 pub data Argument : Type 0 where
   Placed : Text → Argument
   Valued : ValuedOption → Text → Argument
@@ -78,7 +78,7 @@ words_of (Placed word ∷ rest) = word ∷ words_of rest
 words_of (Valued option value ∷ rest) = option_word option ∷ value ∷ words_of rest
 words_of (Flag flag ∷ rest) = flag_word flag ∷ words_of rest
 
--- the words that their place tells, in order
+-- the words that are known by their places, in order
 abbrev pub placed_words : List Argument → List Text
 placed_words [] = []
 placed_words (Placed word ∷ rest) = word ∷ placed_words rest
@@ -203,7 +203,7 @@ LowWeightIsRefused = (input : InputNames) (arguments : List Argument) → AreOfS
     → number_given Num 1 arguments < number_given Den 1 arguments
     → reading_of_words (codes "solve" ∷ words_of arguments) ≡ Refused fault.Weight
 
--- And if the weight isn't below 1, one name for the certificate and the journal is.
+-- And if the weight isn't below 1, one name for the certificate and the journal is refused.
 abbrev pub OneNameIsRefused : Type 0
 OneNameIsRefused = (input : InputNames) (name : Text) (arguments : List Argument) → AreOfSolve input arguments
     → number_given Den 1 arguments ≤ number_given Num 1 arguments

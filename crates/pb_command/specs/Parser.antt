@@ -16,15 +16,15 @@ text_rule name = record (new_rule name) { long = Some name }
 abbrev pub flag_rule : Text → Rule
 flag_rule name = record (new_rule name) { long = Some name; action = Some SetTrue }
 
--- a word that must stand
+-- a required word
 abbrev pub required_rule : Text → Rule
 required_rule name = record (new_rule name) { required = true }
 
--- a word that must stand, a whole number from `least` to `most`
+-- a required word, a whole number from `least` to `most`
 abbrev pub required_number_rule : Text → ℕ → ℕ → Rule
 required_number_rule name least most = record (new_rule name) { required = true; parser = Some (vp.Unsigned least most) }
 
--- an option with a number, the range of the number, and the number where the option isn't given
+-- an option with a number, the range of the number, and the number if the option isn't given
 pub record NumberOption : Type 0 where
   pub name : Text
   pub least : ℕ

@@ -40,7 +40,7 @@ input_of kind.Tiles first (Some second) = None
 input_of kind.Strips first (Some second) = Some (Strips (record { domain = first; problem = second }))
 input_of kind.Strips first None = None
 
--- the number that a value writes, if it lies in the range, and the default where there is no value
+-- the number that a value writes, if it lies in the range, and the default if there is no value
 abbrev pub number_in : ℕ → ℕ → Option ℕ → Option Text → Option ℕ
 number_in least most default None = default
 number_in least most default (Some text) =

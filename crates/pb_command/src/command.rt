@@ -45,30 +45,30 @@ pub enum Input<'a> {
 pub struct SolveCommand<'a> {
     /// The task.
     pub input: Input<'a>,
-    /// The row of the scenario, counted from 0: 0 to 1,000,000, and 0 where none is given. Only a
-    /// grid has a scenario.
+    /// The row of the scenario, counted from 0: 0 to 1,000,000, and 0 if none is given. Only a grid
+    /// has a scenario.
     pub row: u64,
-    /// How many workers search: 1 to 64, and 1 where none is given.
+    /// How many workers search: 1 to 64, and 1 if none is given.
     pub workers: u64,
-    /// The numerator of the weight: 1 to 1,000, and 1 where none is given. It isn't below the
+    /// The numerator of the weight: 1 to 1,000, and 1 if none is given. It isn't below the
     /// denominator.
     pub num: u64,
-    /// The denominator of the weight: 1 to 1,000, and 1 where none is given.
+    /// The denominator of the weight: 1 to 1,000, and 1 if none is given.
     pub den: u64,
-    /// How many expansions the search may do: 1 to 2^40, and 16,777,216 where none is given.
+    /// How many expansions the search may do: 1 to 2^40, and 16,777,216 if none is given.
     pub budget: u64,
-    /// How many expansions a lease gets at most: 1 to 2^20, and 256 where none is given.
+    /// How many expansions a lease gets at most: 1 to 2^20, and 256 if none is given.
     pub lot: u64,
-    /// How many blocks the abstract graph has at most: 16 to 4,096, and 256 where none is given.
+    /// How many blocks the abstract graph has at most: 16 to 4,096, and 256 if none is given.
     pub blocks: u64,
     /// `--plain`: no block is marked hot.
     pub plain: bool,
     /// `--swamp`: entering an `S` cell of a map costs 2. Only a grid has a map.
     pub swamp: bool,
-    /// `--cert NAME`: the name under which the certificate is to be saved, where one is given.
+    /// `--cert NAME`: the name under which the certificate is to be saved, if one is given.
     pub certificate: Option<&'a str>,
-    /// `--trace NAME`: the name under which the journal is to be saved, where one is given. It
-    /// isn't the certificate's.
+    /// `--trace NAME`: the name under which the journal is to be saved, if one is given. It isn't
+    /// the certificate's.
     pub journal: Option<&'a str>,
 }
 
@@ -79,8 +79,8 @@ pub struct CheckCommand<'a> {
     pub input: Input<'a>,
     /// The certificate's file.
     pub certificate: &'a str,
-    /// The row of the scenario, counted from 0: 0 to 1,000,000, and 0 where none is given. Only a
-    /// grid has a scenario.
+    /// The row of the scenario, counted from 0: 0 to 1,000,000, and 0 if none is given. Only a grid
+    /// has a scenario.
     pub row: u64,
     /// `--swamp`: entering an `S` cell of a map costs 2. Only a grid has a map.
     pub swamp: bool,
@@ -93,8 +93,8 @@ pub struct JournalCommand<'a> {
     pub input: Input<'a>,
     /// The journal's file.
     pub journal: &'a str,
-    /// The row of the scenario, counted from 0: 0 to 1,000,000, and 0 where none is given. Only a
-    /// grid has a scenario.
+    /// The row of the scenario, counted from 0: 0 to 1,000,000, and 0 if none is given. Only a grid
+    /// has a scenario.
     pub row: u64,
 }
 
@@ -108,7 +108,7 @@ pub struct MakeCommand {
     /// Its size: the side of a grid, 1 to 2,048; the moves of a 3 by 3 board, 0 to 1,000,000; the
     /// blocks of a STRIPS problem, 1 to 14.
     pub size: u64,
-    /// How many workers search: 1 to 64, and 1 where none is given.
+    /// How many workers search: 1 to 64, and 1 if none is given.
     pub workers: u64,
 }
 

@@ -68,8 +68,8 @@ pub fn make_is_read()
     ensures strips { MakeStripsIsRead }
 {}
 
-/// The options and the flags give `solve` their values, anywhere among the kind and its files;
-/// without one stands its default.
+/// The options and the flags give `solve` their values, anywhere among the kind and its files. An
+/// option that isn't given has its default.
 pub fn solve_reads_options()
     ensures { SolveReadsOptions }
 {}
@@ -81,20 +81,20 @@ pub fn solve_tests_options()
     ensures names { OneNameIsRefused }
 {}
 
-/// `--row` and `--swamp` give `check` their values, anywhere among the kind, the certificate and the
-/// files; without one stands its default.
+/// `--row` and `--swamp` give `check` their values, anywhere among the kind, the certificate and
+/// the files. An option that isn't given has its default.
 pub fn check_reads_options()
     ensures { CheckReadsOptions }
 {}
 
-/// `--row` gives `journal` its value, anywhere among the kind, the journal and the files; without
-/// it stands its default.
+/// `--row` gives `journal` its value, anywhere among the kind, the journal and the files. If it
+/// isn't given, it has its default.
 pub fn journal_reads_options()
     ensures { JournalReadsOptions }
 {}
 
-/// `--workers` gives `make` its value, anywhere among the kind, the seed and the size; without it
-/// stands its default. A size that the kind doesn't have is refused.
+/// `--workers` gives `make` its value, anywhere among the kind, the seed and the size. If it isn't
+/// given, it has its default. A size that the kind doesn't have is refused.
 pub fn make_reads_options()
     ensures read { MakeReadsOptions }
     ensures size { OtherSizeIsRefused }

@@ -1,4 +1,4 @@
-//! The command as clap is told of it.
+//! The command as it is declared to clap.
 ghost use Rattle.std.specs.Prelude.{◌≡◌, false, IfOk};
 ghost use Rattle.clap.specs.Words.{app_of, rule_of, new_rule, with_rule, with_subcommand, shape_of};
 ghost use Rattle.clap.specs.declared.builder.command.Command.TheViews.{out-Command as fields_of};
@@ -40,7 +40,7 @@ fn flag<'a>(alloc: Global, name: &'a str) -> Arg<'a>
     Arg::new(alloc, name).long(name).action(ArgAction::SetTrue)
 }
 
-// A word that must stand.
+// A required word.
 fn required_word<'a>(alloc: Global, name: &'a str) -> Arg<'a>
     ensures rule { rule_of result ≡ required_rule name.entry.now }
     ensures local { result.global ≡ false }
@@ -48,7 +48,7 @@ fn required_word<'a>(alloc: Global, name: &'a str) -> Arg<'a>
     Arg::new(alloc, name).required(true)
 }
 
-// A word that must stand, a whole number from `least` to `most`.
+// A required word, a whole number from `least` to `most`.
 fn required_number<'a>(alloc: Global, name: &'a str, least: u64, most: u64) -> Arg<'a>
     ensures rule { rule_of result ≡ required_number_rule name.entry.now least most }
     ensures local { result.global ≡ false }
@@ -58,7 +58,7 @@ fn required_number<'a>(alloc: Global, name: &'a str, least: u64, most: u64) -> A
         .value_parser(ValueParser::Unsigned(least, most))
 }
 
-// A word that may stand.
+// An optional word.
 fn optional_word<'a>(alloc: Global, name: &'a str) -> Arg<'a>
     ensures rule { rule_of result ≡ new_rule name.entry.now }
     ensures local { result.global ≡ false }

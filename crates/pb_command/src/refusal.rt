@@ -32,7 +32,7 @@ pub enum CommandFault {
 // What a text for words out of form begins with.
 const ERROR: &str = "error: ";
 
-// How many bytes such a text has at most behind that. A longer one, which repeats a long word, is
+// How many bytes such a text has at most after that. A longer one, which repeats a long word, is
 // cut.
 const REST_MOST: usize = 65_536 - 7;
 
@@ -80,7 +80,7 @@ impl Message {
     }
 }
 
-// A text without `error: ` at its front, if that stands there.
+// A text without `error: ` at its front, if it begins with that.
 fn without_error(text: &str) -> &str {
     text.strip_prefix(ERROR).unwrap_or(text)
 }
@@ -131,7 +131,7 @@ fn is_ended(text: &str) -> bool
 pub enum CommandRefusal {
     /// They are no command line, since they fail this test; the message is what is to be printed.
     Words(CommandFault, Message),
-    /// There was not enough memory.
+    /// Memory ran out.
     Memory,
 }
 
@@ -176,7 +176,7 @@ fn clap_message(alloc: Global, name: &str, mistake: &str) -> Result<Message, All
     error_message(alloc, &error)
 }
 
-// What is printed where the words of a subcommand fail a test. The word stands in the place of the
+// What is printed if the words of a subcommand fail a test. The word is the one in the place of the
 // kind.
 pub(crate) fn message_of(
     alloc: Global,

@@ -14,25 +14,25 @@ pub(crate) const ROW_MOST: u64 = 1_000_000;
 // The greatest number of workers that may be asked for.
 pub(crate) const WORKERS_MOST: u64 = 64;
 
-// The number of workers where none is given.
+// The number of workers if none is given.
 pub(crate) const WORKERS_DEFAULT: u64 = 1;
 
 // The greatest numerator and denominator of the weight.
 pub(crate) const WEIGHT_MOST: u64 = 1_000;
 
-// The numerator and the denominator of the weight where none is given.
+// The numerator and the denominator of the weight if none is given.
 pub(crate) const WEIGHT_DEFAULT: u64 = 1;
 
 // The greatest budget, 2^40 expansions.
 pub(crate) const BUDGET_MOST: u64 = 1_099_511_627_776;
 
-// The budget where none is given.
+// The budget if none is given.
 pub(crate) const BUDGET_DEFAULT: u64 = 16_777_216;
 
 // The greatest lot of a lease, 2^20 expansions.
 pub(crate) const LOT_MOST: u64 = 1_048_576;
 
-// The lot where none is given.
+// The lot if none is given.
 pub(crate) const LOT_DEFAULT: u64 = 256;
 
 // The least number of blocks that may be asked for.
@@ -41,7 +41,7 @@ pub(crate) const BLOCKS_LEAST: u64 = 16;
 // The greatest number of blocks that may be asked for.
 pub(crate) const BLOCKS_MOST: u64 = 4_096;
 
-// The number of blocks where none is given.
+// The number of blocks if none is given.
 pub(crate) const BLOCKS_DEFAULT: u64 = 256;
 
 // The greatest seed of a made task, 2^32 - 1.
@@ -57,7 +57,7 @@ pub(crate) fn text<'a>(matches: &ArgMatches<'a>, id: &str) -> Option<&'a str>
     matches.get_str(id)
 }
 
-// The number of an argument, or the default where it isn't given.
+// The number of an argument, or the default if it isn't given.
 pub(crate) fn number(
     matches: &ArgMatches<'_>,
     id: &str,
@@ -127,7 +127,7 @@ pub(crate) fn known_kind(word: Option<&str>) -> Option<KindWord>
     }
 }
 
-// The files of a kind, where their number is right.
+// The files of a kind, if their number is right.
 pub(crate) fn input_of<'a>(
     kind: KindWord,
     first: &'a str,

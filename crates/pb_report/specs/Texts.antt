@@ -104,7 +104,8 @@ journal_fault_text line_number reason =
 
 -- ---- the input: maps and tiles
 
--- why the texts of a map and a scenario are refused: the error's name and its numbers; want of memory has no text
+-- why the texts of a map and a scenario are refused: the error's name and its numbers; out of
+-- memory has no text
 abbrev pub input_text : GridError → Option (List ℕ)
 input_text (Header at) = Some (with_number (codes "input Header") at)
 input_text Size = Some (line (codes "input Size"))
@@ -118,7 +119,8 @@ input_text StartBlocked = Some (line (codes "input StartBlocked"))
 input_text GoalBlocked = Some (line (codes "input GoalBlocked"))
 input_text Memory = None
 
--- why the text of sliding tiles is refused: the error's name and its numbers; want of memory has no text
+-- why the text of sliding tiles is refused: the error's name and its numbers; out of memory has no
+-- text
 abbrev pub tiles_text : TilesError → Option (List ℕ)
 tiles_text (tiles.Syntax at) = Some (with_number (codes "input Syntax") at)
 tiles_text tiles.Size = Some (line (codes "input Size"))
@@ -158,8 +160,8 @@ left_out_word left_out.Either = codes "Either"
 left_out_word left_out.Function = codes "Function"
 left_out_word left_out.Metric = codes "Metric"
 
--- why the text of a domain or a problem is refused: the error's name, the number of the file, the place in it, and what was wanted there or is left
--- out; want of memory has no text
+-- why the text of a domain or a problem is refused: the error's name, the number of the file, the
+-- place in it, and what was wanted there or is left out; out of memory has no text
 abbrev pub syntax_text : (file : ℕ) → SyntaxError → Option (List ℕ)
 syntax_text file (syntax.Byte at) = Some (with_numbers (codes "input Byte") file at)
 syntax_text file (syntax.Deep at) = Some (with_numbers (codes "input Deep") file at)
@@ -190,7 +192,7 @@ abbrev pub refusal_text : TypingRefusal → List ℕ
 refusal_text (Named cause place) = with_numbers (spaced (codes "input") (cause_word cause)) (file_number place.file) place.at
 refusal_text (TooManyObjects count) = with_number (codes "input TooManyObjects") count
 
--- why a domain and a problem are no task; want of memory has no text
+-- why a domain and a problem are no task; out of memory has no text
 abbrev pub strips_text : StripsError → Option (List ℕ)
 strips_text (strips.Refused refusal) = Some (refusal_text refusal)
 strips_text (strips.TooManyAtoms count) = Some (with_number (codes "input TooManyAtoms") count)

@@ -1,4 +1,4 @@
-//! Lines of words and numbers, behind what a list of bytes holds already.
+//! Lines of words and numbers, at the end of a list of bytes.
 ghost use Rattle.std.specs.Prelude.{◌≡◌, ◌++◌, OnOk, map};
 ghost use Rattle.std.specs.Fmt.{decimal};
 ghost use Rattle.pb_model.specs.Texts.{line, lines, spaced};

@@ -22,8 +22,8 @@ use pb_tiles::TilesError;
 use std::alloc::{AllocError, Global};
 use std::marker::Model;
 
-/// The text of a report: lines of ASCII characters, each with its line feed, or the text of a tool as it stands.
-/// Contracts see its bytes. Wherever one is made, an error is want of memory.
+/// The text of a report: lines of ASCII characters, each with its line feed, or the text of a tool
+/// as it stands. Contracts see its bytes. An error is out of memory, wherever a report is made.
 #[derive(Drop)]
 pub struct Report {
     bytes: Vec<u8>,
