@@ -61,10 +61,10 @@ Stops saves solve parts =
     (journal : List Event) × SearchEnds parts (settings_of solve) Budget journal
     × saves (journal_outputs solve.journal (settings_of solve) journal)
 
--- All of one plan: it is printed with its cost and bound and is a plan of the task, and its cost is
--- at most num / den times that of any plan, where that is the weight. The rows of a search as the
--- words ask for it lead to it, and it is saved in the certificate of that search. Its cost is a
--- number of 64 bits.
+-- All of one plan: it is printed with its cost and bound and is a plan of the task. Its cost is at
+-- most num / den times that of any plan, at the weight num / den. The rows of a search as the words
+-- ask for it lead to it, and it is saved in the certificate of that search. Its cost is a number of
+-- 64 bits.
 abbrev pub Solves : (says : List ℕ → Type 0) → (saves : List Output → Type 0) → SolveMeaning
     → TaskParts → Type 0
 Solves says saves solve parts =
@@ -78,8 +78,8 @@ abbrev pub PrintsPlan : (says : List ℕ → Type 0) → TaskParts → Weight �
 PrintsPlan says parts weight =
     (plan : Plan) × (bound : ℕ) × says (plan_text parts plan bound) × IsPlan (space_of parts) plan × IsBound weight plan.cost bound
 
--- The cost that is printed is at most num / den times that of any plan of the task, where that is
--- the weight: for every plan of cost f, den * cost <= num * f.
+-- The cost that is printed is at most num / den times that of any plan of the task, at the weight
+-- num / den: for every plan of cost f, den * cost <= num * f.
 abbrev pub PrintsLeastCost : (says : List ℕ → Type 0) → TaskParts → Weight → Type 0
 PrintsLeastCost says parts weight =
     (steps : List (List ℕ)) (cost bound : ℕ) → cost < 2 ^ 64 → says (plan_report steps cost bound) → NoneCheaper (space_of parts) weight cost
@@ -94,8 +94,9 @@ SavesPlan says saves solve parts =
 
 -- ---- of a certificate that is checked
 
--- The text is that of a valid certificate of the task, its verdict is printed, and what the certificate claims is true of the task: every
--- plan of a cost f has num * f >= den * C, where C is the certificate's cost and num / den its weight, or there is none.
+-- The text is that of a valid certificate of the task, its verdict is printed, and what the
+-- certificate claims is true of the task. Every plan of a cost f has num * f >= den * C, for the
+-- certificate's cost C and its weight num / den; or there is no plan.
 abbrev pub Accepts : (says : List ℕ → Type 0) → TaskParts → (certificate : List ℕ) → Type 0
 Accepts says parts certificate =
     (verdict : Verdict) × says (verdict_text verdict) × (checked (space_of parts) (estimate_of parts) (kind_of parts) certificate ≡ Ok verdict)

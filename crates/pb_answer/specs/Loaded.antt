@@ -26,7 +26,7 @@ use Rattle.pb_command.specs.Meaning.{Reading, Refused, Read, Solve, Check, Journ
 abbrev pub too_long : List ℕ
 too_long = line (codes "input TooLong")
 
--- want of memory has no text, and no reading of texts is that
+-- out of memory has no text, and no reading of texts gives it
 abbrev pub refused_with : Option (List ℕ) → Result TaskParts (List ℕ)
 refused_with None = Err []
 refused_with (Some report) = Err report
@@ -76,7 +76,7 @@ input_task (Strips names) row swamp first texts = strips_task (slice_get texts f
 abbrev pub solve_task : SolveMeaning → (texts : List (List ℕ)) → Result TaskParts (List ℕ)
 solve_task solve texts = input_task solve.input solve.row solve.swamp 0 texts
 
--- the text that is loaded first, beside the task of the texts behind it
+-- the text that is loaded first, beside the task of the texts after it
 abbrev pub with_text : Option (List ℕ) → Result TaskParts (List ℕ)
     → Result (TaskParts × List ℕ) (List ℕ)
 with_text None task = Err too_long

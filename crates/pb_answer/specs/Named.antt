@@ -17,7 +17,7 @@ use Rattle.pb_check.specs.declared.fault.Verdict.TheVariants.{Bounded, Unsolvabl
 use Rattle.pb_report.specs.Texts.{verdict_text}
 use Rattle.pb_command.specs.Values.{InputNames, Grid, Tiles, Strips}
 
--- ---- what a plan's text tells
+-- ---- what a plan's text says
 
 -- the names of a task's actions tell them apart, each in one line
 abbrev pub NamesTell : TaskParts → Type 0
@@ -31,7 +31,8 @@ SpellTrees None problem_text domain problem = ⊥
 SpellTrees (Some domain_text) None domain problem = ⊥
 SpellTrees (Some domain_text) (Some problem_text) domain problem = SpellsDomain domain_text domain × SpellsProblem problem_text problem
 
--- where the input is a domain and a problem, the texts from this place on spell them, and P holds of them
+-- if the input is a domain and a problem, the texts from this place on spell them, and P holds of
+-- them
 abbrev pub OfTrees : InputNames → (first : ℕ) → (texts : List (List ℕ)) → (P : Domain → Problem → Type 0) → Type 0
 OfTrees (Grid names) first texts P = ⊤
 OfTrees (Tiles board) first texts P = ⊤

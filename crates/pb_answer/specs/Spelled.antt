@@ -8,7 +8,7 @@ use Rattle.pb_command.specs.Values.{InputNames, Grid, Tiles, Strips}
 use Rattle.pb_command.specs.Meaning.{Reading, Refused, Read, Solve, Check, Journal, Make}
 use Rattle.pb_answer.specs.Named.{SpellTrees}
 
--- where the input is a domain and a problem, the texts from this place on spell such a task
+-- if the input is a domain and a problem, the texts from this place on spell such a task
 abbrev pub SpellInput : InputNames → (first : ℕ) → (texts : List (List ℕ)) → Type 0
 SpellInput (Grid names) first texts = ⊥
 SpellInput (Tiles board) first texts = ⊥
@@ -16,7 +16,7 @@ SpellInput (Strips names) first texts =
     (domain : Domain) × (problem : Problem) × SpellTrees (slice_get texts first) (slice_get texts (first + 1)) domain problem
     × IsWellTyped domain problem × IsWithinLimits domain problem
 
--- the text that is judged is there, and those behind it spell such a task
+-- the text that is judged is there, and those after it spell such a task
 abbrev pub SpellBehind : InputNames → (texts : List (List ℕ)) → Type 0
 SpellBehind input texts = (text : List ℕ) × (slice_get texts 0 ≡ Some text) × SpellInput input 1 texts
 

@@ -144,12 +144,12 @@ fn answer_journal<'a>(
     }
 }
 
-/// What is answered of the words and of the texts that were loaded of the files that they name. Where a file was
-/// too long, its text and the later ones are left out. The graph that was searched is kept where `kept` lies: the
-/// certificate and the journal borrow it. An error is want of memory.
+/// What is answered of the words and of the texts that were loaded of the files that they name. If
+/// a file was too long, its text and the later ones are left out. The graph that was searched is
+/// kept in `kept`: the certificate and the journal borrow it. An error is out of memory.
 ///
-/// This is the whole program but its reading, saving and printing. A search has as many workers as the words ask
-/// for: one waits for nobody, and more have a thread each.
+/// This is the whole program but its reading, saving and printing. A search has as many workers as
+/// the words ask for: one waits for nobody, and more have a thread each.
 pub fn answer_words<'a, R: Threads + Wait + Sync, G: Gate>(
     rt: &R,
     alloc: Global,

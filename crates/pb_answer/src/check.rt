@@ -9,7 +9,8 @@ use pb_report::Report;
 use pb_task::Task;
 use std::alloc::{AllocError, Global};
 
-/// Judges the text of a certificate for a task: its verdict with status 0, or its first fault with status 3. An error is want of memory.
+/// Judges the text of a certificate for a task: its verdict with status 0, or its first fault with
+/// status 3. An error is out of memory.
 pub fn judge<'a>(alloc: Global, task: &Task, certificate: &[u8]) -> Result<Answer<'a>, AllocError>
     ensures { IfOk result (λ a. IsChecked task.now certificate.now (said_of a)) }
 {

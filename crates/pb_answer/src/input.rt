@@ -25,7 +25,7 @@ use std::alloc::{AllocError, Global};
 pub enum NoTask {
     /// The texts are refused with this report.
     Refused(Report),
-    /// Memory was wanting.
+    /// Memory ran out.
     Memory,
 }
 

@@ -2,7 +2,7 @@
 ghost use Rattle.std.specs.Prelude.{◌≡◌};
 ghost use Rattle.pb_answer.specs.Statuses.{number_of};
 
-/// What the program answers, as its exit status tells it.
+/// What the program answers, as its exit status says.
 #[derive(Clone, Copy, Debug, PartialEq, Eq)]
 pub enum Status {
     /// A plan was found, also of a made task, or a certificate or a journal is accepted: 0.

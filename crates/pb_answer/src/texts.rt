@@ -27,7 +27,7 @@ impl Texts {
         }
     }
 
-    /// Adds a text behind the others.
+    /// Adds a text after the others.
     pub fn push(&mut self, text: Vec<u8>) -> Result<(), AllocError>
         ensures { OnOk result (self.new ≡ self.old ++ text.items ∷ []) }
     {
@@ -35,7 +35,7 @@ impl Texts {
         Ok(())
     }
 
-    /// The text at a place, counted from 0. None where there are fewer.
+    /// The text at a place, counted from 0. None if there are fewer.
     pub fn get(&self, at: usize) -> Option<&[u8]>
         ensures { option_map (λ t. t.now) result ≡ slice_get self.now at }
     {

@@ -10,7 +10,7 @@ use Rattle.pb_run.specs.Asked.{Wanted}
 abbrev pub calls_since : (old new : List Call) → List Call
 calls_since old new = drop (length old) new
 
--- ---- what calls tell
+-- ---- what calls say
 
 -- the bytes that were loaded of each file, in order
 abbrev pub loaded_texts : List Call → List (List ℕ)

@@ -29,7 +29,7 @@ abbrev pub NotesLoad : (old new : List Call) → Wanted → (loaded : Option (Li
 NotesLoad old new file (Some text) = Notes old new (Loaded file.name file.most text)
 NotesLoad old new file None = (seen : ℕ) × Notes old new (LoadFailed file.name file.most (load.TooLong seen))
 
--- the status where nothing is answered for a reason
+-- the status if nothing is answered for a reason
 abbrev pub status_of : Fault → Status
 status_of OutOfMemory = status.OutOfMemory
 status_of ShelfFailed = status.ShelfFailed

@@ -40,8 +40,9 @@ IsBroken n = (n ≡ 71) ⊎ (n ≡ 73) ⊎ (n ≡ 74)
 
 -- ---- a plan
 
--- All of one plan: it is printed with its cost and bound, it is a plan of the task, and its cost is at most num / den times that of any plan,
--- where that is the weight. A search as the words ask for it found it, and the certificate and the journal of that search are saved.
+-- All of one plan: it is printed with its cost and bound, it is a plan of the task, and its cost is
+-- at most num / den times that of any plan, at the weight num / den. A search as the words ask for
+-- it found it, and the certificate and the journal of that search are saved.
 abbrev pub AllOfOnePlan : Reading → Ran → Type 0
 AllOfOnePlan (Refused fault) ran = ⊤
 AllOfOnePlan (Read (Solve solve)) ran = ran.said.status ≡ 0 → OfTexts solve ran.texts (Solves (Says ran.said) (Saves ran.said) solve)
@@ -93,7 +94,8 @@ CertificateOfNone (Read (Make make)) ran = ⊤
 
 -- ---- a stop
 
--- Only a search, of a made task too, stops, and then it used up its budget: it names that, saves at most its journal, and claims nothing of plans.
+-- Only a search, of a made task too, stops, and then it used up its budget: it names its budget,
+-- saves at most its journal, and claims nothing of plans.
 abbrev pub StopHasCause : Reading → Ran → Type 0
 StopHasCause (Refused fault) ran = ran.said.status ≢ 2
 StopHasCause (Read (Solve solve)) ran =
@@ -222,8 +224,11 @@ OutputsAreNamed reading ran = AreSomeOf (map (λ (o : Output). o.name) ran.said.
 abbrev pub CanHandOut : Reading → (texts : List (List ℕ)) → (can_hold : List ℕ → ℕ → Type 0) → (can_take : ℕ → Type 0) → Type 0
 CanHandOut reading texts can_hold can_take = (said : Said) → AnswersReading reading texts said → CanHold can_hold said.outputs × can_take (length said.report)
 
--- What is answered of texts that spell a task: a plan, none, a stop, or want of memory; of a certificate that is valid and of a journal of the
--- task, that it is accepted, or want of memory; of a task that is to be made, what a search answers.
+-- What is answered, unless memory ran out:
+-- - of words that are no command line, their refusal;
+-- - of a task to solve, a plan, that there is none, or a stop;
+-- - of a valid certificate or a journal of the task, that it is accepted;
+-- - of a task that is to be made, what a search answers.
 abbrev pub IsAnswered : Reading → (texts : List (List ℕ)) → (status : ℕ) → Type 0
 IsAnswered (Refused fault) texts status = (status ≡ 64) ⊎ (status ≡ 71)
 IsAnswered (Read (Solve solve)) texts status =
@@ -236,14 +241,16 @@ IsAnswered (Read (Journal journal)) texts status =
     → IsJournalOf parts text events → (status ≡ 0) ⊎ (status ≡ 71)
 IsAnswered (Read (Make make)) texts status = (status ≡ 0) ⊎ ((status ≡ 1) ⊎ ((status ≡ 2) ⊎ (status ≡ 71)))
 
--- The shelf tells its files and can load those that the words name; and whatever is answered of their texts can be handed out.
+-- The shelf reports its files and can load those that the words name. Whatever is answered of their
+-- texts can be handed out.
 abbrev pub CanServe : Reading → Option Files → (can_load : List ℕ → Type 0) → (can_hold : List ℕ → ℕ → Type 0) → (can_take : ℕ → Type 0) → Type 0
 CanServe reading None can_load can_hold can_take = ⊥
 CanServe reading (Some told) can_load can_hold can_take =
     CanLoad can_load (files_of reading)
     × ((texts : List (List ℕ)) → loads_of told (files_of reading) ≡ Some texts → CanHandOut reading texts can_hold can_take)
 
--- Where that is so, there is an answer, or want of memory.
+-- If the shelf reports its files and has the named ones, there is an answer to their texts, or
+-- memory ran out.
 abbrev pub IsComplete : Reading → Option Files → (status : ℕ) → Type 0
 IsComplete reading files status =
     IfSome files (λ told. (texts : List (List ℕ)) → loads_of told (files_of reading) ≡ Some texts → IsAnswered reading texts status)

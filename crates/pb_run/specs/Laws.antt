@@ -67,8 +67,9 @@ pub record AreMatching (input : InputNames) (has_flag : FlagOption → Bool) (fi
   pub placed : placed_words others ≡ kind_word input ∷ file ∷ file_words input
   pub row : number_given Row 0 others ≡ number_given Row 0 arguments
 
--- The call accepts, unless it answers nothing. If it has an answer, or memory ran out, it accepts or
--- memory ran out: so it is over a shelf that can load and a sink that can take the report.
+-- The call accepts, unless it answers nothing. If it has an answer, or memory ran out, it accepts
+-- or memory ran out. This second part is for a shelf that can load and a sink that can take the
+-- report.
 abbrev pub AcceptsIt : (status : ℕ) → Type 0
 AcceptsIt status =
     ((status ≡ 0) ⊎ IsBroken status)

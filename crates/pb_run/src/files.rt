@@ -47,7 +47,8 @@ fn push_input<'a>(files: &mut Vec<Wanted<'a>>, input: Input<'a>) -> Result<(), A
     }
 }
 
-/// The files that the words name to be read, in their order: none where the words are no command line. An error is want of memory.
+/// The files that the words name to be read, in their order; none if the words are no command line.
+/// An error is out of memory.
 pub fn files_of<'a>(alloc: Global, words: &'a [String]) -> Result<Vec<Wanted<'a>>, AllocError>
     ensures { IfOk result (λ files. map wanted_of files.items ≡ files_of (reading_of_words (map string_bytes words.entry.now))) }
 {

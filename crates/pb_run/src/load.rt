@@ -17,7 +17,7 @@ use std::alloc::{AllocError, Global};
 /// Why nothing is answered.
 #[derive(Clone, Copy, Debug, PartialEq, Eq)]
 pub enum Fault {
-    /// Memory was wanting.
+    /// Memory ran out.
     OutOfMemory,
     /// The shelf failed.
     ShelfFailed,
@@ -35,7 +35,7 @@ impl From<AllocError> for Fault {
 }
 
 impl Fault {
-    /// The status where nothing is answered for this reason.
+    /// The status if nothing is answered for this reason.
     pub fn status(self) -> Status
         ensures { result ≡ status_of self }
     {
@@ -46,7 +46,7 @@ impl Fault {
     }
 }
 
-// The bytes of a file, or None where it is too long.
+// The bytes of a file, or None if it is too long.
 fn load<H: Shelf>(shelf: &mut H, alloc: Global, file: Wanted<'_>) -> Result<Option<Vec<u8>>, Fault>
     ensures text { IfOk result (λ loaded. LoadsText (H.files shelf.old) (wanted_of file.entry) (option_map (λ v. v.items) loaded)) }
     ensures calls { IfOk result (λ loaded. NotesLoad (H.calls shelf.old) (H.calls shelf.new) (wanted_of file.entry) (option_map (λ v. v.items) loaded)) }

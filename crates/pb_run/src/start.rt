@@ -24,7 +24,7 @@ pub fn words_of(alloc: Global, args: env::Args) -> Result<Vec<String>, AllocErro
     Ok(words)
 }
 
-// What is printed where a word isn't UTF-8.
+// What is printed if a word isn't UTF-8.
 const NOT_UTF8: &[u8] = b"error: invalid UTF-8 was detected in one or more arguments\n";
 
 /// The status where the words couldn't be read: want of memory, or a word that isn't UTF-8, which is a faulty command

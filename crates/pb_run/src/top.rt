@@ -19,12 +19,13 @@ use std::alloc::Global;
 use std::sync::Wait;
 use std::thread::Threads;
 
-/// Does what the words ask with the files of a shelf, prints on a sink, and answers the exit status.
-/// A search is asked for as many workers as the words say. One worker takes no lock and waits for nobody, and more have
-/// a thread each; the gate is told of each lease, and each time before one is renewed or comes back. No clause says so.
+/// Does what the words ask with the files of a shelf, prints on a sink, and answers the exit
+/// status. A search is asked for as many workers as the words say. One worker takes no lock and
+/// waits for nobody, and more have a thread each; the gate is told of each lease, and each time
+/// before one is renewed or comes back. No clause says so.
 ///
-/// The clauses speak of the calls that this call made on the shelf and the sink, and so of any shelf and sink. What
-/// they say of contents, where these are told, is last.
+/// The clauses speak of the calls that this call made on the shelf and the sink, and so of any
+/// shelf and sink. What they say of contents, if these are reported, is last.
 pub fn run<R: Threads + Wait + Sync, H: Shelf, K: Sink, G: Gate>(
     rt: &R,
     alloc: Global,
@@ -39,9 +40,10 @@ pub fn run<R: Threads + Wait + Sync, H: Shelf, K: Sink, G: Gate>(
     ensures shelf_fault { result ≡ 73 ↔ IsTrue (have_failed (calls_since (H.calls shelf.old) (H.calls shelf.new))) }
     ensures sink_fault { result ≡ 74 ↔ IsTrue (have_failed (calls_since (K.calls out.old) (K.calls out.new))) }
 
-    // All of one plan: it is printed with its cost and bound, it is a plan of the task that was loaded, and its cost
-    // is at most num / den times that of any plan, where that is the weight. A search as the words ask for it found
-    // it, and the certificate and the journal of that search are saved.
+    // All of one plan: it is printed with its cost and bound, it is a plan of the task that was
+    // loaded, and its cost is at most num / den times that of any plan, at the weight num / den. A
+    // search as the words ask for it found it, and the certificate and the journal of that search
+    // are saved.
     ensures solved { AllOfOnePlan (reading_of_words (map string_bytes words.now)) (ran result (H.calls shelf.old) (H.calls shelf.new) (K.calls out.old) (K.calls out.new)) }
 
     // A printed plan is a plan of the task, with its cost and bound.
@@ -54,7 +56,7 @@ pub fn run<R: Threads + Wait + Sync, H: Shelf, K: Sink, G: Gate>(
     ensures certified { CertificateHolds (reading_of_words (map string_bytes words.now)) (ran result (H.calls shelf.old) (H.calls shelf.new) (K.calls out.old) (K.calls out.new)) }
     ensures certified_none { CertificateOfNone (reading_of_words (map string_bytes words.now)) (ran result (H.calls shelf.old) (H.calls shelf.new) (K.calls out.old) (K.calls out.new)) }
 
-    // Where none is printed, there is none.
+    // If no plan is printed, there is none.
     ensures none { NoneMeansNone (reading_of_words (map string_bytes words.now)) (ran result (H.calls shelf.old) (H.calls shelf.new) (K.calls out.old) (K.calls out.new)) }
 
     // A stop names its cause, saves at most the journal, and claims nothing.
@@ -87,17 +89,19 @@ pub fn run<R: Threads + Wait + Sync, H: Shelf, K: Sink, G: Gate>(
     ensures nothing_saved { (result ≡ 3) ⊎ (result ≡ 64) ⊎ (result ≡ 65) ⊎ (result ≡ 71) → (ran result (H.calls shelf.old) (H.calls shelf.new) (K.calls out.old) (K.calls out.new)).said.outputs ≡ [] }
     ensures silent { (result ≡ 71) ⊎ (result ≡ 73) → (ran result (H.calls shelf.old) (H.calls shelf.new) (K.calls out.old) (K.calls out.new)).said.report ≡ [] }
 
-    // If no call failed, there is an answer to the texts that were loaded, or want of memory.
+    // If no call failed, there is an answer to the texts that were loaded, or memory ran out.
     ensures done_is_answered { have_failed (calls_since (H.calls shelf.old) (H.calls shelf.new)) ≡ false → have_failed (calls_since (K.calls out.old) (K.calls out.new)) ≡ false
         → IsAnswered (reading_of_words (map string_bytes words.now)) (ran result (H.calls shelf.old) (H.calls shelf.new) (K.calls out.old) (K.calls out.new)).texts result }
 
-    // Where the shelf can load and hold what it is asked for, and the sink can take the report, there is an answer, or want of memory.
+    // If the shelf can load and hold what it is asked for, and the sink can take the report, there
+    // is an answer, or memory ran out.
     ensures complete { CanServe (reading_of_words (map string_bytes words.now)) (H.files shelf.old) (H.can_load shelf.old) (H.can_hold shelf.old) (K.can_take out.old)
         → IsComplete (reading_of_words (map string_bytes words.now)) (H.files shelf.old) result }
     ensures answered { CanServe (reading_of_words (map string_bytes words.now)) (H.files shelf.old) (H.can_load shelf.old) (H.can_hold shelf.old) (K.can_take out.old)
         → IsAnswer result ⊎ (result ≡ 71) }
 
-    // Where contents are told: the texts are those of the files, what was saved and printed is there, and all other files stay.
+    // If contents are reported: the texts are those of the files, what was saved and printed is
+    // there, and all other files stay.
     ensures loaded { IsAnswer result → AreLoaded (H.files shelf.old) (files_of (reading_of_words (map string_bytes words.now))) (ran result (H.calls shelf.old) (H.calls shelf.new) (K.calls out.old) (K.calls out.new)).texts }
     ensures saved { IsAnswer result ⊎ (result ≡ 74) → IfTold (H.files shelf.old) (H.files shelf.new) (SavesIn (ran result (H.calls shelf.old) (H.calls shelf.new) (K.calls out.old) (K.calls out.new)).said.outputs) }
     ensures kept { result ≡ 71 → IfTold (H.files shelf.old) (H.files shelf.new) KeepsAll }
@@ -116,8 +120,8 @@ pub fn run<R: Threads + Wait + Sync, H: Shelf, K: Sink, G: Gate>(
     status.number()
 }
 
-// The whole way: the files that the words name are loaded, what is asked of their texts is answered, and the answer
-// is handed out. The graph that was searched is kept where `kept` lies.
+// The whole way: the files that the words name are loaded, what is asked of their texts is
+// answered, and the answer is handed out. The graph that was searched is kept in `kept`.
 fn carry_out<'a, R: Threads + Wait + Sync, H: Shelf, K: Sink, G: Gate>(
     rt: &R,
     alloc: Global,
