@@ -3,7 +3,7 @@ ghost use Rattle.pb_expand.specs.Watching.{WatchView, MayTell, HasRead, HasTold}
 
 use pb_lease::Lease;
 
-/// A worker reads the least cost that any worker has found from its watch, and tells the watch each
+/// From its watch a worker reads the least cost that any worker has found. It tells the watch each
 /// cost of its own. Costs are in the unit of the task's action costs. Neither call waits or takes
 /// memory.
 pub trait Watch {

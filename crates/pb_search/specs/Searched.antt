@@ -15,8 +15,8 @@ use Rattle.pb_lease.specs.Moments.{IsMoment}
 use Rattle.pb_yard.specs.Calls.{IsOpening}
 use Rattle.pb_search.specs.Ends.{search_of, Leads, LeadsInTime}
 
--- the graph is that of a search of this task by this abstract graph, with these settings, that
--- begins: the start alone has a row
+-- The graph is that of a search of this task by this abstract graph, with these settings. The
+-- search begins: the start alone has a row.
 pub record Opens (parts : TaskParts) (abstraction : AbstractGraph) (settings : Settings)
     (graph : GraphValue) : Type 0 where
   pub task : graph.task ≡ parts
@@ -26,10 +26,10 @@ pub record Opens (parts : TaskParts) (abstraction : AbstractGraph) (settings : S
   pub opening : IsOpening graph
 
 -- The graph is what a search of this task by this abstract graph, with these settings, came to,
--- quietly or by its budget. Moves from the machine that has the start's row alone lead to one that
--- the graph is a moment of, where every worker has signed off; their events are the graph's journal.
--- They are in order and in time, and the journal keeps within the room of its leases. No lease is
--- out.
+-- quietly or by its budget. It is a moment of a machine at which every worker has signed off. Moves
+-- from the machine that has the start's row alone lead there, and their events are the graph's
+-- journal. They are in order and in time, and the journal keeps within the room of its leases. No
+-- lease is out.
 pub record HasSearched (parts : TaskParts) (abstraction : AbstractGraph) (settings : Settings)
     (graph : GraphValue) : Type 0 where
   pub task : graph.task ≡ parts
