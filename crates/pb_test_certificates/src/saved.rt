@@ -34,7 +34,7 @@ rows 9
 end
 ";
 
-// The same where the middle row is blocked.
+// The same if the middle row is blocked.
 const WALL: &str = "pbnf-certificate 1
 kind grid
 weight 1 1
@@ -152,8 +152,8 @@ fn a_certificate_without_a_plan_is_saved(rt: HostRuntime) -> Result<(), Fail> {
     Ok(())
 }
 
-// The plan of one step by the action, read off the rows of the start and of the state that the action leads to. None where that
-// state is no goal.
+// The plan of one step by the action, read off the rows of the start and of the state that the
+// action leads to. None if that state is no goal.
 fn plan_of_step(alloc: Global, task: &Task, action: u32) -> Result<Option<Plan>, AllocError> {
     let start = task.initial();
     let Some((next, cost)) = task.apply(&start, action) else {
@@ -172,7 +172,7 @@ fn plan_of_step(alloc: Global, task: &Task, action: u32) -> Result<Option<Plan>,
     Ok(Some(plan))
 }
 
-// The same where the rows of the start and of that state stand in two parts.
+// The same if the rows of the start and of that state are in two parts.
 fn plan_over_two_parts(
     alloc: Global,
     task: &Task,

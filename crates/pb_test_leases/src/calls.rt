@@ -41,7 +41,7 @@ fn graph(alloc: Global, task: Task, budget: u64, lot: u64) -> Result<Option<Leas
     Ok(Some(LeaseGraph::new(alloc, task, abstraction, estimate, settings)?))
 }
 
-// What a worker is told that asks for a lease.
+// What is answered to a worker that asks for a lease.
 #[derive(Clone, Copy, Debug, PartialEq, Eq)]
 enum Told {
     Lease,
@@ -67,7 +67,8 @@ fn ask_twice(graph: &mut LeaseGraph) -> Option<(u32, Told, usize)>
     }
 }
 
-// What worker 1 is told that asks for a lease. If it gets one, that comes back at once.
+// What is answered to worker 1 if it asks for a lease. If it gets one, the lease comes back at
+// once.
 fn ask(graph: &mut LeaseGraph) -> Told
     requires worker { 1 < graph.old.table.settings.workers }
     requires vacant { (counts_in graph.old).leases 1 ≡ None }
@@ -175,7 +176,8 @@ fn a_better_hot_block_outranks(rt: HostRuntime) -> Result<(), Fail> {
     Ok(())
 }
 
-// A lease that counts an expansion, goes on where it may, and comes back: whether it went on, and the end.
+// A lease that counts an expansion, goes on if it may, and comes back: whether it went on, and the
+// end.
 fn use_up(graph: &mut LeaseGraph) -> Option<(bool, Option<End>)>
     requires opening { counts_in graph.old ≡ opening_counts graph.old.table.settings 0 }
     requires workers { graph.old.table.settings.workers ≡ 2 }
@@ -189,7 +191,7 @@ fn use_up(graph: &mut LeaseGraph) -> Option<(bool, Option<End>)>
     }
 }
 
-// An expansion of the lease is counted, and it goes on where it may; it comes back then.
+// An expansion of the lease is counted. The lease goes on if it may, and comes back after that.
 fn spend_one(graph: &mut LeaseGraph, lease: Lease) -> bool
     requires { IsOfGraph graph.old lease }
 {

@@ -96,7 +96,7 @@ fn release(tables: &mut MachineTables, worker: u32, used: u64, memory: bool) -> 
     Some(1)
 }
 
-// A mark, where it is told whether the block is outranked, or else one that is taken away.
+// A mark, if it is said whether the block is outranked, or else a mark that is taken away.
 fn mark(
     tables: &mut MachineTables,
     worker: u32,
@@ -143,7 +143,7 @@ fn end(tables: &mut MachineTables, budget: bool) -> Option<u64> {
     Some(1)
 }
 
-// How many of the first calls answer as they are to, up to the first that doesn't.
+// How many of the first calls answer as they must, up to the first that doesn't.
 fn play_all(
     tables: &mut MachineTables,
     calls: &[(Call, Option<u64>)],

@@ -40,7 +40,7 @@ fn file_of<'a>(shelf: &'a MemShelf, words: &[String], i: usize) -> &'a [u8] {
     }
 }
 
-// What is printed of these words. None is printed where something is refused.
+// What is printed of these words. None is printed if something is refused.
 fn answer(alloc: Global, words: &[String], shelf: &MemShelf) -> Result<Option<Lines>, Memory> {
     let Some(word) = words.first() else {
         return Ok(None);

@@ -68,7 +68,7 @@ fn add_lines(out: &mut Vec<u8>, text: &[u8], from: u64, to: u64) -> Result<(), M
     Ok(())
 }
 
-// The number that a word spells, or another where there is no word.
+// The number that a word spells, or another if there is no word.
 pub(crate) fn number_or(word: Option<&str>, other: u64) -> Option<u64> {
     match word {
         None => Some(other),

@@ -4,7 +4,8 @@ use pb_test_run::{OPEN_MAP, SCENARIO, gated_outcome, grid_shelf};
 use std::sync::atomic::{AtomicBool, AtomicU64, Ordering};
 use std::test::Fail;
 
-// Which blocks were leased, as the digits behind a first 1, and how often a lease was to go on or to come back.
+// Which blocks were leased, as the digits after a first 1, and how often a lease was to go on or to
+// come back.
 #[derive(Drop)]
 struct CountingGate {
     leased: AtomicU64,
@@ -23,8 +24,8 @@ impl Gate for CountingGate {
     }
 }
 
-// The map has nine blocks of one cell each. The way leads along the upper and the right side, and then the rows of the two blocks that are
-// left are cut.
+// The map has nine blocks of one cell each. The way leads along the upper and the right side, and
+// then the rows of the two other blocks are cut.
 #[test]
 fn the_gate_is_told_of_each_lease(rt: HostRuntime) -> Result<(), Fail> {
     let gate = CountingGate {

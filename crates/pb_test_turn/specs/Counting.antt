@@ -6,11 +6,12 @@ abbrev pub up_to : ℕ → List ℕ
 up_to zero = []
 up_to (suc n) = up_to n ++ suc n ∷ []
 
--- the history has each number that the counter came to, in order, and the passes together counted as often as it says. A pass's view is how often it counted
+-- The history has each number that the counter came to, in order, and the passes together counted
+-- as often as it says. A pass's view is how often it counted.
 abbrev pub Counts : ℕ → List ℕ → List ℕ → Type 0
 Counts count history views = (history ≡ up_to count) × (sum views ≡ count)
 
--- how often a pass counted, where it did or didn't once more
+-- how often a pass has counted, if it did or didn't count once more
 abbrev pub counted : Bool → ℕ → ℕ
 counted true v = v + 1
 counted false v = v

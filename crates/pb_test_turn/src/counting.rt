@@ -29,7 +29,7 @@ impl Counter {
         }
     }
 
-    // Counts once where there is memory for the history, and says whether it did.
+    // Counts once if there is memory for the history, and says whether it did.
     fn count_once(&mut self) -> bool
         ensures count { self.new.count ≡ counted result self.old.count }
         ensures history { MatchBool result (self.new.history.items ≡ self.old.history.items ++ self.new.count ∷ []) (self.new.history.items ≡ self.old.history.items) }
@@ -78,7 +78,7 @@ impl TurnRule for CounterRule {
     ghost lowered = { λ v number. v };
 }
 
-/// Leaving where the holder says whether it counted.
+/// Leaving: the holder says whether it counted.
 struct AfterCount;
 
 impl Leaving<CounterRule> for AfterCount {
@@ -207,7 +207,7 @@ fn count_alone(lock: TurnLock<CounterRule>, mut pass: Pass<CounterRule>) -> (Cou
     (close(lock, pass), counts)
 }
 
-// Tries once, counts where it got the turn, and says whether it did.
+// Tries once, counts if it got the turn, and says whether it did.
 fn try_to_count(lock: &TurnLock<CounterRule>, pass: &mut Pass<CounterRule>) -> bool
     requires { IsPassOf lock.now pass.old × IsResting pass.old }
     ensures { IsSamePass pass.old pass.new × IsResting pass.new }

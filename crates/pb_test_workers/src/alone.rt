@@ -251,8 +251,8 @@ fn the_gate_is_told(rt: HostRuntime) -> Result<(), Fail> {
     Ok(())
 }
 
-// The block that is leased or renewed is the best of all, by the keys that are noted then, and no other lease changes a key: so a worker that is
-// alone finds no rival.
+// The block that is leased or renewed is the best of all, by the keys that are noted then, and no
+// other lease changes a key. So a worker that is alone finds no rival.
 #[test]
 fn a_worker_that_is_alone_marks_nothing(rt: HostRuntime) -> Result<(), Fail> {
     for plain in [false, true] {

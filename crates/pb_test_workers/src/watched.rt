@@ -22,8 +22,8 @@ use std::alloc::{AllocError, Global};
 use std::sync::{Arc, Wait};
 use std::test::Fail;
 
-// Whether the pass is told to wait where it asks for a lease. If it gets one, that comes back at
-// once, with a report of out of memory.
+// Whether the pass is told to wait when it asks for a lease. If it gets one, the lease comes back
+// at once, with a report that memory ran out.
 fn is_told_to_wait<W: Wait>(rt: &W, yard: &Yard, pass: &mut Pass) -> bool
     requires own { IsOf yard.now pass.old }
     requires ready { IsReady (view_of pass.old) }
@@ -94,7 +94,7 @@ fn work_beside<W: Wait>(
     }
 }
 
-// A lease that is worked on beside the other pass, or None if the pass gets none.
+// A lease that is worked on beside the other pass, or None if the first pass gets none.
 fn lease_beside<W: Wait>(
     rt: &W,
     task: &Task,

@@ -20,7 +20,7 @@ use std::sync::{Arc, Wait};
 use std::test::Fail;
 use std::thread::{Threads, join, yield_now};
 
-// The graph of a search of a board of 2 by 2 cells by two workers, or None where its start is no
+// The graph of a search of a board of 2 by 2 cells by two workers, or None if its start is no
 // state.
 fn graph(alloc: Global) -> Result<Option<LeaseGraph>, AllocError>
     ensures { IfOk result (λ found. MatchOption found ⊤ (λ g. IsOpening g × (g.table.settings.workers ≡ 2))) }
@@ -73,8 +73,8 @@ fn open<R: Abort>(rt: &R, alloc: Global) -> (Yard, Pass)
     }
 }
 
-// One worker: it gives each lease back as it was, with a report of want of memory, until it is told
-// of an end. Then it signs off.
+// One worker: it gives each lease back as it was, with a report that memory ran out, until it is
+// told of an end. Then it signs off.
 fn work<W: Wait>(rt: &W, yard: &Yard, mut pass: Pass) -> Pass
     requires own { IsOf yard.now pass }
     requires ready { IsReady (view_of pass) }
@@ -101,8 +101,8 @@ fn work<W: Wait>(rt: &W, yard: &Yard, mut pass: Pass) -> Pass
     unreachable!()
 }
 
-// Whether the pass is told to wait where it asks for a lease. If it gets one, that comes back at
-// once, with a report of want of memory.
+// Whether the pass is told to wait when it asks for a lease. If it gets one, the lease comes back
+// at once, with a report that memory ran out.
 fn is_told_to_wait<W: Wait>(rt: &W, yard: &Yard, pass: &mut Pass) -> bool
     requires own { IsOf yard.now pass.old }
     requires ready { IsReady (view_of pass.old) }
@@ -122,8 +122,8 @@ fn is_told_to_wait<W: Wait>(rt: &W, yard: &Yard, pass: &mut Pass) -> bool
     }
 }
 
-// Whether the second pass is told to wait while the first one has a lease, which comes back with a
-// report of want of memory; and how many events the second one had seen then.
+// Whether the second pass is told to wait while the first one has a lease, and how many events the
+// second one had seen then. The lease comes back with a report that memory ran out.
 fn wait_beside<W: Wait>(
     rt: &W,
     yard: &Yard,
