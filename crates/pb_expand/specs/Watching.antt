@@ -27,9 +27,9 @@ pub record WatchView : Type 0 where
   pub least : Option ℕ
   pub told : Option ℕ
 
--- The lease came from the one that the watch's worker was lent: by exactly the expansions that it
--- counts, and by at most this many that were broken off, in turns. The watch has read what the
--- worker read as the incumbent.
+-- The lease came from the one that the watch's worker was lent, in turns: by exactly the expansions
+-- that it counts, and by at most this many broken off. The watch has read what the worker read as
+-- the incumbent.
 pub record IsFromLent (space : Space) (guide : Guide) (view : WatchView) (most_broken : ℕ) (lease : LeaseValue) : Type 0 where
   pub lent : LeaseValue
   pub lent_is : view.lent ≡ Some lent
@@ -37,15 +37,15 @@ pub record IsFromLent (space : Space) (guide : Guide) (view : WatchView) (most_b
   pub work : IsWorked space guide lent.block lease.used most_broken view.read (leased_store lent) (leased_store lease)
   pub turns : AreLeaseTurns space guide work.works (leased_store lent)
 
--- The lease came from the one that was lent. Its incumbent is no lower than what the watch has read or told, and what was told is
--- shown by a goal's row of the lease.
+-- The lease came from the one that was lent. Its incumbent is no lower than what the watch has read
+-- or told. What was told is shown by a goal's row of the lease.
 pub record IsWatched (space : Space) (guide : Guide) (view : WatchView) (most_broken : ℕ) (lease : LeaseValue) : Type 0 where
   pub from : IsFromLent space guide view most_broken lease
   pub copy : AtMost view.least lease.incumbent
   pub shown : (cost : ℕ) → view.told ≡ Some cost → HasGoalWithin space guide (leased_store lease) cost
 
--- The cost may be told: the lease has a goal's row that costs no more, and the lease doesn't have
--- the cost as its incumbent before it is told. The greatest number stands for an unknown cost.
+-- The cost may be told: the lease has a goal's row that costs no more. The lease doesn't have the
+-- cost as its incumbent before the cost is told. The greatest number stands for an unknown cost.
 pub record MayTell (view : WatchView) (lease : LeaseValue) (cost : ℕ) : Type 0 where
   pub below : cost < 2 ^ 64 - 1
   pub watched : IsWatched (space_of view.task) (guide_of view.task view.graph) view 0 lease
@@ -88,13 +88,13 @@ with_read true incumbent before = incumbent ∷ before
 with_read false incumbent before = before
 
 -- These turns, with a read before each. The turns were done with what was read, in the same order.
--- Each turn has a read of its own, and there is no other read but one after the last turn, which
--- found what the store has.
+-- Each turn has a read of its own. The only other read is one after the last turn, which found what
+-- the store has.
 pub record HasTurnedReading (space : Space) (guide : Guide) (known : Option ℕ → Bool) (block used broken : ℕ) (read_after : Bool) (old new : Store) (was now : List (Option ℕ)) : Type 0 where
   pub turned : HasTurned space guide known block used broken old new
   pub reads : now ≡ with_read read_after new.incumbent (copies_of space guide turned.work.works old was)
 
--- From the one lease to the other its worker did turns under the watch, with exactly this many
+-- From the one lease to the other its worker did turns under the watch. They have exactly this many
 -- expansions more, and exactly this many that were broken off. If the lease's incumbent was what
 -- the watch had read or told, it still is. Each turn has a read of its own before it. `read_before`
 -- says whether a read came before the first turn, and `read_after` whether one came after the last.

@@ -1,6 +1,6 @@
 //! The expansion of rows in a lease: what a worker of a parallel best-first search does with the
-//! block that it has leased (Burns, Lemons, Ruml and Zhou, "Best-First Heuristic Search for
-//! Multicore Machines", Journal of Artificial Intelligence Research 39, 2010).
+//! block that it has leased. The search is that of Burns, Lemons, Ruml and Zhou, "Best-First
+//! Heuristic Search for Multicore Machines", Journal of Artificial Intelligence Research 39, 2010.
 //!
 //! The contracts cite `specs`: `IsAtWork` says which leases may be worked on, and `HasTurned` says
 //! what was done. `Watching` says what a worker knows while it watches the incumbent.

@@ -2,8 +2,8 @@ use crate::rules::may_be_cut;
 use pb_model::Estimate;
 use std::test::Fail;
 
-// At the weight 3/2 a row is cut if 3 * (g + h) is at least 2 * U: with U = 10, if g + h is 7 or
-// more.
+// At the weight 3/2 a row is cut if 3 * (g + h) is at least 2 * U. With U = 10 it is cut if g + h
+// is 7 or more.
 #[test]
 fn rows_are_cut_by_the_weight(rt: HostRuntime) -> Result<(), Fail> {
     for (incumbent, g, estimate, cut) in [

@@ -30,8 +30,8 @@ use Rattle.pb_workers.specs.Ends.{home_store, IsBestEnd}
 abbrev pub HasSmallCosts : GraphValue → Type 0
 HasSmallCosts graph = CostsAtMost (home_store graph) (2 ^ 61 - 1)
 
--- A search of this task at the weight of these settings came to a quiet end with this graph, all of
--- whose rows are at home: they are a sound store without an Opened row. The incumbent is shown by a
+-- A search of this task at the weight of these settings came to a quiet end with this graph. All
+-- rows are at home: they are a sound store without an Opened row. The incumbent is shown by a
 -- goal's row, some plan costs no more, and no plan costs less than the incumbent divided by the
 -- weight. Without an incumbent there is no plan.
 pub record IsBestOf (parts : TaskParts) (settings : Settings) (graph : GraphValue) : Type 0 where
@@ -51,9 +51,9 @@ search_of parts graph settings = setup_of parts graph settings 0
 abbrev pub Leads : Setup → List Move → Machine → Type 0
 Leads setup moves machine = Runs setup (opening_machine setup) moves machine
 
--- The same, in order and in time: each lease is of the first choice at that moment, and with the
--- incumbent of the whole store; its worker takes the first Opened row of its block again and again;
--- and it goes on, or comes back, with a cause.
+-- The same, in order and in time. Each lease is of the first choice at that moment, and with the
+-- incumbent of the whole store. Its worker takes the first Opened row of its block again and again.
+-- It goes on, or comes back, with a cause.
 abbrev pub LeadsInTime : Setup → List Move → Machine → Type 0
 LeadsInTime setup moves machine = RunsInTime setup (opening_machine setup) moves machine
 
@@ -80,7 +80,7 @@ HasEndedSo Memory settings store expanded = ⊥
 -- workers, the moves are in order and in time: each lease is of the first choice at its moment,
 -- with the incumbent of the whole store. Expansions, none of them broken off, lead from the start's
 -- row alone to the rows of that machine, as the end says. The journal isn't padded: each of its
--- events is within the room of its lease, and there are no more than the expansions can have
+-- events is within the room of its lease. There are no more events than the expansions can have
 -- brought about.
 pub record EndsBy (parts : TaskParts) (settings : Settings) (end : End) (moves : List Move)
     : Type 0 where
@@ -104,15 +104,15 @@ pub record EndsBy (parts : TaskParts) (settings : Settings) (end : End) (moves :
   pub short : length (journal_of moves)
       ≤ most_events (space_of parts).actions machine.counts.spent settings.workers
 
--- A search of this task with these settings came to the end of its budget by some moves, which are
--- those of the events that the journal has.
+-- A search of this task with these settings came to the end of its budget by some moves. Their
+-- events are those of the journal.
 abbrev pub StopsWith : TaskParts → Settings → (journal : List Event) → Type 0
 StopsWith parts settings journal =
     (moves : List Move) × (journal ≡ journal_of moves) × EndsBy parts settings Budget moves
 
--- A search of this task with these settings came to a quiet end by some moves, which are those of
--- the events that the journal has. This graph is what it left: its blocks are those of the search,
--- and the rows at home, with the incumbent, are all that the machine has.
+-- A search of this task with these settings came to a quiet end by some moves. Their events are
+-- those of the journal. The search left this graph. The graph's blocks are those of the search, and
+-- the rows at home, with the incumbent, are all that the machine has.
 pub record EndsQuietly (parts : TaskParts) (settings : Settings) (journal : List Event)
     (graph : GraphValue) : Type 0 where
   pub moves : List Move

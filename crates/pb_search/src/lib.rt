@@ -1,5 +1,5 @@
-//! A search by leases with these settings, from a task to the graph at its end: one worker searches
-//! alone and waits for nobody, and several share a yard, each in a thread of its own.
+//! A search by leases with these settings, from a task to the graph at its end. One worker searches
+//! alone and waits for nobody. Several share a yard, each in a thread of its own.
 #![tactic(auto)]
 
 mod alone;

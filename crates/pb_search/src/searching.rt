@@ -19,11 +19,11 @@ use std::alloc::{AllocError, Global};
 use std::sync::{Arc, Wait};
 use std::thread::Threads;
 
-/// Searches a task by leases with these settings, and hands back the graph at the search's end, when
-/// every lease came back and every worker signed off. Its blocks are the finest that are no more
-/// than the settings wish for. One worker searches alone and waits for nobody; several share a yard,
-/// each in a thread of its own. The gate is told of each lease, and each time before one is renewed
-/// or comes back. An error is out of memory.
+/// Searches a task by leases with these settings, and hands back the graph at the search's end.
+/// Every lease came back, and every worker signed off. Its blocks are the finest that are no more
+/// than the settings wish for. One worker searches alone and waits for nobody; several share a
+/// yard, each in a thread of its own. The gate is told of each lease, and each time before one is
+/// renewed or comes back. An error is out of memory.
 pub fn search<R: Threads + Wait + Sync, G: Gate>(
     rt: &R,
     alloc: Global,

@@ -37,8 +37,8 @@ pub record IsHeld (g : GraphValue) (lease : LeaseValue) : Type 0 where
   pub moment : IsMoment g recorded machine
   pub out : IsOutInTurns (setup_in g) machine 0 lease
 
--- from each machine at which the old lease is out, a run in order leads to a machine that the new
--- graph is a moment of, and at which this lease is out
+-- from each machine at which the old lease is out, a run in order leads to one at which this lease
+-- is out; the new graph is a moment of it
 abbrev pub RunsOut : (old : GraphValue) → LeaseValue → (new : GraphValue) → (kept : LeaseValue) → Type 0
 RunsOut old lease new kept =
     (recorded : (worker : ℕ) → Rows) (machine : Machine) → IsMoment old recorded machine → IsOutInTurns (setup_in old) machine 0 lease

@@ -16,8 +16,9 @@ pub record IsSameSearch (old new : GraphValue) : Type 0 where
 abbrev pub IsAnyMoment : GraphValue → Type 0
 IsAnyMoment g = (recorded : (worker : ℕ) → Rows) × (machine : Machine) × IsMoment g recorded machine
 
--- From this machine a run in order and in time leads to one that the new graph is a moment of, with these rows recorded for the leases that
--- are out. The events of the run are those that the journal got.
+-- From this machine a run in order and in time leads to one that the new graph is a moment of. The
+-- events of the run are those that the journal got. These rows are recorded for the leases that are
+-- out.
 pub record RunsTo (old : GraphValue) (machine : Machine) (new : GraphValue) (recorded : (worker : ℕ) → Rows) (next : Machine) : Type 0 where
   pub moves : List Move
   pub run : RunsInTime (setup_in old) machine moves next

@@ -16,11 +16,11 @@ use pb_outside::Gate;
 use pb_task::Task;
 use std::alloc::{AllocError, Global};
 
-/// Searches as the only worker of the graph, from whatever moment it is at, until the search ends:
-/// leases blocks, best first, works on each and brings it back, and signs off. It waits for nobody.
-/// The gate is told each time that a block was leased, and each time before a lease is renewed or
-/// comes back. An error is out of memory: then nothing was leased, or the search ended because of
-/// it.
+/// Searches as the only worker of the graph, from whatever moment it is at, until the search ends.
+/// It leases blocks, best first, works on each and brings it back, and signs off. It waits for
+/// nobody. The gate is told each time that a block was leased, and each time before a lease is
+/// renewed or comes back. An error is out of memory: then nothing was leased, or the search ended
+/// because of it.
 pub fn run_alone<G: Gate>(
     alloc: Global,
     task: &Task,

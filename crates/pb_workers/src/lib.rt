@@ -1,6 +1,6 @@
-//! The workers of a parallel best-first search by blocks (Burns, Lemons, Ruml and Zhou, "Best-First
-//! Heuristic Search for Multicore Machines", Journal of Artificial Intelligence Research 39, 2010):
-//! one that searches alone, or any number that share a yard.
+//! The workers of a parallel best-first search by blocks: one that searches alone, or any number
+//! that share a yard. The search is that of Burns, Lemons, Ruml and Zhou, "Best-First Heuristic
+//! Search for Multicore Machines", Journal of Artificial Intelligence Research 39, 2010.
 #![tactic(auto)]
 
 mod alone;

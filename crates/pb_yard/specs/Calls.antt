@@ -39,12 +39,11 @@ HasPlanWithin view cost = (plan : Plan) × IsPlan (space_of view.task) plan × (
 
 -- ---- a call that holds the graph
 
--- The pass held the graph once. It found one that is a lawful moment, whose journal begins with all
--- that the pass had seen. The graph went from there to the one that the pass left as `step` says,
--- which is a lawful moment too. Exactly these events came to the journal, and they are the moves
--- that lead from the one moment to the other, in order and in time. The pass has seen the whole
--- journal then, and of the events that came has its own worker's; it has this lease, and has told
--- this cost.
+-- The pass held the graph once. It found a lawful moment, whose journal begins with all that the
+-- pass had seen. From there the graph went to the moment that the pass left, as `step` says, which
+-- is lawful too. Exactly these events came to the journal. They are the moves from the one moment
+-- to the other, in order and in time. The pass has seen the whole journal then, and of the new
+-- events it has its own worker's. It has this lease, and has told this cost.
 pub record Holds (step : (found left : GraphValue) → Type 0) (events : (found : GraphValue) → List Event) (old : View) (lent : Option LeaseValue) (told : Option ℕ) (new : View) : Type 0 where
   pub found : GraphValue
   pub left : GraphValue

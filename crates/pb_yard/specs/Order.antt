@@ -33,9 +33,9 @@ abbrev pub settled_after : Move → (settled : Option ℕ) → (new : Machine) �
 settled_after (event_move event) settled new = new.store.incumbent
 settled_after (tell_move worker cost) settled new = settled
 
--- A lease goes on if its quota is used up and its block, with the lease home, is the first choice
--- at that moment, whatever other workers did meanwhile. A lease comes back, unless its worker is
--- out of memory, only if its quota is used up or no row of its block is Opened.
+-- A lease goes on only if its quota is used up, and its block, with the lease home, is the first
+-- choice at that moment. Other workers may have done anything meanwhile. A lease comes back only if
+-- its quota is used up, no row of its block is Opened, or its worker is out of memory.
 abbrev pub IsTimely : Setup → (old : Machine) → Move → (new : Machine) → Type 0
 IsTimely setup old (event_move (Renew worker used quota)) new =
     (grant : Grant) × (old.counts.leases worker ≡ Some grant) × (used ≡ grant.quota)
@@ -46,11 +46,11 @@ IsTimely setup old (event_move (Release worker used false)) new =
     × ((used ≡ grant.quota) ⊎ (HasOpened (new.store.rows grant.block) → ⊥))
 IsTimely setup old move new = ⊤
 
--- A run of any number of workers, in order and in time: these moves, one after another. So each
--- block that was leased was the first choice of those that might be leased at that moment. Each row
--- that was taken was the first of its block. No lease was given a greater incumbent than that of
--- the whole store at the last event. Each lease used up its quota before it went on, and had a
--- cause to come back. The incumbent of the last event is stated at both ends.
+-- A run of any number of workers, in order and in time: these moves, one after another. Each block
+-- that was leased was the first choice of those that might be leased then. Each row that was taken
+-- was the first of its block. No lease was given a greater incumbent than that of the whole store
+-- at the last event. Each lease used up its quota before it went on, and had a cause to come back.
+-- The incumbent of the last event is stated at both ends.
 abbrev pub RunsSettled : Setup → (old : Machine) → (settled : Option ℕ) → List Move → (new : Machine) → (later : Option ℕ) → Type 0
 RunsSettled setup old settled [] new later = (new ≡ old) × (later ≡ settled)
 RunsSettled setup old settled (move ∷ moves) new later =

@@ -14,10 +14,10 @@ use Rattle.pb_yard.specs.Rule.{grant_in, was_read}
 abbrev pub IsLeaseOf : View → LeaseValue → Type 0
 IsLeaseOf view lease = (lease.worker ≡ view.journal.own.worker) × (grant_in view.lent ≡ Some (grant_of lease))
 
--- The lease came from the one that the pass was lent by the work of its worker: by exactly the
--- expansions that it counts, and by at most this many that were broken off. It was done in turns,
--- each on the first Opened row of the block. What its worker told is shown by a goal's row of the
--- lease, and the lease's incumbent is at least what the pass has read or told.
+-- The lease came from the one that the pass was lent by the work of its worker. The work has
+-- exactly the expansions that the lease counts, and at most this many broken off. It was done in
+-- turns, each on the first Opened row of the block. What its worker told is shown by a goal's row
+-- of the lease. The lease's incumbent is at least what the pass has read or told.
 pub record IsBrought (view : View) (most_broken : ℕ) (lease : LeaseValue) : Type 0 where
   pub lent : LeaseValue
   pub lent_is : view.lent ≡ Some lent
@@ -28,7 +28,7 @@ pub record IsBrought (view : View) (most_broken : ℕ) (lease : LeaseValue) : Ty
   pub copy : AtMost view.last lease.incumbent
   pub told : (cost : ℕ) → view.told ≡ Some cost → HasGoalWithin (space_of view.task) (guide_of view.task view.graph) (leased_store lease) cost
 
--- The lease came from the one that the pass was lent by the work of its worker, and has a goal's row
+-- The lease came from the one that the pass was lent by the work of its worker. It has a goal's row
 -- that costs at most this.
 pub record IsFound (view : View) (lease : LeaseValue) (cost : ℕ) : Type 0 where
   pub lent : LeaseValue

@@ -43,8 +43,8 @@ abbrev pub was_read : View → Option ℕ → Bool
 was_read view None = false
 was_read view (Some cost) = list_any (is_cost cost) view.read
 
--- The lease is the one that the graph gave to this worker, as it was given or last renewed: no
--- expansion is made, and the incumbent is the one that the machine gave.
+-- The lease is the one that the graph gave to this worker, as it was given or last renewed. No
+-- expansion is made yet, and the incumbent is what the machine gave.
 pub record IsLent (g : GraphValue) (machine : Machine) (worker : ℕ) (lease : LeaseValue) : Type 0 where
   pub worker_is : lease.worker ≡ worker
   pub of_graph : IsOfGraph g lease
@@ -73,8 +73,8 @@ pub record IsViewOf (g : GraphValue) (machine : Machine) (lent_to : (worker : �
   pub known : IsKnownTo machine view
   pub copy : (lease : LeaseValue) → view.lent ≡ Some lease → AtMost view.last lease.incumbent
 
--- If the pass read the incumbent last while it held the graph, and no event came since, then it read
--- at most the incumbent of the last event.
+-- If the pass last read the incumbent while it held the graph, and no event came since, it read at
+-- most the incumbent of the last event.
 pub record IsRecent (g : GraphValue) (settled : Option ℕ) (view : View) : Type 0 where
   pub read_by : (events : ℕ) → view.read_at ≡ Some events → events ≤ length g.table.journal
   pub fresh : view.read_at ≡ Some (length g.table.journal) → AtMost view.last settled

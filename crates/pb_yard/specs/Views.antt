@@ -22,8 +22,8 @@ bounded g (Some cost) = record g { incumbent = lesser g.incumbent (Some cost) }
 abbrev pub opening_view : GraphValue → View
 opening_view g = record { journal = first_view; lent = None; task = g.task; graph = g.table.graph; settings = g.table.settings; told = None; last = None; read = []; read_at = None }
 
--- the view of a pass after another was split from it, and then the view of the other: it has the
--- next worker's number, no lease and no events, and has seen what the first has
+-- the view of a pass after another was split from it, and then the view of the other, which has the
+-- next worker's number, no lease and no events, and has seen the same
 abbrev pub split_view : View → View
 split_view view = record view { journal = with_one_more view.journal }
 
@@ -62,9 +62,8 @@ view_read held view incumbent = record view { last = incumbent; read = incumbent
 abbrev pub view_told : View → (cost : ℕ) → View
 view_told view cost = record view { told = lesser view.told (Some cost); last = lesser view.last (Some cost); read_at = None }
 
--- The view after its pass held the graph and these events were added to the journal: it has seen
--- the whole journal, and has the events that are its own worker's. It has this lease, and has told
--- this cost.
+-- The view after its pass held the graph and these events were added to the journal. It has seen
+-- the whole journal, and has its own worker's events. It has this lease, and has told this cost.
 abbrev pub view_then : (journal added : List Event) → (lent : Option LeaseValue) → (told : Option ℕ) → View → View
 view_then journal added lent told view = record view { journal = view_after journal added view.journal; lent = lent; told = told; read_at = None }
 

@@ -1,12 +1,13 @@
-//! The yard of a parallel best-first search by blocks (Burns, Lemons, Ruml and Zhou, "Best-First
-//! Heuristic Search for Multicore Machines", Journal of Artificial Intelligence Research 39, 2010):
-//! one graph of leases that any number of workers share.
+//! The yard of a parallel best-first search by blocks: one graph of leases that any number of
+//! workers share. The search is that of Burns, Lemons, Ruml and Zhou, "Best-First Heuristic Search
+//! for Multicore Machines", Journal of Artificial Intelligence Research 39, 2010.
 //!
-//! Each worker carries a pass. One pass at a time holds the graph; what workers do to the rows of
-//! their leases they do outside. What a pass knows is its view, which exists in proofs alone. The
-//! yard's rule ties the graph to the views of all passes: the graph is a lawful moment of the lease
-//! machine, its journal is one legal history, and each worker's events are those that its own calls
-//! made.
+//! Each worker carries a pass. One pass at a time holds the graph; workers change the rows of their
+//! leases without holding it. What a pass knows is its view, which exists in proofs alone.
+//!
+//! The yard's rule ties the graph to the views of all passes. The graph is a lawful moment of the
+//! lease machine, and its journal is one legal history. Each worker's events are those that its own
+//! calls made.
 #![tactic(auto)]
 
 mod bounds;

@@ -59,8 +59,8 @@ impl Yard {
         done
     }
 
-    /// The pass's worker, which has no lease, signs off: it saw that the search ended, or reports
-    /// that it is out of memory.
+    /// The pass's worker signs off, and has no lease. It saw the end of the search, or reports that
+    /// it is out of memory.
     pub fn sign_off<W: Wait>(&self, rt: &W, pass: &mut Pass, trouble: bool)
         requires own { IsOf self.now pass.old }
         requires vacant { (view_of pass.old).lent ≡ None }

@@ -3,8 +3,8 @@ use crate::view::View;
 use pb_lease::{Lease, LeaseGraph, LeaseReply, Renewed};
 use pb_turn::{Leaving, TurnRule};
 
-/// The rule of the yard: the graph is a lawful moment of the lease machine, and the views of all
-/// passes are true of its journal and of the leases that are out.
+/// The rule of the yard: the graph is a lawful moment of the lease machine. The views of all passes
+/// are true of its journal and of the leases that are out.
 pub struct YardRule;
 
 impl TurnRule for YardRule {
