@@ -15,15 +15,15 @@ use Rattle.pb_lease.specs.Moments.{IsMoment}
 use Rattle.pb_cert.specs.Store.{store_with, IsPlaced, IsSoundAt}
 use Rattle.pb_cert.specs.Traced.{HasGoal}
 
--- With no lease out, the store of the rows at home, with the graph's incumbent and the weight of the search, is that of each moment of the
--- search that the graph is.
+-- With no lease out, the rows at home are the store of each moment of the search that the graph is.
+-- The store has the graph's incumbent and the weight of the search.
 abbrev pub HomeRowsAreWhole : Type 0
 HomeRowsAreWhole =
     (g : GraphValue) (recorded : (worker : ℕ) → Rows) (machine : Machine) → IsLeaseGraph g → IsFalse (is_out_in g) → IsMoment g recorded machine
     → machine.store ≡ store_with (home_rows g.homes) (weight_of g.table.settings) g.incumbent
 
--- If a sound store has an incumbent that is shown, a goal has a row, and the rows are those of a
--- sound store: what a trace asks for.
+-- If a sound store has an incumbent that is shown, a goal has a row. The rows are those of a sound
+-- store: what a trace asks for.
 abbrev pub ShownRowsCanBeTraced : Type 0
 ShownRowsCanBeTraced =
     (space : Space) (guide : Guide) (rows : Rows) (weight : Weight) (incumbent : Option ℕ) (cost : ℕ) → IsSound space guide (store_with rows weight incumbent)

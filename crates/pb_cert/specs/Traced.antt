@@ -29,7 +29,8 @@ abbrev pub HasRowIn : Space → Part → Option Goal → Type 0
 HasRowIn space part None = ⊥
 HasRowIn space part (Some goal) = (row : Row) × (part goal.state ≡ Some row) × (row.g ≡ goal.g) × IsTrue (space.is_goal goal.state)
 
--- the state is a goal whose row has this g, and of all rows of goals that one is the first: by g, and at one g by state
+-- the state is a goal whose row has this g; of all rows of goals its row is the first, by g, and at
+-- one g by state
 pub record IsFirstGoal (space : Space) (rows : Rows) (goal g : ℕ) : Type 0 where
   pub home : ℕ
   pub row : Row

@@ -55,7 +55,7 @@ impl<'a> Model for Certificate<'a> {
 
 impl<'a> Certificate<'a> {
     /// The certificate of a store's rows, for a search at the weight num / den, with a plan or with
-    /// the claim that there is none. `kind` is what a task of its kind is called on a command line.
+    /// the claim that none exists. `kind` is what a task of its kind is called on a command line.
     /// An error is out of memory.
     pub fn of<S: Store>(
         alloc: Global,

@@ -11,8 +11,9 @@ use pb_lists::Bundle;
 use pb_packed::Packed;
 use pb_task::Task;
 
-/// The rows of a search, in one bundle or in several: one for each block of an abstract graph (Zhou and Hansen 2004), or one for
-/// each owner in a hash-distributed search (Kishimoto, Fukunaga and Botea 2009).
+/// The rows of a search, in one bundle or in several. There may be one for each block of an
+/// abstract graph (Zhou and Hansen 2004), or one for each owner in a hash-distributed search
+/// (Kishimoto, Fukunaga and Botea 2009).
 pub trait Store {
     /// How many parts there are.
     ghost parts: { Self → ℕ };

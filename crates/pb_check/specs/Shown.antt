@@ -20,8 +20,9 @@ pub record IsAccepted (space : Space) (estimate : ℕ → Estimate) (kind : Task
   pub valid : IsValid space estimate certificate
   pub verdict_is : verdict ≡ verdict_of certificate.weight certificate.plan
 
--- the bytes spell a certificate with this verdict whose claim is true of the space: every plan of a cost f has num * f >= den * C, where
--- C is the cost of the certificate's plan and num / den its weight; or there is no plan
+-- The bytes spell a certificate with this verdict whose claim is true of the space. Every plan of a
+-- cost f has num * f >= den * C, for the cost C of the certificate's plan and its weight num / den;
+-- or there is no plan.
 pub record ShowsClaim (space : Space) (kind : TaskKind) (bytes : List ℕ) (verdict : Verdict) : Type 0 where
   pub certificate : Certificate
   pub spelled : IsSpelled bytes kind certificate

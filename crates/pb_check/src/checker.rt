@@ -43,9 +43,11 @@ fn first_fault(
     )
 }
 
-/// The verdict on a certificate for the task, or its first fault. The estimator is one of this task.
+/// The verdict on a certificate for the task, or its first fault. The estimator is one of this
+/// task.
 ///
-/// The memory that it takes grows with the lines that it has read, and not with a number that they state.
+/// The memory that it takes grows with the lines read so far, and not with a number that they
+/// state.
 pub fn check(
     alloc: Global,
     task: &Task,

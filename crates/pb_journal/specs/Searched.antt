@@ -25,8 +25,8 @@ pub record IsAccepted (blocks : Blocks) (settings : Settings) (journal : List Ev
   pub accepted : judged blocks (journal_text settings journal) ≡ Ok (length journal)
   pub header : settings_of (journal_text settings journal) ≡ Ok (settings_with_weight settings one)
 
--- The moves of a search, with its settings in range, lead from its opening to a machine that is
--- finished: an end stands, and every worker has signed off.
+-- The moves of a search, with its settings in range, lead from its opening to a finished machine:
+-- an end stands, and every worker has signed off.
 pub record IsFinishedRun (setup : Setup) (moves : List Move) : Type 0 where
   pub range : AreInRange setup.settings
   pub machine : Machine
@@ -44,7 +44,7 @@ pub record IsWishedGraph (parts : TaskParts) (wish : ℕ) (graph : AbstractGraph
   pub finest : IsFinest parts wish graph.projection
 
 -- What is written of a finished search of a task, over its graph by the wish of the settings, is
--- accepted by whoever makes the graph of the same task by the wish of the header.
+-- accepted. Whoever accepts it makes the graph of the same task by the wish of the header.
 abbrev pub SearchesAreAccepted : Type 0
 SearchesAreAccepted = (parts : TaskParts) (setup : Setup) (graph own : AbstractGraph)
     (moves : List Move) → IsTask parts → setup.blocks ≡ blocks_of graph

@@ -49,8 +49,8 @@ AcceptedJournalsAreFinished =
     × (blocks.count ≤ 4096 → IsFinishedJournal blocks bytes events → judged blocks bytes
     ≡ Ok events)
 
--- What is written of a finished legal history is accepted, with its number of events, and its
--- header is read: the settings but for the weight, which is 1.
+-- What is written of a finished legal history is accepted, with its number of events. Its header is
+-- read: the settings but for the weight, which is 1.
 abbrev pub WrittenJournalsAreAccepted : Type 0
 WrittenJournalsAreAccepted =
     (blocks : Blocks) (settings : Settings) (journal : List Event) (counts : Counts)
@@ -72,8 +72,8 @@ IsCause blocks settings counts (first ∷ later) tail why =
     ⊎ ((event : Event) × (reason : EventRefusal) × IsSpelled first event
     × (refusal blocks settings counts event ≡ Some reason) × (why ≡ why_of reason))
 
--- A line after the header is the first that is refused: the header's settings are in range, the
--- lines between them and this one spell events that may come one after another, and this one can't
+-- A line after the header is the first that is refused. The header's settings are in range, and the
+-- lines between them and this one spell events that may come one after another. This one can't
 -- follow, for this reason.
 pub record IsFirstFault (blocks : Blocks) (bytes : List ℕ) (line : ℕ) (why : Why) : Type 0 where
   pub settings : Settings

@@ -92,8 +92,7 @@ fn judge(alloc: Global, graph: &AbsGraph, blocks: u32, bytes: &[u8]) -> Result<u
 }
 
 /// How many events a journal has, or its first line that is refused. The graph has the blocks that
-/// were leased: it is that of the task by the number of blocks that the journal's header wishes
-/// for.
+/// were leased: it is the task's, by the number of blocks that the header wishes for.
 ///
 /// The memory that it takes grows with the workers and the blocks, and not with the journal.
 pub fn check_journal(alloc: Global, graph: &AbsGraph, bytes: &[u8]) -> Result<u64, JournalError>

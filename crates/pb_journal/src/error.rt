@@ -18,7 +18,7 @@ pub enum Why {
     Ended,
     /// There is no such worker, or it has signed off.
     Worker,
-    /// The worker has a lease and should have none, or has none and should have one; or a lease is
+    /// The worker has a lease and should have none, or has none and should have one. Or a lease is
     /// out at a quiet end or at the budget's.
     Holds,
     /// There is no such block.
@@ -27,14 +27,14 @@ pub enum Why {
     Scope,
     /// A hot block interferes with the block; or the block may not be marked hot, or is not hot.
     Hot,
-    /// The quota is 0, or is neither a whole lot nor all that is left; or more expansions were made
-    /// than the quota allows; or something is left of the budget at its end.
+    /// The quota is 0, or is neither a whole lot nor all that is left. Or more expansions were made
+    /// than the quota allows. Or something is left of the budget at its end.
     Quota,
     /// No end stands, and the worker does not report that it is out of memory, so it may not sign
     /// off.
     NoEnd,
     /// A worker reported in the line before that it is out of memory, and this is not the end that
-    /// follows; or that end comes without such a report.
+    /// follows. Or that end comes without such a report.
     Trouble,
     /// The text ends before the history is finished.
     Short,

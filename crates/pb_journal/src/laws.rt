@@ -35,8 +35,8 @@ pub fn runs_are_accepted()
     ensures { RunsAreAccepted }
 {}
 
-/// What is written of a finished search of a task is accepted by whoever makes the graph of the same
-/// task by the number of blocks that the header wishes for.
+/// What is written of a finished search of a task is accepted for the same task, by a graph with
+/// the number of blocks that the header wishes for.
 pub fn searches_are_accepted()
     ensures { SearchesAreAccepted }
 {}

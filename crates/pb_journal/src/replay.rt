@@ -13,8 +13,8 @@ use pb_machine::{End, Grant, Settings};
 use std::alloc::{AllocError, Global};
 
 /// Who has which lease and who has signed off, by worker; which blocks are hot; what was spent and
-/// what is left of the budget; and the end that stands. Also whether the event before, while no end
-/// stood, reported that a worker is out of memory.
+/// what is left of the budget; the end that stands. Also whether the event before reported out of
+/// memory while no end stood.
 #[derive(Debug, Drop)]
 pub struct Replay {
     pub leases: Vec<Option<Grant>>,

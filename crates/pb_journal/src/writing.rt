@@ -96,9 +96,9 @@ fn add_event<H: Shelf>(
     Ok(())
 }
 
-/// Saves the journal of a search with these settings as the file of this name, in pieces of whole
-/// lines, each of at most 4,096 bytes. The weight of the settings is not written. It takes no
-/// memory. An error is a fault of the shelf.
+/// Saves the journal of a search with these settings as the file of this name. It is saved in
+/// pieces of whole lines, each of at most 4,096 bytes. The weight of the settings is not written.
+/// It takes no memory. An error is a fault of the shelf.
 pub fn write_journal<H: Shelf>(
     settings: &Settings,
     journal: &[Event],

@@ -1,5 +1,6 @@
--- Pseudorandom numbers by a linear congruential generator (Lehmer, "Mathematical methods in large-scale computing units", 1951), with the
--- multiplier and the increment of Knuth's MMIX ("The art of computer programming", volume 2, section 3.3.4).
+-- Pseudorandom numbers by a linear congruential generator (Lehmer, "Mathematical methods in
+-- large-scale computing units", 1951). Its multiplier and increment are those of Knuth's MMIX ("The
+-- art of computer programming", volume 2, section 3.3.4).
 use Rattle.std.specs.Prelude.{ℕ, zero, suc, ◌+◌, ◌*◌, ◌/◌, ◌%◌, ◌^◌, List, [], ◌∷◌}
 
 -- the number that the generator holds after a draw

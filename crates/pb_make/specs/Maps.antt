@@ -1,5 +1,5 @@
--- A square map of drawn cells, and a scenario that goes from its first cell to its last, in MovingAI's formats (Sturtevant, "Benchmarks for
--- grid-based pathfinding", 2012).
+-- A square map of drawn cells, and a scenario from its first cell to its last, in MovingAI's
+-- formats (Sturtevant, "Benchmarks for grid-based pathfinding", 2012).
 use Rattle.std.specs.Prelude.{ℕ, ◌-◌, ◌*◌, ◌%◌, ◌==◌, List, [], ◌∷◌, ◌++◌, map, codes, slice_set, if◌then◌else◌}
 use Rattle.std.specs.List.{join_with_byte}
 use Rattle.std.specs.Fmt.{decimal}

@@ -24,8 +24,8 @@ MadeBoardsAreSpelled = (seed moves : ℕ) → SpellsTiles (tiles_text seed moves
 abbrev pub BlocksDomainIsRead : Type 0
 BlocksDomainIsRead = is_ok (domain_reading domain_text) ≡ true
 
--- The text of a made problem is read, and with the domain of the blocks world it is a task: both are well typed, and there are neither too many
--- ground atoms nor too many ground actions.
+-- The text of a made problem is read, and with the domain of the blocks world it is a task. Both
+-- are well typed, and there are neither too many ground atoms nor too many ground actions.
 abbrev pub MadeProblemsAreTasks : Type 0
 MadeProblemsAreTasks =
     (seed blocks : ℕ) → 1 ≤ blocks → blocks ≤ 14
