@@ -27,8 +27,8 @@ pub record IsJournalOf (parts : TaskParts) (text : List ℕ) (events : ℕ) : Ty
   pub blocks : IsJournalGraph parts text graph
   pub finished : IsFinishedJournal (blocks_of graph) text events
 
--- A line after the header is the first that is refused, and why: the header can be read, and over
--- the task's blocks the lines up to this one spell events that may come one after another.
+-- A line after the header is the first that is refused, and why. The header can be read, and over
+-- the task's blocks the lines before this one spell events that may come one after another.
 pub record IsEventFault (parts : TaskParts) (text : List ℕ) (line : ℕ) (why : Why) : Type 0 where
   pub graph : AbstractGraph
   pub blocks : IsJournalGraph parts text graph

@@ -1,5 +1,6 @@
--- Which task the texts spell that were loaded of the files of a command line, or the report that refuses them: that of each kind of task stands in
--- `input_task`. The words for the row and for swamp are part of what spells a grid.
+-- Which task is spelled by the texts that were loaded of the files of a command line, or the report
+-- that refuses them. The task of each kind is in `input_task`. The words for the row and for swamp
+-- are part of what spells a grid.
 use Rattle.std.specs.Prelude.{◌≡◌, ℕ, ◌+◌, Bool, false, Option, None, Some, List, [], Result, Ok, Err, codes, slice_get}
 use Rattle.pb_model.specs.Texts.{line}
 use Rattle.pb_task.specs.declared.parts.TaskParts.{TaskParts}
@@ -66,7 +67,8 @@ strips_task None problem_text = Err too_long
 strips_task (Some domain_text) None = Err too_long
 strips_task (Some domain_text) (Some problem_text) = domain_told (domain_reading domain_text) (problem_reading problem_text)
 
--- the task of the texts from this place on, and of the words for the row of the scenario and for swamp; neither is looked at for tiles and strips
+-- the task of the texts from this place on, and of the words for the row of the scenario and for
+-- swamp; tiles and strips have neither
 abbrev pub input_task : InputNames → (row : ℕ) → (swamp : Bool) → (first : ℕ) → (texts : List (List ℕ)) → Result TaskParts (List ℕ)
 input_task (Grid names) row swamp first texts = grid_task (slice_get texts first) (slice_get texts (first + 1)) row swamp
 input_task (Tiles board) row swamp first texts = tiles_task (slice_get texts first)

@@ -22,8 +22,8 @@ kind_named Tiles = kinds.Tiles
 kind_named Strips = kinds.Strips
 
 -- The cost of a cheapest plan of the made task is printed, with its bound: some plan has it, and
--- none is cheaper. A search with the words' workers found it, and the certificate of that search,
--- which has exactly its rows, is accepted with this cost and bound.
+-- none is cheaper. A search with the words' workers found it. The certificate of that search has
+-- exactly its rows, and is accepted with this cost and bound.
 abbrev pub MakesPlan : (says : List ℕ → Type 0) → MakeMeaning → Type 0
 MakesPlan says make =
     (cost : ℕ) × (bound : ℕ) × says (summary (Accepted cost bound))

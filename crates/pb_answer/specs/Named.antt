@@ -1,5 +1,6 @@
--- What is claimed of a STRIPS task by names: of the domain and the problem that the texts spell, where a state is a set of facts and an action is one
--- of the domain's with objects. Neither ground atoms nor bits occur in these claims.
+-- What is claimed of a STRIPS task by names: of the domain and the problem that the texts spell. A
+-- state is a set of facts, and an action is one of the domain's with objects. Neither ground atoms
+-- nor bits occur in these claims.
 use Rattle.std.specs.Prelude.{◌≡◌, ℕ, ◌+◌, ◌*◌, ◌≤◌, ⊤, Option, None, Some, List, map, slice_get}
 use Rattle.pb_model.specs.Weight.{Weight}
 use Rattle.pb_model.specs.Plan.{IsBound}
@@ -53,8 +54,9 @@ NoneCheaperByNames domain problem weight cost =
 abbrev pub HasNoNamedPlan : Domain → Problem → Type 0
 HasNoNamedPlan domain problem = (actions : List NamedAction) → IsPlan domain problem actions → ⊥
 
--- A plan is printed by the names of its actions and their objects, as `(name object ..)` each, with what these actions cost together and with
--- the bound, and no plan costs less than its cost divided by the weight.
+-- A plan is printed by the names of its actions and their objects, as `(name object ..)` each. What
+-- these actions cost together and the bound are printed too. No plan costs less than its cost
+-- divided by the weight.
 abbrev pub PrintsNamedPlan : (says : List ℕ → Type 0) → Weight → Domain → Problem → Type 0
 PrintsNamedPlan says weight domain problem =
     (actions : List NamedAction) × (bound : ℕ) × says (plan_report (map (action_bytes domain) actions) (plan_cost domain problem actions) bound)

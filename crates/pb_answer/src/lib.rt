@@ -1,6 +1,6 @@
-//! What is answered of a command line and of the texts that were loaded of its files: the input is read, the task is
-//! searched or its certificate or journal judged, and report, certificate and journal are made. It reads no file and
-//! prints nothing.
+//! What is answered of a command line and of the texts that were loaded of its files. The input is
+//! read, the task is searched or its certificate or journal judged, and report, certificate and
+//! journal are made. It reads no file and prints nothing.
 #![tactic(auto)]
 
 mod answer;

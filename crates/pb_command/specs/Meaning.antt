@@ -8,8 +8,11 @@ use Rattle.pb_command.specs.declared.command.KindWord.{KindWord}
 use Rattle.pb_command.specs.declared.refusal.CommandFault.{CommandFault}
 use Rattle.pb_command.specs.declared.refusal.CommandFault.TheVariants as fault
 
--- `solve`: the task, the row of its scenario, the number of workers, the weight as a fraction, the budget of expansions, how many expansions a lease gets at most, how
--- many blocks the abstract graph has at most, if no block is marked hot, if swamp costs 2, and the names of the certificate and of the journal, if they are given
+-- `solve`: the task, the row of its scenario, the number of workers, the weight as a fraction, and
+-- the budget of expansions.
+-- How many expansions a lease gets at most, and how many blocks the abstract graph has at most.
+-- Whether no block is marked hot, and whether swamp costs 2. The names of the certificate and of
+-- the journal, if they are given.
 pub record SolveMeaning : Type 0 where
   pub input : InputNames
   pub row : ℕ
@@ -24,7 +27,7 @@ pub record SolveMeaning : Type 0 where
   pub certificate : Option Text
   pub journal : Option Text
 
--- `check`: the task, the certificate's name, the row of the scenario, and if swamp costs 2
+-- `check`: the task, the certificate's name, the row of the scenario, and whether swamp costs 2
 pub record CheckMeaning : Type 0 where
   pub input : InputNames
   pub certificate : Text

@@ -114,8 +114,9 @@ AreDistinct (Placed word ∷ rest) = AreDistinct rest
 AreDistinct (Valued option value ∷ rest) = (value_given option rest ≡ None) × AreDistinct rest
 AreDistinct (Flag flag ∷ rest) = (flag_given flag rest ≡ false) × AreDistinct rest
 
--- whether a value of the option lies in its range: a row from 0 to 1,000,000, 1 to 64 workers, a numerator and a denominator from 1 to 1,000, a budget from 1 to 2^40,
--- a lot from 1 to 2^20, and from 16 to 4,096 blocks
+-- Whether a value of the option lies in its range: a row from 0 to 1,000,000, 1 to 64 workers, a
+-- numerator and a denominator from 1 to 1,000. A budget is from 1 to 2^40, a lot from 1 to 2^20,
+-- and the blocks from 16 to 4,096.
 abbrev pub is_value_of : ValuedOption → Text → Bool
 is_value_of Row value = is_unsigned_in 0 1000000 value
 is_value_of Workers value = is_unsigned_in 1 64 value

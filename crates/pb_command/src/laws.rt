@@ -100,8 +100,8 @@ pub fn make_reads_options()
     ensures size { OtherSizeIsRefused }
 {}
 
-/// A number out of its option's range is refused for its form, and so are an option or a flag
-/// that is given twice, a word for help and a seed that is too great.
+/// A number out of its option's range is refused for its form. So are an option or a flag that is
+/// given twice, a word for help and a seed that is too great.
 pub fn options_out_of_form_are_refused()
     ensures range { OutOfRangeIsRefused }
     ensures twice { GivenTwiceIsRefused }
@@ -116,8 +116,8 @@ pub fn tests_come_in_order()
     ensures weight { WeightComesBeforeNames }
 {}
 
-/// A grid with one file, tiles with two, a domain without a problem, a kind that isn't known, a
-/// weight of one half and a grid of side 0 are refused, each for its own fault.
+/// Each of these is refused for its own fault: a grid with one file, tiles with two, a domain
+/// without a problem, a kind that isn't known, a weight of one half, and a grid of side 0.
 pub fn faults_are_found()
     ensures files { OneFileIsRefused }
     ensures boards { TwoBoardsAreRefused }

@@ -25,7 +25,7 @@ use Rattle.pb_made.specs.Searches.{SearchEnds}
 
 -- ---- plans
 
--- The plan is the one that the rows of this store lead to: its actions are those of the rows on the
+-- The plan is the one that the rows of this store lead to. Its actions are those of the rows on the
 -- way from the start to the first goal, from parent to child.
 abbrev pub IsTracedIfAny : Space → Guide → Store → Option Plan → Type 0
 IsTracedIfAny space guide store None = ⊤
@@ -41,8 +41,8 @@ pub record Finds (parts : TaskParts) (settings : Settings) (journal : List Event
   pub traced : IsTracedIfAny (space_of parts) (guide_of parts run.ends.graph)
       run.ends.machine.store plan
 
--- a plan of the task that the rows of this graph lead to, which costs no more than the incumbent and
--- can be stated; or none, if there is no incumbent
+-- A plan of the task that the rows of this graph lead to. It costs no more than the incumbent, and
+-- can be stated. Or none, if there is no incumbent.
 pub record IsPlanOf (parts : TaskParts) (graph : GraphValue) (plan : Option Plan) : Type 0 where
   pub is_plan : IsPlanIfAny (space_of parts) plan
   pub backed : IsBackedBy graph.incumbent plan

@@ -25,9 +25,9 @@ IsSize Grid side = (1 ≤ side) × (side ≤ 2048)
 IsSize Tiles moves = moves ≤ 1000000
 IsSize Strips blocks = (1 ≤ blocks) × (blocks ≤ 14)
 
--- The texts of this kind, seed and size are read as this task, without swamp. Those of a map and its scenario, and
--- of a board, spell the made one; those of the domain of the blocks world and of a problem are trees
--- that are a task.
+-- The texts of this kind, seed and size are read as this task, without swamp. The texts of a map
+-- and its scenario, and of a board, spell the made task. Those of the domain of the blocks world
+-- and of a problem are trees that are a task.
 abbrev pub IsMadeTask : TaskKind → (seed size : ℕ) → TaskParts → Type 0
 IsMadeTask Grid seed side task =
     (task_of (grid_reading (map_text seed side) (scenario_text side) 0 false) ≡ Ok task)

@@ -1,5 +1,5 @@
-//! A task made of a seed and a size: its texts are made and read, it is solved, its certificate is
-//! written and checked, and only then it is said what came out.
+//! A task made of a seed and a size. Its texts are made and read, it is solved, and its certificate
+//! is written and checked. Only then the program says what came out.
 #![tactic(auto)]
 
 mod answer;

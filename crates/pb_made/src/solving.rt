@@ -48,10 +48,10 @@ fn made_settings(workers: u32) -> Settings
     }
 }
 
-/// Makes the texts of this kind, seed and size, reads them, solves their task with so many workers,
-/// and checks the certificate that it writes of that. The gate is told of each lease. An error is out
-/// of memory, and there is no other answer: made texts always spell a task, and what is written of a
-/// quiet search is always accepted.
+/// Makes the texts of this kind, seed and size, reads them, and solves their task with so many
+/// workers. Then it writes the certificate of the search and checks it. The gate is told of each
+/// lease. An error is out of memory. There is no other answer: made texts always spell a task, and
+/// what is written of a quiet search is always accepted.
 pub fn solve_made<R: Threads + Wait + Sync, G: Gate>(
     rt: &R,
     alloc: Global,

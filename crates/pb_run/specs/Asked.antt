@@ -38,7 +38,7 @@ files_of (Read (Check check)) = wanted longest_record check.certificate ∷ inpu
 files_of (Read (Journal journal)) = wanted longest_record journal.journal ∷ input_files journal.input
 files_of (Read (Make make)) = []
 
--- the names under which a command line asks to save something, in the order in which that is saved
+-- the names under which a command line asks to save something, in the order of saving
 abbrev pub saved_names : Reading → List (List ℕ)
 saved_names (Refused fault) = []
 saved_names (Read (Solve solve)) = listed solve.certificate ++ listed solve.journal

@@ -63,8 +63,8 @@ have_failed (call ∷ calls) = has_failed call || have_failed calls
 
 -- ---- loads
 
--- The calls that load these files in order, of which these texts were got; the file after the last of them wasn't loaded, if a reason is
--- given, and no more is.
+-- The calls that load these files in order and get these texts. If a reason is given, the file
+-- after them isn't loaded for that reason. There are no more calls.
 abbrev pub load_calls : List Wanted → (texts : List (List ℕ)) → (unloaded : Option Load) → List Call
 load_calls [] texts unloaded = []
 load_calls (file ∷ files) [] None = []

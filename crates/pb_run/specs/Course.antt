@@ -57,8 +57,9 @@ pub record HasAnswered (reading : Reading) (status : ℕ) (shelf sink : List Cal
   pub shelf_is : shelf ≡ load_calls (files_of reading) texts unloaded ++ saves
   pub hands : HandsOut said status saves sink ⊎ (FailsToSave said status saves sink ⊎ FailsToPut said status saves sink)
 
--- The calls on the shelf and the sink are a beginning of one sequence: the files are loaded in the order of the words, then what is answered
--- of their texts is saved and then printed. Each call but the last is done.
+-- The calls on the shelf and the sink are a beginning of one sequence. The files are loaded in the
+-- order of the words, then the answer to their texts is saved and then printed. Each call but the
+-- last is done.
 abbrev pub Does : Reading → (status : ℕ) → (shelf sink : List Call) → Type 0
 Does reading status shelf sink = RunsOut reading status shelf sink ⊎ (FailsToLoad reading status shelf sink ⊎ HasAnswered reading status shelf sink)
 

@@ -40,7 +40,7 @@ IsBroken n = (n ≡ 71) ⊎ (n ≡ 73) ⊎ (n ≡ 74)
 
 -- ---- a plan
 
--- All of one plan: it is printed with its cost and bound, it is a plan of the task, and its cost is
+-- All of one plan: it is printed with its cost and bound, and it is a plan of the task. Its cost is
 -- at most num / den times that of any plan, at the weight num / den. A search as the words ask for
 -- it found it, and the certificate and the journal of that search are saved.
 abbrev pub AllOfOnePlan : Reading → Ran → Type 0
@@ -94,7 +94,7 @@ CertificateOfNone (Read (Make make)) ran = ⊤
 
 -- ---- a stop
 
--- Only a search, of a made task too, stops, and then it used up its budget: it names its budget,
+-- Only a search, of a made task too, stops, and then it used up its budget. It names its budget,
 -- saves at most its journal, and claims nothing of plans.
 abbrev pub StopHasCause : Reading → Ran → Type 0
 StopHasCause (Refused fault) ran = ran.said.status ≢ 2
@@ -114,7 +114,8 @@ AcceptedIsValid (Read (Check check)) ran = ran.said.status ≡ 0 → OfCheckedTe
 AcceptedIsValid (Read (Journal journal)) ran = ⊤
 AcceptedIsValid (Read (Make make)) ran = ⊤
 
--- Only a certificate or a journal is rejected, and then the certificate isn't valid, or the journal is none of the task, and the first fault is printed.
+-- Only a certificate or a journal is rejected. Then the certificate isn't valid, or the journal is
+-- none of the task, and the first fault is printed.
 abbrev pub RejectedIsFaulty : Reading → Ran → Type 0
 RejectedIsFaulty (Refused fault) ran = ran.said.status ≢ 3
 RejectedIsFaulty (Read (Solve solve)) ran = ran.said.status ≢ 3
@@ -204,7 +205,8 @@ InputIsRefused reading ran =
     (ran.said.status ≡ 65 → RefusesTexts reading ran.texts ran.said.report)
     × ((report : List ℕ) → RefusesTexts reading ran.texts report → (ran.said.status ≡ 65) ⊎ IsBroken ran.said.status)
 
--- Texts are not refused that spell a domain and a problem by the grammar, which are well typed and within the numbers of atoms and actions.
+-- Texts are not refused if they spell a domain and a problem by the grammar, both well typed and
+-- within the numbers of atoms and actions.
 abbrev pub SpelledIsNotRefused : Reading → Ran → Type 0
 SpelledIsNotRefused reading ran = SpellTask reading ran.texts → ran.said.status ≢ 65
 

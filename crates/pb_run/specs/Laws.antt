@@ -55,7 +55,7 @@ pub record Keeps (words : List (List ℕ)) (ran : Ran) : Type 0 where
   pub check_exact : CheckIsDecided (reading_of_words words) ran
   pub journal_exact : JournalIsDecided (reading_of_words words) ran
 
--- Arguments of `solve` for this input, with options in any order, and arguments of a command with
+-- Arguments of `solve` for this input, with options in any order. Also arguments of a command with
 -- these flags, `check` or `journal`, for the same input and the same row, with this file beside it.
 pub record AreMatching (input : InputNames) (has_flag : FlagOption → Bool) (file : List ℕ)
     (arguments others : List Argument) : Type 0 where
@@ -75,10 +75,10 @@ AcceptsIt status =
     ((status ≡ 0) ⊎ IsBroken status)
     × (IsAnswer status ⊎ (status ≡ 71) → (status ≡ 0) ⊎ (status ≡ 71))
 
--- A call with the words `solve ..`, with `--cert NAME` among them, answered a plan or none and saved
--- a certificate under that name. A call with the words of the matching `check ..`, with `--swamp`
--- exactly if `solve` had it, loads the text of that certificate whole and then the same input, and
--- accepts it.
+-- A call with the words `solve ..`, with `--cert NAME` among them, answered a plan or none and
+-- saved a certificate under that name. Another call has the words of the matching `check ..`, with
+-- `--swamp` exactly if `solve` had it. It loads the text of that certificate whole and then the
+-- same input, and accepts the certificate.
 abbrev pub CertificatesAreAcceptedByWords : Type 0
 CertificatesAreAcceptedByWords =
     (input : InputNames) (name file text : List ℕ) (arguments others : List Argument)
@@ -91,9 +91,10 @@ CertificatesAreAcceptedByWords =
     → IsSavedFirst solved.said name text → checked.texts ≡ text ∷ solved.texts
     → AcceptsIt checked.said.status
 
--- A call with the words `solve ..`, with `--trace NAME` among them, answered a plan, none or a stop,
--- and saved a journal under that name. A call with the words of the matching `journal ..`, which
--- loads the text of that journal whole and then the same input, accepts it.
+-- A call with the words `solve ..`, with `--trace NAME` among them, answered a plan, none or a
+-- stop, and saved a journal under that name. Another call has the words of the matching
+-- `journal ..`. It loads the text of that journal whole and then the same input, and accepts the
+-- journal.
 abbrev pub JournalsAreAcceptedByWords : Type 0
 JournalsAreAcceptedByWords =
     (input : InputNames) (name file text : List ℕ) (arguments others : List Argument)

@@ -7,8 +7,9 @@ use pb_command::{check_reads_options, journal_reads_options, solve_reads_options
 use pb_grid::swamp_changes_marks_alone;
 use pb_journal::written_journals_are_accepted;
 
-/// The certificate that one call saves of a plan, or of there being none, is accepted by another call that checks it for
-/// the same input, row and swamp. This follows from the clauses `solved`, `certified_none` and `check_exact` of both.
+/// A call saves the certificate of a plan, or of there being none. Another call that checks it for
+/// the same input, row and swamp accepts it. This follows from the clauses `solved`,
+/// `certified_none` and `check_exact` of both.
 pub fn saved_certificates_are_accepted()
     ensures { SavedCertificatesAreAccepted }
 {}

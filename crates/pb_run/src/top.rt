@@ -21,7 +21,7 @@ use std::thread::Threads;
 
 /// Does what the words ask with the files of a shelf, prints on a sink, and answers the exit
 /// status. A search is asked for as many workers as the words say. One worker takes no lock and
-/// waits for nobody, and more have a thread each; the gate is told of each lease, and each time
+/// waits for nobody, and more have a thread each. The gate is told of each lease, and each time
 /// before one is renewed or comes back. No clause says so.
 ///
 /// The clauses speak of the calls that this call made on the shelf and the sink, and so of any
@@ -34,14 +34,14 @@ pub fn run<R: Threads + Wait + Sync, H: Shelf, K: Sink, G: Gate>(
     out: &mut K,
     gate: &G,
 ) -> u8
-    // What is called is a beginning of one sequence: the files are loaded in the order of the words, then what is
-    // answered of their texts is saved and then printed. Each call but the last is done.
+    // The calls are a beginning of one sequence: the files are loaded in the order of the words,
+    // then the answer to their texts is saved and then printed. Each call but the last is done.
     ensures calls { DoesSince (reading_of_words (map string_bytes words.now)) result (H.calls shelf.old) (H.calls shelf.new) (K.calls out.old) (K.calls out.new) }
     ensures shelf_fault { result ≡ 73 ↔ IsTrue (have_failed (calls_since (H.calls shelf.old) (H.calls shelf.new))) }
     ensures sink_fault { result ≡ 74 ↔ IsTrue (have_failed (calls_since (K.calls out.old) (K.calls out.new))) }
 
-    // All of one plan: it is printed with its cost and bound, it is a plan of the task that was
-    // loaded, and its cost is at most num / den times that of any plan, at the weight num / den. A
+    // All of one plan: it is printed with its cost and bound, and it is a plan of the task that was
+    // loaded. Its cost is at most num / den times that of any plan, at the weight num / den. A
     // search as the words ask for it found it, and the certificate and the journal of that search
     // are saved.
     ensures solved { AllOfOnePlan (reading_of_words (map string_bytes words.now)) (ran result (H.calls shelf.old) (H.calls shelf.new) (K.calls out.old) (K.calls out.new)) }
@@ -62,8 +62,8 @@ pub fn run<R: Threads + Wait + Sync, H: Shelf, K: Sink, G: Gate>(
     // A stop names its cause, saves at most the journal, and claims nothing.
     ensures stopped { StopHasCause (reading_of_words (map string_bytes words.now)) (ran result (H.calls shelf.old) (H.calls shelf.new) (K.calls out.old) (K.calls out.new)) }
 
-    // An accepted certificate is a valid one of the task, and what it claims is true; of another one, and of a text that is no
-    // journal of the task, the first fault is printed.
+    // An accepted certificate is a valid one of the task, and what it claims is true. Of another
+    // one, and of a text that is no journal of the task, the first fault is printed.
     ensures accepted { AcceptedIsValid (reading_of_words (map string_bytes words.now)) (ran result (H.calls shelf.old) (H.calls shelf.new) (K.calls out.old) (K.calls out.new)) }
     ensures rejected { RejectedIsFaulty (reading_of_words (map string_bytes words.now)) (ran result (H.calls shelf.old) (H.calls shelf.new) (K.calls out.old) (K.calls out.new)) }
     ensures check_exact { CheckIsDecided (reading_of_words (map string_bytes words.now)) (ran result (H.calls shelf.old) (H.calls shelf.new) (K.calls out.old) (K.calls out.new)) }
@@ -94,7 +94,7 @@ pub fn run<R: Threads + Wait + Sync, H: Shelf, K: Sink, G: Gate>(
         → IsAnswered (reading_of_words (map string_bytes words.now)) (ran result (H.calls shelf.old) (H.calls shelf.new) (K.calls out.old) (K.calls out.new)).texts result }
 
     // If the shelf can load and hold what it is asked for, and the sink can take the report, there
-    // is an answer, or memory ran out.
+    // is an answer, unless memory ran out.
     ensures complete { CanServe (reading_of_words (map string_bytes words.now)) (H.files shelf.old) (H.can_load shelf.old) (H.can_hold shelf.old) (K.can_take out.old)
         → IsComplete (reading_of_words (map string_bytes words.now)) (H.files shelf.old) result }
     ensures answered { CanServe (reading_of_words (map string_bytes words.now)) (H.files shelf.old) (H.can_load shelf.old) (H.can_hold shelf.old) (K.can_take out.old)

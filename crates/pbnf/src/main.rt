@@ -1,7 +1,9 @@
-//! The planner: reads a task from files, finds its cheapest plan or that it has none, and saves a certificate of that and a journal of the
-//! search; checks certificates and journals; and makes tasks.
+//! The planner. It reads a task from files, finds its cheapest plan or that it has none, and saves
+//! a certificate of that and a journal of the search. It also checks certificates and journals, and
+//! makes tasks.
 //!
-//! `main` gives `run` of `pb_run`, which is the whole program over any shelf, sink and gate, the system's files and standard output.
+//! `main` gives `run` of `pb_run` the system's files and standard output. `run` is the whole
+//! program over any shelf, sink and gate.
 #![tactic(auto)]
 
 use pb_answer::Status;
