@@ -1,5 +1,6 @@
-//! Runs a search again and again by several workers whom a gate delays by drawn times, and prints how many runs said and saved what they
-//! must. The two arguments are the number of runs and the first seed.
+//! Runs a search again and again by several workers whom a gate delays by drawn times. Prints how
+//! many runs said and saved what they must. The two arguments are the number of runs and the first
+//! seed.
 #![tactic(auto)]
 
 mod gate;

@@ -19,9 +19,9 @@ use pb_test_examples::open_square;
 use std::sync::Arc;
 use std::test::Fail;
 
-// Worker 0 leases a block, works on it, and asks to go on: why its work stopped, after how many
-// expansions, and the block and the quota of the next lease. That one comes back. None if there is
-// no next lease.
+// Worker 0 leases a block, works on it, and asks to go on. The answer says why its work stopped,
+// after how many expansions, and the block and the quota of the next lease, which comes back. None
+// if there is no next lease.
 fn go_over(
     graph: &mut LeaseGraph,
     task: &Task,

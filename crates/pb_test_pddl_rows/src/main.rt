@@ -1,8 +1,9 @@
-//! Does the rows of the files that the words name, over the readers of PDDL and the grounding, and prints how many each has and what
-//! differs.
+//! Does the rows of the files that the words name, over the readers of PDDL and the grounding.
+//! Prints how many rows each has and what differs.
 //!
-//! The words of a row are `domain FILE`, `problem FILE`, `domain-prefixes FILE`, `problem-prefixes FILE`,
-//! `facts FILE`, `lifted DOMAIN PROBLEM`, `ground DOMAIN PROBLEM`, `task DOMAIN PROBLEM` or `plan DOMAIN PROBLEM NUMBER..`.
+//! The words of a row are `domain FILE`, `problem FILE`, `domain-prefixes FILE`,
+//! `problem-prefixes FILE`, `facts FILE`, `lifted DOMAIN PROBLEM`, `ground DOMAIN PROBLEM`,
+//! `task DOMAIN PROBLEM` or `plan DOMAIN PROBLEM NUMBER..`.
 #![tactic(auto)]
 
 mod ground;

@@ -1,4 +1,5 @@
-//! A number that only falls, which one thread and two lower and read, beside a state that nobody needs.
+//! A number that only falls, beside a state that nobody needs. One thread and two lower the number
+//! and read it.
 ghost use Rattle.std.specs.Prelude.{◌≡◌, ◌+◌, ◌≤◌, ℕ, Some};
 ghost use Rattle.pb_turn.specs.Passes.{view, parts, whole, IsResting, IsPassOf, IsSamePlace};
 ghost use Rattle.pb_test_turn.specs.Lowering.{brought};
