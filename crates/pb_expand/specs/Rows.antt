@@ -32,7 +32,8 @@ OffersAt old new block state g estimate parent action =
     (home other : ℕ) → away_rows new.parts home other
     ≡ (if (home == block) && (other == state) then Some (offered_row g estimate parent action (away_rows old.parts home other)) else away_rows old.parts home other)
 
--- these successors of a row with this g were offered, one after another, each to the bundle of its own block
+-- these successors of a row with this g were offered, one after another, each to the bundle of its
+-- own block
 abbrev pub HasOffers : Guide → (parent g : ℕ) → List Succ → (old new : LeaseValue) → Type 0
 HasOffers guide parent g succs old new =
     (home state : ℕ) → away_rows new.parts home state ≡ row_after_offers guide parent g succs home state (away_rows old.parts home state)

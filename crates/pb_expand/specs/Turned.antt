@@ -59,12 +59,13 @@ abbrev pub copies_of : Space → Guide → List Work → (old : Store) → (befo
 copies_of space guide [] old before = before
 copies_of space guide (work ∷ works) old before = copies_of space guide works (store_after space guide work old) (with_copy work old.incumbent before)
 
--- the same for one turn
+-- From the one store to the other a worker did one turn, with the incumbent of the first store.
 pub record HasTurnedOnce (space : Space) (guide : Guide) (known : Option ℕ → Bool) (block used broken : ℕ) (old new : Store) : Type 0 where
   pub turned : HasTurned space guide known block used broken old new
   pub once : (before : List (Option ℕ)) → copies_of space guide turned.work.works old before ≡ old.incumbent ∷ before
 
--- the state has this row, which is the first Opened one of the lease's block, and the next turn is its expansion
+-- the state has this row, which is the first Opened one of the lease's block, and the next turn is
+-- its expansion
 pub record IsNext (space : Space) (lease : LeaseValue) (state : ℕ) (row : Row) : Type 0 where
   pub first : IsFirstRow lease.weight (own_rows lease) state row
   pub kept : ¬ MayBeCut lease.weight lease.incumbent row.g row.estimate

@@ -51,13 +51,15 @@ pub record MayTell (view : WatchView) (lease : LeaseValue) (cost : ℕ) : Type 0
   pub watched : IsWatched (space_of view.task) (guide_of view.task view.graph) view 0 lease
   pub goal : HasGoalWithin (space_of view.task) (guide_of view.task view.graph) (leased_store lease) cost
 
--- It is the same search and the same lent lease, what was read stays read, and the least cost doesn't rise.
+-- It is the same search and the same lent lease, what was read stays read, and the least cost
+-- doesn't rise.
 pub record KeepsWatch (old new : WatchView) : Type 0 where
   pub others : new ≡ record old { read = new.read; answers = new.answers; least = new.least; told = new.told }
   pub knows : (incumbent : Option ℕ) → IsTrue (old.read incumbent) → IsTrue (new.read incumbent)
   pub falls : AtMost new.least old.least
 
--- The watch has read once, and found this as the incumbent, which is the least cost that it knows now.
+-- The watch has read once, and found this as the incumbent, which is the least cost that it knows
+-- now.
 pub record HasRead (old : WatchView) (found : Option ℕ) (new : WatchView) : Type 0 where
   pub kept : KeepsWatch old new
   pub told : new.told ≡ old.told

@@ -46,7 +46,8 @@ fn settle_row(task: &Task, lease: &mut Lease, state: &Packed, row: &Row) -> bool
     }
 }
 
-/// Cuts and takes rows of the lease's block until the first Opened one is to be expanded, and answers that row and its state.
+/// Cuts and takes rows of the lease's block until the first Opened one is to be expanded, and
+/// answers that row and its state.
 pub fn settle(task: &Task, lease: &mut Lease) -> Option<(Packed, Row)>
     requires own { IsSome (content_in lease.old.parts lease.old.block) }
     requires weights { HasWeights lease.old }

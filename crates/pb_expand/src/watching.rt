@@ -93,7 +93,8 @@ fn settle_row_watched<W: Watch>(
     }
 }
 
-// Cuts and takes rows of the lease's block until the first Opened one is to be expanded, and answers that row and its state.
+// Cuts and takes rows of the lease's block until the first Opened one is to be expanded, and
+// answers that row and its state.
 fn settle_watched<W: Watch>(task: &Task, lease: &mut Lease, watch: &mut W) -> Option<(Packed, Row)>
     requires can { W.can watch.old }
     requires at { (graph : AbstractGraph) × IsAtWatch task.now graph (W.seen watch.old) lease.old }

@@ -51,9 +51,10 @@ search_of parts graph settings = setup_of parts graph settings 0
 abbrev pub Leads : Setup → List Move → Machine → Type 0
 Leads setup moves machine = Runs setup (opening_machine setup) moves machine
 
--- The same, in order and in time. Each lease is of the first choice at that moment, and with the
--- incumbent of the whole store. Its worker takes the first Opened row of its block again and again.
--- It goes on, or comes back, with a cause.
+-- These moves lead from the machine that has the start's row alone to this one, in order and in
+-- time. Each lease is of the first choice at that moment, and with the incumbent of the whole
+-- store. Its worker takes the first Opened row of its block again and again. It goes on, or comes
+-- back, with a cause.
 abbrev pub LeadsInTime : Setup → List Move → Machine → Type 0
 LeadsInTime setup moves machine = RunsInTime setup (opening_machine setup) moves machine
 
@@ -64,8 +65,8 @@ ComesFromStart parts graph settings works store =
     let guide = guide_of parts graph in
     Comes space guide works (opening_store space guide (weight_of settings)) store
 
--- What an end says of the rows and of the number of expansions that led to them. A quiet end: no row
--- is Opened, and there were no more expansions than the budget allows. The budget's: a row is
+-- What an end says of the rows and of the number of expansions that led to them. A quiet end: no
+-- row is Opened, and there were no more expansions than the budget allows. The budget's: a row is
 -- Opened, and there were exactly as many.
 abbrev pub HasEndedSo : End → Settings → Store → (expanded : ℕ) → Type 0
 HasEndedSo Quiet settings store expanded = (expanded ≤ settings.budget) × IsQuiet store

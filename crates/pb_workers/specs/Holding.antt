@@ -26,8 +26,8 @@ Works task graph old new broken =
     → (after : IsOut (setup_of task graph settings reopenings) machine broken new)
     × (IsInTurns (setup_of task graph settings reopenings) machine 0 old before → IsInTurns (setup_of task graph settings reopenings) machine broken new after)
 
--- The lease is the graph's, which has no end, and its block's noted key is that of an Opened row. At some moment that the graph is, the lease
--- is out and has worked in turns.
+-- The lease is the graph's, which has no end, and its block's noted key is that of an Opened row.
+-- At some moment that the graph is, the lease is out and has worked in turns.
 pub record IsHeld (g : GraphValue) (lease : LeaseValue) : Type 0 where
   pub of_graph : IsOfGraph g lease
   pub no_end : g.table.end ≡ None
@@ -59,7 +59,8 @@ left_with g lease = g.table.left + lease.quota
 abbrev pub opened_blocks : GraphValue → ℕ
 opened_blocks g = count_below (blocks g.table).count (λ block. is_some (key_at g.homes block))
 
--- the search came nearer to its end: it ended, or less is left of the budget, or as much is and fewer blocks have an Opened row
+-- the search came nearer to its end: it ended, or less is left of the budget, or as much is and
+-- fewer blocks have an Opened row
 abbrev pub IsNearer : (old : GraphValue) → LeaseValue → (new : GraphValue) → Type 0
 IsNearer old lease new =
     IsSome new.table.end ⊎ (new.table.left < left_with old lease) ⊎ ((new.table.left ≡ left_with old lease) × (opened_blocks new < opened_blocks old))

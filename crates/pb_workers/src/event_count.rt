@@ -31,7 +31,7 @@ impl EventCount {
         }
     }
 
-    /// The count as it stands.
+    /// The count as it is now.
     pub fn note<W: Wait>(&self, rt: &W) -> u64 {
         *self.count.moves.lock(rt)
     }

@@ -55,15 +55,15 @@ pub record Holds (step : (found left : GraphValue) → Type 0) (events : (found 
   pub moves : RunsSettled (setup_in found) before.yard.machine before.yard.settled (moves_of (events found)) after.yard.machine after.yard.settled
   pub view : new ≡ view_then found.table.journal (events found) lent told old
 
--- The pass first read the incumbent, under the turn: what it read is at most what it had read or told
--- before. `between` is its view then.
+-- The pass first read the incumbent, under the turn: what it read is at most what it had read or
+-- told before. `between` is its view then.
 pub record HasRead (old between : View) : Type 0 where
   pub held : GraphValue
   pub incumbent : Option ℕ
   pub falls : AtMost incumbent old.last
   pub view : between ≡ view_read (Some held) old incumbent
 
--- the same, and then the pass held the graph, with this step and these events
+-- the pass read the incumbent, and then held the graph, with this step and these events
 abbrev pub ReadsAndHolds : (step : (found left : GraphValue) → Type 0) → (events : (found : GraphValue) → List Event) → (old : View) → (lent : Option LeaseValue) → (told : Option ℕ) → (new : View) → Type 0
 ReadsAndHolds step events old lent told new = (between : View) × HasRead old between × Holds step events between lent told new
 
@@ -75,7 +75,8 @@ Leases worker old reply new = ReadsAndHolds (LeasesAs worker reply) (lease_event
 abbrev pub Renews : LeaseValue → (old : View) → Renewed → (new : View) → Type 0
 Renews lease old reply new = ReadsAndHolds (RenewsAs lease reply) (λ found. renewal_events lease reply) old (kept_by reply) None new
 
--- The lease came back, since it might not go on, and in the same holding the pass asked for another, with this answer.
+-- The lease came back, since it might not go on, and in the same holding the pass asked for
+-- another, with this answer.
 abbrev pub GivesAndLeases : LeaseValue → (worker : ℕ) → (old : View) → LeaseReply → (new : View) → Type 0
 GivesAndLeases lease worker old reply new = (between : View) × Renews lease old Given between × Leases worker between reply new
 

@@ -58,6 +58,6 @@ RunsSettled setup old settled (move ∷ moves) new later =
     × GivesWholeIncumbent move settled between × IsTimely setup old move between
     × RunsSettled setup between (settled_after move settled between) moves new later
 
--- the same for a run that begins just after an event
+-- a run in order and in time that begins just after an event
 abbrev pub RunsInTime : Setup → (old : Machine) → List Move → (new : Machine) → Type 0
 RunsInTime setup old moves new = (later : Option ℕ) × RunsSettled setup old old.store.incumbent moves new later

@@ -33,7 +33,7 @@ IsFirstPass yard pass = IsOf yard pass × (worker_of pass ≡ 0) × (parts_of pa
 abbrev pub IsSamePass : Pass → Pass → Type 0
 IsSamePass old new = IsSamePlace old.turn new.turn × (new.worker ≡ old.worker)
 
--- the same, with as many parts
+-- the same pass of the same yard, with as many parts
 abbrev pub KeepsPass : Pass → Pass → Type 0
 KeepsPass old new = IsSamePass old new × (parts_of new ≡ parts_of old)
 

@@ -90,8 +90,8 @@ RivalsAs lease rival old new =
     × ((recorded : (worker : ℕ) → Rows) (machine : Machine) → IsMomentAt old recorded machine → IsRival (blocks old.table) machine.store lease.block rival)
     × (new ≡ old)
 
--- The event is the mark, or the mark that is taken away, and the worker may do so; or it may not,
--- and nothing changes.
+-- The event is the mark, or the mark that is taken away, and the worker may change it. Or the
+-- worker may not, and nothing changes.
 abbrev pub ChangesMarkAs : (may : Type 0) → (worker : ℕ) → Event → (done : Bool) → (old new : GraphValue) → Type 0
 ChangesMarkAs may worker event true old new = may × IsMarked old worker event new × KeepsLeases old (event ∷ []) new
 ChangesMarkAs may worker event false old new = (may → ⊥) × (new ≡ old)

@@ -21,7 +21,8 @@ impl Pass {
         self.seen
     }
 
-    /// The least cost that this pass has read or told as the incumbent; None if it has none. It never rises.
+    /// The least cost that this pass has read or told as the incumbent; None if it has none. It
+    /// never rises.
     pub fn last(&self) -> Option<u64>
         ensures { result ≡ (view_of self.now).last }
     {

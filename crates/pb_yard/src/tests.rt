@@ -1,5 +1,5 @@
-//! A worked row: a worker goes on to another block in one call, which never waits. While another pass
-//! holds the turn nothing is done, and the lease is as it was.
+//! A worked row: a worker goes on to another block in one call, which never waits. While another
+//! pass holds the turn nothing is done, and the lease is as it was.
 ghost use Rattle.std.specs.Prelude.{◌≡◌, ◌+◌, ◌-◌, false, [], None};
 ghost use Rattle.std.specs.Arc.{arc_value};
 ghost use Rattle.pb_model.specs.Store.{HasOpened};

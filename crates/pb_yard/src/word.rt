@@ -40,7 +40,8 @@ fn lesser_of(first: Option<u64>, cost: u64) -> u64
 }
 
 impl Yard {
-    /// Reads the incumbent: the least cost that any worker has found or told. It never waits. A pass never sees it rise.
+    /// Reads the incumbent: the least cost that any worker has found or told. It never waits. A
+    /// pass never sees it rise.
     pub fn glance(&self, pass: &mut Pass) -> Option<u64>
         requires own { IsOf self.now pass.old }
         ensures same { KeepsPass pass.old pass.new }
@@ -54,7 +55,8 @@ impl Yard {
         incumbent
     }
 
-    /// Tells a cost at which the pass's lease reaches a goal: the incumbent becomes the lesser of both. It never waits.
+    /// Tells a cost at which the pass's lease reaches a goal: the incumbent becomes the lesser of
+    /// both. It never waits.
     pub fn lower(&self, pass: &mut Pass, lease: &Lease, cost: u64)
         requires own { IsOf self.now pass.old }
         requires fits { cost < 18446744073709551615 }
@@ -87,7 +89,8 @@ impl Yard {
         self.read_on(turn, held)
     }
 
-    // The same in one try, which never waits: None if this call's own step found the turn held.
+    // Takes the turn and reads the incumbent in one try, which never waits. None if this call's own
+    // step found the turn held.
     pub(crate) fn try_enter_reading(
         &self,
         turn: &mut pb_turn::Pass<YardRule>,
