@@ -29,7 +29,7 @@ ShownRowsCanBeTraced =
     (space : Space) (guide : Guide) (rows : Rows) (weight : Weight) (incumbent : Option ℕ) (cost : ℕ) → IsSound space guide (store_with rows weight incumbent)
     → IsShown space guide (store_with rows weight incumbent) → incumbent ≡ Some cost → IsSoundAt space guide.home rows weight × HasGoal space rows
 
--- In a sound store each row stands at the home of its state.
+-- In a sound store each row is at the home of its state.
 abbrev pub SoundRowsArePlaced : Type 0
 SoundRowsArePlaced =
     (space : Space) (guide : Guide) (store : Store) → IsSound space guide store

@@ -1,4 +1,4 @@
--- The line of a row by the place where the row stands.
+-- The line of a row by the row's place.
 use Rattle.std.specs.Prelude.{◌≡◌, ℕ, false, Option, None, Some, List, length, slice_get}
 use Rattle.std.specs.Borrow.{Bor}
 use Rattle.pb_model.specs.declared.row.Row.{Row}
@@ -7,7 +7,7 @@ use Rattle.pb_model.specs.Certificate.{Line, line_of}
 use Rattle.pb_lists.specs.Bundle.{Content, row_of}
 use Rattle.pb_cert.specs.declared.rows.Place.{Place}
 
--- the line of a row that stands in a bundle with its state
+-- the line of a row that is in a bundle with its state
 abbrev pub entry_line : ℕ × Row → Line
 entry_line entry = line_of entry.0 entry.1
 

@@ -1,4 +1,4 @@
--- What contracts see of a store whose rows lie in several parts, and what they ask of it.
+-- What contracts see of a store whose rows are in several parts, and what they ask of it.
 use Rattle.std.specs.Prelude.{◌≡◌, ℕ, ◌≤◌, Option, None, Some}
 use Rattle.pb_model.specs.declared.row.Estimate.{Estimate}
 use Rattle.pb_model.specs.declared.row.Estimate.TheVariants.{Cost}
@@ -26,7 +26,7 @@ guide_to homes = guide_with (λ state. Cost 0) homes
 abbrev pub rows_at_home : (homes : ℕ → ℕ) → Rows → Part
 rows_at_home homes rows state = rows (homes state) state
 
--- each row stands in the part that is its state's home
+-- each row is in the part that is its state's home
 abbrev pub IsPlaced : (homes : ℕ → ℕ) → Rows → Type 0
 IsPlaced homes rows = (home state : ℕ) (row : Row) → rows home state ≡ Some row → home ≡ homes state
 

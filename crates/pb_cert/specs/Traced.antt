@@ -11,7 +11,8 @@ use Rattle.pb_cert.specs.declared.goal.Goal.{Goal}
 abbrev pub HasGoal : Space → Rows → Type 0
 HasGoal space rows = (home : ℕ) × (goal : ℕ) × (row : Row) × (rows home goal ≡ Some row) × IsTrue (space.is_goal goal)
 
--- the one goal comes no later than the other state: its g is less, or it is the same and the goal is no greater
+-- the one goal comes no later than the other state: its g is less, or it is the same and the goal
+-- is no greater
 abbrev pub IsNoLater : (goal_g goal g state : ℕ) → Type 0
 IsNoLater goal_g goal g state = (goal_g < g) ⊎ ((goal_g ≡ g) × (goal ≤ state))
 
@@ -51,7 +52,8 @@ abbrev pub g_at : Option Row → ℕ
 g_at None = 0
 g_at (Some row) = row.g
 
--- The last step on the way to a state: its row has this action, and this parent, whose row is cheaper by the step's cost or more.
+-- The last step on the way to a state: its row has this action, and this parent, whose row is
+-- cheaper by the step's cost or more.
 pub record IsLastStep (space : Space) (part : Part) (state action parent cost : ℕ) : Type 0 where
   pub row : Row
   pub found : part state ≡ Some row

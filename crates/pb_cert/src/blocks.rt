@@ -12,7 +12,8 @@ use pb_lists::Bundle;
 use pb_packed::Packed;
 use pb_task::Task;
 
-/// A graph that gives out leases is a store of a part for each block of its abstract graph. It can be read while no lease is out.
+/// A graph that gives out leases is a store of a part for each block of its abstract graph. It can
+/// be read while no lease is out.
 impl Store for LeaseGraph {
     ghost parts = { λ g. (blocks g.table).count };
 

@@ -29,8 +29,8 @@ impl Model for Line {
     ghost view = { λ l. record { state = l.state; g = l.g; is_closed = l.is_closed } };
 }
 
-/// A certificate of optimality, with the kind of its task. It borrows the rows of the store that it is of. Contracts see that kind
-/// and the model's certificate.
+/// A certificate of optimality, with the kind of its task. It borrows the rows of the store that it
+/// is of. Contracts see that kind and the model's certificate.
 #[derive(Drop)]
 pub struct Certificate<'a> {
     pub(crate) kind: &'static str,
@@ -73,7 +73,8 @@ impl<'a> Certificate<'a> {
         ensures plan { IfOk result (λ c. c.certificate.plan ≡ plan) }
         ensures count { IfOk result (λ c. length c.certificate.lines < 2 ^ 63) }
         ensures lines { IfOk result (λ c. (guide : Guide) → IsPlaced guide.home (S.rows store.now) → AreLinesOf guide (S.rows store.now) c.certificate.lines) }
-        // The same with what a search knows of its store.
+        // For a sound store, whatever its incumbent is. The certificate is valid if the store is
+        // also quiet, and the plan is one of the space and backs the incumbent.
         ensures rows { IfOk result (λ c. (space : Space) (guide : Guide) (incumbent : Option ℕ)
             → IsSound space guide (store_with (S.rows store.now) (S.weight store.now) incumbent)
             → AreLinesOf guide (S.rows store.now) c.certificate.lines) }

@@ -1,7 +1,9 @@
-//! What the rows of a search by leases are once all of them are at home. Each law is the contract of a function without a body.
+//! What the rows of a search by leases are once all of them are at home. Each law is the contract
+//! of a function without a body.
 ghost use Rattle.pb_cert.specs.Laws.{HomeRowsAreWhole, ShownRowsCanBeTraced, SoundRowsArePlaced, LinesAreUnique};
 
-/// With no lease out, the store of the rows at home is that of each moment of the search that the graph is.
+/// With no lease out, the store of the rows at home is that of each moment of the search that the
+/// graph is.
 pub fn home_rows_are_whole()
     ensures { HomeRowsAreWhole }
 {}
@@ -11,7 +13,7 @@ pub fn shown_rows_can_be_traced()
     ensures { ShownRowsCanBeTraced }
 {}
 
-/// In a sound store each row stands at the home of its state.
+/// In a sound store each row is at the home of its state.
 pub fn sound_rows_are_placed()
     ensures { SoundRowsArePlaced }
 {}

@@ -18,8 +18,8 @@ use pb_model::{Row, Status};
 use pb_packed::Packed;
 use std::alloc::{AllocError, Global};
 
-/// Where a row stands: the number of its part, and how many of that part's states got a row before
-/// its own did.
+/// Where a row is: the number of its part, and how many of that part's states got a row before its
+/// own did.
 #[derive(Clone, Copy)]
 pub(crate) struct Place {
     pub(crate) part: u32,
@@ -107,7 +107,7 @@ pub(crate) fn parts_of<'a, S: Store>(
     Ok(parts)
 }
 
-/// The places of all rows, by state. The places of each part are sorted and stand one part after
+/// The places of all rows, by state. The places of each part are sorted, and listed one part after
 /// the other. The last sort is std's, which keeps sorted pieces and merges them.
 pub(crate) fn places_for(alloc: Global, parts: &[&Bundle]) -> Result<Vec<Place>, AllocError>
     requires few { length parts.now < 2 ^ 32 }

@@ -106,8 +106,8 @@ impl Certificate<'_> {
         Ok(())
     }
 
-    /// Saves the certificate's text as the file of this name, in pieces of whole lines, each of at most 4,096 bytes. It takes no
-    /// memory. An error is a fault of the shelf.
+    /// Saves the certificate's text as the file of this name, in pieces of whole lines, each of at
+    /// most 4,096 bytes. It takes no memory. An error is a fault of the shelf.
     pub fn write_to<H: Shelf>(&self, shelf: &mut H, name: &str) -> Result<(), Failed>
         ensures ok { OnOk result (IfTold (H.files shelf.old) (H.files shelf.new) (λ old new. new name.now ≡ Some (text_of self.now))) }
         ensures err { OnErr result (IfTold (H.files shelf.old) (H.files shelf.new) (λ old new. IsPartSaved old new name.now (text_of self.now))) }

@@ -1,4 +1,4 @@
-//! Where the rows of a search lie.
+//! Where the rows of a search are.
 ghost use Rattle.std.specs.Prelude.{◌≡◌, ◌<◌, ℕ, IsTrue, ⊤};
 ghost use Rattle.pb_model.specs.Store.{Rows};
 ghost use Rattle.pb_model.specs.Weight.{Weight};
@@ -21,7 +21,7 @@ pub trait Store {
     /// The rows of each part, by its number and by state.
     ghost rows: { Self → Rows };
 
-    /// The home of each state of a task: the number of the part in which its row stands, if it has one.
+    /// The home of each state of a task: the number of the part that has its row, if it has one.
     ghost home: { Self → TaskParts → ℕ → ℕ };
 
     /// The weight of the search.
@@ -44,7 +44,7 @@ pub trait Store {
         requires below { i < parts self.now }
         ensures rows { (state : ℕ) → row_of result.now state ≡ rows self.now i state };
 
-    /// The number of the part in which the row of this state stands, if it has one.
+    /// The number of the part that has the row of this state, if it has one.
     fn home(&self, task: &Task, state: &Packed) -> u32
         requires of_task { is_of self.now task.now }
         requires is_state { IsTrue ((space_of task.now).is_state state.now) }

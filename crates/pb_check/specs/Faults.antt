@@ -1,4 +1,5 @@
--- Definitions that end with a fault, one step after another, and what a function that follows them returns.
+-- Definitions that end with a fault, one step after another, and what a function that follows them
+-- returns.
 use Rattle.std.specs.Prelude.{◌≡◌, ℕ, Option, None, Some, Result, Ok, Err, ⊤}
 use Rattle.pb_check.specs.declared.fault.CertificateFault.{CertificateFault}
 use Rattle.pb_check.specs.declared.fault.CertificateFault.TheVariants.{Syntax}

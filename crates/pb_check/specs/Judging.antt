@@ -1,4 +1,5 @@
--- The first fault of a certificate that is spelled, in the stated order. Each row is judged by itself against all rows.
+-- The first fault of a certificate that is spelled, in the stated order. Each row is judged by
+-- itself against all rows.
 use Rattle.std.specs.Prelude.{ℕ, zero, suc, ◌+◌, ◌-◌, ◌*◌, ◌/◌, Bool, true, false, Option, None, Some, List, [], ◌∷◌, Result, Ok, Err, if◌then◌else◌, nat_lt, nat_le, ◌==◌, ◌&&◌, ◌<◌, ⊤}
 use Rattle.pb_model.specs.declared.row.Estimate.{Estimate}
 use Rattle.pb_model.specs.declared.row.Estimate.TheVariants.{Cost, Dead}

@@ -1,4 +1,5 @@
--- The kinds of tasks, as certificates name them. A further kind of task is one case more of `kind_of`.
+-- The kinds of tasks, as certificates name them. A further kind of task is one case more of
+-- `kind_of`.
 use Rattle.std.specs.Prelude.{ℕ, List, codes}
 use Rattle.pb_task.specs.declared.parts.TaskParts.{TaskParts}
 use Rattle.pb_task.specs.declared.parts.TaskParts.TheVariants as parts

@@ -1,4 +1,5 @@
--- Reading a certificate from its first byte to its last, with the first line that is not spelled as it must be.
+-- Reading a certificate from its first byte to its last, with the first line that is not spelled as
+-- it must be.
 use Rattle.std.specs.Prelude.{ℕ, zero, suc, ◌+◌, Bool, true, false, Option, None, Some, List, [], ◌∷◌, length, Result, Ok, Err, if◌then◌else◌, ◌==◌, codes}
 use Rattle.pb_model.specs.Weight.{Weight}
 use Rattle.pb_model.specs.Plan.{Plan}

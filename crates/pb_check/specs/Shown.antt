@@ -30,12 +30,14 @@ pub record ShowsClaim (space : Space) (kind : TaskKind) (bytes : List ℕ) (verd
   pub claim : ClaimHolds space certificate.weight certificate.plan
   pub verdict_is : verdict ≡ verdict_of certificate.weight certificate.plan
 
--- what a verdict says of a space: a plan has the cost, and each plan costs at least the bound; or there is no plan
+-- what a verdict says of a space: a plan has the cost, and each plan costs at least the bound; or
+-- there is no plan
 abbrev pub VerdictHolds : Space → Verdict → Type 0
 VerdictHolds space Unsolvable = HasNoPlan space
 VerdictHolds space (Bounded cost bound) = ((plan : Plan) × IsPlan space plan × (plan.cost ≡ cost)) × ((plan : Plan) → IsPlan space plan → bound ≤ plan.cost)
 
--- The bound of a verdict is the least whole number that is no less than the cost divided by the weight.
+-- The bound of a verdict is the least whole number that is no less than the cost divided by the
+-- weight.
 abbrev pub BoundsAreLeast : Type 0
 BoundsAreLeast = (weight : Weight) (cost : ℕ) → IsWeight weight → IsBound weight cost (bound_of weight cost)
 
@@ -43,8 +45,8 @@ BoundsAreLeast = (weight : Weight) (cost : ℕ) → IsWeight weight → IsBound 
 abbrev pub IsCutOff : List ℕ → Type 0
 IsCutOff bytes = (stated : TaskKind) × (certificate : Certificate) × (rest : List ℕ) × IsSpelled (bytes ++ rest) stated certificate × (rest ≢ [])
 
--- A certificate that is cut off is refused as misspelled, in the line that it ends in, whatever the task is. The line is 1
--- plus the number of line feeds in what is left.
+-- A certificate that is cut off is refused as misspelled, in the line that it ends in, whatever the
+-- task is. The line is 1 plus the number of line feeds in what is left.
 abbrev pub CutCertificatesAreRefused : Type 0
 CutCertificatesAreRefused =
     (space : Space) (estimate : ℕ → Estimate) (kind : TaskKind) (bytes : List ℕ) → IsCutOff bytes

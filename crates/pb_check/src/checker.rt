@@ -62,7 +62,8 @@ pub fn check(
     ensures valid { IfOk result (λ verdict. IsAccepted (space_of task.now) (estimate_of task.now) (kind_of task.now) bytes.now verdict) }
     // What spells a valid certificate of the task's kind is accepted, unless memory ran out.
     ensures only { (verdict : Verdict) → IsAccepted (space_of task.now) (estimate_of task.now) (kind_of task.now) bytes.now verdict → Gives (λ x. x) result (Ok verdict) }
-    // What is accepted shows that no plan costs less than the plan's cost divided by the weight, or that there is none.
+    // What is accepted shows that no plan costs less than the plan's cost divided by the weight, or
+    // that there is none.
     ensures claim { IfOk result (λ verdict. ShowsClaim (space_of task.now) (kind_of task.now) bytes.now verdict) }
     // So what the verdict says is true of the task.
     ensures holds { IfOk result (λ verdict. VerdictHolds (space_of task.now) verdict) }

@@ -7,11 +7,13 @@ use std::alloc::{AllocError, AllocFailed};
 /// reported, and of one name the first row or action. Lines are counted from 1.
 #[derive(Clone, Copy, Debug, PartialEq, Eq)]
 pub enum CertificateFault {
-    /// The first line that is not spelled as a certificate's; a line that is missing is the one after the last.
+    /// The first line that is not spelled as a certificate's; a line that is missing is the one
+    /// after the last.
     Syntax { line: u64 },
     /// It is for a task of another kind.
     Kind,
-    /// The weight is not a fraction from 1 to 1000 whose denominator is at least 1 and whose numerator is at most 1000.
+    /// The weight is not a fraction from 1 to 1000 whose denominator is at least 1 and whose
+    /// numerator is at most 1000.
     Weight,
     /// The plan's step at place `i`, counted from 0, is by an action that is not applicable there.
     PlanStep { i: u64 },
@@ -29,9 +31,11 @@ pub enum CertificateFault {
     GoalClosed { line: u64 },
     /// The row is closed, and the state that the action leads to from it has no row.
     Missing { line: u64, action: u32 },
-    /// The row is closed, and the row of the state that the action leads to from it has a greater g than the step gives.
+    /// The row is closed, and the row of the state that the action leads to from it has a greater g
+    /// than the step gives.
     TooDear { line: u64, action: u32 },
-    /// The row is cut, and a plan through its state could be cheaper than the plan's cost divided by the weight.
+    /// The row is cut, and a plan through its state could be cheaper than the plan's cost divided
+    /// by the weight.
     Low { line: u64 },
 }
 
@@ -47,8 +51,9 @@ pub enum CheckError {
 /// What a valid certificate shows of its task.
 #[derive(Clone, Copy, Debug, PartialEq, Eq)]
 pub enum Verdict {
-    /// Some plan has this cost, and no plan costs less than the bound: the least whole number that is no less than the cost
-    /// divided by the weight. Both are in the unit of the task's action costs.
+    /// Some plan has this cost, and no plan costs less than the bound: the least whole number that
+    /// is no less than the cost divided by the weight. Both are in the unit of the task's action
+    /// costs.
     Bounded { cost: u64, bound: u64 },
     /// No plan exists.
     Unsolvable,

@@ -1,6 +1,8 @@
-//! The certificate checker: whether bytes spell a certificate that is valid for a task, or else their first fault.
+//! The certificate checker: whether bytes spell a certificate that is valid for a task, or else
+//! their first fault.
 //!
-//! It trusts no planner: it reads the text, walks the plan and recomputes the successors of every closed row.
+//! It trusts no planner: it reads the text, walks the plan and recomputes the successors of every
+//! closed row.
 #![tactic(auto)]
 
 mod checker;

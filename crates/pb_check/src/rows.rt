@@ -20,8 +20,8 @@ impl Model for StatedRow {
     ghost view = { λ r. record { state = r.state; g = r.g; is_closed = r.is_closed } };
 }
 
-/// The rows of a certificate, in the order of the text. The states, the costs and the statuses
-/// stand in an array each. Contracts see the list of the rows.
+/// The rows of a certificate, in the order of the text. The states, the costs and the statuses are
+/// in an array each. Contracts see the list of the rows.
 #[derive(Debug, Drop)]
 pub struct StatedRows {
     pub(crate) states: Vec<Packed>,
@@ -62,8 +62,9 @@ impl StatedRows {
         }
     }
 
-    /// The g of the row of a state. The place `near` is looked at first; if the state isn't there, a
-    /// binary search finds it, since the rows rise. If it has a row, `near` is the place after it.
+    /// The g of the row of a state. The place `near` is looked at first; if the state isn't there,
+    /// a binary search finds it, since the rows rise. If it has a row, `near` is the place after
+    /// it.
     pub fn g_of(&self, state: &Packed, near: &mut usize) -> Option<u64>
         requires { Rise self.now }
         ensures { result ≡ g_of self.now state.now }

@@ -47,13 +47,15 @@ abbrev pub IsFault : {Y : Type 0} → JournalError → (given : Result Y Fault) 
 IsFault errors.Memory given memory = memory
 IsFault (errors.At line why) given memory = given ≡ fault_at line why
 
--- the same of a function that reports errors; it never runs out of memory
+-- what a function that reports errors returned, seen by `view`, is what is given; the function
+-- never runs out of memory
 abbrev pub Answers : {X Y : Type 0} → (view : X → Y) → Result X JournalError
     → (given : Result Y Fault) → Type 0
 Answers view (Ok x) given = given ≡ Ok (view x)
 Answers view (Err e) given = IsFault e given ⊥
 
--- the same, unless memory ran out
+-- what a function that reports errors returned, seen by `view`, is what is given, unless memory ran
+-- out
 abbrev pub Gives : {X Y : Type 0} → (view : X → Y) → Result X JournalError
     → (given : Result Y Fault) → Type 0
 Gives view (Ok x) given = given ≡ Ok (view x)

@@ -35,7 +35,7 @@ unfoldable pub lines_in : List ℕ → List (List ℕ)
 lines_in [] = []
 lines_in (b ∷ bs) = if b == 10 then [] ∷ lines_in bs else with_first b (lines_in bs)
 
--- what stands after the last of them
+-- what follows the last of these lines
 unfoldable pub tail_in : List ℕ → List ℕ
 tail_in [] = []
 tail_in (b ∷ bs) = if list_any (λ c. c == 10) (b ∷ bs) then tail_in bs else b ∷ bs

@@ -10,7 +10,7 @@ use std::alloc::AllocError;
 /// order that the formats state decides.
 #[derive(Clone, Copy, Debug, PartialEq, Eq)]
 pub enum Why {
-    /// The line is not spelled as a line that may stand there, or the text ends within it.
+    /// The line is not spelled as a line at that place must be, or the text ends within it.
     Spelling,
     /// A number of the header is out of the range that the planner takes.
     Settings,

@@ -23,8 +23,8 @@ pub fn refused_lines_are_first()
 {}
 
 /// A journal that is cut off is refused in the line that it ends in: each beginning of an accepted
-/// journal but the whole. The line is 1 plus the number of line feeds in what is left. The reason is
-/// that the text is short, if it ends after a whole line, and else that the line is misspelled.
+/// journal but the whole. The line is 1 plus the number of line feeds in what is left. The reason
+/// is that the text is short, if it ends after a whole line, and else that the line is misspelled.
 pub fn cut_journals_are_refused()
     ensures { CutJournalsAreRefused }
 {}

@@ -81,7 +81,7 @@ pub fn fixed_at<'a>(line: u64, text: &'a [u8], piece: &[u8]) -> Result<&'a [u8],
     }
 }
 
-/// The number that stands after the piece in a line, in this range, and the text after the line.
+/// The number that follows the piece in a line, in this range, and the text after the line.
 #[tactic(auto, unfolding(crate::specs::Reading::number_at))]
 pub fn number_at<'a>(
     line: u64,

@@ -1,4 +1,5 @@
--- The domain of the blocks world in PDDL, with four operators (Slaney and Thiébaux, "Blocks World revisited", 2001).
+-- The domain of the blocks world in PDDL, with four operators (Slaney and Thiébaux, "Blocks World
+-- revisited", 2001).
 use Rattle.std.specs.Prelude.{ℕ, List, [], ◌∷◌, codes}
 use Rattle.pb_make.specs.Lines.{lines}
 

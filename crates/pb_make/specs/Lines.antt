@@ -10,7 +10,7 @@ abbrev pub lines : List (List ℕ) → List ℕ
 lines [] = []
 lines (text ∷ texts) = line text ++ lines texts
 
--- the first rows of cells that stand row by row, each as long as the rectangle is wide
+-- the first rows of cells that are listed row by row, each as long as the rectangle is wide
 abbrev pub rows_of : (rows width : ℕ) → (cells : List ℕ) → List (List ℕ)
 rows_of zero width cells = []
 rows_of (suc rows) width cells = take width cells ∷ rows_of rows width (drop width cells)

@@ -25,7 +25,8 @@ map_header side = lines (codes "type octile" ∷ (codes "height " ++ decimal sid
 abbrev pub map_text : (seed side : ℕ) → List ℕ
 map_text seed side = map_header side ++ lines (rows_of side side (map_cells seed side))
 
--- bucket 0, the map's name, its width and height, the start's column and row, the goal's column and row, and 0 for the length, with tabs
+-- bucket 0, the map's name, its width and height, the start's column and row, the goal's column and
+-- row, and 0 for the length, with tabs
 abbrev pub scenario_row : (side : ℕ) → List ℕ
 scenario_row side =
     join_with_byte 9 (codes "0" ∷ codes "made" ∷ decimal side ∷ decimal side ∷ codes "0" ∷ codes "0" ∷ decimal (side - 1) ∷ decimal (side - 1) ∷ codes "0" ∷ [])

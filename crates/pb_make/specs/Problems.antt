@@ -1,5 +1,5 @@
--- A problem of the blocks world in PDDL: all blocks on the table, and drawn ones of them wanted each on the block before. Each piece ends
--- with the space that parts it from the next.
+-- A problem of the blocks world in PDDL: all blocks are on the table, and drawn ones are each
+-- wanted on the block before. Each piece ends with a space, before the next piece.
 use Rattle.std.specs.Prelude.{ℕ, zero, suc, ◌+◌, ◌-◌, ◌%◌, ◌==◌, List, [], ◌∷◌, ◌++◌, codes, if◌then◌else◌}
 use Rattle.std.specs.Fmt.{decimal}
 use Rattle.pb_make.specs.Draws.{draws}
@@ -25,7 +25,8 @@ abbrev pub facts_from : (block count : ℕ) → List ℕ
 facts_from block zero = []
 facts_from block (suc count) = facts_of block ++ facts_from (block + 1) count
 
--- the atom of the goal that a draw makes: the block above this one is wanted on it if the draw is even
+-- the atom of the goal that a draw makes: the block above this one is wanted on it if the draw is
+-- even
 abbrev pub goal_atom : (block draw : ℕ) → List ℕ
 goal_atom block draw =
     if draw % 2 == 0 then codes "( on " ++ (block_name (block + 1) ++ (codes " " ++ (block_name block ++ codes " ) "))) else []

@@ -4,8 +4,8 @@ ghost use Rattle.pb_make.specs.Boards.{blank_of, board_text, cell_beside, made_b
 use crate::draws::Generator;
 use std::alloc::{AllocError, Global};
 
-/// The text of a board of 3 by 3 after so many drawn moves of the blank from the goal. A move over the edge does
-/// nothing. An error is out of memory.
+/// The text of a board of 3 by 3 after so many drawn moves of the blank from the goal. A move over
+/// the edge does nothing. An error is out of memory.
 pub fn make_tiles(alloc: Global, seed: u32, moves: u32) -> Result<Vec<u8>, AllocError>
     requires { moves ≤ 1000000 }
     ensures { IfOk result (λ text. text.items ≡ tiles_text seed moves) }

@@ -1,7 +1,8 @@
 ghost use Rattle.std.specs.Prelude.{◌≡◌};
 ghost use Rattle.pb_make.specs.Domain.{domain_text};
 
-/// The text of the domain of the blocks world, with the operators `pick-up`, `put-down`, `stack` and `unstack`.
+/// The text of the domain of the blocks world, with the operators `pick-up`, `put-down`, `stack`
+/// and `unstack`.
 pub fn blocks_domain() -> &'static [u8]
     ensures { result.now ≡ domain_text }
 {

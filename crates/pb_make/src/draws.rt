@@ -20,7 +20,8 @@ impl Generator {
         }
     }
 
-    // The next draw: the upper half of the number that the generator then holds. The lower half repeats itself sooner.
+    // The next draw: the upper half of the number that the generator then holds. The lower half
+    // repeats itself sooner.
     pub(crate) fn draw(&mut self) -> u32
         ensures draw { result ≡ draw_from self.old.number }
         ensures after { self.new.number ≡ next_number self.old.number }

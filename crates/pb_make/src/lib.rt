@@ -1,4 +1,5 @@
-//! Tasks from a seed and a size: the texts of a map and its scenario, of a board of tiles, and of a problem of blocks.
+//! Tasks from a seed and a size: the texts of a map and its scenario, of a board of tiles, and of a
+//! problem of blocks.
 #![tactic(auto)]
 
 mod boards;

@@ -6,8 +6,8 @@ ghost use Rattle.pb_make.specs.Maps.{cell, map_cells, map_header, map_text, scen
 use crate::draws::Generator;
 use std::alloc::{AllocError, Global};
 
-/// The text of a square map with so many cells on each side. A quarter of the cells is blocked, but never the first
-/// and the last. An error is out of memory.
+/// The text of a square map with so many cells on each side. A quarter of the cells is blocked, but
+/// never the first and the last. An error is out of memory.
 pub fn make_map(alloc: Global, seed: u32, side: u32) -> Result<Vec<u8>, AllocError>
     requires some { 1 ≤ side }
     requires most { side ≤ 2048 }
@@ -19,7 +19,8 @@ pub fn make_map(alloc: Global, seed: u32, side: u32) -> Result<Vec<u8>, AllocErr
     Ok(text)
 }
 
-/// The text of a scenario for a map of this side: its one row goes from the first cell to the last. An error is out of memory.
+/// The text of a scenario for a map of this side: its one row goes from the first cell to the last.
+/// An error is out of memory.
 pub fn make_scen(alloc: Global, side: u32) -> Result<Vec<u8>, AllocError>
     requires some { 1 ≤ side }
     requires most { side ≤ 2048 }

@@ -5,8 +5,8 @@ ghost use Rattle.pb_make.specs.Problems.{facts_from, facts_of, goal_atom, goal_f
 use crate::draws::Generator;
 use std::alloc::{AllocError, Global};
 
-/// The text of a problem of so many blocks, all of them on the table. About half of them are wanted each on the block
-/// before. Its domain is `blocks_domain`. An error is out of memory.
+/// The text of a problem of so many blocks, all of them on the table. About half of them are wanted
+/// each on the block before. Its domain is `blocks_domain`. An error is out of memory.
 pub fn make_problem(alloc: Global, seed: u32, blocks: u32) -> Result<Vec<u8>, AllocError>
     requires some { 1 ≤ blocks }
     requires most { blocks ≤ 14 }

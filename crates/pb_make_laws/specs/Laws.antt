@@ -12,7 +12,8 @@ use Rattle.pb_make.specs.Maps.{map_text, scenario_text}
 use Rattle.pb_make.specs.Problems.{problem_text}
 use Rattle.pb_make_laws.specs.Made.{made_grid, made_tiles}
 
--- The texts of a made map and of its scenario spell the made grid, in the scenario's first row and without swamp.
+-- The texts of a made map and of its scenario spell the made grid, in the scenario's first row and
+-- without swamp.
 abbrev pub MadeMapsAreSpelled : Type 0
 MadeMapsAreSpelled = (seed side : ℕ) → 1 ≤ side → side ≤ 2048 → SpellsGrid (map_text seed side) (scenario_text side) 0 false (made_grid seed side)
 

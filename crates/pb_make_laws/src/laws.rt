@@ -1,6 +1,7 @@
 ghost use Rattle.pb_make_laws.specs.Laws.{BlocksDomainIsRead, MadeBoardsAreSpelled, MadeMapsAreSpelled, MadeProblemsAreTasks};
 
-/// The texts of a made map and its scenario spell a grid: the drawn cells, from the first to the last.
+/// The texts of a made map and its scenario spell a grid: the drawn cells, from the first to the
+/// last.
 pub fn made_maps_are_spelled()
     ensures { MadeMapsAreSpelled }
 {}
