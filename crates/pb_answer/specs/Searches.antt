@@ -1,5 +1,5 @@
--- What the words ask a search to be run with. What it means that a search came to an end stands in
--- `Searches` of `pb_made`, and what it found then in `Found` there.
+-- What the words ask a search to be run with. What it means that a search came to an end is in
+-- `Searches` of `pb_made`; what the search found is in `Found` there.
 use Rattle.pb_model.specs.Weight.{Weight}
 use Rattle.pb_machine.specs.declared.settings.Settings.{Settings}
 use Rattle.pb_machine.specs.Settings.{weight_of}

@@ -85,7 +85,7 @@ abbrev pub SaveAll : List Call → List Output → Type 0
 SaveAll calls [] = calls ≡ []
 SaveAll calls (first ∷ outputs) = (own : List Call) × (rest : List Call) × (calls ≡ own ++ rest) × SaveText own first.name first.text × SaveAll rest outputs
 
--- the same up to a call that failed, which is the last
+-- the calls save some of these files, up to a call that failed, which is the last
 abbrev pub FailToSaveAll : List Call → List Output → Type 0
 FailToSaveAll calls [] = ⊥
 FailToSaveAll calls (first ∷ outputs) =

@@ -73,7 +73,7 @@ Hands said NotSaved shelf shelf' sink sink' written written' =
 Hands said NotPrinted shelf shelf' sink sink' written written' =
     Saved shelf shelf' said.outputs × NotesPutFailed sink sink' written written' said.report
 
--- the same of the files that the shelf reports
+-- how an answer was handed out, with what that means for the files that the shelf reports
 abbrev pub HandsTold : Said → Ending → Option Files → Option Files → Type 0
 HandsTold said Done files files' = IfTold files files' (SavesIn said.outputs)
 HandsTold said NotSaved files files' = IfTold files files' (SavesPartIn said.outputs)

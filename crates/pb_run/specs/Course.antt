@@ -8,7 +8,8 @@ use Rattle.pb_run.specs.Asked.{files_of}
 use Rattle.pb_run.specs.Calls.{loaded_texts, outputs_in, put_bytes, calls_since, load_calls, EndLoads, SaveAll, FailToSaveAll}
 use Rattle.pb_answer.specs.Answer.{Said, AnswersReading}
 
--- Memory ran out before any file was begun: with some of the loads, and at most one that failed otherwise than by a fault.
+-- Memory ran out before any file was begun. Some of the loads were done, and at most one failed,
+-- not by a fault.
 pub record RunsOut (reading : Reading) (status : ℕ) (shelf sink : List Call) : Type 0 where
   pub texts : List (List ℕ)
   pub unloaded : Option Load
@@ -74,7 +75,7 @@ abbrev pub ran_by : (status : ℕ) → (shelf sink : List Call) → Ran
 ran_by status shelf sink =
     record { texts = loaded_texts shelf; said = record { status = status; report = put_bytes sink; outputs = outputs_in shelf } }
 
--- the same of the calls that were made since
+-- the texts and what was said, by the calls that were made since
 abbrev pub ran : (status : ℕ) → (shelf shelf' sink sink' : List Call) → Ran
 ran status shelf shelf' sink sink' = ran_by status (calls_since shelf shelf') (calls_since sink sink')
 

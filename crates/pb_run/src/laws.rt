@@ -25,8 +25,8 @@ pub fn saved_journals_are_accepted()
     blocks_ask_for_no_costs();
 }
 
-/// The same of certificates by the words of both calls: `solve ..` with `--cert NAME`, and the
-/// matching `check ..`, whatever the order of their options.
+/// Saved certificates are accepted, by the words of both calls: `solve ..` with `--cert NAME`, and
+/// the matching `check ..`, whatever the order of their options.
 pub fn certificates_are_accepted_by_words()
     ensures { CertificatesAreAcceptedByWords }
 {
@@ -34,8 +34,8 @@ pub fn certificates_are_accepted_by_words()
     check_reads_options();
 }
 
-/// The same of journals by the words of both calls: `solve ..` with `--trace NAME`, and the matching
-/// `journal ..`, whatever the order of their options.
+/// Saved journals are accepted, by the words of both calls: `solve ..` with `--trace NAME`, and the
+/// matching `journal ..`, whatever the order of their options.
 pub fn journals_are_accepted_by_words()
     ensures { JournalsAreAcceptedByWords }
 {
