@@ -32,8 +32,7 @@ const LINES: [&str; 22] = [
     "off 0 ok",
 ];
 
-// The lines that stand in place of a line, parted by slashes: those of the first change that names
-// it.
+// The lines in place of a line, parted by slashes: those of the first change that names it.
 fn in_place_of<'a>(number: usize, line: &'a str, changes: &[(usize, &'a str)]) -> &'a str {
     for change in changes {
         if change.0 == number {
@@ -113,7 +112,7 @@ fn a_changed_journal_is_refused_at_its_first_fault(rt: HostRuntime) {
     }
 }
 
-// Each line stands in place of the one with its number, and is refused as it is spelled or for a
+// Each line comes in place of the one with its number, and is refused for its spelling or for a
 // number out of range.
 #[test]
 fn a_line_is_read_exactly(rt: HostRuntime) {

@@ -2,7 +2,7 @@
 use crate::bench::Failing;
 use crate::texts::number_or;
 
-// What a line says. Bytes stand in the lines below it.
+// What a line says. Its bytes are in the lines below it.
 #[derive(Clone, Copy)]
 pub(crate) enum Directive<'a> {
     Given(Given<'a>),

@@ -5,7 +5,7 @@ use std::alloc::Global;
 // How much is shown of what was found.
 const SHOWN: usize = 1_000;
 
-// The differences, a line each, and the number of the line in hand.
+// The differences, a line each, and the number of the current line.
 #[derive(Drop)]
 pub(crate) struct Notes {
     alloc: Global,
@@ -22,7 +22,7 @@ impl Notes {
         }
     }
 
-    // The line of this number is in hand.
+    // The line of this number becomes the current one.
     pub(crate) fn come_to(&mut self, at: u64) {
         self.at = at;
     }
@@ -36,7 +36,7 @@ impl Notes {
         Ok(())
     }
 
-    // Notes that something is otherwise, if it is.
+    // Notes a difference unless this holds.
     pub(crate) fn expect(&mut self, holds: bool, what: &str, found: &[u8]) -> Result<(), Memory> {
         if holds { Ok(()) } else { self.add(what, found) }
     }

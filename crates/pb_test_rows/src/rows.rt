@@ -11,14 +11,14 @@ use std::alloc::Global;
 use std::sync::Wait;
 use std::thread::Threads;
 
-/// How many rows a text has, and what was otherwise than they say, a line each.
+/// How many rows a text has, and what differs from them, a line each.
 #[derive(Drop)]
 pub struct Tally {
     pub rows: u64,
     pub differences: String,
 }
 
-// The row in hand, and its last run.
+// The current row, and its last run.
 #[derive(Drop)]
 struct Row {
     files: Vec<Text>,

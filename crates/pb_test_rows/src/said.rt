@@ -66,7 +66,7 @@ fn expect_status(notes: &mut Notes, alloc: Global, found: u8, number: u64) -> Re
     notes.expect(same, "status", text.as_bytes())
 }
 
-// Notes what is otherwise than is said.
+// Notes what differs from what is said.
 pub(crate) fn expect_said(
     notes: &mut Notes,
     alloc: Global,
