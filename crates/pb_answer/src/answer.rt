@@ -54,7 +54,7 @@ pub struct Answer<'a> {
     pub report: Report,
     /// What is to be saved first.
     pub certificate: Option<SavedCertificate<'a>>,
-    /// What is to be saved after that.
+    /// What is to be saved after the certificate.
     pub journal: Option<SavedJournal<'a>>,
 }
 

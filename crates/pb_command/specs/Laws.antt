@@ -140,7 +140,7 @@ OtherKindIsRefused = (kind map : List ℕ) → IsName kind → IsName map → by
 abbrev pub FilesComeBeforeWeight : Type 0
 FilesComeBeforeWeight = (map : List ℕ) → IsName map → reading_of_words (codes "solve" ∷ codes "grid" ∷ map ∷ codes "--den" ∷ codes "2" ∷ []) ≡ Refused fault.Files
 
--- the weight before the names
+-- the weight is tested before the names
 abbrev pub WeightComesBeforeNames : Type 0
 WeightComesBeforeNames = (board : List ℕ) → IsName board
     → reading_of_words (codes "solve" ∷ codes "tiles" ∷ board ∷ codes "--den" ∷ codes "2" ∷ codes "--cert" ∷ codes "c" ∷ codes "--trace" ∷ codes "c" ∷ []) ≡ Refused fault.Weight

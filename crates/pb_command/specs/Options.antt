@@ -198,7 +198,7 @@ SolveReadsOptions = (input : InputNames) (arguments : List Argument) → AreOfSo
       journal = value_given Journal arguments;
     }))
 
--- Among them, a weight below 1 is refused.
+-- A weight below 1 is refused, wherever the options are.
 abbrev pub LowWeightIsRefused : Type 0
 LowWeightIsRefused = (input : InputNames) (arguments : List Argument) → AreOfSolve input arguments
     → number_given Num 1 arguments < number_given Den 1 arguments
@@ -263,7 +263,7 @@ MakeReadsOptions = (k : KindWord) (seed size : Text) (arguments : List Argument)
       workers = number_given Workers 1 arguments;
     }))
 
--- And another size is refused.
+-- A size that the kind doesn't have is refused.
 abbrev pub OtherSizeIsRefused : Type 0
 OtherSizeIsRefused = (k : KindWord) (seed size : Text) (arguments : List Argument) → AreOfMake k seed size arguments → (IsSizeOf k (number_of size) → ⊥)
     → reading_of_words (codes "make" ∷ words_of arguments) ≡ Refused fault.Size
@@ -274,18 +274,18 @@ OutOfRangeIsRefused = (input : InputNames) (arguments : List Argument) → AreOf
     → (option : ValuedOption) (value : Text) → IsName value → is_value_of option value ≡ false
     → reading_of_words (codes "solve" ∷ words_of arguments ++ option_word option ∷ value ∷ []) ≡ Refused fault.Form
 
--- So is an option that is given twice, whatever its second value.
+-- An option that is given twice is refused for its form, whatever its second value.
 abbrev pub GivenTwiceIsRefused : Type 0
 GivenTwiceIsRefused = (input : InputNames) (arguments : List Argument) → AreOfSolve input arguments
     → (option : ValuedOption) (first second : Text) → value_given option arguments ≡ Some first → IsName second
     → reading_of_words (codes "solve" ∷ words_of arguments ++ option_word option ∷ second ∷ []) ≡ Refused fault.Form
 
--- So is a flag that is given twice.
+-- A flag that is given twice is refused for its form.
 abbrev pub FlagTwiceIsRefused : Type 0
 FlagTwiceIsRefused = (input : InputNames) (arguments : List Argument) → AreOfSolve input arguments → (flag : FlagOption) → flag_given flag arguments ≡ true
     → reading_of_words (codes "solve" ∷ words_of arguments ++ flag_word flag ∷ []) ≡ Refused fault.Form
 
--- So is a word for help.
+-- A word for help is refused for its form.
 abbrev pub HelpIsRefused : Type 0
 HelpIsRefused = (input : InputNames) (arguments : List Argument) → AreOfSolve input arguments
     → reading_of_words (codes "solve" ∷ words_of arguments ++ codes "--help" ∷ []) ≡ Refused fault.Form

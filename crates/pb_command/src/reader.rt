@@ -240,7 +240,7 @@ fn read_command<'a>(name: &str, matches: &ArgMatches<'a>) -> Result<CommandLine<
 pub fn read_words<'a>(alloc: Global, words: &'a [String]) -> Result<CommandLine<'a>, CommandRefusal>
     ensures read { IfOk result (λ c. reading_of_words (map string_bytes words.entry.now)
         ≡ Read (meaning_of c)) }
-    // Its values lie in their ranges.
+    // The command's values lie in their ranges.
     ensures ranges { IfOk result (λ c. IsInRange (meaning_of c)) }
     ensures refused { IfErr result
         (λ r. IsCause (reading_of_words (map string_bytes words.entry.now)) r) }

@@ -278,7 +278,7 @@ impl Replay {
     }
 }
 
-// Whether it is the end that follows when a worker is out of memory.
+// Whether the event is the end that follows when a worker is out of memory.
 fn is_memory_end(event: &StatedEvent) -> bool
     ensures { result ≡ is_memory_end (event_of event.now) }
 {

@@ -15,7 +15,8 @@ use pb_task::Task;
 use pb_tiles::{TilesError, read_tiles};
 use std::alloc::{AllocError, Global};
 
-// Made texts are never refused: each reader's only error is out of memory, which these ask for.
+// Made texts are never refused: each reader's only error is out of memory, as the `requires` of
+// these functions say.
 
 fn grid_memory(_error: &GridError) -> AllocError
     requires { _error.now ≡ GridError.Memory }

@@ -56,7 +56,7 @@ has_failed (AppendFailed name piece kept) = true
 has_failed (Put piece) = false
 has_failed (PutFailed piece kept) = true
 
--- whether one of them failed
+-- whether one of these calls failed
 abbrev pub have_failed : List Call → Bool
 have_failed [] = false
 have_failed (call ∷ calls) = has_failed call || have_failed calls

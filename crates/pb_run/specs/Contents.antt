@@ -26,7 +26,7 @@ SavesIn [] before after = KeepsAll before after
 SavesIn (first ∷ outputs) before after =
     (between : Files) × (between first.name ≡ Some first.text) × KeepsOthers before between first.name × SavesIn outputs between after
 
--- some of them were saved, and of the next one a first part, or nothing of it; all others stay
+-- some of these files were saved, and of the next one a first part, or nothing; all others stay
 abbrev pub SavesPartIn : List Output → Files → Files → Type 0
 SavesPartIn [] before after = ⊥
 SavesPartIn (first ∷ outputs) before after =

@@ -84,7 +84,7 @@ NoneMeansNone (Read (Check check)) ran = ran.said.status ≢ 1
 NoneMeansNone (Read (Journal journal)) ran = ran.said.status ≢ 1
 NoneMeansNone (Read (Make make)) ran = ran.said.status ≡ 1 → MakesNone (Says ran.said) make
 
--- The saved certificate is that of the search, valid and accepted, and claims that there is none.
+-- The saved certificate is that of the search, valid and accepted, and claims that no plan exists.
 abbrev pub CertificateOfNone : Reading → Ran → Type 0
 CertificateOfNone (Refused fault) ran = ⊤
 CertificateOfNone (Read (Solve solve)) ran = ran.said.status ≡ 1 → OfTexts solve ran.texts (λ parts. Certifies (Saves ran.said) solve parts None)
@@ -106,7 +106,8 @@ StopHasCause (Read (Make make)) ran = ran.said.status ≡ 2 → MakesStop (Says 
 
 -- ---- a check
 
--- An accepted certificate is a valid one of the task, and what it claims is true. Words that are none are accepted by no command.
+-- An accepted certificate is a valid one of the task, and what it claims is true. If the words are
+-- no command line, nothing is accepted.
 abbrev pub AcceptedIsValid : Reading → Ran → Type 0
 AcceptedIsValid (Refused fault) ran = ran.said.status ≢ 0
 AcceptedIsValid (Read (Solve solve)) ran = ⊤

@@ -9,6 +9,6 @@ use Rattle.pb_workers.specs.declared.worker.Tools.{Tools}
 abbrev pub AreFor : (task : TaskParts) → Tools → Type 0
 AreFor task tools = IsOfTask tools.estimator task × (max_degree_of task ≤ vec_capacity tools.succs)
 
--- all of them are for this task
+-- all of these tools are for this task
 abbrev pub AllAreFor : (task : TaskParts) → List Tools → Type 0
 AllAreFor task list = All (AreFor task) list

@@ -5,11 +5,11 @@ use Rattle.pb_yard.specs.declared.view.View.{View}
 use Rattle.pb_yard.specs.declared.pass.Pass.{Pass}
 use Rattle.pb_yard.specs.declared.yard.Yard.{Yard}
 
--- what it knows
+-- what the pass knows
 abbrev pub view_of : Pass → View
 view_of pass = view pass.turn
 
--- its worker
+-- the pass's worker
 abbrev pub worker_of : Pass → ℕ
 worker_of pass = pass.worker
 
@@ -37,6 +37,6 @@ IsSamePass old new = IsSamePlace old.turn new.turn × (new.worker ≡ old.worker
 abbrev pub KeepsPass : Pass → Pass → Type 0
 KeepsPass old new = IsSamePass old new × (parts_of new ≡ parts_of old)
 
--- how often a step of its own found the turn held
+-- how often a step of the pass itself found the turn held
 abbrev pub misses_of : Pass → ℕ
 misses_of pass = misses pass.turn
