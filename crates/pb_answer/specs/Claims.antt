@@ -79,7 +79,7 @@ PrintsPlan says parts weight =
     (plan : Plan) × (bound : ℕ) × says (plan_text parts plan bound) × IsPlan (space_of parts) plan × IsBound weight plan.cost bound
 
 -- The cost that is printed is at most num / den times that of any plan of the task, at the weight
--- num / den: for every plan of cost f, den * cost <= num * f.
+-- num / den. For every plan of cost f, den * cost <= num * f.
 abbrev pub PrintsLeastCost : (says : List ℕ → Type 0) → TaskParts → Weight → Type 0
 PrintsLeastCost says parts weight =
     (steps : List (List ℕ)) (cost bound : ℕ) → cost < 2 ^ 64 → says (plan_report steps cost bound) → NoneCheaper (space_of parts) weight cost

@@ -5,8 +5,8 @@ use Rattle.pb_machine.specs.declared.settings.Settings.{Settings}
 use Rattle.pb_machine.specs.Settings.{weight_of}
 use Rattle.pb_command.specs.Meaning.{SolveMeaning}
 
--- the workers, the weight, the budget, the lot, the number of blocks and whether no block is
--- marked, each as the words give it, or its default
+-- The workers, the weight, the budget, the lot, the number of blocks and whether no block is
+-- marked. Each is as the words give it, or its default.
 abbrev pub settings_of : SolveMeaning → Settings
 settings_of solve = record {
   workers = solve.workers;

@@ -58,8 +58,8 @@ fn last_step<S: Store>(task: &Task, store: &S, state: &Packed) -> Step
 }
 
 /// The plan that the rows give: the actions on the way from the start to a goal, by the parents and
-/// actions of the rows, and the sum of their costs. The goal is the one whose row has the least g,
-/// and at one g the least state. An error is out of memory.
+/// actions of the rows. Its cost is the sum of theirs. The goal is the one whose row has the least
+/// g, and at one g the least state. An error is out of memory.
 pub fn trace<S: Store>(alloc: Global, task: &Task, store: &S) -> Result<Plan, AllocError>
     requires whole { S.is_whole store.now }
     requires of_task { S.is_of store.now task.now }

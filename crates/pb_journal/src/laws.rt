@@ -35,8 +35,8 @@ pub fn runs_are_accepted()
     ensures { RunsAreAccepted }
 {}
 
-/// What is written of a finished search of a task is accepted for the same task, by a graph with
-/// the number of blocks that the header wishes for.
+/// What is written of a finished search of a task is accepted for the same task. The graph is made
+/// by the number of blocks that the header wishes for.
 pub fn searches_are_accepted()
     ensures { SearchesAreAccepted }
 {}
@@ -46,7 +46,7 @@ pub fn plain_journals_have_no_hot()
     ensures { PlainJournalsHaveNoHot }
 {}
 
-/// So no line of such a text is a hot mark: one that has it is refused.
+/// So no line of such a text is a hot mark: a text with one is refused.
 pub fn plain_texts_have_no_hot()
     ensures { PlainTextsHaveNoHot }
 {}

@@ -12,9 +12,9 @@ use pb_abstract::AbsGraph;
 use pb_machine::{End, Grant, Settings};
 use std::alloc::{AllocError, Global};
 
-/// Who has which lease and who has signed off, by worker; which blocks are hot; what was spent and
-/// what is left of the budget; the end that stands. Also whether the event before reported out of
-/// memory while no end stood.
+/// Who has which lease and who has signed off, by worker; which blocks are hot; and what was spent
+/// and is left of the budget. Also the end that stands, and whether the event before reported out
+/// of memory while none stood.
 #[derive(Debug, Drop)]
 pub struct Replay {
     pub leases: Vec<Option<Grant>>,

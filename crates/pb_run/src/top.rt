@@ -34,7 +34,7 @@ pub fn run<R: Threads + Wait + Sync, H: Shelf, K: Sink, G: Gate>(
     out: &mut K,
     gate: &G,
 ) -> u8
-    // The calls are a beginning of one sequence: the files are loaded in the order of the words,
+    // The calls are a beginning of one sequence. The files are loaded in the order of the words,
     // then the answer to their texts is saved and then printed. Each call but the last is done.
     ensures calls { DoesSince (reading_of_words (map string_bytes words.now)) result (H.calls shelf.old) (H.calls shelf.new) (K.calls out.old) (K.calls out.new) }
     ensures shelf_fault { result ≡ 73 ↔ IsTrue (have_failed (calls_since (H.calls shelf.old) (H.calls shelf.new))) }

@@ -78,7 +78,7 @@ HasEndedSo Memory settings store expanded = ⊥
 -- over the finest abstract graph of the task that has no more blocks than are wished for. They lead
 -- from the machine that has the start's row alone to a lawful one with this end, at which every
 -- worker has signed off. So their events are a finished legal history. Whatever the number of
--- workers, the moves are in order and in time: each lease is of the first choice at its moment,
+-- workers, the moves are in order and in time. Each lease is of the first choice at its moment,
 -- with the incumbent of the whole store. Expansions, none of them broken off, lead from the start's
 -- row alone to the rows of that machine, as the end says. The journal isn't padded: each of its
 -- events is within the room of its lease. There are no more events than the expansions can have

@@ -9,7 +9,7 @@ use pb_machine::End;
 use std::alloc::AllocError;
 
 /// The worker signs off if the search ended. Else it signs off with a report that it is out of
-/// memory, and the search ends because of it. An error is an end that came out of memory.
+/// memory, and the search ends because of it. An error says that the search ended out of memory.
 pub fn sign_off(graph: &mut LeaseGraph, end: Option<End>) -> Result<(), AllocError>
     requires workers { 0 < graph.old.table.settings.workers }
     requires vacant { (counts_in graph.old).leases 0 ≡ None }

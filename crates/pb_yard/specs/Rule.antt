@@ -73,8 +73,8 @@ pub record IsViewOf (g : GraphValue) (machine : Machine) (lent_to : (worker : �
   pub known : IsKnownTo machine view
   pub copy : (lease : LeaseValue) → view.lent ≡ Some lease → AtMost view.last lease.incumbent
 
--- If the pass last read the incumbent while it held the graph, and no event came since, it read at
--- most the incumbent of the last event.
+-- If the pass read the incumbent last, while it held the graph and with no event since, it read at
+-- most the last event's incumbent.
 pub record IsRecent (g : GraphValue) (settled : Option ℕ) (view : View) : Type 0 where
   pub read_by : (events : ℕ) → view.read_at ≡ Some events → events ≤ length g.table.journal
   pub fresh : view.read_at ≡ Some (length g.table.journal) → AtMost view.last settled

@@ -22,8 +22,8 @@ bounded g (Some cost) = record g { incumbent = lesser g.incumbent (Some cost) }
 abbrev pub opening_view : GraphValue → View
 opening_view g = record { journal = first_view; lent = None; task = g.task; graph = g.table.graph; settings = g.table.settings; told = None; last = None; read = []; read_at = None }
 
--- the view of a pass after another was split from it, and then the view of the other, which has the
--- next worker's number, no lease and no events, and has seen the same
+-- The view of a pass after another was split from it, and then the view of the other. The other has
+-- the next worker's number, no lease and no events, and has seen what the first has.
 abbrev pub split_view : View → View
 split_view view = record view { journal = with_one_more view.journal }
 

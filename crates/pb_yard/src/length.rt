@@ -7,8 +7,8 @@ pub fn leases_are_few()
     ensures { LeasesAreFew }
 {}
 
-/// The journal of a finished run in time is short, if it keeps within the room of its leases, and
-/// the run didn't end out of memory.
+/// The journal of a finished run in time is short. The run keeps within the room of its leases, and
+/// didn't end out of memory.
 pub fn runs_are_short()
     ensures { RunsAreShort }
 {}
