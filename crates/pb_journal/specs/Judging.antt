@@ -35,7 +35,7 @@ after_lines blocks settings counts line (text ∷ texts) = do
   after ← after_line blocks settings counts line text
   after_lines blocks settings after (line + 1) texts
 
--- whether an end stands, and every worker has signed off
+-- whether the search has ended, and every worker has signed off
 abbrev pub are_finished : Settings → Counts → Bool
 are_finished settings counts =
     is_some counts.end

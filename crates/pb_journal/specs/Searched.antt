@@ -26,7 +26,7 @@ pub record IsAccepted (blocks : Blocks) (settings : Settings) (journal : List Ev
   pub header : settings_of (journal_text settings journal) ≡ Ok (settings_with_weight settings one)
 
 -- The moves of a search, with its settings in range, lead from its opening to a finished machine:
--- an end stands, and every worker has signed off.
+-- the search has ended, and every worker has signed off.
 pub record IsFinishedRun (setup : Setup) (moves : List Move) : Type 0 where
   pub range : AreInRange setup.settings
   pub machine : Machine

@@ -29,8 +29,8 @@ pub record HasHeader (bytes : List ℕ) (settings : Settings) : Type 0 where
   pub range : AreInRange settings
 
 -- The bytes are the text of a legal history of so many events over these blocks, with the settings
--- of its header. It begins with the search and is finished: an end stands, and every worker has
--- signed off.
+-- of its header. It begins with the search and is finished: the search has ended, and every worker
+-- has signed off.
 pub record IsFinishedJournal (blocks : Blocks) (bytes : List ℕ) (events : ℕ) : Type 0 where
   pub settings : Settings
   pub journal : List Event

@@ -14,7 +14,7 @@ pub enum Why {
     Spelling,
     /// A number of the header is out of the range that the planner takes.
     Settings,
-    /// An end stands.
+    /// The search has already ended.
     Ended,
     /// There is no such worker, or it has signed off.
     Worker,
@@ -30,7 +30,7 @@ pub enum Why {
     /// The quota is 0, or is neither a whole lot nor all that is left. Or more expansions were made
     /// than the quota allows. Or something is left of the budget at its end.
     Quota,
-    /// No end stands, and the worker does not report that it is out of memory, so it may not sign
+    /// The search has not ended, and the worker doesn't report out of memory, so it may not sign
     /// off.
     NoEnd,
     /// A worker reported in the line before that it is out of memory, and this is not the end that

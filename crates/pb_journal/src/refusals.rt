@@ -205,7 +205,7 @@ impl Replay {
         }
     }
 
-    // Why the search may not end by its budget, if no end stands.
+    // Why the search may not end by its budget, if it has not ended.
     fn budget_refusal(&self, settings: &Settings) -> Option<EventRefusal>
         requires { length self.now.leases.items ≡ settings.now.workers }
         ensures { result

@@ -13,8 +13,8 @@ use pb_machine::{End, Grant, Settings};
 use std::alloc::{AllocError, Global};
 
 /// Who has which lease and who has signed off, by worker; which blocks are hot; and what was spent
-/// and is left of the budget. Also the end that stands, and whether the event before reported out
-/// of memory while none stood.
+/// and is left of the budget. Also the search's end, if it has ended, and whether the event before
+/// reported out of memory while it had not.
 #[derive(Debug, Drop)]
 pub struct Replay {
     pub leases: Vec<Option<Grant>>,
@@ -114,7 +114,7 @@ impl Replay {
         block < self.hot.len() as u64 && self.hot[block as usize]
     }
 
-    /// Whether an end stands, and every worker has signed off.
+    /// Whether the search has ended, and every worker has signed off.
     pub fn is_finished(&self, settings: &Settings) -> bool
         requires { length self.now.signed_off.items ≡ settings.now.workers }
         ensures { result ≡ are_finished settings.now (counts_of self.now) }

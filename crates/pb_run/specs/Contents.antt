@@ -1,4 +1,4 @@
--- What a call of the program does to the files that a shelf reports.
+-- What a call of the program does to the files of a shelf, if they are known.
 use Rattle.std.specs.Prelude.{◌≡◌, ◌≢◌, ◌⊎◌, ℕ, ◌<◌, ◌≤◌, Option, Some, IfSome, List, [], ◌∷◌, ◌++◌, length, ⊤}
 use mathlib.Core.Logic.{inl, inr}
 use Rattle.pb_outside.specs.declared.shelf.Load.{Load}
@@ -73,7 +73,7 @@ Hands said NotSaved shelf shelf' sink sink' written written' =
 Hands said NotPrinted shelf shelf' sink sink' written written' =
     Saved shelf shelf' said.outputs × NotesPutFailed sink sink' written written' said.report
 
--- how an answer was handed out, with what that means for the files that the shelf reports
+-- how an answer was handed out, with what that means for the known files of the shelf
 abbrev pub HandsTold : Said → Ending → Option Files → Option Files → Type 0
 HandsTold said Done files files' = IfTold files files' (SavesIn said.outputs)
 HandsTold said NotSaved files files' = IfTold files files' (SavesPartIn said.outputs)
@@ -85,7 +85,7 @@ TellsHands said files files' (inl done) = IfTold files files' (SavesIn said.outp
 TellsHands said files files' (inr (inl failed)) = IfTold files files' (SavesPartIn said.outputs)
 TellsHands said files files' (inr (inr failed)) = IfTold files files' (SavesIn said.outputs)
 
--- what was done, with what that means for the files that the shelf reports
+-- what was done, with what that means for the known files of the shelf
 abbrev pub GoesBy : Reading → (status : ℕ) → Option Files → Option Files → (shelf sink : List Call) → Type 0
 GoesBy reading status files files' shelf sink =
     (RunsOut reading status shelf sink × IfTold files files' KeepsAll)
@@ -96,6 +96,6 @@ abbrev pub Goes : Reading → (status : ℕ) → Option Files → Option Files �
 Goes reading status files files' shelf shelf' sink sink' =
     (own : List Call) × (out : List Call) × (shelf' ≡ shelf ++ own) × (sink' ≡ sink ++ out) × GoesBy reading status files files' own out
 
--- what was put since follows what was written before, if the sink reports what was written
+-- what was put since follows what was written before, if that is known
 abbrev pub WritesPut : (written written' : Option (List ℕ)) → (sink sink' : List Call) → Type 0
 WritesPut written written' sink sink' = (out : List Call) × (sink' ≡ sink ++ out) × IfTold written written' (λ before after. Appends before after (put_bytes out))

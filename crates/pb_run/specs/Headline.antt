@@ -244,16 +244,16 @@ IsAnswered (Read (Journal journal)) texts status =
     → IsJournalOf parts text events → (status ≡ 0) ⊎ (status ≡ 71)
 IsAnswered (Read (Make make)) texts status = (status ≡ 0) ⊎ ((status ≡ 1) ⊎ ((status ≡ 2) ⊎ (status ≡ 71)))
 
--- The shelf reports its files and can load those that the words name. Whatever is answered of their
--- texts can be handed out.
+-- The shelf's files are known, and it can load those that the words name. Whatever is answered of
+-- their texts can be handed out.
 abbrev pub CanServe : Reading → Option Files → (can_load : List ℕ → Type 0) → (can_hold : List ℕ → ℕ → Type 0) → (can_take : ℕ → Type 0) → Type 0
 CanServe reading None can_load can_hold can_take = ⊥
 CanServe reading (Some told) can_load can_hold can_take =
     CanLoad can_load (files_of reading)
     × ((texts : List (List ℕ)) → loads_of told (files_of reading) ≡ Some texts → CanHandOut reading texts can_hold can_take)
 
--- If the shelf reports its files and has the named ones, there is an answer to their texts, or
--- memory ran out.
+-- If the shelf's files are known and the named ones are there, there is an answer to their texts,
+-- or memory ran out.
 abbrev pub IsComplete : Reading → Option Files → (status : ℕ) → Type 0
 IsComplete reading files status =
     IfSome files (λ told. (texts : List (List ℕ)) → loads_of told (files_of reading) ≡ Some texts → IsAnswered reading texts status)

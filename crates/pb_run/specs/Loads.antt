@@ -15,6 +15,6 @@ abbrev pub loads_of : Files → List Wanted → Option (List (List ℕ))
 loads_of told [] = Some []
 loads_of told (file ∷ files) = load_before file.most (told file.name) (loads_of told files)
 
--- these texts were loaded of the files; if the shelf reports its files, they are the texts of those
+-- these texts were loaded of the files; if the shelf's files are known, they are the texts of those
 abbrev pub AreLoaded : Option Files → List Wanted → (texts : List (List ℕ)) → Type 0
 AreLoaded files wanted texts = IfSome files (λ told. loads_of told wanted ≡ Some texts)

@@ -25,7 +25,7 @@ use std::thread::Threads;
 /// before one is renewed or comes back. No clause says so.
 ///
 /// The clauses speak of the calls that this call made on the shelf and the sink, and so of any
-/// shelf and sink. What they say of contents, if these are reported, is last.
+/// shelf and sink. What they say of contents, if these are known, is last.
 pub fn run<R: Threads + Wait + Sync, H: Shelf, K: Sink, G: Gate>(
     rt: &R,
     alloc: Global,
@@ -100,8 +100,8 @@ pub fn run<R: Threads + Wait + Sync, H: Shelf, K: Sink, G: Gate>(
     ensures answered { CanServe (reading_of_words (map string_bytes words.now)) (H.files shelf.old) (H.can_load shelf.old) (H.can_hold shelf.old) (K.can_take out.old)
         → IsAnswer result ⊎ (result ≡ 71) }
 
-    // If contents are reported: the texts are those of the files, what was saved and printed is
-    // there, and all other files stay.
+    // If contents are known: the texts are those of the files, what was saved and printed is there,
+    // and all other files stay.
     ensures loaded { IsAnswer result → AreLoaded (H.files shelf.old) (files_of (reading_of_words (map string_bytes words.now))) (ran result (H.calls shelf.old) (H.calls shelf.new) (K.calls out.old) (K.calls out.new)).texts }
     ensures saved { IsAnswer result ⊎ (result ≡ 74) → IfTold (H.files shelf.old) (H.files shelf.new) (SavesIn (ran result (H.calls shelf.old) (H.calls shelf.new) (K.calls out.old) (K.calls out.new)).said.outputs) }
     ensures kept { result ≡ 71 → IfTold (H.files shelf.old) (H.files shelf.new) KeepsAll }
