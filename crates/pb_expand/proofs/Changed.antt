@@ -1,5 +1,6 @@
 -- What becomes of a lease's rows where one of its bundles changes.
 use Rattle.std.proofs.Common.{◌≡◌, ◌≢◌, ℕ, ◌<◌, true, false, cond, ◌&&◌, ◌==◌, nat_eq, List, Option, Some, None, IsSome, is_some, Result, Ok, Err, OnOk, OnErr, refl, sym, ap, ◌∙◌, subst}
+use Rattle.std.proofs.lemmas.Bool.{eqb-false}
 use Rattle.std.proofs.lemmas.Cmp.{nat_eq_equiv}
 use Rattle.std.proofs.lemmas.Map.{lookup-set_value, keys-set_value}
 use Rattle.std.proofs.lemmas.Map.Steps.{set_value_same}
@@ -9,7 +10,7 @@ use Rattle.pb_model.specs.declared.row.Status.{Status}
 use Rattle.pb_model.specs.declared.row.Status.TheVariants.{Opened, Cut}
 use Rattle.pb_model.specs.Store.{Part, HasOpened}
 use Rattle.pb_model.specs.Work.{with_status, offered_row}
-use Rattle.pb_model.proofs.Tests.{by_cases, equal, equal_self, equal_swap, not_both}
+use Rattle.pb_model.proofs.Tests.{by_cases, equal, equal_self, equal_swap}
 use Rattle.pb_lists.specs.Bundle.{Content, row_of, put, SetsRow, SetsStatus, IsOpened}
 use Rattle.pb_bundles.specs.Parts.{content_in, with_content, rows_in, away_rows}
 use Rattle.pb_lease.specs.LeaseValue.{LeaseValue, with_bundle}
@@ -35,9 +36,6 @@ if_ok (Err e) P Q one other ok err = other err
 
 pub has_opened : (part : Part) (state : ℕ) → IsOpened (part state) → HasOpened part
 has_opened part state is = (state, is.0, is.1, is.2)
-
-apart : (state own : ℕ) → (state == own) ≡ false → state ≢ own
-apart state own e same = not_both (state == own) (ap (λ s. state == s) (sym same) ∙ equal_self state) e
 
 one_key : (block x y : ℕ) → nat_eq block x ≡ true → nat_eq block y ≡ nat_eq x y
 one_key block x y e = ap (λ k. nat_eq k y) (equal block x e)
@@ -70,7 +68,7 @@ module _ (parts : List (ℕ × Content)) (block : ℕ) (was now : Content) (ther
       (λ e. by_cases (other == state)
       (λ f. rows_there home other e ∙ subst (λ s. row_of now s ≡ change (row_of was s)) (sym (equal other state f)) here ∙ ap change (sym (rows_before home other e))
       ∙ sym (ap (λ b. cond (b && (other == state)) (change (away_rows parts home other)) (away_rows parts home other)) e ∙ ap (λ b. cond b (change (away_rows parts home other)) (away_rows parts home other)) f))
-      (λ f. rows_there home other e ∙ others other (apart other state f) ∙ sym (rows_before home other e)
+      (λ f. rows_there home other e ∙ others other (eqb-false other state f) ∙ sym (rows_before home other e)
       ∙ sym (ap (λ b. cond (b && (other == state)) (change (away_rows parts home other)) (away_rows parts home other)) e ∙ ap (λ b. cond b (change (away_rows parts home other)) (away_rows parts home other)) f)))
       (λ e. rows_elsewhere home other e ∙ sym (ap (λ b. cond (b && (other == state)) (change (away_rows parts home other)) (away_rows parts home other)) e))
 

@@ -1,5 +1,6 @@
 -- Turns under a watch of the incumbent.
 use Rattle.std.proofs.Common.{◌≡◌, ℕ, ◌+◌, ◌-◌, ◌<◌, ◌≤◌, ◌^◌, Bool, true, false, ◌||◌, List, [], ◌∷◌, ◌++◌, Option, Some, None, IsTrue, refl, sym, ap, ◌∙◌, subst, arith, ◌⊎◌, inl, inr, true≢false}
+use Rattle.std.proofs.lemmas.Bool.{or_left, or_right}
 use Rattle.pb_model.specs.declared.row.Row.{Row}
 use Rattle.pb_model.specs.Key.{IsFirstRow}
 use Rattle.pb_model.specs.Space.{Space}
@@ -28,22 +29,14 @@ use Rattle.pb_expand.proofs.Turned.{turned_none, turned_on, turned_on_works, low
 -- ---- costs
 
 -- the lesser of both is the second where that is no greater
-lesser_other : (u : Option ℕ) (cost : ℕ) → AtMost (Some cost) u → lesser u (Some cost) ≡ Some cost
+pub lesser_other : (u : Option ℕ) (cost : ℕ) → AtMost (Some cost) u → lesser u (Some cost) ≡ Some cost
 lesser_other None cost low = refl
 lesser_other (Some u) cost low = ap (λ n. Some n) (omega (arith, low))
 
 -- what is no greater than an unknown cost
-none_below : (u : Option ℕ) → AtMost None u → u ≡ None
+pub none_below : (u : Option ℕ) → AtMost None u → u ≡ None
 none_below None low = refl
 none_below (Some u) low = absurd low
-
-or_first : (a b : Bool) → a ≡ true → (a || b) ≡ true
-or_first true b h = refl
-or_first false b h = absurd (true≢false (sym h))
-
-or_second : (a b : Bool) → b ≡ true → (a || b) ≡ true
-or_second true b h = refl
-or_second false b h = h
 
 lesser_none : (u : Option ℕ) → lesser u None ≡ u
 lesser_none None = refl
@@ -310,10 +303,10 @@ module _ (task : TaskParts) (graph : AbstractGraph) {read_before read_after : Bo
       let known : Option ℕ → Bool = λ incumbent. at.known incumbent || now.read incumbent in
       let given : ℕ → ℕ → Store = λ block worker. lent_store (setup_of task graph at.settings at.reopenings) block at.machine.store (at.machine.given worker) in
       let second = lease_work_stays (space_of task) (guide_of task graph) old.block more 0 0 now.read known (leased_store old) (leased_store new) turned.turned.work (omega arith)
-      (λ incumbent k. or_second (at.known incumbent) (now.read incumbent) k) in
+      (λ incumbent k. or_right (at.known incumbent) (now.read incumbent) k) in
       let both : IsWorked (space_of task) (guide_of task graph) old.block (old.used + more) 0 known (given old.block old.worker) (leased_store new) =
       (lease_work_goes_on (space_of task) (guide_of task graph) old.block old.used more 0 at.known known (given old.block old.worker) (leased_store old) (leased_store new)
-      at.work second.0 (λ incumbent k. or_first (at.known incumbent) (now.read incumbent) k)).0 in
+      at.work second.0 (λ incumbent k. or_left (at.known incumbent) (now.read incumbent) k)).0 in
       record {
         settings = at.settings;
         reopenings = at.reopenings;
