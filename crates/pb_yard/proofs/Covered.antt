@@ -1,6 +1,9 @@
 -- Work on rows, and the Opened ones: each piece closes one, and only an expansion brings new ones.
-use Rattle.std.proofs.Common.{◌≡◌, ℕ, zero, suc, ◌+◌, ◌-◌, ◌*◌, ◌≤◌, length, Bool, true, false, cond, ◌&&◌, ◌||◌, ◌==◌, List, [], ◌∷◌, ◌++◌, take, Option, Some, None, refl, sym, ap, ◌∙◌, subst, arith, true≢false, ◌⊎◌, inl, inr}
+use Rattle.std.proofs.Common.{◌≡◌, ℕ, zero, suc, ◌+◌, ◌-◌, ◌*◌, ◌≤◌, length, Bool, true, false, cond, ◌||◌, ◌==◌, List, [], ◌∷◌, ◌++◌, take, Option, Some, None, refl, sym, ap, ◌∙◌, subst, arith, true≢false, ◌⊎◌, inl, inr}
 use Rattle.std.specs.List.{AllByRecursion}
+use Rattle.std.proofs.lemmas.Bool.{and_from, or_left, or_right}
+use Rattle.std.proofs.lemmas.List.{length-append}
+use Rattle.std.proofs.Math.Nat.{mul-suc}
 use Rattle.pb_model.specs.declared.row.Status.TheVariants.{Opened, Closed, Cut}
 use Rattle.pb_model.specs.declared.row.Status.{Status}
 use Rattle.pb_model.specs.declared.row.Row.{Row}
@@ -30,14 +33,6 @@ one_less own (first ∷ states) h = by_cases (own == first)
     (λ e. ap (λ r. suc (length (cond r states (first ∷ without own states)))) e)
     (λ e. ap (λ r. suc (length (cond r states (first ∷ without own states)))) e ∙ ap suc (one_less own states (sym (ap (λ r. r || has states own) e) ∙ h)))
 
--- what is in one of two lists
-pub or_left : (a b : Bool) → a ≡ true → (a || b) ≡ true
-or_left a b h = ap (λ r. r || b) h
-
-or_right : (a b : Bool) → b ≡ true → (a || b) ≡ true
-or_right true b h = refl
-or_right false b h = h
-
 others_stay : (own state : ℕ) (states : List ℕ) → (state == own) ≡ false → has states state ≡ true → has (without own states) state ≡ true
 others_stay own state [] other h = h
 others_stay own state (first ∷ states) other h = by_cases (own == first)
@@ -48,6 +43,7 @@ others_stay own state (first ∷ states) other h = by_cases (own == first)
     (λ is. or_left (state == first) (has (without own states) state) is)
     (λ is. or_right (state == first) (has (without own states) state) (others_stay own state states other (sym (ap (λ r. r || has states state) is) ∙ h))))
 
+-- what is in one of two lists
 has_left : (first second : List ℕ) (state : ℕ) → has first state ≡ true → has (first ++ second) state ≡ true
 has_left [] second state h = absurd (true≢false (sym h))
 has_left (x ∷ first) second state h = by_cases (state == x)
@@ -57,10 +53,6 @@ has_left (x ∷ first) second state h = by_cases (state == x)
 has_right : (first second : List ℕ) (state : ℕ) → has second state ≡ true → has (first ++ second) state ≡ true
 has_right [] second state h = h
 has_right (x ∷ first) second state h = or_right (state == x) (has (first ++ second) state) (has_right first second state h)
-
-both_long : (first second : List ℕ) → length (first ++ second) ≡ length first + length second
-both_long [] second = omega arith
-both_long (x ∷ first) second = let rest = both_long first second in omega (arith, rest)
 
 -- ---- successors
 
@@ -81,14 +73,10 @@ few_steps : (space : Space) (state count : ℕ) → length (steps_below space st
 few_steps space state zero = omega arith
 few_steps space state (suc action) =
     let rest = few_steps space state action in
-    let sum = long (steps_below space state action) (successor_list action (space.step state action)) in
+    let sum = length-append (steps_below space state action) (successor_list action (space.step state action)) in
     let one = few (space.step state action) in
     omega (arith, rest, sum, one)
   where
-    long : (first second : List Succ) → length (first ++ second) ≡ length first + length second
-    long [] second = omega arith
-    long (x ∷ first) second = let more = long first second in omega (arith, more)
-
     few : (o : Option (ℕ × ℕ)) → length (successor_list action o) ≤ 1
     few None = omega arith
     few (Some step) = omega arith
@@ -107,38 +95,23 @@ closings (cut own ∷ works) = 1 + closings works
 closings (take_goal own ∷ works) = 1 + closings works
 closings (work ∷ works) = closings works
 
--- products over sums
-pub over_sum : (a b c : ℕ) → a * (b + c) ≡ a * b + a * c
-over_sum a b c = grind arith
-
+-- products
 pub at_most_once : (a b : ℕ) → b ≤ 1 → a * b ≤ a
 at_most_once a zero le = omega arith
 at_most_once a (suc zero) le = omega arith
 at_most_once a (suc (suc b)) le = absurd (omega (arith, le))
-
-pub nothing : (a : ℕ) → a * 0 ≡ 0
-nothing a = grind arith
-
-pub once_is : (a : ℕ) → a * 1 ≡ a
-once_is a = grind arith
 
 pub nonzero : (n : ℕ) → (n ≡ 0 → ⊥) → 1 ≤ n
 nonzero zero h = absurd (h refl)
 nonzero (suc n) h = omega arith
 
 spread : (actions expanded broken last first all closed : ℕ) → last + closed ≤ first + actions * (expanded + broken) → first + 1 ≤ all + actions → last + (1 + closed) ≤ all + actions * ((1 + expanded) + broken)
-spread actions expanded broken last first all closed rest one = let product = one_more actions (expanded + broken) in let same : (1 + expanded) + broken ≡ suc (expanded + broken) = omega arith in
+spread actions expanded broken last first all closed rest one = let product = mul-suc actions (expanded + broken) in let same : (1 + expanded) + broken ≡ suc (expanded + broken) = omega arith in
     let moved = ap (λ n. actions * n) same in omega (arith, rest, one, product, moved)
-  where
-    one_more : (a n : ℕ) → a * suc n ≡ a + a * n
-    one_more a n = grind arith
 
 spread_broken : (actions expanded broken last first all closed : ℕ) → last + closed ≤ first + actions * (expanded + broken) → first ≤ all + actions → last + closed ≤ all + actions * (expanded + (1 + broken))
-spread_broken actions expanded broken last first all closed rest one = let product = one_more actions (expanded + broken) in let same : expanded + (1 + broken) ≡ suc (expanded + broken) = omega arith in
+spread_broken actions expanded broken last first all closed rest one = let product = mul-suc actions (expanded + broken) in let same : expanded + (1 + broken) ≡ suc (expanded + broken) = omega arith in
     let moved = ap (λ n. actions * n) same in omega (arith, rest, one, product, moved)
-  where
-    one_more : (a n : ℕ) → a * suc n ≡ a + a * n
-    one_more a n = grind arith
 
 module _ (space : Space) (guide : Guide) where
   -- a row that is Opened after offers was so before, or is a successor's
@@ -184,11 +157,8 @@ module _ (space : Space) (guide : Guide) where
 
       apart : home ≡ guide.home state → is_place_of guide own home state ≡ false → (state == own) ≡ false
       apart at e = by_cases (state == own)
-          (λ same. not_both (is_place_of guide own home state) (both (home == guide.home own) (state == own) (subst (λ k. (k == guide.home own) ≡ true) (sym at) (subst (λ k. (guide.home k == guide.home own) ≡ true) (sym (equal state own same)) (equal_self (guide.home own)))) same) e)
+          (λ same. not_both (is_place_of guide own home state) (and_from (home == guide.home own) (state == own) (subst (λ k. (k == guide.home own) ≡ true) (sym at) (subst (λ k. (guide.home k == guide.home own) ≡ true) (sym (equal state own same)) (equal_self (guide.home own)))) same) e)
           (λ other. other)
-        where
-          both : (a b : Bool) → a ≡ true → b ≡ true → (a && b) ≡ true
-          both a b h k = ap (λ r. r && b) h ∙ k
 
   -- the rows after offers are covered with the successors
   offers_covered : (succs : List Succ) (own g : ℕ) (states : List ℕ) (store : Store) → Covers guide states store → (home state : ℕ) (row : Row)
@@ -206,7 +176,7 @@ module _ (space : Space) (guide : Guide) where
       let all = states_of succs ++ states in
       let own_there : has all own ≡ true = has_right (states_of succs) states own (own_covered states store own covers may.0) in
       let less = one_less own all own_there in
-      let sum = both_long (states_of succs) states in
+      let sum = length-append (states_of succs) states in
       let same = same_long succs in
       let few = few_steps space own space.actions in (
         without own all,
@@ -222,7 +192,7 @@ module _ (space : Space) (guide : Guide) where
       → (left : List ℕ) × Covers guide left (store_after space guide (break_off own offers) store) × (length left ≤ length states + space.actions)
   broken_off own offers states store covers =
       let succs = take offers (steps space own) in
-      let sum = both_long (states_of succs) states in
+      let sum = length-append (states_of succs) states in
       let same = same_long succs in
       let fewer = take_few offers (steps space own) in
       let few = few_steps space own space.actions in (

@@ -1,5 +1,7 @@
 -- A run in time has few leases: each that comes back closed a row, and only expansions bring new ones.
 use Rattle.std.proofs.Common.{◌≡◌, ℕ, ◌+◌, ◌-◌, ◌*◌, ◌<◌, ◌≤◌, length, Bool, true, false, cond, ◌==◌, is_some, List, [], ◌∷◌, Option, Some, None, refl, sym, ap, ◌∙◌, subst, arith, true≢false, ◌⊎◌, inl, inr}
+use Rattle.std.proofs.lemmas.Bool.{or_left}
+use Rattle.std.proofs.Math.Nat.{mul-add, mul-one, mul-zero}
 use Rattle.pb_model.specs.declared.row.Status.TheVariants.{Opened}
 use Rattle.pb_model.specs.declared.row.Row.{Row}
 use Rattle.pb_model.specs.Store.{Store, is_place_of, HasOpened}
@@ -25,7 +27,7 @@ use Rattle.pb_machine.proofs.Reports.{broken_more}
 use Rattle.pb_machine.proofs.LeaseWork.{works_there}
 use Rattle.pb_yard.specs.Length.{leases_out, most_leases, LeasesAreFew, RunsAreShort}
 use Rattle.pb_yard.proofs.InTime.{in_time_is_run}
-use Rattle.pb_yard.proofs.Covered.{has, Covers, or_left, over_sum, at_most_once, nothing, once_is, nonzero, closings, works_covered, rows_stay, expansions_close}
+use Rattle.pb_yard.proofs.Covered.{has, Covers, at_most_once, nonzero, closings, works_covered, rows_stay, expansions_close}
 
 -- ---- a run in time
 
@@ -124,7 +126,7 @@ module _ (p : Setup) (greatest_cost : ℕ) (is : IsSetup p greatest_cost) where
     -- of the rows that are covered now
     fewer : length left.0 + closings back.work.works ≤ length was.states + (p.space.actions * used + p.space.actions * broken_expansions back.work.works)
     fewer =
-        let sum = over_sum p.space.actions (expansions back.work.works) (broken_expansions back.work.works) in
+        let sum = mul-add p.space.actions (expansions back.work.works) (broken_expansions back.work.works) in
         let same = ap (λ n. p.space.actions * n) back.work.used_is in
         omega (arith, left.2, sum, same)
 
@@ -137,12 +139,12 @@ module _ (p : Setup) (greatest_cost : ℕ) (is : IsSetup p greatest_cost) where
         let same : one_if (is_some (with_quota quota (old.counts.leases worker))) ≡ one_if (is_some (old.counts.leases worker)) = ap (λ (o : Option Grant). one_if (is_some (with_quota quota o))) back.leased ∙ sym (ap (λ (o : Option Grant). one_if (is_some o)) back.leased) in
         let out : leases_out p.settings.workers new.counts ≡ leases_out p.settings.workers old.counts =
         ap (λ (c : Counts). leases_out p.settings.workers c) counts ∙ omega (arith, sums, same) in
-        let sum = over_sum p.space.actions old.counts.spent used in
+        let sum = mul-add p.space.actions old.counts.spent used in
         let whole : broken_expansions back.work.works ≡ 0 = omega (arith, back.work.few_broken, none) in
         let once = ap (λ n. p.space.actions * n) whole in
         let zero_more = at_most_once p.space.actions 0 (omega arith) in
         paid new given left.0 (old.counts.spent + used) (broken_leases p old) (leases_out p.settings.workers old.counts) left.1 (ap (λ (c : Counts). c.spent) counts)
-        (ap (λ (b : ℕ → Bool). count_below p.settings.workers b) broken) out (omega (arith, was.few, fewer, sum, once, nothing p.space.actions))
+        (ap (λ (b : ℕ → Bool). count_below p.settings.workers b) broken) out (omega (arith, was.few, fewer, sum, once, mul-zero p.space.actions))
         (λ other second leased. opened other second (sym (ap (λ (c : Counts). c.leases other) counts) ∙ leased))
       where
         opened : (other : ℕ) (second : Grant) → with_entry old.counts.leases worker (with_quota quota (old.counts.leases worker)) other ≡ Some second → HasOpened (new.store.rows second.block)
@@ -171,10 +173,10 @@ module _ (p : Setup) (greatest_cost : ℕ) (is : IsSetup p greatest_cost) where
         → ((grant : Grant) × (old.counts.leases worker ≡ Some grant) × ((used ≡ grant.quota) ⊎ (HasOpened (new.store.rows grant.block) → ⊥))) → IsPaid new given
     releases none counts broken timely =
         let out = home_out false counts in
-        let sum = over_sum p.space.actions old.counts.spent used in
+        let sum = mul-add p.space.actions old.counts.spent used in
         let once = ap (λ n. p.space.actions * n) whole in
         paid new given left.0 (old.counts.spent + used) (broken_leases p old) (leases_out p.settings.workers new.counts) left.1 (ap (λ (c : Counts). c.spent) counts)
-        (ap (λ (b : ℕ → Bool). count_below p.settings.workers b) broken) refl (omega (arith, was.few, fewer, sum, once, nothing p.space.actions, out, closes timely.2))
+        (ap (λ (b : ℕ → Bool). count_below p.settings.workers b) broken) refl (omega (arith, was.few, fewer, sum, once, mul-zero p.space.actions, out, closes timely.2))
         (λ other second leased. home_opened other second (sym (ap (λ (c : Counts). c.leases other) counts) ∙ leased))
       where
         whole : broken_expansions back.work.works ≡ 0
@@ -196,11 +198,11 @@ module _ (p : Setup) (greatest_cost : ℕ) (is : IsSetup p greatest_cost) where
     breaks : few ≡ 1 → new.counts ≡ counts_after p.blocks p.settings old.counts (Release worker used true) → new.broken ≡ with_entry old.broken worker true → IsPaid new given
     breaks one counts broken =
         let out = home_out true counts in
-        let sum = over_sum p.space.actions old.counts.spent used in
+        let sum = mul-add p.space.actions old.counts.spent used in
         let at_most = at_most_once p.space.actions (broken_expansions back.work.works) (omega (arith, back.work.few_broken, one)) in
         let more = broken_more p old worker Own l back.leased in
-        let product = over_sum (1 + p.space.actions) (broken_leases p old) 1 in
-        let single = once_is (1 + p.space.actions) in
+        let product = mul-add (1 + p.space.actions) (broken_leases p old) 1 in
+        let single = mul-one (1 + p.space.actions) in
         paid new given left.0 (old.counts.spent + used) (broken_leases p old + 1) (leases_out p.settings.workers new.counts) left.1 (ap (λ (c : Counts). c.spent) counts)
         (ap (λ (b : ℕ → Bool). count_below p.settings.workers b) broken ∙ more) refl (omega (arith, was.few, fewer, sum, at_most, product, single, out))
         (λ other second leased. home_opened other second (sym (ap (λ (c : Counts). c.leases other) counts) ∙ leased))
@@ -278,7 +280,7 @@ leases_are_few setup greatest_cost moves machine is first run = (
   λ finished other.
       let numbers = finished_numbers setup machine lawful finished other in
       let product = ap (λ n. (1 + setup.space.actions) * n) numbers.1 in
-      omega (arith, paid_for.few, numbers.0, product, nothing (1 + setup.space.actions)),
+      omega (arith, paid_for.few, numbers.0, product, mul-zero (1 + setup.space.actions)),
 )
   where
     opens : IsLawful setup (opening_machine setup)

@@ -28,8 +28,8 @@ use Rattle.pb_yard.specs.declared.view.View.{View}
 use Rattle.pb_yard.specs.Views.{view_then}
 use Rattle.pb_yard.specs.Order.{RunsSettled}
 use Rattle.pb_yard.specs.Rule.{rows_of, grant_in, journal_view, IsLent, IsKnownTo, IsViewOf, IsRecent, HasNoPass, IsYard}
-use Rattle.pb_yard.proofs.InTime.{settled_on, settled_same}
-use Rattle.pb_yard.proofs.Parts.{events_of_moves, GoesOnAs, setup_same, search_same, still_of_graph, moment_where_leased, at_journal, workers_differ, no_pass_before, unread_recent, recent_stays}
+use Rattle.pb_yard.proofs.InTime.{events_of_moves, settled_on, settled_same}
+use Rattle.pb_yard.proofs.Parts.{GoesOnAs, setup_same, search_same, still_of_graph, moment_where_leased, at_journal, workers_differ, no_pass_before, unread_recent, recent_stays}
 
 -- From the graph x at a moment of the rule these events of one pass's worker, or of nobody, lead to
 -- y.

@@ -6,13 +6,18 @@ use Rattle.pb_machine.specs.declared.event.End.{End}
 use Rattle.pb_machine.specs.declared.event.End.TheVariants.{Memory}
 use Rattle.pb_machine.specs.declared.event.Event.{Event}
 use Rattle.pb_machine.specs.declared.event.Event.TheVariants.{Lease, Renew, Hot, Cold, Release, Off, Ended}
-use Rattle.pb_machine.specs.Machine.{Setup, Machine, Move, event_move, tell_move, Runs}
+use Rattle.pb_machine.specs.Machine.{Setup, Machine, Move, event_move, tell_move, journal_of, Runs}
 use Rattle.pb_machine.specs.Turns.{RunsInOrder}
 use Rattle.pb_lease.specs.Events.{ending}
 use Rattle.pb_lease.specs.Moments.{moves_of}
 use Rattle.pb_lease.specs.Steps.{end_events}
 use Rattle.pb_yard.specs.Order.{GivesWholeIncumbent, settled_after, IsTimely, RunsSettled, RunsInTime}
 use Rattle.pb_yard.specs.Laws.{RunsInTimeAreInOrder}
+
+-- the events of moves that are events
+pub events_of_moves : (events : List Event) → journal_of (moves_of events) ≡ events
+events_of_moves [] = refl
+events_of_moves (event ∷ events) = ap (λ l. event ∷ l) (events_of_moves events)
 
 module _ (setup : Setup) where
   settled_is_in_order : (moves : List Move) (old : Machine) (settled : Option ℕ) (new : Machine) (later : Option ℕ) → RunsSettled setup old settled moves new later → RunsInOrder setup old moves new

@@ -1,6 +1,7 @@
 -- The parts of the rule, as the graph goes on.
 use Rattle.std.proofs.Common.{◌≡◌, ◌≢◌, ℕ, suc, ◌+◌, ◌==◌, ◌<◌, ◌≤◌, true, false, List, [], ◌∷◌, ◌++◌, length, map, set, Option, Some, None, refl, sym, ap, ◌∙◌, subst, arith}
 use Rattle.std.proofs.lemmas.List.{append-nil, length-append}
+use Rattle.std.proofs.lemmas.Option.{none-some}
 use mathlib.Core.Option.{some, some-injective}
 use lib.ListN.{get_elem?}
 use Rattle.atomic_table.proofs.Lists.{set_else, at_map}
@@ -10,21 +11,16 @@ use Rattle.pb_machine.specs.declared.event.Event.{Event}
 use Rattle.pb_machine.specs.declared.event.Grant.{Grant}
 use Rattle.pb_machine.specs.Settings.{weight_of}
 use Rattle.pb_machine.specs.Views.{AreTrueOf}
-use Rattle.pb_machine.specs.Machine.{Machine, journal_of}
+use Rattle.pb_machine.specs.Machine.{Machine}
 use Rattle.pb_machine.proofs.OwnMoves.{recorded_where_leased}
 use Rattle.pb_bundles.specs.Homes.{home_rows}
 use Rattle.pb_abstract.specs.Graph.{AbstractGraph, blocks_of}
 use Rattle.pb_lease.specs.LeaseValue.{LeaseValue}
 use Rattle.pb_lease.specs.Leased.{setup_of}
 use Rattle.pb_lease.specs.GraphValue.{GraphValue, setup_in, counts_in, IsOfGraph}
-use Rattle.pb_lease.specs.Moments.{IsMomentAt, moves_of}
+use Rattle.pb_lease.specs.Moments.{IsMomentAt}
 use Rattle.pb_yard.specs.declared.view.View.{View}
 use Rattle.pb_yard.specs.Rule.{journal_view, IsSearchOf, IsRecent, HasNoPass}
-
--- the events of moves that are events
-pub events_of_moves : (events : List Event) → journal_of (moves_of events) ≡ events
-events_of_moves [] = refl
-events_of_moves (event ∷ events) = ap (λ l. event ∷ l) (events_of_moves events)
 
 -- the same search goes on, and this is what stays of it
 pub record GoesOnAs (old new : GraphValue) : Type 0 where
@@ -60,13 +56,10 @@ moment_where_leased g recorded other machine same m = record {
 
 -- ---- what was read while the graph was held
 
-none_some : (n : ℕ) → None ≡ Some n → ⊥
-none_some n e = cc
-
 pub unread_recent : (g : GraphValue) (settled : Option ℕ) (view : View) → view.read_at ≡ None → IsRecent g settled view
 unread_recent g settled view none = record {
-  read_by = λ events is. absurd (none_some events (sym none ∙ is));
-  fresh = λ is. absurd (none_some (length g.table.journal) (sym none ∙ is));
+  read_by = λ events is. absurd (none-some events (sym none ∙ is));
+  fresh = λ is. absurd (none-some (length g.table.journal) (sym none ∙ is));
 }
 
 -- it is as recent where no event came, and else nothing is said of it

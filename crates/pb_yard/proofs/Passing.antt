@@ -1,5 +1,6 @@
 -- The first pass, passes that are split, and passes that meet keep the rule of the yard.
 use Rattle.std.proofs.Common.{◌≡◌, ◌≢◌, ℕ, zero, suc, ◌==◌, ◌<◌, true, false, List, [], ◌∷◌, ◌++◌, map, set, Option, Some, None, refl, sym, ap, ◌∙◌, subst, inl, true≢false, arith}
+use Rattle.std.proofs.lemmas.Option.{none-some}
 use mathlib.Core.Option.{some, some-injective, some-ne-none}
 use lib.ListN.{get_elem?}
 use Rattle.atomic_table.proofs.Lists.{set_else, at_longer, at_map}
@@ -15,7 +16,6 @@ use Rattle.pb_machine.proofs.Holding.{first_views_are_true}
 use Rattle.pb_machine.proofs.Splitting.{splitting_keeps_views}
 use Rattle.pb_machine.proofs.Meeting.{meeting_keeps_views}
 use Rattle.pb_machine.proofs.MomentLaws.{known_stays}
-use Rattle.pb_lease.specs.LeaseValue.{LeaseValue}
 use Rattle.pb_lease.specs.GraphValue.{GraphValue, setup_in, IsLeaseGraph}
 use Rattle.pb_lease.proofs.GraphBasics.{setup_is}
 use Rattle.pb_yard.specs.declared.view.View.{View}
@@ -40,23 +40,20 @@ opens g k o = record {
   moment = (o.moment (λ worker. rows_of None)).at;
   shared_is = refl;
   leases = λ worker. refl;
-  lent_is = λ worker lease is. none_lease lease is;
+  lent_is = λ worker lease is. absurd (none-some lease is);
   journals = subst (λ (j : List Event). AreTrueOf g.table.settings.workers j (first_view ∷ [])) (sym o.empty) (first_views_are_true g.table.settings.workers k.legal.range.workers.0);
   each = one;
   recent = recent;
   others = λ worker none. refl;
 }
   where
-    none_lease : {A : Type 0} (a : LeaseValue) → None ≡ Some a → A
-    none_lease a e = absurd cc
-
     one : (seat : ℕ) (view : View) → get_elem? (opening_view g ∷ []) seat ≡ some view → view.journal.is_live ≡ true → IsViewOf g (opening_machine (setup_in g)) (λ worker. None) view
     one zero view e up = subst (IsViewOf g (opening_machine (setup_in g)) (λ worker. None)) (some-injective (opening_view g) view e) record {
       lent = refl;
       told = refl;
       search = record { task = refl; graph = refl; settings = refl };
       known = record { read = λ incumbent has. unread incumbent has; last = refl };
-      copy = λ lease is. none_lease lease is;
+      copy = λ lease is. absurd (none-some lease is);
     }
       where
         unread : (incumbent : Option ℕ) → was_read (opening_view g) incumbent ≡ true → (worker : ℕ) → (opening_machine (setup_in g)).known worker incumbent ≡ true
@@ -132,12 +129,9 @@ module _ (x : GraphValue) (shared : Option ℕ) (views : List View) (seat : ℕ)
     told = untold;
     search = record { task = m.search.task; graph = m.search.graph; settings = m.search.settings };
     known = record { read = λ incumbent has. unread incumbent has; last = known_none v.journal.made };
-    copy = λ lease is. none_lease lease is;
+    copy = λ lease is. absurd (none-some lease is);
   }
     where
-      none_lease : {A : Type 0} (a : LeaseValue) → None ≡ Some a → A
-      none_lease a e = absurd cc
-
       unread : (incumbent : Option ℕ) → was_read New incumbent ≡ true → (worker : ℕ) → h.machine.known worker incumbent ≡ true
       unread None has worker = known_none worker
       unread (Some cost) has worker = absurd (true≢false (sym has))

@@ -1,10 +1,11 @@
 -- What a pass reads as the incumbent, and what the graph takes of it.
-use Rattle.std.proofs.Common.{◌≡◌, ℕ, ◌==◌, ◌||◌, Bool, true, false, IsTrue, List, ◌∷◌, length, Option, Some, None, refl, sym, ap, ◌∙◌, subst, arith}
+use Rattle.std.proofs.Common.{◌≡◌, ℕ, ◌==◌, ◌||◌, true, IsTrue, List, ◌∷◌, length, Option, Some, None, refl, sym, ap, ◌∙◌, subst, arith}
 use Rattle.std.specs.List.{list_any}
+use Rattle.std.proofs.Math.Bool.{or-true}
 use mathlib.Core.Option.{some}
 use lib.ListN.{get_elem?}
 use Rattle.pb_turn.specs.Obligations.{LeaveKeeps, Stands}
-use Rattle.pb_model.specs.Store.{lesser, AtMost}
+use Rattle.pb_model.specs.Store.{AtMost}
 use Rattle.pb_model.proofs.Incumbents.{at_most_trans}
 use Rattle.pb_model.proofs.Tests.{equal_self}
 use Rattle.pb_lease.specs.LeaseValue.{LeaseValue}
@@ -17,6 +18,7 @@ use Rattle.pb_machine.specs.Turns.{AreLeaseTurns}
 use Rattle.pb_machine.proofs.LeaseWork.{lease_work_stays}
 use Rattle.pb_lease.specs.LeaseValue.{leased_store}
 use Rattle.pb_lease.specs.Leased.{guide_of}
+use Rattle.pb_expand.proofs.Watched.{lesser_other, none_below}
 use Rattle.pb_yard.specs.Returning.{IsBrought}
 use Rattle.pb_yard.specs.declared.view.View.{View}
 use Rattle.pb_yard.specs.Views.{cost_of, bounded, view_read, view_left}
@@ -29,6 +31,15 @@ use Rattle.pb_yard.proofs.Clauses.{Fact, MayTake, MayGo, leave_keeps, holds, see
 -- what was read is among what the reads found
 pub reads_it : (held : Option GraphValue) (v : View) (incumbent : Option ℕ) (cost : ℕ) → incumbent ≡ Some cost → IsTrue (was_read (view_read held v incumbent) (Some cost))
 reads_it held v incumbent cost is = subst (λ o. IsTrue (list_any (is_cost cost) (o ∷ v.read))) (sym is) (ap (λ r. r || list_any (is_cost cost) v.read) (equal_self cost))
+
+-- what was read stays read
+pub more_read : (held : Option GraphValue) (v : View) (read incumbent : Option ℕ) → was_read v incumbent ≡ true → was_read (view_read held v read) incumbent ≡ true
+more_read held v read None has = has
+more_read held v read (Some cost) has = go read
+  where
+    go : (o : Option ℕ) → list_any (is_cost cost) (o ∷ v.read) ≡ true
+    go None = has
+    go (Some new) = ap (λ r. (new == cost) || r) has ∙ or-true (new == cost)
 
 -- the graph that takes what the pass has read is a moment as before
 pub bounded_yard : (f : GraphValue) (bound shared : Option ℕ) (views : List View) → (h : IsYard f shared views)
@@ -69,16 +80,8 @@ takes_read f v held incumbent live = (
 
 -- the graph's incumbent is then what was read
 pub bounded_is : (f : GraphValue) (incumbent : Option ℕ) → AtMost incumbent f.incumbent → (bounded f incumbent).incumbent ≡ incumbent
-bounded_is f None most = go f.incumbent most
-  where
-    go : (o : Option ℕ) → AtMost None o → o ≡ None
-    go None h = refl
-    go (Some cost) h = absurd h
-bounded_is f (Some cost) most = go f.incumbent most
-  where
-    go : (o : Option ℕ) → AtMost (Some cost) o → lesser o (Some cost) ≡ Some cost
-    go None h = refl
-    go (Some other) h = ap (λ n. Some n) (omega (arith, h))
+bounded_is f None most = none_below f.incumbent most
+bounded_is f (Some cost) most = lesser_other f.incumbent cost most
 
 -- what is read is at most the graph's incumbent, and what the pass has read or told
 pub read_falls : (x : GraphValue) (number : ℕ) (views : List View) (seat : ℕ) (v : View) → Fact x number views → get_elem? views seat ≡ some v → v.journal.is_live ≡ true
@@ -102,7 +105,7 @@ entered f v o seat u is live (number, (views, h, at)) = let here = at ∙ ap (λ
 -- what was brought before the pass read is brought after
 pub brought_on : (v : View) (held : Option GraphValue) (o : Option ℕ) (most_broken : ℕ) (lease : LeaseValue) → AtMost o v.last → IsBrought v most_broken lease → IsBrought (view_read held v o) most_broken lease
 brought_on v held o most_broken lease falls b =
-    let stays = lease_work_stays (space_of v.task) (guide_of v.task v.graph) b.lent.block lease.used most_broken most_broken (was_read v) (was_read (view_read held v o)) (leased_store b.lent) (leased_store lease) b.work (omega arith) more in
+    let stays = lease_work_stays (space_of v.task) (guide_of v.task v.graph) b.lent.block lease.used most_broken most_broken (was_read v) (was_read (view_read held v o)) (leased_store b.lent) (leased_store lease) b.work (omega arith) (more_read held v o) in
     record {
       lent = b.lent;
       lent_is = b.lent_is;
@@ -113,18 +116,6 @@ brought_on v held o most_broken lease falls b =
       copy = at_most_trans o v.last lease.incumbent falls b.copy;
       told = b.told;
     }
-  where
-    more : (incumbent : Option ℕ) → was_read v incumbent ≡ true → was_read (view_read held v o) incumbent ≡ true
-    more None has = has
-    more (Some cost) has = go o
-      where
-        or_yes : (a : Bool) → (a || true) ≡ true
-        or_yes true = refl
-        or_yes false = refl
-
-        go : (o : Option ℕ) → list_any (is_cost cost) (o ∷ v.read) ≡ true
-        go None = has
-        go (Some new) = ap (λ r. (new == cost) || r) has ∙ or_yes (new == cost)
 
 -- A call that read the incumbent under the turn: the pass found f, the graph took what was read, and is left as y.
 module _ (f y : GraphValue) (v : View) (o : Option ℕ) (live : v.journal.is_live ≡ true) (list : GraphValue → List Event) (lent : View → Option LeaseValue) (told : View → Option ℕ) where

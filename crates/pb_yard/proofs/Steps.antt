@@ -1,5 +1,6 @@
 -- What each call of a graph does is a step of the rule.
-use Rattle.std.proofs.Common.{◌≡◌, ℕ, ◌==◌, inl, inr, length, Bool, true, false, cond, nat_eq, is_some, List, [], ◌∷◌, ◌++◌, Option, Some, None, refl, sym, ap, ◌∙◌, subst}
+use Rattle.std.proofs.Common.{◌≡◌, ℕ, ◌==◌, inl, inr, length, Bool, true, false, cond, List, [], ◌∷◌, ◌++◌, Option, Some, None, refl, sym, ap, ◌∙◌, subst}
+use Rattle.std.proofs.lemmas.Option.{none-some, same_Some}
 use mathlib.Core.Option.{some}
 use lib.ListN.{get_elem?}
 use Rattle.pb_model.specs.Store.{Rows, Store, HasGoalWithin, lesser, AtMost}
@@ -10,7 +11,6 @@ use Rattle.pb_task.specs.Parts.{space_of}
 use Rattle.pb_machine.specs.declared.event.End.{End}
 use Rattle.pb_machine.specs.declared.event.Event.{Event}
 use Rattle.pb_machine.specs.declared.event.Event.TheVariants.{Lease, Renew, Release}
-use Rattle.pb_machine.specs.declared.event.Grant.{Grant}
 use Rattle.pb_machine.specs.Tables.{with_entry, one_if}
 use Rattle.pb_machine.specs.Counts.{Counts, counts_after}
 use Rattle.pb_machine.specs.History.{is_event_of, events_of}
@@ -19,9 +19,6 @@ use Rattle.pb_machine.specs.Machine.{Machine, IsWorked, KeepsRows}
 use Rattle.pb_machine.specs.Turns.{AreLeaseTurns, RunsInOrder}
 use Rattle.pb_machine.proofs.Known.{known_more}
 use Rattle.pb_machine.proofs.TableLaws.{entry_here, entry_else}
-use Rattle.pb_bundles.specs.Parts.{content_in}
-use Rattle.pb_lists.specs.Bundle.{Content}
-use Rattle.std.specs.Map.{keys_of}
 use Rattle.pb_abstract.specs.Graph.{AbstractGraph}
 use Rattle.pb_bundles.specs.Parts.{away_rows}
 use Rattle.pb_bundles.specs.Moves.{NotesKeys}
@@ -34,6 +31,7 @@ use Rattle.pb_lease.specs.Moments.{IsMomentAt, Follows, moves_of, ShowsTold, IsK
 use Rattle.pb_lease.specs.Steps.{IsLeased, LeasesNext, end_events, KeepsLeases, IsReleased, ReleasesNext, IsRenewed, RenewsNext, GoesOn}
 use Rattle.pb_lease.proofs.MomentReturns.{ending_leases}
 use Rattle.pb_lease.proofs.WorkedOut.{worked_leases_are_out}
+use Rattle.pb_expand.proofs.Same.{same_places}
 use Rattle.pb_yard.specs.declared.view.View.{View}
 use Rattle.pb_yard.specs.Order.{HasCause, RunsSettled}
 use Rattle.pb_yard.specs.Rule.{rows_of, grant_in, was_read, IsLent, IsViewOf, IsYard}
@@ -74,34 +72,6 @@ same_adds x y events adds task = record { task = task; graph = adds.graph; setti
 
 pub same_rest : (x y : GraphValue) (events : List Event) → Adds x.table y.table events → y ≡ record x { table = y.table } → GoesOnAs x y
 same_rest x y events adds rest = same_adds x y events adds (ap (λ (g : GraphValue). g.task) rest)
-
-some_lease : (a b : LeaseValue) → Some a ≡ Some b → a ≡ b
-some_lease a b e = cc
-
-none_lease : {A : Type 0} (a : LeaseValue) → None ≡ Some a → A
-none_lease a e = absurd cc
-
-none_grant : {A : Type 0} (a : Grant) → None ≡ Some a → A
-none_grant a e = absurd cc
-
--- whether a number is among these
-has_number : List ℕ → (number : ℕ) → Bool
-has_number [] number = false
-has_number (other ∷ numbers) number = cond (nat_eq number other) true (has_number numbers number)
-
-has_by_key : (parts : List (ℕ × Content)) (block : ℕ) → is_some (content_in parts block) ≡ has_number (keys_of parts) block
-unfolding has_number
-has_by_key [] block = refl
-has_by_key (part ∷ parts) block = go (nat_eq block part.0) (has_by_key parts block)
-  where
-    go : (b : Bool) → is_some (content_in parts block) ≡ has_number (keys_of parts) block
-        → is_some (cond b (Some part.1) (content_in parts block)) ≡ cond b true (has_number (keys_of parts) block)
-    go true h = refl
-    go false h = h
-
--- bundles of the same blocks
-same_places : (parts others : List (ℕ × Content)) (block : ℕ) → keys_of others ≡ keys_of parts → is_some (content_in others block) ≡ is_some (content_in parts block)
-same_places parts others block same = has_by_key others block ∙ ap (λ keys. has_number keys block) same ∙ sym (has_by_key parts block)
 
 -- ---- a step from a yard
 
@@ -201,9 +171,9 @@ module _ (x y : GraphValue) (shared : Option ℕ) (views : List View) (seat : �
         by = first_by Own (Lease Own lease.block lease.quota) [] (λ other. refl) (λ other else. refl);
         records = λ other grant leased. rows_entry h.lent Own (Some lease) other;
         leases = t.3;
-        lent_is = λ other is. subst (λ (k : LeaseValue). IsLent y t.0 Own k) (some_lease lease other is)
+        lent_is = λ other is. subst (λ (k : LeaseValue). IsLent y t.0 Own k) (same_Some lease other is)
             record { worker_is = l.worker_is; of_graph = l.of_graph; unused = l.used; given = t.2 };
-        copy = λ other is. subst (λ (k : LeaseValue). AtMost v.last k.incumbent) (some_lease lease other is) (subst (λ o. AtMost v.last o) (sym (l.lent_incumbent ∙ is_last)) (at_most_self v.last));
+        copy = λ other is. subst (λ (k : LeaseValue). AtMost v.last k.incumbent) (same_Some lease other is) (subst (λ o. AtMost v.last o) (sym (l.lent_incumbent ∙ is_last)) (at_most_self v.last));
         told_is = (λ i. t.5 i Own) ∙ entry_here h.machine.told Own Own None (equal_self Own);
       },
       ap (λ (s : Store). s.incumbent) t.4 ∙ h.shared_is,
@@ -299,11 +269,11 @@ module _ (x y : GraphValue) (shared : Option ℕ) (views : List View) (seat : �
             added = r.events.journal;
             by = first_by Own (Release lease.worker lease.used trouble) (ending trouble x.table.end) (λ other. ap (λ w. w == other) own) (ending_by Own trouble x.table.end);
             records = λ other grant leased. by_cases (other == Own)
-                (λ e. none_grant grant (sym gone ∙ ap t.0.counts.leases (sym (equal other Own e)) ∙ leased))
+                (λ e. absurd (none-some grant (sym gone ∙ ap t.0.counts.leases (sym (equal other Own e)) ∙ leased)))
                 (λ e. ap rows_of (entry_else h.lent Own other None e));
             leases = gone;
-            lent_is = λ other is. none_lease other is;
-            copy = λ other is. none_lease other is;
+            lent_is = λ other is. absurd (none-some other is);
+            copy = λ other is. absurd (none-some other is);
             told_is = (λ i. t.3 i Own) ∙ ap (λ w. with_entry h.machine.told w None Own) own ∙ entry_here h.machine.told Own Own None (equal_self Own);
           },
           t.2 ∙ brought (one_if trouble) lease b,
@@ -335,9 +305,9 @@ module _ (x y : GraphValue) (shared : Option ℕ) (views : List View) (seat : �
             by = first_by Own (Renew lease.worker lease.used kept.quota) [] (λ other. ap (λ w. w == other) own) (λ other else. refl);
             records = λ other grant leased. rows_entry h.lent Own (Some kept) other ∙ (λ i. with_entry Recorded (sym own i) (away_rows kept.parts) other);
             leases = ap t.0.counts.leases (sym kept_own) ∙ t.3.0.leased;
-            lent_is = λ other is. subst (λ (k : LeaseValue). IsLent y t.0 Own k) (some_lease kept other is)
+            lent_is = λ other is. subst (λ (k : LeaseValue). IsLent y t.0 Own k) (same_Some kept other is)
                 record { worker_is = kept_own; of_graph = r.of_graph; unused = ap (λ (k : LeaseValue). k.used) r.kept_is; given = ap t.0.given (sym kept_own) ∙ t.2 };
-            copy = λ other is. subst (λ (k : LeaseValue). AtMost v.last k.incumbent) (some_lease kept other is) (subst (λ o. AtMost v.last o) (sym (kept_incumbent ∙ is_last)) (at_most_self v.last));
+            copy = λ other is. subst (λ (k : LeaseValue). AtMost v.last k.incumbent) (same_Some kept other is) (subst (λ o. AtMost v.last o) (sym (kept_incumbent ∙ is_last)) (at_most_self v.last));
             told_is = (λ i. t.5 i Own) ∙ ap (λ w. with_entry h.machine.told w None Own) own ∙ entry_here h.machine.told Own Own None (equal_self Own);
           },
           t.4 ∙ brought 0 lease b,

@@ -1,6 +1,8 @@
 -- What a worker knows after a call.
 use Rattle.std.proofs.Common.{◌≡◌, ℕ, ◌==◌, ◌||◌, Bool, true, false, cond, List, [], ◌∷◌, ◌++◌, Option, Some, None, ⊎_elim, refl, sym, ap, ◌∙◌, subst, arith}
 use Rattle.std.specs.List.{list_any}
+use Rattle.std.proofs.lemmas.List.Folds.{list_any-append}
+use Rattle.std.proofs.Math.Bool.{or-true}
 use Rattle.pb_model.proofs.Incumbents.{at_most_self}
 use Rattle.pb_model.proofs.Tests.{by_cases, equal_self, or_false}
 use Rattle.pb_machine.specs.declared.event.End.{End}
@@ -43,39 +45,31 @@ lent_leases_may_come_back g view at live lease is untold most_broken =
 
 -- ---- signing off, in lists of events
 
-any_both : (xs ys : List Event) → list_any is_off (xs ++ ys) ≡ (list_any is_off xs || list_any is_off ys)
-any_both [] ys = refl
-any_both (x ∷ xs) ys = go (is_off x) (any_both xs ys)
-  where
-    go : (r : Bool) → list_any is_off (xs ++ ys) ≡ (list_any is_off xs || list_any is_off ys) → (r || list_any is_off (xs ++ ys)) ≡ ((r || list_any is_off xs) || list_any is_off ys)
-    go true e = refl
-    go false e = e
-
-none_of : (worker : ℕ) (events : List Event) → list_any is_off events ≡ false → list_any is_off (events_of worker events) ≡ false
-none_of worker [] e = refl
-none_of worker (event ∷ events) e =
+pub own_none_off : (worker : ℕ) (events : List Event) → list_any is_off events ≡ false → list_any is_off (events_of worker events) ≡ false
+own_none_off worker [] e = refl
+own_none_off worker (event ∷ events) e =
     let p = or_false (is_off event) (list_any is_off events) e in
     by_cases (is_event_of worker event)
-    (λ own. ap (λ r. list_any is_off (cond r (event ∷ events_of worker events) (events_of worker events))) own ∙ ap (λ r. r || list_any is_off (events_of worker events)) p.0 ∙ none_of worker events p.1)
-    (λ own. ap (λ r. list_any is_off (cond r (event ∷ events_of worker events) (events_of worker events))) own ∙ none_of worker events p.1)
+    (λ own. ap (λ r. list_any is_off (cond r (event ∷ events_of worker events) (events_of worker events))) own ∙ ap (λ r. r || list_any is_off (events_of worker events)) p.0 ∙ own_none_off worker events p.1)
+    (λ own. ap (λ r. list_any is_off (cond r (event ∷ events_of worker events) (events_of worker events))) own ∙ own_none_off worker events p.1)
+
+pub end_none_off : (standing : Option End) (end : End) → list_any is_off (end_events standing end) ≡ false
+end_none_off None end = refl
+end_none_off (Some e) end = refl
+
+pub ending_none_off : (trouble : Bool) (standing : Option End) → list_any is_off (ending trouble standing) ≡ false
+ending_none_off false standing = refl
+ending_none_off true None = refl
+ending_none_off true (Some e) = refl
 
 pub lease_none_off : (worker : ℕ) (reply : LeaseReply) (x : GraphValue) → list_any is_off (lease_events worker reply x) ≡ false
 lease_none_off worker (Leased lease) x = refl
 lease_none_off worker NotYet x = refl
-lease_none_off worker (Over end) x = go x.table.end
-  where
-    go : (standing : Option End) → list_any is_off (end_events standing end) ≡ false
-    go None = refl
-    go (Some e) = refl
+lease_none_off worker (Over end) x = end_none_off x.table.end end
 lease_none_off worker Memory x = refl
 
 pub release_none_off : (lease : LeaseValue) (trouble : Bool) (x : GraphValue) → list_any is_off (Release lease.worker lease.used trouble ∷ ending trouble x.table.end) ≡ false
-release_none_off lease true x = go x.table.end
-  where
-    go : (standing : Option End) → list_any is_off (ending true standing) ≡ false
-    go None = refl
-    go (Some e) = refl
-release_none_off lease false x = refl
+release_none_off lease trouble x = ending_none_off trouble x.table.end
 
 -- ---- after a call
 
@@ -103,26 +97,22 @@ module _ (step : GraphValue → GraphValue → Type 0) (list : GraphValue → Li
   events_then = ap (λ (u : View). u.journal.own.events) h.view
 
   pub off_then : list_any is_off new.journal.own.events ≡ (list_any is_off old.journal.own.events || list_any is_off (events_of old.journal.own.worker (list h.found)))
-  off_then = ap (list_any is_off) events_then ∙ any_both old.journal.own.events (events_of old.journal.own.worker (list h.found))
+  off_then = ap (list_any is_off) events_then ∙ list_any-append is_off old.journal.own.events (events_of old.journal.own.worker (list h.found))
 
 pub active_stay : ActiveStay
 active_stay journal added lent told old new is none active =
-    ap (λ (u : View). list_any is_off u.journal.own.events) is ∙ any_both old.journal.own.events (events_of old.journal.own.worker added)
-    ∙ ap (λ r. r || list_any is_off (events_of old.journal.own.worker added)) active ∙ none_of old.journal.own.worker added none
+    ap (λ (u : View). list_any is_off u.journal.own.events) is ∙ list_any-append is_off old.journal.own.events (events_of old.journal.own.worker added)
+    ∙ ap (λ r. r || list_any is_off (events_of old.journal.own.worker added)) active ∙ own_none_off old.journal.own.worker added none
 
 pub signing_off_is_seen : SigningOffIsSeen
 signing_off_is_seen worker trouble old new is h =
     off_then _ (λ found. Off worker trouble ∷ ending trouble found.table.end) old new old.lent old.told h
     ∙ ap (λ r. list_any is_off old.journal.own.events || list_any is_off (cond r (Off worker trouble ∷ events_of old.journal.own.worker (ending trouble h.found.table.end)) (events_of old.journal.own.worker (ending trouble h.found.table.end))))
     (ap (λ k. worker == k) is ∙ equal_self worker)
-    ∙ last (list_any is_off old.journal.own.events)
-  where
-    last : (r : Bool) → (r || true) ≡ true
-    last true = refl
-    last false = refl
+    ∙ or-true (list_any is_off old.journal.own.events)
 
 -- the end that stands after the search was found to be over
-ended_end : (x y : GraphValue) (end : End) → IsOver x end → IsEnded x end y → y.table.end ≡ Some end
+pub ended_end : (x y : GraphValue) (end : End) → IsOver x end → IsEnded x end y → y.table.end ≡ Some end
 ended_end x y end over is = ⊎_elim (λ (stands : x.table.end ≡ Some end). ap (λ (g : GraphValue). g.table.end) (is.standing stands) ∙ stands)
     (λ rest. ap (λ (c : Counts). c.end) is.events.counts ∙ go x.table.end rest.0) over
   where
