@@ -31,7 +31,7 @@ fn read_some<S: Read>(file: &mut S, piece: &mut [u8]) -> Result<usize, Failed>
 }
 
 // How many bytes to ask for next: at least one, and in all at most one more than the caller allows.
-fn wanted(most: u64, len: usize) -> usize
+fn next_count(most: u64, len: usize) -> usize
     requires { len ≤ most }
     ensures some { 0 < result }
     ensures within { result ≤ PIECE }
@@ -57,7 +57,7 @@ pub(crate) fn read_whole<S: Read>(alloc: Global, file: &mut S, most: u64) -> Res
     let mut bytes = Vec::new(alloc);
     let mut piece = [0u8; PIECE];
     'turns: loop {
-        let part = &mut piece[..wanted(most, bytes.len())];
+        let part = &mut piece[..next_count(most, bytes.len())];
         let Ok(count) = read_some(file, part) else {
             return Err(Load::Failed);
         };
