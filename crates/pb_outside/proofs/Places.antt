@@ -1,12 +1,13 @@
 -- What stands under each name after a place was changed, or one was added.
 use Rattle.std.proofs.Common.{◌≡◌, ℕ, ◌-◌, ◌<◌, ◌≤◌, take, Bool, true, false, Option, None, Some, List, [], ◌∷◌, ◌++◌, length, refl, sym, ap, subst, ◌∙◌, arith}
-use Rattle.std.specs.Prelude.{if◌then◌else◌, slice_index_or, slice_set, slice_get, unwrap_or, OnOk, OnErr, IfErr, Result, Ok, Err}
+use Rattle.std.specs.Prelude.{if◌then◌else◌, slice_index_or, slice_set, slice_get, unwrap_or}
 use Rattle.std.specs.List.{position, position_or_len}
 use Rattle.std.specs.Option.{option_or, option_map, option_and_then}
 use Rattle.std.specs.Str.{bytes_eq}
 use Rattle.std.specs.Cmp.Lexicographic.{same_text}
 use Rattle.std.proofs.lemmas.Cmp.{nat_list_eq_equiv}
 use Rattle.std.proofs.lemmas.Grind.{common_steps}
+use Rattle.std.proofs.lemmas.Bool.{false_from_ne_true}
 use Rattle.std.proofs.lemmas.Bool.Decides.{nat_tests}
 use Rattle.std.proofs.lemmas.Option.{cond_some, slice_get-get_or, slice_get_past}
 use Rattle.std.proofs.lemmas.List.Folds.{find-set, find_past, find_at, find-append}
@@ -14,15 +15,6 @@ use Rattle.std.proofs.lemmas.List.Quantifiers.{position-Some}
 use Rattle.pb_outside.specs.Outside.{AppendsPartTo}
 use Rattle.pb_outside.specs.Memory.{PlaceView, is_named, place_of, place_or_new, file_in, grown, most_kept, KeepsOtherPlaces}
 use Rattle.pb_outside.proofs.Kept.{first_part}
-
-same_name : (a b : List ℕ) → bytes_eq a b ≡ true → a ≡ b
-same_name a b e = same_text a b (sym e)
-
-own_name : (a : List ℕ) → bytes_eq a a ≡ true
-own_name a = nat_list_eq_equiv.refl a
-
-other_name : (a b : List ℕ) → (a ≡ b → ⊥) → bytes_eq a b ≡ false
-other_name a b ne = elim (bytes_eq a b) as (λ t. bytes_eq a b ≡ t → t ≡ false) [ true ↦ λ e. absurd (ne (same_name a b e)) | false ↦ λ e. refl ] refl
 
 -- a place was changed that stood under the name
 pub record Changed (old new : List PlaceView) (name : List ℕ) (before after : PlaceView) : Type 0 where
@@ -42,12 +34,12 @@ found old name i d at =
 pub changed : (old : List PlaceView) (name : List ℕ) (i : ℕ) (d now : PlaceView) → position (is_named name) old ≡ Some i → now.name ≡ (slice_index_or old i d).name → Changed old (slice_set old i now) name (slice_index_or old i d) now
 changed old name i d now at named =
     let facts = position-Some (is_named name) old i d at in
-    let own : (slice_index_or old i d).name ≡ name = same_name _ name facts.1 in
+    let own : (slice_index_or old i d).name ≡ name = same_text _ name (sym facts.1) in
     record {
       was = found old name i d at;
-      here = find-set (is_named name) old i now (sym (first_place (is_named name) old i at)) facts.0 (ap (λ n. bytes_eq n name) (named ∙ own) ∙ own_name name);
+      here = find-set (is_named name) old i now (sym (first_place (is_named name) old i at)) facts.0 (ap (λ n. bytes_eq n name) (named ∙ own) ∙ nat_list_eq_equiv.refl name);
       others = λ other ne.
-          let apart : (n : List ℕ) → n ≡ name → bytes_eq n other ≡ false = λ n e. other_name n other (λ same. ne (sym same ∙ e)) in
+          let apart : (n : List ℕ) → n ≡ name → bytes_eq n other ≡ false = λ n e. false_from_ne_true (bytes_eq n other) (λ same. ne (sym (same_text n other (sym same)) ∙ e)) in
           find_past (is_named other) old i now d (apart _ own) (apart now.name (named ∙ own));
     }
 
@@ -67,8 +59,8 @@ or_none (Some x) = refl
 pub added : (old : List PlaceView) (name : List ℕ) (now : PlaceView) → position (is_named name) old ≡ None → now.name ≡ name → Added old (old ++ now ∷ []) name now
 added old name now none named = record {
   was = absent old name none;
-  here = pushed name (absent old name none) (ap (λ n. bytes_eq n name) named ∙ own_name name);
-  others = λ other ne. past other (other_name now.name other (λ same. ne (sym same ∙ named)));
+  here = pushed name (absent old name none) (ap (λ n. bytes_eq n name) named ∙ nat_list_eq_equiv.refl name);
+  others = λ other ne. past other (false_from_ne_true (bytes_eq now.name other) (λ same. ne (sym (same_text now.name other (sym same)) ∙ named)));
 } where
   pushed : (q : List ℕ) → place_of old q ≡ None → is_named q now ≡ true → place_of (old ++ now ∷ []) q ≡ Some now
   pushed q was passes = simp (find-append, was, passes)
@@ -90,8 +82,8 @@ put_new f keeps old name now none after =
 -- what stays under one name and in the places of all others stays everywhere
 pub stays : {X : Type 0} (g : PlaceView → Option X) (old new : List PlaceView) (name : List ℕ) → option_and_then g (place_of new name) ≡ option_and_then g (place_of old name) → KeepsOtherPlaces old new name → (q : List ℕ) → option_and_then g (place_of new q) ≡ option_and_then g (place_of old q)
 stays {X} g old new name here others q = elim (bytes_eq q name) as (λ t. bytes_eq q name ≡ t → option_and_then g (place_of new q) ≡ option_and_then g (place_of old q)) [
-  | true ↦ λ e. let P : List ℕ → Type 0 = λ n. option_and_then g (place_of new n) ≡ option_and_then g (place_of old n) in subst P (sym (same_name q name e)) here
-  | false ↦ λ e. ap (option_and_then g) (others q (λ same. differ (bytes_eq q name) (ap (λ n. bytes_eq n name) same ∙ own_name name) e))
+  | true ↦ λ e. let P : List ℕ → Type 0 = λ n. option_and_then g (place_of new n) ≡ option_and_then g (place_of old n) in subst P (sym (same_text q name (sym e))) here
+  | false ↦ λ e. ap (option_and_then g) (others q (λ same. differ (bytes_eq q name) (ap (λ n. bytes_eq n name) same ∙ nat_list_eq_equiv.refl name) e))
 ] refl where
   differ : (b : Bool) → b ≡ true → b ≡ false → ⊥
   differ b is isnt = cc
@@ -113,22 +105,6 @@ or_new_bytes (Some p) name = refl
 pub some_if : {A : Type 0} (b : Bool) (x y : A) → Some (if b then x else y) ≡ (if b then Some x else Some y)
 some_if true x y = refl
 some_if false x y = refl
-
-pub on_ok_then : {T E P Q : Type 0} (r : Result T E) → OnOk r P → (P → Q) → OnOk r Q
-on_ok_then (Ok x) p f = f p
-on_ok_then (Err e) p f = tt
-
-pub on_err_then : {T E P Q : Type 0} (r : Result T E) → OnErr r P → (P → Q) → OnErr r Q
-on_err_then (Ok x) p f = tt
-on_err_then (Err e) p f = f p
-
-pub if_err_then : {T E : Type 0} {P Q : E → Type 0} (r : Result T E) → IfErr r P → ((e : E) → P e → Q e) → IfErr r Q
-if_err_then (Ok x) p f = tt
-if_err_then (Err e) p f = f e p
-
-pub on_ok_both : {T E P Q R : Type 0} (r : Result T E) → OnOk r P → OnOk r Q → (P → Q → R) → OnOk r R
-on_ok_both (Ok x) p q f = f p q
-on_ok_both (Err e) p q f = tt
 
 -- the same of lists that are equal to these
 pub stays_along : {X : Type 0} (g : PlaceView → Option X) (start old new end : List PlaceView) (name : List ℕ) → start ≡ old → end ≡ new → option_and_then g (place_of new name) ≡ option_and_then g (place_of old name) → KeepsOtherPlaces old new name → (q : List ℕ) → option_and_then g (place_of end q) ≡ option_and_then g (place_of start q)

@@ -1,5 +1,5 @@
--- Laws for callers: what two calls in a row do to what is told, and to a file that grows.
-use Rattle.std.proofs.Common.{◌≡◌, ℕ, ◌≤◌, Option, None, Some, List, ◌++◌, length, take, sym, ap, ◌∙◌}
+-- Laws for callers: what two calls in a row do to what is told, and to a file that grows; and what holds on success or failure.
+use Rattle.std.proofs.Common.{◌≡◌, ℕ, ◌≤◌, Option, None, Some, List, ◌++◌, length, take, sym, ap, ◌∙◌, Result, Ok, Err, OnOk, OnErr}
 use Rattle.pb_outside.specs.Outside.{Files, IfTold, KeepsOthers, KeepsAll, AppendsTo, AppendsPartTo}
 
 -- P and then Q are R
@@ -18,6 +18,10 @@ told_both (Some x) (Some y) P Q R p q f = f x y p q
 told_both None (Some y) P Q R p q f = p
 told_both (Some x) None P Q R p q f = p
 
+-- what follows from P is told too
+pub told_as : {A : Type 0} (a b : Option A) (P R : A → A → Type 0) → IfTold a b P → ((x y : A) → P x y → R x y) → IfTold a b R
+told_as a b P R p f = told_both a b P P R p p (λ x y one two. f x y one)
+
 pub others_then : (x y z : Files) (name : List ℕ) → KeepsOthers x y name → KeepsOthers y z name → KeepsOthers x z name
 others_then x y z name one two other ne = two other ne ∙ one other ne
 
@@ -34,3 +38,13 @@ appended old new name bytes piece held appends =
 -- or by a first part of it
 pub appended_part : (old new : Files) (name bytes piece : List ℕ) → old name ≡ Some bytes → AppendsPartTo old new name piece → (kept : ℕ) × (kept ≤ length piece) × (new name ≡ Some (bytes ++ take kept piece))
 appended_part old new name bytes piece held appends = appends.there bytes held
+
+-- ---- what holds on success or failure
+
+pub on_err : {T E P : Type 0} (result : Result T E) → P → OnErr result P
+on_err (Ok x) p = tt
+on_err (Err e) p = p
+
+pub on_ok_both : {T E P Q R : Type 0} (result : Result T E) → OnOk result P → OnOk result Q → (P → Q → R) → OnOk result R
+on_ok_both (Ok x) p q f = f p q
+on_ok_both (Err e) p q f = tt

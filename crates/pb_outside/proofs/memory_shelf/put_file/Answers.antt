@@ -1,20 +1,21 @@
 use Rattle.std.proofs.Common.{◌≡◌, Some, None, refl, ap, ◌∙◌}
 use Rattle.std.specs.List.{position}
+use Rattle.std.proofs.lemmas.Result.{on_ok_weaker}
 use Rattle.pb_outside.specs.Memory.{PlaceView, is_named}
-use Rattle.pb_outside.proofs.Places.{put_there, put_new, on_ok_then}
+use Rattle.pb_outside.proofs.Places.{put_there, put_new}
 use Rattle.pb_outside.proofs.memory_shelf.put_file.Goals as goal
 
 pub returns-in-Some-clause-here : goal.returns-in-Some-clause-here
 returns-in-Some-clause-here c =
     let at : position (is_named c.args.name.now) c.args.places.now.items ≡ Some c.in-Some.i = cc in
-    on_ok_then c.put.result c.put.ensures.ok (λ after.
-    (put_there (λ (p : PlaceView). record p { bytes = Some c.args.bytes.now }) (λ p. refl) c.args.places.now.items c.args.name.now c.in-Some.i c.index_mut.result.now c.put.new.self at c.index_mut.ensures.value after).0)
+    on_ok_weaker c.put.result (λ after.
+    (put_there (λ (p : PlaceView). record p { bytes = Some c.args.bytes.now }) (λ p. refl) c.args.places.now.items c.args.name.now c.in-Some.i c.index_mut.result.now c.put.new.self at c.index_mut.ensures.value after).0) c.put.ensures.ok
 
 pub returns-in-Some-clause-others : goal.returns-in-Some-clause-others
 returns-in-Some-clause-others c =
     let at : position (is_named c.args.name.now) c.args.places.now.items ≡ Some c.in-Some.i = cc in
-    on_ok_then c.put.result c.put.ensures.ok (λ after.
-    (put_there (λ (p : PlaceView). record p { bytes = Some c.args.bytes.now }) (λ p. refl) c.args.places.now.items c.args.name.now c.in-Some.i c.index_mut.result.now c.put.new.self at c.index_mut.ensures.value after).1)
+    on_ok_weaker c.put.result (λ after.
+    (put_there (λ (p : PlaceView). record p { bytes = Some c.args.bytes.now }) (λ p. refl) c.args.places.now.items c.args.name.now c.in-Some.i c.index_mut.result.now c.put.new.self at c.index_mut.ensures.value after).1) c.put.ensures.ok
 
 pub returns-clause-here : goal.returns-clause-here
 returns-clause-here c =

@@ -1,5 +1,5 @@
 use Rattle.pb_outside.proofs.Untold.{ok_claims_nothing, err_claims_nothing, value_claims_nothing, error_claims_nothing}
-use Rattle.pb_outside.proofs.Places.{on_err_then}
+use Rattle.std.proofs.lemmas.Result.{on_err_weaker}
 use Rattle.pb_outside.proofs.file_shelf.FileShelfShelf.TheImpl.Goals as goal
 
 pub load-tells : goal.load-tells
@@ -38,6 +38,6 @@ append-tells g c = record {
   holds = λ name n h. h;
   loads = λ name h. h;
   noted = c.ensures.noted;
-  noted_error = on_err_then c.result c.ensures.noted_error (λ f. record { kept = f.kept; within = f.within; noted = f.noted; told = tt });
+  noted_error = on_err_weaker c.result (λ f. record { kept = f.kept; within = f.within; noted = f.noted; told = tt }) c.ensures.noted_error;
   cause = c.ensures.cause;
 }

@@ -1,7 +1,8 @@
 use Rattle.std.proofs.Common.{◌≡◌, ap, refl, ◌∙◌}
 use Rattle.std.specs.Option.{option_and_then}
 use Rattle.pb_outside.specs.Memory.{PlaceView, ShelfView, place_of}
-use Rattle.pb_outside.proofs.Places.{stays_along, or_new_room, on_ok_both}
+use Rattle.pb_outside.proofs.Places.{stays_along, or_new_room}
+use Rattle.pb_outside.proofs.Told.{on_ok_both}
 use Rattle.pb_outside.proofs.memory_shelf.MemShelf.add.Goals as goal
 
 pub returns-clause-rooms : goal.returns-clause-rooms

@@ -1,7 +1,8 @@
 use Rattle.std.proofs.Common.{◌≡◌, ap, refl, ◌∙◌}
 use Rattle.std.specs.Option.{option_and_then}
 use Rattle.pb_outside.specs.Memory.{PlaceView, ShelfView, place_of}
-use Rattle.pb_outside.proofs.Places.{stays_along, or_new_bytes, on_ok_both}
+use Rattle.pb_outside.proofs.Places.{stays_along, or_new_bytes}
+use Rattle.pb_outside.proofs.Told.{on_ok_both}
 use Rattle.pb_outside.proofs.memory_shelf.MemShelf.reserve.Goals as goal
 
 pub returns-clause-files : goal.returns-clause-files
