@@ -1,46 +1,23 @@
 -- Calls on a shelf, one after another, and what a file then holds of a text.
 use Rattle.std.specs.Prelude.{codes}
-use Rattle.std.proofs.Common.{◌≡◌, ℕ, zero, suc, Result, Ok, Err, OnOk, OnErr, ◌+◌, ◌<◌, ◌≤◌, Option, None, Some, List, [], ◌∷◌, ◌++◌, length, take, drop, map, get_or, refl, sym, subst, ap, arith, ◌∙◌, append_assoc, append-nil}
-use Rattle.std.proofs.lemmas.List.{map-append, length-append, take-append-drop}
+use Rattle.std.proofs.Common.{◌≡◌, ℕ, suc, ◌+◌, ◌<◌, ◌≤◌, List, [], ◌∷◌, ◌++◌, length, take, drop, map, get_or, sym, subst, ap, arith, ◌∙◌, append_assoc, append-nil}
+use Rattle.std.proofs.lemmas.List.{map-append, length-append, take-append-drop, take_all}
 use Rattle.std.proofs.Math.Seq.{take-suc}
 use Rattle.pb_model.specs.Texts.{line, lines}
-use Rattle.pb_outside.specs.Outside.{Files, IfTold}
+use Rattle.pb_print.proofs.Lines.{lines-append, lines-last}
+use Rattle.pb_outside.specs.Outside.{Files}
 use Rattle.pb_outside.specs.Calls.{Call, HasBytes}
 use Rattle.pb_outside.specs.Saves.{HoldsPart, SavesPart}
-use Rattle.pb_outside.proofs.Told.{told_both}
 use Rattle.pb_outside.proofs.Saves.{part_of_more, failed_more}
 use Rattle.pb_machine.specs.declared.event.Event.{Event}
 use Rattle.pb_journal.specs.Texts.{event_line, header_lines, header_text, events_text, journal_text}
 use Rattle.pb_machine.specs.declared.settings.Settings.{Settings}
-
--- ---- what holds on success or failure
-
-pub on_err : {T E P : Type 0} (result : Result T E) → P → OnErr result P
-on_err (Ok x) p = tt
-on_err (Err e) p = p
-
-pub on_ok_both : {T E P Q R : Type 0} (result : Result T E) → OnOk result P → OnOk result Q
-    → (P → Q → R) → OnOk result R
-on_ok_both (Ok x) p q f = f p q
-on_ok_both (Err e) p q f = tt
-
--- ---- what is told over two calls
-
-pub told_as : (a b : Option Files) (P R : Files → Files → Type 0) → IfTold a b P → ((x y : Files) → P x y → R x y) → IfTold a b R
-told_as a b P R p f = told_both a b P P R p p (λ x y one two. f x y one)
 
 -- ---- event after event
 
 -- the text as far as these many events
 abbrev pub text_before : Settings → List Event → (at : ℕ) → List ℕ
 text_before settings journal at = header_text settings ++ events_text (take at journal)
-
-lines-last : (texts : List (List ℕ)) (text : List ℕ) → lines (texts ++ text ∷ []) ≡ lines texts
-    ++ line text
-lines-last [] text = append-nil (line text)
-lines-last (first ∷ texts) text =
-    ap (λ t. line first ++ t) (lines-last texts text)
-    ∙ sym (append_assoc (line first) (lines texts) (line text))
 
 pub one_event : (settings : Settings) (journal : List Event) (at : ℕ) (d : Event)
     → at < length journal → text_before settings journal (at + 1) ≡ text_before settings journal at
@@ -63,20 +40,7 @@ first_text settings journal = sym (append-nil (header_text settings))
 pub whole_text : (settings : Settings) (journal : List Event) (at : ℕ) → length journal ≤ at
     → text_before settings journal at ≡ journal_text settings journal
 whole_text settings journal at le =
-    ap (λ (es : List Event). header_text settings ++ events_text es) (whole journal at le)
-  where
-    whole : (xs : List Event) (at : ℕ) → length xs ≤ at → take at xs ≡ xs
-    whole [] zero le = refl
-    whole [] (suc at) le = refl
-    whole (x ∷ xs) zero le = absurd (omega (arith, le))
-    whole (x ∷ xs) (suc at) le = ap (λ t. x ∷ t) (whole xs at (omega (arith, le)))
-
-lines-append : (texts others : List (List ℕ)) → lines (texts ++ others) ≡ lines texts
-    ++ lines others
-lines-append [] others = refl
-lines-append (text ∷ texts) others =
-    ap (λ t. line text ++ t) (lines-append texts others)
-    ∙ sym (append_assoc (line text) (lines texts) (lines others))
+    ap (λ (es : List Event). header_text settings ++ events_text es) (take_all at journal le)
 
 text_and_rest : (settings : Settings) (journal : List Event) (at : ℕ)
     → text_before settings journal at ++ events_text (drop at journal)

@@ -4,7 +4,7 @@ use Rattle.std.proofs.lemmas.List.{length-map, nil_from_length}
 use Rattle.std.proofs.lemmas.Bool.{eqb-true}
 use Rattle.pb_model.specs.Texts.{lines}
 use Rattle.pb_model.specs.Weight.{IsWeight}
-use Rattle.pb_model.proofs.Tests.{and_true, not_true}
+use Rattle.pb_model.proofs.Tests.{and_true, not_false, not_true}
 use Rattle.pb_machine.specs.declared.event.Event.{Event}
 use Rattle.pb_machine.specs.declared.event.Event.TheVariants.{Lease, Renew, Hot, Cold, Release, Off, Ended}
 use Rattle.pb_machine.specs.declared.event.EventRefusal.{EventRefusal}
@@ -42,14 +42,10 @@ finished_is settings counts h =
     record {
       end = both.0;
       signed_off =
-          λ worker less. signed (counts.signed_off worker)
+          λ worker less. not_false (counts.signed_off worker)
           (any_none settings.workers worker (λ worker. not (counts.signed_off worker))
           (not_true _ both.1) less);
     }
-  where
-    signed : (r : Bool) → not r ≡ false → r ≡ true
-    signed true e = refl
-    signed false e = absurd (true≢false e)
 
 pub is_finished : (settings : Settings) (counts : Counts) → AreFinished settings counts
     → are_finished settings counts ≡ true

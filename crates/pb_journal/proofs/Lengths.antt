@@ -1,7 +1,8 @@
 -- How long the text of a journal can be: each line by the digits of its numbers.
-use Rattle.std.proofs.Common.{◌≡◌, ℕ, ◌+◌, ◌*◌, ◌<◌, ◌≤◌, ◌^◌, length, Bool, true, false, List, [], ◌∷◌, ◌++◌, map, codes, None, Some, refl, sym, ap, ◌∙◌, arith}
+use Rattle.std.proofs.Common.{◌≡◌, ℕ, ◌+◌, ◌*◌, ◌≤◌, ◌^◌, length, Bool, true, false, List, [], ◌∷◌, codes, None, Some, refl, sym, ◌∙◌, arith}
 use Rattle.std.specs.Fmt.{decimal}
 use Rattle.std.proofs.lemmas.Fmt.{length-decimal-le}
+use Rattle.std.proofs.lemmas.List.{length-append}
 use Rattle.pb_model.specs.Texts.{line, lines, spaced}
 use Rattle.pb_machine.specs.declared.event.End.TheVariants.{Quiet, Budget, Memory}
 use Rattle.pb_machine.specs.declared.event.Event.{Event}
@@ -14,19 +15,15 @@ use Rattle.pb_machine.specs.Legality.{refusal}
 use Rattle.pb_machine.specs.History.{replay}
 use Rattle.pb_machine.proofs.CountsLaws.{event_keeps, opening_lawful}
 use Rattle.pb_machine.proofs.Histories.{first_may, replay_first}
-use Rattle.pb_journal.specs.Texts.{numbered, numbered_twice, plain_line, header_lines, header_text, report_word, event_line, events_text}
+use Rattle.pb_journal.specs.Texts.{numbered, plain_line, header_text, report_word, event_line, events_text}
 use Rattle.pb_journal.specs.Lengths.{JournalTextsAreShort}
 use Rattle.pb_journal.proofs.Allowed.{lease_allowed, renewal_allowed, hot_allowed, cold_allowed, release_allowed, off_allowed}
 
-both_long : (first second : List ℕ) → length (first ++ second) ≡ length first + length second
-both_long [] second = omega arith
-both_long (b ∷ first) second = let rest = both_long first second in omega (arith, rest)
-
 line_long : (text : List ℕ) → length (line text) ≡ length text + 1
-line_long text = both_long text (10 ∷ [])
+line_long text = length-append text (10 ∷ [])
 
 spaced_long : (first second : List ℕ) → length (spaced first second) ≡ length first + (1 + length second)
-spaced_long first second = let sum = both_long first (32 ∷ second) in omega (arith, sum)
+spaced_long first second = let sum = length-append first (32 ∷ second) in omega (arith, sum)
 
 -- numbers of so many digits
 two_digits : (n : ℕ) → n ≤ 64 → length (decimal n) ≤ 2
@@ -116,7 +113,7 @@ module _ (blocks : Blocks) (settings : Settings) (few : blocks.count ≤ 4096) (
       let may = first_may blocks settings counts last event journal is in
       let first = event_long counts event lawful may in
       let rest = events_long journal (counts_after blocks settings counts event) last (event_keeps blocks settings counts event lawful may) (sym (replay_first blocks settings counts event journal may) ∙ is) in
-      let both = both_long (line (event_line event)) (events_text journal) in
+      let both = length-append (line (event_line event)) (events_text journal) in
       omega (arith, first, rest, both)
 
   header_long : length (header_text settings) ≤ 79
@@ -128,17 +125,17 @@ module _ (blocks : Blocks) (settings : Settings) (few : blocks.count ≤ 4096) (
       let lot = one_word (codes "lot") (decimal settings.lot) 3 7 (omega arith) (seven_digits settings.lot range.lot.1) in
       let plain = line_long (plain_line settings.plain) in
       let seven = plain_long settings.plain in
-      let last = both_long (line (plain_line settings.plain)) [] in
-      let fifth = both_long (line (numbered (codes "lot") settings.lot)) (lines (plain_line settings.plain ∷ [])) in
-      let fourth = both_long (line (numbered (codes "budget") settings.budget)) (lines (numbered (codes "lot") settings.lot ∷ plain_line settings.plain ∷ [])) in
-      let third = both_long (line (numbered (codes "workers") settings.workers)) (lines (numbered (codes "budget") settings.budget ∷ numbered (codes "lot") settings.lot ∷ plain_line settings.plain ∷ [])) in
-      let second = both_long (line (numbered (codes "blocks") settings.wish)) (lines (numbered (codes "workers") settings.workers ∷ numbered (codes "budget") settings.budget ∷ numbered (codes "lot") settings.lot ∷ plain_line settings.plain ∷ [])) in
-      let all = both_long (line (codes "pbnf-journal 1")) (lines (numbered (codes "blocks") settings.wish ∷ numbered (codes "workers") settings.workers ∷ numbered (codes "budget") settings.budget ∷ numbered (codes "lot") settings.lot ∷ plain_line settings.plain ∷ [])) in
+      let last = length-append (line (plain_line settings.plain)) [] in
+      let fifth = length-append (line (numbered (codes "lot") settings.lot)) (lines (plain_line settings.plain ∷ [])) in
+      let fourth = length-append (line (numbered (codes "budget") settings.budget)) (lines (numbered (codes "lot") settings.lot ∷ plain_line settings.plain ∷ [])) in
+      let third = length-append (line (numbered (codes "workers") settings.workers)) (lines (numbered (codes "budget") settings.budget ∷ numbered (codes "lot") settings.lot ∷ plain_line settings.plain ∷ [])) in
+      let second = length-append (line (numbered (codes "blocks") settings.wish)) (lines (numbered (codes "workers") settings.workers ∷ numbered (codes "budget") settings.budget ∷ numbered (codes "lot") settings.lot ∷ plain_line settings.plain ∷ [])) in
+      let all = length-append (line (codes "pbnf-journal 1")) (lines (numbered (codes "blocks") settings.wish ∷ numbered (codes "workers") settings.workers ∷ numbered (codes "budget") settings.budget ∷ numbered (codes "lot") settings.lot ∷ plain_line settings.plain ∷ [])) in
       omega (arith, name, wish, workers, budget, lot, plain, seven, last, fifth, fourth, third, second, all)
 
 pub journal_texts_are_short : JournalTextsAreShort
 journal_texts_are_short blocks settings journal counts few is =
     let events = events_long blocks settings few is.range journal (opening_counts settings 0) counts (opening_lawful blocks settings 0 is.enough) is.replays in
     let header = header_long blocks settings few is.range in
-    let both = both_long (header_text settings) (events_text journal) in
+    let both = length-append (header_text settings) (events_text journal) in
     omega (arith, events, header, both)

@@ -1,4 +1,3 @@
-pub mod Tables
 pub mod Looking
 pub mod Budgets
 pub mod Allowed

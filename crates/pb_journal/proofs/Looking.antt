@@ -7,10 +7,10 @@ use Rattle.pb_machine.specs.declared.event.Grant.{Grant}
 use Rattle.pb_machine.specs.Tables.{any_below}
 use Rattle.pb_machine.specs.Blocks.{Blocks, meets, interferes}
 use Rattle.pb_machine.specs.Counts.{is_lease_of, is_busy, is_taken, is_near_hot}
+use Rattle.pb_machine.proofs.ListTables.{item_is}
 use Rattle.pb_machine.proofs.TableLaws.{any_at, any_same}
 use Rattle.pb_abstract.specs.Graph.{AbstractGraph, blocks_of, has, IsGraph}
 use Rattle.pb_abstract.proofs.Members.{any_of, has_contains}
-use Rattle.pb_journal.proofs.Tables.{item_is}
 
 -- one number more below which none passes
 pub none_more : (n : ℕ) (test : ℕ → Bool) → any_below n test ≡ false → test n ≡ false
@@ -80,7 +80,3 @@ has_small xs n all c h =
   where
     contains_is : (xs : List ℕ) (k c : ℕ) → k < length xs → get_or xs k c ≡ c → get_or xs k 0 ≡ c
     contains_is xs k c lt is = sym (item_is xs k c 0 lt (sym is))
-
-pub and_no : (a : Bool) → (a && false) ≡ false
-and_no true = refl
-and_no false = refl

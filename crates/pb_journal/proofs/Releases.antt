@@ -1,5 +1,6 @@
 -- Which blocks become cold where a lease comes home.
 use Rattle.std.proofs.Common.{◌≡◌, ℕ, ◌<◌, Bool, true, false, not, ◌&&◌, List, length, get_or, slice_set, Option, Some, None, refl, ap, ◌∙◌}
+use Rattle.std.proofs.Math.Bool.{and-false}
 use Rattle.pb_machine.specs.declared.event.Event.TheVariants.{Release}
 use Rattle.pb_machine.specs.declared.event.Grant.{Grant}
 use Rattle.pb_machine.specs.declared.settings.Settings.{Settings}
@@ -7,19 +8,15 @@ use Rattle.pb_machine.specs.Tables.{with_entry}
 use Rattle.pb_machine.specs.Blocks.{Blocks, interferes}
 use Rattle.pb_machine.specs.Counts.{Counts, AreLawful, counts_after, is_busy}
 use Rattle.pb_machine.proofs.CountsLaws.{releases_cool_near}
+use Rattle.pb_machine.proofs.ListTables.{table_at}
 use Rattle.pb_abstract.specs.Graph.{has}
-use Rattle.pb_journal.proofs.Tables.{table_at}
 
 -- what becomes cold where it is near and not busy is all that is not busy, where all of that is
 -- near
 cooled_cases : (hot near busy : Bool) → (hot ≡ true → busy ≡ false → near ≡ true)
     → (hot && not (near && not busy)) ≡ (hot && busy)
 cooled_cases false near busy found = refl
-cooled_cases true near true found = go near
-  where
-    go : (n : Bool) → not (n && false) ≡ true
-    go true = refl
-    go false = refl
+cooled_cases true near true found = ap not (and-false near)
 cooled_cases true near false found = ap (λ r. not (r && true)) (found refl refl)
 
 pub released_hot : (blocks : Blocks) (settings : Settings) (counts : Counts) (worker used : ℕ)

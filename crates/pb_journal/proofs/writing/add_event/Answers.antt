@@ -3,7 +3,8 @@ use Rattle.pb_model.specs.Texts.{line}
 use Rattle.pb_journal.specs.Texts.{event_line}
 use Rattle.pb_outside.specs.Saves.{IsWritten}
 use Rattle.pb_outside.proofs.Saves.{added_written, added_begun}
-use Rattle.pb_journal.proofs.Files.{told_as, line_full}
+use Rattle.pb_outside.proofs.Told.{told_as}
+use Rattle.pb_journal.proofs.Files.{line_full}
 use Rattle.pb_journal.proofs.writing.add_event.Goals as goal
 
 pub returns-clause-ok : goal.returns-clause-ok

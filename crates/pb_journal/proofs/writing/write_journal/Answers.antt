@@ -6,8 +6,8 @@ use Rattle.pb_journal.specs.Texts.{event_line, journal_text}
 use Rattle.pb_outside.specs.Saves.{IsPartSaved, HoldsPart, IsWritten, HaveBegun}
 use Rattle.pb_outside.proofs.Saves.{all_written, all_called, told_now}
 use Rattle.std.proofs.lemmas.Result.{on_ok_weaker, on_err_weaker}
-use Rattle.pb_outside.proofs.Told.{told_then, others_then}
-use Rattle.pb_journal.proofs.Files.{on_err, text_before, one_event, part_of_text, failed_of_text, text_within, whole_text}
+use Rattle.pb_outside.proofs.Told.{told_then, others_then, on_err}
+use Rattle.pb_journal.proofs.Files.{text_before, one_event, part_of_text, failed_of_text, text_within, whole_text}
 use Rattle.pb_journal.proofs.writing.write_journal.Goals as goal
 
 pub returns-in_err-add_event-clause-err : goal.returns-in_err-add_event-clause-err

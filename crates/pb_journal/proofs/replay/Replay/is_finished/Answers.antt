@@ -1,7 +1,7 @@
 use Rattle.std.proofs.Common.{sym, ap, ◌<◌, ◌∙◌, ◌&&◌, length, arith, get_or, false, not, is_some}
+use Rattle.std.proofs.Math.Bool.{and-false}
 use Rattle.pb_machine.proofs.TableLaws.{any_at}
 use Rattle.pb_journal.specs.Replaying.{counts_of}
-use Rattle.pb_journal.proofs.Looking.{and_no}
 use Rattle.pb_journal.proofs.replay.Replay.is_finished.Goals as goal
 
 pub returns-then-not-off : goal.returns-then-not-off
@@ -16,4 +16,4 @@ returns-then-not-off c =
     let some =
     any_at c.args.settings.now.workers c.loop-off.off-index
     (λ worker. not (off worker)) there here in
-    sym (ap (λ r. is_some c.args.self.now.end && not r) some ∙ and_no (is_some c.args.self.now.end))
+    sym (ap (λ r. is_some c.args.self.now.end && not r) some ∙ and-false (is_some c.args.self.now.end))

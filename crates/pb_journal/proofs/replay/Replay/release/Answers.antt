@@ -1,10 +1,12 @@
 use Rattle.std.proofs.Common.{◌≡◌, ◌-◌, ◌+◌, ◌<◌, ℕ, Bool, None, Option, List, refl, sym, ap, ◌∙◌, arith, subst, length, get_or, slice_set, not, ◌&&◌, false, length-set}
+use Rattle.pb_model.proofs.Tests.{none_tested}
 use Rattle.pb_machine.specs.declared.event.Event.TheVariants.{Release}
 use Rattle.pb_machine.specs.declared.event.Grant.{Grant}
 use Rattle.pb_machine.specs.Counts.{Counts, counts_after, quota_of, is_busy}
+use Rattle.pb_machine.proofs.CountsLaws.{counts_same}
+use Rattle.pb_machine.proofs.ListTables.{table_at}
 use Rattle.pb_abstract.specs.Graph.{blocks_of, has}
 use Rattle.pb_journal.specs.Replaying.{counts_of}
-use Rattle.pb_journal.proofs.Tables.{counts_same, table_at, none_is}
 use Rattle.pb_journal.proofs.Releases.{released_hot}
 use Rattle.pb_journal.proofs.replay.Replay.release.Goals as goal
 
@@ -42,4 +44,4 @@ returns-clause-counts c =
     (λ k. refl) refl
     (ap (λ (o : Option Grant). old.left + (quota_of o - c.args.used)) (sym c.requires.leased))
     refl (ap (λ r. c.args.memory && r)
-    (none_is c.is_none.result c.args.self.now.end c.is_none.ensures))
+    (none_tested c.is_none.result c.args.self.now.end c.is_none.ensures))
