@@ -1,8 +1,9 @@
 -- What `solve` reads of its arguments.
-use Rattle.std.proofs.Common.{◌≡◌, ◌∙◌, ◌≤◌, ◌<◌, ℕ, Bool, true, false, List, [], ◌∷◌, Option, None, Some, refl, sym, ap, ap₂, subst, codes, arith}
-use Rattle.std.specs.Prelude.{fold, map, nat_lt}
+use Rattle.std.proofs.Common.{◌≡◌, ◌∙◌, ◌≤◌, ◌<◌, Bool, true, false, List, [], ◌∷◌, Option, None, Some, refl, sym, ap, ap₂, subst, codes}
+use Rattle.std.specs.Prelude.{fold, map}
 use Rattle.std.specs.List.{AllByRecursion}
 use Rattle.std.specs.Str.{bytes_eq}
+use Rattle.std.proofs.lemmas.Bool.{le-ltb, lt-ltb}
 use Rattle.std.proofs.lemmas.Slice.Eq.{bytes_eq-Decides}
 use Rattle.clap.specs.Walk.{Row as MatchRow, Text, rows_after, with_default, first_of}
 use Rattle.clap.specs.Faults.{check_fault, defaults_fault}
@@ -129,20 +130,14 @@ solve_is_tested input arguments are =
 
 -- ---- the tests
 
-not_below : (n d : ℕ) → d ≤ n → nat_lt n d ≡ false
-not_below n d h = grind arith
-
-below : (n d : ℕ) → n < d → nat_lt n d ≡ true
-below n d h = grind arith
-
 pub passes : (m : SolveMeaning) → m.den ≤ m.num → are_one_name m.certificate m.journal ≡ false → solve_tested m ≡ Read (Solve m)
-passes m weight names = rw (not_below m.num m.den weight, names) refl
+passes m weight names = rw (le-ltb m.num m.den weight, names) refl
 
 pub low_weight : (m : SolveMeaning) → m.num < m.den → solve_tested m ≡ Refused fault.Weight
-low_weight m weight = rw (below m.num m.den weight) refl
+low_weight m weight = rw (lt-ltb m.num m.den weight) refl
 
 pub one_name : (m : SolveMeaning) → m.den ≤ m.num → are_one_name m.certificate m.journal ≡ true → solve_tested m ≡ Refused fault.Names
-one_name m weight names = rw (not_below m.num m.den weight, names) refl
+one_name m weight names = rw (le-ltb m.num m.den weight, names) refl
 
 pub two_names : (a b : Option Text) → ((name : Text) → a ≡ Some name → b ≡ Some name → ⊥) → are_one_name a b ≡ false
 two_names None b apart = refl

@@ -57,7 +57,7 @@ impl Message {
     fn of_clap(alloc: Global, text: &str) -> Result<Message, AllocError>
         ensures { IfOk result IsErrorText }
     {
-        let rest = ended(String::from_str(alloc, without_error(text))?)?;
+        let rest = end_last_line(String::from_str(alloc, without_error(text))?)?;
         let mut text = String::from_str(alloc, ERROR)?;
         text.push_str(rest.as_str())?;
         Ok(Message { text })
@@ -86,7 +86,7 @@ fn without_error(text: &str) -> &str {
 }
 
 // The text with its last line ended, and cut if it is long.
-fn ended(text: String) -> Result<String, AllocError>
+fn end_last_line(text: String) -> Result<String, AllocError>
     ensures ends { IfOk result (λ t. EndsLine (string_bytes t)) }
     ensures few { IfOk result (λ t. 7 + length (string_bytes t) ≤ text_most) }
 {
