@@ -1,34 +1,16 @@
 -- Calls on a shelf, one after another, and what a file then holds of a text.
-use Rattle.std.proofs.Common.{◌≡◌, ℕ, zero, suc, Result, Ok, Err, OnOk, OnErr, ◌+◌, ◌<◌, ◌≤◌, Option, None, Some, List, [], ◌∷◌, ◌++◌, length, take, drop, slice_get, refl, sym, subst, ap, arith, ◌∙◌}
-use Rattle.std.proofs.lemmas.List.{length-append, take-append-drop}
+use Rattle.std.proofs.Common.{◌≡◌, ℕ, suc, ◌+◌, ◌<◌, ◌≤◌, Some, List, [], ◌∷◌, ◌++◌, length, take, drop, slice_get, refl, sym, subst, ap, arith, ◌∙◌}
+use Rattle.std.proofs.lemmas.List.{length-append, take-append-drop, take_all}
 use Rattle.std.proofs.Math.Seq.{take-suc}
 use Rattle.std.proofs.lemmas.Option.{get_or_from_slice_get, slice_get_within}
 use Rattle.pb_model.specs.Texts.{line, lines}
-use Rattle.pb_outside.specs.Outside.{Files, IfTold}
+use Rattle.pb_print.proofs.Lines.{lines-append, lines-last}
+use Rattle.pb_outside.specs.Outside.{Files}
 use Rattle.pb_outside.specs.Calls.{HasBytes}
 use Rattle.pb_outside.specs.Saves.{HoldsPart, IsWritten}
-use Rattle.pb_outside.proofs.Told.{told_both}
 use Rattle.pb_outside.proofs.Saves.{added_written, part_of_more}
 use Rattle.pb_cert.specs.Stated.{PutsLine}
 use Rattle.pb_cert.specs.Saved.{AreLines, AddsLine}
-use Rattle.pb_cert.proofs.LineTexts.{lines-append, lines-last}
-
--- ---- what holds on success or failure
-
-pub on_err : {T E P : Type 0} (result : Result T E) → P → OnErr result P
-on_err (Ok x) p = tt
-on_err (Err e) p = p
-
-pub on_ok_both : {T E P Q R : Type 0} (result : Result T E) → OnOk result P → OnOk result Q → (P → Q → R) → OnOk result R
-on_ok_both (Ok x) p q f = f p q
-on_ok_both (Err e) p q f = tt
-
--- ---- what is told over two calls
-
-pub told_as : (a b : Option Files) (P R : Files → Files → Type 0) → IfTold a b P → ((x y : Files) → P x y → R x y) → IfTold a b R
-told_as a b P R p f = told_both a b P P R p p (λ x y one two. f x y one)
-
--- ---- line after line
 
 pub begun : (old new : Files) (name : List ℕ) (texts : List (List ℕ)) → new name ≡ Some [] → IsWritten new name [] (lines (take 0 texts))
 begun old new name texts e = ([], e, refl)
@@ -65,13 +47,7 @@ pub short_line : (old new : List ℕ) (texts : List (List ℕ)) (at more : ℕ) 
 short_line old new texts at more empty puts is = let none : length old ≡ 0 = ap length empty in omega (arith, puts.3, is, none)
 
 pub all_lines : (texts : List (List ℕ)) (at : ℕ) → length texts ≤ at → lines (take at texts) ≡ lines texts
-all_lines texts at le = ap lines (whole texts at le)
-  where
-    whole : (texts : List (List ℕ)) (at : ℕ) → length texts ≤ at → take at texts ≡ texts
-    whole [] zero le = refl
-    whole [] (suc at) le = refl
-    whole (x ∷ texts) zero le = absurd (omega (arith, le))
-    whole (x ∷ texts) (suc at) le = ap (λ t. x ∷ t) (whole texts at (omega (arith, le)))
+all_lines texts at le = ap lines (take_all at texts le)
 
 pub line_full : (old new : List ℕ) (texts : List (List ℕ)) (at : ℕ) → PutsLine old new texts at
     → HasBytes new

@@ -2,6 +2,7 @@
 use Rattle.std.proofs.Common.{◌≡◌, ◌⊎◌, inl, inr, ℕ, ◌+◌, ◌<◌, ◌≤◌, ◌^◌, Option, None, Some, IfSome, IfNone, IsTrue, nat_eq, List, length, slice_get, refl, sym, subst, ◌∙◌, arith}
 use Rattle.std.specs.Map.{keys_of}
 use Rattle.std.specs.List.{IsDistinct}
+use Rattle.std.proofs.lemmas.Bool.{cases_lt}
 use Rattle.std.proofs.lemmas.Cmp.{nat_eq_equiv}
 use Rattle.std.proofs.lemmas.Option.{slice_get_within}
 use Rattle.std.proofs.lemmas.Map.Entries.{lookup_from_place, place_from_lookup}
@@ -12,10 +13,8 @@ use Rattle.pb_model.proofs.Tests.{equal}
 use Rattle.pb_lists.specs.Bundle.{row_in}
 use Rattle.pb_cert.specs.declared.goal.Goal.{Goal}
 use Rattle.pb_cert.specs.Store.{HasNoneFrom}
+use Rattle.pb_cert.proofs.Parts.{found_below}
 use Rattle.pb_cert.specs.Traced.{HasGoal, IsFirstGoal, IsFirstIn, HasRowIn, HasNoLater}
-
-cases : (k i : ℕ) → k < i + 1 → (k < i) ⊎ (k ≡ i)
-cases k i below = grind (arith, below)
 
 -- ---- entry after entry
 
@@ -46,9 +45,10 @@ one_more space entries so_far i first next state row at before kept small here f
         | inl same ↦ elim before.from [ inl old ↦ inl (same ∙ old) | inr entry ↦ inr (subst (HasEntry space entries) (sym same) entry) ]
         | inr new ↦ inr (subst (HasEntry space entries) (sym new.0) (i, row, at, refl, new.1))
       ];
-      least = λ k entry below found is_goal. elim (cases k i below) [
+      least = λ k entry below found is_goal. elim (cases_lt k i) [
         | inl less ↦ kept entry.1.g entry.0 (before.least k entry less found is_goal)
-        | inr same ↦
+        | inr past ↦
+            let same : k ≡ i = omega (arith, past, below) in
             let there : ◌≡◌ {A = ℕ × Row} (state, row) entry = same_entry entries i k (state, row) entry (sym same) at found in
             subst (λ (x : ℕ × Row). HasNoLater next x.1.g x.0) there (here (subst (λ (x : ℕ × Row). IsTrue (space.is_goal x.0)) (sym there) is_goal))
       ];
@@ -94,9 +94,9 @@ next_part space rows part i first next same before kept small here from =
     record {
       small = small before.small;
       from = elim from [ inl old ↦ subst (λ goal. IfSome goal (HasRowAmong space rows)) (sym old) before.from | inr new ↦ among next new ];
-      least = λ home other row below found is_goal. elim (cases home i below) [
+      least = λ home other row below found is_goal. elim (cases_lt home i) [
         | inl less ↦ kept row.g other (before.least home other row less found is_goal)
-        | inr at ↦ here other row (same other ∙ subst (λ h. rows h other ≡ Some row) at found) is_goal
+        | inr past ↦ let at : home ≡ i = omega (arith, past, below) in here other row (same other ∙ subst (λ h. rows h other ≡ Some row) at found) is_goal
       ];
     }
   where
@@ -107,13 +107,7 @@ next_part space rows part i first next same before kept small here from =
 -- after all parts
 module _ (space : Space) (rows : Rows) (parts i : ℕ) (beyond : HasNoneFrom rows parts) (whole : parts ≤ i) where
   below : (home other : ℕ) (row : Row) → rows home other ≡ Some row → home < i
-  below home other row found = grind (arith, whole, known)
-    where
-      none_found : (x : Option Row) → x ≡ None → x ≡ Some row → ⊥
-      none_found x none some = cc
-
-      known : parts ≤ home → ⊥
-      known past = none_found (rows home other) (beyond home other past) found
+  below = found_below rows parts i beyond whole
 
   pub the_first_if : (first : Option Goal) → IsFirstBelow space rows i first → IfSome first (λ goal. IsFirstGoal space rows goal.state goal.g)
   the_first_if None before = tt

@@ -4,6 +4,7 @@ mod Distinct
 mod Files
 mod Goals
 mod LineTexts
+mod Parts
 mod SavedCalls
 mod Sorted
 mod Places

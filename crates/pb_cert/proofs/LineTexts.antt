@@ -6,16 +6,8 @@ use Rattle.std.specs.Fmt.{decimal}
 use Rattle.pb_model.specs.Plan.{Plan}
 use Rattle.pb_model.specs.Certificate.{Line, Certificate}
 use Rattle.pb_model.specs.Texts.{line, lines, spaced, line_text, plan_text, weight_text, rows_text}
+use Rattle.pb_print.proofs.Lines.{lines-append, lines-last}
 use Rattle.pb_cert.specs.Stated.{Stated, text_of, head_lines, plan_lines, rows_lines, weight_line, lines_of, PutsLine}
-
--- ---- lists of lines
-
-pub lines-append : (texts others : List (List ℕ)) → lines (texts ++ others) ≡ lines texts ++ lines others
-lines-append [] others = refl
-lines-append (text ∷ texts) others = ap (λ t. line text ++ t) (lines-append texts others) ∙ sym (append_assoc (line text) (lines texts) (lines others))
-
-pub lines-last : (texts : List (List ℕ)) (text : List ℕ) → lines (texts ++ text ∷ []) ≡ lines texts ++ line text
-lines-last texts text = lines-append texts (text ∷ []) ∙ ap (λ t. lines texts ++ t) (append-nil (line text))
 
 -- ---- a line by its number
 

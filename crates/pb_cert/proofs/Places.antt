@@ -4,7 +4,7 @@ use Rattle.std.specs.Map.{keys_of}
 use Rattle.std.specs.List.{IsDistinct}
 use Rattle.std.specs.List.Sorted.{IsPermutation, IsNonDecreasingBy}
 use Rattle.std.proofs.lemmas.Option.{slice_get_cases, same_Some}
-use Rattle.std.proofs.lemmas.List.{length-append, length-map, get_or-map, map-append, map_more}
+use Rattle.std.proofs.lemmas.List.{length-append, length-map, get_or-map, map-append, map_more, take_all}
 use Rattle.std.proofs.lemmas.List.Sorted.{IsPermutation-map, IsPermutation-append_right}
 use Rattle.pb_model.specs.declared.row.Row.{Row}
 use Rattle.pb_model.specs.Store.{Rows}
@@ -15,12 +15,6 @@ use Rattle.pb_cert.specs.Store.{IsPlaced, HasNoneFrom}
 use Rattle.pb_cert.specs.Listed.{entry_line, line_in, line_or, line_at, line_in_part, ArePartsOf}
 use Rattle.pb_cert.specs.declared.rows.Place.{Place}
 use Rattle.pb_cert.proofs.Sorted.{AreLinesBelow, next_part, in_any_order, none_below, are_lines}
-
-pub whole_list : {X : Type 0} (xs : List X) (i : ℕ) → length xs ≤ i → take i xs ≡ xs
-whole_list [] zero le = refl
-whole_list [] (suc i) le = refl
-whole_list (x ∷ xs) zero le = absurd (omega (arith, le))
-whole_list (x ∷ xs) (suc i) le = ap (λ t. x ∷ t) (whole_list xs i (omega (arith, le)))
 
 -- ---- the places of a part
 
@@ -57,9 +51,9 @@ module _ (parts : List (Bor Content)) (part : ℕ) (own : Bor Content) (content 
   pub part_added : (old new : List Place) (unsorted sorted : List ℕ) (i k : ℕ) → length content.entries ≤ i → map (line_in content) unsorted ≡ map entry_line (take i content.entries) → IsPermutation unsorted sorted
       → length sorted ≤ k → new ≡ old ++ map (place_in part) (take k sorted) → IsPermutation (map (line_at parts) old ++ map entry_line content.entries) (map (line_at parts) new)
   part_added old new unsorted sorted i k all unsorted_is permuted whole new_is =
-      let entries_are : map (line_in content) unsorted ≡ map entry_line content.entries = unsorted_is ∙ ap (λ entries. map entry_line entries) (whole_list content.entries i all) in
+      let entries_are : map (line_in content) unsorted ≡ map entry_line content.entries = unsorted_is ∙ ap (λ entries. map entry_line entries) (take_all i content.entries all) in
       let lines : map (line_at parts) new ≡ map (line_at parts) old ++ map (line_in content) sorted =
-      ap (map (line_at parts)) (new_is ∙ ap (λ (at : List ℕ). old ++ map (place_in part) at) (whole_list sorted k whole)) ∙ map-append (line_at parts) old (map (place_in part) sorted)
+      ap (map (line_at parts)) (new_is ∙ ap (λ (at : List ℕ). old ++ map (place_in part) at) (take_all k sorted whole)) ∙ map-append (line_at parts) old (map (place_in part) sorted)
       ∙ ap (λ t. map (line_at parts) old ++ t) (lines_are sorted) in
       let own_permuted : IsPermutation (map entry_line content.entries) (map (line_in content) sorted) =
       subst (λ xs. IsPermutation xs (map (line_in content) sorted)) entries_are (IsPermutation-map (line_in content) unsorted sorted permuted) in

@@ -2,12 +2,12 @@
 use Rattle.std.proofs.Common.{◌≡◌, ℕ, ◌+◌, ◌≤◌, Some, List, ◌++◌, length, take, drop, slice_get, sym, subst, ap, arith, ◌∙◌}
 use Rattle.std.proofs.lemmas.List.{length-append, take-append-drop}
 use Rattle.pb_model.specs.Texts.{line, lines}
+use Rattle.pb_print.proofs.Lines.{lines-append}
 use Rattle.pb_outside.specs.Calls.{Call}
 use Rattle.pb_outside.specs.Saves.{SavesPart, HaveBegun}
 use Rattle.pb_outside.proofs.Saves.{added_begun, failed_more}
 use Rattle.pb_cert.specs.Saved.{CallForLine}
 use Rattle.pb_cert.specs.Stated.{Stated, lines_of}
-use Rattle.pb_cert.proofs.LineTexts.{lines-append}
 use Rattle.pb_cert.proofs.Files.{one_more}
 
 pub call_for_line : (start now : List Call) (name piece new text : List ℕ) (texts : List (List ℕ)) (at : ℕ) → HaveBegun start now name piece text → (added : List ℕ) × (slice_get texts at ≡ Some added) × (new ≡ piece ++ line added) → CallForLine start now name new text texts at

@@ -1,8 +1,9 @@
 -- The lines of all rows, part after part, in order of the states, and the certificate that they make.
-use Rattle.std.proofs.Common.{◌≡◌, ◌⊎◌, inl, inr, ℕ, ◌+◌, ◌<◌, ◌≤◌, false, Option, None, Some, nat_eq, All, Contains, List, [], ◌∷◌, ◌++◌, map, length, get_or, refl, sym, subst, ap, arith, ◌∙◌}
+use Rattle.std.proofs.Common.{◌≡◌, inl, inr, ℕ, ◌+◌, ◌<◌, ◌≤◌, false, Option, Some, nat_eq, All, Contains, List, [], ◌∷◌, ◌++◌, map, length, get_or, refl, sym, subst, ap, arith, ◌∙◌}
 use Rattle.std.specs.Map.{keys_of}
 use Rattle.std.specs.List.{IsDistinct}
 use Rattle.std.specs.List.Sorted.{IsPermutation, IsNonDecreasing, IsNonDecreasingBy}
+use Rattle.std.proofs.lemmas.Bool.{cases_lt}
 use Rattle.std.proofs.lemmas.Cmp.{nat_eq_equiv}
 use Rattle.std.proofs.lemmas.Option.{slice_get-get_or}
 use Rattle.std.proofs.lemmas.List.{length-map, get_or-map, map-append}
@@ -25,6 +26,7 @@ use Rattle.pb_lists.specs.Bundle.{row_in}
 use Rattle.pb_cert.specs.Store.{IsPlaced, HasNoneFrom, store_with}
 use Rattle.pb_cert.specs.Listed.{entry_line}
 use Rattle.pb_cert.proofs.Distinct.{IsDistinct-append}
+use Rattle.pb_cert.proofs.Parts.{found_below}
 
 -- ---- the lines of the first parts
 
@@ -66,9 +68,6 @@ apart rows i homes placed line other one two =
 
 module _ (rows : Rows) (i : ℕ) (lines : List Line) (entries : List (ℕ × Row)) (same : (state : ℕ) → row_in entries state ≡ rows i state) (distinct : IsDistinct nat_eq (keys_of entries))
     (before : AreLinesBelow rows i lines) where
-  cases : (home : ℕ) → home < i + 1 → (home < i) ⊎ (home ≡ i)
-  cases home below = grind (arith, below)
-
   of_entries : All (IsLineAt rows i) (map entry_line entries)
   of_entries =
       All-map (IsLineAt rows i) entry_line entries
@@ -103,9 +102,11 @@ module _ (rows : Rows) (i : ℕ) (lines : List Line) (entries : List (ℕ × Row
             All-append (IsLineBelow rows (i + 1)) lines (map entry_line entries)
             (All-weaker (IsLineBelow rows i) (IsLineBelow rows (i + 1)) (λ line one. (one.0, omega (arith, one.1), one.2)) lines before.sound)
             (All-weaker (IsLineAt rows i) (IsLineBelow rows (i + 1)) (λ line one. (i, omega arith, one)) (map entry_line entries) of_entries);
-        complete = λ home state row below found. elim (cases home below) [
+        complete = λ home state row below found. elim (cases_lt home i) [
           | inl less ↦ Contains-append_left lines (map entry_line entries) (line_of state row) (before.complete home state row less found)
-          | inr at ↦ Contains-append_right lines (map entry_line entries) (line_of state row) (has_entry state row (subst (λ h. rows h state ≡ Some row) at found))
+          | inr past ↦
+              let at : home ≡ i = omega (arith, past, below) in
+              Contains-append_right lines (map entry_line entries) (line_of state row) (has_entry state row (subst (λ h. rows h state ≡ Some row) at found))
         ];
         distinct = states_apart;
       }
@@ -130,13 +131,7 @@ rising lines sorted i j d le below =
 module _ (rows : Rows) (parts i : ℕ) (beyond : HasNoneFrom rows parts) (whole : parts ≤ i) (all lines : List Line) (are : AreLinesBelow rows i all) (permuted : IsPermutation all lines)
     (sorted : IsNonDecreasingBy (λ (line : Line). line.state) lines) where
   below : (home state : ℕ) (row : Row) → rows home state ≡ Some row → home < i
-  below home state row found = grind (arith, whole, known)
-    where
-      none_found : (x : Option Row) → x ≡ None → x ≡ Some row → ⊥
-      none_found x none some = cc
-
-      known : parts ≤ home → ⊥
-      known past = none_found (rows home state) (beyond home state past) found
+  below = found_below rows parts i beyond whole
 
   module _ (guide : Guide) (placed : IsPlaced guide.home rows) where
     ascending : Ascends lines
