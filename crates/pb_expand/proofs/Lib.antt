@@ -1,3 +1,4 @@
+mod Examples
 pub mod Fewer
 pub mod Changed
 pub mod Same

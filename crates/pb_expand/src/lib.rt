@@ -17,6 +17,3 @@ mod working;
 pub use watch::Watch;
 pub use watching::work_watched;
 pub use working::{Worked, work};
-
-#[cfg(test)]
-mod tests;
