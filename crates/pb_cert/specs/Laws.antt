@@ -19,15 +19,18 @@ use Rattle.pb_cert.specs.Traced.{HasGoal}
 -- The store has the graph's incumbent and the weight of the search.
 abbrev pub HomeRowsAreWhole : Type 0
 HomeRowsAreWhole =
-    (g : GraphValue) (recorded : (worker : ℕ) → Rows) (machine : Machine) → IsLeaseGraph g → IsFalse (is_out_in g) → IsMoment g recorded machine
+    (g : GraphValue) (recorded : (worker : ℕ) → Rows) (machine : Machine) → IsLeaseGraph g
+    → IsFalse (is_out_in g) → IsMoment g recorded machine
     → machine.store ≡ store_with (home_rows g.homes) (weight_of g.table.settings) g.incumbent
 
 -- If a sound store has an incumbent that is shown, a goal has a row. The rows are those of a sound
 -- store: what a trace asks for.
 abbrev pub ShownRowsCanBeTraced : Type 0
 ShownRowsCanBeTraced =
-    (space : Space) (guide : Guide) (rows : Rows) (weight : Weight) (incumbent : Option ℕ) (cost : ℕ) → IsSound space guide (store_with rows weight incumbent)
-    → IsShown space guide (store_with rows weight incumbent) → incumbent ≡ Some cost → IsSoundAt space guide.home rows weight × HasGoal space rows
+    (space : Space) (guide : Guide) (rows : Rows) (weight : Weight) (incumbent : Option ℕ)
+    (cost : ℕ) → IsSound space guide (store_with rows weight incumbent)
+    → IsShown space guide (store_with rows weight incumbent) → incumbent ≡ Some cost
+    → IsSoundAt space guide.home rows weight × HasGoal space rows
 
 -- In a sound store each row is at the home of its state.
 abbrev pub SoundRowsArePlaced : Type 0

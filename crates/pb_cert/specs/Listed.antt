@@ -34,4 +34,5 @@ line_at parts place = line_in_part (slice_get parts place.part) place.at
 -- the bundles are the parts of these rows, so many and each under its number
 pub record ArePartsOf (rows : Rows) (count : ℕ) (parts : List (Bor Content)) : Type 0 where
   pub many : length parts ≡ count
-  pub same : (i : ℕ) (part : Bor Content) → slice_get parts i ≡ Some part → (state : ℕ) → row_of part.now state ≡ rows i state
+  pub same : (i : ℕ) (part : Bor Content) → slice_get parts i ≡ Some part → (state : ℕ)
+      → row_of part.now state ≡ rows i state

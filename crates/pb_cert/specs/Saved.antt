@@ -11,8 +11,13 @@ AreLines piece = (texts : List (List ℕ)) × (piece ≡ lines texts)
 
 -- the file, with the piece at its end, is this text and then the line of this number
 abbrev pub AddsLine : Files → (name piece text : List ℕ) → List (List ℕ) → (at : ℕ) → Type 0
-AddsLine files name piece text texts at = (added : List ℕ) × (slice_get texts at ≡ Some added) × IsWritten files name piece (text ++ line added)
+AddsLine files name piece text texts at =
+    (added : List ℕ) × (slice_get texts at ≡ Some added)
+    × IsWritten files name piece (text ++ line added)
 
 -- the calls, with the piece after them, are to save this text and then the line of this number
-abbrev pub CallForLine : (start now : List Call) → (name piece text : List ℕ) → List (List ℕ) → (at : ℕ) → Type 0
-CallForLine start now name piece text texts at = (added : List ℕ) × (slice_get texts at ≡ Some added) × HaveBegun start now name piece (text ++ line added)
+abbrev pub CallForLine : (start now : List Call) → (name piece text : List ℕ) → List (List ℕ)
+    → (at : ℕ) → Type 0
+CallForLine start now name piece text texts at =
+    (added : List ℕ) × (slice_get texts at ≡ Some added)
+    × HaveBegun start now name piece (text ++ line added)

@@ -21,22 +21,29 @@ abbrev pub weight_line : Weight → List ℕ
 weight_line weight = spaced (codes "weight") (spaced (decimal weight.num) (decimal weight.den))
 
 abbrev pub head_lines : Stated → List (List ℕ)
-head_lines stated = codes "pbnf-certificate 1" ∷ spaced (codes "kind") stated.kind ∷ weight_line stated.certificate.weight ∷ []
+head_lines stated =
+    codes "pbnf-certificate 1" ∷ spaced (codes "kind") stated.kind
+    ∷ weight_line stated.certificate.weight ∷ []
 
 abbrev pub plan_lines : Option Plan → List (List ℕ)
 plan_lines None = codes "none" ∷ []
 plan_lines (Some plan) =
-    spaced (codes "plan") (decimal (length plan.actions)) ∷ (map decimal plan.actions ++ spaced (codes "cost") (decimal plan.cost) ∷ [])
+    spaced (codes "plan") (decimal (length plan.actions))
+    ∷ (map decimal plan.actions ++ spaced (codes "cost") (decimal plan.cost) ∷ [])
 
 abbrev pub rows_lines : Certificate → List (List ℕ)
 rows_lines certificate =
-    spaced (codes "rows") (decimal (length certificate.lines)) ∷ (map (line_text 64) certificate.lines ++ codes "end" ∷ [])
+    spaced (codes "rows") (decimal (length certificate.lines))
+    ∷ (map (line_text 64) certificate.lines ++ codes "end" ∷ [])
 
 -- all lines of the text
 unfoldable pub lines_of : Stated → List (List ℕ)
-lines_of stated = head_lines stated ++ plan_lines stated.certificate.plan ++ rows_lines stated.certificate
+lines_of stated =
+    head_lines stated ++ plan_lines stated.certificate.plan ++ rows_lines stated.certificate
 
 -- the line of this number, counted from 0, was put at the end of the piece, which grew by at most
 -- 128 bytes
 abbrev pub PutsLine : (old new : List ℕ) → List (List ℕ) → (at : ℕ) → Type 0
-PutsLine old new texts at = (text : List ℕ) × (slice_get texts at ≡ Some text) × (new ≡ old ++ line text) × (length new ≤ length old + 128)
+PutsLine old new texts at =
+    (text : List ℕ) × (slice_get texts at ≡ Some text) × (new ≡ old ++ line text)
+    × (length new ≤ length old + 128)

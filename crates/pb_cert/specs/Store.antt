@@ -36,7 +36,9 @@ HasNoneFrom rows parts = (home state : ℕ) → parts ≤ home → rows home sta
 
 -- the rows are those of a sound store, whatever the estimates and the incumbent
 abbrev pub IsSoundAt : Space → (homes : ℕ → ℕ) → Rows → Weight → Type 0
-IsSoundAt space homes rows weight = (estimate : ℕ → Estimate) × (incumbent : Option ℕ) × IsSound space (guide_with estimate homes) (store_with rows weight incumbent)
+IsSoundAt space homes rows weight =
+    (estimate : ℕ → Estimate) × (incumbent : Option ℕ)
+    × IsSound space (guide_with estimate homes) (store_with rows weight incumbent)
 
 -- the rows of a search that has them all in one bundle: those of part 0
 abbrev pub one_part_rows : Content → Rows

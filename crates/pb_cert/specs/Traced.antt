@@ -9,7 +9,9 @@ use Rattle.pb_cert.specs.declared.goal.Goal.{Goal}
 
 -- some goal has a row
 abbrev pub HasGoal : Space → Rows → Type 0
-HasGoal space rows = (home : ℕ) × (goal : ℕ) × (row : Row) × (rows home goal ≡ Some row) × IsTrue (space.is_goal goal)
+HasGoal space rows =
+    (home : ℕ) × (goal : ℕ) × (row : Row) × (rows home goal ≡ Some row)
+    × IsTrue (space.is_goal goal)
 
 -- the one goal comes no later than the other state: its g is less, or it is the same and the goal
 -- is no greater
@@ -23,12 +25,16 @@ HasNoLater (Some goal) g state = IsNoLater goal.g goal.state g state
 
 -- the goal comes no later than any goal that has a row in this part
 abbrev pub IsFirstIn : Space → Part → Option Goal → Type 0
-IsFirstIn space part first = (state : ℕ) (row : Row) → part state ≡ Some row → IsTrue (space.is_goal state) → HasNoLater first row.g state
+IsFirstIn space part first =
+    (state : ℕ) (row : Row) → part state ≡ Some row → IsTrue (space.is_goal state)
+    → HasNoLater first row.g state
 
 -- there is a goal, and it has its row in this part
 abbrev pub HasRowIn : Space → Part → Option Goal → Type 0
 HasRowIn space part None = ⊥
-HasRowIn space part (Some goal) = (row : Row) × (part goal.state ≡ Some row) × (row.g ≡ goal.g) × IsTrue (space.is_goal goal.state)
+HasRowIn space part (Some goal) =
+    (row : Row) × (part goal.state ≡ Some row) × (row.g ≡ goal.g)
+    × IsTrue (space.is_goal goal.state)
 
 -- the state is a goal whose row has this g; of all rows of goals its row is the first, by g, and at
 -- one g by state
@@ -38,7 +44,8 @@ pub record IsFirstGoal (space : Space) (rows : Rows) (goal g : ℕ) : Type 0 whe
   pub found : rows home goal ≡ Some row
   pub costs : row.g ≡ g
   pub is_goal : IsTrue (space.is_goal goal)
-  pub first : (home other : ℕ) (other_row : Row) → rows home other ≡ Some other_row → IsTrue (space.is_goal other) → IsNoLater g goal other_row.g other
+  pub first : (home other : ℕ) (other_row : Row) → rows home other ≡ Some other_row
+      → IsTrue (space.is_goal other) → IsNoLater g goal other_row.g other
 
 -- the actions are those of the rows on the way from the start to the first goal
 pub record IsTrace (space : Space) (guide : Guide) (store : Store) (actions : List ℕ) : Type 0 where

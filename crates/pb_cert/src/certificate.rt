@@ -48,7 +48,14 @@ impl<'a> Model for Certificate<'a> {
 
     ghost Value = { Stated };
 
-    ghost view = { λ c. record { kind = c.kind.now; certificate = record { weight = record { num = c.num; den = c.den }; plan = c.plan; lines = map (line_at c.parts.items) c.places.items } } };
+    ghost view = { λ c. record {
+      kind = c.kind.now;
+      certificate = record {
+        weight = record { num = c.num; den = c.den };
+        plan = c.plan;
+        lines = map (line_at c.parts.items) c.places.items;
+      };
+    } };
 
     ghost invariant = { λ c. length c.kind.now ≤ 64 };
 }
@@ -72,14 +79,18 @@ impl<'a> Certificate<'a> {
         ensures weight { IfOk result (λ c. c.certificate.weight ≡ S.weight store.now) }
         ensures plan { IfOk result (λ c. c.certificate.plan ≡ plan) }
         ensures count { IfOk result (λ c. length c.certificate.lines < 2 ^ 63) }
-        ensures lines { IfOk result (λ c. (guide : Guide) → IsPlaced guide.home (S.rows store.now) → AreLinesOf guide (S.rows store.now) c.certificate.lines) }
+        ensures lines { IfOk result (λ c. (guide : Guide) → IsPlaced guide.home (S.rows store.now)
+            → AreLinesOf guide (S.rows store.now) c.certificate.lines) }
         // For a sound store, whatever its incumbent is. The certificate is valid if the store is
         // also quiet, and the plan is one of the space and backs the incumbent.
         ensures rows { IfOk result (λ c. (space : Space) (guide : Guide) (incumbent : Option ℕ)
             → IsSound space guide (store_with (S.rows store.now) (S.weight store.now) incumbent)
             → AreLinesOf guide (S.rows store.now) c.certificate.lines) }
-        ensures valid { IfOk result (λ c. (space : Space) (guide : Guide) (incumbent : Option ℕ) → IsSound space guide (store_with (S.rows store.now) (S.weight store.now) incumbent)
-            → IsQuiet (store_with (S.rows store.now) (S.weight store.now) incumbent) → IsPlanIfAny space plan → IsBackedBy incumbent plan → IsValid space guide.estimate c.certificate) }
+        ensures valid { IfOk result (λ c. (space : Space) (guide : Guide) (incumbent : Option ℕ)
+            → IsSound space guide (store_with (S.rows store.now) (S.weight store.now) incumbent)
+            → IsQuiet (store_with (S.rows store.now) (S.weight store.now) incumbent)
+            → IsPlanIfAny space plan → IsBackedBy incumbent plan
+            → IsValid space guide.estimate c.certificate) }
     {
         let parts = parts_of(alloc, store)?;
         let places = places_for(alloc, &parts)?;

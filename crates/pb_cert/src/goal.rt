@@ -20,7 +20,8 @@ pub(crate) struct Goal {
 // goal has a row.
 pub(crate) fn first_goal<S: Store>(task: &Task, store: &S) -> Option<Goal>
     requires whole { S.is_whole store.now }
-    ensures some { IfSome result (λ goal. IsFirstGoal (space_of task.now) (S.rows store.now) goal.state goal.g) }
+    ensures some { IfSome result (λ goal. IsFirstGoal (space_of task.now) (S.rows store.now)
+        goal.state goal.g) }
     ensures small { IfSome result (λ goal. goal.g < 2 ^ 64) }
     ensures none { IfNone result (HasGoal (space_of task.now) (S.rows store.now) → ⊥) }
 {
@@ -35,7 +36,8 @@ pub(crate) fn first_goal<S: Store>(task: &Task, store: &S) -> Option<Goal>
 // part.
 fn first_in(task: &Task, so_far: Option<Goal>, bundle: &Bundle) -> Option<Goal>
     ensures kept { (g other : ℕ) → HasNoLater so_far g other → HasNoLater result g other }
-    ensures small { IfSome so_far (λ goal. goal.g < 2 ^ 64) → IfSome result (λ goal. goal.g < 2 ^ 64) }
+    ensures small { IfSome so_far (λ goal. goal.g < 2 ^ 64)
+        → IfSome result (λ goal. goal.g < 2 ^ 64) }
     ensures here { IsFirstIn (space_of task.now) (row_of bundle.now) result }
     ensures from { (result ≡ so_far) ⊎ HasRowIn (space_of task.now) (row_of bundle.now) result }
 {
@@ -51,9 +53,13 @@ fn first_in(task: &Task, so_far: Option<Goal>, bundle: &Bundle) -> Option<Goal>
 // a goal.
 fn first_of(task: &Task, so_far: Option<Goal>, state: &Packed, row: &Row) -> Option<Goal>
     ensures kept { (g other : ℕ) → HasNoLater so_far g other → HasNoLater result g other }
-    ensures small { IfSome so_far (λ goal. goal.g < 2 ^ 64) → IfSome result (λ goal. goal.g < 2 ^ 64) }
-    ensures here { IsTrue ((space_of task.now).is_goal state.now) → HasNoLater result row.now.g state.now }
-    ensures from { (result ≡ so_far) ⊎ ((result ≡ Some (record { state = state.now; g = row.now.g })) × IsTrue ((space_of task.now).is_goal state.now)) }
+    ensures small { IfSome so_far (λ goal. goal.g < 2 ^ 64)
+        → IfSome result (λ goal. goal.g < 2 ^ 64) }
+    ensures here { IsTrue ((space_of task.now).is_goal state.now)
+        → HasNoLater result row.now.g state.now }
+    ensures from { (result ≡ so_far)
+        ⊎ ((result ≡ Some (record { state = state.now; g = row.now.g }))
+        × IsTrue ((space_of task.now).is_goal state.now)) }
 {
     if !task.is_goal(state) {
         return so_far;

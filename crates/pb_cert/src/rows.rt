@@ -75,8 +75,10 @@ fn add_places(
     bundle: &Bundle,
 ) -> Result<(), AllocError>
     // Among parts of which this is the one of its number, its lines are added, in some order.
-    ensures added { OnOk result ((parts : List (Bor Content)) (own : Bor Content) → slice_get parts part ≡ Some own → own.now ≡ bundle.now
-        → IsPermutation (map (line_at parts) places.old.items ++ map entry_line bundle.now.entries) (map (line_at parts) places.new.items)) }
+    ensures added { OnOk result ((parts : List (Bor Content)) (own : Bor Content)
+        → slice_get parts part ≡ Some own → own.now ≡ bundle.now
+        → IsPermutation (map (line_at parts) places.old.items ++ map entry_line bundle.now.entries)
+        (map (line_at parts) places.new.items)) }
     ensures distinct { IsDistinct nat_eq (keys_of bundle.now.entries) }
 {
     let mut own = Vec::new(alloc);
@@ -96,7 +98,8 @@ pub(crate) fn parts_of<'a, S: Store>(
     store: &'a S,
 ) -> Result<Vec<&'a Bundle>, AllocError>
     requires whole { S.is_whole store.now }
-    ensures parts { IfOk result (λ parts. ArePartsOf (S.rows store.now) (S.parts store.now) parts.items) }
+    ensures parts { IfOk result (λ parts. ArePartsOf (S.rows store.now) (S.parts store.now)
+        parts.items) }
     ensures few { IfOk result (λ parts. length parts.items < 2 ^ 32) }
     ensures beyond { HasNoneFrom (S.rows store.now) (S.parts store.now) }
 {
@@ -111,7 +114,9 @@ pub(crate) fn parts_of<'a, S: Store>(
 /// the other. The last sort is std's, which keeps sorted pieces and merges them.
 pub(crate) fn places_for(alloc: Global, parts: &[&Bundle]) -> Result<Vec<Place>, AllocError>
     requires few { length parts.now < 2 ^ 32 }
-    ensures { IfOk result (λ places. (rows : Rows) (guide : Guide) → ArePartsOf rows (length parts.now) parts.now → HasNoneFrom rows (length parts.now) → IsPlaced guide.home rows
+    ensures { IfOk result (λ places. (rows : Rows) (guide : Guide)
+        → ArePartsOf rows (length parts.now) parts.now → HasNoneFrom rows (length parts.now)
+        → IsPlaced guide.home rows
         → AreLinesOf guide rows (map (line_at parts.now) places.items)) }
 {
     let mut places = Vec::new(alloc);

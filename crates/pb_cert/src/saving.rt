@@ -18,9 +18,14 @@ fn append_piece<H: Shelf>(shelf: &mut H, name: &str, piece: &mut Piece) -> Resul
     requires lines { AreLines piece.old }
     requires full { HasBytes piece.old }
     ensures empty { OnOk result (piece.new ≡ []) }
-    ensures ok { OnOk result (IfTold (H.files shelf.old) (H.files shelf.new) (λ old new. (text : List ℕ) → IsWritten old name.now piece.old text → IsWritten new name.now [] text)) }
-    ensures err { OnErr result (IfTold (H.files shelf.old) (H.files shelf.new) (λ old new. (text : List ℕ) → IsWritten old name.now piece.old text → HoldsPart new name.now text)) }
-    ensures others { IfTold (H.files shelf.old) (H.files shelf.new) (λ old new. KeepsOthers old new name.now) }
+    ensures ok { OnOk result (IfTold (H.files shelf.old) (H.files shelf.new)
+        (λ old new. (text : List ℕ) → IsWritten old name.now piece.old text
+        → IsWritten new name.now [] text)) }
+    ensures err { OnErr result (IfTold (H.files shelf.old) (H.files shelf.new)
+        (λ old new. (text : List ℕ) → IsWritten old name.now piece.old text
+        → HoldsPart new name.now text)) }
+    ensures others { IfTold (H.files shelf.old) (H.files shelf.new)
+        (λ old new. KeepsOthers old new name.now) }
     ensures begun { OnOk result
         (KeepsBegun (H.calls shelf.old) (H.calls shelf.new) name.now piece.old []) }
     ensures failed { OnErr result
@@ -41,9 +46,14 @@ fn make_room<H: Shelf>(shelf: &mut H, name: &str, piece: &mut Piece) -> Result<(
     requires lines { AreLines piece.old }
     ensures lines { OnOk result (AreLines piece.new) }
     ensures room { OnOk result (length piece.new + 128 ≤ 4096) }
-    ensures ok { OnOk result (IfTold (H.files shelf.old) (H.files shelf.new) (λ old new. (text : List ℕ) → IsWritten old name.now piece.old text → IsWritten new name.now piece.new text)) }
-    ensures err { OnErr result (IfTold (H.files shelf.old) (H.files shelf.new) (λ old new. (text : List ℕ) → IsWritten old name.now piece.old text → HoldsPart new name.now text)) }
-    ensures others { IfTold (H.files shelf.old) (H.files shelf.new) (λ old new. KeepsOthers old new name.now) }
+    ensures ok { OnOk result (IfTold (H.files shelf.old) (H.files shelf.new)
+        (λ old new. (text : List ℕ) → IsWritten old name.now piece.old text
+        → IsWritten new name.now piece.new text)) }
+    ensures err { OnErr result (IfTold (H.files shelf.old) (H.files shelf.new)
+        (λ old new. (text : List ℕ) → IsWritten old name.now piece.old text
+        → HoldsPart new name.now text)) }
+    ensures others { IfTold (H.files shelf.old) (H.files shelf.new)
+        (λ old new. KeepsOthers old new name.now) }
     ensures begun { OnOk result
         (KeepsBegun (H.calls shelf.old) (H.calls shelf.new) name.now piece.old piece.new) }
     ensures failed { OnErr result
@@ -89,10 +99,18 @@ impl Certificate<'_> {
         requires lines { AreLines piece.old }
         ensures lines { OnOk result (AreLines piece.new) }
         ensures full { OnOk result (HasBytes piece.new) }
-        ensures ok { OnOk result (IfTold (H.files shelf.old) (H.files shelf.new) (λ old new. (text : List ℕ) → IsWritten old name.now piece.old text → AddsLine new name.now piece.new text (lines_of self.now) at)) }
-        ensures err { OnErr result (IfTold (H.files shelf.old) (H.files shelf.new) (λ old new. (text : List ℕ) → IsWritten old name.now piece.old text → HoldsPart new name.now text)) }
-        ensures others { IfTold (H.files shelf.old) (H.files shelf.new) (λ old new. KeepsOthers old new name.now) }
-        ensures begun { OnOk result ((start : List Call) (text : List ℕ) → HaveBegun start (H.calls shelf.old) name.now piece.old text → CallForLine start (H.calls shelf.new) name.now piece.new text (lines_of self.now) at) }
+        ensures ok { OnOk result (IfTold (H.files shelf.old) (H.files shelf.new)
+            (λ old new. (text : List ℕ) → IsWritten old name.now piece.old text
+            → AddsLine new name.now piece.new text (lines_of self.now) at)) }
+        ensures err { OnErr result (IfTold (H.files shelf.old) (H.files shelf.new)
+            (λ old new. (text : List ℕ) → IsWritten old name.now piece.old text
+            → HoldsPart new name.now text)) }
+        ensures others { IfTold (H.files shelf.old) (H.files shelf.new)
+            (λ old new. KeepsOthers old new name.now) }
+        ensures begun { OnOk result ((start : List Call) (text : List ℕ)
+            → HaveBegun start (H.calls shelf.old) name.now piece.old text
+            → CallForLine start (H.calls shelf.new) name.now piece.new text (lines_of self.now)
+            at) }
         ensures failed { OnErr result
             (BreaksSave (H.calls shelf.old) (H.calls shelf.new) name.now piece.old) }
         ensures sure { IfHasRoom (H.files shelf.old) name.now piece.old
@@ -109,14 +127,18 @@ impl Certificate<'_> {
     /// Saves the certificate's text as the file of this name, in pieces of whole lines, each of at
     /// most 4,096 bytes. It takes no memory. An error is a fault of the shelf.
     pub fn write_to<H: Shelf>(&self, shelf: &mut H, name: &str) -> Result<(), Failed>
-        ensures ok { OnOk result (IfTold (H.files shelf.old) (H.files shelf.new) (λ old new. new name.now ≡ Some (text_of self.now))) }
-        ensures err { OnErr result (IfTold (H.files shelf.old) (H.files shelf.new) (λ old new. IsPartSaved old new name.now (text_of self.now))) }
-        ensures others { IfTold (H.files shelf.old) (H.files shelf.new) (λ old new. KeepsOthers old new name.now) }
+        ensures ok { OnOk result (IfTold (H.files shelf.old) (H.files shelf.new)
+            (λ old new. new name.now ≡ Some (text_of self.now))) }
+        ensures err { OnErr result (IfTold (H.files shelf.old) (H.files shelf.new)
+            (λ old new. IsPartSaved old new name.now (text_of self.now))) }
+        ensures others { IfTold (H.files shelf.old) (H.files shelf.new)
+            (λ old new. KeepsOthers old new name.now) }
         ensures calls { OnOk result
             (Saves (H.calls shelf.old) (H.calls shelf.new) name.now (text_of self.now)) }
         ensures failed { OnErr result
             (SavesPart (H.calls shelf.old) (H.calls shelf.new) name.now (text_of self.now)) }
-        ensures sure { IsSome (H.files shelf.old) → H.can_hold shelf.old name.now (length (text_of self.now)) → IsOk result }
+        ensures sure { IsSome (H.files shelf.old)
+            → H.can_hold shelf.old name.now (length (text_of self.now)) → IsOk result }
         ensures holds { KeepsHolds (H.can_hold shelf.old) (H.can_hold shelf.new) }
         ensures loads { KeepsLoads (H.can_load shelf.old) (H.can_load shelf.new) }
         ensures cause { HasCause (H.faults shelf.old) (H.faults shelf.new) result }

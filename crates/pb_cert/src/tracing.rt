@@ -36,10 +36,14 @@ fn last_step<S: Store>(task: &Task, store: &S, state: &Packed) -> Step
     requires lawful { IsTask task.now }
     requires whole { S.is_whole store.now }
     requires of_task { S.is_of store.now task.now }
-    requires sound { IsSoundAt (space_of task.now) (S.home store.now task.now) (S.rows store.now) (S.weight store.now) }
-    requires found { (row : Row) × (rows_at_home (S.home store.now task.now) (S.rows store.now) state.now ≡ Some row) }
+    requires sound { IsSoundAt (space_of task.now) (S.home store.now task.now) (S.rows store.now)
+        (S.weight store.now) }
+    requires found { (row : Row)
+        × (rows_at_home (S.home store.now task.now) (S.rows store.now) state.now ≡ Some row) }
     requires not_start { state.now ≢ (space_of task.now).start }
-    ensures { IsLastStep (space_of task.now) (rows_at_home (S.home store.now task.now) (S.rows store.now)) state.now result.action result.parent result.cost }
+    ensures { IsLastStep (space_of task.now)
+        (rows_at_home (S.home store.now task.now) (S.rows store.now)) state.now result.action
+        result.parent result.cost }
 {
     let Some(row) = row_at_home(task, store, state) else {
         unreachable!()
@@ -63,11 +67,16 @@ fn last_step<S: Store>(task: &Task, store: &S, state: &Packed) -> Step
 pub fn trace<S: Store>(alloc: Global, task: &Task, store: &S) -> Result<Plan, AllocError>
     requires whole { S.is_whole store.now }
     requires of_task { S.is_of store.now task.now }
-    requires sound { IsSoundAt (space_of task.now) (S.home store.now task.now) (S.rows store.now) (S.weight store.now) }
+    requires sound { IsSoundAt (space_of task.now) (S.home store.now task.now) (S.rows store.now)
+        (S.weight store.now) }
     requires goal { HasGoal (space_of task.now) (S.rows store.now) }
     ensures plan { IfOk result (λ plan. IsPlan (space_of task.now) plan) }
-    ensures cheapest { IfOk result (λ plan. (home goal : ℕ) (row : Row) → S.rows store.now home goal ≡ Some row → IsTrue ((space_of task.now).is_goal goal) → plan.cost ≤ row.g) }
-    ensures traced { IfOk result (λ plan. IsTrace (space_of task.now) (guide_to (S.home store.now task.now)) (store_with (S.rows store.now) (S.weight store.now) None) plan.actions) }
+    ensures cheapest { IfOk result (λ plan. (home goal : ℕ) (row : Row)
+        → S.rows store.now home goal ≡ Some row → IsTrue ((space_of task.now).is_goal goal)
+        → plan.cost ≤ row.g) }
+    ensures traced { IfOk result (λ plan. IsTrace (space_of task.now)
+        (guide_to (S.home store.now task.now))
+        (store_with (S.rows store.now) (S.weight store.now) None) plan.actions) }
 {
     let start = task.initial();
     let Some(goal) = first_goal(task, store) else {

@@ -8,7 +8,8 @@ use Rattle.pb_check.specs.declared.fault.CheckError.TheVariants as errors
 
 -- goes on with what the first gave, or ends with its fault
 infixl 10 ◌>>=◌
-abbrev pub ◌>>=◌ : {A B : Type 0} → Result A CertificateFault → (A → Result B CertificateFault) → Result B CertificateFault
+abbrev pub ◌>>=◌ : {A B : Type 0} → Result A CertificateFault → (A → Result B CertificateFault)
+    → Result B CertificateFault
 (Ok x) >>= f = f x
 (Err fault) >>= f = Err fault
 
@@ -23,6 +24,7 @@ Fails errors.Memory given = ⊤
 Fails (errors.Fault fault) given = given ≡ Err fault
 
 -- what a function returned, seen by `view`, is what is given, unless memory ran out
-abbrev pub Gives : {X Y : Type 0} → (view : X → Y) → Result X CheckError → (given : Result Y CertificateFault) → Type 0
+abbrev pub Gives : {X Y : Type 0} → (view : X → Y) → Result X CheckError
+    → (given : Result Y CertificateFault) → Type 0
 Gives view (Ok x) given = given ≡ Ok (view x)
 Gives view (Err e) given = Fails e given

@@ -47,7 +47,8 @@ is_weight weight = nat_le 1 weight.den && (nat_le weight.den weight.num && nat_l
 -- ---- the plan
 
 -- goes on after a step, if it is one
-abbrev pub after_step : (done : ℕ) → ((next first : ℕ) → Result (ℕ × ℕ) CertificateFault) → Option (ℕ × ℕ) → Result (ℕ × ℕ) CertificateFault
+abbrev pub after_step : (done : ℕ) → ((next first : ℕ) → Result (ℕ × ℕ) CertificateFault)
+    → Option (ℕ × ℕ) → Result (ℕ × ℕ) CertificateFault
 after_step done rest None = Err (faults.PlanStep done)
 after_step done rest (Some step) = rest step.0 step.1
 
@@ -55,7 +56,9 @@ after_step done rest (Some step) = rest step.0 step.1
 -- that is none
 unfoldable pub walk : Space → (from done cost : ℕ) → List ℕ → Result (ℕ × ℕ) CertificateFault
 walk space from done cost [] = Ok (from, cost)
-walk space from done cost (action ∷ actions) = after_step done (λ next first. walk space next (done + 1) (cost + first) actions) (space.step from action)
+walk space from done cost (action ∷ actions) =
+    after_step done (λ next first. walk space next (done + 1) (cost + first) actions)
+    (space.step from action)
 
 unfoldable pub plan_fault : Space → Plan → Result Bool CertificateFault
 plan_fault space plan = do
@@ -72,16 +75,20 @@ plan_fault_if_any space (Some plan) = plan_fault space plan
 -- the first row whose state is not above that of the row before it
 unfoldable pub order_fault : (line before : ℕ) → List Line → Option CertificateFault
 order_fault line before [] = None
-order_fault line before (row ∷ rows) = if nat_lt before row.state then order_fault (line + 1) row.state rows else Some (faults.RowOrder line)
+order_fault line before (row ∷ rows) =
+    if nat_lt before row.state then order_fault (line + 1) row.state rows
+    else Some (faults.RowOrder line)
 
 abbrev pub rows_order_fault : (line : ℕ) → List Line → Option CertificateFault
 rows_order_fault line [] = None
 rows_order_fault line (row ∷ rows) = order_fault (line + 1) row.state rows
 
 -- the first fault of the rows, by what is the fault of a row in its line
-unfoldable pub first_fault_by : ((line : ℕ) → Line → Option CertificateFault) → (line : ℕ) → List Line → Option CertificateFault
+unfoldable pub first_fault_by : ((line : ℕ) → Line → Option CertificateFault) → (line : ℕ)
+    → List Line → Option CertificateFault
 first_fault_by fault line [] = None
-first_fault_by fault line (row ∷ rows) = or_then (fault line row) (first_fault_by fault (line + 1) rows)
+first_fault_by fault line (row ∷ rows) =
+    or_then (fault line row) (first_fault_by fault (line + 1) rows)
 
 abbrev pub state_fault : Space → (line : ℕ) → Line → Option CertificateFault
 state_fault space line row = unless (space.is_state row.state) (faults.BadState line)
@@ -109,14 +116,18 @@ abbrev pub target_fault : (line action most : ℕ) → Option ℕ → Option Cer
 target_fault line action most None = Some (faults.Missing line action)
 target_fault line action most (Some g) = unless (nat_le g most) (faults.TooDear line action)
 
-abbrev pub step_fault : (rows : List Line) → (line g action : ℕ) → Option (ℕ × ℕ) → Option CertificateFault
+abbrev pub step_fault : (rows : List Line) → (line g action : ℕ) → Option (ℕ × ℕ)
+    → Option CertificateFault
 step_fault rows line g action None = None
 step_fault rows line g action (Some step) = target_fault line action (g + step.1) (g_of rows step.0)
 
 -- the fault of the first action below a number that has one
-unfoldable pub steps_fault : Space → (rows : List Line) → (line g state count : ℕ) → Option CertificateFault
+unfoldable pub steps_fault : Space → (rows : List Line) → (line g state count : ℕ)
+    → Option CertificateFault
 steps_fault space rows line g state zero = None
-steps_fault space rows line g state (suc action) = or_then (steps_fault space rows line g state action) (step_fault rows line g action (space.step state action))
+steps_fault space rows line g state (suc action) =
+    or_then (steps_fault space rows line g state action)
+    (step_fault rows line g action (space.step state action))
 
 abbrev pub may_be_cut : Weight → (best : Option ℕ) → (g : ℕ) → Estimate → Bool
 may_be_cut weight best g Dead = true
@@ -124,10 +135,12 @@ may_be_cut weight None g (Cost h) = false
 may_be_cut weight (Some best) g (Cost h) = nat_le (weight.den * best) (weight.num * (g + h))
 
 -- the fault of a row, judged against all rows
-unfoldable pub row_fault : Space → (estimate : ℕ → Estimate) → Weight → (best : Option ℕ) → (rows : List Line) → (line : ℕ) → Line → Option CertificateFault
+unfoldable pub row_fault : Space → (estimate : ℕ → Estimate) → Weight → (best : Option ℕ)
+    → (rows : List Line) → (line : ℕ) → Line → Option CertificateFault
 row_fault space estimate weight best rows line row =
     if row.is_closed
-    then (if space.is_goal row.state then Some (faults.GoalClosed line) else steps_fault space rows line row.g row.state space.actions)
+    then (if space.is_goal row.state then Some (faults.GoalClosed line)
+    else steps_fault space rows line row.g row.state space.actions)
     else unless (may_be_cut weight best row.g (estimate row.state)) (faults.Low line)
 
 -- ---- all in order
@@ -140,7 +153,8 @@ abbrev pub verdict_of : Weight → Option Plan → Verdict
 verdict_of weight None = Unsolvable
 verdict_of weight (Some plan) = Bounded plan.cost (bound_of weight plan.cost)
 
-unfoldable pub judged : Space → (estimate : ℕ → Estimate) → (kind : TaskKind) → Text → Result Verdict CertificateFault
+unfoldable pub judged : Space → (estimate : ℕ → Estimate) → (kind : TaskKind) → Text
+    → Result Verdict CertificateFault
 judged space estimate kind text = do
   kinds ← passes (unless (same_kind kind text.kind) faults.Kind)
   weights ← passes (unless (is_weight text.certificate.weight) faults.Weight)
@@ -148,9 +162,11 @@ judged space estimate kind text = do
   orders ← passes (rows_order_fault text.first text.certificate.lines)
   states ← passes (first_fault_by (state_fault space) text.first text.certificate.lines)
   starts ← passes (unless (is_zero (g_of text.certificate.lines space.start)) faults.NoStart)
-  rows ← passes (first_fault_by (row_fault space estimate text.certificate.weight (cost_of text.certificate.plan) text.certificate.lines) text.first text.certificate.lines)
+  rows ← passes (first_fault_by (row_fault space estimate text.certificate.weight
+      (cost_of text.certificate.plan) text.certificate.lines) text.first text.certificate.lines)
   Ok (verdict_of text.certificate.weight text.certificate.plan)
 
 -- the verdict on the bytes, or their first fault
-unfoldable pub checked : Space → (estimate : ℕ → Estimate) → (kind : TaskKind) → (bytes : List ℕ) → Result Verdict CertificateFault
+unfoldable pub checked : Space → (estimate : ℕ → Estimate) → (kind : TaskKind) → (bytes : List ℕ)
+    → Result Verdict CertificateFault
 checked space estimate kind bytes = text_of bytes >>= λ text. judged space estimate kind text

@@ -20,7 +20,8 @@ line_at line text = wanted line (part 10 text)
 
 -- the number after this piece
 abbrev pub number_behind : (line : ℕ) → (piece text : List ℕ) → Result ℕ CertificateFault
-number_behind line piece text = wanted line (behind piece text) >>= λ word. wanted line (number_of word)
+number_behind line piece text =
+    wanted line (behind piece text) >>= λ word. wanted line (number_of word)
 
 unfoldable pub kind_in : (line : ℕ) → List ℕ → Result TaskKind CertificateFault
 kind_in line text =
@@ -37,7 +38,9 @@ weight_in line text = do
   Ok (record { num = num; den = den })
 
 unfoldable pub closed_in : (line : ℕ) → List ℕ → Result Bool CertificateFault
-closed_in line text = if is_text (codes "closed") text then Ok true else (if is_text (codes "cut") text then Ok false else Err (Syntax line))
+closed_in line text =
+    if is_text (codes "closed") text then Ok true
+    else (if is_text (codes "cut") text then Ok false else Err (Syntax line))
 
 unfoldable pub row_in : (line : ℕ) → List ℕ → Result Line CertificateFault
 row_in line text = do
@@ -144,4 +147,12 @@ text_of bytes = do
   weight ← weight_at 3 kind.1
   plan ← plan_at 4 weight.1
   rows ← body_at (4 + plan_lines plan.0) plan.1
-  Ok (record { kind = kind.0; certificate = record { weight = weight.0; plan = plan.0; lines = rows }; first = 5 + plan_lines plan.0 })
+  Ok (record {
+    kind = kind.0;
+    certificate = record {
+      weight = weight.0;
+      plan = plan.0;
+      lines = rows;
+    };
+    first = 5 + plan_lines plan.0;
+  })

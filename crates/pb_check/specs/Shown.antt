@@ -14,7 +14,8 @@ use Rattle.pb_check.specs.Spelling.{IsSpelled}
 use Rattle.pb_check.specs.Judging.{verdict_of, bound_of, checked}
 
 -- the bytes spell a certificate of this kind that is valid, and this is its verdict
-pub record IsAccepted (space : Space) (estimate : ℕ → Estimate) (kind : TaskKind) (bytes : List ℕ) (verdict : Verdict) : Type 0 where
+pub record IsAccepted (space : Space) (estimate : ℕ → Estimate) (kind : TaskKind) (bytes : List ℕ)
+    (verdict : Verdict) : Type 0 where
   pub certificate : Certificate
   pub spelled : IsSpelled bytes kind certificate
   pub valid : IsValid space estimate certificate
@@ -23,7 +24,8 @@ pub record IsAccepted (space : Space) (estimate : ℕ → Estimate) (kind : Task
 -- The bytes spell a certificate with this verdict whose claim is true of the space. Every plan of a
 -- cost f has num * f >= den * C, for the cost C of the certificate's plan and its weight num / den;
 -- or there is no plan.
-pub record ShowsClaim (space : Space) (kind : TaskKind) (bytes : List ℕ) (verdict : Verdict) : Type 0 where
+pub record ShowsClaim (space : Space) (kind : TaskKind) (bytes : List ℕ) (verdict : Verdict) : Type
+    0 where
   pub certificate : Certificate
   pub spelled : IsSpelled bytes kind certificate
   pub weight : IsWeight certificate.weight
@@ -34,16 +36,21 @@ pub record ShowsClaim (space : Space) (kind : TaskKind) (bytes : List ℕ) (verd
 -- there is no plan
 abbrev pub VerdictHolds : Space → Verdict → Type 0
 VerdictHolds space Unsolvable = HasNoPlan space
-VerdictHolds space (Bounded cost bound) = ((plan : Plan) × IsPlan space plan × (plan.cost ≡ cost)) × ((plan : Plan) → IsPlan space plan → bound ≤ plan.cost)
+VerdictHolds space (Bounded cost bound) =
+    ((plan : Plan) × IsPlan space plan × (plan.cost ≡ cost))
+    × ((plan : Plan) → IsPlan space plan → bound ≤ plan.cost)
 
 -- The bound of a verdict is the least whole number that is no less than the cost divided by the
 -- weight.
 abbrev pub BoundsAreLeast : Type 0
-BoundsAreLeast = (weight : Weight) (cost : ℕ) → IsWeight weight → IsBound weight cost (bound_of weight cost)
+BoundsAreLeast =
+    (weight : Weight) (cost : ℕ) → IsWeight weight → IsBound weight cost (bound_of weight cost)
 
 -- the bytes are a beginning of a certificate's text, and not the whole
 abbrev pub IsCutOff : List ℕ → Type 0
-IsCutOff bytes = (stated : TaskKind) × (certificate : Certificate) × (rest : List ℕ) × IsSpelled (bytes ++ rest) stated certificate × (rest ≢ [])
+IsCutOff bytes =
+    (stated : TaskKind) × (certificate : Certificate) × (rest : List ℕ)
+    × IsSpelled (bytes ++ rest) stated certificate × (rest ≢ [])
 
 -- A certificate that is cut off is refused as misspelled, in the line that it ends in, whatever the
 -- task is. The line is 1 plus the number of line feeds in what is left.

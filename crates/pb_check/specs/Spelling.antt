@@ -37,5 +37,7 @@ pub record IsSpelled (bytes : List ℕ) (kind : TaskKind) (certificate : Certifi
 abbrev pub ReadAsSpelled : Type 0
 ReadAsSpelled =
     (bytes : List ℕ) (text : Text)
-    → (text_of bytes ≡ Ok text → IsSpelled bytes text.kind text.certificate × (text.first ≡ 5 + plan_lines text.certificate.plan))
-    × (IsSpelled bytes text.kind text.certificate → text.first ≡ 5 + plan_lines text.certificate.plan → text_of bytes ≡ Ok text)
+    → (text_of bytes ≡ Ok text → IsSpelled bytes text.kind text.certificate
+    × (text.first ≡ 5 + plan_lines text.certificate.plan))
+    × (IsSpelled bytes text.kind text.certificate → text.first
+    ≡ 5 + plan_lines text.certificate.plan → text_of bytes ≡ Ok text)

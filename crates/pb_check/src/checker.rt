@@ -26,7 +26,8 @@ fn first_fault(
 ) -> Result<Verdict, CheckError>
     requires task { IsOfTask estimator.old task.now }
     requires bytes { length bytes.now < 2 ^ 63 }
-    ensures exact { Gives (λ x. x) result (checked (space_of task.now) (estimate_of task.now) (kind_of task.now) bytes.now) }
+    ensures exact { Gives (λ x. x) result
+        (checked (space_of task.now) (estimate_of task.now) (kind_of task.now) bytes.now) }
     ensures lawful { IfOk result (λ verdict. IsTask task.now) }
     ensures task { IsOfTask estimator.new task.now }
 {
@@ -57,18 +58,23 @@ pub fn check(
     requires task { IsOfTask estimator.old task.now }
     requires bytes { length bytes.now < 2 ^ 63 }
     // Which verdict or fault it is, unless memory ran out.
-    ensures exact { Gives (λ x. x) result (checked (space_of task.now) (estimate_of task.now) (kind_of task.now) bytes.now) }
+    ensures exact { Gives (λ x. x) result
+        (checked (space_of task.now) (estimate_of task.now) (kind_of task.now) bytes.now) }
     // What is accepted spells a valid certificate of the task's kind.
-    ensures valid { IfOk result (λ verdict. IsAccepted (space_of task.now) (estimate_of task.now) (kind_of task.now) bytes.now verdict) }
+    ensures valid { IfOk result (λ verdict. IsAccepted (space_of task.now) (estimate_of task.now)
+        (kind_of task.now) bytes.now verdict) }
     // What spells a valid certificate of the task's kind is accepted, unless memory ran out.
-    ensures only { (verdict : Verdict) → IsAccepted (space_of task.now) (estimate_of task.now) (kind_of task.now) bytes.now verdict → Gives (λ x. x) result (Ok verdict) }
+    ensures only { (verdict : Verdict) → IsAccepted (space_of task.now) (estimate_of task.now)
+        (kind_of task.now) bytes.now verdict → Gives (λ x. x) result (Ok verdict) }
     // What is accepted shows that no plan costs less than the plan's cost divided by the weight, or
     // that there is none.
-    ensures claim { IfOk result (λ verdict. ShowsClaim (space_of task.now) (kind_of task.now) bytes.now verdict) }
+    ensures claim { IfOk result (λ verdict. ShowsClaim (space_of task.now) (kind_of task.now)
+        bytes.now verdict) }
     // So what the verdict says is true of the task.
     ensures holds { IfOk result (λ verdict. VerdictHolds (space_of task.now) verdict) }
     // A certificate that is cut off is refused in the line that it ends in, unless memory ran out.
-    ensures cut { IsCutOff bytes.now → Gives (λ x. x) result (Err (Syntax (1 + line_feeds bytes.now))) }
+    ensures cut { IsCutOff bytes.now → Gives (λ x. x) result
+        (Err (Syntax (1 + line_feeds bytes.now))) }
     ensures task { IsOfTask estimator.new task.now }
 {
     first_fault(alloc, task, estimator, bytes)

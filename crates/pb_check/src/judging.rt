@@ -86,7 +86,8 @@ fn step(task: &Task, from: &Packed, action: u64) -> Option<(Packed, u64)>
 // Where the actions lead, and at what cost, or the first that is not applicable.
 fn walk(task: &Task, actions: &[u64]) -> Result<(Packed, u128), CheckError>
     requires lawful { IsTask task.now }
-    ensures { Gives (λ x. x) result (walk (space_of task.now) (space_of task.now).start 0 0 actions.now) }
+    ensures { Gives (λ x. x) result (walk (space_of task.now) (space_of task.now).start 0 0
+        actions.now) }
 {
     let mut at = task.initial();
     let mut cost: u128 = 0;
@@ -247,7 +248,8 @@ fn steps_fault(
 ) -> Option<CertificateFault>
     requires rise { Rise rows.now }
     requires state { IsTrue ((space_of task.now).is_state state.now) }
-    ensures { result ≡ steps_fault (space_of task.now) rows.now line g state.now (space_of task.now).actions }
+    ensures { result ≡ steps_fault (space_of task.now) rows.now line g state.now
+        (space_of task.now).actions }
 {
     for action in 0..task.actions() {
         let mut near = place_near(places, action);
@@ -263,7 +265,8 @@ fn steps_fault(
 
 fn may_be_cut(weight: &StatedWeight, best: Option<u64>, g: u64, estimate: Estimate) -> bool
     requires weight { is_weight (record { num = weight.now.num; den = weight.now.den }) ≡ true }
-    ensures { result ≡ may_be_cut (record { num = weight.now.num; den = weight.now.den }) best g estimate }
+    ensures { result ≡ may_be_cut (record { num = weight.now.num; den = weight.now.den }) best g
+        estimate }
 {
     match estimate {
         Estimate::Dead => true,
@@ -293,7 +296,8 @@ fn row_fault(
     requires weight { is_weight (record { num = weight.now.num; den = weight.now.den }) ≡ true }
     requires rise { Rise rows.now }
     requires state { IsTrue ((space_of task.now).is_state row.now.state) }
-    ensures fault { result ≡ row_fault (space_of task.now) (estimate_of task.now) (record { num = weight.now.num; den = weight.now.den }) best rows.now line row.now }
+    ensures fault { result ≡ row_fault (space_of task.now) (estimate_of task.now)
+        (record { num = weight.now.num; den = weight.now.den }) best rows.now line row.now }
     ensures task { IsOfTask estimator.new task.now }
 {
     if row.is_closed {
@@ -326,7 +330,9 @@ fn rows_fault(
     requires rise { Rise rows.now }
     requires states { first_fault_by (state_fault (space_of task.now)) line rows.now ≡ None }
     requires lines { line + length rows.now < 2 ^ 64 }
-    ensures fault { result ≡ first_fault_by (row_fault (space_of task.now) (estimate_of task.now) (record { num = weight.now.num; den = weight.now.den }) best rows.now) line rows.now }
+    ensures fault { result ≡ first_fault_by
+        (row_fault (space_of task.now) (estimate_of task.now)
+        (record { num = weight.now.num; den = weight.now.den }) best rows.now) line rows.now }
     ensures task { IsOfTask estimator.new task.now }
 {
     for i in 0..rows.len() {
@@ -397,7 +403,10 @@ fn need_rows(
     requires rise { Rise rows.now }
     requires states { first_fault_by (state_fault (space_of task.now)) line rows.now ≡ None }
     requires lines { line + length rows.now < 2 ^ 64 }
-    ensures gives { Gives (λ x. x) result (passes (first_fault_by (row_fault (space_of task.now) (estimate_of task.now) (record { num = weight.now.num; den = weight.now.den }) (cost_of plan.now) rows.now) line rows.now)) }
+    ensures gives { Gives (λ x. x) result
+        (passes (first_fault_by (row_fault (space_of task.now) (estimate_of task.now)
+        (record { num = weight.now.num; den = weight.now.den }) (cost_of plan.now) rows.now)
+        line rows.now)) }
     ensures task { IsOfTask estimator.new task.now }
 {
     let mut places = Vec::from_elem(alloc, 0usize, task.actions() as usize)?;
@@ -420,7 +429,17 @@ pub fn judge(
 ) -> Result<Verdict, CheckError>
     requires task { IsOfTask estimator.old task.now }
     requires lines { first + length rows.now < 2 ^ 64 }
-    ensures verdict { Gives (λ x. x) result (judged (space_of task.now) (estimate_of task.now) (kind_of task.now) (record { kind = kind; certificate = record { weight = record { num = weight.now.num; den = weight.now.den }; plan = plan.now; lines = rows.now }; first = first })) }
+    ensures verdict { Gives (λ x. x) result
+        (judged (space_of task.now) (estimate_of task.now) (kind_of task.now)
+        (record {
+          kind = kind;
+          certificate = record {
+            weight = record { num = weight.now.num; den = weight.now.den };
+            plan = plan.now;
+            lines = rows.now;
+          };
+          first = first;
+        })) }
     ensures lawful { IsTask task.now }
     ensures task { IsOfTask estimator.new task.now }
 {

@@ -167,7 +167,8 @@ fn kind_at(line: u64, text: &[u8]) -> Result<(TaskKind, &[u8]), CheckError>
 
 #[tactic(auto, unfolding(crate::specs::Reading::weight_at))]
 fn weight_at(line: u64, text: &[u8]) -> Result<(StatedWeight, &[u8]), CheckError>
-    ensures gives { Gives (λ x. (record { num = x.0.num; den = x.0.den }, x.1.now)) result (weight_at line text.now) }
+    ensures gives { Gives (λ x. (record { num = x.0.num; den = x.0.den }, x.1.now)) result
+        (weight_at line text.now) }
     ensures shorter { IfOk result (λ x. length x.1.now + 1 ≤ length text.now) }
 {
     let (first, rest) = line_at(line, text)?;

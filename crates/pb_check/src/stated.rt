@@ -41,5 +41,13 @@ impl Model for StatedText {
 
     ghost Value = { Text };
 
-    ghost view = { λ p. record { kind = p.kind; certificate = record { weight = record { num = p.weight.num; den = p.weight.den }; plan = p.plan; lines = p.rows }; first = p.first } };
+    ghost view = { λ p. record {
+      kind = p.kind;
+      certificate = record {
+        weight = record { num = p.weight.num; den = p.weight.den };
+        plan = p.plan;
+        lines = p.rows;
+      };
+      first = p.first;
+    } };
 }

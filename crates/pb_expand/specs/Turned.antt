@@ -34,7 +34,8 @@ pub record IsAtWork (task : TaskParts) (graph : AbstractGraph) (lease : LeaseVal
   pub leased : machine.counts.leases lease.worker ≡ Some (grant_of lease)
   pub known : Option ℕ → Bool
   pub work : IsWorked (space_of task) (guide_of task graph) lease.block lease.used 0 known
-      (lent_store (setup_of task graph settings reopenings) lease.block machine.store (machine.given lease.worker)) (leased_store lease)
+      (lent_store (setup_of task graph settings reopenings) lease.block machine.store
+      (machine.given lease.worker)) (leased_store lease)
   pub scope : HasScope graph lease
 
 -- a worker that reads no incumbent
@@ -44,7 +45,8 @@ reads_none incumbent = false
 -- From the one store to the other a worker did turns of a lease of this block. There were exactly
 -- `used` expansions, exactly `broken` that were broken off, and any number of cuts and of goals.
 -- What the worker read as the incumbent is known.
-pub record HasTurned (space : Space) (guide : Guide) (known : Option ℕ → Bool) (block used broken : ℕ) (old new : Store) : Type 0 where
+pub record HasTurned (space : Space) (guide : Guide) (known : Option ℕ → Bool)
+    (block used broken : ℕ) (old new : Store) : Type 0 where
   pub work : IsWorked space guide block used broken known old new
   pub broken_is : broken_expansions work.works ≡ broken
   pub turns : AreLeaseTurns space guide work.works old
@@ -55,14 +57,19 @@ with_copy (lower cost) incumbent before = before
 with_copy work incumbent before = incumbent ∷ before
 
 -- the incumbent that each turn was done with, the last one first, and then these
-abbrev pub copies_of : Space → Guide → List Work → (old : Store) → (before : List (Option ℕ)) → List (Option ℕ)
+abbrev pub copies_of : Space → Guide → List Work → (old : Store) → (before : List (Option ℕ))
+    → List (Option ℕ)
 copies_of space guide [] old before = before
-copies_of space guide (work ∷ works) old before = copies_of space guide works (store_after space guide work old) (with_copy work old.incumbent before)
+copies_of space guide (work ∷ works) old before =
+    copies_of space guide works (store_after space guide work old)
+    (with_copy work old.incumbent before)
 
 -- From the one store to the other a worker did one turn, with the incumbent of the first store.
-pub record HasTurnedOnce (space : Space) (guide : Guide) (known : Option ℕ → Bool) (block used broken : ℕ) (old new : Store) : Type 0 where
+pub record HasTurnedOnce (space : Space) (guide : Guide) (known : Option ℕ → Bool)
+    (block used broken : ℕ) (old new : Store) : Type 0 where
   pub turned : HasTurned space guide known block used broken old new
-  pub once : (before : List (Option ℕ)) → copies_of space guide turned.work.works old before ≡ old.incumbent ∷ before
+  pub once : (before : List (Option ℕ)) → copies_of space guide turned.work.works old before
+      ≡ old.incumbent ∷ before
 
 -- the state has this row, which is the first Opened one of the lease's block, and the next turn is
 -- its expansion

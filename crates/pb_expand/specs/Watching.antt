@@ -30,31 +30,41 @@ pub record WatchView : Type 0 where
 -- The lease came from the one that the watch's worker was lent, in turns: by exactly the expansions
 -- that it counts, and by at most this many broken off. The watch has read what the worker read as
 -- the incumbent.
-pub record IsFromLent (space : Space) (guide : Guide) (view : WatchView) (most_broken : ℕ) (lease : LeaseValue) : Type 0 where
+pub record IsFromLent (space : Space) (guide : Guide) (view : WatchView) (most_broken : ℕ)
+    (lease : LeaseValue) : Type 0 where
   pub lent : LeaseValue
   pub lent_is : view.lent ≡ Some lent
   pub same : IsSameLease lent lease
-  pub work : IsWorked space guide lent.block lease.used most_broken view.read (leased_store lent) (leased_store lease)
+  pub work : IsWorked space guide lent.block lease.used most_broken view.read (leased_store lent)
+      (leased_store lease)
   pub turns : AreLeaseTurns space guide work.works (leased_store lent)
 
 -- The lease came from the one that was lent. Its incumbent is no lower than what the watch has read
 -- or told. What was told is shown by a goal's row of the lease.
-pub record IsWatched (space : Space) (guide : Guide) (view : WatchView) (most_broken : ℕ) (lease : LeaseValue) : Type 0 where
+pub record IsWatched (space : Space) (guide : Guide) (view : WatchView) (most_broken : ℕ)
+    (lease : LeaseValue) : Type 0 where
   pub from : IsFromLent space guide view most_broken lease
   pub copy : AtMost view.least lease.incumbent
-  pub shown : (cost : ℕ) → view.told ≡ Some cost → HasGoalWithin space guide (leased_store lease) cost
+  pub shown : (cost : ℕ) → view.told ≡ Some cost
+      → HasGoalWithin space guide (leased_store lease) cost
 
 -- The cost may be told: the lease has a goal's row that costs no more. The lease doesn't have the
 -- cost as its incumbent before the cost is told. The greatest number stands for an unknown cost.
 pub record MayTell (view : WatchView) (lease : LeaseValue) (cost : ℕ) : Type 0 where
   pub below : cost < 2 ^ 64 - 1
   pub watched : IsWatched (space_of view.task) (guide_of view.task view.graph) view 0 lease
-  pub goal : HasGoalWithin (space_of view.task) (guide_of view.task view.graph) (leased_store lease) cost
+  pub goal : HasGoalWithin (space_of view.task) (guide_of view.task view.graph) (leased_store lease)
+      cost
 
 -- It is the same search and the same lent lease, what was read stays read, and the least cost
 -- doesn't rise.
 pub record KeepsWatch (old new : WatchView) : Type 0 where
-  pub others : new ≡ record old { read = new.read; answers = new.answers; least = new.least; told = new.told }
+  pub others : new ≡ record old {
+    read = new.read;
+    answers = new.answers;
+    least = new.least;
+    told = new.told;
+  }
   pub knows : (incumbent : Option ℕ) → IsTrue (old.read incumbent) → IsTrue (new.read incumbent)
   pub falls : AtMost new.least old.least
 
@@ -75,7 +85,8 @@ pub record HasTold (old : WatchView) (cost : ℕ) (new : WatchView) : Type 0 whe
   pub answers : new.answers ≡ old.answers
 
 -- The lease may be worked on under this watch.
-pub record IsAtWatch (task : TaskParts) (graph : AbstractGraph) (view : WatchView) (lease : LeaseValue) : Type 0 where
+pub record IsAtWatch (task : TaskParts) (graph : AbstractGraph) (view : WatchView)
+    (lease : LeaseValue) : Type 0 where
   pub task_is : view.task ≡ task
   pub graph_is : view.graph ≡ graph
   pub at_work : IsAtWork task graph lease
@@ -85,23 +96,30 @@ pub record IsAtWatch (task : TaskParts) (graph : AbstractGraph) (view : WatchVie
 -- ---- a read before each turn
 
 -- these, and before them this one, if it was read and no turn came after that
-abbrev pub with_read : (is_read : Bool) → (incumbent : Option ℕ) → (before : List (Option ℕ)) → List (Option ℕ)
+abbrev pub with_read : (is_read : Bool) → (incumbent : Option ℕ) → (before : List (Option ℕ))
+    → List (Option ℕ)
 with_read true incumbent before = incumbent ∷ before
 with_read false incumbent before = before
 
 -- These turns, with a read before each. The turns were done with what was read, in the same order.
 -- Each turn has a read of its own. The only other read is one after the last turn, which found what
 -- the store has.
-pub record HasTurnedReading (space : Space) (guide : Guide) (known : Option ℕ → Bool) (block used broken : ℕ) (read_after : Bool) (old new : Store) (was now : List (Option ℕ)) : Type 0 where
+pub record HasTurnedReading (space : Space) (guide : Guide) (known : Option ℕ → Bool)
+    (block used broken : ℕ) (read_after : Bool) (old new : Store) (was now : List (Option ℕ)) : Type
+    0 where
   pub turned : HasTurned space guide known block used broken old new
-  pub reads : now ≡ with_read read_after new.incumbent (copies_of space guide turned.work.works old was)
+  pub reads : now ≡ with_read read_after new.incumbent
+      (copies_of space guide turned.work.works old was)
 
 -- From the one lease to the other its worker did turns under the watch. They have exactly this many
 -- expansions more, and exactly this many that were broken off. If the lease's incumbent was what
 -- the watch had read or told, it still is. Each turn has a read of its own before it. `read_before`
 -- says whether a read came before the first turn, and `read_after` whether one came after the last.
-pub record HasTurnedWatched (space : Space) (guide : Guide) (more broken : ℕ) (read_before read_after : Bool) (old : LeaseValue) (was : WatchView) (new : LeaseValue) (now : WatchView) : Type 0 where
-  pub turned : HasTurned space guide now.read old.block more broken (leased_store old) (leased_store new)
+pub record HasTurnedWatched (space : Space) (guide : Guide) (more broken : ℕ)
+    (read_before read_after : Bool) (old : LeaseValue) (was : WatchView) (new : LeaseValue)
+    (now : WatchView) : Type 0 where
+  pub turned : HasTurned space guide now.read old.block more broken (leased_store old)
+      (leased_store new)
   pub same : IsSameLease old new
   pub used : new.used ≡ old.used + more
   pub weights : HasWeights old → HasWeights new
@@ -109,4 +127,5 @@ pub record HasTurnedWatched (space : Space) (guide : Guide) (more broken : ℕ) 
   pub watched : IsWatched space guide now broken new
   pub level : old.incumbent ≡ was.least → new.incumbent ≡ now.least
   pub reads : (before : List (Option ℕ)) → was.answers ≡ with_read read_before old.incumbent before
-      → now.answers ≡ with_read read_after new.incumbent (copies_of space guide turned.work.works (leased_store old) before)
+      → now.answers ≡ with_read read_after new.incumbent
+      (copies_of space guide turned.work.works (leased_store old) before)

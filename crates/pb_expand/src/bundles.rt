@@ -23,7 +23,8 @@ use std::alloc::AllocError;
 pub fn first(lease: &Lease) -> Option<(Packed, Row)>
     requires own { IsSome (content_in lease.now.parts lease.now.block) }
     requires weights { HasWeights lease.now }
-    ensures some { IfSome result (λ found. IsFirstRow lease.now.weight (own_rows lease.now) found.0 found.1) }
+    ensures some { IfSome result (λ found. IsFirstRow lease.now.weight (own_rows lease.now) found.0
+        found.1) }
     ensures none { IfNone result (HasOpened (own_rows lease.now) → ⊥) }
 {
     let bundle = lease.bundle(lease.block());
@@ -70,7 +71,8 @@ pub fn offer(
     requires tables { IsOfTask estimator.old task.now }
     requires state { IsTrue ((space_of task.now).is_state succ.now.state) }
     requires there { IsSome (content_in lease.old.parts block) }
-    ensures rows { OnOk result (OffersAt lease.old lease.new block succ.now.state g (estimate_of task.now succ.now.state) (Some parent.now) succ.now.action) }
+    ensures rows { OnOk result (OffersAt lease.old lease.new block succ.now.state g
+        (estimate_of task.now succ.now.state) (Some parent.now) succ.now.action) }
     ensures changes { ChangesRows lease.old lease.new }
     ensures err { OnErr result (lease.new ≡ lease.old) }
     ensures tables { IsOfTask estimator.new task.now }

@@ -31,10 +31,13 @@ pub fn offer_all(
     requires graph { IsGraphOf task.now graph.now }
     requires proper { IsProper (space_of task.now) greatest_cost }
     requires succs { succs.now ≡ steps (space_of task.now) parent.now }
-    requires there { LeadsInto (space_of task.now) (guide_of task.now graph.now) parent.now lease.old.parts }
+    requires there { LeadsInto (space_of task.now) (guide_of task.now graph.now) parent.now
+        lease.old.parts }
     requires cheap { g < 2 ^ 61 }
-    ensures offers { OnOk result (HasOffers (guide_of task.now graph.now) parent.now g succs.now lease.old lease.new) }
-    ensures broken { OnErr result (IsBrokenOff (guide_of task.now graph.now) parent.now g succs.now lease.old lease.new) }
+    ensures offers { OnOk result (HasOffers (guide_of task.now graph.now) parent.now g succs.now
+        lease.old lease.new) }
+    ensures broken { OnErr result (IsBrokenOff (guide_of task.now graph.now) parent.now g succs.now
+        lease.old lease.new) }
     ensures changes { ChangesRows lease.old lease.new }
     ensures tables { IsOfTask estimator.new task.now }
 {

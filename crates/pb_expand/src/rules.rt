@@ -7,7 +7,8 @@ use pb_model::Estimate;
 /// Whether a row with this g and estimate may be cut at the weight num / den under this incumbent.
 pub fn may_be_cut(weight: (u64, u64), incumbent: Option<u64>, g: u64, estimate: Estimate) -> bool
     requires { IsWeight (record { num = weight.0; den = weight.1 }) }
-    ensures { IsTrue result ↔ MayBeCut (record { num = weight.0; den = weight.1 }) incumbent g estimate }
+    ensures { IsTrue result ↔ MayBeCut (record { num = weight.0; den = weight.1 }) incumbent g
+        estimate }
 {
     let (num, den) = weight;
     match (estimate, incumbent) {

@@ -27,7 +27,8 @@ use std::alloc::AllocError;
 fn settle_row(task: &Task, lease: &mut Lease, state: &Packed, row: &Row) -> bool
     requires first { IsFirstRow lease.old.weight (own_rows lease.old) state.now row.now }
     ensures turned { (graph : AbstractGraph) → IsAtWork task.now graph lease.old
-        → HasTurned (space_of task.now) (guide_of task.now graph) reads_none lease.old.block 0 0 (leased_store lease.old) (leased_store lease.new) }
+        → HasTurned (space_of task.now) (guide_of task.now graph) reads_none lease.old.block 0 0
+        (leased_store lease.old) (leased_store lease.new) }
     ensures same { IsSameLease lease.old lease.new }
     ensures used { lease.new.used ≡ lease.old.used }
     ensures weights { HasWeights lease.old → HasWeights lease.new }
@@ -52,7 +53,8 @@ pub fn settle(task: &Task, lease: &mut Lease) -> Option<(Packed, Row)>
     requires own { IsSome (content_in lease.old.parts lease.old.block) }
     requires weights { HasWeights lease.old }
     ensures turned { (graph : AbstractGraph) → IsAtWork task.now graph lease.old
-        → HasTurned (space_of task.now) (guide_of task.now graph) reads_none lease.old.block 0 0 (leased_store lease.old) (leased_store lease.new) }
+        → HasTurned (space_of task.now) (guide_of task.now graph) reads_none lease.old.block 0 0
+        (leased_store lease.old) (leased_store lease.new) }
     ensures same { IsSameLease lease.old lease.new }
     ensures used { lease.new.used ≡ lease.old.used }
     ensures weights { HasWeights lease.new }
@@ -85,9 +87,11 @@ pub fn expand(
     requires at_work { IsAtWork task.now graph.now lease.old }
     requires next { IsNext (space_of task.now) lease.old state.now row.now }
     requires left { lease.old.used < lease.old.quota }
-    ensures turned { OnOk result (HasTurnedOnce (space_of task.now) (guide_of task.now graph.now) reads_none lease.old.block 1 0 (leased_store lease.old) (leased_store lease.new)) }
+    ensures turned { OnOk result (HasTurnedOnce (space_of task.now) (guide_of task.now graph.now)
+        reads_none lease.old.block 1 0 (leased_store lease.old) (leased_store lease.new)) }
     ensures used { OnOk result (lease.new.used ≡ lease.old.used + 1) }
-    ensures broken { OnErr result (HasTurnedOnce (space_of task.now) (guide_of task.now graph.now) reads_none lease.old.block 0 1 (leased_store lease.old) (leased_store lease.new)) }
+    ensures broken { OnErr result (HasTurnedOnce (space_of task.now) (guide_of task.now graph.now)
+        reads_none lease.old.block 0 1 (leased_store lease.old) (leased_store lease.new)) }
     ensures unused { OnErr result (lease.new.used ≡ lease.old.used) }
     ensures opened { OnErr result (HasOpened (own_rows lease.new)) }
     ensures incumbent { lease.new.incumbent ≡ lease.old.incumbent }

@@ -47,12 +47,19 @@ fn next_row<W: Watch>(lease: &mut Lease, watch: &mut W) -> Option<(Packed, Row)>
     requires weights { HasWeights lease.old }
     ensures can { W.can watch.new }
     ensures stays { W.stays watch.old watch.new }
-    ensures turned { (space : Space) (guide : Guide) → IsWatched space guide (W.seen watch.old) 0 lease.old
-        → HasTurnedWatched space guide 0 0 false true lease.old (W.seen watch.old) lease.new (W.seen watch.new) }
-    ensures copy { (space : Space) (guide : Guide) → IsWatched space guide (W.seen watch.old) 0 lease.old → lease.new.incumbent ≡ (W.seen watch.new).least }
-    ensures one { (space : Space) (guide : Guide) → IsWatched space guide (W.seen watch.old) 0 lease.old → (W.seen watch.new).answers ≡ lease.new.incumbent ∷ (W.seen watch.old).answers }
+    ensures turned { (space : Space) (guide : Guide)
+        → IsWatched space guide (W.seen watch.old) 0 lease.old
+        → HasTurnedWatched space guide 0 0 false true lease.old (W.seen watch.old) lease.new
+        (W.seen watch.new) }
+    ensures copy { (space : Space) (guide : Guide)
+        → IsWatched space guide (W.seen watch.old) 0 lease.old
+        → lease.new.incumbent ≡ (W.seen watch.new).least }
+    ensures one { (space : Space) (guide : Guide)
+        → IsWatched space guide (W.seen watch.old) 0 lease.old
+        → (W.seen watch.new).answers ≡ lease.new.incumbent ∷ (W.seen watch.old).answers }
     ensures opened { own_opened lease.new ≡ own_opened lease.old }
-    ensures some { IfSome result (λ found. IsFirstRow lease.new.weight (own_rows lease.new) found.0 found.1) }
+    ensures some { IfSome result (λ found. IsFirstRow lease.new.weight (own_rows lease.new) found.0
+        found.1) }
     ensures none { IfNone result (HasOpened (own_rows lease.new) → ⊥) }
 {
     let found = watch.read();
@@ -75,7 +82,8 @@ fn settle_row_watched<W: Watch>(
     ensures can { W.can watch.new }
     ensures stays { W.stays watch.old watch.new }
     ensures turned { (graph : AbstractGraph) → IsAtWatch task.now graph (W.seen watch.old) lease.old
-        → HasTurnedWatched (space_of task.now) (guide_of task.now graph) 0 0 true (not result) lease.old (W.seen watch.old) lease.new (W.seen watch.new) }
+        → HasTurnedWatched (space_of task.now) (guide_of task.now graph) 0 0 true (not result)
+        lease.old (W.seen watch.old) lease.new (W.seen watch.new) }
     ensures none { (W.seen watch.new).answers ≡ (W.seen watch.old).answers }
     ensures fewer { result ≡ true → own_opened lease.new < own_opened lease.old }
     ensures next { result ≡ false → IsNext (space_of task.now) lease.new state.now row.now }
@@ -101,7 +109,8 @@ fn settle_watched<W: Watch>(task: &Task, lease: &mut Lease, watch: &mut W) -> Op
     ensures can { W.can watch.new }
     ensures stays { W.stays watch.old watch.new }
     ensures turned { (graph : AbstractGraph) → IsAtWatch task.now graph (W.seen watch.old) lease.old
-        → HasTurnedWatched (space_of task.now) (guide_of task.now graph) 0 0 false true lease.old (W.seen watch.old) lease.new (W.seen watch.new) }
+        → HasTurnedWatched (space_of task.now) (guide_of task.now graph) 0 0 false true lease.old
+        (W.seen watch.old) lease.new (W.seen watch.new) }
     ensures same { IsSameLease lease.old lease.new }
     ensures used { lease.new.used ≡ lease.old.used }
     ensures copy { lease.new.incumbent ≡ (W.seen watch.new).least }
@@ -134,25 +143,32 @@ pub fn work_watched<W: Watch>(
     requires can { W.can watch.old }
     requires task_is { (W.seen watch.old).task ≡ task.now }
     requires graph_is { (W.seen watch.old).graph ≡ graph.now }
-    requires watched { IsWatched (space_of task.now) (guide_of task.now graph.now) (W.seen watch.old) 0 lease.old }
+    requires watched { IsWatched (space_of task.now) (guide_of task.now graph.now)
+        (W.seen watch.old) 0 lease.old }
 
     // What was done: the counted expansions, one that was broken off if memory ran out, and a read
     // before each turn.
-    ensures turned { HasTurnedReading (space_of task.now) (guide_of task.now graph.now) (W.seen watch.new).read lease.old.block (lease.new.used - lease.old.used) (broken_by result)
-        (ends_with_read result) (leased_store lease.old) (leased_store lease.new) (W.seen watch.old).answers (W.seen watch.new).answers }
+    ensures turned { HasTurnedReading (space_of task.now) (guide_of task.now graph.now)
+        (W.seen watch.new).read lease.old.block (lease.new.used - lease.old.used) (broken_by result)
+        (ends_with_read result) (leased_store lease.old) (leased_store lease.new)
+        (W.seen watch.old).answers (W.seen watch.new).answers }
     ensures counted { lease.old.used ≤ lease.new.used }
     ensures within { lease.new.used ≤ lease.new.quota }
 
     // The lease has the least cost that was read or told, and shows what was told.
     ensures copy { lease.new.incumbent ≡ (W.seen watch.new).least }
-    ensures watched { IsWatched (space_of task.now) (guide_of task.now graph.now) (W.seen watch.new) (broken_by result) lease.new }
+    ensures watched { IsWatched (space_of task.now) (guide_of task.now graph.now) (W.seen watch.new)
+        (broken_by result) lease.new }
     ensures kept { KeepsWatch (W.seen watch.old) (W.seen watch.new) }
 
     // Why it stopped.
-    ensures spent { (result ≡ Spent) ↔ (HasOpened (own_rows lease.new) × (lease.new.used ≡ lease.new.quota)) }
+    ensures spent { (result ≡ Spent) ↔ (HasOpened (own_rows lease.new)
+        × (lease.new.used ≡ lease.new.quota)) }
     ensures empty { (result ≡ Empty) ↔ (HasOpened (own_rows lease.new) → ⊥) }
-    ensures memory { (result ≡ Memory) ↔ (HasOpened (own_rows lease.new) × (lease.new.used < lease.new.quota)) }
-    ensures next { result ≡ Spent → (state : ℕ) × (row : Row) × IsNext (space_of task.now) lease.new state row }
+    ensures memory { (result ≡ Memory) ↔ (HasOpened (own_rows lease.new)
+        × (lease.new.used < lease.new.quota)) }
+    ensures next { result ≡ Spent → (state : ℕ) × (row : Row)
+        × IsNext (space_of task.now) lease.new state row }
 
     // What stays.
     ensures same { IsSameLease lease.old lease.new }

@@ -49,7 +49,8 @@ pub fn work(
     requires at_work { IsAtWork task.now graph.now lease.old }
 
     // What was done: the counted expansions, and one that was broken off if memory ran out.
-    ensures turned { HasTurned (space_of task.now) (guide_of task.now graph.now) reads_none lease.old.block (lease.new.used - lease.old.used) (broken_by result)
+    ensures turned { HasTurned (space_of task.now) (guide_of task.now graph.now) reads_none
+        lease.old.block (lease.new.used - lease.old.used) (broken_by result)
         (leased_store lease.old) (leased_store lease.new) }
     ensures counted { lease.old.used ≤ lease.new.used }
     ensures within { lease.new.used ≤ lease.new.quota }
@@ -57,15 +58,20 @@ pub fn work(
     // So a lease that was out in a machine still is. Its work there is in turns, if it was before.
     ensures out { (settings : Settings) (reopenings : ℕ) (machine : Machine)
         → (before : IsOut (setup_of task.now graph.now settings reopenings) machine 0 lease.old)
-        → (after : IsOut (setup_of task.now graph.now settings reopenings) machine (broken_by result) lease.new)
+        → (after : IsOut (setup_of task.now graph.now settings reopenings) machine
+        (broken_by result) lease.new)
         × (IsInTurns (setup_of task.now graph.now settings reopenings) machine 0 lease.old before
-        → IsInTurns (setup_of task.now graph.now settings reopenings) machine (broken_by result) lease.new after) }
+        → IsInTurns (setup_of task.now graph.now settings reopenings) machine (broken_by result)
+        lease.new after) }
 
     // Why it stopped.
-    ensures spent { (result ≡ Spent) ↔ (HasOpened (own_rows lease.new) × (lease.new.used ≡ lease.new.quota)) }
+    ensures spent { (result ≡ Spent) ↔ (HasOpened (own_rows lease.new)
+        × (lease.new.used ≡ lease.new.quota)) }
     ensures empty { (result ≡ Empty) ↔ (HasOpened (own_rows lease.new) → ⊥) }
-    ensures memory { (result ≡ Memory) ↔ (HasOpened (own_rows lease.new) × (lease.new.used < lease.new.quota)) }
-    ensures next { result ≡ Spent → (state : ℕ) × (row : Row) × IsNext (space_of task.now) lease.new state row }
+    ensures memory { (result ≡ Memory) ↔ (HasOpened (own_rows lease.new)
+        × (lease.new.used < lease.new.quota)) }
+    ensures next { result ≡ Spent → (state : ℕ) × (row : Row)
+        × IsNext (space_of task.now) lease.new state row }
 
     // What stays.
     ensures same { IsSameLease lease.old lease.new }

@@ -16,7 +16,8 @@ abbrev pub settings_of : List ℕ → Result Settings Fault
 settings_of bytes = header_of bytes >>= λ header. Ok header.0
 
 -- what an event leaves, unless it is refused
-abbrev pub unless_refused : (line : ℕ) → Option EventRefusal → (after : Counts) → Result Counts Fault
+abbrev pub unless_refused : (line : ℕ) → Option EventRefusal → (after : Counts)
+    → Result Counts Fault
 unless_refused line None after = Ok after
 unless_refused line (Some refusal) after = fault_at line (why_of refusal)
 

@@ -16,5 +16,6 @@ domain_text = lines (
     ∷ codes " :effect (and (not (holding ?x)) (not (clear ?y)) (clear ?x) (handempty) (on ?x ?y)))"
     ∷ codes "(:action unstack :parameters (?x ?y)"
     ∷ codes " :precondition (and (on ?x ?y) (clear ?x) (handempty))"
-    ∷ codes " :effect (and (holding ?x) (clear ?y) (not (clear ?x)) (not (handempty)) (not (on ?x ?y)))))"
+    ∷ codes
+    " :effect (and (holding ?x) (clear ?y) (not (clear ?x)) (not (handempty)) (not (on ?x ?y)))))"
     ∷ [])

@@ -20,7 +20,9 @@ map_cells seed side = opened (side * side) (map cell (draws (side * side) seed))
 
 -- the four lines before the rows
 abbrev pub map_header : (side : ℕ) → List ℕ
-map_header side = lines (codes "type octile" ∷ (codes "height " ++ decimal side) ∷ (codes "width " ++ decimal side) ∷ codes "map" ∷ [])
+map_header side =
+    lines (codes "type octile" ∷ (codes "height " ++ decimal side)
+    ∷ (codes "width " ++ decimal side) ∷ codes "map" ∷ [])
 
 abbrev pub map_text : (seed side : ℕ) → List ℕ
 map_text seed side = map_header side ++ lines (rows_of side side (map_cells seed side))
@@ -29,7 +31,8 @@ map_text seed side = map_header side ++ lines (rows_of side side (map_cells seed
 -- row, and 0 for the length, with tabs
 abbrev pub scenario_row : (side : ℕ) → List ℕ
 scenario_row side =
-    join_with_byte 9 (codes "0" ∷ codes "made" ∷ decimal side ∷ decimal side ∷ codes "0" ∷ codes "0" ∷ decimal (side - 1) ∷ decimal (side - 1) ∷ codes "0" ∷ [])
+    join_with_byte 9 (codes "0" ∷ codes "made" ∷ decimal side ∷ decimal side ∷ codes "0" ∷ codes "0"
+    ∷ decimal (side - 1) ∷ decimal (side - 1) ∷ codes "0" ∷ [])
 
 abbrev pub scenario_text : (side : ℕ) → List ℕ
 scenario_text side = lines (codes "version 1" ∷ scenario_row side ∷ [])

@@ -18,7 +18,9 @@ objects_from block (suc count) = object block ++ objects_from (block + 1) count
 
 -- that a block is clear and on the table
 abbrev pub facts_of : (block : ℕ) → List ℕ
-facts_of block = codes "( clear " ++ (block_name block ++ (codes " ) ( ontable " ++ (block_name block ++ codes " ) ")))
+facts_of block =
+    codes "( clear " ++ (block_name block
+    ++ (codes " ) ( ontable " ++ (block_name block ++ codes " ) ")))
 
 -- that so many blocks are clear and on the table
 abbrev pub facts_from : (block count : ℕ) → List ℕ
@@ -29,7 +31,8 @@ facts_from block (suc count) = facts_of block ++ facts_from (block + 1) count
 -- even
 abbrev pub goal_atom : (block draw : ℕ) → List ℕ
 goal_atom block draw =
-    if draw % 2 == 0 then codes "( on " ++ (block_name (block + 1) ++ (codes " " ++ (block_name block ++ codes " ) "))) else []
+    if draw % 2 == 0 then codes "( on " ++ (block_name (block + 1)
+    ++ (codes " " ++ (block_name block ++ codes " ) "))) else []
 
 -- the goal's atoms, a draw for each block but the first
 abbrev pub goal_from : (block : ℕ) → (draws : List ℕ) → List ℕ
@@ -39,5 +42,6 @@ goal_from block (draw ∷ draws) = goal_atom block draw ++ goal_from (block + 1)
 abbrev pub problem_text : (seed blocks : ℕ) → List ℕ
 problem_text seed blocks =
     codes "( define ( problem made ) ( :domain blocks ) ( :objects "
-    ++ (objects_from 0 blocks ++ (codes ") ( :init " ++ (facts_from 0 blocks ++ (codes "( handempty ) ) ( :goal ( and "
+    ++ (objects_from 0 blocks ++ (codes ") ( :init "
+    ++ (facts_from 0 blocks ++ (codes "( handempty ) ) ( :goal ( and "
     ++ (goal_from 0 (draws (blocks - 1) seed) ++ (codes ") ) )" ++ 10 ∷ []))))))

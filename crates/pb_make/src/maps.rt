@@ -76,7 +76,8 @@ fn cell_of(draw: u32) -> u8
 // Appends the rows of a rectangle as lines.
 fn push_rows(text: &mut Vec<u8>, cells: &[u8], rows: usize, width: usize) -> Result<(), AllocError>
     requires { length cells.now ≡ rows * width }
-    ensures { OnOk result (text.new.items ≡ text.old.items ++ lines (rows_of rows width cells.now)) }
+    ensures { OnOk result (text.new.items ≡ text.old.items
+        ++ lines (rows_of rows width cells.now)) }
 {
     let mut rest = cells;
     for _row in 0..rows {

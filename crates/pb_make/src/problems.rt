@@ -60,7 +60,8 @@ fn push_fact(alloc: Global, text: &mut Vec<u8>, block: u32) -> Result<(), AllocE
 // Appends the goal's atoms, with a draw for each block but the first.
 fn push_goal(alloc: Global, text: &mut Vec<u8>, seed: u32, blocks: u32) -> Result<(), AllocError>
     requires { 1 ≤ blocks }
-    ensures { OnOk result (text.new.items ≡ text.old.items ++ goal_from 0 (draws (blocks - 1) seed)) }
+    ensures { OnOk result (text.new.items ≡ text.old.items
+        ++ goal_from 0 (draws (blocks - 1) seed)) }
 {
     let mut generator = Generator::new(seed);
     for block in 0..blocks - 1 {

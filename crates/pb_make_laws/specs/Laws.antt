@@ -15,11 +15,14 @@ use Rattle.pb_make_laws.specs.Made.{made_grid, made_tiles}
 -- The texts of a made map and of its scenario spell the made grid, in the scenario's first row and
 -- without swamp.
 abbrev pub MadeMapsAreSpelled : Type 0
-MadeMapsAreSpelled = (seed side : ℕ) → 1 ≤ side → side ≤ 2048 → SpellsGrid (map_text seed side) (scenario_text side) 0 false (made_grid seed side)
+MadeMapsAreSpelled =
+    (seed side : ℕ) → 1 ≤ side → side ≤ 2048 → SpellsGrid (map_text seed side) (scenario_text side)
+    0 false (made_grid seed side)
 
 -- The text of a made board spells the made tiles.
 abbrev pub MadeBoardsAreSpelled : Type 0
-MadeBoardsAreSpelled = (seed moves : ℕ) → SpellsTiles (tiles_text seed moves) (made_tiles seed moves)
+MadeBoardsAreSpelled =
+    (seed moves : ℕ) → SpellsTiles (tiles_text seed moves) (made_tiles seed moves)
 
 -- The text of the domain of the blocks world is read without a refusal: it is of the grammar.
 abbrev pub BlocksDomainIsRead : Type 0
@@ -30,4 +33,6 @@ BlocksDomainIsRead = is_ok (domain_reading domain_text) ≡ true
 abbrev pub MadeProblemsAreTasks : Type 0
 MadeProblemsAreTasks =
     (seed blocks : ℕ) → 1 ≤ blocks → blocks ≤ 14
-    → (domain : Domain) × (problem : Problem) × (domain_reading domain_text ≡ Ok domain) × (problem_reading (problem_text seed blocks) ≡ Ok problem) × (first_fault domain problem ≡ None)
+    → (domain : Domain) × (problem : Problem) × (domain_reading domain_text ≡ Ok domain)
+    × (problem_reading (problem_text seed blocks) ≡ Ok problem)
+    × (first_fault domain problem ≡ None)

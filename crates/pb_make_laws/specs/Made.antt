@@ -24,4 +24,5 @@ made_grid seed side = record {
 
 -- tiles, 3 by 3, from the made board to the usual goal
 abbrev pub made_tiles : (seed moves : ℕ) → TilesParts
-made_tiles seed moves = record { rows = 3; cols = 3; start = made_board seed moves; goal = goal_board }
+made_tiles seed moves =
+    record { rows = 3; cols = 3; start = made_board seed moves; goal = goal_board }

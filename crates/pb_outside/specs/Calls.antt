@@ -35,15 +35,18 @@ Notes old new call = new ≡ old ++ call ∷ []
 
 -- A call of `append` failed: so many bytes of the piece were appended. If the files are known, they
 -- show the same.
-pub record NotesAppendFailed (old new : List Call) (files files' : Option Files) (name piece : List ℕ) : Type 0 where
+pub record NotesAppendFailed (old new : List Call) (files files' : Option Files)
+    (name piece : List ℕ) : Type 0 where
   pub kept : ℕ
   pub within : kept ≤ length piece
   pub noted : Notes old new (AppendFailed name piece kept)
-  pub told : IfTold files files' (λ before after. (bytes : List ℕ) → before name ≡ Some bytes → after name ≡ Some (bytes ++ take kept piece))
+  pub told : IfTold files files' (λ before after. (bytes : List ℕ) → before name ≡ Some bytes
+      → after name ≡ Some (bytes ++ take kept piece))
 
 -- A call of `put` failed: so many bytes of the piece were put. If the written bytes are known, they
 -- show the same.
-pub record NotesPutFailed (old new : List Call) (written written' : Option (List ℕ)) (piece : List ℕ) : Type 0 where
+pub record NotesPutFailed (old new : List Call) (written written' : Option (List ℕ))
+    (piece : List ℕ) : Type 0 where
   pub kept : ℕ
   pub within : kept ≤ length piece
   pub noted : Notes old new (PutFailed piece kept)

@@ -17,7 +17,8 @@ pub record CallsView : Type 0 where
 -- how many bytes the call of this number keeps, if it is to fail: the first in the list decides
 abbrev pub kept_at : List ListedFailure → ℕ → Option ℕ
 kept_at [] call = None
-kept_at (failure ∷ listed) call = if failure.call == call then Some failure.kept else kept_at listed call
+kept_at (failure ∷ listed) call =
+    if failure.call == call then Some failure.kept else kept_at listed call
 
 -- the same of the next call
 abbrev pub kept_next : CallsView → Option ℕ
@@ -25,11 +26,18 @@ kept_next calls = kept_at calls.listed (counted calls.count)
 
 -- one call more, which was done or failed
 abbrev pub after_call : CallsView → Bool → CallsView
-after_call calls done = record { count = counted calls.count; faults = if done then calls.faults else counted calls.faults; listed = calls.listed }
+after_call calls done =
+    record {
+      count = counted calls.count;
+      faults = if done then calls.faults
+          else counted calls.faults;
+      listed = calls.listed;
+    }
 
 -- one more call that is to fail
 abbrev pub with_listed : CallsView → ℕ → ℕ → CallsView
-with_listed calls call kept = record calls { listed = calls.listed ++ record { call = call; kept = kept } ∷ [] }
+with_listed calls call kept =
+    record calls { listed = calls.listed ++ record { call = call; kept = kept } ∷ [] }
 
 -- bytes, and how many there may be
 pub record BufferView : Type 0 where
@@ -97,7 +105,8 @@ KeepsRooms old new = (name : List ℕ) → room_of new name ≡ room_of old name
 
 -- the rooms of all other names stay
 abbrev pub KeepsOtherRooms : ShelfView → ShelfView → List ℕ → Type 0
-KeepsOtherRooms old new name = (other : List ℕ) → other ≢ name → room_of new other ≡ room_of old other
+KeepsOtherRooms old new name =
+    (other : List ℕ) → other ≢ name → room_of new other ≡ room_of old other
 
 -- nothing is to fail, and room for so many bytes is reserved for the name
 abbrev pub HasRoom : ShelfView → List ℕ → ℕ → Type 0
@@ -114,19 +123,23 @@ CreateSucceeds shelf name = (kept_next shelf.calls ≡ None) × IsSome (room_of 
 -- the next call isn't listed, the file is there, and so many bytes have room after its bytes
 abbrev pub AppendSucceeds : ShelfView → List ℕ → ℕ → Type 0
 AppendSucceeds shelf name len =
-    (kept_next shelf.calls ≡ None) × IsSomeAnd (file_of shelf name) (λ bytes. len ≤ unwrap_or (room_of shelf name) 0 - length bytes)
+    (kept_next shelf.calls ≡ None) × IsSomeAnd (file_of shelf name)
+    (λ bytes. len ≤ unwrap_or (room_of shelf name) 0 - length bytes)
 
 -- so many bytes of the piece come after the bytes that the file had, if the file is there
 abbrev pub GrowsBy : (kept : ℕ) → (old new : Option (List ℕ)) → (piece : List ℕ) → Type 0
-GrowsBy kept old new piece = (kept ≤ length piece) × (new ≡ option_map (λ bytes. bytes ++ take kept piece) old)
+GrowsBy kept old new piece =
+    (kept ≤ length piece) × (new ≡ option_map (λ bytes. bytes ++ take kept piece) old)
 
 -- how many bytes of a longer piece the next call keeps after a file of these bytes
 abbrev pub append_keeps : ShelfView → List ℕ → List ℕ → ℕ
-append_keeps shelf name bytes = most_kept (kept_next shelf.calls) (unwrap_or (room_of shelf name) 0 - length bytes)
+append_keeps shelf name bytes =
+    most_kept (kept_next shelf.calls) (unwrap_or (room_of shelf name) 0 - length bytes)
 
 -- the file with what the next call keeps of the piece
 abbrev pub grown_file : ShelfView → List ℕ → List ℕ → Option (List ℕ)
-grown_file shelf name piece = option_map (λ bytes. bytes ++ take (append_keeps shelf name bytes) piece) (file_of shelf name)
+grown_file shelf name piece =
+    option_map (λ bytes. bytes ++ take (append_keeps shelf name bytes) piece) (file_of shelf name)
 
 -- the next call is listed, or no file has the name
 abbrev pub load_fails : ShelfView → List ℕ → Bool
@@ -135,15 +148,20 @@ load_fails shelf name = is_some (kept_next shelf.calls) || is_none (file_of shel
 -- a place with what a call keeps of the piece after the file's bytes
 abbrev pub grown : PlaceView → Option ℕ → List ℕ → PlaceView
 grown place kept piece =
-    record place { bytes = option_map (λ bytes. bytes ++ take (most_kept kept (unwrap_or place.room 0 - length bytes)) piece) place.bytes }
+    record place {
+      bytes = option_map (λ bytes. bytes ++ take
+          (most_kept kept (unwrap_or place.room 0 - length bytes)) piece) place.bytes;
+    }
 
 -- the places of all other names stay
 abbrev pub KeepsOtherPlaces : List PlaceView → List PlaceView → List ℕ → Type 0
-KeepsOtherPlaces old new name = (other : List ℕ) → other ≢ name → place_of new other ≡ place_of old other
+KeepsOtherPlaces old new name =
+    (other : List ℕ) → other ≢ name → place_of new other ≡ place_of old other
 
 -- the place of this name, or one with no file and no room
 abbrev pub place_or_new : List PlaceView → List ℕ → PlaceView
-place_or_new places name = unwrap_or (place_of places name) (record { name = name; bytes = None; room = None })
+place_or_new places name =
+    unwrap_or (place_of places name) (record { name = name; bytes = None; room = None })
 
 -- a place with an empty file
 abbrev pub emptied : PlaceView → PlaceView
@@ -158,5 +176,6 @@ IsCopyError Memory len most = len ≤ most
 -- why a file wasn't loaded, for a call that is to fail or for one that isn't
 abbrev pub IsLoadError : (fails : Bool) → (file : Option (List ℕ)) → (most : ℕ) → Load → Type 0
 IsLoadError fails file most Failed = IsTrue (fails || is_none file)
-IsLoadError fails file most (TooLong seen) = (fails ≡ false) × (seen ≡ most + 1) × IsSomeAnd file (λ bytes. most < length bytes)
+IsLoadError fails file most (TooLong seen) =
+    (fails ≡ false) × (seen ≡ most + 1) × IsSomeAnd file (λ bytes. most < length bytes)
 IsLoadError fails file most Memory = (fails ≡ false) × IsSomeAnd file (λ bytes. length bytes ≤ most)

@@ -72,13 +72,16 @@ KeepsHolds old new = (name : List ℕ) (n : ℕ) → old name n → new name n
 
 -- P holds if the file is there and the shelf can hold so many bytes more after its bytes
 abbrev pub IfHeld : Option Files → List ℕ → ℕ → (ℕ → Type 0) → Type 0 → Type 0
-IfHeld files name more holds P = IfSome files (λ told. IfSome (told name) (λ bytes. (n : ℕ) → holds n → length bytes + more ≤ n → P))
+IfHeld files name more holds P =
+    IfSome files (λ told. IfSome (told name) (λ bytes. (n : ℕ) → holds n → length bytes + more ≤ n
+    → P))
 
 -- of a load that was too long: the file is longer than `most`
 abbrev pub IsTooLong : Files → List ℕ → ℕ → Load → Type 0
 IsTooLong files name most Failed = Unit {0}
 IsTooLong files name most Memory = Unit {0}
-IsTooLong files name most (TooLong seen) = (bytes : List ℕ) × (files name ≡ Some bytes) × (most < length bytes)
+IsTooLong files name most (TooLong seen) =
+    (bytes : List ℕ) × (files name ≡ Some bytes) × (most < length bytes)
 
 -- and one byte more than `most` was seen of it
 abbrev pub SeesOneMore : ℕ → Load → Type 0
@@ -92,10 +95,12 @@ IsSameOrEmpty old new name = (new name ≡ old name) ⊎ (new name ≡ Some [])
 
 -- the file was there, and the piece comes after the bytes that it had
 abbrev pub AppendsTo : Files → Files → List ℕ → List ℕ → Type 0
-AppendsTo old new name piece = (bytes : List ℕ) × (old name ≡ Some bytes) × (new name ≡ Some (bytes ++ piece))
+AppendsTo old new name piece =
+    (bytes : List ℕ) × (old name ≡ Some bytes) × (new name ≡ Some (bytes ++ piece))
 
 -- a first part of the piece comes after the bytes that the file had; if there was no file, there is
 -- none
 pub record AppendsPartTo (old new : Files) (name piece : List ℕ) : Type 0 where
-  pub there : (bytes : List ℕ) → old name ≡ Some bytes → (kept : ℕ) × (kept ≤ length piece) × (new name ≡ Some (bytes ++ take kept piece))
+  pub there : (bytes : List ℕ) → old name ≡ Some bytes → (kept : ℕ) × (kept ≤ length piece)
+      × (new name ≡ Some (bytes ++ take kept piece))
   pub absent : old name ≡ None → new name ≡ None

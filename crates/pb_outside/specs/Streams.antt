@@ -24,11 +24,13 @@ IsAllOfFile {F} remaining bytes = (file : F) × IfSome (remaining file) (λ all.
 abbrev pub IsLongerFile : {F : Type 0} → (F → Option (List ℕ)) → ℕ → Load → Type 0
 IsLongerFile {F} remaining most Failed = Unit {0}
 IsLongerFile {F} remaining most Memory = Unit {0}
-IsLongerFile {F} remaining most (TooLong seen) = (file : F) × IfSome (remaining file) (λ all. most < length all)
+IsLongerFile {F} remaining most (TooLong seen) =
+    (file : F) × IfSome (remaining file) (λ all. most < length all)
 
 -- a file got the bytes after those that it held, if its bytes are known
 abbrev pub AppendsToFile : {F : Type 0} → (F → Option (List ℕ)) → List ℕ → Type 0
-AppendsToFile {F} contents bytes = (old : F) × (new : F) × Appends (contents old) (contents new) bytes
+AppendsToFile {F} contents bytes =
+    (old : F) × (new : F) × Appends (contents old) (contents new) bytes
 
 -- what contracts see of a shelf of the system's files: how often it failed, and its calls
 pub record FilesView : Type 0 where

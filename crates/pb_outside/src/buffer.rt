@@ -54,9 +54,14 @@ impl Buffer {
     // Appends as much of the piece as has room, or as much as a listed failure keeps. An error is
     // the number of bytes kept if that is less than the whole piece. Takes no memory.
     pub(crate) fn append(&mut self, piece: &[u8], kept: Option<u64>) -> Result<(), usize>
-        ensures whole { IsOk result ↔ (kept ≡ None) × (length piece.now ≤ self.old.room - length self.old.bytes) }
-        ensures after { self.new ≡ record self.old { bytes = self.old.bytes ++ take (most_kept kept (self.old.room - length self.old.bytes)) piece.now } }
-        ensures part { IfErr result (λ n. n ≡ min (most_kept kept (self.old.room - length self.old.bytes)) (length piece.now)) }
+        ensures whole { IsOk result ↔ (kept ≡ None)
+            × (length piece.now ≤ self.old.room - length self.old.bytes) }
+        ensures after { self.new ≡ record self.old {
+          bytes = self.old.bytes ++ take
+              (most_kept kept (self.old.room - length self.old.bytes)) piece.now;
+        } }
+        ensures part { IfErr result (λ n. n ≡ min (most_kept kept (self.old.room - length self.old.bytes))
+            (length piece.now)) }
     {
         let most = most_of(kept, self.room.saturating_sub(self.bytes.len()));
         let fits = most.min(piece.len());

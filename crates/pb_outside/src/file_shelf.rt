@@ -86,8 +86,10 @@ impl<'a, R: Files> Shelf for FileShelf<'a, R> {
     fn load(&mut self, alloc: Global, name: &str, most: u64) -> Result<Vec<u8>, Load>
         ensures short { IfOk result (λ bytes. length bytes.items ≤ most) }
         ensures seen { IfErr result (λ e. SeesOneMore most e) }
-        ensures noted { IfOk result (λ bytes. Notes self.old.transcript self.new.transcript (Loaded name.now most bytes.items)) }
-        ensures noted_error { IfErr result (λ e. Notes self.old.transcript self.new.transcript (LoadFailed name.now most e)) }
+        ensures noted { IfOk result (λ bytes. Notes self.old.transcript self.new.transcript
+            (Loaded name.now most bytes.items)) }
+        ensures noted_error { IfErr result (λ e. Notes self.old.transcript self.new.transcript
+            (LoadFailed name.now most e)) }
         ensures cause { HasLoadCause self.old.faults self.new.faults result }
 
         // A file of the system was opened, and its bytes were read to the end, or beyond `most`.
@@ -116,7 +118,8 @@ impl<'a, R: Files> Shelf for FileShelf<'a, R> {
     }
 
     fn create(&mut self, name: &str) -> Result<(), Failed>
-        ensures noted { Notes self.old.transcript self.new.transcript (create_call name.now result) }
+        ensures noted { Notes self.old.transcript self.new.transcript
+            (create_call name.now result) }
         ensures cause { HasCause self.old.faults self.new.faults result }
 
         // A file of the system was opened: the fact is that file.
@@ -133,8 +136,10 @@ impl<'a, R: Files> Shelf for FileShelf<'a, R> {
     }
 
     fn append(&mut self, name: &str, piece: &[u8]) -> Result<(), Failed>
-        ensures noted { OnOk result (Notes self.old.transcript self.new.transcript (Appended name.now piece.now)) }
-        ensures noted_error { OnErr result (IsAppendFailure self.old.transcript self.new.transcript name.now piece.now) }
+        ensures noted { OnOk result (Notes self.old.transcript self.new.transcript
+            (Appended name.now piece.now)) }
+        ensures noted_error { OnErr result (IsAppendFailure self.old.transcript self.new.transcript name.now
+            piece.now) }
         ensures cause { HasCause self.old.faults self.new.faults result }
 
         // A file of the system was opened, and all of the piece was written to it.

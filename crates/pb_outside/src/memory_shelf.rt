@@ -28,7 +28,11 @@ impl Model for MemShelf {
 
     ghost Value = { ShelfView };
 
-    ghost view = { λ s. record { places = s.places.items; calls = s.calls; transcript = s.transcript.calls } };
+    ghost view = { λ s. record {
+      places = s.places.items;
+      calls = s.calls;
+      transcript = s.transcript.calls;
+    } };
 }
 
 // The index of the place of this name.
@@ -48,7 +52,8 @@ fn find_file<'a>(places: &'a [Place], name: &str) -> Option<&'a [u8]>
 
 // Puts a file with these bytes under the name.
 fn put_file(alloc: Global, places: &mut Vec<Place>, name: &str, bytes: &[u8]) -> Result<(), Memory>
-    ensures here { OnOk result (place_of places.new.items name.now ≡ Some (record (place_or_new places.old.items name.now) { bytes = Some bytes.now })) }
+    ensures here { OnOk result (place_of places.new.items name.now
+        ≡ Some (record (place_or_new places.old.items name.now) { bytes = Some bytes.now })) }
     ensures others { OnOk result (KeepsOtherPlaces places.old.items places.new.items name.now) }
     ensures err { OnErr result (places.new.items ≡ places.old.items) }
 {
@@ -68,7 +73,8 @@ fn reserve_room(
     name: &str,
     room: usize,
 ) -> Result<(), Memory>
-    ensures here { OnOk result (place_of places.new.items name.now ≡ Some (record (place_or_new places.old.items name.now) { room = Some room })) }
+    ensures here { OnOk result (place_of places.new.items name.now
+        ≡ Some (record (place_or_new places.old.items name.now) { room = Some room })) }
     ensures others { OnOk result (KeepsOtherPlaces places.old.items places.new.items name.now) }
     ensures err { OnErr result (places.new.items ≡ places.old.items) }
 {
@@ -84,7 +90,9 @@ fn reserve_room(
 // Begins an empty file under the name, if room is reserved.
 fn create_file(places: &mut [Place], name: &str) -> bool
     ensures done { result ≡ is_some (room_in places.old name.now) }
-    ensures here { place_of places.new name.now ≡ (if result then option_map emptied (place_of places.old name.now) else place_of places.old name.now) }
+    ensures here { place_of places.new name.now
+        ≡ (if result then option_map emptied (place_of places.old name.now)
+        else place_of places.old name.now) }
     ensures others { KeepsOtherPlaces places.old places.new name.now }
 {
     match index_of(places, name) {
@@ -101,10 +109,13 @@ fn append_file(
     piece: &[u8],
     kept: Option<u64>,
 ) -> Result<(), usize>
-    ensures done { IsOk result ↔ (kept ≡ None) × IsSomeAnd (file_in places.old name.now) (λ bytes. length piece.now ≤ unwrap_or (room_in places.old name.now) 0 - length bytes) }
-    ensures here { place_of places.new name.now ≡ option_map (λ place. grown place kept piece.now) (place_of places.old name.now) }
+    ensures done { IsOk result ↔ (kept ≡ None) × IsSomeAnd (file_in places.old name.now)
+        (λ bytes. length piece.now ≤ unwrap_or (room_in places.old name.now) 0 - length bytes) }
+    ensures here { place_of places.new name.now ≡ option_map (λ place. grown place kept piece.now)
+        (place_of places.old name.now) }
     ensures others { KeepsOtherPlaces places.old places.new name.now }
-    ensures part { IfErr result (λ n. GrowsBy n (file_in places.old name.now) (file_in places.new name.now) piece.now) }
+    ensures part { IfErr result (λ n. GrowsBy n (file_in places.old name.now)
+        (file_in places.new name.now) piece.now) }
 {
     match index_of(places, name) {
         Some(i) => places[i].append(piece, kept),
@@ -115,7 +126,12 @@ fn append_file(
 impl MemShelf {
     /// A shelf with no file, no room and no listed failure.
     pub fn new(alloc: Global) -> Result<MemShelf, Memory>
-        ensures { IfOk result (λ shelf. shelf ≡ record { places = []; calls = record { count = 0; faults = 0; listed = [] }; transcript = [] }) }
+        ensures { IfOk result (λ shelf. shelf
+            ≡ record {
+              places = [];
+              calls = record { count = 0; faults = 0; listed = [] };
+              transcript = [];
+            }) }
     {
         Ok(MemShelf {
             alloc,
@@ -159,7 +175,8 @@ impl MemShelf {
     /// of them, and how many bytes of its piece an `append` keeps at most. A `create` that is to
     /// fail leaves the file as before. If a number is listed twice, the first listing counts.
     pub fn fail(&mut self, call: u64, kept: u64) -> Result<(), Memory>
-        ensures ok { OnOk result (self.new ≡ record self.old { calls = with_listed self.old.calls call kept }) }
+        ensures ok { OnOk result (self.new ≡ record self.old
+            { calls = with_listed self.old.calls call kept }) }
         ensures err { OnErr result (self.new ≡ self.old) }
     {
         self.calls.list(call, kept)
@@ -201,16 +218,20 @@ impl Shelf for MemShelf {
         ensures sure { HasFile self.old name.now → IfErr result IsNoFault }
         ensures holds { KeepsHolds (HasRoom self.old) (HasRoom self.new) }
         ensures loads { KeepsLoads (HasFile self.old) (HasFile self.new) }
-        ensures noted { IfOk result (λ bytes. Notes self.old.transcript self.new.transcript (Loaded name.now most bytes.items)) }
-        ensures noted_error { IfErr result (λ e. Notes self.old.transcript self.new.transcript (LoadFailed name.now most e)) }
+        ensures noted { IfOk result (λ bytes. Notes self.old.transcript self.new.transcript
+            (Loaded name.now most bytes.items)) }
+        ensures noted_error { IfErr result (λ e. Notes self.old.transcript self.new.transcript
+            (LoadFailed name.now most e)) }
         ensures cause { HasLoadCause self.old.calls.faults self.new.calls.faults result }
 
         // It fails exactly if the call is listed or no file has the name. Memory runs out only for
         // a file that isn't too long.
         ensures exact { IsErrOf result Load.Failed ↔ IsTrue (load_fails self.old name.now) }
-        ensures memory { IsErrOf result Load.Memory → IsSomeAnd (file_of self.old name.now) (λ bytes. length bytes ≤ most) }
+        ensures memory { IsErrOf result Load.Memory
+            → IsSomeAnd (file_of self.old name.now) (λ bytes. length bytes ≤ most) }
         ensures places { self.new.places ≡ self.old.places }
-        ensures calls { self.new.calls ≡ after_call self.old.calls (not (load_fails self.old name.now)) }
+        ensures calls { self.new.calls ≡ after_call self.old.calls
+            (not (load_fails self.old name.now)) }
     {
         let listed = self.calls.begin();
         match load_from(alloc, &self.places, name, most, listed.is_some()) {
@@ -234,13 +255,17 @@ impl Shelf for MemShelf {
     }
 
     fn create(&mut self, name: &str) -> Result<(), Failed>
-        ensures ok { OnOk result (IfTold (Some (file_of self.old)) (Some (file_of self.new)) (λ old new. new name.now ≡ Some [])) }
-        ensures err { OnErr result (IfTold (Some (file_of self.old)) (Some (file_of self.new)) (λ old new. IsSameOrEmpty old new name.now)) }
-        ensures others { IfTold (Some (file_of self.old)) (Some (file_of self.new)) (λ old new. KeepsOthers old new name.now) }
+        ensures ok { OnOk result (IfTold (Some (file_of self.old)) (Some (file_of self.new))
+            (λ old new. new name.now ≡ Some [])) }
+        ensures err { OnErr result (IfTold (Some (file_of self.old)) (Some (file_of self.new))
+            (λ old new. IsSameOrEmpty old new name.now)) }
+        ensures others { IfTold (Some (file_of self.old)) (Some (file_of self.new))
+            (λ old new. KeepsOthers old new name.now) }
         ensures sure { (n : ℕ) → HasRoom self.old name.now n → IsOk result }
         ensures holds { KeepsHolds (HasRoom self.old) (HasRoom self.new) }
         ensures loads { KeepsLoads (HasFile self.old) (HasFile self.new) }
-        ensures noted { Notes self.old.transcript self.new.transcript (create_call name.now result) }
+        ensures noted { Notes self.old.transcript self.new.transcript
+            (create_call name.now result) }
         ensures cause { HasCause self.old.calls.faults self.new.calls.faults result }
 
         // It fails exactly if the call is listed or no room is reserved, and then changes no file.
@@ -262,14 +287,20 @@ impl Shelf for MemShelf {
     }
 
     fn append(&mut self, name: &str, piece: &[u8]) -> Result<(), Failed>
-        ensures ok { OnOk result (IfTold (Some (file_of self.old)) (Some (file_of self.new)) (λ old new. AppendsTo old new name.now piece.now)) }
-        ensures err { OnErr result (IfTold (Some (file_of self.old)) (Some (file_of self.new)) (λ old new. AppendsPartTo old new name.now piece.now)) }
-        ensures others { IfTold (Some (file_of self.old)) (Some (file_of self.new)) (λ old new. KeepsOthers old new name.now) }
-        ensures sure { IfHeld (Some (file_of self.old)) name.now (length piece.now) (HasRoom self.old name.now) (IsOk result) }
+        ensures ok { OnOk result (IfTold (Some (file_of self.old)) (Some (file_of self.new))
+            (λ old new. AppendsTo old new name.now piece.now)) }
+        ensures err { OnErr result (IfTold (Some (file_of self.old)) (Some (file_of self.new))
+            (λ old new. AppendsPartTo old new name.now piece.now)) }
+        ensures others { IfTold (Some (file_of self.old)) (Some (file_of self.new))
+            (λ old new. KeepsOthers old new name.now) }
+        ensures sure { IfHeld (Some (file_of self.old)) name.now (length piece.now)
+            (HasRoom self.old name.now) (IsOk result) }
         ensures holds { KeepsHolds (HasRoom self.old) (HasRoom self.new) }
         ensures loads { KeepsLoads (HasFile self.old) (HasFile self.new) }
-        ensures noted { OnOk result (Notes self.old.transcript self.new.transcript (Appended name.now piece.now)) }
-        ensures noted_error { OnErr result (NotesAppendFailed self.old.transcript self.new.transcript (Some (file_of self.old)) (Some (file_of self.new)) name.now piece.now) }
+        ensures noted { OnOk result (Notes self.old.transcript self.new.transcript
+            (Appended name.now piece.now)) }
+        ensures noted_error { OnErr result (NotesAppendFailed self.old.transcript self.new.transcript
+            (Some (file_of self.old)) (Some (file_of self.new)) name.now piece.now) }
         ensures cause { HasCause self.old.calls.faults self.new.calls.faults result }
 
         // It fails exactly if the call is listed, no file has the name or the room ends. It then
@@ -302,7 +333,8 @@ fn load_from(
     most: u64,
     fails: bool,
 ) -> Result<Vec<u8>, Load>
-    ensures whole { IfOk result (λ bytes. (fails ≡ false) × (file_in places.now name.now ≡ Some bytes.items)) }
+    ensures whole { IfOk result (λ bytes. (fails ≡ false)
+        × (file_in places.now name.now ≡ Some bytes.items)) }
     ensures short { IfOk result (λ bytes. length bytes.items ≤ most) }
     ensures causes { IfErr result (IsLoadError fails (file_in places.now name.now) most) }
 {

@@ -27,7 +27,11 @@ impl<W: Write> Model for OutSink<W> {
 
     ghost Value = { OutView };
 
-    ghost view = { λ s. record { contents = W.contents s.writer; faults = s.faults; transcript = s.transcript.calls } };
+    ghost view = { λ s. record {
+      contents = W.contents s.writer;
+      faults = s.faults;
+      transcript = s.transcript.calls;
+    } };
 }
 
 impl<W: Write> OutSink<W> {

@@ -34,7 +34,8 @@ impl Model for Place {
 impl Place {
     // A place with no file and no room.
     pub(crate) fn new(alloc: Global, name: &str) -> Result<Place, Memory>
-        ensures { IfOk result (λ place. place ≡ record { name = name.now; bytes = None; room = None }) }
+        ensures { IfOk result (λ place. place
+            ≡ record { name = name.now; bytes = None; room = None }) }
     {
         Ok(Place {
             name: String::from_str(alloc, name)?,
@@ -84,7 +85,8 @@ impl Place {
     // Begins an empty file, if room is reserved.
     pub(crate) fn create(&mut self) -> bool
         ensures done { result ≡ is_some self.old.room }
-        ensures after { self.new ≡ (if result then record self.old { bytes = Some [] } else self.old) }
+        ensures after { self.new ≡ (if result then record self.old { bytes = Some [] }
+            else self.old) }
     {
         if self.is_reserved {
             self.buffer.clear();
@@ -96,7 +98,9 @@ impl Place {
     // Appends as much of the piece as has room, or as much as a listed failure keeps, if the file
     // is there. An error is the number of bytes kept if that is less than the whole piece.
     pub(crate) fn append(&mut self, piece: &[u8], kept: Option<u64>) -> Result<(), usize>
-        ensures done { IsOk result ↔ (kept ≡ None) × IsSomeAnd self.old.bytes (λ bytes. length piece.now ≤ unwrap_or self.old.room 0 - length bytes) }
+        ensures done { IsOk result ↔ (kept ≡ None)
+            × IsSomeAnd self.old.bytes (λ bytes. length piece.now
+            ≤ unwrap_or self.old.room 0 - length bytes) }
         ensures after { self.new ≡ grown self.old kept piece.now }
         ensures part { IfErr result (λ n. GrowsBy n self.old.bytes self.new.bytes piece.now) }
     {

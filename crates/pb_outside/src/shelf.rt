@@ -42,24 +42,31 @@ pub trait Shelf {
 
     /// The whole file, if it has at most `most` bytes. Changes no file.
     fn load(&mut self, alloc: Global, name: &str, most: u64) -> Result<Vec<u8>, Load>
-        ensures whole { IfOk result (λ bytes. IfSome (files self.old) (λ old. old name.now ≡ Some bytes.items)) }
+        ensures whole { IfOk result (λ bytes. IfSome (files self.old)
+            (λ old. old name.now ≡ Some bytes.items)) }
         ensures short { IfOk result (λ bytes. length bytes.items ≤ most) }
-        ensures long { IfErr result (λ e. IfSome (files self.old) (λ old. IsTooLong old name.now most e)) }
+        ensures long { IfErr result (λ e. IfSome (files self.old)
+            (λ old. IsTooLong old name.now most e)) }
         ensures seen { IfErr result (λ e. SeesOneMore most e) }
         ensures same { IfTold (files self.old) (files self.new) KeepsAll }
         ensures sure { can_load self.old name.now → IfErr result IsNoFault }
         ensures holds { KeepsHolds (can_hold self.old) (can_hold self.new) }
         ensures loads { KeepsLoads (can_load self.old) (can_load self.new) }
-        ensures noted { IfOk result (λ bytes. Notes (calls self.old) (calls self.new) (Loaded name.now most bytes.items)) }
-        ensures noted_error { IfErr result (λ e. Notes (calls self.old) (calls self.new) (LoadFailed name.now most e)) }
+        ensures noted { IfOk result (λ bytes. Notes (calls self.old) (calls self.new)
+            (Loaded name.now most bytes.items)) }
+        ensures noted_error { IfErr result (λ e. Notes (calls self.old) (calls self.new)
+            (LoadFailed name.now most e)) }
         ensures cause { HasLoadCause (faults self.old) (faults self.new) result };
 
     /// Begins an empty file under the name, in place of one that may be there. After a failure the
     /// file is as before, or empty. Takes no memory of the program's.
     fn create(&mut self, name: &str) -> Result<(), Failed>
-        ensures ok { OnOk result (IfTold (files self.old) (files self.new) (λ old new. new name.now ≡ Some [])) }
-        ensures err { OnErr result (IfTold (files self.old) (files self.new) (λ old new. IsSameOrEmpty old new name.now)) }
-        ensures others { IfTold (files self.old) (files self.new) (λ old new. KeepsOthers old new name.now) }
+        ensures ok { OnOk result (IfTold (files self.old) (files self.new)
+            (λ old new. new name.now ≡ Some [])) }
+        ensures err { OnErr result (IfTold (files self.old) (files self.new)
+            (λ old new. IsSameOrEmpty old new name.now)) }
+        ensures others { IfTold (files self.old) (files self.new)
+            (λ old new. KeepsOthers old new name.now) }
         ensures sure { (n : ℕ) → can_hold self.old name.now n → IsOk result }
         ensures holds { KeepsHolds (can_hold self.old) (can_hold self.new) }
         ensures loads { KeepsLoads (can_load self.old) (can_load self.new) }
@@ -69,13 +76,18 @@ pub trait Shelf {
     /// Appends the piece to the file of the name. After a failure a first part of the piece was
     /// appended. Takes no memory of the program's.
     fn append(&mut self, name: &str, piece: &[u8]) -> Result<(), Failed>
-        ensures ok { OnOk result (IfTold (files self.old) (files self.new) (λ old new. AppendsTo old new name.now piece.now)) }
-        ensures err { OnErr result (IfTold (files self.old) (files self.new) (λ old new. AppendsPartTo old new name.now piece.now)) }
-        ensures others { IfTold (files self.old) (files self.new) (λ old new. KeepsOthers old new name.now) }
-        ensures sure { IfHeld (files self.old) name.now (length piece.now) (can_hold self.old name.now) (IsOk result) }
+        ensures ok { OnOk result (IfTold (files self.old) (files self.new)
+            (λ old new. AppendsTo old new name.now piece.now)) }
+        ensures err { OnErr result (IfTold (files self.old) (files self.new)
+            (λ old new. AppendsPartTo old new name.now piece.now)) }
+        ensures others { IfTold (files self.old) (files self.new)
+            (λ old new. KeepsOthers old new name.now) }
+        ensures sure { IfHeld (files self.old) name.now (length piece.now)
+            (can_hold self.old name.now) (IsOk result) }
         ensures holds { KeepsHolds (can_hold self.old) (can_hold self.new) }
         ensures loads { KeepsLoads (can_load self.old) (can_load self.new) }
         ensures noted { OnOk result (Notes (calls self.old) (calls self.new) (Appended name.now piece.now)) }
-        ensures noted_error { OnErr result (NotesAppendFailed (calls self.old) (calls self.new) (files self.old) (files self.new) name.now piece.now) }
+        ensures noted_error { OnErr result (NotesAppendFailed (calls self.old) (calls self.new) (files self.old)
+            (files self.new) name.now piece.now) }
         ensures cause { HasCause (faults self.old) (faults self.new) result };
 }

@@ -25,11 +25,14 @@ pub trait Sink {
     /// Appends the piece. After a failure a first part of the piece was appended. Takes no memory
     /// of the program's.
     fn put(&mut self, piece: &[u8]) -> Result<(), Failed>
-        ensures ok { OnOk result (IfTold (written self.old) (written self.new) (λ old new. Appends old new piece.now)) }
-        ensures err { OnErr result (IfTold (written self.old) (written self.new) (λ old new. AppendsPart old new piece.now)) }
+        ensures ok { OnOk result (IfTold (written self.old) (written self.new)
+            (λ old new. Appends old new piece.now)) }
+        ensures err { OnErr result (IfTold (written self.old) (written self.new)
+            (λ old new. AppendsPart old new piece.now)) }
         ensures sure { can_take self.old (length piece.now) → IsOk result }
         ensures takes { KeepsTakes (can_take self.old) (can_take self.new) (length piece.now) }
         ensures noted { OnOk result (Notes (calls self.old) (calls self.new) (Put piece.now)) }
-        ensures noted_error { OnErr result (NotesPutFailed (calls self.old) (calls self.new) (written self.old) (written self.new) piece.now) }
+        ensures noted_error { OnErr result (NotesPutFailed (calls self.old) (calls self.new) (written self.old)
+            (written self.new) piece.now) }
         ensures cause { HasCause (faults self.old) (faults self.new) result };
 }

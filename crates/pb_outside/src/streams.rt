@@ -13,8 +13,10 @@ const PIECE: usize = 4096;
 // Reads once, and again if the call was interrupted.
 fn read_some<S: Read>(file: &mut S, piece: &mut [u8]) -> Result<usize, Failed>
     ensures within { IfOk result (λ count. count ≤ length piece.new) }
-    ensures bytes { IfOk result (λ count. Consumes (S.remaining file.old) (S.remaining file.new) (take count piece.new)) }
-    ensures end { IfOk result (λ count. count ≡ 0 → 0 < length piece.new → IsAtEnd (S.remaining file.new)) }
+    ensures bytes { IfOk result (λ count. Consumes (S.remaining file.old) (S.remaining file.new)
+        (take count piece.new)) }
+    ensures end { IfOk result (λ count. count ≡ 0 → 0 < length piece.new
+        → IsAtEnd (S.remaining file.new)) }
     ensures err { OnErr result (Keeps (S.remaining file.old) (S.remaining file.new)) }
 {
     'tries: for _ in 0..u64::MAX {
@@ -48,7 +50,8 @@ fn next_count(most: u64, len: usize) -> usize
 // Reads a file to its end, if it has at most so many bytes. It never takes more than one byte
 // beyond them. Every turn takes at least one byte or is the last.
 pub(crate) fn read_whole<S: Read>(alloc: Global, file: &mut S, most: u64) -> Result<Vec<u8>, Load>
-    ensures whole { IfOk result (λ bytes. IfSome (S.remaining file.old) (λ all. all ≡ bytes.items)) }
+    ensures whole { IfOk result (λ bytes. IfSome (S.remaining file.old)
+        (λ all. all ≡ bytes.items)) }
     ensures short { IfOk result (λ bytes. length bytes.items ≤ most) }
     ensures long { IfErr result (λ e. IfSome (S.remaining file.old) (λ all. IsLonger most e all)) }
     ensures seen { IfErr result (λ e. SeesOneMore most e) }
@@ -76,7 +79,8 @@ pub(crate) fn read_whole<S: Read>(alloc: Global, file: &mut S, most: u64) -> Res
 // Writes once, and again if the call was interrupted.
 fn write_some<W: Write>(file: &mut W, piece: &[u8]) -> Result<usize, Failed>
     ensures within { IfOk result (λ count. count ≤ length piece.now) }
-    ensures bytes { IfOk result (λ count. Appends (W.contents file.old) (W.contents file.new) (take count piece.now)) }
+    ensures bytes { IfOk result (λ count. Appends (W.contents file.old) (W.contents file.new)
+        (take count piece.now)) }
     ensures err { OnErr result (Keeps (W.contents file.old) (W.contents file.new)) }
 {
     'tries: for _ in 0..u64::MAX {
@@ -96,7 +100,8 @@ fn write_some<W: Write>(file: &mut W, piece: &[u8]) -> Result<usize, Failed>
 pub(crate) fn write_whole<W: Write>(file: &mut W, bytes: &[u8]) -> Result<(), usize>
     ensures ok { OnOk result (Appends (W.contents file.old) (W.contents file.new) bytes.now) }
     ensures within { IfErr result (λ kept. kept ≤ length bytes.now) }
-    ensures err { IfErr result (λ kept. Appends (W.contents file.old) (W.contents file.new) (take kept bytes.now)) }
+    ensures err { IfErr result (λ kept. Appends (W.contents file.old) (W.contents file.new)
+        (take kept bytes.now)) }
 {
     let mut done = 0;
     'turns: while done < bytes.len() {

@@ -28,7 +28,9 @@ pub record IsBestEnd (g : GraphValue) : Type 0 where
 -- to the rows at home. One of these is Opened.
 pub record IsSpentEnd (g : GraphValue) : Type 0 where
   pub works : List Work
-  pub comes : Comes (space_of g.task) (guide_of g.task g.table.graph) works (opening_store (space_of g.task) (guide_of g.task g.table.graph) (weight_of g.table.settings)) (home_store g)
+  pub comes : Comes (space_of g.task) (guide_of g.task g.table.graph) works
+      (opening_store (space_of g.task) (guide_of g.task g.table.graph) (weight_of g.table.settings))
+      (home_store g)
   pub all : expansions works ≡ g.table.settings.budget
   pub none_broken : broken_expansions works ≡ 0
   pub one_run : reopenings works ≡ 0

@@ -22,9 +22,11 @@ use Rattle.pb_workers.specs.Runs.{RunsTo}
 -- what work makes of a lease that is out
 abbrev pub Works : TaskParts → AbstractGraph → LeaseValue → LeaseValue → (broken : ℕ) → Type 0
 Works task graph old new broken =
-    (settings : Settings) (reopenings : ℕ) (machine : Machine) → (before : IsOut (setup_of task graph settings reopenings) machine 0 old)
+    (settings : Settings) (reopenings : ℕ) (machine : Machine)
+    → (before : IsOut (setup_of task graph settings reopenings) machine 0 old)
     → (after : IsOut (setup_of task graph settings reopenings) machine broken new)
-    × (IsInTurns (setup_of task graph settings reopenings) machine 0 old before → IsInTurns (setup_of task graph settings reopenings) machine broken new after)
+    × (IsInTurns (setup_of task graph settings reopenings) machine 0 old before
+    → IsInTurns (setup_of task graph settings reopenings) machine broken new after)
 
 -- The lease is the graph's, which has no end, and its block's noted key is that of an Opened row.
 -- At some moment that the graph is, the lease is out and has worked in turns.
@@ -39,16 +41,20 @@ pub record IsHeld (g : GraphValue) (lease : LeaseValue) : Type 0 where
 
 -- from each machine at which the old lease is out, a run in order leads to one at which this lease
 -- is out; the new graph is a moment of it
-abbrev pub RunsOut : (old : GraphValue) → LeaseValue → (new : GraphValue) → (kept : LeaseValue) → Type 0
+abbrev pub RunsOut : (old : GraphValue) → LeaseValue → (new : GraphValue) → (kept : LeaseValue)
+    → Type 0
 RunsOut old lease new kept =
-    (recorded : (worker : ℕ) → Rows) (machine : Machine) → IsMoment old recorded machine → IsOutInTurns (setup_in old) machine 0 lease
-    → (after : (worker : ℕ) → Rows) × (next : Machine) × RunsTo old machine new after next × IsOutInTurns (setup_in new) next 0 kept
+    (recorded : (worker : ℕ) → Rows) (machine : Machine) → IsMoment old recorded machine
+    → IsOutInTurns (setup_in old) machine 0 lease
+    → (after : (worker : ℕ) → Rows) × (next : Machine) × RunsTo old machine new after next
+    × IsOutInTurns (setup_in new) next 0 kept
 
 -- from each machine at which the lease is out, a run in order leads to a machine that the new graph
 -- is a moment of
 abbrev pub RunsHome : (old : GraphValue) → LeaseValue → (new : GraphValue) → Type 0
 RunsHome old lease new =
-    (recorded : (worker : ℕ) → Rows) (machine : Machine) → IsMoment old recorded machine → IsOutInTurns (setup_in old) machine 0 lease
+    (recorded : (worker : ℕ) → Rows) (machine : Machine) → IsMoment old recorded machine
+    → IsOutInTurns (setup_in old) machine 0 lease
     → (after : (worker : ℕ) → Rows) × (next : Machine) × RunsTo old machine new after next
 
 -- how many expansions are left, those of the lease among them
@@ -63,7 +69,8 @@ opened_blocks g = count_below (blocks g.table).count (λ block. is_some (key_at 
 -- fewer blocks have an Opened row
 abbrev pub IsNearer : (old : GraphValue) → LeaseValue → (new : GraphValue) → Type 0
 IsNearer old lease new =
-    IsSome new.table.end ⊎ (new.table.left < left_with old lease) ⊎ ((new.table.left ≡ left_with old lease) × (opened_blocks new < opened_blocks old))
+    IsSome new.table.end ⊎ (new.table.left < left_with old lease)
+    ⊎ ((new.table.left ≡ left_with old lease) × (opened_blocks new < opened_blocks old))
 
 -- the block became hot if it might, and else nothing changed
 pub record MarksWhereMay (old : GraphValue) (worker block : ℕ) (new : GraphValue) : Type 0 where
@@ -73,9 +80,13 @@ pub record MarksWhereMay (old : GraphValue) (worker block : ℕ) (new : GraphVal
 -- the rival of the lease's block became hot, if there is one and it might
 abbrev pub MarksRival : (old : GraphValue) → LeaseValue → (new : GraphValue) → Type 0
 MarksRival old lease new =
-    (IsRivalBy (interferes (blocks old.table) lease.block) (key_at old.homes) lease.block None × (new ≡ old))
-    ⊎ ((rival : ℕ) × IsRivalBy (interferes (blocks old.table) lease.block) (key_at old.homes) lease.block (Some rival) × MarksWhereMay old lease.worker rival new)
+    (IsRivalBy (interferes (blocks old.table) lease.block) (key_at old.homes) lease.block None
+    × (new ≡ old))
+    ⊎ ((rival : ℕ) × IsRivalBy (interferes (blocks old.table) lease.block) (key_at old.homes)
+    lease.block (Some rival) × MarksWhereMay old lease.worker rival new)
 
 -- nothing changed, or a block became hot, and the leases that are out stay as they are
 abbrev pub IsMarkedAtMost : (old : GraphValue) → (worker : ℕ) → (new : GraphValue) → Type 0
-IsMarkedAtMost old worker new = (new ≡ old) ⊎ ((block : ℕ) × IsMarked old worker (Hot worker block) new × KeepsLeases old (Hot worker block ∷ []) new)
+IsMarkedAtMost old worker new =
+    (new ≡ old) ⊎ ((block : ℕ) × IsMarked old worker (Hot worker block) new
+    × KeepsLeases old (Hot worker block ∷ []) new)

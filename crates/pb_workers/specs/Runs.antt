@@ -19,7 +19,8 @@ IsAnyMoment g = (recorded : (worker : ℕ) → Rows) × (machine : Machine) × I
 -- From this machine a run in order and in time leads to one that the new graph is a moment of. The
 -- events of the run are those that the journal got. These rows are recorded for the leases that are
 -- out.
-pub record RunsTo (old : GraphValue) (machine : Machine) (new : GraphValue) (recorded : (worker : ℕ) → Rows) (next : Machine) : Type 0 where
+pub record RunsTo (old : GraphValue) (machine : Machine) (new : GraphValue)
+    (recorded : (worker : ℕ) → Rows) (next : Machine) : Type 0 where
   pub moves : List Move
   pub run : RunsInTime (setup_in old) machine moves next
   pub events : new.table.journal ≡ old.table.journal ++ journal_of moves

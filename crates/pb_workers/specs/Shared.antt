@@ -30,7 +30,8 @@ pub record IsIdle (task : TaskParts) (graph : AbstractGraph) (view : View) : Typ
 -- The search is for this task by these blocks of its own. The pass's worker has this lease, as it
 -- was given or last renewed, has told no cost, and has not signed off. The pass was one of a yard
 -- with some graph.
-pub record IsLeased (task : TaskParts) (graph : AbstractGraph) (view : View) (lease : LeaseValue) : Type 0 where
+pub record IsLeased (task : TaskParts) (graph : AbstractGraph) (view : View) (lease : LeaseValue) :
+    Type 0 where
   pub of_task : IsGraphOf task graph
   pub task_is : view.task ≡ task
   pub graph_is : view.graph ≡ graph

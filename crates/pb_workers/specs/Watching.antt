@@ -9,7 +9,16 @@ use Rattle.pb_workers.specs.declared.yard_watch.YardWatch.{YardWatch}
 
 -- what a watch knows if its pass has this view
 abbrev pub watch_view : View → WatchView
-watch_view view = record { task = view.task; graph = view.graph; lent = view.lent; read = was_read view; answers = view.read; least = view.last; told = view.told }
+watch_view view =
+    record {
+      task = view.task;
+      graph = view.graph;
+      lent = view.lent;
+      read = was_read view;
+      answers = view.read;
+      least = view.last;
+      told = view.told;
+    }
 
 -- the pass is one of the yard
 abbrev pub IsWatchOf : YardWatch → Type 0
@@ -31,15 +40,25 @@ pub record IsSameWatch (old new : YardWatch) : Type 0 where
 
 -- it is the same watch after no call, and after two calls
 pub same_watch : (watch : YardWatch) → IsSameWatch watch watch
-same_watch watch = record { yard = refl; pass = ((((refl, refl, refl, refl), refl)), refl); lease = record { journal = refl; lent = refl; task = refl; graph = refl; settings = refl } }
+same_watch watch =
+    record {
+      yard = refl;
+      pass = ((((refl, refl, refl, refl), refl)), refl);
+      lease = record { journal = refl; lent = refl; task = refl; graph = refl; settings = refl };
+    }
 
-pub same_watch_on : (old mid new : YardWatch) → IsSameWatch old mid → IsSameWatch mid new → IsSameWatch old new
+pub same_watch_on : (old mid new : YardWatch) → IsSameWatch old mid → IsSameWatch mid new
+    → IsSameWatch old new
 same_watch_on old mid new one two =
     let p = one.pass.0.0 in
     let q = two.pass.0.0 in
     record {
       yard = two.yard ∙ one.yard;
-      pass = (((q.0 ∙ p.0, q.1 ∙ p.1, q.2 ∙ p.2, q.3 ∙ p.3), two.pass.0.1 ∙ one.pass.0.1), two.pass.1 ∙ one.pass.1);
+      pass = (
+        ((q.0 ∙ p.0, q.1 ∙ p.1, q.2 ∙ p.2, q.3 ∙ p.3), two.pass.0.1 ∙ one.pass.0.1),
+        two.pass.1 ∙
+            one.pass.1,
+      );
       lease = record {
         journal = two.lease.journal ∙ one.lease.journal;
         lent = two.lease.lent ∙ one.lease.lent;

@@ -41,8 +41,10 @@ pub fn run_alone<G: Gate>(
 
     // How it ends.
     ensures signed_off { OnOk result (IsTrue ((counts_in graph.new).signed_off 0)) }
-    ensures ended { OnOk result ((graph.new.table.end ≡ Some Quiet) ⊎ (graph.new.table.end ≡ Some Budget)) }
-    ensures err { OnErr result ((graph.new ≡ graph.old) ⊎ (IsTrue ((counts_in graph.new).signed_off 0) × (graph.new.table.end ≡ Some Memory))) }
+    ensures ended { OnOk result ((graph.new.table.end ≡ Some Quiet)
+        ⊎ (graph.new.table.end ≡ Some Budget)) }
+    ensures err { OnErr result ((graph.new ≡ graph.old)
+        ⊎ (IsTrue ((counts_in graph.new).signed_off 0) × (graph.new.table.end ≡ Some Memory))) }
     ensures home { IsFalse (is_out_in graph.new) }
 
     // What the rows are then.

@@ -19,7 +19,8 @@ pub fn sign_off(graph: &mut LeaseGraph, end: Option<End>) -> Result<(), AllocErr
     ensures same { IsSameSearch graph.old graph.new }
     ensures home { IsFalse (is_out_in graph.old) → IsFalse (is_out_in graph.new) }
     ensures signed_off { IsTrue ((counts_in graph.new).signed_off 0) }
-    ensures ok { OnOk result ((graph.new.table.end ≡ Some Quiet) ⊎ (graph.new.table.end ≡ Some Budget)) }
+    ensures ok { OnOk result ((graph.new.table.end ≡ Some Quiet)
+        ⊎ (graph.new.table.end ≡ Some Budget)) }
     ensures err { OnErr result (graph.new.table.end ≡ Some Memory) }
     ensures lawful { IsLeaseGraph graph.new }
 {

@@ -26,7 +26,8 @@ pub fn turn<G: Gate>(
     // A lease that goes on.
     ensures held { IfSome result (IsHeld graph.new) }
     ensures worker { IfSome result (λ kept. kept.worker ≡ lease.worker) }
-    ensures room_left { IfSome result (λ kept. rooms graph.new.table kept.worker < rooms graph.old.table lease.worker) }
+    ensures room_left { IfSome result (λ kept. rooms graph.new.table kept.worker
+        < rooms graph.old.table lease.worker) }
     ensures less { IfSome result (λ kept. left_with graph.new kept < left_with graph.old lease) }
     ensures out { IfSome result (RunsOut graph.old lease graph.new) }
 

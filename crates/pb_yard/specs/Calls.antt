@@ -44,7 +44,9 @@ HasPlanWithin view cost = (plan : Plan) × IsPlan (space_of view.task) plan × (
 -- is lawful too. Exactly these events came to the journal. They are the moves from the one moment
 -- to the other, in order and in time. The pass has seen the whole journal then, and of the new
 -- events it has its own worker's. It has this lease, and has told this cost.
-pub record Holds (step : (found left : GraphValue) → Type 0) (events : (found : GraphValue) → List Event) (old : View) (lent : Option LeaseValue) (told : Option ℕ) (new : View) : Type 0 where
+pub record Holds (step : (found left : GraphValue) → Type 0)
+    (events : (found : GraphValue) → List Event) (old : View) (lent : Option LeaseValue)
+    (told : Option ℕ) (new : View) : Type 0 where
   pub found : GraphValue
   pub left : GraphValue
   pub before : IsAt found old
@@ -52,7 +54,8 @@ pub record Holds (step : (found left : GraphValue) → Type 0) (events : (found 
   pub seen : StartsWith found.table.journal old.journal.seen
   pub step_is : step found left
   pub added : left.table.journal ≡ found.table.journal ++ events found
-  pub moves : RunsSettled (setup_in found) before.yard.machine before.yard.settled (moves_of (events found)) after.yard.machine after.yard.settled
+  pub moves : RunsSettled (setup_in found) before.yard.machine before.yard.settled
+      (moves_of (events found)) after.yard.machine after.yard.settled
   pub view : new ≡ view_then found.table.journal (events found) lent told old
 
 -- The pass first read the incumbent, under the turn: what it read is at most what it had read or
@@ -64,41 +67,55 @@ pub record HasRead (old between : View) : Type 0 where
   pub view : between ≡ view_read (Some held) old incumbent
 
 -- the pass read the incumbent, and then held the graph, with this step and these events
-abbrev pub ReadsAndHolds : (step : (found left : GraphValue) → Type 0) → (events : (found : GraphValue) → List Event) → (old : View) → (lent : Option LeaseValue) → (told : Option ℕ) → (new : View) → Type 0
-ReadsAndHolds step events old lent told new = (between : View) × HasRead old between × Holds step events between lent told new
+abbrev pub ReadsAndHolds : (step : (found left : GraphValue) → Type 0)
+    → (events : (found : GraphValue) → List Event) → (old : View) → (lent : Option LeaseValue)
+    → (told : Option ℕ) → (new : View) → Type 0
+ReadsAndHolds step events old lent told new =
+    (between : View) × HasRead old between × Holds step events between lent told new
 
 -- the pass asked for a lease, with this answer
 abbrev pub Leases : (worker : ℕ) → (old : View) → LeaseReply → (new : View) → Type 0
-Leases worker old reply new = ReadsAndHolds (LeasesAs worker reply) (lease_events worker reply) old (lent_by reply old.lent) (told_by reply old.told) new
+Leases worker old reply new =
+    ReadsAndHolds (LeasesAs worker reply) (lease_events worker reply) old (lent_by reply old.lent)
+    (told_by reply old.told) new
 
 -- the pass asked to go on with its lease, with this answer
 abbrev pub Renews : LeaseValue → (old : View) → Renewed → (new : View) → Type 0
-Renews lease old reply new = ReadsAndHolds (RenewsAs lease reply) (λ found. renewal_events lease reply) old (kept_by reply) None new
+Renews lease old reply new =
+    ReadsAndHolds (RenewsAs lease reply) (λ found. renewal_events lease reply) old (kept_by reply)
+    None new
 
 -- The lease came back, since it might not go on, and in the same holding the pass asked for
 -- another, with this answer.
-abbrev pub GivesAndLeases : LeaseValue → (worker : ℕ) → (old : View) → LeaseReply → (new : View) → Type 0
-GivesAndLeases lease worker old reply new = (between : View) × Renews lease old Given between × Leases worker between reply new
+abbrev pub GivesAndLeases : LeaseValue → (worker : ℕ) → (old : View) → LeaseReply → (new : View)
+    → Type 0
+GivesAndLeases lease worker old reply new =
+    (between : View) × Renews lease old Given between × Leases worker between reply new
 
 -- the pass brought its lease back
 abbrev pub Releases : LeaseValue → (trouble : Bool) → (old new : View) → Type 0
-Releases lease trouble old new = ReadsAndHolds (ReleasesAs lease trouble) (release_events lease trouble) old None None new
+Releases lease trouble old new =
+    ReadsAndHolds (ReleasesAs lease trouble) (release_events lease trouble) old None None new
 
 -- The pass has the lease that it had.
-abbrev pub Looks : (step : (found left : GraphValue) → Type 0) → (events : (found : GraphValue) → List Event) → (old new : View) → Type 0
+abbrev pub Looks : (step : (found left : GraphValue) → Type 0)
+    → (events : (found : GraphValue) → List Event) → (old new : View) → Type 0
 Looks step events old new = Holds step events old old.lent old.told new
 
 abbrev pub AsksRival : LeaseValue → (old : View) → (rival : Option ℕ) → (new : View) → Type 0
 AsksRival lease old rival new = Looks (RivalsAs lease rival) (λ found. []) old new
 
 abbrev pub Marks : (worker block : ℕ) → (old : View) → (done : Bool) → (new : View) → Type 0
-Marks worker block old done new = Looks (MarksAs worker block done) (λ found. mark_events (Hot worker block) done) old new
+Marks worker block old done new =
+    Looks (MarksAs worker block done) (λ found. mark_events (Hot worker block) done) old new
 
 abbrev pub Cools : (worker block : ℕ) → (old : View) → (done : Bool) → (new : View) → Type 0
-Cools worker block old done new = Looks (CoolsAs worker block done) (λ found. mark_events (Cold worker block) done) old new
+Cools worker block old done new =
+    Looks (CoolsAs worker block done) (λ found. mark_events (Cold worker block) done) old new
 
 abbrev pub SignsOff : (worker : ℕ) → (trouble : Bool) → (old new : View) → Type 0
-SignsOff worker trouble old new = Looks (SignsOffAs worker trouble) (off_events worker trouble) old new
+SignsOff worker trouble old new =
+    Looks (SignsOffAs worker trouble) (off_events worker trouble) old new
 
 -- the pass's worker has signed off, or not
 abbrev pub HasSignedOff : View → Type 0
@@ -109,7 +126,8 @@ IsActive view = IsFalse (list_any is_off view.journal.own.events)
 
 -- it is the only pass that was made so far, and there are this many workers
 abbrev pub IsAlone : View → (workers : ℕ) → Type 0
-IsAlone view workers = (view.journal.made ≡ 1) × (view.journal.taken_in ≡ []) × (view.settings.workers ≡ workers)
+IsAlone view workers =
+    (view.journal.made ≡ 1) × (view.journal.taken_in ≡ []) × (view.settings.workers ≡ workers)
 
 -- the pass may ask for a lease: it has none, and its worker has not signed off
 abbrev pub IsReady : View → Type 0
@@ -129,7 +147,8 @@ pub record KeepsWorkers (old new : View) : Type 0 where
 -- There are as many passes as workers, and each worker that the pass knows of has signed off.
 pub record AllSignedOff (view : View) : Type 0 where
   pub all_made : view.journal.made ≡ view.settings.workers
-  pub off : AllByRecursion (λ share. IsTrue (list_any is_off share.events)) (view.journal.own ∷ view.journal.taken_in)
+  pub off : AllByRecursion (λ share. IsTrue (list_any is_off share.events))
+      (view.journal.own ∷ view.journal.taken_in)
 
 -- The graph is of the search that the yard began with. Its journal is what the pass has seen, and
 -- is a finished history: it has an end, and every worker has signed off. Each worker's events in it
@@ -138,7 +157,8 @@ pub record AllSignedOff (view : View) : Type 0 where
 pub record IsClosed (view : View) (g : GraphValue) : Type 0 where
   pub search : IsSearchOf g view
   pub seen : view.journal.seen ≡ g.table.journal
-  pub shares : AllByRecursion (IsShareOf g.table.journal view.journal.seen) (view.journal.own ∷ view.journal.taken_in)
+  pub shares : AllByRecursion (IsShareOf g.table.journal view.journal.seen)
+      (view.journal.own ∷ view.journal.taken_in)
   pub history : IsHistory (blocks g.table) g.table.settings 0 g.table.journal (counts_in g)
   pub finished : AreFinished g.table.settings (counts_in g)
   pub home : IsFalse (is_out_in g)

@@ -29,9 +29,12 @@ YardsAreLawful =
     (g : GraphValue) (shared : Option ℕ) (views : List View) → (yard : IsYard g shared views)
     → IsLawful (setup_in g) yard.machine
     × IsHistory (blocks g.table) g.table.settings 0 g.table.journal (counts_in g)
-    × ((worker other : ℕ) (lease second : LeaseValue) → yard.lent worker ≡ Some lease → yard.lent other ≡ Some second
-    → IsFalse (worker == other) → (block : ℕ) → IsTrue ((blocks g.table).scope lease.block block) → IsFalse ((blocks g.table).scope second.block block))
-    × ((block other : ℕ) → IsTrue ((counts_in g).hot block) → IsTrue ((counts_in g).hot other) → IsFalse (interferes (blocks g.table) block other))
+    × ((worker other : ℕ) (lease second : LeaseValue) → yard.lent worker ≡ Some lease
+    → yard.lent other ≡ Some second
+    → IsFalse (worker == other) → (block : ℕ) → IsTrue ((blocks g.table).scope lease.block block)
+    → IsFalse ((blocks g.table).scope second.block block))
+    × ((block other : ℕ) → IsTrue ((counts_in g).hot block) → IsTrue ((counts_in g).hot other)
+    → IsFalse (interferes (blocks g.table) block other))
 
 -- At every moment the lease machine has each lease that is out as it was given or last renewed,
 -- whatever other workers did meanwhile. So its worker's work begins with what the machine gave.
@@ -40,34 +43,42 @@ LentLeasesAreOut =
     (g : GraphValue) (shared : Option ℕ) (views : List View) → (yard : IsYard g shared views)
     → (worker : ℕ) (lease : LeaseValue) → yard.lent worker ≡ Some lease
     → (yard.machine.counts.leases worker ≡ Some (grant_of lease))
-    × (leased_store lease ≡ lent_store (setup_in g) lease.block yard.machine.store (yard.machine.given worker))
+    × (leased_store lease ≡ lent_store (setup_in g) lease.block yard.machine.store
+    (yard.machine.given worker))
 
 -- What a pass has seen begins the journal at every moment. Its own events are all that its worker
 -- has in the journal, and it has seen them.
 abbrev pub ViewsBeginTheHistory : Type 0
 ViewsBeginTheHistory =
     (g : GraphValue) (view : View) → IsAt g view → IsTrue view.journal.is_live
-    → StartsWith g.table.journal view.journal.seen × IsShareOf g.table.journal view.journal.seen view.journal.own
+    → StartsWith g.table.journal view.journal.seen
+    × IsShareOf g.table.journal view.journal.seen view.journal.own
 
 -- A lease may come back as it was lent.
 abbrev pub LentLeasesMayComeBack : Type 0
 LentLeasesMayComeBack =
-    (g : GraphValue) (view : View) → IsAt g view → IsTrue view.journal.is_live → (lease : LeaseValue) → view.lent ≡ Some lease → view.told ≡ None
+    (g : GraphValue) (view : View) → IsAt g view → IsTrue view.journal.is_live
+    → (lease : LeaseValue) → view.lent ≡ Some lease → view.told ≡ None
     → (most_broken : ℕ) → IsBrought view most_broken lease
 
 -- If a pass was answered that the search is over, it has seen the end.
 abbrev pub EndsAreSeen : Type 0
-EndsAreSeen = (worker : ℕ) (old new : View) (end : End) → Leases worker old (Over end) new → end_in new.journal.seen ≡ Some end
+EndsAreSeen =
+    (worker : ℕ) (old new : View) (end : End) → Leases worker old (Over end) new
+    → end_in new.journal.seen ≡ Some end
 
 -- If a call adds no sign-off, a worker that hasn't signed off before it hasn't after it.
 abbrev pub ActiveStay : Type 0
 ActiveStay =
-    (journal added : List Event) (lent : Option LeaseValue) (told : Option ℕ) (old new : View) → new ≡ view_then journal added lent told old
+    (journal added : List Event) (lent : Option LeaseValue) (told : Option ℕ) (old new : View)
+    → new ≡ view_then journal added lent told old
     → IsFalse (list_any is_off added) → IsActive old → IsActive new
 
 -- After its own sign-off a worker has signed off.
 abbrev pub SigningOffIsSeen : Type 0
-SigningOffIsSeen = (worker : ℕ) (trouble : Bool) (old new : View) → old.journal.own.worker ≡ worker → SignsOff worker trouble old new
+SigningOffIsSeen =
+    (worker : ℕ) (trouble : Bool) (old new : View) → old.journal.own.worker ≡ worker
+    → SignsOff worker trouble old new
     → HasSignedOff new
 
 -- A run in order and in time is one in order, and so a run.

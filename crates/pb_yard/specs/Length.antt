@@ -31,15 +31,21 @@ most_events actions spent workers = 65 * (1 + actions * spent) + workers + 1
 -- than the expansions can have brought rows.
 abbrev pub LeasesAreFew : Type 0
 LeasesAreFew =
-    (setup : Setup) (greatest_cost : ℕ) (moves : List Move) (machine : Machine) → IsSetup setup greatest_cost → setup.reopenings ≡ 0
+    (setup : Setup) (greatest_cost : ℕ) (moves : List Move) (machine : Machine)
+    → IsSetup setup greatest_cost → setup.reopenings ≡ 0
     → RunsInTime setup (opening_machine setup) moves machine
-    → (leases_in (journal_of moves) ≤ most_leases setup.space.actions machine.counts.spent (broken_leases setup machine) (leases_out setup.settings.workers machine.counts))
-    × (AreFinished setup.settings machine.counts → (machine.counts.end ≡ Some Memory → ⊥) → leases_in (journal_of moves) ≤ 1 + setup.space.actions * machine.counts.spent)
+    → (leases_in (journal_of moves) ≤ most_leases setup.space.actions machine.counts.spent
+    (broken_leases setup machine) (leases_out setup.settings.workers machine.counts))
+    × (AreFinished setup.settings machine.counts → (machine.counts.end ≡ Some Memory → ⊥)
+    → leases_in (journal_of moves) ≤ 1 + setup.space.actions * machine.counts.spent)
 
 -- So if a run keeps within the room of its leases, its journal is short.
 abbrev pub RunsAreShort : Type 0
 RunsAreShort =
-    (setup : Setup) (greatest_cost : ℕ) (moves : List Move) (machine : Machine) → IsSetup setup greatest_cost → setup.reopenings ≡ 0
-    → AreInRange setup.settings → RunsInTime setup (opening_machine setup) moves machine → KeepsWithinRoom (journal_of moves)
+    (setup : Setup) (greatest_cost : ℕ) (moves : List Move) (machine : Machine)
+    → IsSetup setup greatest_cost → setup.reopenings ≡ 0
+    → AreInRange setup.settings → RunsInTime setup (opening_machine setup) moves machine
+    → KeepsWithinRoom (journal_of moves)
     → AreFinished setup.settings machine.counts → (machine.counts.end ≡ Some Memory → ⊥)
-    → length (journal_of moves) ≤ most_events setup.space.actions machine.counts.spent setup.settings.workers
+    → length (journal_of moves) ≤ most_events setup.space.actions machine.counts.spent
+    setup.settings.workers

@@ -51,7 +51,8 @@ IsTimely setup old move new = ⊤
 -- was the first of its block. No lease was given a greater incumbent than that of the whole store
 -- at the last event. Each lease used up its quota before it went on, and had a cause to come back.
 -- The incumbent of the last event is stated at both ends.
-abbrev pub RunsSettled : Setup → (old : Machine) → (settled : Option ℕ) → List Move → (new : Machine) → (later : Option ℕ) → Type 0
+abbrev pub RunsSettled : Setup → (old : Machine) → (settled : Option ℕ) → List Move
+    → (new : Machine) → (later : Option ℕ) → Type 0
 RunsSettled setup old settled [] new later = (new ≡ old) × (later ≡ settled)
 RunsSettled setup old settled (move ∷ moves) new later =
     (between : Machine) × Moves setup old move between × IsInOrder setup old move between
@@ -60,4 +61,5 @@ RunsSettled setup old settled (move ∷ moves) new later =
 
 -- a run in order and in time that begins just after an event
 abbrev pub RunsInTime : Setup → (old : Machine) → List Move → (new : Machine) → Type 0
-RunsInTime setup old moves new = (later : Option ℕ) × RunsSettled setup old old.store.incumbent moves new later
+RunsInTime setup old moves new =
+    (later : Option ℕ) × RunsSettled setup old old.store.incumbent moves new later

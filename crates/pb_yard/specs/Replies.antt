@@ -28,15 +28,18 @@ use Rattle.pb_lease.specs.Steps.{IsLeased, LeasesNext, IsEnded, end_events, Keep
 abbrev pub NoneMayBeLeased : GraphValue → Type 0
 NoneMayBeLeased g =
     (recorded : (worker : ℕ) → Rows) (machine : Machine) → IsMomentAt g recorded machine
-    → (block : ℕ) → MayBeLeased (blocks g.table) g.table.settings machine.counts machine.store block → ⊥
+    → (block : ℕ) → MayBeLeased (blocks g.table) g.table.settings machine.counts machine.store block
+    → ⊥
 
 -- A worker asked for a lease. If memory ran out, the worker didn't have to wait, and the search
 -- wasn't over. Nothing changes in that case, nor if the worker has to wait.
 abbrev pub LeasesAs : (worker : ℕ) → LeaseReply → (old new : GraphValue) → Type 0
 LeasesAs worker (Leased lease) old new = IsLeased old worker lease new × LeasesNext old lease new
 LeasesAs worker NotYet old new = IsToWait old × NoneMayBeLeased old × (new ≡ old)
-LeasesAs worker (Over end) old new = IsOver old end × IsEnded old end new × KeepsLeases old (end_events old.table.end end) new
-LeasesAs worker Memory old new = (IsToWait old → ⊥) × ((end : End) → IsOver old end → ⊥) × (new ≡ old)
+LeasesAs worker (Over end) old new =
+    IsOver old end × IsEnded old end new × KeepsLeases old (end_events old.table.end end) new
+LeasesAs worker Memory old new =
+    (IsToWait old → ⊥) × ((end : End) → IsOver old end → ⊥) × (new ≡ old)
 
 abbrev pub lease_events : (worker : ℕ) → LeaseReply → (old : GraphValue) → List Event
 lease_events worker (Leased lease) old = Lease worker lease.block lease.quota ∷ []
@@ -62,8 +65,11 @@ told_by Memory had = had
 
 -- A worker asked to go on with its lease.
 abbrev pub RenewsAs : LeaseValue → Renewed → (old new : GraphValue) → Type 0
-RenewsAs lease (Kept kept) old new = GoesOn old lease new × IsRenewed old lease kept new × ChoosesByRows old lease new × RenewsNext old lease kept new
-RenewsAs lease Given old new = (GoesOn old lease new → ⊥) × IsReleased old lease false new × ChoosesByRows old lease new
+RenewsAs lease (Kept kept) old new =
+    GoesOn old lease new × IsRenewed old lease kept new × ChoosesByRows old lease new
+    × RenewsNext old lease kept new
+RenewsAs lease Given old new =
+    (GoesOn old lease new → ⊥) × IsReleased old lease false new × ChoosesByRows old lease new
     × ReleasesNext old lease false new
 
 abbrev pub renewal_events : LeaseValue → Renewed → List Event
@@ -76,10 +82,12 @@ kept_by Given = None
 
 -- A worker brought its lease back.
 abbrev pub ReleasesAs : LeaseValue → (trouble : Bool) → (old new : GraphValue) → Type 0
-ReleasesAs lease trouble old new = IsReleased old lease trouble new × ReleasesNext old lease trouble new
+ReleasesAs lease trouble old new =
+    IsReleased old lease trouble new × ReleasesNext old lease trouble new
 
 abbrev pub release_events : LeaseValue → (trouble : Bool) → (old : GraphValue) → List Event
-release_events lease trouble old = Release lease.worker lease.used trouble ∷ ending trouble old.table.end
+release_events lease trouble old =
+    Release lease.worker lease.used trouble ∷ ending trouble old.table.end
 
 -- ---- marks
 
@@ -87,21 +95,26 @@ release_events lease trouble old = Release lease.worker lease.used trouble ∷ e
 abbrev pub RivalsAs : LeaseValue → Option ℕ → (old new : GraphValue) → Type 0
 RivalsAs lease rival old new =
     IsRivalBy (interferes (blocks old.table) lease.block) (key_at old.homes) lease.block rival
-    × ((recorded : (worker : ℕ) → Rows) (machine : Machine) → IsMomentAt old recorded machine → IsRival (blocks old.table) machine.store lease.block rival)
+    × ((recorded : (worker : ℕ) → Rows) (machine : Machine) → IsMomentAt old recorded machine
+    → IsRival (blocks old.table) machine.store lease.block rival)
     × (new ≡ old)
 
 -- The event is the mark, or the mark that is taken away, and the worker may change it. Or the
 -- worker may not, and nothing changes.
-abbrev pub ChangesMarkAs : (may : Type 0) → (worker : ℕ) → Event → (done : Bool) → (old new : GraphValue) → Type 0
-ChangesMarkAs may worker event true old new = may × IsMarked old worker event new × KeepsLeases old (event ∷ []) new
+abbrev pub ChangesMarkAs : (may : Type 0) → (worker : ℕ) → Event → (done : Bool)
+    → (old new : GraphValue) → Type 0
+ChangesMarkAs may worker event true old new =
+    may × IsMarked old worker event new × KeepsLeases old (event ∷ []) new
 ChangesMarkAs may worker event false old new = (may → ⊥) × (new ≡ old)
 
 -- A worker asked that the block be hot, or cold.
 abbrev pub MarksAs : (worker block : ℕ) → (done : Bool) → (old new : GraphValue) → Type 0
-MarksAs worker block done old new = ChangesMarkAs (MayMark old worker block) worker (Hot worker block) done old new
+MarksAs worker block done old new =
+    ChangesMarkAs (MayMark old worker block) worker (Hot worker block) done old new
 
 abbrev pub CoolsAs : (worker block : ℕ) → (done : Bool) → (old new : GraphValue) → Type 0
-CoolsAs worker block done old new = ChangesMarkAs (MayCool old worker block) worker (Cold worker block) done old new
+CoolsAs worker block done old new =
+    ChangesMarkAs (MayCool old worker block) worker (Cold worker block) done old new
 
 abbrev pub mark_events : Event → (done : Bool) → List Event
 mark_events event done = if done then event ∷ [] else []
@@ -110,7 +123,9 @@ mark_events event done = if done then event ∷ [] else []
 
 -- A worker signed off.
 abbrev pub SignsOffAs : (worker : ℕ) → (trouble : Bool) → (old new : GraphValue) → Type 0
-SignsOffAs worker trouble old new = IsSignedOff old worker trouble new × KeepsLeases old (Off worker trouble ∷ ending trouble old.table.end) new
+SignsOffAs worker trouble old new =
+    IsSignedOff old worker trouble new × KeepsLeases old
+    (Off worker trouble ∷ ending trouble old.table.end) new
 
 abbrev pub off_events : (worker : ℕ) → (trouble : Bool) → (old : GraphValue) → List Event
 off_events worker trouble old = Off worker trouble ∷ ending trouble old.table.end

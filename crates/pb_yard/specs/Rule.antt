@@ -45,11 +45,12 @@ was_read view (Some cost) = list_any (is_cost cost) view.read
 
 -- The lease is the one that the graph gave to this worker, as it was given or last renewed. No
 -- expansion is made yet, and the incumbent is what the machine gave.
-pub record IsLent (g : GraphValue) (machine : Machine) (worker : ℕ) (lease : LeaseValue) : Type 0 where
-  pub worker_is : lease.worker ≡ worker
-  pub of_graph : IsOfGraph g lease
-  pub unused : lease.used ≡ 0
-  pub given : machine.given worker ≡ lease.incumbent
+pub record IsLent (g : GraphValue) (machine : Machine) (worker : ℕ) (lease : LeaseValue) : Type 0
+  where
+    pub worker_is : lease.worker ≡ worker
+    pub of_graph : IsOfGraph g lease
+    pub unused : lease.used ≡ 0
+    pub given : machine.given worker ≡ lease.incumbent
 
 -- the view is of the graph's search
 pub record IsSearchOf (g : GraphValue) (view : View) : Type 0 where
@@ -60,13 +61,15 @@ pub record IsSearchOf (g : GraphValue) (view : View) : Type 0 where
 -- Every worker can have read what the pass has read as the incumbent. The pass's own worker can
 -- have read what it has told.
 pub record IsKnownTo (machine : Machine) (view : View) : Type 0 where
-  pub read : (incumbent : Option ℕ) → IsTrue (was_read view incumbent) → (worker : ℕ) → IsTrue (machine.known worker incumbent)
+  pub read : (incumbent : Option ℕ) → IsTrue (was_read view incumbent) → (worker : ℕ)
+      → IsTrue (machine.known worker incumbent)
   pub last : IsTrue (machine.known view.journal.own.worker view.last)
 
 -- What a live view says is true: its pass has the lease that its worker was lent, and its worker
 -- told what it says. What the pass has read or told is at most the incumbent that its lease was
 -- lent with.
-pub record IsViewOf (g : GraphValue) (machine : Machine) (lent_to : (worker : ℕ) → Option LeaseValue) (view : View) : Type 0 where
+pub record IsViewOf (g : GraphValue) (machine : Machine) (lent_to : (worker : ℕ)
+    → Option LeaseValue) (view : View) : Type 0 where
   pub lent : lent_to view.journal.own.worker ≡ view.lent
   pub told : machine.told view.journal.own.worker ≡ view.told
   pub search : IsSearchOf g view
@@ -81,7 +84,8 @@ pub record IsRecent (g : GraphValue) (settled : Option ℕ) (view : View) : Type
 
 -- no live pass is the worker's: it has none yet, or it was taken in
 abbrev pub HasNoPass : (worker : ℕ) → List View → Type 0
-HasNoPass worker views = (seat : ℕ) (view : View) → get_elem? views seat ≡ some view → IsTrue view.journal.is_live
+HasNoPass worker views =
+    (seat : ℕ) (view : View) → get_elem? views seat ≡ some view → IsTrue view.journal.is_live
     → IsFalse (view.journal.own.worker == worker)
 
 -- The graph, with what its workers were lent, is a lawful moment of the lease machine. Moves from
@@ -96,15 +100,19 @@ pub record IsYard (g : GraphValue) (shared : Option ℕ) (views : List View) : T
   pub machine : Machine
   pub lent : (worker : ℕ) → Option LeaseValue
   pub settled : Option ℕ
-  pub run : RunsSettled (setup_in g) (opening_machine (setup_in g)) (opening_machine (setup_in g)).store.incumbent moves machine settled
+  pub run : RunsSettled (setup_in g) (opening_machine (setup_in g))
+      (opening_machine (setup_in g)).store.incumbent moves machine settled
   pub journal : journal_of moves ≡ g.table.journal
   pub moment : IsMomentAt g (λ worker. rows_of (lent worker)) machine
   pub shared_is : machine.store.incumbent ≡ shared
   pub leases : (worker : ℕ) → machine.counts.leases worker ≡ grant_in (lent worker)
-  pub lent_is : (worker : ℕ) (lease : LeaseValue) → lent worker ≡ Some lease → IsLent g machine worker lease
+  pub lent_is : (worker : ℕ) (lease : LeaseValue) → lent worker ≡ Some lease
+      → IsLent g machine worker lease
   pub journals : AreTrueOf g.table.settings.workers g.table.journal (map journal_view views)
-  pub each : (seat : ℕ) (view : View) → get_elem? views seat ≡ some view → IsTrue view.journal.is_live → IsViewOf g machine lent view
-  pub recent : (seat : ℕ) (view : View) → get_elem? views seat ≡ some view → IsTrue view.journal.is_live → IsRecent g settled view
+  pub each : (seat : ℕ) (view : View) → get_elem? views seat ≡ some view
+      → IsTrue view.journal.is_live → IsViewOf g machine lent view
+  pub recent : (seat : ℕ) (view : View) → get_elem? views seat ≡ some view
+      → IsTrue view.journal.is_live → IsRecent g settled view
   pub others : (worker : ℕ) → HasNoPass worker views → lent worker ≡ None
 
 -- what the lock keeps: the yard's rule, for the shared incumbent that the number says

@@ -20,7 +20,18 @@ bounded g (Some cost) = record g { incumbent = lesser g.incumbent (Some cost) }
 
 -- the view of the first pass
 abbrev pub opening_view : GraphValue → View
-opening_view g = record { journal = first_view; lent = None; task = g.task; graph = g.table.graph; settings = g.table.settings; told = None; last = None; read = []; read_at = None }
+opening_view g =
+    record {
+      journal = first_view;
+      lent = None;
+      task = g.task;
+      graph = g.table.graph;
+      settings = g.table.settings;
+      told = None;
+      last = None;
+      read = [];
+      read_at = None;
+    }
 
 -- The view of a pass after another was split from it, and then the view of the other. The other has
 -- the next worker's number, no lease and no events, and has seen what the first has.
@@ -28,7 +39,15 @@ abbrev pub split_view : View → View
 split_view view = record view { journal = with_one_more view.journal }
 
 abbrev pub next_pass_view : View → View
-next_pass_view view = record view { journal = next_view view.journal; lent = None; told = None; last = None; read = []; read_at = None }
+next_pass_view view =
+    record view {
+      journal = next_view view.journal;
+      lent = None;
+      told = None;
+      last = None;
+      read = [];
+      read_at = None;
+    }
 
 -- the view of a pass after it took in another's; and then what is left at the other's number, which
 -- says nothing
@@ -42,7 +61,8 @@ spent_pass_view =
       lent = None;
       task = Tiles (record { rows = 0; cols = 0; start = []; goal = [] });
       graph = record { projection = Blank; scopes = [] };
-      settings = record { workers = 0; num = 0; den = 0; budget = 0; lot = 0; wish = 0; plain = false };
+      settings =
+          record { workers = 0; num = 0; den = 0; budget = 0; lot = 0; wish = 0; plain = false };
       told = None;
       last = None;
       read = [];
@@ -56,20 +76,35 @@ events_held (Some g) = Some (length g.table.journal)
 
 -- the view after its pass read this as the incumbent
 abbrev pub view_read : (held : Option GraphValue) → View → Option ℕ → View
-view_read held view incumbent = record view { last = incumbent; read = incumbent ∷ view.read; read_at = events_held held }
+view_read held view incumbent =
+    record view { last = incumbent; read = incumbent ∷ view.read; read_at = events_held held }
 
 -- the view after its pass told this cost
 abbrev pub view_told : View → (cost : ℕ) → View
-view_told view cost = record view { told = lesser view.told (Some cost); last = lesser view.last (Some cost); read_at = None }
+view_told view cost =
+    record view {
+      told = lesser view.told (Some cost);
+      last = lesser view.last (Some cost);
+      read_at = None;
+    }
 
 -- The view after its pass held the graph and these events were added to the journal. It has seen
 -- the whole journal, and has its own worker's events. It has this lease, and has told this cost.
-abbrev pub view_then : (journal added : List Event) → (lent : Option LeaseValue) → (told : Option ℕ) → View → View
-view_then journal added lent told view = record view { journal = view_after journal added view.journal; lent = lent; told = told; read_at = None }
+abbrev pub view_then : (journal added : List Event) → (lent : Option LeaseValue) → (told : Option ℕ)
+    → View → View
+view_then journal added lent told view =
+    record view {
+      journal = view_after journal added view.journal;
+      lent = lent;
+      told = told;
+      read_at = None;
+    }
 
 -- the events that the second graph's journal has and the first one's hasn't
 abbrev pub events_between : (old new : GraphValue) → List Event
 events_between old new = drop (length old.table.journal) new.table.journal
 
-abbrev pub view_left : (old new : GraphValue) → (lent : Option LeaseValue) → (told : Option ℕ) → View → View
-view_left old new lent told view = view_then old.table.journal (events_between old new) lent told view
+abbrev pub view_left : (old new : GraphValue) → (lent : Option LeaseValue) → (told : Option ℕ)
+    → View → View
+view_left old new lent told view =
+    view_then old.table.journal (events_between old new) lent told view

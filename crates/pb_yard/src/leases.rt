@@ -24,7 +24,8 @@ impl Yard {
         requires stays { IsActive (view_of pass.old) }
         ensures same { KeepsPass pass.old pass.new }
         ensures leased { Leases (worker_of pass.old) (view_of pass.old) result (view_of pass.new) }
-        ensures copy { (given : LeaseValue) → result ≡ Leased given → given.incumbent ≡ (view_of pass.new).last }
+        ensures copy { (given : LeaseValue) → result ≡ Leased given
+            → given.incumbent ≡ (view_of pass.new).last }
     {
         let (mut held, incumbent) = self.enter_reading(rt, &mut pass.turn);
         pass.last = incumbent;
@@ -42,7 +43,8 @@ impl Yard {
         requires spent { lease.used ≡ lease.quota }
         ensures same { KeepsPass pass.old pass.new }
         ensures renewed { Renews lease (view_of pass.old) result (view_of pass.new) }
-        ensures copy { (kept : LeaseValue) → result ≡ Kept kept → kept.incumbent ≡ (view_of pass.new).last }
+        ensures copy { (kept : LeaseValue) → result ≡ Kept kept
+            → kept.incumbent ≡ (view_of pass.new).last }
     {
         let (mut held, incumbent) = self.enter_reading(rt, &mut pass.turn);
         pass.last = incumbent;

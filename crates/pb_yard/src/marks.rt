@@ -34,7 +34,8 @@ impl Yard {
         requires leased { IsSome (view_of pass.old).lent }
         requires block { block < (blocks_of (view_of pass.old).graph).count }
         ensures same { KeepsPass pass.old pass.new }
-        ensures marked { Marks (worker_of pass.old) block (view_of pass.old) result (view_of pass.new) }
+        ensures marked { Marks (worker_of pass.old) block (view_of pass.old) result
+            (view_of pass.new) }
     {
         let mut held = self.lock.enter(rt, &mut pass.turn);
         let done = held.state_mut().mark_hot(pass.worker, block);
@@ -50,7 +51,8 @@ impl Yard {
         requires leased { IsSome (view_of pass.old).lent }
         requires block { block < (blocks_of (view_of pass.old).graph).count }
         ensures same { KeepsPass pass.old pass.new }
-        ensures cooled { Cools (worker_of pass.old) block (view_of pass.old) result (view_of pass.new) }
+        ensures cooled { Cools (worker_of pass.old) block (view_of pass.old) result
+            (view_of pass.new) }
     {
         let mut held = self.lock.enter(rt, &mut pass.turn);
         let done = held.state_mut().cool(pass.worker, block);
@@ -67,7 +69,8 @@ impl Yard {
         requires stays { IsActive (view_of pass.old) }
         requires cause { IsTrue (trouble || is_some (end_in (view_of pass.old).journal.seen)) }
         ensures same { KeepsPass pass.old pass.new }
-        ensures signed_off { SignsOff (worker_of pass.old) trouble (view_of pass.old) (view_of pass.new) }
+        ensures signed_off { SignsOff (worker_of pass.old) trouble (view_of pass.old)
+            (view_of pass.new) }
     {
         let mut held = self.lock.enter(rt, &mut pass.turn);
         held.state_mut().sign_off(pass.worker, trouble);

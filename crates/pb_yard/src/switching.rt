@@ -27,10 +27,15 @@ impl Yard {
         requires brought { IsBrought (view_of pass.old) 0 lease }
         requires cause { HasCause lease false }
         ensures same { KeepsPass pass.old pass.new }
-        ensures kept { (kept : LeaseValue) → result ≡ Kept kept → Renews lease (view_of pass.old) (renewed.Kept kept) (view_of pass.new) }
-        ensures gave { (reply : LeaseReply) → result ≡ Gave reply → GivesAndLeases lease (worker_of pass.old) (view_of pass.old) reply (view_of pass.new) }
-        ensures busy { (back : LeaseValue) → result ≡ Busy back → (back ≡ lease) × (view_of pass.new ≡ view_of pass.old) }
-        ensures held { (back : LeaseValue) → result ≡ Busy back → (misses_of pass.new ≡ misses_of pass.old + 1) × (parts_of pass.old ≢ all_parts) }
+        ensures kept { (kept : LeaseValue) → result ≡ Kept kept
+            → Renews lease (view_of pass.old) (renewed.Kept kept) (view_of pass.new) }
+        ensures gave { (reply : LeaseReply) → result ≡ Gave reply
+            → GivesAndLeases lease (worker_of pass.old) (view_of pass.old) reply
+            (view_of pass.new) }
+        ensures busy { (back : LeaseValue) → result ≡ Busy back
+            → (back ≡ lease) × (view_of pass.new ≡ view_of pass.old) }
+        ensures held { (back : LeaseValue) → result ≡ Busy back
+            → (misses_of pass.new ≡ misses_of pass.old + 1) × (parts_of pass.old ≢ all_parts) }
     {
         let Some((mut held, incumbent)) = self.try_enter_reading(&mut pass.turn) else {
             return Switch::Busy(lease);

@@ -299,7 +299,8 @@ fn finish(yard: Yard, mut first: Pass, second: Pass) -> LeaseGraph
     requires parts { parts_of first + parts_of second ≡ all_parts }
     requires second { (view_of second).journal.made ≡ 0 }
     requires all { ((view_of first).journal.made ≡ 2) × ((view_of first).settings.workers ≡ 2) }
-    requires alone { ((view_of first).journal.taken_in ≡ []) × ((view_of second).journal.taken_in ≡ []) }
+    requires alone { ((view_of first).journal.taken_in ≡ [])
+        × ((view_of second).journal.taken_in ≡ []) }
     requires off { HasSignedOff (view_of first) × HasSignedOff (view_of second) }
 {
     yard.meet(&mut first, second);

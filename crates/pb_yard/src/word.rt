@@ -46,7 +46,8 @@ impl Yard {
         requires own { IsOf self.now pass.old }
         ensures same { KeepsPass pass.old pass.new }
         ensures falls { AtMost result (view_of pass.old).last }
-        ensures shared { (g : GraphValue) × (at : IsAt g (view_of pass.old)) × (at.shared ≡ result) }
+        ensures shared { (g : GraphValue) × (at : IsAt g (view_of pass.old))
+            × (at.shared ≡ result) }
         ensures view { view_of pass.new ≡ view_read None (view_of pass.old) result }
         ensures plan { (cost : ℕ) → result ≡ Some cost → HasPlanWithin (view_of pass.old) cost }
     {
@@ -83,7 +84,8 @@ impl Yard {
         ensures graph { state result.0 ≡ bounded (found result.0) result.1 }
         ensures view { view turn.new ≡ view_read (Some (found result.0)) (view turn.old) result.1 }
         ensures rule { Stands YardFact (number turn.old) (view turn.new) (found result.0) }
-        ensures falls { AtMost result.1 (view turn.old).last × AtMost result.1 (found result.0).incumbent }
+        ensures falls { AtMost result.1 (view turn.old).last
+            × AtMost result.1 (found result.0).incumbent }
     {
         let held = self.lock.enter(rt, turn);
         self.read_on(turn, held)
@@ -101,11 +103,15 @@ impl Yard {
         ensures same { turns.IsSamePass turn.old turn.new }
         ensures won { IfSome result (λ r. HoldsTurn turn.new (found r.0)) }
         ensures graph { IfSome result (λ r. state r.0 ≡ bounded (found r.0) r.1) }
-        ensures view { IfSome result (λ r. view turn.new ≡ view_read (Some (found r.0)) (view turn.old) r.1) }
-        ensures rule { IfSome result (λ r. Stands YardFact (number turn.old) (view turn.new) (found r.0)) }
-        ensures falls { IfSome result (λ r. AtMost r.1 (view turn.old).last × AtMost r.1 (found r.0).incumbent) }
+        ensures view { IfSome result (λ r. view turn.new
+            ≡ view_read (Some (found r.0)) (view turn.old) r.1) }
+        ensures rule { IfSome result (λ r. Stands YardFact (number turn.old) (view turn.new)
+            (found r.0)) }
+        ensures falls { IfSome result (λ r. AtMost r.1 (view turn.old).last
+            × AtMost r.1 (found r.0).incumbent) }
         ensures rests { IfNone result (IsResting turn.new × (view turn.new ≡ view turn.old)) }
-        ensures lost { IfNone result ((misses turn.new ≡ misses turn.old + 1) × (parts turn.old ≢ whole)) }
+        ensures lost { IfNone result ((misses turn.new ≡ misses turn.old + 1)
+            × (parts turn.old ≢ whole)) }
     {
         match self.lock.try_enter(turn) {
             Some(held) => Some(self.read_on(turn, held)),
@@ -129,7 +135,8 @@ impl Yard {
         ensures graph { state result.0 ≡ bounded (found result.0) result.1 }
         ensures view { view turn.new ≡ view_read (Some (found result.0)) (view turn.old) result.1 }
         ensures rule { Stands YardFact (number turn.old) (view turn.new) (found result.0) }
-        ensures falls { AtMost result.1 (view turn.old).last × AtMost result.1 (found result.0).incumbent }
+        ensures falls { AtMost result.1 (view turn.old).last
+            × AtMost result.1 (found result.0).incumbent }
     {
         let mut held = held;
         let incumbent = cost(self.lock.word(turn));
