@@ -1,5 +1,5 @@
 -- Runs of a graph, one after another.
-use Rattle.std.proofs.Common.{◌≡◌, ℕ, false, List, [], ◌∷◌, ◌++◌, refl, sym, ap, ◌∙◌, subst}
+use Rattle.std.proofs.Common.{◌≡◌, ℕ, false, List, [], ◌++◌, refl, sym, ap, ◌∙◌, subst}
 use Rattle.std.proofs.lemmas.List.{append_assoc, append-nil}
 use Rattle.pb_model.specs.Store.{Rows}
 use Rattle.pb_machine.specs.declared.event.Event.{Event}
@@ -15,7 +15,7 @@ use Rattle.pb_lease.specs.Moments.{IsMoment, FollowsInOrder, moves_of}
 use Rattle.pb_lease.specs.Steps.{KeepsLeases}
 use Rattle.pb_lease.proofs.InOrder.{keeps_in_order}
 use Rattle.pb_yard.specs.Order.{RunsInTime}
-use Rattle.pb_yard.proofs.InTime.{GrantsNone, in_time_on, in_time_events}
+use Rattle.pb_yard.proofs.InTime.{GrantsNone, events_of_moves, in_time_on, in_time_events}
 use Rattle.pb_workers.specs.Runs.{IsSameSearch, RunsTo, RunsOn}
 
 -- ---- the same search
@@ -31,10 +31,6 @@ setup_is_same old new same = λ i. setup_of (same.task i) (same.graph i) (same.s
 
 -- ---- runs
 
-events_of : (events : List Event) → journal_of (moves_of events) ≡ events
-events_of [] = refl
-events_of (event ∷ events) = ap (λ rest. event ∷ rest) (events_of events)
-
 -- nothing happened
 pub run_none : (g : GraphValue) (recorded : (worker : ℕ) → Rows) (machine : Machine) → IsMoment g recorded machine → RunsTo g machine g recorded machine
 run_none g recorded machine m = record { moves = []; run = (machine.store.incumbent, (refl, refl)); events = sym (append-nil g.table.journal); moment = m }
@@ -46,7 +42,7 @@ pub run_one : (old : GraphValue) (machine : Machine) (events : List Event) (new 
 run_one old machine events new recorded next f in_time journal = record {
   moves = moves_of events;
   run = in_time;
-  events = journal ∙ ap (λ es. old.table.journal ++ es) (sym (events_of events));
+  events = journal ∙ ap (λ es. old.table.journal ++ es) (sym (events_of_moves events));
   moment = f.moment;
 }
 

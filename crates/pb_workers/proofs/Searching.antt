@@ -1,9 +1,9 @@
 -- Leases of a worker that searches alone, and how near the search is to its end.
 use Rattle.std.proofs.Common.{◌≡◌, ℕ, ◌+◌, ◌-◌, ◌*◌, ◌<◌, ◌≤◌, min, Bool, true, false, if◌then◌else◌, ◌||◌, is_some, List, [], ◌∷◌, ◌++◌, Option, Some, None, refl, sym, ap, ◌∙◌, arith, subst, true≢false, get_or, inl, inr}
 use Rattle.pb_model.specs.declared.key.Key.{Key}
+use Rattle.pb_model.proofs.Tests.{none_found}
 use Rattle.pb_machine.specs.declared.event.End.{End}
 use Rattle.pb_machine.specs.declared.event.Event.TheVariants.{Lease}
-use Rattle.pb_machine.specs.declared.event.Grant.{Grant}
 use Rattle.pb_machine.specs.Tables.{with_entry, any_below, count_below, one_if}
 use Rattle.pb_machine.specs.Counts.{Counts}
 use Rattle.pb_machine.proofs.TableLaws.{any_none, sum_small}
@@ -25,13 +25,9 @@ use Rattle.pb_workers.proofs.Going.{run_one, run_then, run_home, on_then, keepin
 
 -- ---- one worker
 
-none_leased : (o : Option Grant) → is_some o ≡ false → o ≡ None
-none_leased None e = refl
-none_leased (Some grant) e = absurd (true≢false e)
-
 module _ (g : GraphValue) (alone : g.table.settings.workers ≡ 1) where
   pub alone_vacant : is_out_in g ≡ false → (counts_in g).leases 0 ≡ None
-  alone_vacant home = none_leased ((counts_in g).leases 0) (any_none g.table.settings.workers 0 (λ worker. is_some ((counts_in g).leases worker)) home (omega (arith, alone)))
+  alone_vacant home = none_found ((counts_in g).leases 0) (any_none g.table.settings.workers 0 (λ worker. is_some ((counts_in g).leases worker)) home (omega (arith, alone)))
 
   pub alone_home : (counts_in g).leases 0 ≡ None → is_out_in g ≡ false
   alone_home vacant = subst (λ n. any_below n (λ worker. is_some ((counts_in g).leases worker)) ≡ false) (sym alone) (ap (λ o. is_some o || false) vacant)
@@ -146,14 +142,6 @@ module _ (old : GraphValue) (end : End) (new : GraphValue) (e : IsEnded old end 
 
   pub ended_signed : (counts_in new).signed_off ≡ (counts_in old).signed_off
   ended_signed = end_same (λ c. c.signed_off) (λ c. refl)
-
-  pub ended_end : IsOver old end → new.table.end ≡ Some end
-  ended_end (inl standing) = ap (λ (v : GraphValue). v.table.end) (e.standing standing) ∙ standing
-  ended_end (inr comes) = ap (λ (c : Counts). c.end) e.events.counts ∙ here old.table.end comes.0
-    where
-      here : (o : Option End) → o ≡ None → (counts_along (blocks old.table) old.table.settings (counts_in old) (end_events o end)).end ≡ Some end
-      here None none = refl
-      here (Some standing) none = absurd (true≢false (ap is_some none))
 
   pub ended_runs : (first : GraphValue) → IsSameSearch first old → RunsOn first old → KeepsLeases old (end_events old.table.end end) new → RunsOn first new
   ended_runs first same before keeps = on_then first old new same before (keeping_runs old (end_events old.table.end end) new (end_grants_none old.table.end end) keeps (ap (λ (v : GraphValue). v.incumbent) e.rest) e.events.journal)

@@ -1,15 +1,16 @@
 -- A worker that shares a yard: what its pass knows after each of its calls.
-use Rattle.std.proofs.Common.{◌≡◌, ℕ, ◌<◌, ◌||◌, Bool, true, false, cond, is_some, List, [], ◌∷◌, Option, Some, None, refl, sym, ap, ◌∙◌, arith, subst, inl, inr, true≢false}
+use Rattle.std.proofs.Common.{◌≡◌, ℕ, ◌<◌, ◌||◌, Bool, true, false, cond, is_some, List, [], ◌∷◌, Option, Some, None, refl, sym, ap, ◌∙◌, arith, subst}
 use Rattle.std.specs.List.{list_any}
+use Rattle.std.proofs.lemmas.Bool.{or_from}
 use Rattle.std.proofs.lemmas.List.Folds.{list_any-append}
+use Rattle.std.proofs.Math.Bool.{or-true}
 use Rattle.pb_model.specs.Work.{Work}
 use Rattle.pb_model.proofs.Incumbents.{at_most_self}
-use Rattle.pb_model.proofs.Tests.{by_cases, equal_self}
+use Rattle.pb_model.proofs.Tests.{equal_self}
 use Rattle.pb_machine.specs.declared.event.End.{End}
 use Rattle.pb_machine.specs.declared.event.Event.{Event}
 use Rattle.pb_machine.specs.declared.event.Event.TheVariants.{Hot, Off}
-use Rattle.pb_machine.specs.Counts.{Counts}
-use Rattle.pb_machine.specs.History.{events_of, is_event_of, is_off, end_in}
+use Rattle.pb_machine.specs.History.{events_of, is_off, end_in}
 use Rattle.pb_machine.specs.Views as of_machine
 use Rattle.pb_machine.specs.Machine.{lent_store}
 use Rattle.pb_machine.specs.Turns.{AreLeaseTurns}
@@ -22,12 +23,10 @@ use Rattle.pb_lease.specs.declared.answer.LeaseReply.TheVariants.{Leased, NotYet
 use Rattle.pb_lease.specs.declared.answer.LeaseReply.{LeaseReply}
 use Rattle.pb_lease.specs.declared.answer.Renewed.TheVariants.{Kept, Given}
 use Rattle.pb_lease.specs.Tables.{blocks}
-use Rattle.pb_lease.specs.Events.{ending, counts_along}
+use Rattle.pb_lease.specs.Events.{ending}
 use Rattle.pb_lease.specs.LeaseValue.{LeaseValue, leased_store, IsSameLease}
 use Rattle.pb_lease.specs.Leased.{guide_of, HasScope}
 use Rattle.pb_lease.specs.GraphValue.{GraphValue, setup_in, counts_in}
-use Rattle.pb_lease.specs.Choices.{IsOver}
-use Rattle.pb_lease.specs.Steps.{end_events}
 use Rattle.pb_expand.specs.Turned.{IsAtWork}
 use Rattle.pb_expand.specs.Watching.{IsWatched}
 use Rattle.pb_yard.specs.declared.view.View.{View}
@@ -37,6 +36,7 @@ use Rattle.pb_yard.specs.Replies.{LeasesAs, lease_events, lent_by, told_by, Rele
 use Rattle.pb_yard.specs.Returning.{IsLeaseOf, IsBrought}
 use Rattle.pb_yard.specs.Calls.{Holds, HasRead, ReadsAndHolds, Looks, Leases, Renews, GivesAndLeases, Releases, AsksRival, Marks, SignsOff, IsActive}
 use Rattle.pb_yard.proofs.Meaning.{history, leased, begins}
+use Rattle.pb_yard.proofs.Told.{own_none_off, end_none_off, ending_none_off, ended_end}
 use Rattle.pb_workers.specs.Shared.{IsSameHolder, IsIdle, IsLeased}
 use Rattle.pb_workers.specs.Watching.{watch_view, KeepsLease}
 
@@ -44,35 +44,6 @@ use Rattle.pb_workers.specs.Watching.{watch_view, KeepsLease}
 
 abbrev HasNoOff : List Event → Type 0
 HasNoOff events = list_any is_off events ≡ false
-
-none_then : (a b : Bool) → a ≡ false → b ≡ false → (a || b) ≡ false
-none_then a b one two = ap (λ c. c || b) one ∙ two
-
-first_none : (a b : Bool) → (a || b) ≡ false → a ≡ false
-first_none true b e = absurd (true≢false e)
-first_none false b e = refl
-
-rest_none : (a b : Bool) → (a || b) ≡ false → b ≡ false
-rest_none true b e = absurd (true≢false e)
-rest_none false b e = e
-
-own_no_off : (worker : ℕ) (events : List Event) → HasNoOff events → HasNoOff (events_of worker events)
-own_no_off worker [] none = refl
-own_no_off worker (e ∷ es) none =
-    let first = first_none (is_off e) (list_any is_off es) none in
-    let rest = own_no_off worker es (rest_none (is_off e) (list_any is_off es) none) in
-    by_cases (is_event_of worker e)
-    (λ own. ap (λ r. list_any is_off (cond r (e ∷ events_of worker es) (events_of worker es))) own ∙ none_then (is_off e) (list_any is_off (events_of worker es)) first rest)
-    (λ own. ap (λ r. list_any is_off (cond r (e ∷ events_of worker es) (events_of worker es))) own ∙ rest)
-
-ending_no_off : (trouble : Bool) (end : Option End) → HasNoOff (ending trouble end)
-ending_no_off false end = refl
-ending_no_off true None = refl
-ending_no_off true (Some end) = refl
-
-end_no_off : (standing : Option End) (end : End) → HasNoOff (end_events standing end)
-end_no_off None end = refl
-end_no_off (Some standing) end = refl
 
 -- ---- the same holder
 
@@ -104,7 +75,7 @@ module _ (step : GraphValue → GraphValue → Type 0) (list : GraphValue → Li
   still_active : IsActive old → HasNoOff (list h.found) → IsActive new
   still_active stays none = subst (λ (v : View). IsActive v) (sym h.view)
       (list_any-append is_off old.journal.own.events (events_of old.journal.own.worker (list h.found))
-      ∙ none_then (list_any is_off old.journal.own.events) (list_any is_off (events_of old.journal.own.worker (list h.found))) stays (own_no_off old.journal.own.worker (list h.found) none))
+      ∙ or_from (list_any is_off old.journal.own.events) (list_any is_off (events_of old.journal.own.worker (list h.found))) stays (own_none_off old.journal.own.worker (list h.found) none))
 
   module _ (task : TaskParts) (graph : AbstractGraph) where
     idle_then : IsIdle task graph old → lent ≡ None → HasNoOff (list h.found) → IsIdle task graph new
@@ -149,22 +120,11 @@ module _ (task : TaskParts) (graph : AbstractGraph) (worker : ℕ) (old new : Vi
   -- the search is over, as the journal that the pass has seen tells
   pub over_then : (end : End) → Leases worker old (Over end) new → IsIdle task graph new × (is_some (end_in new.journal.seen) ≡ true)
   over_then end (between, r, h) = (
-    idle_then (LeasesAs worker (Over end)) (lease_events worker (Over end)) between old.lent old.told new h task graph (read_idle old between r task graph first) first.vacant (end_no_off h.found.table.end end),
+    idle_then (LeasesAs worker (Over end)) (lease_events worker (Over end)) between old.lent old.told new h task graph (read_idle old between r task graph first) first.vacant (end_none_off h.found.table.end end),
     ap (λ (v : View). is_some (end_in v.journal.seen)) h.view ∙ ap (λ j. is_some (end_in j)) (sym h.added)
         ∙ ap is_some (sym (ends_are_told (blocks h.left.table) h.left.table.settings 0 h.left.table.journal (counts_in h.left) (history h.left h.after.shared h.after.views h.after.yard)))
-        ∙ ap is_some stands,
+        ∙ ap is_some (ended_end h.found h.left end h.step_is.0 h.step_is.1),
   )
-    where
-      here : (o : Option End) → o ≡ None → (counts_along (blocks h.found.table) h.found.table.settings (counts_in h.found) (end_events o end)).end ≡ Some end
-      here None none = refl
-      here (Some standing) none = absurd (true≢false (ap is_some none))
-
-      stands : h.left.table.end ≡ Some end
-      stands = go h.step_is.0
-        where
-          go : IsOver h.found end → h.left.table.end ≡ Some end
-          go (inl standing) = ap (λ (g : GraphValue). g.table.end) (h.step_is.1.standing standing) ∙ standing
-          go (inr comes) = ap (λ (c : Counts). c.end) h.step_is.1.events.counts ∙ here h.found.table.end comes.0
 
 -- ---- work on a lease
 
@@ -298,7 +258,7 @@ rival_known lease old new rival live h =
     (sym (y.each h.before.seat old h.before.mine live).search.graph ∙ sym (ap (λ (v : View). v.graph) h.view)) known
 
 mark_no_off : (event : Event) (done : Bool) → is_off event ≡ false → HasNoOff (mark_events event done)
-mark_no_off event true none = none_then (is_off event) false none refl
+mark_no_off event true none = or_from (is_off event) false none refl
 mark_no_off event false none = refl
 
 pub look_stays : (lease : LeaseValue) (rival : Option ℕ) (old new : View) → AsksRival lease old rival new → IsActive old → IsActive new
@@ -341,7 +301,7 @@ module _ (task : TaskParts) (graph : AbstractGraph) (old new : View) (of_task : 
   given_then h = gone (RenewsAs worked Given) (λ found. renewal_events worked Given) h (λ g. refl)
 
   pub released_then : (trouble : Bool) → Releases worked trouble old new → IsIdle task graph new
-  released_then trouble h = gone (ReleasesAs worked trouble) (release_events worked trouble) h (λ g. ending_no_off trouble g.table.end)
+  released_then trouble h = gone (ReleasesAs worked trouble) (release_events worked trouble) h (λ g. ending_none_off trouble g.table.end)
 
 -- ---- a lease that comes back, and another that is asked for at once
 
@@ -372,12 +332,8 @@ pub off_then : (worker : ℕ) (trouble : Bool) (old new : View) → old.journal.
 off_then worker trouble old new own h =
     ap (λ (v : View). list_any is_off v.journal.own.events) h.view
     ∙ list_any-append is_off old.journal.own.events (events_of old.journal.own.worker (off_events worker trouble h.found))
-    ∙ ap (λ r. list_any is_off old.journal.own.events || r) there ∙ or_true (list_any is_off old.journal.own.events)
+    ∙ ap (λ r. list_any is_off old.journal.own.events || r) there ∙ or-true (list_any is_off old.journal.own.events)
   where
-    or_true : (b : Bool) → (b || true) ≡ true
-    or_true true = refl
-    or_true false = refl
-
     there : list_any is_off (events_of old.journal.own.worker (off_events worker trouble h.found)) ≡ true
     there = ap (λ k. list_any is_off (events_of k (off_events worker trouble h.found))) own
         ∙ ap (λ r. list_any is_off (cond r (Off worker trouble ∷ events_of worker (ending trouble h.found.table.end)) (events_of worker (ending trouble h.found.table.end)))) (equal_self worker)

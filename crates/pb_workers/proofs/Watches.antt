@@ -1,6 +1,5 @@
 -- The incumbent of a yard, as a worker watches it while it works.
-use Rattle.std.proofs.Common.{◌≡◌, ℕ, ◌==◌, ◌||◌, Bool, true, false, ◌∷◌, Option, Some, None, refl, sym, ap, ◌∙◌, arith, subst}
-use Rattle.std.specs.List.{list_any}
+use Rattle.std.proofs.Common.{◌≡◌, ℕ, true, Option, Some, None, refl, sym, arith, subst}
 use Rattle.pb_model.specs.Store.{AtMost}
 use Rattle.pb_model.proofs.Incumbents.{lesser_at_most}
 use Rattle.pb_machine.proofs.LeaseWork.{lease_work_stays}
@@ -10,29 +9,16 @@ use Rattle.pb_lease.specs.Leased.{guide_of}
 use Rattle.pb_expand.specs.Watching.{MayTell, HasRead, HasTold}
 use Rattle.pb_yard.specs.declared.view.View.{View}
 use Rattle.pb_yard.specs.Views.{view_read, view_told}
-use Rattle.pb_yard.specs.Rule.{is_cost, was_read}
+use Rattle.pb_yard.specs.Rule.{was_read}
 use Rattle.pb_yard.specs.Returning.{IsFound}
-use Rattle.pb_yard.proofs.Reading.{reads_it}
+use Rattle.pb_yard.proofs.Reading.{more_read, reads_it}
 use Rattle.pb_workers.specs.Watching.{watch_view, KeepsLease}
 
 -- ---- a reading
 
-or_yes : (a : Bool) → (a || true) ≡ true
-or_yes true = refl
-or_yes false = refl
-
--- what was read stays read
-more_read : (v : View) (read incumbent : Option ℕ) → was_read v incumbent ≡ true → was_read (view_read None v read) incumbent ≡ true
-more_read v read None has = has
-more_read v read (Some cost) has = go read
-  where
-    go : (o : Option ℕ) → list_any (is_cost cost) (o ∷ v.read) ≡ true
-    go None = has
-    go (Some new) = ap (λ r. (new == cost) || r) has ∙ or_yes (new == cost)
-
 pub reads : (v new : View) (read : Option ℕ) → AtMost read v.last → new ≡ view_read None v read → HasRead (watch_view v) read (watch_view new)
 reads v new read falls is = subst (λ (u : View). HasRead (watch_view v) read (watch_view u)) (sym is) record {
-  kept = record { others = refl; knows = λ incumbent has. more_read v read incumbent has; falls = falls };
+  kept = record { others = refl; knows = λ incumbent has. more_read None v read incumbent has; falls = falls };
   told = refl;
   read = λ cost read_is. reads_it None v read cost read_is;
   least = refl;

@@ -1,9 +1,10 @@
 use Rattle.std.proofs.Common.{refl, sym, ap, ◌∙◌, subst, inr}
 use Rattle.pb_lease.specs.GraphValue.{GraphValue, counts_in}
+use Rattle.pb_yard.proofs.Told.{ended_end}
 use Rattle.pb_workers.specs.Runs.{RunsOn}
 use Rattle.pb_workers.proofs.Going.{same_then}
 use Rattle.pb_workers.proofs.Serving.{serves_then}
-use Rattle.pb_workers.proofs.Searching.{alone_vacant, alone_home, leased_same, leased_signed, leased_held, leased_runs, comes_nearer, ended_same, ended_leases, ended_signed, ended_end, ended_runs, none_stands}
+use Rattle.pb_workers.proofs.Searching.{alone_vacant, alone_home, leased_same, leased_signed, leased_held, leased_runs, comes_nearer, ended_same, ended_leases, ended_signed, ended_runs, none_stands}
 use Rattle.pb_workers.proofs.alone.search.Goals as goal
 
 pub lease-requires-clause-vacant : goal.lease-requires-clause-vacant
@@ -60,7 +61,7 @@ returns-in-Over-clause-stays g c =
 
 pub returns-in-Over-clause-end : goal.returns-in-Over-clause-end
 returns-in-Over-clause-end g c =
-    ended_end c.leases.graph c.in-Over.end c.lease.new.self (c.in-Over.ensures.ended c.in-Over.end refl) ((c.in-Over.ensures.over c.in-Over.end).0 refl)
+    ended_end c.leases.graph c.lease.new.self c.in-Over.end ((c.in-Over.ensures.over c.in-Over.end).0 refl) (c.in-Over.ensures.ended c.in-Over.end refl)
 
 pub returns-in-Memory-clause-run : goal.returns-in-Memory-clause-run
 returns-in-Memory-clause-run g c = subst (λ (v : GraphValue). RunsOn c.args.graph.now v) (sym (c.in-Memory.ensures.same (inr refl))) c.leases.invariant.runs
