@@ -2,6 +2,10 @@
 #![tactic(auto)]
 
 #[cfg(test)]
+mod answers;
+#[cfg(test)]
+mod examples;
+#[cfg(test)]
 mod grid_texts;
 #[cfg(test)]
 mod moves;
