@@ -1,9 +1,8 @@
 //! Trees of PDDL texts as a line: each name with its place.
 use crate::lines::Lines;
+use crate::trees::{domain_of, problem_of};
 use pb_outside::Memory;
-use pb_syntax::{
-    Action, Atom, Cost, Literal, Name, SyntaxError, Term, Typed, read_domain, read_problem,
-};
+use pb_syntax::{Action, Atom, Cost, Literal, Name, Term, Typed};
 use std::alloc::Global;
 
 fn add_name(lines: &mut Lines, name: &Name) -> Result<(), Memory> {
@@ -80,10 +79,8 @@ fn add_action(lines: &mut Lines, action: &Action) -> Result<(), Memory> {
 }
 
 pub(crate) fn domain_line(alloc: Global, text: &[u8]) -> Result<Option<Lines>, Memory> {
-    let domain = match read_domain(alloc, text) {
-        Ok(domain) => domain,
-        Err(SyntaxError::Memory) => return Err(Memory),
-        Err(_) => return Ok(None),
+    let Some(domain) = domain_of(alloc, text)? else {
+        return Ok(None);
     };
     let mut lines = Lines::new(alloc);
     add_name(&mut lines, &domain.name)?;
@@ -107,10 +104,8 @@ pub(crate) fn domain_line(alloc: Global, text: &[u8]) -> Result<Option<Lines>, M
 }
 
 pub(crate) fn problem_line(alloc: Global, text: &[u8]) -> Result<Option<Lines>, Memory> {
-    let problem = match read_problem(alloc, text) {
-        Ok(problem) => problem,
-        Err(SyntaxError::Memory) => return Err(Memory),
-        Err(_) => return Ok(None),
+    let Some(problem) = problem_of(alloc, text)? else {
+        return Ok(None);
     };
     let mut lines = Lines::new(alloc);
     add_name(&mut lines, &problem.name)?;
@@ -133,10 +128,8 @@ pub(crate) fn problem_line(alloc: Global, text: &[u8]) -> Result<Option<Lines>, 
 
 // How many facts a problem begins with.
 pub(crate) fn facts(alloc: Global, text: &[u8]) -> Result<Option<Lines>, Memory> {
-    let problem = match read_problem(alloc, text) {
-        Ok(problem) => problem,
-        Err(SyntaxError::Memory) => return Err(Memory),
-        Err(_) => return Ok(None),
+    let Some(problem) = problem_of(alloc, text)? else {
+        return Ok(None);
     };
     let mut lines = Lines::new(alloc);
     lines.first("facts")?;

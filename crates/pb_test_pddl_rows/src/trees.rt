@@ -1,8 +1,26 @@
-//! The trees of two texts.
+//! The trees of texts. A caller doesn't see the clauses of the readers, so its proof stays short.
 use pb_outside::Memory;
 use pb_pddl::{Domain, Problem};
 use pb_syntax::{SyntaxError, read_domain, read_problem};
 use std::alloc::Global;
+
+// The domain that a text spells, if it does.
+pub(crate) fn domain_of(alloc: Global, text: &[u8]) -> Result<Option<Domain>, Memory> {
+    match read_domain(alloc, text) {
+        Ok(domain) => Ok(Some(domain)),
+        Err(SyntaxError::Memory) => Err(Memory),
+        Err(_) => Ok(None),
+    }
+}
+
+// The problem that a text spells, if it does.
+pub(crate) fn problem_of(alloc: Global, text: &[u8]) -> Result<Option<Problem>, Memory> {
+    match read_problem(alloc, text) {
+        Ok(problem) => Ok(Some(problem)),
+        Err(SyntaxError::Memory) => Err(Memory),
+        Err(_) => Ok(None),
+    }
+}
 
 // The trees that two texts spell, if they do.
 pub(crate) fn trees_of(
@@ -10,14 +28,11 @@ pub(crate) fn trees_of(
     domain: &[u8],
     problem: &[u8],
 ) -> Result<Option<(Domain, Problem)>, Memory> {
-    let domain = match read_domain(alloc, domain) {
-        Ok(domain) => domain,
-        Err(SyntaxError::Memory) => return Err(Memory),
-        Err(_) => return Ok(None),
+    let Some(domain) = domain_of(alloc, domain)? else {
+        return Ok(None);
     };
-    match read_problem(alloc, problem) {
-        Ok(problem) => Ok(Some((domain, problem))),
-        Err(SyntaxError::Memory) => Err(Memory),
-        Err(_) => Ok(None),
-    }
+    let Some(problem) = problem_of(alloc, problem)? else {
+        return Ok(None);
+    };
+    Ok(Some((domain, problem)))
 }

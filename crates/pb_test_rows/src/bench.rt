@@ -91,19 +91,6 @@ fn words_of(alloc: Global, line: &str) -> Result<Vec<String>, Memory> {
     Ok(words)
 }
 
-// The status of a command line over these files and this output.
-fn status_of<R: Threads + Wait + Sync, C: Command>(
-    rt: &R,
-    alloc: Global,
-    command: &C,
-    line: &str,
-    shelf: &mut MemShelf,
-    sink: &mut MemSink,
-) -> Result<u8, Memory> {
-    let words = words_of(alloc, line)?;
-    Ok(command.run(rt, alloc, &words, shelf, sink))
-}
-
 // Runs a command line over these files, with new output.
 pub(crate) fn run_over<R: Threads + Wait + Sync, C: Command>(
     rt: &R,
@@ -113,8 +100,9 @@ pub(crate) fn run_over<R: Threads + Wait + Sync, C: Command>(
     mut shelf: MemShelf,
     failing: Option<Failing>,
 ) -> Result<Ran, Memory> {
+    let words = words_of(alloc, line)?;
     let mut sink = sink_of(alloc, failing)?;
-    let status = status_of(rt, alloc, command, line, &mut shelf, &mut sink)?;
+    let status = command.run(rt, alloc, &words, &mut shelf, &mut sink);
     Ok(Ran {
         shelf,
         sink,
@@ -130,21 +118,6 @@ impl Ran {
         } else {
             None
         }
-    }
-
-    // Runs a command line over the files that are there, with new output.
-    pub(crate) fn run_again<R: Threads + Wait + Sync, C: Command>(
-        &mut self,
-        rt: &R,
-        alloc: Global,
-        command: &C,
-        line: &str,
-        failing: Option<Failing>,
-    ) -> Result<(), Memory> {
-        let mut sink = sink_of(alloc, failing)?;
-        self.status = status_of(rt, alloc, command, line, &mut self.shelf, &mut sink)?;
-        self.sink = sink;
-        Ok(())
     }
 
     // Whether a file isn't there, or is a first part of the whole one.

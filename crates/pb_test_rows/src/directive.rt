@@ -6,7 +6,8 @@ use crate::texts::number_or;
 #[derive(Clone, Copy)]
 pub(crate) enum Directive<'a> {
     Given(Given<'a>),
-    Run(Runs<'a>),
+    // Runs of a command line.
+    Run(Runs, &'a str),
     Said(Said<'a>),
 }
 
@@ -25,16 +26,16 @@ pub(crate) enum Given<'a> {
     SinkFails(Failing),
 }
 
-// Runs of a command line.
+// How often a command line is run, and over what.
 #[derive(Clone, Copy)]
-pub(crate) enum Runs<'a> {
-    Once(&'a str),
+pub(crate) enum Runs {
+    Once,
     // Over each beginning of the bytes whose length lies between two numbers, as the file `cut`.
-    Cuts(u64, u64, &'a str),
+    Cuts(u64, u64),
     // Over a shelf that fails at each call in turn and keeps so many bytes of it.
-    EachShelfCall(u64, &'a str),
+    EachShelfCall(u64),
     // Over a sink that keeps each number of bytes in turn.
-    EachSinkLength(&'a str),
+    EachSinkLength,
 }
 
 // What the last run left.
@@ -74,19 +75,19 @@ fn name_and_number(text: &str) -> Option<(&str, u64)> {
     Some((name, number))
 }
 
-fn read_runs<'a>(word: &str, rest: &'a str) -> Option<Runs<'a>> {
+fn read_runs<'a>(word: &str, rest: &'a str) -> Option<(Runs, &'a str)> {
     match word {
-        "run" => Some(Runs::Once(rest)),
+        "run" => Some((Runs::Once, rest)),
         "cuts" => {
             let (from, rest) = number_and_rest(rest)?;
             let (to, line) = number_and_rest(rest)?;
-            Some(Runs::Cuts(from, to, line))
+            Some((Runs::Cuts(from, to), line))
         }
         "each-shelf-call" => {
             let (kept, line) = number_and_rest(rest)?;
-            Some(Runs::EachShelfCall(kept, line))
+            Some((Runs::EachShelfCall(kept), line))
         }
-        "each-sink-length" => Some(Runs::EachSinkLength(rest)),
+        "each-sink-length" => Some((Runs::EachSinkLength, rest)),
         _ => None,
     }
 }
@@ -132,6 +133,6 @@ pub(crate) fn read_directive(line: &str) -> Option<Directive<'_>> {
     if let Some(given) = read_given(word, rest) {
         return Some(Directive::Given(given));
     }
-    let runs = read_runs(word, rest)?;
-    Some(Directive::Run(runs))
+    let (runs, line) = read_runs(word, rest)?;
+    Some(Directive::Run(runs, line))
 }

@@ -1,13 +1,14 @@
 //! A text of rows, read and done line by line.
-use crate::bench::{Failing, Ran, Room, Setting, nothing_ran};
+use crate::bench::{Failing, Ran, Room, Setting, nothing_ran, run_over};
 use crate::command::Command;
 use crate::directive::{Directive, Given, Runs, read_directive};
 use crate::notes::Notes;
-use crate::runs::{run_cuts, run_each_shelf_call, run_each_sink_length};
+use crate::runs::run_many;
 use crate::said::{expect_kept, expect_said};
 use crate::texts::{Text, add_line};
-use pb_outside::Memory;
+use pb_outside::{MemShelf, Memory};
 use std::alloc::Global;
+use std::mem;
 use std::sync::Wait;
 use std::thread::Threads;
 
@@ -68,6 +69,19 @@ impl Row {
         }
     }
 
+    // Runs a command line over the files that are there, with new output.
+    fn run_once<R: Threads + Wait + Sync, C: Command>(
+        &mut self,
+        rt: &R,
+        alloc: Global,
+        command: &C,
+        line: &str,
+    ) -> Result<(), Memory> {
+        let shelf = mem::replace(&mut self.ran.shelf, MemShelf::new(alloc)?);
+        self.ran = run_over(rt, alloc, command, line, shelf, self.sink_fails)?;
+        Ok(())
+    }
+
     // Runs a command line, over all that a line says.
     fn run<R: Threads + Wait + Sync, C: Command>(
         &mut self,
@@ -75,32 +89,23 @@ impl Row {
         alloc: Global,
         command: &C,
         texts: &[Text],
-        runs: Runs<'_>,
+        runs: Runs,
+        line: &str,
         bytes: &[u8],
         notes: &mut Notes,
     ) -> Result<(), Memory> {
-        let setting = Setting {
-            texts,
-            files: &self.files,
-            rooms: &self.rooms,
-        };
-        match runs {
-            Runs::Once(line) => self
-                .ran
-                .run_again(rt, alloc, command, line, self.sink_fails)?,
-            Runs::Cuts(from, to, line) => {
-                let lengths = (from, to);
-                self.ran = run_cuts(rt, alloc, command, setting, line, lengths, bytes, notes)?;
-            }
-            Runs::EachShelfCall(kept, line) => {
-                let (ran, failed) = run_each_shelf_call(
-                    rt, alloc, command, setting, line, kept, notes,
-                )?;
-                self.ran = ran;
-                self.failed_calls = failed;
-            }
-            Runs::EachSinkLength(line) => {
-                self.ran = run_each_sink_length(rt, alloc, command, setting, line, notes)?;
+        if let Runs::Once = runs {
+            self.run_once(rt, alloc, command, line)?;
+        } else {
+            let setting = Setting {
+                texts,
+                files: &self.files,
+                rooms: &self.rooms,
+            };
+            let (ran, count) = run_many(rt, alloc, command, setting, line, runs, bytes, notes)?;
+            self.ran = ran;
+            if let Runs::EachShelfCall(_) = runs {
+                self.failed_calls = count;
             }
         }
         self.sink_fails = None;
@@ -132,8 +137,8 @@ fn do_line<R: Threads + Wait + Sync, C: Command>(
             }
             row.take(alloc, given, bytes)
         }
-        Some(Directive::Run(runs)) => {
-            row.run(rt, alloc, command, texts, runs, bytes, notes)?;
+        Some(Directive::Run(runs, line)) => {
+            row.run(rt, alloc, command, texts, runs, line, bytes, notes)?;
             expect_kept(notes, &row.ran, &row.rooms, texts)?;
             expect_kept(notes, &row.ran, &row.rooms, &row.files)
         }

@@ -1,63 +1,19 @@
 //! Many runs of one command line.
-use crate::bench::{Failing, Ran, Setting, run_over, shelf_of};
+use crate::bench::{Failing, Ran, Room, Setting, run_over, shelf_of};
 use crate::command::Command;
+use crate::directive::Runs;
 use crate::notes::Notes;
-use pb_outside::Memory;
+use pb_outside::{MemShelf, Memory};
 use std::alloc::Global;
 use std::sync::Wait;
 use std::thread::Threads;
 
-// A run over the row's files.
-fn run_whole<R: Threads + Wait + Sync, C: Command>(
-    rt: &R,
-    alloc: Global,
-    command: &C,
-    setting: Setting<'_>,
-    line: &str,
-) -> Result<Ran, Memory> {
-    let shelf = shelf_of(alloc, setting)?;
-    run_over(rt, alloc, command, line, shelf, None)
-}
-
-// A run over the row's files and these bytes as the file `cut`.
-fn run_cut<R: Threads + Wait + Sync, C: Command>(
-    rt: &R,
-    alloc: Global,
-    command: &C,
-    setting: Setting<'_>,
-    line: &str,
-    bytes: &[u8],
-) -> Result<Ran, Memory> {
-    let mut shelf = shelf_of(alloc, setting)?;
-    shelf.add("cut", bytes)?;
-    run_over(rt, alloc, command, line, shelf, None)
-}
-
-// A run over a shelf that fails at a call.
-fn run_failing_shelf<R: Threads + Wait + Sync, C: Command>(
-    rt: &R,
-    alloc: Global,
-    command: &C,
-    setting: Setting<'_>,
-    line: &str,
-    failing: Failing,
-) -> Result<Ran, Memory> {
-    let mut shelf = shelf_of(alloc, setting)?;
-    shelf.fail(failing.call, failing.kept)?;
-    run_over(rt, alloc, command, line, shelf, None)
-}
-
-// A run over output that fails at a call.
-fn run_failing_sink<R: Threads + Wait + Sync, C: Command>(
-    rt: &R,
-    alloc: Global,
-    command: &C,
-    setting: Setting<'_>,
-    line: &str,
-    failing: Failing,
-) -> Result<Ran, Memory> {
-    let shelf = shelf_of(alloc, setting)?;
-    run_over(rt, alloc, command, line, shelf, Some(failing))
+// One of many runs: what the file `cut` has, and which call of the shelf or of the sink fails.
+#[derive(Clone, Copy)]
+struct Trial<'a> {
+    cut: Option<&'a [u8]>,
+    shelf: Option<Failing>,
+    sink: Option<Failing>,
 }
 
 // The first so many bytes, or all.
@@ -68,74 +24,118 @@ fn beginning(bytes: &[u8], length: u64) -> &[u8] {
     }
 }
 
-// Runs a command line over beginnings of a text, whose lengths lie between two numbers. All have the answer of the
-// first one, which is given.
-pub(crate) fn run_cuts<R: Threads + Wait + Sync, C: Command>(
+// The run that the others are compared with: over the shortest beginning, or over a shelf and a sink that don't fail.
+fn whole_trial(runs: Runs, bytes: &[u8]) -> Trial<'_> {
+    let cut = match runs {
+        Runs::Cuts(from, _) => Some(beginning(bytes, from)),
+        _ => None,
+    };
+    Trial {
+        cut,
+        shelf: None,
+        sink: None,
+    }
+}
+
+// The run of this number, counted from 0, if there is one. The whole report has so many bytes.
+fn trial_at(runs: Runs, number: u64, bytes: &[u8], report: usize) -> Option<Trial<'_>> {
+    let mut trial = whole_trial(Runs::Once, bytes);
+    match runs {
+        Runs::Cuts(from, to) if from.saturating_add(number) <= to => {
+            trial.cut = Some(beginning(bytes, from.saturating_add(number)));
+        }
+        Runs::EachShelfCall(kept) if number < 10_000 => {
+            let call = number.saturating_add(1);
+            trial.shelf = Some(Failing { call, kept });
+        }
+        Runs::EachSinkLength if number <= report as u64 => {
+            let kept = number;
+            trial.sink = Some(Failing { call: 1, kept });
+        }
+        _ => return None,
+    }
+    Some(trial)
+}
+
+// A shelf with the row's files and rooms, and what this run has on it.
+fn shelf_for(alloc: Global, setting: Setting<'_>, trial: Trial<'_>) -> Result<MemShelf, Memory> {
+    let mut shelf = shelf_of(alloc, setting)?;
+    if let Some(bytes) = trial.cut {
+        shelf.add("cut", bytes)?;
+    }
+    if let Some(failing) = trial.shelf {
+        shelf.fail(failing.call, failing.kept)?;
+    }
+    Ok(shelf)
+}
+
+// Notes whether the run of this number isn't as it must be beside the whole one.
+fn expect_like(
+    notes: &mut Notes,
+    runs: Runs,
+    number: u64,
+    ran: &Ran,
+    whole: &Ran,
+    rooms: &[Room],
+) -> Result<(), Memory> {
+    let printed = ran.sink.bytes();
+    match runs {
+        Runs::EachShelfCall(_) => {
+            let right = ran.is_of_failed_shelf(whole, rooms);
+            notes.expect(right, "not broken off", printed)
+        }
+        Runs::EachSinkLength => {
+            let right = ran.is_of_failed_sink(whole, number as usize, rooms);
+            notes.expect(right, "not kept as the sink does", printed)
+        }
+        _ => {
+            let same = ran.status == whole.status && printed == whole.sink.bytes();
+            notes.expect(same, "two lengths differ", printed)
+        }
+    }
+}
+
+fn run_trial<R: Threads + Wait + Sync, C: Command>(
     rt: &R,
     alloc: Global,
     command: &C,
     setting: Setting<'_>,
     line: &str,
-    lengths: (u64, u64),
+    trial: Trial<'_>,
+) -> Result<Ran, Memory> {
+    let shelf = shelf_for(alloc, setting, trial)?;
+    run_over(rt, alloc, command, line, shelf, trial.sink)
+}
+
+// Runs a command line many times, and notes which run isn't as it must be. Gives the whole run, and how many others there were.
+//
+// - Over beginnings of a text, whose lengths lie between two numbers, all have the answer of the first one.
+// - Over a shelf that fails at each call in turn, until none does, the file in hand is a first part of its text, an earlier one is whole,
+//   and nothing is printed.
+// - Over a sink that keeps each number of bytes in turn, these are printed, and all is saved.
+pub(crate) fn run_many<R: Threads + Wait + Sync, C: Command>(
+    rt: &R,
+    alloc: Global,
+    command: &C,
+    setting: Setting<'_>,
+    line: &str,
+    runs: Runs,
     bytes: &[u8],
     notes: &mut Notes,
-) -> Result<Ran, Memory> {
-    let part = beginning(bytes, lengths.0);
-    let first = run_cut(rt, alloc, command, setting, line, part)?;
-    for length in lengths.0..=lengths.1 {
-        let part = beginning(bytes, length);
-        let ran = run_cut(rt, alloc, command, setting, line, part)?;
-        let same = ran.status == first.status && ran.sink.bytes() == first.sink.bytes();
-        notes.expect(same, "two lengths differ", ran.sink.bytes())?;
-    }
-    Ok(first)
-}
-
-// Runs a command line over a shelf that fails at each call in turn, until none does. The file in hand is a first part of
-// its text, an earlier one is whole, and nothing is printed. Gives a run that doesn't fail, and how many calls did.
-pub(crate) fn run_each_shelf_call<R: Threads + Wait + Sync, C: Command>(
-    rt: &R,
-    alloc: Global,
-    command: &C,
-    setting: Setting<'_>,
-    line: &str,
-    kept: u64,
-    notes: &mut Notes,
 ) -> Result<(Ran, u64), Memory> {
-    let whole = run_whole(rt, alloc, command, setting, line)?;
-    let mut failed = 0;
-    for call in 1..10_000_u64 {
-        let failing = Failing { call, kept };
-        let ran = run_failing_shelf(rt, alloc, command, setting, line, failing)?;
-        if ran.status == whole.status {
+    let whole = run_trial(rt, alloc, command, setting, line, whole_trial(runs, bytes))?;
+    let report = whole.sink.bytes().len();
+    let mut count = 0;
+    for number in 0..u64::MAX {
+        let Some(trial) = trial_at(runs, number, bytes, report) else {
+            break;
+        };
+        let ran = run_trial(rt, alloc, command, setting, line, trial)?;
+        if trial.shelf.is_some() && ran.status == whole.status {
             break;
         }
-        failed = call;
-        let right = ran.is_of_failed_shelf(&whole, setting.rooms);
-        notes.expect(right, "not broken off", ran.sink.bytes())?;
+        expect_like(notes, runs, number, &ran, &whole, setting.rooms)?;
+        count = number.saturating_add(1);
     }
-    Ok((whole, failed))
-}
-
-// Runs a command line over a sink that keeps each number of bytes in turn. These are printed, and all is saved. Gives a
-// run that doesn't fail.
-pub(crate) fn run_each_sink_length<R: Threads + Wait + Sync, C: Command>(
-    rt: &R,
-    alloc: Global,
-    command: &C,
-    setting: Setting<'_>,
-    line: &str,
-    notes: &mut Notes,
-) -> Result<Ran, Memory> {
-    let whole = run_whole(rt, alloc, command, setting, line)?;
-    for kept in 0..=whole.sink.bytes().len() {
-        let failing = Failing {
-            call: 1,
-            kept: kept as u64,
-        };
-        let ran = run_failing_sink(rt, alloc, command, setting, line, failing)?;
-        let right = ran.is_of_failed_sink(&whole, kept, setting.rooms);
-        notes.expect(right, "not kept as the sink does", ran.sink.bytes())?;
-    }
-    Ok(whole)
+    Ok((whole, count))
 }
