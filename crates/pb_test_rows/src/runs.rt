@@ -18,10 +18,7 @@ struct Trial<'a> {
 
 // The first so many bytes, or all.
 fn beginning(bytes: &[u8], length: u64) -> &[u8] {
-    match usize::try_from(length) {
-        Ok(length) => bytes.get(..length).unwrap_or(bytes),
-        Err(_) => bytes,
-    }
+    bytes.get(..length as usize).unwrap_or(bytes)
 }
 
 // The run that the others are compared with: over the shortest beginning, or over a shelf and a sink that don't fail.
