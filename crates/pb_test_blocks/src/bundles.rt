@@ -12,20 +12,43 @@ fn state(number: u8) -> Packed {
     Packed::zero().with_bits(0, 8, u64::from(number))
 }
 
+// Offers the start of a search, at a block that is at home. The helpers here have no clauses, so a test's proof stays short.
+fn offer(homes: &mut Homes, block: u32, number: u8, estimate: Estimate) -> Result<(), AllocError> {
+    if homes.is_home(block) {
+        homes.offer_start(block, state(number), estimate)?;
+    }
+    Ok(())
+}
+
+// The best of those blocks whose bits are 1.
+fn choice(homes: &Homes, blocks: u32) -> Option<u32> {
+    homes.first_choice(|block| (blocks >> (block % 32)) & 1 == 1)
+}
+
+fn rival(homes: &Homes, block: u32, near: &[u32]) -> Option<u32> {
+    homes.rival(block, near)
+}
+
 #[test]
 fn the_best_block_is_chosen(rt: HostRuntime) -> Result<(), Fail> {
     let mut homes = Homes::new(rt.alloc(), 5, 3, 2)?;
-    assert!(rt; !homes.is_any_opened() && homes.first_choice(|_| true) == None);
-    homes.offer_start(1, state(1), Estimate::Dead)?;
-    homes.offer_start(2, state(2), Estimate::Cost(4))?;
-    homes.offer_start(3, state(3), Estimate::Cost(4))?;
-    homes.offer_start(4, state(4), Estimate::Cost(5))?;
+    assert!(rt; !homes.is_any_opened() && choice(&homes, 0b11111) == None);
+    offer(&mut homes, 1, 1, Estimate::Dead)?;
+    offer(&mut homes, 2, 2, Estimate::Cost(4))?;
+    offer(&mut homes, 3, 3, Estimate::Cost(4))?;
+    offer(&mut homes, 4, 4, Estimate::Cost(5))?;
     assert!(rt; homes.key(2) == Some(Key::Sum { sum: 12, h: 4 }) && homes.key(0) == None);
-    assert!(rt; homes.is_any_opened() && homes.first_choice(|_| true) == Some(2));
-    assert!(rt; homes.first_choice(|block| block != 2) == Some(3));
-    assert!(rt; homes.first_choice(|block| block < 2) == Some(1));
-    assert!(rt; homes.first_choice(|block| block == 0) == None);
-    assert!(rt; homes.rival(4, &[0, 1, 3, 2]) == Some(2) && homes.rival(2, &[3, 4]) == None);
+    assert!(rt; homes.is_any_opened());
+    for (blocks, wanted) in [
+        (0b11111, Some(2)),
+        (0b11011, Some(3)),
+        (0b00011, Some(1)),
+        (0b00001, None),
+    ] {
+        assert!(rt; choice(&homes, blocks) == wanted);
+    }
+    assert!(rt; rival(&homes, 4, &[0, 1, 3, 2]) == Some(2));
+    assert!(rt; rival(&homes, 2, &[3, 4]) == None);
     Ok(())
 }
 

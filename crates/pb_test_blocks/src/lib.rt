@@ -6,4 +6,4 @@ mod atoms;
 #[cfg(test)]
 mod bundles;
 #[cfg(test)]
-mod squares;
+mod graphs;
