@@ -51,6 +51,19 @@ pub(crate) fn lifted_of(
     }
 }
 
+fn add_lifted(lines: &mut Lines, lifted: &Lifted) -> Result<(), Memory> {
+    lines.first("types")?;
+    lines.numbers(lifted.types.as_slice())?;
+    lines.end()?;
+    lines.first("objects")?;
+    lines.numbers(lifted.objects.as_slice())?;
+    lines.end()?;
+    for schema in lifted.actions.as_slice() {
+        add_schema(lines, schema)?;
+    }
+    Ok(())
+}
+
 pub(crate) fn lifted_lines(
     alloc: Global,
     domain: &[u8],
@@ -60,14 +73,6 @@ pub(crate) fn lifted_lines(
         return Ok(None);
     };
     let mut lines = Lines::new(alloc);
-    lines.first("types")?;
-    lines.numbers(lifted.types.as_slice())?;
-    lines.end()?;
-    lines.first("objects")?;
-    lines.numbers(lifted.objects.as_slice())?;
-    lines.end()?;
-    for schema in lifted.actions.as_slice() {
-        add_schema(&mut lines, schema)?;
-    }
+    add_lifted(&mut lines, &lifted)?;
     Ok(Some(lines))
 }

@@ -26,6 +26,18 @@ fn atom_count(task: &Task) -> u32 {
     }
 }
 
+fn add_task(alloc: Global, lines: &mut Lines, task: &Task) -> Result<(), Memory> {
+    lines.first("atoms")?;
+    lines.marked("", atom_count(task) as usize)?;
+    lines.end()?;
+    for action in 0..task.actions() {
+        let name = task.action_text(alloc, action)?;
+        lines.first(name.as_str())?;
+        lines.end()?;
+    }
+    Ok(())
+}
+
 // How many atoms there are, and the names of the actions in the order of their numbers.
 pub(crate) fn task_lines(
     alloc: Global,
@@ -36,14 +48,7 @@ pub(crate) fn task_lines(
         return Ok(None);
     };
     let mut lines = Lines::new(alloc);
-    lines.first("atoms")?;
-    lines.marked("", atom_count(&task) as usize)?;
-    lines.end()?;
-    for action in 0..task.actions() {
-        let name = task.action_text(alloc, action)?;
-        lines.first(name.as_str())?;
-        lines.end()?;
-    }
+    add_task(alloc, &mut lines, &task)?;
     Ok(Some(lines))
 }
 

@@ -2,6 +2,7 @@
 use crate::lines::Lines;
 use crate::trees::{domain_of, problem_of};
 use pb_outside::Memory;
+use pb_pddl::{Domain, Problem};
 use pb_syntax::{Action, Atom, Cost, Literal, Name, Term, Typed};
 use std::alloc::Global;
 
@@ -78,29 +79,51 @@ fn add_action(lines: &mut Lines, action: &Action) -> Result<(), Memory> {
     add_costs(lines, "increase", action.costs.as_slice())
 }
 
-pub(crate) fn domain_line(alloc: Global, text: &[u8]) -> Result<Option<Lines>, Memory> {
-    let Some(domain) = domain_of(alloc, text)? else {
-        return Ok(None);
-    };
-    let mut lines = Lines::new(alloc);
-    add_name(&mut lines, &domain.name)?;
+fn add_domain(lines: &mut Lines, domain: &Domain) -> Result<(), Memory> {
+    add_name(lines, &domain.name)?;
     lines.word("types")?;
-    add_all_typed(&mut lines, domain.types.as_slice())?;
+    add_all_typed(lines, domain.types.as_slice())?;
     lines.word("constants")?;
-    add_all_typed(&mut lines, domain.constants.as_slice())?;
+    add_all_typed(lines, domain.constants.as_slice())?;
     for predicate in domain.predicates.as_slice() {
         lines.word("predicate")?;
-        add_name(&mut lines, &predicate.name)?;
-        add_all_typed(&mut lines, predicate.params.as_slice())?;
+        add_name(lines, &predicate.name)?;
+        add_all_typed(lines, predicate.params.as_slice())?;
     }
     if domain.has_cost {
         lines.word("functions total-cost")?;
     }
     for action in domain.actions.as_slice() {
-        add_action(&mut lines, action)?;
+        add_action(lines, action)?;
     }
-    lines.end()?;
+    lines.end()
+}
+
+pub(crate) fn domain_line(alloc: Global, text: &[u8]) -> Result<Option<Lines>, Memory> {
+    let Some(domain) = domain_of(alloc, text)? else {
+        return Ok(None);
+    };
+    let mut lines = Lines::new(alloc);
+    add_domain(&mut lines, &domain)?;
     Ok(Some(lines))
+}
+
+fn add_problem(lines: &mut Lines, problem: &Problem) -> Result<(), Memory> {
+    add_name(lines, &problem.name)?;
+    lines.word("of")?;
+    add_name(lines, &problem.domain)?;
+    lines.word("objects")?;
+    add_all_typed(lines, problem.objects.as_slice())?;
+    lines.word("init")?;
+    add_atoms(lines, problem.init.as_slice())?;
+    add_costs(lines, "=", problem.costs.as_slice())?;
+    lines.word("goal")?;
+    add_atoms(lines, problem.goal.as_slice())?;
+    if let Some(at) = problem.metric {
+        lines.word("metric")?;
+        lines.name(b"total-cost", at)?;
+    }
+    lines.end()
 }
 
 pub(crate) fn problem_line(alloc: Global, text: &[u8]) -> Result<Option<Lines>, Memory> {
@@ -108,21 +131,7 @@ pub(crate) fn problem_line(alloc: Global, text: &[u8]) -> Result<Option<Lines>, 
         return Ok(None);
     };
     let mut lines = Lines::new(alloc);
-    add_name(&mut lines, &problem.name)?;
-    lines.word("of")?;
-    add_name(&mut lines, &problem.domain)?;
-    lines.word("objects")?;
-    add_all_typed(&mut lines, problem.objects.as_slice())?;
-    lines.word("init")?;
-    add_atoms(&mut lines, problem.init.as_slice())?;
-    add_costs(&mut lines, "=", problem.costs.as_slice())?;
-    lines.word("goal")?;
-    add_atoms(&mut lines, problem.goal.as_slice())?;
-    if let Some(at) = problem.metric {
-        lines.word("metric")?;
-        lines.name(b"total-cost", at)?;
-    }
-    lines.end()?;
+    add_problem(&mut lines, &problem)?;
     Ok(Some(lines))
 }
 
