@@ -1,12 +1,9 @@
 -- One more line of steps.
-use Rattle.std.proofs.Common.{◌≡◌, ℕ, ◌+◌, ◌<◌, List, [], ◌∷◌, ◌++◌, length, map, take, get_or, suc, refl, sym, ap, ◌∙◌, arith, append_assoc}
-use Rattle.std.proofs.lemmas.List.{map-append, append-nil}
+use Rattle.std.proofs.Common.{◌≡◌, ℕ, ◌+◌, ◌<◌, List, [], ◌∷◌, ◌++◌, length, map, take, get_or, suc, sym, ap, ◌∙◌, arith, append_assoc}
+use Rattle.std.proofs.lemmas.List.{map-append}
 use Rattle.std.proofs.Math.Seq.{take-suc}
 use Rattle.pb_model.specs.Texts.{line, lines}
-
-lines_append : (xs ys : List (List ℕ)) → lines (xs ++ ys) ≡ lines xs ++ lines ys
-lines_append [] ys = refl
-lines_append (x ∷ xs) ys = ap (λ rest. line x ++ rest) (lines_append xs ys) ∙ sym (append_assoc (line x) (lines xs) (lines ys))
+use Rattle.pb_print.proofs.Lines.{lines-last}
 
 -- the lines of the first names and one more
 pub one_more : (name : ℕ → List ℕ) (actions : List ℕ) (at : ℕ) → at < length actions
@@ -15,8 +12,7 @@ one_more name actions at below =
     let next : suc at ≡ at + 1 = omega arith in
     let listed : map name (take (at + 1) actions) ≡ map name (take at actions) ++ name (get_or actions at 0) ∷ [] =
     ap (λ k. map name (take k actions)) (sym next) ∙ ap (map name) (take-suc actions at 0 below) ∙ map-append name (take at actions) (get_or actions at 0 ∷ []) in
-    sym (ap lines listed ∙ lines_append (map name (take at actions)) (name (get_or actions at 0) ∷ [])
-    ∙ ap (λ rest. lines (map name (take at actions)) ++ rest) (append-nil (line (name (get_or actions at 0)))))
+    sym (ap lines listed ∙ lines-last (map name (take at actions)) (name (get_or actions at 0)))
 
 pub pushed : (old more after now lines_before lines_after : List ℕ)
     → now ≡ old ++ lines_before → after ≡ now ++ more → lines_before ++ more ≡ lines_after → after ≡ old ++ lines_after
