@@ -74,7 +74,7 @@ impl<'a> Answer<'a> {
 }
 
 // The answer to words that are no command line.
-fn faulty<'a>(alloc: Global, message: &Message) -> Result<Answer<'a>, AllocError>
+fn refuse_words<'a>(alloc: Global, message: &Message) -> Result<Answer<'a>, AllocError>
     ensures { IfOk result (λ a. said_of a ≡ record { status = 64; report = message.now; outputs = [] }) }
 {
     let report = Report::of_text(alloc, message.as_bytes())?;
@@ -82,7 +82,7 @@ fn faulty<'a>(alloc: Global, message: &Message) -> Result<Answer<'a>, AllocError
 }
 
 // The answer to input that is refused.
-fn refused<'a>(report: Report) -> Answer<'a>
+fn refuse_input<'a>(report: Report) -> Answer<'a>
     ensures { IsRefused report (said_of result) }
 {
     Answer::without_files(Status::InputRefused, report)
@@ -102,7 +102,7 @@ fn answer_solve<'a, R: Threads + Wait + Sync, G: Gate>(
 {
     match input_task(alloc, &solve.input, solve.row, solve.swamp, texts, 0) {
         Ok(task) => solve_task(rt, alloc, task, solve, gate, kept),
-        Err(NoTask::Refused(report)) => Ok(refused(report)),
+        Err(NoTask::Refused(report)) => Ok(refuse_input(report)),
         Err(NoTask::Memory) => Err(AllocError),
     }
 }
@@ -116,11 +116,11 @@ fn answer_check<'a>(
     ensures { IfOk result (λ a. OrRefused (check_task (check_meant check.entry) texts.now) (λ task. IsChecked task.0 task.1) (said_of a)) }
 {
     let Some(certificate) = texts.get(0) else {
-        return Ok(refused(Report::line(alloc, b"input TooLong")?));
+        return Ok(refuse_input(Report::of_line(alloc, b"input TooLong")?));
     };
     match input_task(alloc, &check.input, check.row, check.swamp, texts, 1) {
         Ok(task) => judge(alloc, &task, certificate),
-        Err(NoTask::Refused(report)) => Ok(refused(report)),
+        Err(NoTask::Refused(report)) => Ok(refuse_input(report)),
         Err(NoTask::Memory) => Err(AllocError),
     }
 }
@@ -135,11 +135,11 @@ fn answer_journal<'a>(
         (λ task. IsJudged task.0 task.1) (said_of a)) }
 {
     let Some(text) = texts.get(0) else {
-        return Ok(refused(Report::line(alloc, b"input TooLong")?));
+        return Ok(refuse_input(Report::of_line(alloc, b"input TooLong")?));
     };
     match input_task(alloc, &journal.input, journal.row, false, texts, 1) {
         Ok(task) => judge_journal(alloc, &task, text),
-        Err(NoTask::Refused(report)) => Ok(refused(report)),
+        Err(NoTask::Refused(report)) => Ok(refuse_input(report)),
         Err(NoTask::Memory) => Err(AllocError),
     }
 }
@@ -165,7 +165,7 @@ pub fn answer_words<'a, R: Threads + Wait + Sync, G: Gate>(
         Ok(CommandLine::Check(check)) => answer_check(alloc, check, texts),
         Ok(CommandLine::Journal(journal)) => answer_journal(alloc, journal, texts),
         Ok(CommandLine::Make(make)) => make_task(rt, alloc, make, gate),
-        Err(CommandRefusal::Words(_, message)) => faulty(alloc, &message),
+        Err(CommandRefusal::Words(_, message)) => refuse_words(alloc, &message),
         Err(CommandRefusal::Memory) => Err(AllocError),
     }
 }

@@ -18,11 +18,11 @@ pub fn judge<'a>(alloc: Global, task: &Task, certificate: &[u8]) -> Result<Answe
     match check(alloc, task, &mut estimator, certificate) {
         Ok(verdict) => Ok(Answer::without_files(
             Status::Success,
-            Report::accepted(alloc, &verdict)?,
+            Report::of_verdict(alloc, &verdict)?,
         )),
         Err(CheckError::Fault(fault)) => Ok(Answer::without_files(
             Status::Rejected,
-            Report::refused(alloc, &fault)?,
+            Report::of_certificate_fault(alloc, &fault)?,
         )),
         Err(CheckError::Memory) => Err(AllocError),
     }

@@ -41,20 +41,20 @@ impl From<AllocError> for NoTask {
 }
 
 // The refusal where a file was too long.
-fn too_long(alloc: Global) -> NoTask
+fn refuse_long_text(alloc: Global) -> NoTask
     ensures { IsRefusal result (Err too_long) }
 {
-    match Report::line(alloc, b"input TooLong") {
+    match Report::of_line(alloc, b"input TooLong") {
         Ok(report) => NoTask::Refused(report),
         Err(_) => NoTask::Memory,
     }
 }
 
 // The refusal of a map and a scenario.
-fn refused(alloc: Global, error: GridError) -> NoTask
+fn refuse_grid(alloc: Global, error: GridError) -> NoTask
     ensures { IsRefusal result (grid_told (Err error)) }
 {
-    match Report::input(alloc, &error) {
+    match Report::of_grid_error(alloc, &error) {
         Ok(report) => NoTask::Refused(report),
         Err(_) => NoTask::Memory,
     }
@@ -74,17 +74,17 @@ fn grid(
         (Some(map), Some(scenario)) => match read_grid(alloc, map, scenario, row, swamp) {
             Ok(task) => Ok(task),
             Err(GridError::Memory) => Err(NoTask::Memory),
-            Err(error) => Err(refused(alloc, error)),
+            Err(error) => Err(refuse_grid(alloc, error)),
         },
-        _ => Err(too_long(alloc)),
+        _ => Err(refuse_long_text(alloc)),
     }
 }
 
 // The refusal of a board.
-fn refused_tiles(alloc: Global, error: TilesError) -> NoTask
+fn refuse_tiles(alloc: Global, error: TilesError) -> NoTask
     ensures { IsRefusal result (tiles_told (Err error)) }
 {
-    match Report::tiles_input(alloc, &error) {
+    match Report::of_tiles_error(alloc, &error) {
         Ok(report) => NoTask::Refused(report),
         Err(_) => NoTask::Memory,
     }
@@ -98,27 +98,27 @@ fn tiles(alloc: Global, text: Option<&[u8]>) -> Result<Task, NoTask>
         Some(text) => match read_tiles(alloc, text) {
             Ok(task) => Ok(task),
             Err(TilesError::Memory) => Err(NoTask::Memory),
-            Err(error) => Err(refused_tiles(alloc, error)),
+            Err(error) => Err(refuse_tiles(alloc, error)),
         },
-        None => Err(too_long(alloc)),
+        None => Err(refuse_long_text(alloc)),
     }
 }
 
 // The refusal of the text of a domain or a problem.
-fn refused_text(alloc: Global, file: File, error: SyntaxError) -> NoTask
+fn refuse_text(alloc: Global, file: File, error: SyntaxError) -> NoTask
     ensures { IsRefusal result (refused_with (syntax_text (file_number file) error)) }
 {
-    match Report::syntax(alloc, file, &error) {
+    match Report::of_syntax_error(alloc, file, &error) {
         Ok(report) => NoTask::Refused(report),
         Err(_) => NoTask::Memory,
     }
 }
 
 // The refusal of a domain and a problem that are no task.
-fn refused_strips(alloc: Global, error: StripsError) -> NoTask
+fn refuse_strips(alloc: Global, error: StripsError) -> NoTask
     ensures { IsRefusal result (refused_with (strips_text error)) }
 {
-    match Report::strips_input(alloc, &error) {
+    match Report::of_strips_error(alloc, &error) {
         Ok(report) => NoTask::Refused(report),
         Err(_) => NoTask::Memory,
     }
@@ -134,10 +134,10 @@ fn strips_of(alloc: Global, domain: &Domain, text: &[u8]) -> Result<Task, NoTask
         Ok(problem) => match ground(alloc, domain, &problem) {
             Ok(task) => Ok(task),
             Err(StripsError::Memory) => Err(NoTask::Memory),
-            Err(error) => Err(refused_strips(alloc, error)),
+            Err(error) => Err(refuse_strips(alloc, error)),
         },
         Err(SyntaxError::Memory) => Err(NoTask::Memory),
-        Err(error) => Err(refused_text(alloc, File::Problem, error)),
+        Err(error) => Err(refuse_text(alloc, File::Problem, error)),
     }
 }
 
@@ -149,7 +149,7 @@ fn read_strips(alloc: Global, domain: &[u8], problem: &[u8]) -> Result<Task, NoT
     match read_domain(alloc, domain) {
         Ok(domain) => strips_of(alloc, &domain, problem),
         Err(SyntaxError::Memory) => Err(NoTask::Memory),
-        Err(error) => Err(refused_text(alloc, File::Domain, error)),
+        Err(error) => Err(refuse_text(alloc, File::Domain, error)),
     }
 }
 
@@ -160,7 +160,7 @@ fn strips(alloc: Global, domain: Option<&[u8]>, problem: Option<&[u8]>) -> Resul
 {
     match (domain, problem) {
         (Some(domain), Some(problem)) => read_strips(alloc, domain, problem),
-        _ => Err(too_long(alloc)),
+        _ => Err(refuse_long_text(alloc)),
     }
 }
 

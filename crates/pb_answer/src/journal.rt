@@ -17,10 +17,13 @@ pub fn judge_journal<'a>(alloc: Global, task: &Task, text: &[u8]) -> Result<Answ
     ensures { IfOk result (λ a. IsJudged task.now text.now (said_of a)) }
 {
     match count_events(alloc, task, text) {
-        Ok(events) => Ok(Answer::without_files(Status::Success, Report::journal(alloc, events)?)),
+        Ok(events) => Ok(Answer::without_files(
+            Status::Success,
+            Report::of_journal(alloc, events)?,
+        )),
         Err(JournalError::At { line, why }) => Ok(Answer::without_files(
             Status::Rejected,
-            Report::journal_fault(alloc, line, why)?,
+            Report::of_journal_fault(alloc, line, why)?,
         )),
         Err(JournalError::Memory) => Err(AllocError),
     }

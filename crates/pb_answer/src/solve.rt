@@ -82,7 +82,7 @@ fn report_stop<'a>(
     let journal = save_journal(&solve, graph);
     Ok(Answer {
         status: Status::Stopped,
-        report: Report::stopped(alloc, solve.budget)?,
+        report: Report::of_stop(alloc, solve.budget)?,
         certificate: None,
         journal,
     })
@@ -123,7 +123,7 @@ fn report_plan<'a>(
     let _lawful = task.max_degree();
     let plan = trace(alloc, task, graph)?;
     let bound = bound_of(solve.num, solve.den, plan.cost());
-    let report = Report::plan(alloc, task, &plan, bound)?;
+    let report = Report::of_plan(alloc, task, &plan, bound)?;
     let certificate = certify(alloc, task, &solve, Some(plan), graph)?;
     let journal = save_journal(&solve, graph);
     Ok(Answer {
@@ -146,7 +146,7 @@ fn report_none<'a>(
     requires none { graph.now.incumbent ≡ None }
     ensures { IfOk result (λ a. IsUnsolvable (solve_meant solve.entry) task.now (said_of a)) }
 {
-    let report = Report::none(alloc)?;
+    let report = Report::of_no_plan(alloc)?;
     let certificate = certify(alloc, task, &solve, None, graph)?;
     let journal = save_journal(&solve, graph);
     Ok(Answer {

@@ -39,7 +39,7 @@ impl Model for Report {
 
 impl Report {
     /// One line: the text and a line feed.
-    pub fn line(alloc: Global, text: &[u8]) -> Result<Report, AllocError>
+    pub fn of_line(alloc: Global, text: &[u8]) -> Result<Report, AllocError>
         ensures { IfOk result (λ report. report ≡ line text.now) }
     {
         let mut bytes = Vec::new(alloc);
@@ -57,22 +57,27 @@ impl Report {
     }
 
     /// That no plan exists.
-    pub fn none(alloc: Global) -> Result<Report, AllocError>
+    pub fn of_no_plan(alloc: Global) -> Result<Report, AllocError>
         ensures { IfOk result (λ report. report ≡ none_report) }
     {
-        Report::line(alloc, b"none")
+        Report::of_line(alloc, b"none")
     }
 
     /// That so many expansions were allowed, and all of them were done.
-    pub fn stopped(alloc: Global, budget: u64) -> Result<Report, AllocError>
+    pub fn of_stop(alloc: Global, budget: u64) -> Result<Report, AllocError>
         ensures { IfOk result (λ report. report ≡ stopped_report budget) }
     {
-        Report::numbered(alloc, b"stopped budget ", budget)
+        Report::with_number(alloc, b"stopped budget ", budget)
     }
 
     /// A plan of the task with its cost, and the bound, which no plan costs less than. Both are in
     /// the unit of the action costs.
-    pub fn plan(alloc: Global, task: &Task, plan: &Plan, bound: u64) -> Result<Report, AllocError>
+    pub fn of_plan(
+        alloc: Global,
+        task: &Task,
+        plan: &Plan,
+        bound: u64,
+    ) -> Result<Report, AllocError>
         requires { AreActions (space_of task.now) plan.now.actions }
         ensures report { IfOk result (λ report. report ≡ plan_text task.now plan.now bound) }
         ensures fits { plan.now.cost < 2 ^ 64 }
@@ -81,68 +86,75 @@ impl Report {
     }
 
     /// That a certificate is accepted, and what it shows.
-    pub fn accepted(alloc: Global, verdict: &Verdict) -> Result<Report, AllocError>
+    pub fn of_verdict(alloc: Global, verdict: &Verdict) -> Result<Report, AllocError>
         ensures { IfOk result (λ report. report ≡ verdict_text verdict.now) }
     {
         match *verdict {
             Verdict::Bounded { cost, bound } => {
-                Report::paired(alloc, b"accepted cost ", cost, b" bound ", bound)
+                Report::with_numbers(alloc, b"accepted cost ", cost, b" bound ", bound)
             }
-            Verdict::Unsolvable => Report::line(alloc, b"accepted none"),
+            Verdict::Unsolvable => Report::of_line(alloc, b"accepted none"),
         }
     }
 
     /// That a certificate is refused, and why: the fault's name, and its numbers in the order of its fields.
-    pub fn refused(alloc: Global, fault: &CertificateFault) -> Result<Report, AllocError>
+    pub fn of_certificate_fault(
+        alloc: Global,
+        fault: &CertificateFault,
+    ) -> Result<Report, AllocError>
         ensures { IfOk result (λ report. report ≡ fault_text fault.now) }
     {
         match *fault {
-            CertificateFault::Syntax { line } => Report::numbered(alloc, b"refused Syntax ", line),
-            CertificateFault::Kind => Report::line(alloc, b"refused Kind"),
-            CertificateFault::Weight => Report::line(alloc, b"refused Weight"),
-            CertificateFault::PlanStep { i } => Report::numbered(alloc, b"refused PlanStep ", i),
-            CertificateFault::NotGoal => Report::line(alloc, b"refused NotGoal"),
-            CertificateFault::Cost { said, real } => Report::wide(
+            CertificateFault::Syntax { line } => Report::with_number(
+                alloc,
+                b"refused Syntax ",
+                line,
+            ),
+            CertificateFault::Kind => Report::of_line(alloc, b"refused Kind"),
+            CertificateFault::Weight => Report::of_line(alloc, b"refused Weight"),
+            CertificateFault::PlanStep { i } => Report::with_number(alloc, b"refused PlanStep ", i),
+            CertificateFault::NotGoal => Report::of_line(alloc, b"refused NotGoal"),
+            CertificateFault::Cost { said, real } => Report::with_wide(
                 alloc,
                 b"refused Cost ",
                 said,
                 real,
             ),
-            CertificateFault::RowOrder { line } => Report::numbered(
+            CertificateFault::RowOrder { line } => Report::with_number(
                 alloc,
                 b"refused RowOrder ",
                 line,
             ),
-            CertificateFault::BadState { line } => Report::numbered(
+            CertificateFault::BadState { line } => Report::with_number(
                 alloc,
                 b"refused BadState ",
                 line,
             ),
-            CertificateFault::NoStart => Report::line(alloc, b"refused NoStart"),
-            CertificateFault::GoalClosed { line } => Report::numbered(
+            CertificateFault::NoStart => Report::of_line(alloc, b"refused NoStart"),
+            CertificateFault::GoalClosed { line } => Report::with_number(
                 alloc,
                 b"refused GoalClosed ",
                 line,
             ),
             CertificateFault::Missing { line, action } => {
-                Report::paired(alloc, b"refused Missing ", line, b" ", u64::from(action))
+                Report::with_numbers(alloc, b"refused Missing ", line, b" ", u64::from(action))
             }
             CertificateFault::TooDear { line, action } => {
-                Report::paired(alloc, b"refused TooDear ", line, b" ", u64::from(action))
+                Report::with_numbers(alloc, b"refused TooDear ", line, b" ", u64::from(action))
             }
-            CertificateFault::Low { line } => Report::numbered(alloc, b"refused Low ", line),
+            CertificateFault::Low { line } => Report::with_number(alloc, b"refused Low ", line),
         }
     }
 
     /// That a journal is accepted, and how many events it has.
-    pub fn journal(alloc: Global, events: u64) -> Result<Report, AllocError>
+    pub fn of_journal(alloc: Global, events: u64) -> Result<Report, AllocError>
         ensures { IfOk result (λ report. report ≡ journal_report events) }
     {
-        Report::numbered(alloc, b"journal ", events)
+        Report::with_number(alloc, b"journal ", events)
     }
 
     /// That a journal is refused: why, and the number of the first line that is refused.
-    pub fn journal_fault(alloc: Global, line: u64, why: Why) -> Result<Report, AllocError>
+    pub fn of_journal_fault(alloc: Global, line: u64, why: Why) -> Result<Report, AllocError>
         ensures { IfOk result (λ report. report ≡ journal_fault_text line why) }
     {
         let mut bytes = Vec::new(alloc);
@@ -154,81 +166,91 @@ impl Report {
 
     /// That the texts of a map and a scenario are refused, and why: the error's name, and its numbers in the order of its fields.
     /// Where the error is itself want of memory, so is the answer.
-    pub fn input(alloc: Global, error: &GridError) -> Result<Report, AllocError>
+    pub fn of_grid_error(alloc: Global, error: &GridError) -> Result<Report, AllocError>
         ensures { IfOk result (λ report. input_text error.now ≡ Some report) }
     {
         match *error {
-            GridError::Header { line } => Report::numbered(alloc, b"input Header ", line),
-            GridError::Size => Report::line(alloc, b"input Size"),
-            GridError::Rows { line } => Report::numbered(alloc, b"input Rows ", line),
+            GridError::Header { line } => Report::with_number(alloc, b"input Header ", line),
+            GridError::Size => Report::of_line(alloc, b"input Size"),
+            GridError::Rows { line } => Report::with_number(alloc, b"input Rows ", line),
             GridError::Cell { line, col } => {
-                Report::paired(alloc, b"input Cell ", line, b" ", col)
+                Report::with_numbers(alloc, b"input Cell ", line, b" ", col)
             }
-            GridError::Scenario { line } => Report::numbered(alloc, b"input Scenario ", line),
+            GridError::Scenario { line } => Report::with_number(alloc, b"input Scenario ", line),
             GridError::NoRow { row, rows } => {
-                Report::paired(alloc, b"input NoRow ", row, b" ", rows)
+                Report::with_numbers(alloc, b"input NoRow ", row, b" ", rows)
             }
-            GridError::ScenarioSize => Report::line(alloc, b"input ScenarioSize"),
-            GridError::Outside => Report::line(alloc, b"input Outside"),
-            GridError::StartBlocked => Report::line(alloc, b"input StartBlocked"),
-            GridError::GoalBlocked => Report::line(alloc, b"input GoalBlocked"),
+            GridError::ScenarioSize => Report::of_line(alloc, b"input ScenarioSize"),
+            GridError::Outside => Report::of_line(alloc, b"input Outside"),
+            GridError::StartBlocked => Report::of_line(alloc, b"input StartBlocked"),
+            GridError::GoalBlocked => Report::of_line(alloc, b"input GoalBlocked"),
             GridError::Memory => Err(AllocError),
         }
     }
 
     /// That the text of sliding tiles is refused, and why: the error's name, and its numbers in the order of its fields. Where the
     /// error is itself want of memory, so is the answer.
-    pub fn tiles_input(alloc: Global, error: &TilesError) -> Result<Report, AllocError>
+    pub fn of_tiles_error(alloc: Global, error: &TilesError) -> Result<Report, AllocError>
         ensures { IfOk result (λ report. tiles_text error.now ≡ Some report) }
     {
         match *error {
-            TilesError::Syntax { line } => Report::numbered(alloc, b"input Syntax ", line),
-            TilesError::Size => Report::line(alloc, b"input Size"),
+            TilesError::Syntax { line } => Report::with_number(alloc, b"input Syntax ", line),
+            TilesError::Size => Report::of_line(alloc, b"input Size"),
             TilesError::Count { seen, wanted } => {
-                Report::paired(alloc, b"input Count ", seen, b" ", wanted)
+                Report::with_numbers(alloc, b"input Count ", seen, b" ", wanted)
             }
-            TilesError::Number { at } => Report::numbered(alloc, b"input Number ", at),
-            TilesError::Twice { number } => Report::numbered(alloc, b"input Twice ", number),
+            TilesError::Number { at } => Report::with_number(alloc, b"input Number ", at),
+            TilesError::Twice { number } => Report::with_number(alloc, b"input Twice ", number),
             TilesError::Memory => Err(AllocError),
         }
     }
 
     /// That the text of a domain or of a problem is refused, and why: the error's name, the number of the file (1 for the domain, 2 for the problem),
     /// the place in it, and the word for what must stand there or is left out. Where the error is itself want of memory, so is the answer.
-    pub fn syntax(alloc: Global, file: File, error: &SyntaxError) -> Result<Report, AllocError>
+    pub fn of_syntax_error(
+        alloc: Global,
+        file: File,
+        error: &SyntaxError,
+    ) -> Result<Report, AllocError>
         ensures { IfOk result (λ report. syntax_text (file_number file) error.now ≡ Some report) }
     {
         let file = file_number(file);
         match *error {
-            SyntaxError::Byte { at } => Report::paired(alloc, b"input Byte ", file, b" ", at),
-            SyntaxError::Deep { at } => Report::paired(alloc, b"input Deep ", file, b" ", at),
+            SyntaxError::Byte { at } => Report::with_numbers(alloc, b"input Byte ", file, b" ", at),
+            SyntaxError::Deep { at } => Report::with_numbers(alloc, b"input Deep ", file, b" ", at),
             SyntaxError::LeftOut { at, what } => {
                 let word = left_out_word(what);
-                Report::worded(alloc, b"input LeftOut ", file, at, word)
+                Report::with_numbers_and_word(alloc, b"input LeftOut ", file, at, word)
             }
             SyntaxError::Expected { at, want } => {
                 let word = want_word(want);
-                Report::worded(alloc, b"input Expected ", file, at, word)
+                Report::with_numbers_and_word(alloc, b"input Expected ", file, at, word)
             }
             SyntaxError::Unclosed { at } => {
-                Report::paired(alloc, b"input Unclosed ", file, b" ", at)
+                Report::with_numbers(alloc, b"input Unclosed ", file, b" ", at)
             }
-            SyntaxError::Extra { at } => Report::paired(alloc, b"input Extra ", file, b" ", at),
+            SyntaxError::Extra { at } => Report::with_numbers(
+                alloc,
+                b"input Extra ",
+                file,
+                b" ",
+                at,
+            ),
             SyntaxError::Memory => Err(AllocError),
         }
     }
 
     /// That a domain and a problem are no task, and why: a cause with the number of the file and the place of the name in it, or what there is too
     /// much of. Where the error is itself want of memory, so is the answer.
-    pub fn strips_input(alloc: Global, error: &StripsError) -> Result<Report, AllocError>
+    pub fn of_strips_error(alloc: Global, error: &StripsError) -> Result<Report, AllocError>
         ensures { IfOk result (λ report. strips_text error.now ≡ Some report) }
     {
         match *error {
-            StripsError::Refused(refusal) => Report::refusal(alloc, refusal),
+            StripsError::Refused(refusal) => Report::of_typing_refusal(alloc, refusal),
             StripsError::TooManyAtoms { n } => {
-                Report::numbered(alloc, b"input TooManyAtoms ", n)
+                Report::with_number(alloc, b"input TooManyAtoms ", n)
             }
-            StripsError::TooManyActions => Report::line(alloc, b"input TooManyActions"),
+            StripsError::TooManyActions => Report::of_line(alloc, b"input TooManyActions"),
             StripsError::Memory => Err(AllocError),
         }
     }
@@ -259,7 +281,7 @@ impl Report {
     }
 
     // One line of a text and a number.
-    fn numbered(alloc: Global, text: &[u8], number: u64) -> Result<Report, AllocError>
+    fn with_number(alloc: Global, text: &[u8], number: u64) -> Result<Report, AllocError>
         ensures { IfOk result (λ report. report ≡ line (text.now ++ decimal number)) }
     {
         let mut bytes = Vec::new(alloc);
@@ -268,7 +290,7 @@ impl Report {
     }
 
     // One line of a text, a number, another text and another number.
-    fn paired(
+    fn with_numbers(
         alloc: Global,
         text: &[u8],
         first: u64,
@@ -283,19 +305,19 @@ impl Report {
     }
 
     // Why names or objects are refused.
-    fn refusal(alloc: Global, refusal: TypingRefusal) -> Result<Report, AllocError>
+    fn of_typing_refusal(alloc: Global, refusal: TypingRefusal) -> Result<Report, AllocError>
         ensures { IfOk result (λ report. report ≡ refusal_text refusal) }
     {
         match refusal {
-            TypingRefusal::Named { cause, place } => Report::named(alloc, cause, place),
+            TypingRefusal::Named { cause, place } => Report::of_cause(alloc, cause, place),
             TypingRefusal::TooManyObjects { n } => {
-                Report::numbered(alloc, b"input TooManyObjects ", n)
+                Report::with_number(alloc, b"input TooManyObjects ", n)
             }
         }
     }
 
     // Why a name is refused, and where it stands.
-    fn named(alloc: Global, cause: Cause, place: Place) -> Result<Report, AllocError>
+    fn of_cause(alloc: Global, cause: Cause, place: Place) -> Result<Report, AllocError>
         ensures { IfOk result (λ report. report ≡ refusal_text (Named cause place)) }
     {
         let mut bytes = Vec::new(alloc);
@@ -306,7 +328,7 @@ impl Report {
     }
 
     // One line of a text, two numbers and a word.
-    fn worded(
+    fn with_numbers_and_word(
         alloc: Global,
         text: &[u8],
         first: u64,
@@ -321,7 +343,7 @@ impl Report {
     }
 
     // One line of a text, a number, a space and a number that may be wider.
-    fn wide(alloc: Global, text: &[u8], first: u64, second: u128) -> Result<Report, AllocError>
+    fn with_wide(alloc: Global, text: &[u8], first: u64, second: u128) -> Result<Report, AllocError>
         ensures { IfOk result (λ report. report ≡ line (text.now ++ spaced (decimal first) (decimal second))) }
     {
         let mut bytes = Vec::new(alloc);

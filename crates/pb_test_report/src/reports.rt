@@ -69,7 +69,7 @@ fn each_fault_has_its_name_and_its_numbers(rt: HostRuntime) -> Result<(), Fail> 
             "refused Low 18446744073709551615\n",
         ),
     ] {
-        let report = Report::refused(rt.alloc(), &fault)?;
+        let report = Report::of_certificate_fault(rt.alloc(), &fault)?;
         assert!(rt; report.as_slice() == text.as_bytes());
     }
     Ok(())
@@ -96,10 +96,10 @@ fn each_error_of_the_input_has_its_name_and_its_numbers(rt: HostRuntime) -> Resu
         (GridError::StartBlocked, "input StartBlocked\n"),
         (GridError::GoalBlocked, "input GoalBlocked\n"),
     ] {
-        let report = Report::input(rt.alloc(), &error)?;
+        let report = Report::of_grid_error(rt.alloc(), &error)?;
         assert!(rt; report.as_slice() == text.as_bytes());
     }
-    let report = Report::input(rt.alloc(), &GridError::Memory);
+    let report = Report::of_grid_error(rt.alloc(), &GridError::Memory);
     assert!(rt; report.err() == Some(AllocError));
     Ok(())
 }
@@ -216,16 +216,16 @@ fn each_error_of_a_pddl_text_has_its_name_its_place_and_its_word(
         ),
         (problem, SyntaxError::Extra { at: 20 }, "input Extra 2 20\n"),
     ] {
-        let report = Report::syntax(rt.alloc(), file, &error)?;
+        let report = Report::of_syntax_error(rt.alloc(), file, &error)?;
         assert!(rt; report.as_slice() == text.as_bytes(), "{text}");
     }
-    let report = Report::syntax(rt.alloc(), problem, &SyntaxError::Memory);
+    let report = Report::of_syntax_error(rt.alloc(), problem, &SyntaxError::Memory);
     assert!(rt; report.err() == Some(AllocError));
     Ok(())
 }
 
 // An error that names a place.
-fn named(cause: Cause, file: File, at: u64) -> StripsError {
+fn named_refusal(cause: Cause, file: File, at: u64) -> StripsError {
     let place = Place { file, at };
     StripsError::Refused(TypingRefusal::Named { cause, place })
 }
@@ -239,36 +239,57 @@ fn each_error_of_a_domain_and_a_problem_has_its_name_and_its_numbers(
     let objects = TypingRefusal::TooManyObjects { n: 1001 };
     for (error, text) in [
         (
-            named(Cause::DomainName, problem, 30),
+            named_refusal(Cause::DomainName, problem, 30),
             "input DomainName 2 30\n",
         ),
-        (named(Cause::Twice, domain, 12), "input Twice 1 12\n"),
         (
-            named(Cause::UnknownType, domain, 25),
+            named_refusal(Cause::Twice, domain, 12),
+            "input Twice 1 12\n",
+        ),
+        (
+            named_refusal(Cause::UnknownType, domain, 25),
             "input UnknownType 1 25\n",
         ),
-        (named(Cause::TypeCycle, domain, 0), "input TypeCycle 1 0\n"),
         (
-            named(Cause::UnknownPredicate, problem, 8),
+            named_refusal(Cause::TypeCycle, domain, 0),
+            "input TypeCycle 1 0\n",
+        ),
+        (
+            named_refusal(Cause::UnknownPredicate, problem, 8),
             "input UnknownPredicate 2 8\n",
         ),
-        (named(Cause::Arity, domain, 71), "input Arity 1 71\n"),
         (
-            named(Cause::UnknownObject, problem, 6),
+            named_refusal(Cause::Arity, domain, 71),
+            "input Arity 1 71\n",
+        ),
+        (
+            named_refusal(Cause::UnknownObject, problem, 6),
             "input UnknownObject 2 6\n",
         ),
-        (named(Cause::WrongType, problem, 9), "input WrongType 2 9\n"),
         (
-            named(Cause::TooWide, domain, u64::MAX),
+            named_refusal(Cause::WrongType, problem, 9),
+            "input WrongType 2 9\n",
+        ),
+        (
+            named_refusal(Cause::TooWide, domain, u64::MAX),
             "input TooWide 1 18446744073709551615\n",
         ),
         (
-            named(Cause::NoFunction, problem, 43),
+            named_refusal(Cause::NoFunction, problem, 43),
             "input NoFunction 2 43\n",
         ),
-        (named(Cause::CostTwice, domain, 7), "input CostTwice 1 7\n"),
-        (named(Cause::CostRange, problem, 5), "input CostRange 2 5\n"),
-        (named(Cause::ZeroCost, domain, 99), "input ZeroCost 1 99\n"),
+        (
+            named_refusal(Cause::CostTwice, domain, 7),
+            "input CostTwice 1 7\n",
+        ),
+        (
+            named_refusal(Cause::CostRange, problem, 5),
+            "input CostRange 2 5\n",
+        ),
+        (
+            named_refusal(Cause::ZeroCost, domain, 99),
+            "input ZeroCost 1 99\n",
+        ),
         (StripsError::Refused(objects), "input TooManyObjects 1001\n"),
         (
             StripsError::TooManyAtoms { n: 257 },
@@ -280,10 +301,10 @@ fn each_error_of_a_domain_and_a_problem_has_its_name_and_its_numbers(
         ),
         (StripsError::TooManyActions, "input TooManyActions\n"),
     ] {
-        let report = Report::strips_input(rt.alloc(), &error)?;
+        let report = Report::of_strips_error(rt.alloc(), &error)?;
         assert!(rt; report.as_slice() == text.as_bytes(), "{text}");
     }
-    let report = Report::strips_input(rt.alloc(), &StripsError::Memory);
+    let report = Report::of_strips_error(rt.alloc(), &StripsError::Memory);
     assert!(rt; report.err() == Some(AllocError));
     Ok(())
 }
@@ -297,7 +318,7 @@ fn each_verdict_says_what_it_shows(rt: HostRuntime) -> Result<(), Fail> {
         ),
         (Verdict::Unsolvable, "accepted none\n"),
     ] {
-        let report = Report::accepted(rt.alloc(), &verdict)?;
+        let report = Report::of_verdict(rt.alloc(), &verdict)?;
         assert!(rt; report.as_slice() == text.as_bytes());
     }
     Ok(())
@@ -314,16 +335,16 @@ fn a_plan_is_printed_by_the_names_of_its_steps(rt: HostRuntime) -> Result<(), Fa
         goal: (1, 1),
     });
     let plan = Plan::of(vec![in rt.alloc(); 3, 1]?, 2);
-    let report = Report::plan(rt.alloc(), &task, &plan, 2)?;
+    let report = Report::of_plan(rt.alloc(), &task, &plan, 2)?;
     assert!(rt; report.as_slice() == b"plan 2 2\nright\ndown\nbound 2\n".as_slice());
     Ok(())
 }
 
 #[test]
 fn judged_journals_have_their_words(rt: HostRuntime) -> Result<(), Fail> {
-    let report = Report::journal(rt.alloc(), 16)?;
+    let report = Report::of_journal(rt.alloc(), 16)?;
     assert!(rt; report.as_slice() == b"journal 16\n".as_slice());
-    let report = Report::journal_fault(rt.alloc(), 8, Why::Quota)?;
+    let report = Report::of_journal_fault(rt.alloc(), 8, Why::Quota)?;
     assert!(rt; report.as_slice() == b"refused Quota 8\n".as_slice());
     Ok(())
 }
@@ -362,7 +383,7 @@ fn two_places(alloc: Global) -> Result<Task, AllocError>
 fn a_plan_of_ground_actions_is_printed_by_their_names(rt: HostRuntime) -> Result<(), Fail> {
     let task = two_places(rt.alloc())?;
     let plan = Plan::of(vec![in rt.alloc(); 0, 1, 0]?, 3);
-    let report = Report::plan(rt.alloc(), &task, &plan, 2)?;
+    let report = Report::of_plan(rt.alloc(), &task, &plan, 2)?;
     let text = "plan 3 3\n(move one other)\n(move other one)\n(move one other)\nbound 2\n";
     assert!(rt; report.as_slice() == text.as_bytes());
     Ok(())
@@ -370,11 +391,11 @@ fn a_plan_of_ground_actions_is_printed_by_their_names(rt: HostRuntime) -> Result
 
 #[test]
 fn other_ends_are_one_line(rt: HostRuntime) -> Result<(), Fail> {
-    let none = Report::none(rt.alloc())?;
+    let none = Report::of_no_plan(rt.alloc())?;
     assert!(rt; none.as_slice() == b"none\n".as_slice());
-    let stopped = Report::stopped(rt.alloc(), 16_777_216)?;
+    let stopped = Report::of_stop(rt.alloc(), 16_777_216)?;
     assert!(rt; stopped.as_slice() == b"stopped budget 16777216\n".as_slice());
-    let long = Report::line(rt.alloc(), b"input TooLong")?;
+    let long = Report::of_line(rt.alloc(), b"input TooLong")?;
     assert!(rt; long.as_slice() == b"input TooLong\n".as_slice());
     let text = Report::of_text(rt.alloc(), b"error: words\n\nmore")?;
     assert!(rt; text.as_slice() == b"error: words\n\nmore".as_slice());

@@ -4,9 +4,6 @@ use Rattle.pb_check.specs.declared.fault.Verdict.{Verdict}
 use Rattle.pb_answer.specs.Answer.{Said, IsChecked}
 use Rattle.pb_answer.proofs.check.judge.Goals as goal
 
-not_ok : (verdict : Verdict) (fault : CertificateFault) → ◌≡◌ {A = Result Verdict CertificateFault} (Ok verdict) (Err fault) → ⊥
-not_ok verdict fault e = cc
-
 pub returns-in-Err-Fault : goal.returns-in-Err-Fault
 returns-in-Err-Fault c =
     subst (λ (said : Said). IsChecked c.args.task.now c.args.certificate.now said) (sym c.without_files-in-Err-Fault.ensures)
@@ -15,8 +12,10 @@ returns-in-Err-Fault c =
       refl,
       (
         c.in-Err-Fault.fault,
-        c.in_ok-refused-in-Err-Fault.ensures,
+        c.in_ok-of_certificate_fault-in-Err-Fault.ensures,
         rw c.in-Err-Fault.field-0-is at c.in-Err-Fault.ensures.exact,
-        λ verdict is. not_ok verdict c.in-Err-Fault.fault (rw c.in-Err-Fault.field-0-is at c.in-Err-Fault.ensures.only verdict is),
+        λ verdict is.
+            let both : ◌≡◌ {A = Result Verdict CertificateFault} (Ok verdict) (Err c.in-Err-Fault.fault) = rw c.in-Err-Fault.field-0-is at c.in-Err-Fault.ensures.only verdict is in
+            cc,
       ),
     ))
