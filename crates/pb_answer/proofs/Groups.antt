@@ -1,11 +1,11 @@
 -- Whatever plan is read off a report of a plan is the one that was reported.
-use Rattle.std.proofs.Common.{◌≡◌, ◌≢◌, ℕ, zero, suc, ◌^◌, ◌<◌, ◌≤◌, ◌==◌, Bool, true, false, List, [], ◌∷◌, All, Option, None, Some, Result, Ok, Err, IfOk, length, get_or, map, refl, sym, ap, ◌∙◌, subst, arith}
-use Rattle.std.proofs.lemmas.Bool.Decides.{nat_tests}
+use Rattle.std.proofs.Common.{◌≡◌, ◌≢◌, ℕ, zero, suc, ◌^◌, ◌<◌, ◌==◌, Bool, false, List, [], ◌∷◌, All, Option, None, Some, Result, Ok, Err, IfOk, length, get_or, map, refl, sym, ap, ◌∙◌, subst, arith}
+use Rattle.std.proofs.lemmas.Bool.{eq-eqb}
 use Rattle.std.proofs.lemmas.List.Elements.{All-nil, All-cons}
 use Rattle.std.proofs.lemmas.List.{length-map}
 use Rattle.std.specs.List.{AllByRecursion}
 use Rattle.pb_model.specs.Space.{Space, IsProper}
-use Rattle.pb_model.specs.Plan.{Plan, Walk, IsPlan, NoneCheaper}
+use Rattle.pb_model.specs.Plan.{Plan, IsPlan, NoneCheaper}
 use Rattle.pb_task.specs.declared.parts.TaskParts.{TaskParts}
 use Rattle.pb_task.specs.declared.parts.TaskParts.TheVariants.{Grid, Tiles}
 use Rattle.pb_task.specs.Grid.{direction}
@@ -63,13 +63,15 @@ directions_tell = record { different = names_differ; lines = no_feed }
   where
     all : (text : List ℕ) → IsFree 10 text → All (λ c. c ≢ 10) text
     all [] h = All-nil (λ c. c ≢ 10)
-    all (c ∷ cs) h = All-cons (λ c. c ≢ 10) c cs (λ e. not_both (c == 10) (same c 10 e) h.0) (all cs h.1)
-      where
-        same : (n m : ℕ) → n ≡ m → (n == m) ≡ true
-        same n m e = grind (arith, nat_tests)
+    all (c ∷ cs) h = All-cons (λ c. c ≢ 10) c cs (λ e. not_both (c == 10) (eq-eqb c 10 e) h.0) (all cs h.1)
 
     no_feed : (action : ℕ) → All (λ c. c ≢ 10) (direction action)
     no_feed action = all (direction action) (name_free action)
+
+-- what is refused is no task
+refused_is_no_task : (report : Option (List ℕ)) (task : TaskParts) → refused_with report ≡ Ok task → NamesTell task
+refused_is_no_task None task e = cc
+refused_is_no_task (Some text) task e = cc
 
 -- where the texts of a map and a scenario, or of a board, spell a task, its actions are named by their directions
 pub grid_names : (map_text scenario_text : Option (List ℕ)) (row : ℕ) (swamp : Bool) (task : TaskParts) → grid_task map_text scenario_text row swamp ≡ Ok task → NamesTell task
@@ -77,29 +79,21 @@ grid_names None scenario_text row swamp task e = cc
 grid_names (Some map_text) None row swamp task e = cc
 grid_names (Some map_text) (Some scenario_text) row swamp task e = at (grid_reading map_text scenario_text row swamp) e
   where
-    none : (report : Option (List ℕ)) → refused_with report ≡ Ok task → NamesTell task
-    none None f = cc
-    none (Some text) f = cc
-
     at : (reading : Result GridParts GridError) → grid_told (task_of reading) ≡ Ok task → NamesTell task
     at (Ok grid) f =
         let is : Grid grid ≡ task = cc in
         subst NamesTell is directions_tell
-    at (Err error) f = none (input_text error) f
+    at (Err error) f = refused_is_no_task (input_text error) task f
 
 pub tiles_names : (text : Option (List ℕ)) (task : TaskParts) → tiles_task text ≡ Ok task → NamesTell task
 tiles_names None task e = cc
 tiles_names (Some text) task e = at (tiles_reading text) e
   where
-    none : (report : Option (List ℕ)) → refused_with report ≡ Ok task → NamesTell task
-    none None f = cc
-    none (Some report) f = cc
-
     at : (reading : Result TilesParts TilesError) → tiles_told reading ≡ Ok task → NamesTell task
     at (Ok tiles) f =
         let is : Tiles tiles ≡ task = cc in
         subst NamesTell is directions_tell
-    at (Err error) f = none (tiles_text error) f
+    at (Err error) f = refused_is_no_task (tiles_text error) task f
 
 -- ---- lists of names
 
@@ -120,23 +114,15 @@ AreActions space actions = AllByRecursion (λ action. action < space.actions) ac
 same_actions : (parts : TaskParts) → NamesTell parts → (xs ys : List ℕ) → AreActions (space_of parts) xs → AreActions (space_of parts) ys
     → map (action_name parts) xs ≡ map (action_name parts) ys → xs ≡ ys
 same_actions parts names [] [] h k e = refl
-same_actions parts names [] (y ∷ ys) h k e = absurd (none (action_name parts y) (map (action_name parts) ys) e)
-  where
-    none : (first : List ℕ) (rest : List (List ℕ)) → ◌≡◌ {A = List (List ℕ)} [] (first ∷ rest) → ⊥
-    none first rest e = cc
-same_actions parts names (x ∷ xs) [] h k e = absurd (none (action_name parts x) (map (action_name parts) xs) e)
-  where
-    none : (first : List ℕ) (rest : List (List ℕ)) → ◌≡◌ {A = List (List ℕ)} (first ∷ rest) [] → ⊥
-    none first rest e = cc
+same_actions parts names [] (y ∷ ys) h k e = let none : ◌≡◌ {A = List (List ℕ)} [] (action_name parts y ∷ map (action_name parts) ys) = e in cc
+same_actions parts names (x ∷ xs) [] h k e = let none : ◌≡◌ {A = List (List ℕ)} (action_name parts x ∷ map (action_name parts) xs) [] = e in cc
 same_actions parts names (x ∷ xs) (y ∷ ys) h k e =
-    go (split (action_name parts x) (action_name parts y) (map (action_name parts) xs) (map (action_name parts) ys) e) (λ f. same_actions parts names xs ys h.1 k.1 f)
-  where
-    split : (a b : List ℕ) (more others : List (List ℕ)) → a ∷ more ≡ b ∷ others → (a ≡ b) × (more ≡ others)
-    split a b more others e = (cc, cc)
-
-    go : ((action_name parts x ≡ action_name parts y) × (map (action_name parts) xs ≡ map (action_name parts) ys)) → (map (action_name parts) xs ≡ map (action_name parts) ys → xs ≡ ys) → x ∷ xs ≡ y ∷ ys
-    go both more =
-        let first = names.different x y h.0 k.0 both.0 in let rest = more both.1 in λ i. first i ∷ rest i
+    let all : action_name parts x ∷ map (action_name parts) xs ≡ action_name parts y ∷ map (action_name parts) ys = e in
+    let name : action_name parts x ≡ action_name parts y = cc in
+    let more : map (action_name parts) xs ≡ map (action_name parts) ys = cc in
+    let first = names.different x y h.0 k.0 name in
+    let rest = same_actions parts names xs ys h.1 k.1 more in
+    λ i. first i ∷ rest i
 
 -- ---- the plan that a report tells
 

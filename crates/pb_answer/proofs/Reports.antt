@@ -6,6 +6,7 @@ use Rattle.std.specs.Fmt.{decimal}
 use Rattle.std.proofs.lemmas.Fmt.{decimal_by_steps, decimal_injective}
 use Rattle.std.proofs.lemmas.Bool.Decides.{nat_tests}
 use Rattle.pb_model.specs.Texts.{line, lines, spaced, plan_report}
+use Rattle.pb_model.proofs.Tests.{equal_self}
 
 -- the byte does not stand in the text
 abbrev pub IsFree : (byte : ℕ) → List ℕ → Type 0
@@ -15,20 +16,17 @@ free_append : (byte : ℕ) (xs ys : List ℕ) → IsFree byte xs → IsFree byte
 free_append byte [] ys h k = k
 free_append byte (x ∷ xs) ys h k = (h.0, free_append byte xs ys h.1 k)
 
-same_byte : (byte : ℕ) → (byte == byte) ≡ true
-same_byte byte = grind (arith, nat_tests)
-
 -- what stands before the first such byte, and behind it
 pub split : (byte : ℕ) (xs ys rest others : List ℕ) → IsFree byte xs → IsFree byte ys → xs ++ byte ∷ rest ≡ ys ++ byte ∷ others → (xs ≡ ys) × (rest ≡ others)
 split byte [] [] rest others h k e = (refl, tail rest others e)
   where
     tail : (rest others : List ℕ) → byte ∷ rest ≡ byte ∷ others → rest ≡ others
     tail rest others e = cc
-split byte [] (y ∷ ys) rest others h k e = absurd (true≢false (sym (ap (λ b. b == byte) (first y ys e) ∙ same_byte byte) ∙ k.0))
+split byte [] (y ∷ ys) rest others h k e = absurd (true≢false (sym (ap (λ b. b == byte) (first y ys e) ∙ equal_self byte) ∙ k.0))
   where
     first : (y : ℕ) (ys : List ℕ) → byte ∷ rest ≡ y ∷ (ys ++ byte ∷ others) → y ≡ byte
     first y ys e = cc
-split byte (x ∷ xs) [] rest others h k e = absurd (true≢false (sym (ap (λ b. b == byte) (first x xs e) ∙ same_byte byte) ∙ h.0))
+split byte (x ∷ xs) [] rest others h k e = absurd (true≢false (sym (ap (λ b. b == byte) (first x xs e) ∙ equal_self byte) ∙ h.0))
   where
     first : (x : ℕ) (xs : List ℕ) → x ∷ (xs ++ byte ∷ rest) ≡ byte ∷ others → x ≡ byte
     first x xs e = cc
