@@ -27,7 +27,10 @@ fn shelf_for(alloc: Global, len: u128) -> Result<MemShelf, AllocError>
 }
 
 /// The certificate's text, as it was written and loaded back. An error is out of memory.
-pub(crate) fn written(alloc: Global, certificate: &Certificate<'_>) -> Result<Vec<u8>, AllocError>
+pub(crate) fn written_text(
+    alloc: Global,
+    certificate: &Certificate<'_>,
+) -> Result<Vec<u8>, AllocError>
     ensures { IfOk result (λ text. text.items ≡ text_of certificate.now) }
 {
     let len = certificate.len();
@@ -48,7 +51,11 @@ pub(crate) fn written(alloc: Global, certificate: &Certificate<'_>) -> Result<Ve
 }
 
 /// The checker's verdict on the text, or None if it is refused. An error is out of memory.
-pub(crate) fn judged(alloc: Global, task: &Task, text: &[u8]) -> Result<Option<Verdict>, AllocError>
+pub(crate) fn verdict_of(
+    alloc: Global,
+    task: &Task,
+    text: &[u8],
+) -> Result<Option<Verdict>, AllocError>
     ensures { IfOk result (IsJudged task.now text.now) }
 {
     let mut estimator = Estimator::of(alloc, task)?;

@@ -17,7 +17,7 @@ ghost use Rattle.pb_made.specs.Found.{IsPlanOf, IsCertificateOf};
 
 use crate::MadeAnswer;
 use crate::answer::answer_of;
-use crate::certified::{judged, written};
+use crate::certified::{verdict_of, written_text};
 use crate::made_task::made_task;
 use pb_cert::{Certificate, Plan, trace};
 use pb_check::{TaskKind, kind_of};
@@ -129,7 +129,7 @@ fn answer_end(
 {
     let plan = best_plan(alloc, task, graph)?;
     let text = certificate_text(alloc, task, plan, graph)?;
-    let judgement = judged(alloc, task, text.as_slice())?;
+    let judgement = verdict_of(alloc, task, text.as_slice())?;
     match judgement {
         Some(verdict) => Ok(answer_of(&verdict)),
         None => unreachable!(),
@@ -173,7 +173,7 @@ fn certificate_text(
 {
     let _lawful = task.max_degree();
     let certificate = Certificate::of(alloc, kind_word(task), 1, 1, plan, graph)?;
-    let text = written(alloc, &certificate)?;
+    let text = written_text(alloc, &certificate)?;
     Ok(text)
 }
 
