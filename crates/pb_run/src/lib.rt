@@ -12,5 +12,5 @@ mod start;
 mod top;
 
 pub use laws::saved_certificates_are_accepted;
-pub use start::{unread, words_of};
+pub use start::{report_unread_words, words_of};
 pub use top::run;

@@ -29,7 +29,7 @@ const NOT_UTF8: &[u8] = b"error: invalid UTF-8 was detected in one or more argum
 
 /// The status where the words couldn't be read: want of memory, or a word that isn't UTF-8, which is a faulty command
 /// line.
-pub fn unread<K: Sink>(error: io::Error, out: &mut K) -> u8
+pub fn report_unread_words<K: Sink>(error: io::Error, out: &mut K) -> u8
     ensures memory { result ≡ 71 → (error_kind error ≡ ErrorKind.OutOfMemory) × (K.calls out.new ≡ K.calls out.old) }
     ensures words { result ≡ 64 → (error_kind error ≢ ErrorKind.OutOfMemory) × Notes (K.calls out.old) (K.calls out.new) (Put (line (codes "error: invalid UTF-8 was detected in one or more arguments"))) }
     ensures sink_fault { result ≡ 74 → (error_kind error ≢ ErrorKind.OutOfMemory) × Rose (K.faults out.old) (K.faults out.new) }

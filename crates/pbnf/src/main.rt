@@ -8,7 +8,7 @@
 
 use pb_answer::Status;
 use pb_outside::{FileShelf, OpenGate, OutSink};
-use pb_run::{run, unread, words_of};
+use pb_run::{report_unread_words, run, words_of};
 use std::alloc::AllocError;
 use std::process::ExitCode;
 use std::{env, io};
@@ -23,7 +23,7 @@ fn main(rt: HostRuntime) -> ExitCode {
             }
             Err(AllocError) => Status::OutOfMemory.number(),
         },
-        Err(error) => unread(error, &mut out),
+        Err(error) => report_unread_words(error, &mut out),
     };
     ExitCode::from(status)
 }
