@@ -1,5 +1,5 @@
 -- What one call of the program saves, another one accepts.
-use Rattle.std.proofs.Common.{◌≡◌, ◌⊎◌, inl, inr, ℕ, Bool, false, ◌≤◌, IsTrue, Option, None, Some, List, [], ◌∷◌, ◌++◌, length, Ok, refl, sym, ap, subst, ◌∙◌, arith}
+use Rattle.std.proofs.Common.{◌≡◌, ◌⊎◌, inl, inr, ℕ, Bool, false, ◌<◌, Option, None, Some, List, [], ◌∷◌, ◌++◌, length, Ok, refl, sym, ap, subst, ◌∙◌, arith}
 use Rattle.pb_model.specs.Plan.{Plan}
 use Rattle.pb_task.specs.declared.parts.TaskParts.{TaskParts}
 use Rattle.pb_task.specs.Parts.{space_of}
@@ -24,7 +24,7 @@ use Rattle.pb_answer.proofs.SavedJournals.{SavesJournal, of_quiet, of_stopped}
 use Rattle.pb_answer.proofs.SameBlocks.{without_swamp}
 use Rattle.pb_run.specs.Course.{Ran}
 use Rattle.pb_run.specs.Headline.{IsAnswer, IsBroken, IsOfVerdict, AllOfOnePlan, CertificateOfNone, StopHasCause, CheckIsDecided, JournalIsDecided}
-use Rattle.pb_run.specs.Laws.{IsSavedFirst, IsSavedLast, SavedCertificatesAreAccepted, SavedJournalsAreAccepted, Keeps, AreMatching, AcceptsIt, CertificatesAreAcceptedByWords, JournalsAreAcceptedByWords}
+use Rattle.pb_run.specs.Laws.{IsSavedFirst, IsSavedLast, SavedCertificatesAreAccepted, SavedJournalsAreAccepted, Keeps, AcceptsIt, CertificatesAreAcceptedByWords, JournalsAreAcceptedByWords}
 
 -- the texts behind another one spell the task that they spell alone
 input_behind : (input : InputNames) (row : ℕ) (swamp : Bool) (text : List ℕ) (texts : List (List ℕ))
@@ -145,30 +145,22 @@ saved_journals_are_accepted law marks blocks solve journal ran judged name text 
 
 -- ---- by the words
 
+-- where the shelf and the sink serve, the certificate or the journal is accepted or memory ran out
+served_is : (status : ℕ) → 71 < status → IsAnswer status ⊎ (status ≡ 71) → (status ≡ 0) ⊎ (status ≡ 71)
+served_is status past (inl (inl k)) = inl k
+served_is status past (inl (inr (inl k))) = absurd (omega (arith, k, past))
+served_is status past (inl (inr (inr (inl k)))) = absurd (omega (arith, k, past))
+served_is status past (inl (inr (inr (inr (inl k))))) = absurd (omega (arith, k, past))
+served_is status past (inl (inr (inr (inr (inr (inl k)))))) = absurd (omega (arith, k, past))
+served_is status past (inl (inr (inr (inr (inr (inr k)))))) = absurd (omega (arith, k, past))
+served_is status past (inr k) = inr k
+
 -- an answer that is none of the broken ones is that it is accepted
 accepts_it : (status : ℕ) → (status ≡ 0) ⊎ IsBroken status → AcceptsIt status
 accepts_it status (inl zero) = (inl zero, λ served. inl zero)
 accepts_it status (inr (inl memory)) = (inr (inl memory), λ served. inr memory)
-accepts_it status (inr (inr (inl shelf))) = (inr (inr (inl shelf)), λ served. no_fault served)
-  where
-    no_fault : IsAnswer status ⊎ (status ≡ 71) → (status ≡ 0) ⊎ (status ≡ 71)
-    no_fault (inl (inl k)) = inl k
-    no_fault (inl (inr (inl k))) = absurd (omega (arith, k, shelf))
-    no_fault (inl (inr (inr (inl k)))) = absurd (omega (arith, k, shelf))
-    no_fault (inl (inr (inr (inr (inl k))))) = absurd (omega (arith, k, shelf))
-    no_fault (inl (inr (inr (inr (inr (inl k)))))) = absurd (omega (arith, k, shelf))
-    no_fault (inl (inr (inr (inr (inr (inr k)))))) = absurd (omega (arith, k, shelf))
-    no_fault (inr k) = inr k
-accepts_it status (inr (inr (inr sink))) = (inr (inr (inr sink)), λ served. no_fault served)
-  where
-    no_fault : IsAnswer status ⊎ (status ≡ 71) → (status ≡ 0) ⊎ (status ≡ 71)
-    no_fault (inl (inl k)) = inl k
-    no_fault (inl (inr (inl k))) = absurd (omega (arith, k, sink))
-    no_fault (inl (inr (inr (inl k)))) = absurd (omega (arith, k, sink))
-    no_fault (inl (inr (inr (inr (inl k))))) = absurd (omega (arith, k, sink))
-    no_fault (inl (inr (inr (inr (inr (inl k)))))) = absurd (omega (arith, k, sink))
-    no_fault (inl (inr (inr (inr (inr (inr k)))))) = absurd (omega (arith, k, sink))
-    no_fault (inr k) = inr k
+accepts_it status (inr (inr (inl shelf))) = (inr (inr (inl shelf)), served_is status (omega (arith, shelf)))
+accepts_it status (inr (inr (inr sink))) = (inr (inr (inr sink)), served_is status (omega (arith, sink)))
 
 -- what is kept of words is kept of what they ask for
 module _ (words others : List (List ℕ)) (solve : SolveMeaning) (solved other : Ran)

@@ -1,5 +1,5 @@
 -- What lists of calls tell: those of loads, and those that save files.
-use Rattle.std.proofs.Common.{◌≡◌, inl, inr, ℕ, ◌<◌, ◌≤◌, true, false, Option, None, Some, IfSome, List, [], ◌∷◌, ◌++◌, length, map, drop, refl, sym, ap, ◌∙◌, arith, append_assoc, append-nil}
+use Rattle.std.proofs.Common.{◌≡◌, inl, inr, ℕ, ◌<◌, ◌≤◌, true, false, Option, None, Some, IfSome, List, [], ◌∷◌, ◌++◌, length, map, drop, get_or, refl, sym, ap, ◌∙◌, arith, append_assoc, append-nil}
 use Rattle.std.specs.List.{concat}
 use Rattle.pb_outside.specs.declared.shelf.Load.{Load}
 use Rattle.pb_outside.specs.declared.shelf.Load.TheVariants.{Failed, TooLong, Memory}
@@ -56,33 +56,25 @@ ended_no_fault files texts (Some Failed) ends = absurd ends
 ended_no_fault files texts (Some (TooLong seen)) ends = tt
 ended_no_fault files texts (Some Memory) ends = absurd ends
 
+pub no_loads : (files : List Wanted) → load_calls files [] None ≡ []
+no_loads [] = refl
+no_loads (file ∷ files) = refl
+
 -- one file more
 pub load_more : (files rest : List Wanted) (file : Wanted) (texts : List (List ℕ)) (text : List ℕ) → drop (length texts) files ≡ file ∷ rest
     → load_calls files (texts ++ text ∷ []) None ≡ load_calls files texts None ++ Loaded file.name file.most text ∷ []
 load_more [] rest file [] text is = cc
 load_more [] rest file (first ∷ texts) text is = cc
 load_more (one ∷ files) rest file [] text is =
-    let same : one ≡ file = ap (λ (l : List Wanted). head_or file l) is in
-    ap (λ (f : Wanted). Loaded f.name f.most text ∷ load_calls files [] None) same ∙ ap (λ (l : List Call). Loaded file.name file.most text ∷ l) (nothing files)
-  where
-    head_or : Wanted → List Wanted → Wanted
-    head_or d [] = d
-    head_or d (f ∷ fs) = f
-
-    nothing : (files : List Wanted) → load_calls files [] None ≡ []
-    nothing [] = refl
-    nothing (f ∷ fs) = refl
+    let same : one ≡ file = ap (λ (l : List Wanted). get_or l 0 file) is in
+    ap (λ (f : Wanted). Loaded f.name f.most text ∷ load_calls files [] None) same ∙ ap (λ (l : List Call). Loaded file.name file.most text ∷ l) (no_loads files)
 load_more (one ∷ files) rest file (first ∷ texts) text is = ap (λ (l : List Call). Loaded one.name one.most first ∷ l) (load_more files rest file texts text is)
 
 pub load_fails : (files rest : List Wanted) (file : Wanted) (texts : List (List ℕ)) (why : Load) → drop (length texts) files ≡ file ∷ rest
     → load_calls files texts (Some why) ≡ load_calls files texts None ++ LoadFailed file.name file.most why ∷ []
 load_fails [] rest file [] why is = cc
 load_fails [] rest file (first ∷ texts) why is = cc
-load_fails (one ∷ files) rest file [] why is = ap (λ (f : Wanted). LoadFailed f.name f.most why ∷ []) (ap (λ (l : List Wanted). head_or file l) is)
-  where
-    head_or : Wanted → List Wanted → Wanted
-    head_or d [] = d
-    head_or d (f ∷ fs) = f
+load_fails (one ∷ files) rest file [] why is = ap (λ (f : Wanted). LoadFailed f.name f.most why ∷ []) (ap (λ (l : List Wanted). get_or l 0 file) is)
 load_fails (one ∷ files) rest file (first ∷ texts) why is = ap (λ (l : List Call). Loaded one.name one.most first ∷ l) (load_fails files rest file texts why is)
 
 -- ---- a file that is saved

@@ -1,8 +1,9 @@
 -- From how a call of the program goes to its promises.
-use Rattle.std.proofs.Common.{◌≡◌, ◌≢◌, ◌⊎◌, ◌↔◌, inl, inr, ℕ, ◌<◌, IsTrue, false, true≢false, Option, None, Some, List, [], ◌∷◌, ◌++◌, map, Result, Ok, Err, refl, sym, ap, subst, ◌∙◌, arith, append-nil}
+use Rattle.std.proofs.Common.{◌≡◌, ◌≢◌, ◌⊎◌, ◌↔◌, inl, inr, ℕ, ◌<◌, ◌≤◌, IsTrue, false, true≢false, Option, None, Some, List, [], ◌∷◌, ◌++◌, map, Result, Ok, Err, refl, sym, ap, subst, ◌∙◌, arith, append-nil}
 use Rattle.pb_outside.specs.Outside.{Files, IfTold, Appends, KeepsAll}
 use Rattle.pb_outside.specs.Calls.{Call}
 use Rattle.pb_outside.specs.declared.shelf.Load.TheVariants.{Failed}
+use Rattle.pb_outside.proofs.Told.{told_as}
 use Rattle.pb_task.specs.Parts.{space_of}
 use Rattle.pb_estimate.specs.Estimates.{estimate_of}
 use Rattle.pb_check.specs.declared.fault.CertificateFault.{CertificateFault}
@@ -38,6 +39,20 @@ answer_not n (inr (inr (inl k))) broken = broken_is_other n 2 (omega arith) brok
 answer_not n (inr (inr (inr (inl k)))) broken = broken_is_other n 3 (omega arith) broken k
 answer_not n (inr (inr (inr (inr (inl k))))) broken = broken_is_other n 64 (omega arith) broken k
 answer_not n (inr (inr (inr (inr (inr k))))) broken = broken_is_other n 65 (omega arith) broken k
+
+-- where all is saved, memory didn't run out and the shelf didn't fail
+saved_not : (n : ℕ) → IsAnswer n ⊎ (n ≡ 74) → (n ≡ 71) ⊎ (n ≡ 73) → ⊥
+saved_not n (inl k) (inl e) = answer_not n k (inl e)
+saved_not n (inl k) (inr e) = answer_not n k (inr (inl e))
+saved_not n (inr k) (inl e) = omega (arith, k, e)
+saved_not n (inr k) (inr e) = omega (arith, k, e)
+
+-- the statuses at which nothing is saved
+unsaved_range : (n : ℕ) → (n ≡ 3) ⊎ (n ≡ 64) ⊎ (n ≡ 65) ⊎ (n ≡ 71) → (3 ≤ n) × (n ≤ 71)
+unsaved_range n (inl e) = (omega (arith, e), omega (arith, e))
+unsaved_range n (inr (inl e)) = (omega (arith, e), omega (arith, e))
+unsaved_range n (inr (inr (inl e))) = (omega (arith, e), omega (arith, e))
+unsaved_range n (inr (inr (inr e))) = (omega (arith, e), omega (arith, e))
 
 module _ (reading : Reading) (n : ℕ) (shelf sink : List Call) where
   abbrev pub Made : Ran
@@ -310,22 +325,10 @@ module _ (reading : Reading) (n : ℕ) (shelf sink : List Call) where
   nothing_saved (inr (inr a)) e = go a.hands
     where
       other : (k : ℕ) → k < 3 → n ≡ k → ⊥
-      other k less f = which e
-        where
-          which : (n ≡ 3) ⊎ (n ≡ 64) ⊎ (n ≡ 65) ⊎ (n ≡ 71) → ⊥
-          which (inl h) = omega (arith, h, f, less)
-          which (inr (inl h)) = omega (arith, h, f, less)
-          which (inr (inr (inl h))) = omega (arith, h, f, less)
-          which (inr (inr (inr h))) = omega (arith, h, f, less)
+      other k less f = omega (arith, (unsaved_range n e).0, f, less)
 
       neither : (k : ℕ) → 72 < k → n ≡ k → ⊥
-      neither k more f = which e
-        where
-          which : (n ≡ 3) ⊎ (n ≡ 64) ⊎ (n ≡ 65) ⊎ (n ≡ 71) → ⊥
-          which (inl h) = omega (arith, h, f, more)
-          which (inr (inl h)) = omega (arith, h, f, more)
-          which (inr (inr (inl h))) = omega (arith, h, f, more)
-          which (inr (inr (inr h))) = omega (arith, h, f, more)
+      neither k more f = omega (arith, (unsaved_range n e).1, f, more)
 
       go : Handed reading n shelf sink a → outputs_in shelf ≡ []
       go (inl h) = answered_outputs reading n shelf sink a ∙ (saves_tell a.saves a.said.outputs h.saves_are).saved
@@ -369,35 +372,17 @@ module _ (reading : Reading) (n : ℕ) (shelf sink : List Call) where
         go (inr (inl f)) = absurd (answer_not n is (inr (inl f.status_is)))
         go (inr (inr f)) = absurd (answer_not n is (inr (inr f.status_is)))
 
-    told_map : (a b : Option Files) (P Q : Files → Files → Type 0) → ((x y : Files) → P x y → Q x y) → IfTold a b P → IfTold a b Q
-    told_map None None P Q f h = tt
-    told_map (Some x) (Some y) P Q f h = f x y h
-    told_map None (Some y) P Q f h = absurd h
-    told_map (Some x) None P Q f h = absurd h
-
     saved_by : (a : HasAnswered reading n shelf sink) → SaveAll a.saves a.said.outputs → IfTold files files' (SavesIn a.said.outputs) → IfTold files files' (SavesIn (outputs_in shelf))
     saved_by a saves told_it = subst (λ (os : List Output). IfTold files files' (SavesIn os)) (sym (answered_outputs reading n shelf sink a ∙ (saves_tell a.saves a.said.outputs saves).saved)) told_it
 
     pub files_saved : GoesBy reading n files files' shelf sink → IsAnswer n ⊎ (n ≡ 74) → IfTold files files' (SavesIn (outputs_in shelf))
-    files_saved (inl (out, kept)) is = absurd (not_out is)
-      where
-        not_out : IsAnswer n ⊎ (n ≡ 74) → ⊥
-        not_out (inl k) = answer_not n k (inl out.status_is)
-        not_out (inr k) = omega (arith, k, out.status_is)
-    files_saved (inr (inl (failed, kept))) is = absurd (not_failed is)
-      where
-        not_failed : IsAnswer n ⊎ (n ≡ 74) → ⊥
-        not_failed (inl k) = answer_not n k (inr (inl failed.status_is))
-        not_failed (inr k) = omega (arith, k, failed.status_is)
+    files_saved (inl (out, kept)) is = absurd (saved_not n is (inl out.status_is))
+    files_saved (inr (inl (failed, kept))) is = absurd (saved_not n is (inr failed.status_is))
     files_saved (inr (inr (a, loaded, hands))) is = go a.hands hands
       where
-        not_cut : n ≡ 73 → IsAnswer n ⊎ (n ≡ 74) → ⊥
-        not_cut e (inl k) = answer_not n k (inr (inl e))
-        not_cut e (inr k) = omega (arith, k, e)
-
         go : (h : Handed reading n shelf sink a) → TellsHands a.said files files' h → IfTold files files' (SavesIn (outputs_in shelf))
         go (inl h) told_it = saved_by a h.saves_are told_it
-        go (inr (inl f)) told_it = absurd (not_cut f.status_is is)
+        go (inr (inl f)) told_it = absurd (saved_not n is (inr f.status_is))
         go (inr (inr f)) told_it = saved_by a f.saves_are told_it
 
     pub files_kept : GoesBy reading n files files' shelf sink → n ≡ 71 → IfTold files files' KeepsAll
@@ -412,7 +397,7 @@ module _ (reading : Reading) (n : ℕ) (shelf sink : List Call) where
 
     pub files_left : GoesBy reading n files files' shelf sink → n ≡ 73 → IfTold files files' (λ before after. KeepsAll before after ⊎ LeavesPart reading (loaded_texts shelf) before after)
     files_left (inl (out, kept)) e = absurd (omega (arith, e, out.status_is))
-    files_left (inr (inl (failed, kept))) e = told_map files files' KeepsAll _ (λ x y h. inl h) kept
+    files_left (inr (inl (failed, kept))) e = told_as files files' KeepsAll _ kept (λ x y h. inl h)
     files_left (inr (inr (a, loaded, hands))) e = go a.hands hands
       where
         go : (h : Handed reading n shelf sink a) → TellsHands a.said files files' h
@@ -421,7 +406,7 @@ module _ (reading : Reading) (n : ℕ) (shelf sink : List Call) where
         go (inr (inl f)) told_it =
             let none = (failures_tell a.saves a.said.outputs f.saves_are).none_loaded in
             let answers = subst (λ (ts : List (List ℕ)). AnswersReading reading ts a.said) (sym (answered_texts reading n shelf sink a none)) a.answers in
-            told_map files files' (SavesPartIn a.said.outputs) _ (λ x y part. inr (a.said, answers, part)) told_it
+            told_as files files' (SavesPartIn a.said.outputs) _ told_it (λ x y part. inr (a.said, answers, part))
         go (inr (inr f)) told_it = absurd (omega (arith, e, f.status_is))
 
     -- ---- files under other names
@@ -436,17 +421,17 @@ module _ (reading : Reading) (n : ℕ) (shelf sink : List Call) where
     stay_in_part (first ∷ outputs) x y other h (inr (between, here, others, more)) = stay_in_part outputs between y other h.1 more ∙ others other h.0
 
     pub others_stay : GoesBy reading n files files' shelf sink → IfTold files files' (KeepsUnnamed reading)
-    others_stay (inl (out, kept)) = told_map files files' KeepsAll (KeepsUnnamed reading) (λ x y h other none. h other) kept
-    others_stay (inr (inl (failed, kept))) = told_map files files' KeepsAll (KeepsUnnamed reading) (λ x y h other none. h other) kept
+    others_stay (inl (out, kept)) = told_as files files' KeepsAll (KeepsUnnamed reading) kept (λ x y h other none. h other)
+    others_stay (inr (inl (failed, kept))) = told_as files files' KeepsAll (KeepsUnnamed reading) kept (λ x y h other none. h other)
     others_stay (inr (inr (a, loaded, hands))) = go a.hands hands
       where
         none_due : (other : List ℕ) → IsNoneOf (saved_names reading) other → IsNoneOf (names_of a.said.outputs) other
         none_due other none = none_of_some (names_of a.said.outputs) (saved_names reading) other (told.outputs_are_named a.texts a.said reading a.answers) none
 
         go : (h : Handed reading n shelf sink a) → TellsHands a.said files files' h → IfTold files files' (KeepsUnnamed reading)
-        go (inl h) told_it = told_map files files' (SavesIn a.said.outputs) (KeepsUnnamed reading) (λ x y saves other none. stay_in a.said.outputs x y other (none_due other none) saves) told_it
-        go (inr (inl f)) told_it = told_map files files' (SavesPartIn a.said.outputs) (KeepsUnnamed reading) (λ x y part other none. stay_in_part a.said.outputs x y other (none_due other none) part) told_it
-        go (inr (inr f)) told_it = told_map files files' (SavesIn a.said.outputs) (KeepsUnnamed reading) (λ x y saves other none. stay_in a.said.outputs x y other (none_due other none) saves) told_it
+        go (inl h) told_it = told_as files files' (SavesIn a.said.outputs) (KeepsUnnamed reading) told_it (λ x y saves other none. stay_in a.said.outputs x y other (none_due other none) saves)
+        go (inr (inl f)) told_it = told_as files files' (SavesPartIn a.said.outputs) (KeepsUnnamed reading) told_it (λ x y part other none. stay_in_part a.said.outputs x y other (none_due other none) part)
+        go (inr (inr f)) told_it = told_as files files' (SavesIn a.said.outputs) (KeepsUnnamed reading) told_it (λ x y saves other none. stay_in a.said.outputs x y other (none_due other none) saves)
 
     same_texts : (loads : Option (List (List ℕ))) (a b : List (List ℕ)) → loads ≡ Some a → loads ≡ Some b → a ≡ b
     same_texts loads a b x y = cc

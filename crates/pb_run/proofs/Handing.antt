@@ -2,7 +2,7 @@
 use Rattle.std.proofs.Common.{◌≡◌, ◌⊎◌, inl, inr, ℕ, Option, None, Some, IsSome, List, [], ◌∷◌, ◌++◌, length, take, refl, sym, ap, subst, ◌∙◌, append_assoc, append-nil}
 use Rattle.pb_outside.specs.Outside.{Files, IfTold, Appends, KeepsAll, KeepsOthers, KeepsHolds}
 use Rattle.pb_outside.specs.Calls.{Call, Put, PutFailed}
-use Rattle.pb_outside.proofs.Told.{told_then, told_both}
+use Rattle.pb_outside.proofs.Told.{told_then, told_both, told_as}
 use Rattle.pb_outside.specs.declared.shelf.Load.TheVariants.{Failed}
 use Rattle.pb_command.specs.Meaning.{Reading}
 use Rattle.pb_outside.specs.Saves.{IsPartSaved}
@@ -20,6 +20,7 @@ use Rattle.pb_run.specs.declared.load.Fault.{Fault}
 use Rattle.pb_run.specs.declared.load.Fault.TheVariants.{OutOfMemory, ShelfFailed}
 use Rattle.pb_run.specs.declared.output.Ending.TheVariants.{Done, NotSaved, NotPrinted}
 use Rattle.pb_run.proofs.CallLists.{ended_few, ended_no_fault}
+use Rattle.pb_run.proofs.Saving.{after_kept, part_kept}
 use Rattle.pb_run.proofs.Told as told
 
 -- ---- one file that is saved
@@ -31,18 +32,6 @@ saved_one files files' name text here others = told_both files files' _ _ (Saves
 pub part_of_one : (files files' : Option Files) (name text : List ℕ) → IfTold files files' (λ before after. IsPartSaved before after name text) → IfTold files files' (λ before after. KeepsOthers before after name)
     → IfTold files files' (SavesPartIn (output name text ∷ []))
 part_of_one files files' name text part others = told_both files files' _ _ (SavesPartIn (output name text ∷ [])) part others (λ x y p o. inl (p, o))
-
--- ---- files that are kept, and then something is saved
-
-after_kept : (outputs : List Output) (x y z : Files) → KeepsAll x y → SavesIn outputs y z → SavesIn outputs x z
-after_kept [] x y z kept saves = λ other. saves other ∙ kept other
-after_kept (first ∷ outputs) x y z kept (between, here, others, more) = (between, here, λ other apart. others other apart ∙ kept other, more)
-
-part_kept : (outputs : List Output) (x y z : Files) → KeepsAll x y → SavesPartIn outputs y z → SavesPartIn outputs x z
-part_kept [] x y z kept saves = saves
-part_kept (first ∷ outputs) x y z kept (inl (inl same, others)) = inl (inl (same ∙ kept first.name), λ other apart. others other apart ∙ kept other)
-part_kept (first ∷ outputs) x y z kept (inl (inr part, others)) = inl (inr part, λ other apart. others other apart ∙ kept other)
-part_kept (first ∷ outputs) x y z kept (inr (between, here, others, more)) = inr (between, here, λ other apart. others other apart ∙ kept other, more)
 
 -- ---- nothing is put
 
@@ -154,13 +143,11 @@ writes_done said shelf shelf' sink sink' written written' (saved, noted, told_it
     (Put said.report ∷ [], noted, subst (λ t. IfTold written written' (λ before after. Appends before after t)) (sym (append-nil said.report)) told_it)
 
 pub writes_not_saved : (said : Said) (shelf shelf' sink sink' : List Call) (written written' : Option (List ℕ)) → Hands said NotSaved shelf shelf' sink sink' written written' → WritesPut written written' sink sink'
-writes_not_saved said shelf shelf' sink sink' written written' (saved, same, told_it) = ([], same ∙ sym (append-nil sink), go written written' told_it)
-  where
-    go : (w v : Option (List ℕ)) → IfTold w v (λ before after. after ≡ before) → IfTold w v (λ before after. Appends before after [])
-    go None None h = tt
-    go (Some x) (Some y) h = h ∙ sym (append-nil x)
-    go None (Some y) h = absurd h
-    go (Some x) None h = absurd h
+writes_not_saved said shelf shelf' sink sink' written written' (saved, same, told_it) = (
+  [],
+  same ∙ sym (append-nil sink),
+  told_as written written' (λ before after. after ≡ before) (λ before after. Appends before after []) told_it (λ before after is. is ∙ sym (append-nil before)),
+)
 
 pub writes_part : (said : Said) (shelf shelf' sink sink' : List Call) (written written' : Option (List ℕ)) → Hands said NotPrinted shelf shelf' sink sink' written written' → WritesPut written written' sink sink'
 writes_part said shelf shelf' sink sink' written written' (saved, failed) =

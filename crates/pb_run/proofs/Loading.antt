@@ -14,7 +14,7 @@ use Rattle.pb_run.specs.Contents.{LoadsAll, LoadsUpTo}
 use Rattle.pb_run.specs.declared.files.Wanted.{Wanted as WantedFile}
 use Rattle.pb_run.specs.declared.load.Fault.{Fault}
 use Rattle.pb_run.specs.declared.load.Fault.TheVariants.{OutOfMemory, ShelfFailed}
-use Rattle.pb_run.proofs.CallLists.{load_more, load_fails}
+use Rattle.pb_run.proofs.CallLists.{no_loads, load_more, load_fails}
 use Rattle.pb_run.proofs.Loads.{AreLoadedSoFar, loaded_next}
 
 pub kept_still : (a b c : Option Files) → IfTold a b KeepsAll → IfTold b c KeepsAll → IfTold a c KeepsAll
@@ -23,10 +23,6 @@ kept_still a b c p q = told_then a b c KeepsAll KeepsAll KeepsAll p q (λ x y z 
 pub kept_self : (a : Option Files) → IfTold a a KeepsAll
 kept_self None = tt
 kept_self (Some files) = λ name. refl
-
-pub no_loads : (files : List Wanted) → load_calls files [] None ≡ []
-no_loads [] = refl
-no_loads (file ∷ files) = refl
 
 -- the file of this number, and those after it
 at_number : (files : List WantedFile) (i : ℕ) (d : WantedFile) → i < length files → map wanted_of (drop i files) ≡ wanted_of (get_or files i d) ∷ map wanted_of (drop (suc i) files)

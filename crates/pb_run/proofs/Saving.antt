@@ -3,6 +3,7 @@ use Rattle.std.proofs.Common.{inl, inr, ℕ, Option, None, Some, IsSome, List, [
 use Rattle.pb_outside.specs.Outside.{Files, IfTold, KeepsAll}
 use Rattle.pb_outside.specs.Calls.{Call}
 use Rattle.pb_outside.specs.Saves.{Saves, SavesPart}
+use Rattle.pb_outside.proofs.Told.{told_then, told_as}
 use Rattle.pb_answer.specs.Outputs.{Output, output}
 use Rattle.pb_run.specs.Calls.{SaveAll, FailToSaveAll, CanHold}
 use Rattle.pb_run.specs.Contents.{SavesIn, SavesPartIn, Saved, SavedPart}
@@ -49,22 +50,23 @@ first_failed outputs more old new (calls, are, fails) = (calls, are, fail_first 
 
 -- ---- the files
 
+-- files that are kept, and then something is saved
+pub after_kept : (outputs : List Output) (x y z : Files) → KeepsAll x y → SavesIn outputs y z → SavesIn outputs x z
+after_kept [] x y z kept saves = λ other. saves other ∙ kept other
+after_kept (first ∷ outputs) x y z kept (between, here, others, more) = (between, here, λ other apart. others other apart ∙ kept other, more)
+
+pub part_kept : (outputs : List Output) (x y z : Files) → KeepsAll x y → SavesPartIn outputs y z → SavesPartIn outputs x z
+part_kept [] x y z kept saves = saves
+part_kept (first ∷ outputs) x y z kept (inl (inl same, others)) = inl (inl (same ∙ kept first.name), λ other apart. others other apart ∙ kept other)
+part_kept (first ∷ outputs) x y z kept (inl (inr part, others)) = inl (inr part, λ other apart. others other apart ∙ kept other)
+part_kept (first ∷ outputs) x y z kept (inr (between, here, others, more)) = inr (between, here, λ other apart. others other apart ∙ kept other, more)
+
 in_joined : (outputs more : List Output) (x y z : Files) → SavesIn outputs x y → SavesIn more y z → SavesIn (outputs ++ more) x z
-in_joined [] more x y z kept saves = after more x y z kept saves
-  where
-    after : (outputs : List Output) (x y z : Files) → KeepsAll x y → SavesIn outputs y z → SavesIn outputs x z
-    after [] x y z kept saves = λ other. saves other ∙ kept other
-    after (first ∷ outputs) x y z kept (between, here, others, later) = (between, here, λ other apart. others other apart ∙ kept other, later)
+in_joined [] more x y z kept saves = after_kept more x y z kept saves
 in_joined (first ∷ outputs) more x y z (between, here, others, later) saves = (between, here, others, in_joined outputs more between y z later saves)
 
 part_joined : (outputs more : List Output) (x y z : Files) → SavesIn outputs x y → SavesPartIn more y z → SavesPartIn (outputs ++ more) x z
-part_joined [] more x y z kept saves = after more x y z kept saves
-  where
-    after : (outputs : List Output) (x y z : Files) → KeepsAll x y → SavesPartIn outputs y z → SavesPartIn outputs x z
-    after [] x y z kept saves = saves
-    after (first ∷ outputs) x y z kept (inl (inl same, others)) = inl (inl (same ∙ kept first.name), λ other apart. others other apart ∙ kept other)
-    after (first ∷ outputs) x y z kept (inl (inr part, others)) = inl (inr part, λ other apart. others other apart ∙ kept other)
-    after (first ∷ outputs) x y z kept (inr (between, here, others, later)) = inr (between, here, λ other apart. others other apart ∙ kept other, later)
+part_joined [] more x y z kept saves = part_kept more x y z kept saves
 part_joined (first ∷ outputs) more x y z (between, here, others, later) saves = inr (between, here, others, part_joined outputs more between y z later saves)
 
 part_first : (outputs more : List Output) (x y : Files) → SavesPartIn outputs x y → SavesPartIn (outputs ++ more) x y
@@ -74,32 +76,13 @@ part_first (first ∷ outputs) more x y (inr (between, here, others, later)) = i
 
 module _ (outputs more : List Output) (old mid new : Option Files) where
   pub told_saved : IfTold old mid (SavesIn outputs) → IfTold mid new (SavesIn more) → IfTold old new (SavesIn (outputs ++ more))
-  told_saved = go old mid new
-    where
-      go : (a b c : Option Files) → IfTold a b (SavesIn outputs) → IfTold b c (SavesIn more) → IfTold a c (SavesIn (outputs ++ more))
-      go None None None h k = tt
-      go (Some x) (Some y) (Some z) h k = in_joined outputs more x y z h k
-      go None None (Some z) h k = absurd k
-      go None (Some y) c h k = absurd h
-      go (Some x) None c h k = absurd h
-      go (Some x) (Some y) None h k = absurd k
+  told_saved saved saves = told_then old mid new (SavesIn outputs) (SavesIn more) (SavesIn (outputs ++ more)) saved saves (in_joined outputs more)
 
   pub told_part : IfTold old mid (SavesIn outputs) → IfTold mid new (SavesPartIn more) → IfTold old new (SavesPartIn (outputs ++ more))
-  told_part = go old mid new
-    where
-      go : (a b c : Option Files) → IfTold a b (SavesIn outputs) → IfTold b c (SavesPartIn more) → IfTold a c (SavesPartIn (outputs ++ more))
-      go None None None h k = tt
-      go (Some x) (Some y) (Some z) h k = part_joined outputs more x y z h k
-      go None None (Some z) h k = absurd k
-      go None (Some y) c h k = absurd h
-      go (Some x) None c h k = absurd h
-      go (Some x) (Some y) None h k = absurd k
+  told_part saved saves = told_then old mid new (SavesIn outputs) (SavesPartIn more) (SavesPartIn (outputs ++ more)) saved saves (part_joined outputs more)
 
 pub told_first : (outputs more : List Output) (old new : Option Files) → IfTold old new (SavesPartIn outputs) → IfTold old new (SavesPartIn (outputs ++ more))
-told_first outputs more None None h = tt
-told_first outputs more (Some x) (Some y) h = part_first outputs more x y h
-told_first outputs more None (Some y) h = absurd h
-told_first outputs more (Some x) None h = absurd h
+told_first outputs more old new saves = told_as old new (SavesPartIn outputs) (SavesPartIn (outputs ++ more)) saves (part_first outputs more)
 
 pub still_told : (old new : Option Files) (P : Files → Files → Type 0) → IfTold old new P → IsSome old → IsSome new
 still_told (Some x) (Some y) P h is = refl

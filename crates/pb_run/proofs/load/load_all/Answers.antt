@@ -3,7 +3,8 @@ use Rattle.pb_outside.specs.Calls.{Call}
 use Rattle.pb_run.specs.Calls.{load_calls}
 use Rattle.pb_run.specs.Files.{wanted_of}
 use Rattle.pb_run.proofs.Loads.{AreLoadedSoFar, loaded_first}
-use Rattle.pb_run.proofs.Loading.{kept_self, kept_still, no_loads, one_loaded, ends_failed, ends_long, ends_full, sure_here, loaded_here}
+use Rattle.pb_run.proofs.CallLists.{no_loads}
+use Rattle.pb_run.proofs.Loading.{kept_self, kept_still, one_loaded, ends_failed, ends_long, ends_full, sure_here, loaded_here}
 use Rattle.pb_run.proofs.load.load_all.Goals as goal
 
 pub loop-file-init : goal.loop-file-init
