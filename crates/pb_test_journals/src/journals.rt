@@ -43,7 +43,7 @@ fn in_place_of<'a>(number: usize, line: &'a str, changes: &[(usize, &'a str)]) -
 }
 
 // The journal with other lines in place of some, whose numbers are counted from 1.
-fn changed(alloc: Global, changes: &[(usize, &str)]) -> Result<String, AllocError> {
+fn changed_journal(alloc: Global, changes: &[(usize, &str)]) -> Result<String, AllocError> {
     let mut text = String::new(alloc);
     for i in 0..LINES.len() {
         for line in in_place_of(i + 1, LINES[i], changes).split('/') {
@@ -59,7 +59,7 @@ fn changed(alloc: Global, changes: &[(usize, &str)]) -> Result<String, AllocErro
 // What the checker answers to the journal with these changes.
 fn changed_answer(alloc: Global, changes: &[(usize, &str)]) -> Result<u64, JournalError> {
     let graph = AbsGraph::of(alloc, &open_square(alloc)?, 256)?;
-    let text = changed(alloc, changes)?;
+    let text = changed_journal(alloc, changes)?;
     check_journal(alloc, &graph, text.as_bytes())
 }
 
@@ -162,7 +162,7 @@ fn a_line_is_read_exactly(rt: HostRuntime) {
 #[test]
 fn every_beginning_of_a_journal_is_refused(rt: HostRuntime) -> Result<(), Fail> {
     let graph = AbsGraph::of(rt.alloc(), &open_square(rt.alloc())?, 256)?;
-    let text = changed(rt.alloc(), &[])?;
+    let text = changed_journal(rt.alloc(), &[])?;
     let bytes = text.as_bytes();
     let mut line = 1u64;
     let mut why = Why::Short;
