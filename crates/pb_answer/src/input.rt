@@ -40,7 +40,7 @@ impl From<AllocError> for NoTask {
     }
 }
 
-// The refusal where a file was too long.
+// The refusal if a file was too long.
 fn refuse_long_text(alloc: Global) -> NoTask
     ensures { IsRefusal result (Err too_long) }
 {

@@ -164,8 +164,8 @@ impl Report {
         Ok(Report { bytes })
     }
 
-    /// That the texts of a map and a scenario are refused, and why: the error's name, and its numbers in the order of its fields.
-    /// Where the error is itself want of memory, so is the answer.
+    /// That the texts of a map and a scenario are refused, and why: the error's name, and its
+    /// numbers in the order of its fields. If the error is itself out of memory, so is the answer.
     pub fn of_grid_error(alloc: Global, error: &GridError) -> Result<Report, AllocError>
         ensures { IfOk result (λ report. input_text error.now ≡ Some report) }
     {
@@ -188,8 +188,8 @@ impl Report {
         }
     }
 
-    /// That the text of sliding tiles is refused, and why: the error's name, and its numbers in the order of its fields. Where the
-    /// error is itself want of memory, so is the answer.
+    /// That the text of sliding tiles is refused, and why: the error's name, and its numbers in the
+    /// order of its fields. If the error is itself out of memory, so is the answer.
     pub fn of_tiles_error(alloc: Global, error: &TilesError) -> Result<Report, AllocError>
         ensures { IfOk result (λ report. tiles_text error.now ≡ Some report) }
     {
@@ -205,8 +205,10 @@ impl Report {
         }
     }
 
-    /// That the text of a domain or of a problem is refused, and why: the error's name, the number of the file (1 for the domain, 2 for the problem),
-    /// the place in it, and the word for what must stand there or is left out. Where the error is itself want of memory, so is the answer.
+    /// That the text of a domain or of a problem is refused, and why. It has the error's name, the
+    /// number of the file (1 for the domain, 2 for the problem) and the place in it. The word after
+    /// them is for what must stand there or is left out. If the error is itself out of memory, so
+    /// is the answer.
     pub fn of_syntax_error(
         alloc: Global,
         file: File,
@@ -240,8 +242,9 @@ impl Report {
         }
     }
 
-    /// That a domain and a problem are no task, and why: a cause with the number of the file and the place of the name in it, or what there is too
-    /// much of. Where the error is itself want of memory, so is the answer.
+    /// That a domain and a problem are no task, and why. It has a cause with the number of the file
+    /// and the place of the name in it, or what there is too much of. If the error is itself out of
+    /// memory, so is the answer.
     pub fn of_strips_error(alloc: Global, error: &StripsError) -> Result<Report, AllocError>
         ensures { IfOk result (λ report. strips_text error.now ≡ Some report) }
     {

@@ -27,8 +27,8 @@ pub fn words_of(alloc: Global, args: env::Args) -> Result<Vec<String>, AllocErro
 // What is printed if a word isn't UTF-8.
 const NOT_UTF8: &[u8] = b"error: invalid UTF-8 was detected in one or more arguments\n";
 
-/// The status where the words couldn't be read: want of memory, or a word that isn't UTF-8, which is a faulty command
-/// line.
+/// The status if the words couldn't be read: out of memory, or a word that isn't UTF-8, which is a
+/// faulty command line.
 pub fn report_unread_words<K: Sink>(error: io::Error, out: &mut K) -> u8
     ensures memory { result ≡ 71 → (error_kind error ≡ ErrorKind.OutOfMemory) × (K.calls out.new ≡ K.calls out.old) }
     ensures words { result ≡ 64 → (error_kind error ≢ ErrorKind.OutOfMemory) × Notes (K.calls out.old) (K.calls out.new) (Put (line (codes "error: invalid UTF-8 was detected in one or more arguments"))) }
