@@ -109,7 +109,7 @@ fn the_dearest_of_needed_atoms_counts(rt: HostRuntime) -> Result<(), Fail> {
     Ok(())
 }
 
-// A goal that asks for what never holds is reached from no state, not even where its other atoms hold.
+// A goal that asks for what never holds is reached from no state, not even if its other atoms hold.
 #[test]
 fn a_goal_that_never_holds_is_dead(rt: HostRuntime) -> Result<(), Fail> {
     for (goal, state) in [(8, 1), (8, 8), (0, 0), (1, 1)] {
@@ -120,7 +120,7 @@ fn a_goal_that_never_holds_is_dead(rt: HostRuntime) -> Result<(), Fail> {
     Ok(())
 }
 
-// One estimator tells the same of a state after it was asked of another.
+// One estimator gives the same for a state after it was asked of another.
 #[test]
 fn estimates_do_not_depend_on_those_before(rt: HostRuntime) -> Result<(), Fail> {
     let task = join(rt.alloc(), 8)?;

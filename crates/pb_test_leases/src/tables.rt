@@ -31,7 +31,7 @@ fn tables(
     Ok(Some(MachineTables::new(alloc, Arc::new(alloc, graph)?, settings)?))
 }
 
-// A call, by the worker where one makes it.
+// A call, by the worker if one makes it.
 #[derive(Clone, Copy)]
 enum Call {
     Lease(u32, u32),
@@ -44,7 +44,8 @@ enum Call {
     Budget,
 }
 
-// Makes a call where it may be made: its quota, or 1 for true and for what answers nothing, and 0 for false; None where it may not be made.
+// Makes a call if it may be made: its quota, or 1 for true and for what answers nothing, and 0 for
+// false. None if it may not be made.
 fn play(tables: &mut MachineTables, call: Call) -> Result<Option<u64>, AllocError> {
     match call {
         Call::Lease(worker, block) => lease(tables, worker, block),

@@ -20,8 +20,8 @@ fn corridor(alloc: Global) -> Result<MemShelf, Memory> {
     Ok(files)
 }
 
-// What the search of the corridor prints, then the check of its certificate, then the first word of
-// what is said of its journal; and how many rows are closed.
+// What the search of the corridor prints, then what the check of its certificate prints, then the
+// first word that is said of its journal. And how many rows are closed.
 fn corridor_words<R: Threads + Wait + Sync, G: Gate>(
     rt: &R,
     alloc: Global,
@@ -64,8 +64,8 @@ fn closed_rows(text: &[u8]) -> usize {
     count
 }
 
-// A gate that holds the first lease of block 20 or 24 that is to go on or to come back, until the
-// other one is to do so too.
+// A gate that holds the first lease of block 20 or 24 before it goes on or comes back, until the
+// other block's lease is to do so too.
 #[derive(Drop)]
 struct MeetingGate {
     first: AtomicU64,

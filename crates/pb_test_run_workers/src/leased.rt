@@ -74,7 +74,8 @@ impl Gate for HoldingGate {
     fn giving(&self, _worker: u32, _block: u32) {}
 }
 
-// The start lies in the middle of the lower row. Its ends have scopes that have no block in common.
+// The start is in the middle of the lower row. The scopes of the row's two ends have no block in
+// common.
 #[test]
 fn two_blocks_are_leased_at_once(rt: HostRuntime) -> Result<(), Fail> {
     let map = "type octile\nheight 3\nwidth 9\nmap\n@@@@.@@@@\n@@@@@@@@@\n.........\n";

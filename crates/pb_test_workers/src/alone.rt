@@ -40,7 +40,8 @@ pub(crate) const DEFAULTS: Words = Words {
     plain: false,
 };
 
-// The graph after a search of the task by one worker, or None where a number isn't in range or the start is no state.
+// The graph after a search of the task by one worker, or None if a number isn't in range or the
+// start is no state.
 fn searched<G: Gate>(
     alloc: Global,
     task: Task,

@@ -17,7 +17,7 @@ use std::sync::{Arc, Wait};
 use std::test::Fail;
 use std::thread::{Threads, yield_now};
 
-// The graph after a search of the task by so many workers, or None where a number isn't in range or
+// The graph after a search of the task by so many workers, or None if a number isn't in range or
 // the start is no state.
 fn searched_by<R: Threads + Wait + Sync, G: Gate>(
     rt: &R,
