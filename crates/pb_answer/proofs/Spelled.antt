@@ -1,15 +1,11 @@
 -- Texts that spell a STRIPS task by the grammar, well typed and within the limits, are not refused.
-use Rattle.std.proofs.Common.{◌≡◌, ℕ, ◌+◌, Bool, false, Option, None, Some, List, slice_get, Result, Ok, Err, refl, sym, ap, subst, ◌∙◌}
+use Rattle.std.proofs.Common.{◌≡◌, ℕ, ◌+◌, Bool, false, Option, None, Some, List, slice_get, Result, Ok, Err, sym, ap, ◌∙◌}
 use Rattle.pb_task.specs.declared.parts.TaskParts.{TaskParts}
 use Rattle.pb_task.specs.declared.parts.TaskParts.TheVariants as parts
-use Rattle.pb_pddl.specs.declared.token.Token.{Token}
 use Rattle.pb_pddl.specs.declared.tree.Domain.{Domain}
 use Rattle.pb_pddl.specs.declared.tree.Problem.{Problem}
-use Rattle.pb_pddl.specs.Reading.{unlimited, domain_at, problem_at}
-use Rattle.pb_pddl.specs.Readings.{tokens_of, domain_reading, problem_reading}
-use Rattle.pb_pddl.specs.Trees.{SpellsDomain, SpellsProblem}
-use Rattle.pb_pddl_laws.proofs.FormsRead.{domain_again, problem_again}
-use Rattle.pb_pddl_laws.proofs.TokensOf.{tokens_are_unique}
+use Rattle.pb_pddl.specs.Readings.{problem_reading}
+use Rattle.pb_pddl_laws.proofs.Whole.{domain_is_read, problem_is_read}
 use Rattle.pb_lifted.specs.Typing.{IsWellTyped}
 use Rattle.pb_strips.specs.Grounding.{strips_of}
 use Rattle.pb_strips.specs.Refusals.{first_fault, IsWithinLimits}
@@ -20,16 +16,6 @@ use Rattle.pb_answer.specs.Loaded.{strips_told, problem_told, domain_told, strip
 use Rattle.pb_answer.specs.Named.{SpellTrees}
 use Rattle.pb_answer.specs.Spelled.{SpellInput, SpellBehind, SpellTask}
 
--- ---- what the grammar has is what is read
-
-read_domain : (text : List ℕ) (domain : Domain) → SpellsDomain text domain → domain_reading text ≡ Ok domain
-unfolding domain_reading
-read_domain text domain (ts, are, is) = subst (λ (us : List Token). domain_at unlimited us ≡ Ok domain) (tokens_are_unique text ts are) (domain_again ts domain is)
-
-read_problem : (text : List ℕ) (problem : Problem) → SpellsProblem text problem → problem_reading text ≡ Ok problem
-unfolding problem_reading
-read_problem text problem (ts, are, is) = subst (λ (us : List Token). problem_at unlimited us ≡ Ok problem) (tokens_are_unique text ts are) (problem_again ts problem is)
-
 -- ---- so it is a task
 
 strips_reads : (domain_text problem_text : Option (List ℕ)) (domain : Domain) (problem : Problem) → SpellTrees domain_text problem_text domain problem
@@ -37,8 +23,8 @@ strips_reads : (domain_text problem_text : Option (List ℕ)) (domain : Domain) 
 strips_reads None problem_text domain problem spelled typed within = absurd spelled
 strips_reads (Some domain_text) None domain problem spelled typed within = absurd spelled
 strips_reads (Some domain_text) (Some problem_text) domain problem (one, two) typed within =
-    ap (λ reading. domain_told reading (problem_reading problem_text)) (read_domain domain_text domain one)
-    ∙ ap (problem_told domain) (read_problem problem_text problem two)
+    ap (λ reading. domain_told reading (problem_reading problem_text)) (domain_is_read domain_text domain one)
+    ∙ ap (problem_told domain) (problem_is_read problem_text problem two)
     ∙ ap (strips_told domain problem) (no_fault domain problem typed within)
 
 input_reads : (input : InputNames) (row : ℕ) (swamp : Bool) (first : ℕ) (texts : List (List ℕ)) → SpellInput input first texts

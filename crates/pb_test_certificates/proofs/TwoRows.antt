@@ -1,5 +1,6 @@
 -- A store with the rows of the start and of one of its successors, both Opened, is sound: in one bundle, and in two.
 use Rattle.std.proofs.Common.{◌≡◌, ◌≢◌, ◌⊎◌, inl, inr, ℕ, ◌+◌, ◌≤◌, ◌==◌, Bool, true, false, Option, None, Some, IsTrue, if◌then◌else◌, refl, sym, subst, ap, arith, ◌∙◌}
+use Rattle.std.proofs.lemmas.Bool.{eqb-false}
 use Rattle.pb_model.specs.declared.row.Row.{Row}
 use Rattle.pb_model.specs.declared.row.Estimate.TheVariants.{Cost}
 use Rattle.pb_model.specs.declared.row.Status.{Status}
@@ -9,12 +10,9 @@ use Rattle.pb_model.specs.Weight.{Weight, IsWeight}
 use Rattle.pb_model.specs.Work.{offered_row}
 use Rattle.pb_model.specs.Store.{Part, Rows}
 use Rattle.pb_model.specs.Sound.{HasParent}
-use Rattle.pb_model.proofs.Tests.{by_cases, equal, equal_self, not_both}
+use Rattle.pb_model.proofs.Tests.{by_cases, equal, equal_self}
 use Rattle.pb_lists.specs.Bundle.{Content, row_of, SetsRow}
 use Rattle.pb_cert.specs.Store.{IsSoundAt, guide_with, store_with, rows_at_home, one_part_rows}
-
-differs : (a b : ℕ) → (a == b) ≡ false → a ≢ b
-differs a b test e = not_both (a == b) (ap (λ n. n == b) e ∙ equal_self b) test
 
 same_row : (found : Option Row) (one two : Row) → found ≡ Some one → found ≡ Some two → one ≡ two
 same_row found one two x y = cc
@@ -106,7 +104,7 @@ module _ (start next cost action : ℕ) (other : next ≢ start) (empty one two 
       (λ t. let e : state ≡ start = equal state start t in inl (e, same_row (row_of two start) row start_row (subst (λ s. row_of two s ≡ Some row) e found) has_start))
       (λ f. by_cases (state == next)
       (λ t. let e : state ≡ next = equal state next t in inr (e, same_row (row_of two next) row (next_row start cost action) (subst (λ s. row_of two s ≡ Some row) e found) has_next))
-      (λ g. absurd (none_found (row_of two state) row (second.others state (differs state next g) ∙ first.others state (differs state start f) ∙ none state) found)))
+      (λ g. absurd (none_found (row_of two state) row (second.others state (eqb-false state next g) ∙ first.others state (eqb-false state start f) ∙ none state) found)))
 
   at_zero : (home state : ℕ) (row : Row) → one_part_rows two home state ≡ Some row → (home ≡ 0) × (row_of two state ≡ Some row)
   at_zero home state row found =
@@ -139,7 +137,7 @@ one_row part of state new none sets =
       here,
       λ other row found. by_cases (other == state)
           (λ t. let e : other ≡ state = equal other state t in (e, same_row (of state) row (new None) (subst (λ s. of s ≡ Some row) e found) here))
-          (λ f. absurd (none_found (of other) row (sets.others other (differs other state f) ∙ none other) found)),
+          (λ f. absurd (none_found (of other) row (sets.others other (eqb-false other state f) ∙ none other) found)),
     )
 
 module _ (start next cost action : ℕ) (other : next ≢ start) (empty one two empty_two : Content) (none : (state : ℕ) → row_of empty state ≡ None) (none_two : (state : ℕ) → row_of empty_two state ≡ None)
@@ -187,7 +185,7 @@ pub one_part_is_sound : (space : Space) (greatest_cost : ℕ) → IsProper space
     → SetsRow (row_of one) (row_of two) next (offered_row cost (Cost 0) (Some start) action (row_of one next)) → IsSoundAt space (λ state. 0) (one_part_rows two) two.weight
 one_part_is_sound space greatest_cost proper start action next cost empty one two same none weight step other first second =
     two_rows_are_sound space greatest_cost proper action next cost (subst (λ s. Steps space s action next cost) same step) (λ state. 0) (one_part_rows two)
-    (subst (λ s. AreTwo s next cost action (λ state. 0) (one_part_rows two)) same (two_in_one start next cost action (differs next start (sym other)) empty one two none first second)) two.weight weight
+    (subst (λ s. AreTwo s next cost action (λ state. 0) (one_part_rows two)) same (two_in_one start next cost action (eqb-false next start (sym other)) empty one two none first second)) two.weight weight
 
 pub two_parts_are_sound : (space : Space) (greatest_cost : ℕ) → IsProper space greatest_cost → (start action next cost : ℕ) (empty one two empty_two : Content) → start ≡ space.start → ((state : ℕ) → row_of empty state ≡ None)
     → ((state : ℕ) → row_of empty_two state ≡ None) → one.weight ≡ record { num = 1; den = 1 } → Steps space start action next cost → false ≡ (next == start)
@@ -196,4 +194,4 @@ pub two_parts_are_sound : (space : Space) (greatest_cost : ℕ) → IsProper spa
     → IsSoundAt space (home_by_start space.start) (two_part_rows one two) one.weight
 two_parts_are_sound space greatest_cost proper start action next cost empty one two empty_two same none none_two weight step other first second =
     two_rows_are_sound space greatest_cost proper action next cost (subst (λ s. Steps space s action next cost) same step) (home_by_start space.start) (two_part_rows one two)
-    (subst (λ s. AreTwo s next cost action (home_by_start s) (two_part_rows one two)) same (two_in_two start next cost action (differs next start (sym other)) empty one two empty_two none none_two first second)) one.weight weight
+    (subst (λ s. AreTwo s next cost action (home_by_start s) (two_part_rows one two)) same (two_in_two start next cost action (eqb-false next start (sym other)) empty one two empty_two none none_two first second)) one.weight weight

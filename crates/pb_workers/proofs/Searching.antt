@@ -6,7 +6,7 @@ use Rattle.pb_machine.specs.declared.event.End.{End}
 use Rattle.pb_machine.specs.declared.event.Event.TheVariants.{Lease}
 use Rattle.pb_machine.specs.Tables.{with_entry, any_below, count_below, one_if}
 use Rattle.pb_machine.specs.Counts.{Counts}
-use Rattle.pb_machine.proofs.TableLaws.{any_none, sum_small}
+use Rattle.pb_machine.proofs.TableLaws.{any_none, one_small, sum_small}
 use Rattle.pb_abstract.specs.Graph.{AbstractGraph, blocks_of}
 use Rattle.pb_bundles.specs.Parts.{away_rows}
 use Rattle.pb_bundles.specs.Homes.{key_at}
@@ -89,12 +89,8 @@ leased_runs first old mid new worker lease l next back same home before recorded
 abbrev pub distance : GraphValue → ℕ
 distance g = if is_some g.table.end then 0 else 1 + (g.table.left * (1 + (blocks g.table).count) + opened_blocks g)
 
-small : (b : Bool) → one_if b ≤ 1
-small true = omega arith
-small false = omega arith
-
 opened_fit : (g : GraphValue) → opened_blocks g ≤ (blocks g.table).count
-opened_fit g = sum_small (blocks g.table).count (λ block. one_if (is_some (key_at g.homes block))) (λ block. small (is_some (key_at g.homes block)))
+opened_fit g = sum_small (blocks g.table).count (λ block. one_if (is_some (key_at g.homes block))) (λ block. one_small (is_some (key_at g.homes block)))
 
 less_left : (left other n x y : ℕ) → left < other → x < n → left * n + x < other * n + y
 less_left left other n x y less fits = let more : (left + 1) * n ≤ other * n = grind arith in grind arith

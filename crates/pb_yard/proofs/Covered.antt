@@ -8,12 +8,13 @@ use Rattle.pb_model.specs.declared.row.Status.TheVariants.{Opened, Closed, Cut}
 use Rattle.pb_model.specs.declared.row.Status.{Status}
 use Rattle.pb_model.specs.declared.row.Row.{Row}
 use Rattle.pb_model.specs.declared.row.Succ.{Succ}
-use Rattle.pb_model.specs.Space.{Space, successor_list, steps_below, steps}
+use Rattle.pb_model.specs.Space.{Space, steps}
 use Rattle.pb_model.specs.Guide.{Guide}
 use Rattle.pb_model.specs.Store.{Store, row_at, is_place_of, HasOpenedRow}
 use Rattle.pb_model.specs.Work.{Work, expand, break_off, cut, take_goal, lower, reopen, offered_row, row_after_offer, row_after_offers, with_status, row_after_status, g_of, store_after, May, Comes, expansions, broken_expansions}
 use Rattle.pb_model.proofs.Tests.{by_cases, and_true, not_both, equal, equal_self}
 use Rattle.pb_machine.specs.Machine.{IsOn}
+use Rattle.pb_task.proofs.Degrees.{few_below}
 
 -- ---- lists of states
 
@@ -68,18 +69,6 @@ take_few : (k : ℕ) (succs : List Succ) → length (take k succs) ≤ length su
 take_few zero succs = omega arith
 take_few (suc k) [] = omega arith
 take_few (suc k) (succ ∷ succs) = let rest = take_few k succs in omega (arith, rest)
-
-few_steps : (space : Space) (state count : ℕ) → length (steps_below space state count) ≤ count
-few_steps space state zero = omega arith
-few_steps space state (suc action) =
-    let rest = few_steps space state action in
-    let sum = length-append (steps_below space state action) (successor_list action (space.step state action)) in
-    let one = few (space.step state action) in
-    omega (arith, rest, sum, one)
-  where
-    few : (o : Option (ℕ × ℕ)) → length (successor_list action o) ≤ 1
-    few None = omega arith
-    few (Some step) = omega arith
 
 -- ---- the Opened rows
 
@@ -178,7 +167,7 @@ module _ (space : Space) (guide : Guide) where
       let less = one_less own all own_there in
       let sum = length-append (states_of succs) states in
       let same = same_long succs in
-      let few = few_steps space own space.actions in (
+      let few = few_below space own space.actions in (
         without own all,
         marked all own Closed (λ home state. row_after_offers guide own (g_of (row_at guide store own)) succs home state (store.rows home state)) (λ row h. not_opened row h)
             (λ home state row is opened. offers_covered succs own (g_of (row_at guide store own)) states store covers home state row is opened),
@@ -195,7 +184,7 @@ module _ (space : Space) (guide : Guide) where
       let sum = length-append (states_of succs) states in
       let same = same_long succs in
       let fewer = take_few offers (steps space own) in
-      let few = few_steps space own space.actions in (
+      let few = few_below space own space.actions in (
         states_of succs ++ states,
         λ home state row is opened. offers_covered succs own (g_of (row_at guide store own)) states store covers home state row is opened,
         omega (arith, sum, same, few, fewer),
