@@ -79,7 +79,8 @@ IsFound solve parts said =
 
 abbrev pub IsChecked : TaskParts → (certificate : List ℕ) → Said → Type 0
 IsChecked parts certificate said =
-    ((said.status ≡ 0) × Saves said [] × Accepts (Says said) parts certificate) ⊎ ((said.status ≡ 3) × Saves said [] × Rejects (Says said) parts certificate)
+    ((said.status ≡ 0) × Saves said [] × Accepts (Says said) parts certificate)
+    ⊎ ((said.status ≡ 3) × Saves said [] × Rejects (Says said) parts certificate)
 
 -- ---- of a journal that is to be judged
 
@@ -108,9 +109,12 @@ OrRefused (Ok task) P said = P task said
 OrRefused (Err report) P said = IsRefused report said
 
 abbrev pub AnswersReading : Reading → (texts : List (List ℕ)) → Said → Type 0
-AnswersReading (Refused fault) texts said = (said.status ≡ 64) × IsPrinted fault said.report × Saves said []
-AnswersReading (Read (Solve solve)) texts said = OrRefused (solve_task solve texts) (IsFound solve) said
-AnswersReading (Read (Check check)) texts said = OrRefused (check_task check texts) (λ task. IsChecked task.0 task.1) said
+AnswersReading (Refused fault) texts said =
+    (said.status ≡ 64) × IsPrinted fault said.report × Saves said []
+AnswersReading (Read (Solve solve)) texts said =
+    OrRefused (solve_task solve texts) (IsFound solve) said
+AnswersReading (Read (Check check)) texts said =
+    OrRefused (check_task check texts) (λ task. IsChecked task.0 task.1) said
 AnswersReading (Read (Journal journal)) texts said =
     OrRefused (journal_task journal texts) (λ task. IsJudged task.0 task.1) said
 AnswersReading (Read (Make make)) texts said = IsMade make said

@@ -76,13 +76,15 @@ Solves says saves solve parts =
 -- A plan of the task is printed, with its cost and bound.
 abbrev pub PrintsPlan : (says : List ℕ → Type 0) → TaskParts → Weight → Type 0
 PrintsPlan says parts weight =
-    (plan : Plan) × (bound : ℕ) × says (plan_text parts plan bound) × IsPlan (space_of parts) plan × IsBound weight plan.cost bound
+    (plan : Plan) × (bound : ℕ) × says (plan_text parts plan bound) × IsPlan (space_of parts) plan
+    × IsBound weight plan.cost bound
 
 -- The cost that is printed is at most num / den times that of any plan of the task, at the weight
 -- num / den. For every plan of cost f, den * cost <= num * f.
 abbrev pub PrintsLeastCost : (says : List ℕ → Type 0) → TaskParts → Weight → Type 0
 PrintsLeastCost says parts weight =
-    (steps : List (List ℕ)) (cost bound : ℕ) → cost < 2 ^ 64 → says (plan_report steps cost bound) → NoneCheaper (space_of parts) weight cost
+    (steps : List (List ℕ)) (cost bound : ℕ) → cost < 2 ^ 64 → says (plan_report steps cost bound)
+    → NoneCheaper (space_of parts) weight cost
 
 -- The saved certificate is that of the search and is accepted, and its plan is the one that is
 -- printed.
@@ -99,12 +101,16 @@ SavesPlan says saves solve parts =
 -- certificate's cost C and its weight num / den; or there is no plan.
 abbrev pub Accepts : (says : List ℕ → Type 0) → TaskParts → (certificate : List ℕ) → Type 0
 Accepts says parts certificate =
-    (verdict : Verdict) × says (verdict_text verdict) × (checked (space_of parts) (estimate_of parts) (kind_of parts) certificate ≡ Ok verdict)
-    × IsAccepted (space_of parts) (estimate_of parts) (kind_of parts) certificate verdict × ShowsClaim (space_of parts) (kind_of parts) certificate verdict
+    (verdict : Verdict) × says (verdict_text verdict)
+    × (checked (space_of parts) (estimate_of parts) (kind_of parts) certificate ≡ Ok verdict)
+    × IsAccepted (space_of parts) (estimate_of parts) (kind_of parts) certificate verdict
+    × ShowsClaim (space_of parts) (kind_of parts) certificate verdict
     × VerdictHolds (space_of parts) verdict
 
 -- The text is that of no valid certificate of the task, and its first fault is printed.
 abbrev pub Rejects : (says : List ℕ → Type 0) → TaskParts → (certificate : List ℕ) → Type 0
 Rejects says parts certificate =
-    (fault : CertificateFault) × says (fault_text fault) × (checked (space_of parts) (estimate_of parts) (kind_of parts) certificate ≡ Err fault)
-    × ((verdict : Verdict) → IsAccepted (space_of parts) (estimate_of parts) (kind_of parts) certificate verdict → ⊥)
+    (fault : CertificateFault) × says (fault_text fault)
+    × (checked (space_of parts) (estimate_of parts) (kind_of parts) certificate ≡ Err fault)
+    × ((verdict : Verdict) → IsAccepted (space_of parts) (estimate_of parts) (kind_of parts)
+    certificate verdict → ⊥)

@@ -36,10 +36,12 @@ abbrev pub grid_told : Result TaskParts GridError → Result TaskParts (List ℕ
 grid_told (Ok task) = Ok task
 grid_told (Err error) = refused_with (input_text error)
 
-abbrev pub grid_task : (map_text scenario_text : Option (List ℕ)) → (row : ℕ) → (swamp : Bool) → Result TaskParts (List ℕ)
+abbrev pub grid_task : (map_text scenario_text : Option (List ℕ)) → (row : ℕ) → (swamp : Bool)
+    → Result TaskParts (List ℕ)
 grid_task None scenario_text row swamp = Err too_long
 grid_task (Some map_text) None row swamp = Err too_long
-grid_task (Some map_text) (Some scenario_text) row swamp = grid_told (task_of (grid_reading map_text scenario_text row swamp))
+grid_task (Some map_text) (Some scenario_text) row swamp =
+    grid_told (task_of (grid_reading map_text scenario_text row swamp))
 
 abbrev pub tiles_told : Result TilesParts TilesError → Result TaskParts (List ℕ)
 tiles_told (Ok tiles) = Ok (parts.Tiles tiles)
@@ -58,21 +60,26 @@ problem_told domain (Ok problem) = strips_told domain problem (first_fault domai
 problem_told domain (Err error) = refused_with (syntax_text 2 error)
 
 -- the domain is read first, then the problem, and then both are grounded
-abbrev pub domain_told : Result Domain SyntaxError → (problem : Result Problem SyntaxError) → Result TaskParts (List ℕ)
+abbrev pub domain_told : Result Domain SyntaxError → (problem : Result Problem SyntaxError)
+    → Result TaskParts (List ℕ)
 domain_told (Ok domain) problem = problem_told domain problem
 domain_told (Err error) problem = refused_with (syntax_text 1 error)
 
 abbrev pub strips_task : (domain_text problem_text : Option (List ℕ)) → Result TaskParts (List ℕ)
 strips_task None problem_text = Err too_long
 strips_task (Some domain_text) None = Err too_long
-strips_task (Some domain_text) (Some problem_text) = domain_told (domain_reading domain_text) (problem_reading problem_text)
+strips_task (Some domain_text) (Some problem_text) =
+    domain_told (domain_reading domain_text) (problem_reading problem_text)
 
 -- the task of the texts from this place on, and of the words for the row of the scenario and for
 -- swamp; tiles and strips have neither
-abbrev pub input_task : InputNames → (row : ℕ) → (swamp : Bool) → (first : ℕ) → (texts : List (List ℕ)) → Result TaskParts (List ℕ)
-input_task (Grid names) row swamp first texts = grid_task (slice_get texts first) (slice_get texts (first + 1)) row swamp
+abbrev pub input_task : InputNames → (row : ℕ) → (swamp : Bool) → (first : ℕ)
+    → (texts : List (List ℕ)) → Result TaskParts (List ℕ)
+input_task (Grid names) row swamp first texts =
+    grid_task (slice_get texts first) (slice_get texts (first + 1)) row swamp
 input_task (Tiles board) row swamp first texts = tiles_task (slice_get texts first)
-input_task (Strips names) row swamp first texts = strips_task (slice_get texts first) (slice_get texts (first + 1))
+input_task (Strips names) row swamp first texts =
+    strips_task (slice_get texts first) (slice_get texts (first + 1))
 
 -- the task that is to be solved
 abbrev pub solve_task : SolveMeaning → (texts : List (List ℕ)) → Result TaskParts (List ℕ)
@@ -86,8 +93,10 @@ with_text (Some text) (Ok parts) = Ok (parts, text)
 with_text (Some text) (Err report) = Err report
 
 -- the task that a certificate is to be checked for, and the certificate's text
-abbrev pub check_task : CheckMeaning → (texts : List (List ℕ)) → Result (TaskParts × List ℕ) (List ℕ)
-check_task check texts = with_text (slice_get texts 0) (input_task check.input check.row check.swamp 1 texts)
+abbrev pub check_task : CheckMeaning → (texts : List (List ℕ))
+    → Result (TaskParts × List ℕ) (List ℕ)
+check_task check texts =
+    with_text (slice_get texts 0) (input_task check.input check.row check.swamp 1 texts)
 
 -- the task that a journal is to be judged for, and the journal's text; its blocks are the same with swamp or without
 abbrev pub journal_task : JournalMeaning → (texts : List (List ℕ))
@@ -100,8 +109,11 @@ abbrev pub OfTexts : SolveMeaning → (texts : List (List ℕ)) → (P : TaskPar
 OfTexts solve texts P = (parts : TaskParts) × (solve_task solve texts ≡ Ok parts) × P parts
 
 -- the texts spell a task with a certificate to check, and P holds of both
-abbrev pub OfCheckedTexts : CheckMeaning → (texts : List (List ℕ)) → (P : TaskParts → List ℕ → Type 0) → Type 0
-OfCheckedTexts check texts P = (parts : TaskParts) × (certificate : List ℕ) × (check_task check texts ≡ Ok (parts, certificate)) × P parts certificate
+abbrev pub OfCheckedTexts : CheckMeaning → (texts : List (List ℕ))
+    → (P : TaskParts → List ℕ → Type 0) → Type 0
+OfCheckedTexts check texts P =
+    (parts : TaskParts) × (certificate : List ℕ)
+    × (check_task check texts ≡ Ok (parts, certificate)) × P parts certificate
 
 -- the texts spell a task with a journal to judge, and P holds of both
 abbrev pub OfJournalTexts : JournalMeaning → (texts : List (List ℕ))

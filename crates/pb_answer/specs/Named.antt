@@ -30,26 +30,32 @@ NamesTell parts = AreTellingNames (space_of parts).actions (action_name parts)
 abbrev pub SpellTrees : (domain_text problem_text : Option (List ℕ)) → Domain → Problem → Type 0
 SpellTrees None problem_text domain problem = ⊥
 SpellTrees (Some domain_text) None domain problem = ⊥
-SpellTrees (Some domain_text) (Some problem_text) domain problem = SpellsDomain domain_text domain × SpellsProblem problem_text problem
+SpellTrees (Some domain_text) (Some problem_text) domain problem =
+    SpellsDomain domain_text domain × SpellsProblem problem_text problem
 
 -- if the input is a domain and a problem, the texts from this place on spell them, and P holds of
 -- them
-abbrev pub OfTrees : InputNames → (first : ℕ) → (texts : List (List ℕ)) → (P : Domain → Problem → Type 0) → Type 0
+abbrev pub OfTrees : InputNames → (first : ℕ) → (texts : List (List ℕ))
+    → (P : Domain → Problem → Type 0) → Type 0
 OfTrees (Grid names) first texts P = ⊤
 OfTrees (Tiles board) first texts P = ⊤
 OfTrees (Strips names) first texts P =
-    (domain : Domain) × (problem : Problem) × SpellTrees (slice_get texts first) (slice_get texts (first + 1)) domain problem × P domain problem
+    (domain : Domain) × (problem : Problem) × SpellTrees (slice_get texts first)
+    (slice_get texts (first + 1)) domain problem × P domain problem
 
 -- ---- plans
 
 -- no plan costs less than this
 abbrev pub NoneBelow : Domain → Problem → (bound : ℕ) → Type 0
-NoneBelow domain problem bound = (others : List NamedAction) → IsPlan domain problem others → bound ≤ plan_cost domain problem others
+NoneBelow domain problem bound =
+    (others : List NamedAction) → IsPlan domain problem others
+    → bound ≤ plan_cost domain problem others
 
 -- no plan costs less than this cost divided by the weight
 abbrev pub NoneCheaperByNames : Domain → Problem → Weight → (cost : ℕ) → Type 0
 NoneCheaperByNames domain problem weight cost =
-    (others : List NamedAction) → IsPlan domain problem others → weight.den * cost ≤ weight.num * plan_cost domain problem others
+    (others : List NamedAction) → IsPlan domain problem others
+    → weight.den * cost ≤ weight.num * plan_cost domain problem others
 
 abbrev pub HasNoNamedPlan : Domain → Problem → Type 0
 HasNoNamedPlan domain problem = (actions : List NamedAction) → IsPlan domain problem actions → ⊥
@@ -59,7 +65,9 @@ HasNoNamedPlan domain problem = (actions : List NamedAction) → IsPlan domain p
 -- divided by the weight.
 abbrev pub PrintsNamedPlan : (says : List ℕ → Type 0) → Weight → Domain → Problem → Type 0
 PrintsNamedPlan says weight domain problem =
-    (actions : List NamedAction) × (bound : ℕ) × says (plan_report (map (action_bytes domain) actions) (plan_cost domain problem actions) bound)
+    (actions : List NamedAction) × (bound : ℕ)
+    × says (plan_report (map (action_bytes domain) actions) (plan_cost domain problem actions)
+    bound)
     × IsPlan domain problem actions × IsBound weight (plan_cost domain problem actions) bound
     × NoneCheaperByNames domain problem weight (plan_cost domain problem actions)
 
@@ -68,8 +76,10 @@ PrintsNamedPlan says weight domain problem =
 -- what an accepted certificate shows: some plan has its cost, and none costs less than the bound; or there is none
 abbrev pub NamedVerdict : Domain → Problem → Verdict → Type 0
 NamedVerdict domain problem (Bounded cost bound) =
-    ((actions : List NamedAction) × IsPlan domain problem actions × (plan_cost domain problem actions ≡ cost)) × NoneBelow domain problem bound
+    ((actions : List NamedAction) × IsPlan domain problem actions
+    × (plan_cost domain problem actions ≡ cost)) × NoneBelow domain problem bound
 NamedVerdict domain problem Unsolvable = HasNoNamedPlan domain problem
 
 abbrev pub AcceptsNamed : (says : List ℕ → Type 0) → Domain → Problem → Type 0
-AcceptsNamed says domain problem = (verdict : Verdict) × says (verdict_text verdict) × NamedVerdict domain problem verdict
+AcceptsNamed says domain problem =
+    (verdict : Verdict) × says (verdict_text verdict) × NamedVerdict domain problem verdict

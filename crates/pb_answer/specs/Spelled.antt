@@ -13,12 +13,14 @@ abbrev pub SpellInput : InputNames → (first : ℕ) → (texts : List (List ℕ
 SpellInput (Grid names) first texts = ⊥
 SpellInput (Tiles board) first texts = ⊥
 SpellInput (Strips names) first texts =
-    (domain : Domain) × (problem : Problem) × SpellTrees (slice_get texts first) (slice_get texts (first + 1)) domain problem
+    (domain : Domain) × (problem : Problem) × SpellTrees (slice_get texts first)
+    (slice_get texts (first + 1)) domain problem
     × IsWellTyped domain problem × IsWithinLimits domain problem
 
 -- the text that is judged is there, and those after it spell such a task
 abbrev pub SpellBehind : InputNames → (texts : List (List ℕ)) → Type 0
-SpellBehind input texts = (text : List ℕ) × (slice_get texts 0 ≡ Some text) × SpellInput input 1 texts
+SpellBehind input texts =
+    (text : List ℕ) × (slice_get texts 0 ≡ Some text) × SpellInput input 1 texts
 
 -- the words are those of a command whose texts spell such a task
 abbrev pub SpellTask : Reading → (texts : List (List ℕ)) → Type 0

@@ -75,7 +75,11 @@ impl<'a> Answer<'a> {
 
 // The answer to words that are no command line.
 fn refuse_words<'a>(alloc: Global, message: &Message) -> Result<Answer<'a>, AllocError>
-    ensures { IfOk result (λ a. said_of a ≡ record { status = 64; report = message.now; outputs = [] }) }
+    ensures { IfOk result (λ a. said_of a ≡ record {
+      status = 64;
+      report = message.now;
+      outputs = [];
+    }) }
 {
     let report = Report::of_text(alloc, message.as_bytes())?;
     Ok(Answer::without_files(Status::WordsRefused, report))
@@ -98,7 +102,8 @@ fn answer_solve<'a, R: Threads + Wait + Sync, G: Gate>(
     kept: &'a mut Option<LeaseGraph>,
 ) -> Result<Answer<'a>, AllocError>
     requires { IsInRange (Solve (solve_meant solve)) }
-    ensures { IfOk result (λ a. OrRefused (solve_task (solve_meant solve.entry) texts.now) (IsFound (solve_meant solve.entry)) (said_of a)) }
+    ensures { IfOk result (λ a. OrRefused (solve_task (solve_meant solve.entry) texts.now)
+        (IsFound (solve_meant solve.entry)) (said_of a)) }
 {
     match input_task(alloc, &solve.input, solve.row, solve.swamp, texts, 0) {
         Ok(task) => solve_task(rt, alloc, task, solve, gate, kept),
@@ -113,7 +118,8 @@ fn answer_check<'a>(
     check: CheckCommand<'_>,
     texts: &Texts,
 ) -> Result<Answer<'a>, AllocError>
-    ensures { IfOk result (λ a. OrRefused (check_task (check_meant check.entry) texts.now) (λ task. IsChecked task.0 task.1) (said_of a)) }
+    ensures { IfOk result (λ a. OrRefused (check_task (check_meant check.entry) texts.now)
+        (λ task. IsChecked task.0 task.1) (said_of a)) }
 {
     let Some(certificate) = texts.get(0) else {
         return Ok(refuse_input(Report::of_line(alloc, b"input TooLong")?));

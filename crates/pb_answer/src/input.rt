@@ -68,7 +68,8 @@ fn grid(
     row: u64,
     swamp: bool,
 ) -> Result<Task, NoTask>
-    ensures { GivesTask result (grid_task (option_map (λ t. t.now) map.entry) (option_map (λ t. t.now) scenario.entry) row swamp) }
+    ensures { GivesTask result (grid_task (option_map (λ t. t.now) map.entry)
+        (option_map (λ t. t.now) scenario.entry) row swamp) }
 {
     match (map, scenario) {
         (Some(map), Some(scenario)) => match read_grid(alloc, map, scenario, row, swamp) {
@@ -155,7 +156,8 @@ fn read_strips(alloc: Global, domain: &[u8], problem: &[u8]) -> Result<Task, NoT
 
 // The task of a domain and a problem.
 fn strips(alloc: Global, domain: Option<&[u8]>, problem: Option<&[u8]>) -> Result<Task, NoTask>
-    ensures task { GivesTask result (strips_task (option_map (λ t. t.now) domain.entry) (option_map (λ t. t.now) problem.entry)) }
+    ensures task { GivesTask result (strips_task (option_map (λ t. t.now) domain.entry)
+        (option_map (λ t. t.now) problem.entry)) }
     ensures names { IfOk result NamesTell }
 {
     match (domain, problem) {

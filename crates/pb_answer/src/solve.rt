@@ -168,7 +168,8 @@ fn certify<'a>(
     requires range { IsInRange (Solve (solve_meant solve.now)) }
     requires quiet { LeavesQuiet task.now (settings_of (solve_meant solve.now)) graph.now }
     ensures { IfOk result (λ saved. IsPlanOf task.now graph.now plan
-        → Certifies (λ outputs. certificates_of saved ++ journal_outputs (solve_meant solve.now).journal
+        → Certifies (λ outputs. certificates_of saved ++ journal_outputs
+        (solve_meant solve.now).journal
         (settings_of (solve_meant solve.now)) graph.now.table.journal ≡ outputs)
         (solve_meant solve.now) task.now plan) }
 {

@@ -31,12 +31,24 @@ input_meant (kinds.Tiles board) = Tiles board.now
 input_meant (kinds.Strips s) = Strips (strips_meant s)
 
 abbrev pub numbers_meant : GivenNumbers → SolveNumbers
-numbers_meant n = record { row = n.row; workers = n.workers; num = n.num; den = n.den; budget = n.budget; lot = n.lot; blocks = n.blocks }
+numbers_meant n =
+    record {
+      row = n.row;
+      workers = n.workers;
+      num = n.num;
+      den = n.den;
+      budget = n.budget;
+      lot = n.lot;
+      blocks = n.blocks;
+    }
 
 -- each number lies in the range of its option
 abbrev pub AreInRange : GivenNumbers → Type 0
-AreInRange n = IsInRangeOf row_option n.row × IsInRangeOf workers_option n.workers × IsInRangeOf num_option n.num × IsInRangeOf den_option n.den
-    × IsInRangeOf budget_option n.budget × IsInRangeOf lot_option n.lot × IsInRangeOf blocks_option n.blocks
+AreInRange n =
+    IsInRangeOf row_option n.row × IsInRangeOf workers_option n.workers
+    × IsInRangeOf num_option n.num × IsInRangeOf den_option n.den
+    × IsInRangeOf budget_option n.budget × IsInRangeOf lot_option n.lot
+    × IsInRangeOf blocks_option n.blocks
 
 abbrev pub solve_meant : SolveCommand → SolveMeaning
 solve_meant s = record {
@@ -55,7 +67,13 @@ solve_meant s = record {
 }
 
 abbrev pub check_meant : CheckCommand → CheckMeaning
-check_meant s = record { input = input_meant s.input; certificate = s.certificate.now; row = s.row; swamp = s.swamp }
+check_meant s =
+    record {
+      input = input_meant s.input;
+      certificate = s.certificate.now;
+      row = s.row;
+      swamp = s.swamp;
+    }
 
 abbrev pub journal_meant : JournalCommand → JournalMeaning
 journal_meant s = record { input = input_meant s.input; journal = s.journal.now; row = s.row }
@@ -71,7 +89,8 @@ meaning_of (command.Make s) = Make (make_meant s)
 
 -- an answer is what the words mean, or the test that they fail
 abbrev pub Answers : {T : Type 0} → (T → Meaning) → Reading → Result T CommandFault → Type 0
-Answers meant reading result = MatchResult result (λ x. reading ≡ Read (meant x)) (λ f. reading ≡ Refused f)
+Answers meant reading result =
+    MatchResult result (λ x. reading ≡ Read (meant x)) (λ f. reading ≡ Refused f)
 
 -- the last byte is a line feed
 abbrev pub EndsLine : List ℕ → Type 0

@@ -81,17 +81,30 @@ pub record SolveNumbers : Type 0 where
 
 abbrev pub numbers_of : List Row → Option SolveNumbers
 numbers_of rows =
-    option_and_then (λ row. option_and_then (λ workers. option_and_then (λ num. option_and_then (λ den. option_and_then (λ budget. option_and_then (λ lot.
-    option_map (λ blocks. record { row = row; workers = workers; num = num; den = den; budget = budget; lot = lot; blocks = blocks })
-    (option_of blocks_option rows)) (option_of lot_option rows)) (option_of budget_option rows)) (option_of den_option rows)) (option_of num_option rows))
+    option_and_then (λ row. option_and_then
+    (λ workers. option_and_then (λ num. option_and_then
+    (λ den. option_and_then (λ budget. option_and_then (λ lot.
+    option_map (λ blocks. record {
+      row = row;
+      workers = workers;
+      num = num;
+      den = den;
+      budget = budget;
+      lot = lot;
+      blocks = blocks;
+    })
+    (option_of blocks_option rows)) (option_of lot_option rows)) (option_of budget_option rows))
+    (option_of den_option rows)) (option_of num_option rows))
     (option_of workers_option rows)) (option_of row_option rows)
 
 -- a weight below 1 is a fault, and then one name for the certificate and the journal
 abbrev pub solve_tested : SolveMeaning → Reading
 solve_tested solve = if nat_lt solve.num solve.den then Refused fault.Weight
-    else (if are_one_name solve.certificate solve.journal then Refused fault.Names else Read (Solve solve))
+    else (if are_one_name solve.certificate solve.journal then Refused fault.Names
+    else Read (Solve solve))
 
-abbrev pub solve_meaning : SolveNumbers → (plain swamp : Bool) → Option Text → Option Text → InputNames → SolveMeaning
+abbrev pub solve_meaning : SolveNumbers → (plain swamp : Bool) → Option Text → Option Text
+    → InputNames → SolveMeaning
 solve_meaning n plain swamp certificate journal input = record {
   input = input;
   row = n.row;
@@ -108,36 +121,45 @@ solve_meaning n plain swamp certificate journal input = record {
 }
 
 -- clap sees to it that a required word is there, and that a number lies in its range
-abbrev pub solve_with : Option Text → Option Text → Option SolveNumbers → (plain swamp : Bool) → Option Text → Option Text → KindWord → Reading
+abbrev pub solve_with : Option Text → Option Text → Option SolveNumbers → (plain swamp : Bool)
+    → Option Text → Option Text → KindWord → Reading
 solve_with (Some first) second (Some numbers) plain swamp certificate journal kind =
-    with_input (input_of kind first second) (λ input. solve_tested (solve_meaning numbers plain swamp certificate journal input))
+    with_input (input_of kind first second)
+    (λ input. solve_tested (solve_meaning numbers plain swamp certificate journal input))
 solve_with _ _ _ _ _ _ _ kind = Refused fault.Form
 
 abbrev pub solve_of : List Row → Reading
 solve_of rows = with_kind (kind_of_text (first_of (codes "KIND") rows))
-    (solve_with (first_of (codes "FIRST_FILE") rows) (first_of (codes "SECOND_FILE") rows) (numbers_of rows) (flag_of (codes "plain") rows) (flag_of (codes "swamp") rows)
+    (solve_with (first_of (codes "FIRST_FILE") rows) (first_of (codes "SECOND_FILE") rows)
+    (numbers_of rows) (flag_of (codes "plain") rows) (flag_of (codes "swamp") rows)
     (first_of (codes "cert") rows) (first_of (codes "trace") rows))
 
 -- ---- `check` and `journal`
 
-abbrev pub check_with : Option Text → Option Text → Option Text → Option ℕ → (swamp : Bool) → KindWord → Reading
+abbrev pub check_with : Option Text → Option Text → Option Text → Option ℕ → (swamp : Bool)
+    → KindWord → Reading
 check_with (Some certificate) (Some first) second (Some row) swamp kind =
-    with_input (input_of kind first second) (λ input. Read (Check (record { input = input; certificate = certificate; row = row; swamp = swamp })))
+    with_input (input_of kind first second)
+    (λ input. Read
+    (Check (record { input = input; certificate = certificate; row = row; swamp = swamp })))
 check_with _ _ _ _ _ kind = Refused fault.Form
 
 abbrev pub check_of : List Row → Reading
 check_of rows = with_kind (kind_of_text (first_of (codes "KIND") rows))
-    (check_with (first_of (codes "CERTIFICATE") rows) (first_of (codes "FIRST_FILE") rows) (first_of (codes "SECOND_FILE") rows) (option_of row_option rows)
+    (check_with (first_of (codes "CERTIFICATE") rows) (first_of (codes "FIRST_FILE") rows)
+    (first_of (codes "SECOND_FILE") rows) (option_of row_option rows)
     (flag_of (codes "swamp") rows))
 
 abbrev pub journal_with : Option Text → Option Text → Option Text → Option ℕ → KindWord → Reading
 journal_with (Some journal) (Some first) second (Some row) kind =
-    with_input (input_of kind first second) (λ input. Read (Journal (record { input = input; journal = journal; row = row })))
+    with_input (input_of kind first second)
+    (λ input. Read (Journal (record { input = input; journal = journal; row = row })))
 journal_with _ _ _ _ kind = Refused fault.Form
 
 abbrev pub journal_of : List Row → Reading
 journal_of rows = with_kind (kind_of_text (first_of (codes "KIND") rows))
-    (journal_with (first_of (codes "JOURNAL") rows) (first_of (codes "FIRST_FILE") rows) (first_of (codes "SECOND_FILE") rows) (option_of row_option rows))
+    (journal_with (first_of (codes "JOURNAL") rows) (first_of (codes "FIRST_FILE") rows)
+    (first_of (codes "SECOND_FILE") rows) (option_of row_option rows))
 
 -- ---- `make`
 
@@ -146,18 +168,22 @@ abbrev pub make_tested : MakeMeaning → Reading
 make_tested make = if is_size make.kind make.size then Read (Make make) else Refused fault.Size
 
 abbrev pub make_with : Option ℕ → Option ℕ → Option ℕ → KindWord → Reading
-make_with (Some seed) (Some size) (Some workers) kind = make_tested (record { kind = kind; seed = seed; size = size; workers = workers })
+make_with (Some seed) (Some size) (Some workers) kind =
+    make_tested (record { kind = kind; seed = seed; size = size; workers = workers })
 make_with _ _ _ kind = Refused fault.Form
 
 abbrev pub make_of : List Row → Reading
-make_of rows = with_kind (kind_of_text (first_of (codes "KIND") rows)) (make_with (seed_of rows) (size_of rows) (option_of workers_option rows))
+make_of rows =
+    with_kind (kind_of_text (first_of (codes "KIND") rows))
+    (make_with (seed_of rows) (size_of rows) (option_of workers_option rows))
 
 -- ---- all commands
 
 -- what the values of a subcommand ask for
 abbrev pub command_of : Text → List Row → Reading
 command_of name rows = if bytes_eq name (codes "solve") then solve_of rows
-    else (if bytes_eq name (codes "check") then check_of rows else (if bytes_eq name (codes "journal") then journal_of rows else make_of rows))
+    else (if bytes_eq name (codes "check") then check_of rows
+    else (if bytes_eq name (codes "journal") then journal_of rows else make_of rows))
 
 abbrev pub command_met : Option (Text × List Row) → Reading
 command_met None = Refused fault.Form
@@ -170,7 +196,8 @@ unless_faulty (k ∷ ks) reading = Refused fault.Form
 -- the words are refused if clap finds a fault in them, and else are what the values of their
 -- subcommand ask for
 abbrev pub reading_of_words : List Text → Reading
-reading_of_words words = unless_faulty (fault_of the_program words) (command_met (subcommand_of the_program words))
+reading_of_words words =
+    unless_faulty (fault_of the_program words) (command_met (subcommand_of the_program words))
 
 -- ---- ranges
 

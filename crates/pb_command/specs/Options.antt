@@ -89,7 +89,8 @@ placed_words (Flag flag ∷ rest) = placed_words rest
 abbrev pub value_given : ValuedOption → List Argument → Option Text
 value_given option [] = None
 value_given option (Placed word ∷ rest) = value_given option rest
-value_given option (Valued other value ∷ rest) = if is_same option other then Some value else value_given option rest
+value_given option (Valued other value ∷ rest) =
+    if is_same option other then Some value else value_given option rest
 value_given option (Flag flag ∷ rest) = value_given option rest
 
 -- whether the flag is given
@@ -105,7 +106,8 @@ number_of value = digits_value 10 (without_leading_plus value)
 
 -- the number that the option is given, and else the default
 abbrev pub number_given : ValuedOption → (default : ℕ) → List Argument → ℕ
-number_given option default arguments = option_map_or number_of (value_given option arguments) default
+number_given option default arguments =
+    option_map_or number_of (value_given option arguments) default
 
 -- no option and no flag is given twice
 abbrev pub AreDistinct : List Argument → Type 0
@@ -129,9 +131,11 @@ is_value_of Certificate value = true
 is_value_of Journal value = true
 
 -- an argument of a command that has these options and these flags
-abbrev pub IsArgumentOf : (has_option : ValuedOption → Bool) → (has_flag : FlagOption → Bool) → Argument → Type 0
+abbrev pub IsArgumentOf : (has_option : ValuedOption → Bool) → (has_flag : FlagOption → Bool)
+    → Argument → Type 0
 IsArgumentOf has_option has_flag (Placed word) = IsName word
-IsArgumentOf has_option has_flag (Valued option value) = (has_option option ≡ true) × IsName value × (is_value_of option value ≡ true)
+IsArgumentOf has_option has_flag (Valued option value) =
+    (has_option option ≡ true) × IsName value × (is_value_of option value ≡ true)
 IsArgumentOf has_option has_flag (Flag flag) = has_flag flag ≡ true
 
 -- `check` has the flag for swamp
@@ -177,7 +181,9 @@ pub record AreOfSolve (input : InputNames) (arguments : List Argument) : Type 0 
 
 -- certificate and journal are not given one name
 abbrev pub HaveTwoNames : List Argument → Type 0
-HaveTwoNames arguments = (name : Text) → value_given Certificate arguments ≡ Some name → value_given Journal arguments ≡ Some name → ⊥
+HaveTwoNames arguments =
+    (name : Text) → value_given Certificate arguments ≡ Some name
+    → value_given Journal arguments ≡ Some name → ⊥
 
 -- `solve` with the kind and its files, and with options anywhere among them, searches this task with their values.
 abbrev pub SolveReadsOptions : Type 0
@@ -206,7 +212,8 @@ LowWeightIsRefused = (input : InputNames) (arguments : List Argument) → AreOfS
 
 -- And if the weight isn't below 1, one name for the certificate and the journal is refused.
 abbrev pub OneNameIsRefused : Type 0
-OneNameIsRefused = (input : InputNames) (name : Text) (arguments : List Argument) → AreOfSolve input arguments
+OneNameIsRefused =
+    (input : InputNames) (name : Text) (arguments : List Argument) → AreOfSolve input arguments
     → number_given Den 1 arguments ≤ number_given Num 1 arguments
     → value_given Certificate arguments ≡ Some name → value_given Journal arguments ≡ Some name
     → reading_of_words (codes "solve" ∷ words_of arguments) ≡ Refused fault.Names
@@ -214,7 +221,9 @@ OneNameIsRefused = (input : InputNames) (name : Text) (arguments : List Argument
 -- `check` with the kind, the certificate and the files, and with a row and the flag for swamp anywhere among them, checks that certificate for
 -- this task.
 abbrev pub CheckReadsOptions : Type 0
-CheckReadsOptions = (input : InputNames) (certificate : Text) (arguments : List Argument) → AllByRecursion (IsArgumentOf is_of_check is_flag_of_check) arguments → AreDistinct arguments
+CheckReadsOptions =
+    (input : InputNames) (certificate : Text) (arguments : List Argument)
+    → AllByRecursion (IsArgumentOf is_of_check is_flag_of_check) arguments → AreDistinct arguments
     → placed_words arguments ≡ kind_word input ∷ certificate ∷ file_words input
     → reading_of_words (codes "check" ∷ words_of arguments) ≡ Read (Check (record {
       input = input;
@@ -225,7 +234,9 @@ CheckReadsOptions = (input : InputNames) (certificate : Text) (arguments : List 
 
 -- `journal` with the kind, the journal and the files, and with a row anywhere among them, checks that journal for this task.
 abbrev pub JournalReadsOptions : Type 0
-JournalReadsOptions = (input : InputNames) (journal : Text) (arguments : List Argument) → AllByRecursion (IsArgumentOf is_of_check no_flag) arguments → AreDistinct arguments
+JournalReadsOptions =
+    (input : InputNames) (journal : Text) (arguments : List Argument)
+    → AllByRecursion (IsArgumentOf is_of_check no_flag) arguments → AreDistinct arguments
     → placed_words arguments ≡ kind_word input ∷ journal ∷ file_words input
     → reading_of_words (codes "journal" ∷ words_of arguments) ≡ Read (JournalCommand (record {
       input = input;
@@ -255,7 +266,9 @@ pub record AreOfMake (k : KindWord) (seed size : Text) (arguments : List Argumen
 
 -- `make` with a kind, a seed and a size that the kind has makes that task.
 abbrev pub MakeReadsOptions : Type 0
-MakeReadsOptions = (k : KindWord) (seed size : Text) (arguments : List Argument) → AreOfMake k seed size arguments → IsSizeOf k (number_of size)
+MakeReadsOptions =
+    (k : KindWord) (seed size : Text) (arguments : List Argument) → AreOfMake k seed size arguments
+    → IsSizeOf k (number_of size)
     → reading_of_words (codes "make" ∷ words_of arguments) ≡ Read (Make (record {
       kind = k;
       seed = number_of seed;
@@ -265,27 +278,36 @@ MakeReadsOptions = (k : KindWord) (seed size : Text) (arguments : List Argument)
 
 -- A size that the kind doesn't have is refused.
 abbrev pub OtherSizeIsRefused : Type 0
-OtherSizeIsRefused = (k : KindWord) (seed size : Text) (arguments : List Argument) → AreOfMake k seed size arguments → (IsSizeOf k (number_of size) → ⊥)
+OtherSizeIsRefused =
+    (k : KindWord) (seed size : Text) (arguments : List Argument) → AreOfMake k seed size arguments
+    → (IsSizeOf k (number_of size) → ⊥)
     → reading_of_words (codes "make" ∷ words_of arguments) ≡ Refused fault.Size
 
 -- An option whose number isn't in its range is refused for its form.
 abbrev pub OutOfRangeIsRefused : Type 0
 OutOfRangeIsRefused = (input : InputNames) (arguments : List Argument) → AreOfSolve input arguments
     → (option : ValuedOption) (value : Text) → IsName value → is_value_of option value ≡ false
-    → reading_of_words (codes "solve" ∷ words_of arguments ++ option_word option ∷ value ∷ []) ≡ Refused fault.Form
+    → reading_of_words (codes "solve" ∷ words_of arguments ++ option_word option ∷ value ∷ [])
+    ≡ Refused fault.Form
 
 -- An option that is given twice is refused for its form, whatever its second value.
 abbrev pub GivenTwiceIsRefused : Type 0
 GivenTwiceIsRefused = (input : InputNames) (arguments : List Argument) → AreOfSolve input arguments
-    → (option : ValuedOption) (first second : Text) → value_given option arguments ≡ Some first → IsName second
-    → reading_of_words (codes "solve" ∷ words_of arguments ++ option_word option ∷ second ∷ []) ≡ Refused fault.Form
+    → (option : ValuedOption) (first second : Text) → value_given option arguments ≡ Some first
+    → IsName second
+    → reading_of_words (codes "solve" ∷ words_of arguments ++ option_word option ∷ second ∷ [])
+    ≡ Refused fault.Form
 
 -- A flag that is given twice is refused for its form.
 abbrev pub FlagTwiceIsRefused : Type 0
-FlagTwiceIsRefused = (input : InputNames) (arguments : List Argument) → AreOfSolve input arguments → (flag : FlagOption) → flag_given flag arguments ≡ true
-    → reading_of_words (codes "solve" ∷ words_of arguments ++ flag_word flag ∷ []) ≡ Refused fault.Form
+FlagTwiceIsRefused =
+    (input : InputNames) (arguments : List Argument) → AreOfSolve input arguments
+    → (flag : FlagOption) → flag_given flag arguments ≡ true
+    → reading_of_words (codes "solve" ∷ words_of arguments ++ flag_word flag ∷ [])
+    ≡ Refused fault.Form
 
 -- A word for help is refused for its form.
 abbrev pub HelpIsRefused : Type 0
 HelpIsRefused = (input : InputNames) (arguments : List Argument) → AreOfSolve input arguments
-    → reading_of_words (codes "solve" ∷ words_of arguments ++ codes "--help" ∷ []) ≡ Refused fault.Form
+    → reading_of_words (codes "solve" ∷ words_of arguments ++ codes "--help" ∷ [])
+    ≡ Refused fault.Form

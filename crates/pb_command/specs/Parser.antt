@@ -6,7 +6,8 @@ use Rattle.clap.specs.declared.builder.value_parser.ValueParser.TheVariants as v
 
 -- `--NAME NUMBER`, a whole number from `least` to `most`
 abbrev pub number_rule : Text → ℕ → ℕ → Rule
-number_rule name least most = record (new_rule name) { long = Some name; parser = Some (vp.Unsigned least most) }
+number_rule name least most =
+    record (new_rule name) { long = Some name; parser = Some (vp.Unsigned least most) }
 
 -- `--NAME TEXT`
 abbrev pub text_rule : Text → Rule
@@ -22,7 +23,8 @@ required_rule name = record (new_rule name) { required = true }
 
 -- a required word, a whole number from `least` to `most`
 abbrev pub required_number_rule : Text → ℕ → ℕ → Rule
-required_number_rule name least most = record (new_rule name) { required = true; parser = Some (vp.Unsigned least most) }
+required_number_rule name least most =
+    record (new_rule name) { required = true; parser = Some (vp.Unsigned least most) }
 
 -- an option with a number, the range of the number, and the number if the option isn't given
 pub record NumberOption : Type 0 where
@@ -49,7 +51,8 @@ den_option = record { name = codes "den"; least = 1; most = 1000; default = 1 }
 
 -- how many expansions a search may do: at most 2^40
 abbrev pub budget_option : NumberOption
-budget_option = record { name = codes "budget"; least = 1; most = 1099511627776; default = 16777216 }
+budget_option =
+    record { name = codes "budget"; least = 1; most = 1099511627776; default = 16777216 }
 
 -- how many expansions a lease gets at most: at most 2^20
 abbrev pub lot_option : NumberOption
@@ -76,23 +79,36 @@ with_rules a (r ∷ rs) = with_rules (with_rule a r) rs
 
 -- `solve KIND FILE [FILE] [--row K] [--workers W] [--num N] [--den D] [--budget B] [--lot L] [--blocks C] [--cert NAME] [--trace NAME] [--plain] [--swamp]`
 unfoldable pub the_solve : App
-the_solve = with_rules (new_app (codes "solve")) (required_rule (codes "KIND") ∷ required_rule (codes "FIRST_FILE") ∷ new_rule (codes "SECOND_FILE")
-    ∷ option_rule row_option ∷ option_rule workers_option ∷ option_rule num_option ∷ option_rule den_option ∷ option_rule budget_option ∷ option_rule lot_option
-    ∷ option_rule blocks_option ∷ text_rule (codes "cert") ∷ text_rule (codes "trace") ∷ flag_rule (codes "plain") ∷ flag_rule (codes "swamp") ∷ [])
+the_solve =
+    with_rules (new_app (codes "solve")) (required_rule (codes "KIND")
+    ∷ required_rule (codes "FIRST_FILE") ∷ new_rule (codes "SECOND_FILE")
+    ∷ option_rule row_option ∷ option_rule workers_option ∷ option_rule num_option
+    ∷ option_rule den_option ∷ option_rule budget_option ∷ option_rule lot_option
+    ∷ option_rule blocks_option ∷ text_rule (codes "cert") ∷ text_rule (codes "trace")
+    ∷ flag_rule (codes "plain") ∷ flag_rule (codes "swamp") ∷ [])
 
 -- `check KIND CERT FILE [FILE] [--row K] [--swamp]`
 unfoldable pub the_check : App
-the_check = with_rules (new_app (codes "check")) (required_rule (codes "KIND") ∷ required_rule (codes "CERTIFICATE") ∷ required_rule (codes "FIRST_FILE") ∷ new_rule (codes "SECOND_FILE")
+the_check =
+    with_rules (new_app (codes "check")) (required_rule (codes "KIND")
+    ∷ required_rule (codes "CERTIFICATE") ∷ required_rule (codes "FIRST_FILE")
+    ∷ new_rule (codes "SECOND_FILE")
     ∷ option_rule row_option ∷ flag_rule (codes "swamp") ∷ [])
 
 -- `journal KIND JOURNAL FILE [FILE] [--row K]`
 unfoldable pub the_journal : App
-the_journal = with_rules (new_app (codes "journal")) (required_rule (codes "KIND") ∷ required_rule (codes "JOURNAL") ∷ required_rule (codes "FIRST_FILE") ∷ new_rule (codes "SECOND_FILE")
+the_journal =
+    with_rules (new_app (codes "journal")) (required_rule (codes "KIND")
+    ∷ required_rule (codes "JOURNAL") ∷ required_rule (codes "FIRST_FILE")
+    ∷ new_rule (codes "SECOND_FILE")
     ∷ option_rule row_option ∷ [])
 
 -- `make KIND SEED SIZE [--workers W]`
 unfoldable pub the_make : App
-the_make = with_rules (new_app (codes "make")) (required_rule (codes "KIND") ∷ required_number_rule (codes "SEED") 0 seed_most ∷ required_number_rule (codes "SIZE") 0 size_word_most
+the_make =
+    with_rules (new_app (codes "make")) (required_rule (codes "KIND")
+    ∷ required_number_rule (codes "SEED") 0 seed_most ∷ required_number_rule (codes "SIZE") 0
+    size_word_most
     ∷ option_rule workers_option ∷ [])
 
 -- the program before it has subcommands: no word asks for help or the version
@@ -107,4 +123,6 @@ bare_program = record (new_app (codes "pbnf")) {
 }
 
 unfoldable pub the_program : App
-the_program = with_subcommand (with_subcommand (with_subcommand (with_subcommand bare_program the_solve.top) the_check.top) the_journal.top) the_make.top
+the_program =
+    with_subcommand (with_subcommand (with_subcommand (with_subcommand bare_program the_solve.top)
+    the_check.top) the_journal.top) the_make.top

@@ -29,7 +29,8 @@ pub data InputNames : Type 0 where
 abbrev pub kind_of_text : Option Text → Option KindWord
 kind_of_text None = None
 kind_of_text (Some word) = if bytes_eq word (codes "grid") then Some kind.Grid
-    else (if bytes_eq word (codes "tiles") then Some kind.Tiles else (if bytes_eq word (codes "strips") then Some kind.Strips else None))
+    else (if bytes_eq word (codes "tiles") then Some kind.Tiles
+    else (if bytes_eq word (codes "strips") then Some kind.Strips else None))
 
 -- a grid and a STRIPS problem have two files, tiles have one
 abbrev pub input_of : KindWord → Text → Option Text → Option InputNames
@@ -37,14 +38,16 @@ input_of kind.Grid first (Some second) = Some (Grid (record { map = first; scena
 input_of kind.Grid first None = None
 input_of kind.Tiles first None = Some (Tiles first)
 input_of kind.Tiles first (Some second) = None
-input_of kind.Strips first (Some second) = Some (Strips (record { domain = first; problem = second }))
+input_of kind.Strips first (Some second) =
+    Some (Strips (record { domain = first; problem = second }))
 input_of kind.Strips first None = None
 
 -- the number that a value writes, if it lies in the range, and the default if there is no value
 abbrev pub number_in : ℕ → ℕ → Option ℕ → Option Text → Option ℕ
 number_in least most default None = default
 number_in least most default (Some text) =
-    if is_unsigned_in least most text then Some (digits_value 10 (without_leading_plus text)) else None
+    if is_unsigned_in least most text then Some (digits_value 10 (without_leading_plus text))
+    else None
 
 abbrev pub option_of : NumberOption → List Row → Option ℕ
 option_of o rows = number_in o.least o.most (Some o.default) (one_of o.name rows)

@@ -41,7 +41,8 @@ with_numbers words first second = line (spaced words (spaced (decimal first) (de
 
 -- a line of words, two numbers and another word
 abbrev pub with_numbers_and_word : (words : List ℕ) → (first second : ℕ) → (word : List ℕ) → List ℕ
-with_numbers_and_word words first second word = line (spaced words (spaced (decimal first) (spaced (decimal second) word)))
+with_numbers_and_word words first second word =
+    line (spaced words (spaced (decimal first) (spaced (decimal second) word)))
 
 -- ---- a plan
 
@@ -57,7 +58,9 @@ plan_text parts plan bound = plan_report (map (action_name parts) plan.actions) 
 
 -- what an accepted certificate shows
 abbrev pub verdict_text : Verdict → List ℕ
-verdict_text (Bounded cost bound) = line (spaced (codes "accepted cost") (spaced (decimal cost) (spaced (codes "bound") (decimal bound))))
+verdict_text (Bounded cost bound) =
+    line (spaced (codes "accepted cost") (spaced (decimal cost)
+    (spaced (codes "bound") (decimal bound))))
 verdict_text Unsolvable = line (codes "accepted none")
 
 -- why a certificate is refused: the fault's name and its numbers
@@ -165,8 +168,10 @@ left_out_word left_out.Metric = codes "Metric"
 abbrev pub syntax_text : (file : ℕ) → SyntaxError → Option (List ℕ)
 syntax_text file (syntax.Byte at) = Some (with_numbers (codes "input Byte") file at)
 syntax_text file (syntax.Deep at) = Some (with_numbers (codes "input Deep") file at)
-syntax_text file (syntax.LeftOut at what) = Some (with_numbers_and_word (codes "input LeftOut") file at (left_out_word what))
-syntax_text file (syntax.Expected at want) = Some (with_numbers_and_word (codes "input Expected") file at (want_word want))
+syntax_text file (syntax.LeftOut at what) =
+    Some (with_numbers_and_word (codes "input LeftOut") file at (left_out_word what))
+syntax_text file (syntax.Expected at want) =
+    Some (with_numbers_and_word (codes "input Expected") file at (want_word want))
 syntax_text file (syntax.Unclosed at) = Some (with_numbers (codes "input Unclosed") file at)
 syntax_text file (syntax.Extra at) = Some (with_numbers (codes "input Extra") file at)
 syntax_text file syntax.Memory = None
@@ -189,7 +194,8 @@ cause_word causes.ZeroCost = codes "ZeroCost"
 
 -- why names, costs or objects are refused: the cause, the number of the file and the place in it; or how many objects there are
 abbrev pub refusal_text : TypingRefusal → List ℕ
-refusal_text (Named cause place) = with_numbers (spaced (codes "input") (cause_word cause)) (file_number place.file) place.at
+refusal_text (Named cause place) =
+    with_numbers (spaced (codes "input") (cause_word cause)) (file_number place.file) place.at
 refusal_text (TooManyObjects count) = with_number (codes "input TooManyObjects") count
 
 -- why a domain and a problem are no task; out of memory has no text

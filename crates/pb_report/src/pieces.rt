@@ -31,7 +31,8 @@ pub(crate) fn push_with_numbers(
     between: &[u8],
     second: u64,
 ) -> Result<(), AllocError>
-    ensures { OnOk result (out.new.items ≡ out.old.items ++ line (text.now ++ decimal first ++ between.now ++ decimal second)) }
+    ensures { OnOk result (out.new.items ≡ out.old.items ++ line
+        (text.now ++ decimal first ++ between.now ++ decimal second)) }
 {
     push_text(out, text)?;
     push_number(out, first)?;
@@ -46,7 +47,8 @@ pub(crate) fn push_with_numbers_and_word(
     second: u64,
     word: &[u8],
 ) -> Result<(), AllocError>
-    ensures { OnOk result (out.new.items ≡ out.old.items ++ line (text.now ++ spaced (decimal first) (spaced (decimal second) word.now))) }
+    ensures { OnOk result (out.new.items ≡ out.old.items ++ line
+        (text.now ++ spaced (decimal first) (spaced (decimal second) word.now))) }
 {
     push_text(out, text)?;
     push_number(out, first)?;
@@ -63,7 +65,8 @@ pub(crate) fn push_with_wide(
     first: u64,
     second: u128,
 ) -> Result<(), AllocError>
-    ensures { OnOk result (out.new.items ≡ out.old.items ++ line (text.now ++ spaced (decimal first) (decimal second))) }
+    ensures { OnOk result (out.new.items ≡ out.old.items ++ line
+        (text.now ++ spaced (decimal first) (decimal second))) }
 {
     let mut buffer = Buffer::new();
     push_text(out, text)?;
@@ -80,7 +83,8 @@ pub(crate) fn push_steps(
     actions: &[u32],
 ) -> Result<(), AllocError>
     requires { AreActions (space_of task.now) actions.now }
-    ensures { OnOk result (out.new.items ≡ out.old.items ++ lines (map (action_name task.now) actions.now)) }
+    ensures { OnOk result (out.new.items ≡ out.old.items ++ lines
+        (map (action_name task.now) actions.now)) }
 {
     for action in actions {
         let name = task.action_text(alloc, *action)?;

@@ -274,7 +274,8 @@ impl Report {
         bound: u64,
     ) -> Result<Report, AllocError>
         requires { AreActions (space_of task.now) actions.now }
-        ensures { IfOk result (λ report. report ≡ plan_text task.now (record { actions = actions.now; cost = cost }) bound) }
+        ensures { IfOk result (λ report. report ≡ plan_text task.now
+            (record { actions = actions.now; cost = cost }) bound) }
     {
         let mut bytes = Vec::new(alloc);
         push_with_numbers(&mut bytes, b"plan ", cost, b" ", actions.len() as u64)?;
@@ -300,7 +301,8 @@ impl Report {
         between: &[u8],
         second: u64,
     ) -> Result<Report, AllocError>
-        ensures { IfOk result (λ report. report ≡ line (text.now ++ decimal first ++ between.now ++ decimal second)) }
+        ensures { IfOk result (λ report. report
+            ≡ line (text.now ++ decimal first ++ between.now ++ decimal second)) }
     {
         let mut bytes = Vec::new(alloc);
         push_with_numbers(&mut bytes, text, first, between, second)?;
@@ -338,7 +340,8 @@ impl Report {
         second: u64,
         word: &str,
     ) -> Result<Report, AllocError>
-        ensures { IfOk result (λ report. report ≡ line (text.now ++ spaced (decimal first) (spaced (decimal second) word.now))) }
+        ensures { IfOk result (λ report. report
+            ≡ line (text.now ++ spaced (decimal first) (spaced (decimal second) word.now))) }
     {
         let mut bytes = Vec::new(alloc);
         push_with_numbers_and_word(&mut bytes, text, first, second, word.as_bytes())?;
@@ -347,7 +350,8 @@ impl Report {
 
     // One line of a text, a number, a space and a number that may be wider.
     fn with_wide(alloc: Global, text: &[u8], first: u64, second: u128) -> Result<Report, AllocError>
-        ensures { IfOk result (λ report. report ≡ line (text.now ++ spaced (decimal first) (decimal second))) }
+        ensures { IfOk result (λ report. report
+            ≡ line (text.now ++ spaced (decimal first) (decimal second))) }
     {
         let mut bytes = Vec::new(alloc);
         push_with_wide(&mut bytes, text, first, second)?;

@@ -28,14 +28,16 @@ listed (Some name) = name ∷ []
 abbrev pub input_files : InputNames → List Wanted
 input_files (Grid names) = wanted longest_input names.map ∷ wanted longest_input names.scenario ∷ []
 input_files (Tiles board) = wanted longest_input board ∷ []
-input_files (Strips names) = wanted longest_input names.domain ∷ wanted longest_input names.problem ∷ []
+input_files (Strips names) =
+    wanted longest_input names.domain ∷ wanted longest_input names.problem ∷ []
 
 -- the files that a command line names to be read, in order of its words
 abbrev pub files_of : Reading → List Wanted
 files_of (Refused fault) = []
 files_of (Read (Solve solve)) = input_files solve.input
 files_of (Read (Check check)) = wanted longest_record check.certificate ∷ input_files check.input
-files_of (Read (Journal journal)) = wanted longest_record journal.journal ∷ input_files journal.input
+files_of (Read (Journal journal)) =
+    wanted longest_record journal.journal ∷ input_files journal.input
 files_of (Read (Make make)) = []
 
 -- the names under which a command line asks to save something, in the order of saving

@@ -69,7 +69,8 @@ abbrev pub load_calls : List Wanted → (texts : List (List ℕ)) → (unloaded 
 load_calls [] texts unloaded = []
 load_calls (file ∷ files) [] None = []
 load_calls (file ∷ files) [] (Some why) = LoadFailed file.name file.most why ∷ []
-load_calls (file ∷ files) (text ∷ texts) unloaded = Loaded file.name file.most text ∷ load_calls files texts unloaded
+load_calls (file ∷ files) (text ∷ texts) unloaded =
+    Loaded file.name file.most text ∷ load_calls files texts unloaded
 
 -- the loads came to their end: each file was loaded, or the next one is too long
 abbrev pub EndLoads : List Wanted → (texts : List (List ℕ)) → (unloaded : Option Load) → Type 0
@@ -83,16 +84,20 @@ EndLoads files texts (Some Memory) = ⊥
 -- the calls save these files, one after another: each is begun, and grows by pieces that are together its text
 abbrev pub SaveAll : List Call → List Output → Type 0
 SaveAll calls [] = calls ≡ []
-SaveAll calls (first ∷ outputs) = (own : List Call) × (rest : List Call) × (calls ≡ own ++ rest) × SaveText own first.name first.text × SaveAll rest outputs
+SaveAll calls (first ∷ outputs) =
+    (own : List Call) × (rest : List Call) × (calls ≡ own ++ rest)
+    × SaveText own first.name first.text × SaveAll rest outputs
 
 -- the calls save some of these files, up to a call that failed, which is the last
 abbrev pub FailToSaveAll : List Call → List Output → Type 0
 FailToSaveAll calls [] = ⊥
 FailToSaveAll calls (first ∷ outputs) =
     FailToSave calls first.name first.text
-    ⊎ ((own : List Call) × (rest : List Call) × (calls ≡ own ++ rest) × SaveText own first.name first.text × FailToSaveAll rest outputs)
+    ⊎ ((own : List Call) × (rest : List Call) × (calls ≡ own ++ rest)
+    × SaveText own first.name first.text × FailToSaveAll rest outputs)
 
 -- the shelf can hold each of these files
 abbrev pub CanHold : (can_hold : List ℕ → ℕ → Type 0) → List Output → Type 0
 CanHold can_hold [] = Unit {0}
-CanHold can_hold (first ∷ outputs) = can_hold first.name (length first.text) × CanHold can_hold outputs
+CanHold can_hold (first ∷ outputs) =
+    can_hold first.name (length first.text) × CanHold can_hold outputs

@@ -24,18 +24,21 @@ use Rattle.pb_run.specs.declared.load.Fault.TheVariants.{OutOfMemory, ShelfFaile
 abbrev pub SavesIn : List Output → Files → Files → Type 0
 SavesIn [] before after = KeepsAll before after
 SavesIn (first ∷ outputs) before after =
-    (between : Files) × (between first.name ≡ Some first.text) × KeepsOthers before between first.name × SavesIn outputs between after
+    (between : Files) × (between first.name ≡ Some first.text)
+    × KeepsOthers before between first.name × SavesIn outputs between after
 
 -- some of these files were saved, and of the next one a first part, or nothing; all others stay
 abbrev pub SavesPartIn : List Output → Files → Files → Type 0
 SavesPartIn [] before after = ⊥
 SavesPartIn (first ∷ outputs) before after =
     (IsPartSaved before after first.name first.text × KeepsOthers before after first.name)
-    ⊎ ((between : Files) × (between first.name ≡ Some first.text) × KeepsOthers before between first.name × SavesPartIn outputs between after)
+    ⊎ ((between : Files) × (between first.name ≡ Some first.text)
+    × KeepsOthers before between first.name × SavesPartIn outputs between after)
 
 -- of what is due for these texts only a part was saved
 abbrev pub LeavesPart : Reading → (texts : List (List ℕ)) → Files → Files → Type 0
-LeavesPart reading texts before after = (said : Said) × AnswersReading reading texts said × SavesPartIn said.outputs before after
+LeavesPart reading texts before after =
+    (said : Said) × AnswersReading reading texts said × SavesPartIn said.outputs before after
 
 -- it is none of these names
 abbrev pub IsNoneOf : (names : List (List ℕ)) → (other : List ℕ) → Type 0
@@ -44,19 +47,25 @@ IsNoneOf (name ∷ names) other = (other ≢ name) × IsNoneOf names other
 
 -- all files stay but those under the names that the words give
 abbrev pub KeepsUnnamed : Reading → Files → Files → Type 0
-KeepsUnnamed reading before after = (other : List ℕ) → IsNoneOf (saved_names reading) other → after other ≡ before other
+KeepsUnnamed reading before after =
+    (other : List ℕ) → IsNoneOf (saved_names reading) other → after other ≡ before other
 
 -- ---- how the parts of the program go
 
 -- the loads came to their end, with these texts
 abbrev pub LoadsAll : (old new : List Call) → List Wanted → (texts : List (List ℕ)) → Type 0
-LoadsAll old new files texts = (unloaded : Option Load) × EndLoads files texts unloaded × (new ≡ old ++ load_calls files texts unloaded)
+LoadsAll old new files texts =
+    (unloaded : Option Load) × EndLoads files texts unloaded
+    × (new ≡ old ++ load_calls files texts unloaded)
 
 -- memory ran out while files were loaded, or a load failed by a fault of the shelf
 abbrev pub LoadsUpTo : (old new : List Call) → List Wanted → Fault → Type 0
 LoadsUpTo old new files OutOfMemory =
-    (texts : List (List ℕ)) × (unloaded : Option Load) × (length texts ≤ length files) × IfSome unloaded IsNoFault × (new ≡ old ++ load_calls files texts unloaded)
-LoadsUpTo old new files ShelfFailed = (texts : List (List ℕ)) × (length texts < length files) × (new ≡ old ++ load_calls files texts (Some Failed))
+    (texts : List (List ℕ)) × (unloaded : Option Load) × (length texts ≤ length files)
+    × IfSome unloaded IsNoFault × (new ≡ old ++ load_calls files texts unloaded)
+LoadsUpTo old new files ShelfFailed =
+    (texts : List (List ℕ)) × (length texts < length files)
+    × (new ≡ old ++ load_calls files texts (Some Failed))
 
 abbrev pub Saved : (old new : List Call) → List Output → Type 0
 Saved old new outputs = (saves : List Call) × (new ≡ old ++ saves) × SaveAll saves outputs
@@ -65,11 +74,14 @@ abbrev pub SavedPart : (old new : List Call) → List Output → Type 0
 SavedPart old new outputs = (saves : List Call) × (new ≡ old ++ saves) × FailToSaveAll saves outputs
 
 -- an answer was handed out, or the shelf or the sink failed
-abbrev pub Hands : Said → Ending → (shelf shelf' sink sink' : List Call) → (written written' : Option (List ℕ)) → Type 0
+abbrev pub Hands : Said → Ending → (shelf shelf' sink sink' : List Call)
+    → (written written' : Option (List ℕ)) → Type 0
 Hands said Done shelf shelf' sink sink' written written' =
-    Saved shelf shelf' said.outputs × Notes sink sink' (Put said.report) × IfTold written written' (λ before after. Appends before after said.report)
+    Saved shelf shelf' said.outputs × Notes sink sink' (Put said.report)
+    × IfTold written written' (λ before after. Appends before after said.report)
 Hands said NotSaved shelf shelf' sink sink' written written' =
-    SavedPart shelf shelf' said.outputs × (sink' ≡ sink) × IfTold written written' (λ before after. after ≡ before)
+    SavedPart shelf shelf' said.outputs × (sink' ≡ sink)
+    × IfTold written written' (λ before after. after ≡ before)
 Hands said NotPrinted shelf shelf' sink sink' written written' =
     Saved shelf shelf' said.outputs × NotesPutFailed sink sink' written written' said.report
 
@@ -79,23 +91,31 @@ HandsTold said Done files files' = IfTold files files' (SavesIn said.outputs)
 HandsTold said NotSaved files files' = IfTold files files' (SavesPartIn said.outputs)
 HandsTold said NotPrinted files files' = IfTold files files' (SavesIn said.outputs)
 
-abbrev pub TellsHands : {status : ℕ} {saves sink : List Call} → (said : Said) → Option Files → Option Files
-    → HandsOut said status saves sink ⊎ (FailsToSave said status saves sink ⊎ FailsToPut said status saves sink) → Type 0
+abbrev pub TellsHands : {status : ℕ} {saves sink : List Call} → (said : Said) → Option Files
+    → Option Files
+    → HandsOut said status saves sink ⊎ (FailsToSave said status saves sink
+    ⊎ FailsToPut said status saves sink) → Type 0
 TellsHands said files files' (inl done) = IfTold files files' (SavesIn said.outputs)
 TellsHands said files files' (inr (inl failed)) = IfTold files files' (SavesPartIn said.outputs)
 TellsHands said files files' (inr (inr failed)) = IfTold files files' (SavesIn said.outputs)
 
 -- what was done, with what that means for the known files of the shelf
-abbrev pub GoesBy : Reading → (status : ℕ) → Option Files → Option Files → (shelf sink : List Call) → Type 0
+abbrev pub GoesBy : Reading → (status : ℕ) → Option Files → Option Files → (shelf sink : List Call)
+    → Type 0
 GoesBy reading status files files' shelf sink =
     (RunsOut reading status shelf sink × IfTold files files' KeepsAll)
     ⊎ ((FailsToLoad reading status shelf sink × IfTold files files' KeepsAll)
-    ⊎ ((a : HasAnswered reading status shelf sink) × AreLoaded files (files_of reading) a.texts × TellsHands a.said files files' a.hands))
+    ⊎ ((a : HasAnswered reading status shelf sink) × AreLoaded files (files_of reading) a.texts
+    × TellsHands a.said files files' a.hands))
 
-abbrev pub Goes : Reading → (status : ℕ) → Option Files → Option Files → (shelf shelf' sink sink' : List Call) → Type 0
+abbrev pub Goes : Reading → (status : ℕ) → Option Files → Option Files
+    → (shelf shelf' sink sink' : List Call) → Type 0
 Goes reading status files files' shelf shelf' sink sink' =
-    (own : List Call) × (out : List Call) × (shelf' ≡ shelf ++ own) × (sink' ≡ sink ++ out) × GoesBy reading status files files' own out
+    (own : List Call) × (out : List Call) × (shelf' ≡ shelf ++ own) × (sink' ≡ sink ++ out)
+    × GoesBy reading status files files' own out
 
 -- what was put since follows what was written before, if that is known
 abbrev pub WritesPut : (written written' : Option (List ℕ)) → (sink sink' : List Call) → Type 0
-WritesPut written written' sink sink' = (out : List Call) × (sink' ≡ sink ++ out) × IfTold written written' (λ before after. Appends before after (put_bytes out))
+WritesPut written written' sink sink' =
+    (out : List Call) × (sink' ≡ sink ++ out) × IfTold written written'
+    (λ before after. Appends before after (put_bytes out))

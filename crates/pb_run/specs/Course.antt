@@ -56,13 +56,16 @@ pub record HasAnswered (reading : Reading) (status : ℕ) (shelf sink : List Cal
   pub answers : AnswersReading reading texts said
   pub saves : List Call
   pub shelf_is : shelf ≡ load_calls (files_of reading) texts unloaded ++ saves
-  pub hands : HandsOut said status saves sink ⊎ (FailsToSave said status saves sink ⊎ FailsToPut said status saves sink)
+  pub hands : HandsOut said status saves sink
+      ⊎ (FailsToSave said status saves sink ⊎ FailsToPut said status saves sink)
 
 -- The calls on the shelf and the sink are a beginning of one sequence. The files are loaded in the
 -- order of the words, then the answer to their texts is saved and then printed. Each call but the
 -- last is done.
 abbrev pub Does : Reading → (status : ℕ) → (shelf sink : List Call) → Type 0
-Does reading status shelf sink = RunsOut reading status shelf sink ⊎ (FailsToLoad reading status shelf sink ⊎ HasAnswered reading status shelf sink)
+Does reading status shelf sink =
+    RunsOut reading status shelf sink ⊎ (FailsToLoad reading status shelf sink
+    ⊎ HasAnswered reading status shelf sink)
 
 -- ---- what was done
 
@@ -73,14 +76,23 @@ pub record Ran : Type 0 where
 
 abbrev pub ran_by : (status : ℕ) → (shelf sink : List Call) → Ran
 ran_by status shelf sink =
-    record { texts = loaded_texts shelf; said = record { status = status; report = put_bytes sink; outputs = outputs_in shelf } }
+    record {
+      texts = loaded_texts shelf;
+      said = record {
+        status = status;
+        report = put_bytes sink;
+        outputs = outputs_in shelf;
+      };
+    }
 
 -- the texts and what was said, by the calls that were made since
 abbrev pub ran : (status : ℕ) → (shelf shelf' sink sink' : List Call) → Ran
-ran status shelf shelf' sink sink' = ran_by status (calls_since shelf shelf') (calls_since sink sink')
+ran status shelf shelf' sink sink' =
+    ran_by status (calls_since shelf shelf') (calls_since sink sink')
 
 -- the calls that were made since are a beginning of the sequence
-pub record DoesSince (reading : Reading) (status : ℕ) (shelf shelf' sink sink' : List Call) : Type 0 where
-  pub shelf_grows : shelf' ≡ shelf ++ calls_since shelf shelf'
-  pub sink_grows : sink' ≡ sink ++ calls_since sink sink'
-  pub does : Does reading status (calls_since shelf shelf') (calls_since sink sink')
+pub record DoesSince (reading : Reading) (status : ℕ) (shelf shelf' sink sink' : List Call) : Type 0
+  where
+    pub shelf_grows : shelf' ≡ shelf ++ calls_since shelf shelf'
+    pub sink_grows : sink' ≡ sink ++ calls_since sink sink'
+    pub does : Does reading status (calls_since shelf shelf') (calls_since sink sink')

@@ -9,5 +9,8 @@ wanted_of file = wanted file.most file.name.now
 
 -- the text of the file was loaded, or the file is too long, if the shelf's files are known
 abbrev pub LoadsText : Option Files → Wanted → (loaded : Option (List ℕ)) → Type 0
-LoadsText files file None = IfSome files (λ told. (text : List ℕ) × (told file.name ≡ Some text) × (file.most < length text))
-LoadsText files file (Some text) = (length text ≤ file.most) × IfSome files (λ told. told file.name ≡ Some text)
+LoadsText files file None =
+    IfSome files (λ told. (text : List ℕ) × (told file.name ≡ Some text)
+    × (file.most < length text))
+LoadsText files file (Some text) =
+    (length text ≤ file.most) × IfSome files (λ told. told file.name ≡ Some text)

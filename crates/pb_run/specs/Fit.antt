@@ -27,7 +27,8 @@ reason_of ShelfFailed = load.Failed
 -- the file was loaded, or is too long
 abbrev pub NotesLoad : (old new : List Call) → Wanted → (loaded : Option (List ℕ)) → Type 0
 NotesLoad old new file (Some text) = Notes old new (Loaded file.name file.most text)
-NotesLoad old new file None = (seen : ℕ) × Notes old new (LoadFailed file.name file.most (load.TooLong seen))
+NotesLoad old new file None =
+    (seen : ℕ) × Notes old new (LoadFailed file.name file.most (load.TooLong seen))
 
 -- the status if nothing is answered for a reason
 abbrev pub status_of : Fault → Status

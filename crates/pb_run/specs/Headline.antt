@@ -45,7 +45,8 @@ IsBroken n = (n ≡ 71) ⊎ (n ≡ 73) ⊎ (n ≡ 74)
 -- it found it, and the certificate and the journal of that search are saved.
 abbrev pub AllOfOnePlan : Reading → Ran → Type 0
 AllOfOnePlan (Refused fault) ran = ⊤
-AllOfOnePlan (Read (Solve solve)) ran = ran.said.status ≡ 0 → OfTexts solve ran.texts (Solves (Says ran.said) (Saves ran.said) solve)
+AllOfOnePlan (Read (Solve solve)) ran =
+    ran.said.status ≡ 0 → OfTexts solve ran.texts (Solves (Says ran.said) (Saves ran.said) solve)
 AllOfOnePlan (Read (Check check)) ran = ⊤
 AllOfOnePlan (Read (Journal journal)) ran = ⊤
 AllOfOnePlan (Read (Make make)) ran = ⊤
@@ -53,7 +54,9 @@ AllOfOnePlan (Read (Make make)) ran = ⊤
 -- A printed plan is a plan of the task, with its cost and bound.
 abbrev pub PlanIsPlan : Reading → Ran → Type 0
 PlanIsPlan (Refused fault) ran = ⊤
-PlanIsPlan (Read (Solve solve)) ran = ran.said.status ≡ 0 → OfTexts solve ran.texts (λ parts. PrintsPlan (Says ran.said) parts (weight_asked solve))
+PlanIsPlan (Read (Solve solve)) ran =
+    ran.said.status ≡ 0 → OfTexts solve ran.texts
+    (λ parts. PrintsPlan (Says ran.said) parts (weight_asked solve))
 PlanIsPlan (Read (Check check)) ran = ⊤
 PlanIsPlan (Read (Journal journal)) ran = ⊤
 PlanIsPlan (Read (Make make)) ran = ⊤
@@ -61,7 +64,9 @@ PlanIsPlan (Read (Make make)) ran = ⊤
 -- The cost that is printed is at most num / den times that of any plan.
 abbrev pub NoneIsCheaper : Reading → Ran → Type 0
 NoneIsCheaper (Refused fault) ran = ⊤
-NoneIsCheaper (Read (Solve solve)) ran = ran.said.status ≡ 0 → OfTexts solve ran.texts (λ parts. PrintsLeastCost (Says ran.said) parts (weight_asked solve))
+NoneIsCheaper (Read (Solve solve)) ran =
+    ran.said.status ≡ 0 → OfTexts solve ran.texts
+    (λ parts. PrintsLeastCost (Says ran.said) parts (weight_asked solve))
 NoneIsCheaper (Read (Check check)) ran = ⊤
 NoneIsCheaper (Read (Journal journal)) ran = ⊤
 NoneIsCheaper (Read (Make make)) ran = ⊤
@@ -69,7 +74,8 @@ NoneIsCheaper (Read (Make make)) ran = ⊤
 -- The saved certificate is that of the search, valid and accepted, and has the plan that is printed.
 abbrev pub CertificateHolds : Reading → Ran → Type 0
 CertificateHolds (Refused fault) ran = ⊤
-CertificateHolds (Read (Solve solve)) ran = ran.said.status ≡ 0 → OfTexts solve ran.texts (SavesPlan (Says ran.said) (Saves ran.said) solve)
+CertificateHolds (Read (Solve solve)) ran =
+    ran.said.status ≡ 0 → OfTexts solve ran.texts (SavesPlan (Says ran.said) (Saves ran.said) solve)
 CertificateHolds (Read (Check check)) ran = ⊤
 CertificateHolds (Read (Journal journal)) ran = ⊤
 CertificateHolds (Read (Make make)) ran = ⊤
@@ -79,7 +85,9 @@ CertificateHolds (Read (Make make)) ran = ⊤
 -- Only a search, of a made task too, answers that there is no plan, and then there is none.
 abbrev pub NoneMeansNone : Reading → Ran → Type 0
 NoneMeansNone (Refused fault) ran = ran.said.status ≢ 1
-NoneMeansNone (Read (Solve solve)) ran = ran.said.status ≡ 1 → Says ran.said none_report × OfTexts solve ran.texts (λ parts. HasNoPlan (space_of parts))
+NoneMeansNone (Read (Solve solve)) ran =
+    ran.said.status ≡ 1 → Says ran.said none_report
+    × OfTexts solve ran.texts (λ parts. HasNoPlan (space_of parts))
 NoneMeansNone (Read (Check check)) ran = ran.said.status ≢ 1
 NoneMeansNone (Read (Journal journal)) ran = ran.said.status ≢ 1
 NoneMeansNone (Read (Make make)) ran = ran.said.status ≡ 1 → MakesNone (Says ran.said) make
@@ -87,7 +95,9 @@ NoneMeansNone (Read (Make make)) ran = ran.said.status ≡ 1 → MakesNone (Says
 -- The saved certificate is that of the search, valid and accepted, and claims that no plan exists.
 abbrev pub CertificateOfNone : Reading → Ran → Type 0
 CertificateOfNone (Refused fault) ran = ⊤
-CertificateOfNone (Read (Solve solve)) ran = ran.said.status ≡ 1 → OfTexts solve ran.texts (λ parts. Certifies (Saves ran.said) solve parts None)
+CertificateOfNone (Read (Solve solve)) ran =
+    ran.said.status ≡ 1 → OfTexts solve ran.texts
+    (λ parts. Certifies (Saves ran.said) solve parts None)
 CertificateOfNone (Read (Check check)) ran = ⊤
 CertificateOfNone (Read (Journal journal)) ran = ⊤
 CertificateOfNone (Read (Make make)) ran = ⊤
@@ -99,7 +109,8 @@ CertificateOfNone (Read (Make make)) ran = ⊤
 abbrev pub StopHasCause : Reading → Ran → Type 0
 StopHasCause (Refused fault) ran = ran.said.status ≢ 2
 StopHasCause (Read (Solve solve)) ran =
-    ran.said.status ≡ 2 → Says ran.said (stopped_report solve.budget) × OfTexts solve ran.texts (Stops (Saves ran.said) solve)
+    ran.said.status ≡ 2 → Says ran.said (stopped_report solve.budget)
+    × OfTexts solve ran.texts (Stops (Saves ran.said) solve)
 StopHasCause (Read (Check check)) ran = ran.said.status ≢ 2
 StopHasCause (Read (Journal journal)) ran = ran.said.status ≢ 2
 StopHasCause (Read (Make make)) ran = ran.said.status ≡ 2 → MakesStop (Says ran.said) make
@@ -111,7 +122,8 @@ StopHasCause (Read (Make make)) ran = ran.said.status ≡ 2 → MakesStop (Says 
 abbrev pub AcceptedIsValid : Reading → Ran → Type 0
 AcceptedIsValid (Refused fault) ran = ran.said.status ≢ 0
 AcceptedIsValid (Read (Solve solve)) ran = ⊤
-AcceptedIsValid (Read (Check check)) ran = ran.said.status ≡ 0 → OfCheckedTexts check ran.texts (Accepts (Says ran.said))
+AcceptedIsValid (Read (Check check)) ran =
+    ran.said.status ≡ 0 → OfCheckedTexts check ran.texts (Accepts (Says ran.said))
 AcceptedIsValid (Read (Journal journal)) ran = ⊤
 AcceptedIsValid (Read (Make make)) ran = ⊤
 
@@ -120,8 +132,10 @@ AcceptedIsValid (Read (Make make)) ran = ⊤
 abbrev pub RejectedIsFaulty : Reading → Ran → Type 0
 RejectedIsFaulty (Refused fault) ran = ran.said.status ≢ 3
 RejectedIsFaulty (Read (Solve solve)) ran = ran.said.status ≢ 3
-RejectedIsFaulty (Read (Check check)) ran = ran.said.status ≡ 3 → OfCheckedTexts check ran.texts (Rejects (Says ran.said))
-RejectedIsFaulty (Read (Journal journal)) ran = ran.said.status ≡ 3 → OfJournalTexts journal ran.texts (RejectsJournal (Says ran.said))
+RejectedIsFaulty (Read (Check check)) ran =
+    ran.said.status ≡ 3 → OfCheckedTexts check ran.texts (Rejects (Says ran.said))
+RejectedIsFaulty (Read (Journal journal)) ran =
+    ran.said.status ≡ 3 → OfJournalTexts journal ran.texts (RejectsJournal (Says ran.said))
 RejectedIsFaulty (Read (Make make)) ran = ran.said.status ≢ 3
 
 -- the status of a verdict is 0, and that of a fault is 3
@@ -134,8 +148,10 @@ abbrev pub CheckIsDecided : Reading → Ran → Type 0
 CheckIsDecided (Refused fault) ran = ⊤
 CheckIsDecided (Read (Solve solve)) ran = ⊤
 CheckIsDecided (Read (Check check)) ran =
-    (parts : TaskParts) (certificate : List ℕ) → check_task check ran.texts ≡ Ok (parts, certificate)
-    → IsOfVerdict (checked (space_of parts) (estimate_of parts) (kind_of parts) certificate) ran.said.status
+    (parts : TaskParts) (certificate : List ℕ) → check_task check ran.texts
+    ≡ Ok (parts, certificate)
+    → IsOfVerdict (checked (space_of parts) (estimate_of parts) (kind_of parts) certificate)
+    ran.said.status
 CheckIsDecided (Read (Journal journal)) ran = ⊤
 CheckIsDecided (Read (Make make)) ran = ⊤
 
@@ -146,7 +162,8 @@ abbrev pub JournalIsLegal : Reading → Ran → Type 0
 JournalIsLegal (Refused fault) ran = ⊤
 JournalIsLegal (Read (Solve solve)) ran = ⊤
 JournalIsLegal (Read (Check check)) ran = ⊤
-JournalIsLegal (Read (Journal journal)) ran = ran.said.status ≡ 0 → OfJournalTexts journal ran.texts (AcceptsJournal (Says ran.said))
+JournalIsLegal (Read (Journal journal)) ran =
+    ran.said.status ≡ 0 → OfJournalTexts journal ran.texts (AcceptsJournal (Says ran.said))
 JournalIsLegal (Read (Make make)) ran = ⊤
 
 -- The text of each finished legal history of the task is accepted, unless nothing is answered.
@@ -155,7 +172,8 @@ JournalIsDecided (Refused fault) ran = ⊤
 JournalIsDecided (Read (Solve solve)) ran = ⊤
 JournalIsDecided (Read (Check check)) ran = ⊤
 JournalIsDecided (Read (Journal journal)) ran =
-    (parts : TaskParts) (text : List ℕ) (events : ℕ) → journal_task journal ran.texts ≡ Ok (parts, text)
+    (parts : TaskParts) (text : List ℕ) (events : ℕ) → journal_task journal ran.texts
+    ≡ Ok (parts, text)
     → IsJournalOf parts text events → (ran.said.status ≡ 0) ⊎ IsBroken ran.said.status
 JournalIsDecided (Read (Make make)) ran = ⊤
 
@@ -174,14 +192,17 @@ MadeIsLeast (Read (Make make)) ran = ran.said.status ≡ 0 → MakesPlan (Says r
 -- The printed plan is a plan, with its cost and bound, and its cost is at most num / den times that of any plan.
 abbrev pub NamedPlanIsPlan : Reading → Ran → Type 0
 NamedPlanIsPlan (Refused fault) ran = ⊤
-NamedPlanIsPlan (Read (Solve solve)) ran = ran.said.status ≡ 0 → OfTrees solve.input 0 ran.texts (PrintsNamedPlan (Says ran.said) (weight_asked solve))
+NamedPlanIsPlan (Read (Solve solve)) ran =
+    ran.said.status ≡ 0 → OfTrees solve.input 0 ran.texts
+    (PrintsNamedPlan (Says ran.said) (weight_asked solve))
 NamedPlanIsPlan (Read (Check check)) ran = ⊤
 NamedPlanIsPlan (Read (Journal journal)) ran = ⊤
 NamedPlanIsPlan (Read (Make make)) ran = ⊤
 
 abbrev pub NamedNoneMeansNone : Reading → Ran → Type 0
 NamedNoneMeansNone (Refused fault) ran = ⊤
-NamedNoneMeansNone (Read (Solve solve)) ran = ran.said.status ≡ 1 → OfTrees solve.input 0 ran.texts HasNoNamedPlan
+NamedNoneMeansNone (Read (Solve solve)) ran =
+    ran.said.status ≡ 1 → OfTrees solve.input 0 ran.texts HasNoNamedPlan
 NamedNoneMeansNone (Read (Check check)) ran = ⊤
 NamedNoneMeansNone (Read (Journal journal)) ran = ⊤
 NamedNoneMeansNone (Read (Make make)) ran = ⊤
@@ -189,7 +210,8 @@ NamedNoneMeansNone (Read (Make make)) ran = ⊤
 abbrev pub NamedVerdictHolds : Reading → Ran → Type 0
 NamedVerdictHolds (Refused fault) ran = ⊤
 NamedVerdictHolds (Read (Solve solve)) ran = ⊤
-NamedVerdictHolds (Read (Check check)) ran = ran.said.status ≡ 0 → OfTrees check.input 1 ran.texts (AcceptsNamed (Says ran.said))
+NamedVerdictHolds (Read (Check check)) ran =
+    ran.said.status ≡ 0 → OfTrees check.input 1 ran.texts (AcceptsNamed (Says ran.said))
 NamedVerdictHolds (Read (Journal journal)) ran = ⊤
 NamedVerdictHolds (Read (Make make)) ran = ⊤
 
@@ -197,14 +219,17 @@ NamedVerdictHolds (Read (Make make)) ran = ⊤
 
 -- Words that are no command line are refused with the text of that, and no others are.
 abbrev pub WordsAreRefused : Reading → Ran → Type 0
-WordsAreRefused (Refused fault) ran = ((ran.said.status ≡ 64) × IsPrinted fault ran.said.report × Saves ran.said []) ⊎ ((ran.said.status ≡ 71) ⊎ (ran.said.status ≡ 74))
+WordsAreRefused (Refused fault) ran =
+    ((ran.said.status ≡ 64) × IsPrinted fault ran.said.report × Saves ran.said [])
+    ⊎ ((ran.said.status ≡ 71) ⊎ (ran.said.status ≡ 74))
 WordsAreRefused (Read meaning) ran = ran.said.status ≢ 64
 
 -- Texts that are too long or spell no task are refused with a report of that, and no others are.
 abbrev pub InputIsRefused : Reading → Ran → Type 0
 InputIsRefused reading ran =
     (ran.said.status ≡ 65 → RefusesTexts reading ran.texts ran.said.report)
-    × ((report : List ℕ) → RefusesTexts reading ran.texts report → (ran.said.status ≡ 65) ⊎ IsBroken ran.said.status)
+    × ((report : List ℕ) → RefusesTexts reading ran.texts report
+    → (ran.said.status ≡ 65) ⊎ IsBroken ran.said.status)
 
 -- Texts are not refused if they spell a domain and a problem by the grammar, both well typed and
 -- within the numbers of atoms and actions.
@@ -215,17 +240,22 @@ SpelledIsNotRefused reading ran = SpellTask reading ran.texts → ran.said.statu
 abbrev pub AreSomeOf : (begun names : List (List ℕ)) → Type 0
 AreSomeOf [] names = ⊤
 AreSomeOf (name ∷ begun) [] = ⊥
-AreSomeOf (name ∷ begun) (first ∷ names) = ((name ≡ first) × AreSomeOf begun names) ⊎ AreSomeOf (name ∷ begun) names
+AreSomeOf (name ∷ begun) (first ∷ names) =
+    ((name ≡ first) × AreSomeOf begun names) ⊎ AreSomeOf (name ∷ begun) names
 
 -- The files that are begun have names that the words give, in their order.
 abbrev pub OutputsAreNamed : Reading → Ran → Type 0
-OutputsAreNamed reading ran = AreSomeOf (map (λ (o : Output). o.name) ran.said.outputs) (saved_names reading)
+OutputsAreNamed reading ran =
+    AreSomeOf (map (λ (o : Output). o.name) ran.said.outputs) (saved_names reading)
 
 -- ---- completeness
 
 -- whatever is answered of the texts, the shelf can hold what is to be saved, and the sink can take what is to be printed
-abbrev pub CanHandOut : Reading → (texts : List (List ℕ)) → (can_hold : List ℕ → ℕ → Type 0) → (can_take : ℕ → Type 0) → Type 0
-CanHandOut reading texts can_hold can_take = (said : Said) → AnswersReading reading texts said → CanHold can_hold said.outputs × can_take (length said.report)
+abbrev pub CanHandOut : Reading → (texts : List (List ℕ)) → (can_hold : List ℕ → ℕ → Type 0)
+    → (can_take : ℕ → Type 0) → Type 0
+CanHandOut reading texts can_hold can_take =
+    (said : Said) → AnswersReading reading texts said → CanHold can_hold said.outputs
+    × can_take (length said.report)
 
 -- What is answered, unless memory ran out:
 -- - of words that are no command line, their refusal;
@@ -235,25 +265,32 @@ CanHandOut reading texts can_hold can_take = (said : Said) → AnswersReading re
 abbrev pub IsAnswered : Reading → (texts : List (List ℕ)) → (status : ℕ) → Type 0
 IsAnswered (Refused fault) texts status = (status ≡ 64) ⊎ (status ≡ 71)
 IsAnswered (Read (Solve solve)) texts status =
-    (parts : TaskParts) → solve_task solve texts ≡ Ok parts → (status ≡ 0) ⊎ ((status ≡ 1) ⊎ ((status ≡ 2) ⊎ (status ≡ 71)))
+    (parts : TaskParts) → solve_task solve texts ≡ Ok parts
+    → (status ≡ 0) ⊎ ((status ≡ 1) ⊎ ((status ≡ 2) ⊎ (status ≡ 71)))
 IsAnswered (Read (Check check)) texts status =
-    (parts : TaskParts) (certificate : List ℕ) (verdict : Verdict) → check_task check texts ≡ Ok (parts, certificate)
-    → IsAccepted (space_of parts) (estimate_of parts) (kind_of parts) certificate verdict → (status ≡ 0) ⊎ (status ≡ 71)
+    (parts : TaskParts) (certificate : List ℕ) (verdict : Verdict)
+    → check_task check texts ≡ Ok (parts, certificate)
+    → IsAccepted (space_of parts) (estimate_of parts) (kind_of parts) certificate verdict
+    → (status ≡ 0) ⊎ (status ≡ 71)
 IsAnswered (Read (Journal journal)) texts status =
     (parts : TaskParts) (text : List ℕ) (events : ℕ) → journal_task journal texts ≡ Ok (parts, text)
     → IsJournalOf parts text events → (status ≡ 0) ⊎ (status ≡ 71)
-IsAnswered (Read (Make make)) texts status = (status ≡ 0) ⊎ ((status ≡ 1) ⊎ ((status ≡ 2) ⊎ (status ≡ 71)))
+IsAnswered (Read (Make make)) texts status =
+    (status ≡ 0) ⊎ ((status ≡ 1) ⊎ ((status ≡ 2) ⊎ (status ≡ 71)))
 
 -- The shelf's files are known, and it can load those that the words name. Whatever is answered of
 -- their texts can be handed out.
-abbrev pub CanServe : Reading → Option Files → (can_load : List ℕ → Type 0) → (can_hold : List ℕ → ℕ → Type 0) → (can_take : ℕ → Type 0) → Type 0
+abbrev pub CanServe : Reading → Option Files → (can_load : List ℕ → Type 0)
+    → (can_hold : List ℕ → ℕ → Type 0) → (can_take : ℕ → Type 0) → Type 0
 CanServe reading None can_load can_hold can_take = ⊥
 CanServe reading (Some told) can_load can_hold can_take =
     CanLoad can_load (files_of reading)
-    × ((texts : List (List ℕ)) → loads_of told (files_of reading) ≡ Some texts → CanHandOut reading texts can_hold can_take)
+    × ((texts : List (List ℕ)) → loads_of told (files_of reading) ≡ Some texts
+    → CanHandOut reading texts can_hold can_take)
 
 -- If the shelf's files are known and the named ones are there, there is an answer to their texts,
 -- or memory ran out.
 abbrev pub IsComplete : Reading → Option Files → (status : ℕ) → Type 0
 IsComplete reading files status =
-    IfSome files (λ told. (texts : List (List ℕ)) → loads_of told (files_of reading) ≡ Some texts → IsAnswered reading texts status)
+    IfSome files (λ told. (texts : List (List ℕ)) → loads_of told (files_of reading) ≡ Some texts
+    → IsAnswered reading texts status)

@@ -24,7 +24,8 @@ IsSavedLast said name text = (first : List Output) × (said.outputs ≡ first ++
 abbrev pub SavedCertificatesAreAccepted : Type 0
 SavedCertificatesAreAccepted =
     (solve : SolveMeaning) (check : CheckMeaning) (solved checked : Ran) (name text : List ℕ)
-    → check.input ≡ solve.input → check.row ≡ solve.row → check.swamp ≡ solve.swamp → solve.certificate ≡ Some name
+    → check.input ≡ solve.input → check.row ≡ solve.row → check.swamp ≡ solve.swamp
+    → solve.certificate ≡ Some name
     → (solved.said.status ≡ 0) ⊎ (solved.said.status ≡ 1)
     → IsSavedFirst solved.said name text → checked.texts ≡ text ∷ solved.texts
     → AllOfOnePlan (Read (Solve solve)) solved → CertificateOfNone (Read (Solve solve)) solved

@@ -5,9 +5,11 @@ use Rattle.pb_run.specs.Asked.{Wanted}
 
 -- the text of a file before those of the next ones, if it is no longer than it may be; else no more
 -- is loaded
-abbrev pub load_before : (most : ℕ) → Option (List ℕ) → (rest : Option (List (List ℕ))) → Option (List (List ℕ))
+abbrev pub load_before : (most : ℕ) → Option (List ℕ) → (rest : Option (List (List ℕ)))
+    → Option (List (List ℕ))
 load_before most None rest = None
-load_before most (Some text) rest = if nat_le (length text) most then option_map (λ texts. text ∷ texts) rest else Some []
+load_before most (Some text) rest =
+    if nat_le (length text) most then option_map (λ texts. text ∷ texts) rest else Some []
 
 -- the texts of the files, loaded one after another up to the first that is too long; none if a file
 -- isn't there

@@ -24,7 +24,8 @@ pub struct Wanted<'a> {
 
 // Adds a file.
 fn push_file<'a>(files: &mut Vec<Wanted<'a>>, name: &'a str, most: u64) -> Result<(), AllocError>
-    ensures { OnOk result (map wanted_of files.new.items ≡ map wanted_of files.old.items ++ wanted most name.entry.now ∷ []) }
+    ensures { OnOk result (map wanted_of files.new.items
+        ≡ map wanted_of files.old.items ++ wanted most name.entry.now ∷ []) }
 {
     files.push(Wanted { name, most })?;
     Ok(())
@@ -32,7 +33,8 @@ fn push_file<'a>(files: &mut Vec<Wanted<'a>>, name: &'a str, most: u64) -> Resul
 
 // Adds the files of a task.
 fn push_input<'a>(files: &mut Vec<Wanted<'a>>, input: Input<'a>) -> Result<(), AllocError>
-    ensures { OnOk result (map wanted_of files.new.items ≡ map wanted_of files.old.items ++ input_files (input_meant input.entry)) }
+    ensures { OnOk result (map wanted_of files.new.items
+        ≡ map wanted_of files.old.items ++ input_files (input_meant input.entry)) }
 {
     match input {
         Input::Grid(names) => {
@@ -50,7 +52,8 @@ fn push_input<'a>(files: &mut Vec<Wanted<'a>>, input: Input<'a>) -> Result<(), A
 /// The files that the words name to be read, in their order; none if the words are no command line.
 /// An error is out of memory.
 pub fn files_of<'a>(alloc: Global, words: &'a [String]) -> Result<Vec<Wanted<'a>>, AllocError>
-    ensures { IfOk result (λ files. map wanted_of files.items ≡ files_of (reading_of_words (map string_bytes words.entry.now))) }
+    ensures { IfOk result (λ files. map wanted_of files.items
+        ≡ files_of (reading_of_words (map string_bytes words.entry.now))) }
 {
     let mut files = Vec::new(alloc);
     match read_words(alloc, words) {

@@ -48,10 +48,14 @@ impl Fault {
 
 // The bytes of a file, or None if it is too long.
 fn load<H: Shelf>(shelf: &mut H, alloc: Global, file: Wanted<'_>) -> Result<Option<Vec<u8>>, Fault>
-    ensures text { IfOk result (λ loaded. LoadsText (H.files shelf.old) (wanted_of file.entry) (option_map (λ v. v.items) loaded)) }
-    ensures calls { IfOk result (λ loaded. NotesLoad (H.calls shelf.old) (H.calls shelf.new) (wanted_of file.entry) (option_map (λ v. v.items) loaded)) }
-    ensures calls_error { IfErr result (λ fault. Notes (H.calls shelf.old) (H.calls shelf.new) (LoadFailed (wanted_of file.entry).name (wanted_of file.entry).most (reason_of fault))) }
-    ensures sure { H.can_load shelf.old (wanted_of file.entry).name → IfErr result (λ fault. IfShelf fault ⊥) }
+    ensures text { IfOk result (λ loaded. LoadsText (H.files shelf.old) (wanted_of file.entry)
+        (option_map (λ v. v.items) loaded)) }
+    ensures calls { IfOk result (λ loaded. NotesLoad (H.calls shelf.old) (H.calls shelf.new)
+        (wanted_of file.entry) (option_map (λ v. v.items) loaded)) }
+    ensures calls_error { IfErr result (λ fault. Notes (H.calls shelf.old) (H.calls shelf.new)
+        (LoadFailed (wanted_of file.entry).name (wanted_of file.entry).most (reason_of fault))) }
+    ensures sure { H.can_load shelf.old (wanted_of file.entry).name
+        → IfErr result (λ fault. IfShelf fault ⊥) }
     ensures same { IfTold (H.files shelf.old) (H.files shelf.new) KeepsAll }
     ensures holds { KeepsHolds (H.can_hold shelf.old) (H.can_hold shelf.new) }
     ensures loads { KeepsLoads (H.can_load shelf.old) (H.can_load shelf.new) }
@@ -67,10 +71,13 @@ fn load<H: Shelf>(shelf: &mut H, alloc: Global, file: Wanted<'_>) -> Result<Opti
 
 // Loads the files one after another, up to the first that is too long.
 fn load_all<H: Shelf>(alloc: Global, files: &[Wanted<'_>], shelf: &mut H) -> Result<Texts, Fault>
-    ensures texts { IfOk result (λ texts. AreLoaded (H.files shelf.old) (map wanted_of files.now) texts) }
-    ensures calls { IfOk result (λ texts. LoadsAll (H.calls shelf.old) (H.calls shelf.new) (map wanted_of files.now) texts) }
+    ensures texts { IfOk result (λ texts. AreLoaded (H.files shelf.old) (map wanted_of files.now)
+        texts) }
+    ensures calls { IfOk result (λ texts. LoadsAll (H.calls shelf.old) (H.calls shelf.new)
+        (map wanted_of files.now) texts) }
     ensures calls_error { IfErr result (LoadsUpTo (H.calls shelf.old) (H.calls shelf.new) (map wanted_of files.now)) }
-    ensures sure { CanLoad (H.can_load shelf.old) (map wanted_of files.now) → IfErr result (λ fault. IfShelf fault ⊥) }
+    ensures sure { CanLoad (H.can_load shelf.old) (map wanted_of files.now)
+        → IfErr result (λ fault. IfShelf fault ⊥) }
     ensures same { IfTold (H.files shelf.old) (H.files shelf.new) KeepsAll }
     ensures holds { KeepsHolds (H.can_hold shelf.old) (H.can_hold shelf.new) }
     ensures fault { FaultRose (H.faults shelf.old) (H.faults shelf.new) result }
@@ -92,10 +99,15 @@ fn load_all<H: Shelf>(alloc: Global, files: &[Wanted<'_>], shelf: &mut H) -> Res
 
 /// Loads the files that the words name, in their order, up to the first that is too long.
 pub fn load_files<H: Shelf>(alloc: Global, words: &[String], shelf: &mut H) -> Result<Texts, Fault>
-    ensures texts { IfOk result (λ texts. AreLoaded (H.files shelf.old) (files_of (reading_of_words (map string_bytes words.now))) texts) }
-    ensures calls { IfOk result (λ texts. LoadsAll (H.calls shelf.old) (H.calls shelf.new) (files_of (reading_of_words (map string_bytes words.now))) texts) }
-    ensures calls_error { IfErr result (LoadsUpTo (H.calls shelf.old) (H.calls shelf.new) (files_of (reading_of_words (map string_bytes words.now)))) }
-    ensures sure { CanLoad (H.can_load shelf.old) (files_of (reading_of_words (map string_bytes words.now))) → IfErr result (λ fault. IfShelf fault ⊥) }
+    ensures texts { IfOk result (λ texts. AreLoaded (H.files shelf.old)
+        (files_of (reading_of_words (map string_bytes words.now))) texts) }
+    ensures calls { IfOk result (λ texts. LoadsAll (H.calls shelf.old) (H.calls shelf.new)
+        (files_of (reading_of_words (map string_bytes words.now))) texts) }
+    ensures calls_error { IfErr result (LoadsUpTo (H.calls shelf.old) (H.calls shelf.new)
+        (files_of (reading_of_words (map string_bytes words.now)))) }
+    ensures sure { CanLoad (H.can_load shelf.old)
+        (files_of (reading_of_words (map string_bytes words.now)))
+        → IfErr result (λ fault. IfShelf fault ⊥) }
     ensures same { IfTold (H.files shelf.old) (H.files shelf.new) KeepsAll }
     ensures holds { KeepsHolds (H.can_hold shelf.old) (H.can_hold shelf.new) }
     ensures fault { FaultRose (H.faults shelf.old) (H.faults shelf.new) result }

@@ -26,11 +26,16 @@ fn save_certificate<H: Shelf>(
     shelf: &mut H,
     saved: &Option<SavedCertificate<'_>>,
 ) -> Result<(), Failed>
-    ensures ok { OnOk result (IfTold (H.files shelf.old) (H.files shelf.new) (SavesIn (certificates_of saved.now))) }
-    ensures err { OnErr result (IfTold (H.files shelf.old) (H.files shelf.new) (SavesPartIn (certificates_of saved.now))) }
-    ensures calls { OnOk result (Saved (H.calls shelf.old) (H.calls shelf.new) (certificates_of saved.now)) }
-    ensures calls_error { OnErr result (SavedPart (H.calls shelf.old) (H.calls shelf.new) (certificates_of saved.now)) }
-    ensures sure { IsSome (H.files shelf.old) → CanHold (H.can_hold shelf.old) (certificates_of saved.now) → IsOk result }
+    ensures ok { OnOk result (IfTold (H.files shelf.old) (H.files shelf.new)
+        (SavesIn (certificates_of saved.now))) }
+    ensures err { OnErr result (IfTold (H.files shelf.old) (H.files shelf.new)
+        (SavesPartIn (certificates_of saved.now))) }
+    ensures calls { OnOk result (Saved (H.calls shelf.old) (H.calls shelf.new)
+        (certificates_of saved.now)) }
+    ensures calls_error { OnErr result (SavedPart (H.calls shelf.old) (H.calls shelf.new)
+        (certificates_of saved.now)) }
+    ensures sure { IsSome (H.files shelf.old)
+        → CanHold (H.can_hold shelf.old) (certificates_of saved.now) → IsOk result }
     ensures told { IsSome (H.files shelf.old) → IsSome (H.files shelf.new) }
     ensures holds { KeepsHolds (H.can_hold shelf.old) (H.can_hold shelf.new) }
     ensures cause { HasCause (H.faults shelf.old) (H.faults shelf.new) result }
@@ -43,11 +48,15 @@ fn save_certificate<H: Shelf>(
 
 // Saves a journal, if there is one.
 fn save_journal<H: Shelf>(shelf: &mut H, saved: &Option<SavedJournal<'_>>) -> Result<(), Failed>
-    ensures ok { OnOk result (IfTold (H.files shelf.old) (H.files shelf.new) (SavesIn (journals_of saved.now))) }
-    ensures err { OnErr result (IfTold (H.files shelf.old) (H.files shelf.new) (SavesPartIn (journals_of saved.now))) }
-    ensures calls { OnOk result (Saved (H.calls shelf.old) (H.calls shelf.new) (journals_of saved.now)) }
+    ensures ok { OnOk result (IfTold (H.files shelf.old) (H.files shelf.new)
+        (SavesIn (journals_of saved.now))) }
+    ensures err { OnErr result (IfTold (H.files shelf.old) (H.files shelf.new)
+        (SavesPartIn (journals_of saved.now))) }
+    ensures calls { OnOk result (Saved (H.calls shelf.old) (H.calls shelf.new)
+        (journals_of saved.now)) }
     ensures calls_error { OnErr result (SavedPart (H.calls shelf.old) (H.calls shelf.new) (journals_of saved.now)) }
-    ensures sure { IsSome (H.files shelf.old) → CanHold (H.can_hold shelf.old) (journals_of saved.now) → IsOk result }
+    ensures sure { IsSome (H.files shelf.old)
+        → CanHold (H.can_hold shelf.old) (journals_of saved.now) → IsOk result }
     ensures cause { HasCause (H.faults shelf.old) (H.faults shelf.new) result }
 {
     match saved {
@@ -58,11 +67,16 @@ fn save_journal<H: Shelf>(shelf: &mut H, saved: &Option<SavedJournal<'_>>) -> Re
 
 // Saves what an answer has: the certificate, and then the journal.
 fn save<H: Shelf>(shelf: &mut H, answer: &Answer<'_>) -> Result<(), Failed>
-    ensures ok { OnOk result (IfTold (H.files shelf.old) (H.files shelf.new) (SavesIn (said_of answer.now).outputs)) }
-    ensures err { OnErr result (IfTold (H.files shelf.old) (H.files shelf.new) (SavesPartIn (said_of answer.now).outputs)) }
-    ensures calls { OnOk result (Saved (H.calls shelf.old) (H.calls shelf.new) (said_of answer.now).outputs) }
-    ensures calls_error { OnErr result (SavedPart (H.calls shelf.old) (H.calls shelf.new) (said_of answer.now).outputs) }
-    ensures sure { IsSome (H.files shelf.old) → CanHold (H.can_hold shelf.old) (said_of answer.now).outputs → IsOk result }
+    ensures ok { OnOk result (IfTold (H.files shelf.old) (H.files shelf.new)
+        (SavesIn (said_of answer.now).outputs)) }
+    ensures err { OnErr result (IfTold (H.files shelf.old) (H.files shelf.new)
+        (SavesPartIn (said_of answer.now).outputs)) }
+    ensures calls { OnOk result (Saved (H.calls shelf.old) (H.calls shelf.new)
+        (said_of answer.now).outputs) }
+    ensures calls_error { OnErr result (SavedPart (H.calls shelf.old) (H.calls shelf.new)
+        (said_of answer.now).outputs) }
+    ensures sure { IsSome (H.files shelf.old)
+        → CanHold (H.can_hold shelf.old) (said_of answer.now).outputs → IsOk result }
     ensures cause { HasCause (H.faults shelf.old) (H.faults shelf.new) result }
 {
     save_certificate(shelf, &answer.certificate)?;
@@ -71,9 +85,12 @@ fn save<H: Shelf>(shelf: &mut H, answer: &Answer<'_>) -> Result<(), Failed>
 
 /// Saves the certificate and the journal of an answer, each if it has one, and prints the report. It takes no memory.
 pub fn hand_out<H: Shelf, K: Sink>(shelf: &mut H, out: &mut K, answer: &Answer<'_>) -> Ending
-    ensures hands { Hands (said_of answer.now) result (H.calls shelf.old) (H.calls shelf.new) (K.calls out.old) (K.calls out.new) (K.written out.old) (K.written out.new) }
+    ensures hands { Hands (said_of answer.now) result (H.calls shelf.old) (H.calls shelf.new)
+        (K.calls out.old) (K.calls out.new) (K.written out.old) (K.written out.new) }
     ensures told { HandsTold (said_of answer.now) result (H.files shelf.old) (H.files shelf.new) }
-    ensures sure { IsSome (H.files shelf.old) → CanHold (H.can_hold shelf.old) (said_of answer.now).outputs → K.can_take out.old (length (said_of answer.now).report) → result ≡ Done }
+    ensures sure { IsSome (H.files shelf.old)
+        → CanHold (H.can_hold shelf.old) (said_of answer.now).outputs
+        → K.can_take out.old (length (said_of answer.now).report) → result ≡ Done }
     ensures shelf_fault { result ≡ NotSaved → Rose (H.faults shelf.old) (H.faults shelf.new) }
     ensures sink_fault { result ≡ NotPrinted → Rose (K.faults out.old) (K.faults out.new) }
     ensures shelf_later { H.faults shelf.old ≤ H.faults shelf.new }

@@ -30,10 +30,16 @@ const NOT_UTF8: &[u8] = b"error: invalid UTF-8 was detected in one or more argum
 /// The status if the words couldn't be read: out of memory, or a word that isn't UTF-8, which is a
 /// faulty command line.
 pub fn report_unread_words<K: Sink>(error: io::Error, out: &mut K) -> u8
-    ensures memory { result ≡ 71 → (error_kind error ≡ ErrorKind.OutOfMemory) × (K.calls out.new ≡ K.calls out.old) }
-    ensures words { result ≡ 64 → (error_kind error ≢ ErrorKind.OutOfMemory) × Notes (K.calls out.old) (K.calls out.new) (Put (line (codes "error: invalid UTF-8 was detected in one or more arguments"))) }
-    ensures sink_fault { result ≡ 74 → (error_kind error ≢ ErrorKind.OutOfMemory) × Rose (K.faults out.old) (K.faults out.new) }
-    ensures sink_left { result ≡ 74 → NotesPutFailed (K.calls out.old) (K.calls out.new) (K.written out.old) (K.written out.new) (line (codes "error: invalid UTF-8 was detected in one or more arguments")) }
+    ensures memory { result ≡ 71 → (error_kind error ≡ ErrorKind.OutOfMemory)
+        × (K.calls out.new ≡ K.calls out.old) }
+    ensures words { result ≡ 64 → (error_kind error ≢ ErrorKind.OutOfMemory)
+        × Notes (K.calls out.old) (K.calls out.new)
+        (Put (line (codes "error: invalid UTF-8 was detected in one or more arguments"))) }
+    ensures sink_fault { result ≡ 74 → (error_kind error ≢ ErrorKind.OutOfMemory)
+        × Rose (K.faults out.old) (K.faults out.new) }
+    ensures sink_left { result ≡ 74 → NotesPutFailed (K.calls out.old) (K.calls out.new)
+        (K.written out.old) (K.written out.new)
+        (line (codes "error: invalid UTF-8 was detected in one or more arguments")) }
     ensures statuses { (result ≡ 71) ⊎ (result ≡ 64) ⊎ (result ≡ 74) }
 {
     match error.kind() {
