@@ -86,9 +86,20 @@ fn ask(graph: &mut LeaseGraph) -> Told
     }
 }
 
+// What is seen in the corridor while worker 0 has a lease; then the settings, and how many events the journal has.
+fn waiting(
+    alloc: Global,
+) -> Result<Option<(Option<(u32, Told, usize)>, Settings, usize)>, AllocError> {
+    let task = corridor(alloc)?;
+    let Some(mut graph) = graph(alloc, task, 1000, 256)? else {
+        return Ok(None);
+    };
+    let seen = ask_twice(&mut graph);
+    Ok(Some((seen, *graph.settings(), graph.journal().len())))
+}
+
 #[test]
 fn a_second_worker_waits(rt: HostRuntime) -> Result<(), Fail> {
-    let task = corridor(rt.alloc())?;
     let settings = Settings {
         workers: 2,
         num: 1,
@@ -98,13 +109,8 @@ fn a_second_worker_waits(rt: HostRuntime) -> Result<(), Fail> {
         wish: 256,
         plain: false,
     };
-    if let Some(mut graph) = graph(rt.alloc(), task, 1000, 256)? {
-        assert_eq!(rt; graph.settings(), &settings);
-        assert_eq!(rt; ask_twice(&mut graph), Some((22, Told::Wait, 1)));
-        assert_eq!(rt; graph.journal().len(), 2);
-        return Ok(());
-    }
-    assert!(rt; false);
+    let seen = Some((22, Told::Wait, 1));
+    assert_eq!(rt; waiting(rt.alloc())?, Some((seen, settings, 2)));
     Ok(())
 }
 
@@ -141,7 +147,9 @@ fn mark_one(graph: &mut LeaseGraph, block: u32, hot: bool) -> bool
 }
 
 // The block of worker 0's lease, its rival, what the worker's marks are answered, and the room that is left.
-fn mark_with_lease(graph: &mut LeaseGraph) -> Option<(u32, Option<u32>, [bool; 6], u32)>
+type Marked = (u32, Option<u32>, [bool; 6], u32);
+
+fn mark_with_lease(graph: &mut LeaseGraph) -> Option<Marked>
     requires opening { counts_in graph.old ≡ opening_counts graph.old.table.settings 0 }
     requires workers { graph.old.table.settings.workers ≡ 2 }
 {
@@ -161,18 +169,21 @@ fn mark_with_lease(graph: &mut LeaseGraph) -> Option<(u32, Option<u32>, [bool; 6
     }
 }
 
+// What is seen of worker 0's marks on the open square; then how many events the journal has, and the end.
+fn marking(alloc: Global) -> Result<Option<(Option<Marked>, usize, Option<End>)>, AllocError> {
+    let task = open_square(alloc)?;
+    let Some(mut graph) = graph(alloc, task, 1000, 256)? else {
+        return Ok(None);
+    };
+    let seen = mark_with_lease(&mut graph);
+    Ok(Some((seen, graph.journal().len(), graph.end())))
+}
+
 #[test]
 fn a_better_hot_block_outranks(rt: HostRuntime) -> Result<(), Fail> {
-    let task = open_square(rt.alloc())?;
-    if let Some(mut graph) = graph(rt.alloc(), task, 1000, 256)? {
-        let answers = [true, false, false, false, true, false];
-        let seen = mark_with_lease(&mut graph);
-        assert_eq!(rt; seen, Some((0, None, answers, 61)));
-        assert_eq!(rt; graph.journal().len(), 4);
-        assert_eq!(rt; graph.end(), None);
-        return Ok(());
-    }
-    assert!(rt; false);
+    let answers = [true, false, false, false, true, false];
+    let seen = Some((0, None, answers, 61));
+    assert_eq!(rt; marking(rt.alloc())?, Some((seen, 4, None)));
     Ok(())
 }
 
@@ -208,15 +219,20 @@ fn spend_one(graph: &mut LeaseGraph, lease: Lease) -> bool
     }
 }
 
+// What is seen of a lease of the open square that goes on where it may.
+fn going_on(alloc: Global, budget: u64) -> Result<Option<(bool, Option<End>)>, AllocError> {
+    let task = open_square(alloc)?;
+    let Some(mut graph) = graph(alloc, task, budget, 1)? else {
+        return Ok(None);
+    };
+    Ok(use_up(&mut graph))
+}
+
 #[test]
 fn a_lease_goes_on_while_something_is_left(rt: HostRuntime) -> Result<(), Fail> {
     for (budget, goes_on) in [(1, false), (2, true)] {
-        let task = open_square(rt.alloc())?;
-        if let Some(mut graph) = graph(rt.alloc(), task, budget, 1)? {
-            assert_eq!(rt; use_up(&mut graph), Some((goes_on, None)));
-        } else {
-            assert!(rt; false);
-        }
+        let seen = going_on(rt.alloc(), budget)?;
+        assert_eq!(rt; seen, Some((goes_on, None)));
     }
     Ok(())
 }

@@ -31,31 +31,42 @@ fn tables(
     Ok(Some(MachineTables::new(alloc, Arc::new(alloc, graph)?, settings)?))
 }
 
-// A call, by the worker if one makes it.
+// A call, by the worker where one makes it, or a look at the tables.
 #[derive(Clone, Copy)]
 enum Call {
     Lease(u32, u32),
     Renew(u32, u64),
+    Renewals(u32, u32),
     Release(u32, u64, bool),
     Hot(u32, u32, bool),
     Cold(u32, u32),
     Off(u32, bool),
     Quiet,
     Budget,
+    FreeBlocks,
+    LeasedNear(u32),
+    HotNear(u32),
+    Spent,
+    Events,
 }
 
-// Makes a call if it may be made: its quota, or 1 for true and for what answers nothing, and 0 for
-// false. None if it may not be made.
+// Makes a call where it may be made: its quota or number, or 1 for true and for what answers nothing, and 0 for false; None where it may not be made.
 fn play(tables: &mut MachineTables, call: Call) -> Result<Option<u64>, AllocError> {
     match call {
         Call::Lease(worker, block) => lease(tables, worker, block),
         Call::Renew(worker, used) => Ok(renew(tables, worker, used)),
+        Call::Renewals(worker, times) => Ok(Some(renewals(tables, worker, times))),
         Call::Release(worker, used, memory) => Ok(release(tables, worker, used, memory)),
         Call::Hot(worker, block, outranked) => Ok(mark(tables, worker, block, Some(outranked))),
         Call::Cold(worker, block) => Ok(mark(tables, worker, block, None)),
         Call::Off(worker, memory) => Ok(sign_off(tables, worker, memory)),
         Call::Quiet => Ok(end(tables, false)),
         Call::Budget => Ok(end(tables, true)),
+        Call::FreeBlocks => Ok(Some(free_blocks(tables))),
+        Call::LeasedNear(block) => Ok(near(tables, block, false)),
+        Call::HotNear(block) => Ok(near(tables, block, true)),
+        Call::Spent => Ok(Some(tables.spent())),
+        Call::Events => Ok(Some(tables.journal().len() as u64)),
     }
 }
 
@@ -85,6 +96,16 @@ fn renew(tables: &mut MachineTables, worker: u32, used: u64) -> Option<u64> {
     Some(tables.renew(worker, used))
 }
 
+// How many renewals are made of so many, up to the first that isn't. Each settles one expansion, and its quota is 1.
+fn renewals(tables: &mut MachineTables, worker: u32, times: u32) -> u64 {
+    for made in 0..times {
+        if renew(tables, worker, 1) != Some(1) {
+            return u64::from(made);
+        }
+    }
+    u64::from(times)
+}
+
 fn release(tables: &mut MachineTables, worker: u32, used: u64, memory: bool) -> Option<u64> {
     if worker >= tables.settings().workers {
         return None;
@@ -97,7 +118,7 @@ fn release(tables: &mut MachineTables, worker: u32, used: u64, memory: bool) -> 
     Some(1)
 }
 
-// A mark, if it is said whether the block is outranked, or else a mark that is taken away.
+// A mark, where it is told whether the block is outranked, or else one that is taken away.
 fn mark(
     tables: &mut MachineTables,
     worker: u32,
@@ -144,7 +165,7 @@ fn end(tables: &mut MachineTables, budget: bool) -> Option<u64> {
     Some(1)
 }
 
-// How many of the first calls answer as they must, up to the first that doesn't.
+// How many of the first calls answer as they are to, up to the first that doesn't.
 fn play_all(
     tables: &mut MachineTables,
     calls: &[(Call, Option<u64>)],
@@ -168,17 +189,35 @@ fn free_blocks(tables: &MachineTables) -> u64 {
     bits
 }
 
-// How many leased blocks and how many hot ones interfere with the block.
-fn near(tables: &MachineTables, block: u32) -> Option<(u32, u32)> {
+// How many leased or hot blocks interfere with the block.
+fn near(tables: &MachineTables, block: u32, hot: bool) -> Option<u64> {
     if block >= tables.graph().count() {
         return None;
     }
-    Some((tables.leased_near(block), tables.hot_near(block)))
+    if hot {
+        Some(u64::from(tables.hot_near(block)))
+    } else {
+        Some(u64::from(tables.leased_near(block)))
+    }
+}
+
+// What a test sees of a search of the task whose first calls are these: how many of them answer as they are to, and the end.
+fn played(
+    alloc: Global,
+    task: Task,
+    budget: u64,
+    lot: u64,
+    calls: &[(Call, Option<u64>)],
+) -> Result<Option<(usize, Option<End>)>, AllocError> {
+    let Some(mut tables) = tables(alloc, &task, budget, lot)? else {
+        return Ok(None);
+    };
+    let agreed = play_all(&mut tables, calls)?;
+    Ok(Some((agreed, tables.end())))
 }
 
 #[test]
 fn a_hot_block_waits_for_its_neighbours(rt: HostRuntime) -> Result<(), Fail> {
-    let task = open_square(rt.alloc())?;
     let calls = [
         (Call::Lease(0, 0), Some(256)),
         (Call::Lease(1, 1), None),
@@ -191,21 +230,18 @@ fn a_hot_block_waits_for_its_neighbours(rt: HostRuntime) -> Result<(), Fail> {
         (Call::Hot(0, 1, false), Some(1)),
         (Call::Hot(0, 3, false), Some(1)),
         (Call::Renew(0, 4), None),
+        (Call::FreeBlocks, Some(0b1_0000_0000)),
+        (Call::Release(0, 4, false), Some(1)),
+        (Call::FreeBlocks, Some(0b1_1111_1111)),
     ];
-    if let Some(mut tables) = tables(rt.alloc(), &task, 1000, 256)? {
-        assert_eq!(rt; play_all(&mut tables, calls.as_slice())?, 11);
-        assert_eq!(rt; free_blocks(&tables), 1 << 8);
-        assert_eq!(rt; play(&mut tables, Call::Release(0, 4, false))?, Some(1));
-        assert_eq!(rt; free_blocks(&tables), (1 << 9) - 1);
-        return Ok(());
-    }
-    assert!(rt; false);
+    let task = open_square(rt.alloc())?;
+    let seen = played(rt.alloc(), task, 1000, 256, calls.as_slice())?;
+    assert_eq!(rt; seen, Some((14, None)));
     Ok(())
 }
 
 #[test]
 fn a_lease_takes_its_whole_scope(rt: HostRuntime) -> Result<(), Fail> {
-    let task = corridor(rt.alloc())?;
     let calls = [
         (Call::Lease(0, 22), Some(256)),
         (Call::Lease(1, 20), None),
@@ -222,48 +258,41 @@ fn a_lease_takes_its_whole_scope(rt: HostRuntime) -> Result<(), Fail> {
         (Call::Release(1, 2, true), Some(1)),
         (Call::Off(0, false), Some(1)),
         (Call::Off(1, true), Some(1)),
+        (Call::Spent, Some(259)),
+        (Call::Events, Some(11)),
     ];
-    if let Some(mut tables) = tables(rt.alloc(), &task, 1000, 256)? {
-        assert_eq!(rt; play_all(&mut tables, calls.as_slice())?, 15);
-        assert_eq!(rt; tables.spent(), 259);
-        assert_eq!(rt; tables.end(), Some(End::Memory));
-        assert_eq!(rt; tables.journal().len(), 11);
-        return Ok(());
-    }
-    assert!(rt; false);
+    let task = corridor(rt.alloc())?;
+    let seen = played(rt.alloc(), task, 1000, 256, calls.as_slice())?;
+    assert_eq!(rt; seen, Some((17, Some(End::Memory))));
     Ok(())
 }
 
 // Of the last row's blocks, 18 to 26, those interfere that lie at most two apart.
 #[test]
 fn leased_and_hot_blocks_are_counted_near_each_block(rt: HostRuntime) -> Result<(), Fail> {
-    let task = corridor(rt.alloc())?;
     let calls = [
         (Call::Lease(0, 20), Some(256)),
         (Call::Lease(1, 24), Some(256)),
         (Call::Hot(1, 22, false), Some(1)),
+        (Call::LeasedNear(18), Some(1)),
+        (Call::HotNear(18), Some(0)),
+        (Call::LeasedNear(20), Some(0)),
+        (Call::HotNear(20), Some(1)),
+        (Call::LeasedNear(21), Some(1)),
+        (Call::HotNear(21), Some(1)),
+        (Call::LeasedNear(22), Some(2)),
+        (Call::HotNear(22), Some(0)),
+        (Call::LeasedNear(26), Some(1)),
+        (Call::HotNear(26), Some(0)),
     ];
-    let counts = [
-        (18, (1, 0)),
-        (20, (0, 1)),
-        (21, (1, 1)),
-        (22, (2, 0)),
-        (26, (1, 0)),
-    ];
-    if let Some(mut tables) = tables(rt.alloc(), &task, 1000, 256)? {
-        assert_eq!(rt; play_all(&mut tables, calls.as_slice())?, 3);
-        for (block, wanted) in counts {
-            assert_eq!(rt; near(&tables, block), Some(wanted));
-        }
-        return Ok(());
-    }
-    assert!(rt; false);
+    let task = corridor(rt.alloc())?;
+    let seen = played(rt.alloc(), task, 1000, 256, calls.as_slice())?;
+    assert_eq!(rt; seen, Some((13, None)));
     Ok(())
 }
 
 #[test]
 fn the_last_quota_is_what_is_left(rt: HostRuntime) -> Result<(), Fail> {
-    let task = corridor(rt.alloc())?;
     let calls = [
         (Call::Lease(0, 22), Some(2)),
         (Call::Renew(0, 2), Some(2)),
@@ -275,35 +304,27 @@ fn the_last_quota_is_what_is_left(rt: HostRuntime) -> Result<(), Fail> {
         (Call::Budget, Some(1)),
         (Call::Off(0, true), Some(1)),
         (Call::Off(1, false), Some(1)),
+        (Call::Events, Some(7)),
     ];
-    if let Some(mut tables) = tables(rt.alloc(), &task, 5, 2)? {
-        assert_eq!(rt; play_all(&mut tables, calls.as_slice())?, 10);
-        assert_eq!(rt; tables.end(), Some(End::Budget));
-        assert_eq!(rt; tables.journal().len(), 7);
-        return Ok(());
-    }
-    assert!(rt; false);
+    let task = corridor(rt.alloc())?;
+    let seen = played(rt.alloc(), task, 5, 2, calls.as_slice())?;
+    assert_eq!(rt; seen, Some((11, Some(End::Budget))));
     Ok(())
 }
 
 #[test]
 fn the_room_of_a_lease_is_used_up(rt: HostRuntime) -> Result<(), Fail> {
+    let calls = [
+        (Call::Lease(0, 22), Some(1)),
+        (Call::Renewals(0, ROOM), Some(63)),
+        (Call::Renew(0, 1), None),
+        (Call::Hot(0, 20, false), Some(0)),
+        (Call::Release(0, 0, false), Some(1)),
+        (Call::Quiet, Some(1)),
+        (Call::Events, Some(66)),
+    ];
     let task = corridor(rt.alloc())?;
-    if let Some(mut tables) = tables(rt.alloc(), &task, 1000, 1)? {
-        assert_eq!(rt; play(&mut tables, Call::Lease(0, 22))?, Some(1));
-        for _ in 0..ROOM {
-            assert_eq!(rt; play(&mut tables, Call::Renew(0, 1))?, Some(1));
-        }
-        let calls = [
-            (Call::Renew(0, 1), None),
-            (Call::Hot(0, 20, false), Some(0)),
-            (Call::Release(0, 0, false), Some(1)),
-            (Call::Quiet, Some(1)),
-        ];
-        assert_eq!(rt; play_all(&mut tables, calls.as_slice())?, 4);
-        assert_eq!(rt; tables.journal().len(), 66);
-        return Ok(());
-    }
-    assert!(rt; false);
+    let seen = played(rt.alloc(), task, 1000, 1, calls.as_slice())?;
+    assert_eq!(rt; seen, Some((7, Some(End::Quiet))));
     Ok(())
 }

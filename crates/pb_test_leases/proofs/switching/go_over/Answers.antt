@@ -40,8 +40,8 @@ work-worked-requires-clause-at_work c =
       scope = l.of_graph.scope;
     }))
 
-pub try_switch-requires : goal.try_switch-requires
-try_switch-requires c =
+pub switch-requires : goal.switch-requires
+switch-requires c =
     let l = c.in-Leased.ensures.leased c.in-Leased.lease refl in
     let same = c.work-worked.ensures.same in
     record {
@@ -49,9 +49,3 @@ try_switch-requires c =
       weight = same.weight ∙ l.of_graph.weight;
       scope = subst (λ (a : AbstractGraph). HasScope a c.work-worked.new.lease) (sym (l.events.graph ∙ c.requires.abstraction)) c.work-worked.ensures.scope;
     }
-
-pub release-requires : goal.release-requires
-release-requires c = (c.in-Switched.ensures.switched c.in-Switched.next refl).1.leased.of_graph
-
-pub release-requires-in-Kept : goal.release-requires-in-Kept
-release-requires-in-Kept c = (c.in-Kept.ensures.kept c.in-Kept.kept refl).1.of_graph
