@@ -18,7 +18,8 @@ pub(crate) struct Halves {
 impl Store for Halves {
     ghost parts = { λ _. 2 };
 
-    ghost rows = { λ s home state. if home == 0 then row_of s.first state else if home == 1 then row_of s.second state else None };
+    ghost rows = { λ s home state. if home == 0 then row_of s.first state else if home == 1
+        then row_of s.second state else None };
 
     ghost home = { λ _ parts state. if state == (space_of parts).start then 0 else 1 };
 

@@ -1,17 +1,18 @@
 ghost use Rattle.std.specs.Prelude.{◌≡◌, IfOk};
 
 use crate::halves::Halves;
-use pb_cert::{Certificate, Plan, trace};
+use pb_cert::{Certificate, Plan, Store, trace};
 use pb_lists::Bundle;
 use pb_model::{Estimate, Status};
-use pb_outside::{Failed, MemShelf};
+use pb_outside::{Failed, MemShelf, Memory};
 use pb_packed::Packed;
 use pb_task::Task;
 use pb_test_examples::two_cells;
 use std::alloc::{AllocError, Global};
 use std::test::Fail;
 
-// What is saved of a search on a map of 3 by 3 free cells, from the upper left to the lower right cell, whose estimates are 0.
+// What is saved of a search on a map of 3 by 3 free cells, from the upper left to the lower right
+// cell, whose estimates are 0.
 const OPEN_SQUARE: &str = "pbnf-certificate 1
 kind grid
 weight 1 1
@@ -77,78 +78,158 @@ fn bundle_of(alloc: Global, rows: &[(u32, u64, Status)]) -> Result<Bundle, Alloc
     Ok(bundle)
 }
 
-#[test]
-fn a_certificate_with_a_plan_is_saved(rt: HostRuntime) -> Result<(), Fail> {
-    let rows = [
-        (0x1002, 4, Status::Cut),
-        (0x0801, 2, Status::Closed),
-        (0x0000, 0, Status::Closed),
-        (0x1001, 3, Status::Closed),
-        (0x0001, 1, Status::Closed),
-        (0x0800, 1, Status::Closed),
-        (0x0002, 2, Status::Closed),
-        (0x0802, 3, Status::Closed),
-        (0x1000, 2, Status::Closed),
-    ];
-    let bundle = bundle_of(rt.alloc(), &rows)?;
-    let actions = vec![in rt.alloc(); 3, 3, 1, 1]?;
-    let plan = Plan::of(actions, 4);
-    let certificate = Certificate::of(rt.alloc(), "grid", 1, 1, Some(plan), &bundle)?;
-    assert!(rt; certificate.len() == 736);
-    let mut shelf = MemShelf::new(rt.alloc())?;
-    shelf.reserve("c", 736)?;
-    certificate.write_to(&mut shelf, "c")?;
-    assert!(rt; shelf.has("c"));
-    assert!(rt; shelf.file("c") == OPEN_SQUARE.as_bytes());
-    Ok(())
+// The certificate of a store at the weight 1. It has no clause that says what it is, so a caller's
+// proof stays short.
+fn certificate_of<'a, S: Store>(
+    alloc: Global,
+    plan: Option<Plan>,
+    store: &'a S,
+) -> Result<Certificate<'a>, AllocError>
+    requires whole { S.is_whole store.now }
+    requires weight { S.weight store.now ≡ record { num = 1; den = 1 } }
+{
+    Certificate::of(alloc, "grid", 1, 1, plan, store)
 }
 
-#[test]
-fn a_certificate_of_two_parts_is_saved(rt: HostRuntime) -> Result<(), Fail> {
-    let first = [
-        (0x1002, 4, Status::Cut),
-        (0x0801, 2, Status::Closed),
-        (0x0000, 0, Status::Closed),
-        (0x0802, 3, Status::Closed),
-    ];
-    let second = [
-        (0x1001, 3, Status::Closed),
-        (0x0001, 1, Status::Closed),
-        (0x0800, 1, Status::Closed),
-        (0x0002, 2, Status::Closed),
-        (0x1000, 2, Status::Closed),
-    ];
+// A shelf with room for so many bytes, that fails at a call if it is to.
+fn shelf_for(alloc: Global, room: u128, failing: Option<u64>) -> Result<MemShelf, Memory> {
+    let mut shelf = MemShelf::new(alloc)?;
+    shelf.reserve("c", room)?;
+    if let Some(call) = failing {
+        shelf.fail(call, 0)?;
+    }
+    Ok(shelf)
+}
+
+fn write(certificate: &Certificate<'_>, shelf: &mut MemShelf) -> Result<(), Failed> {
+    certificate.write_to(shelf, "c")
+}
+
+// The bytes of the file, if it is there.
+fn file(alloc: Global, shelf: &MemShelf) -> Result<Option<Vec<u8>>, AllocError> {
+    if shelf.has("c") {
+        let bytes = shelf.file("c").to_vec(alloc)?;
+        Ok(Some(bytes))
+    } else {
+        Ok(None)
+    }
+}
+
+// What is left of a certificate that is saved.
+#[derive(Drop)]
+struct Saved {
+    has_plan: bool,
+    length: u128,
+    answer: Result<(), Failed>,
+    file: Option<Vec<u8>>,
+}
+
+// Saves a certificate on a shelf with room for it, that fails at a call if it is to.
+fn save(
+    alloc: Global,
+    certificate: &Certificate<'_>,
+    failing: Option<u64>,
+) -> Result<Saved, Memory> {
+    let length = certificate.len();
+    let mut shelf = shelf_for(alloc, length, failing)?;
+    let answer = write(certificate, &mut shelf);
+    let file = file(alloc, &shelf)?;
+    Ok(Saved {
+        has_plan: certificate.plan().is_some(),
+        length,
+        answer,
+        file,
+    })
+}
+
+// The certificate of one bundle, saved.
+fn save_one(
+    alloc: Global,
+    rows: &[(u32, u64, Status)],
+    plan: Option<Plan>,
+    failing: Option<u64>,
+) -> Result<Saved, Memory> {
+    let bundle = bundle_of(alloc, rows)?;
+    let certificate = certificate_of(alloc, plan, &bundle)?;
+    save(alloc, &certificate, failing)
+}
+
+// The certificate of two parts, saved.
+fn save_two(
+    alloc: Global,
+    first: &[(u32, u64, Status)],
+    second: &[(u32, u64, Status)],
+    plan: Option<Plan>,
+) -> Result<Saved, Memory> {
     let store = Halves {
-        first: bundle_of(rt.alloc(), &first)?,
-        second: bundle_of(rt.alloc(), &second)?,
+        first: bundle_of(alloc, first)?,
+        second: bundle_of(alloc, second)?,
     };
-    let actions = vec![in rt.alloc(); 3, 3, 1, 1]?;
-    let plan = Plan::of(actions, 4);
-    let certificate = Certificate::of(rt.alloc(), "grid", 1, 1, Some(plan), &store)?;
-    let mut shelf = MemShelf::new(rt.alloc())?;
-    shelf.reserve("c", 736)?;
-    certificate.write_to(&mut shelf, "c")?;
-    assert!(rt; shelf.has("c"));
-    assert!(rt; shelf.file("c") == OPEN_SQUARE.as_bytes());
-    Ok(())
+    let certificate = certificate_of(alloc, plan, &store)?;
+    save(alloc, &certificate, None)
 }
 
+// Whether all is saved, and is this text.
+fn is_whole(saved: &Saved, has_plan: bool, text: &str) -> bool {
+    let bytes = match &saved.file {
+        Some(bytes) => bytes.as_slice(),
+        None => b"",
+    };
+    saved.has_plan == has_plan
+        && saved.length == text.len() as u128
+        && saved.answer == Ok(())
+        && bytes == text.as_bytes()
+}
+
+const FIRST: [(u32, u64, Status); 4] = [
+    (0x1002, 4, Status::Cut),
+    (0x0801, 2, Status::Closed),
+    (0x0000, 0, Status::Closed),
+    (0x0802, 3, Status::Closed),
+];
+
+const SECOND: [(u32, u64, Status); 5] = [
+    (0x1001, 3, Status::Closed),
+    (0x0001, 1, Status::Closed),
+    (0x0800, 1, Status::Closed),
+    (0x0002, 2, Status::Closed),
+    (0x1000, 2, Status::Closed),
+];
+
+const ALL: [(u32, u64, Status); 9] = [
+    (0x1002, 4, Status::Cut),
+    (0x0801, 2, Status::Closed),
+    (0x0000, 0, Status::Closed),
+    (0x1001, 3, Status::Closed),
+    (0x0001, 1, Status::Closed),
+    (0x0800, 1, Status::Closed),
+    (0x0002, 2, Status::Closed),
+    (0x0802, 3, Status::Closed),
+    (0x1000, 2, Status::Closed),
+];
+
+const ROW: [(u32, u64, Status); 3] = [
+    (2, 2, Status::Closed),
+    (1, 1, Status::Closed),
+    (0, 0, Status::Closed),
+];
+
+// The plan of the map without a wall.
+fn plan_of_four(alloc: Global) -> Result<Plan, AllocError> {
+    let actions = vec![in alloc; 3, 3, 1, 1]?;
+    Ok(Plan::of(actions, 4))
+}
+
+// A certificate with a plan, of one bundle and of two parts, and one without a plan.
 #[test]
-fn a_certificate_without_a_plan_is_saved(rt: HostRuntime) -> Result<(), Fail> {
-    let rows = [
-        (2, 2, Status::Closed),
-        (1, 1, Status::Closed),
-        (0, 0, Status::Closed),
-    ];
-    let bundle = bundle_of(rt.alloc(), &rows)?;
-    let certificate = Certificate::of(rt.alloc(), "grid", 1, 1, None, &bundle)?;
-    assert!(rt; certificate.plan().is_none());
-    assert!(rt; certificate.len() == 278);
-    let mut shelf = MemShelf::new(rt.alloc())?;
-    shelf.reserve("c", 278)?;
-    certificate.write_to(&mut shelf, "c")?;
-    assert!(rt; shelf.has("c"));
-    assert!(rt; shelf.file("c") == WALL.as_bytes());
+fn certificates_are_saved(rt: HostRuntime) -> Result<(), Fail> {
+    let alloc = rt.alloc();
+    let one = save_one(alloc, &ALL, Some(plan_of_four(alloc)?), None)?;
+    assert!(rt; is_whole(&one, true, OPEN_SQUARE));
+    let two = save_two(alloc, &FIRST, &SECOND, Some(plan_of_four(alloc)?))?;
+    assert!(rt; is_whole(&two, true, OPEN_SQUARE));
+    let none = save_one(alloc, &ROW, None, None)?;
+    assert!(rt; is_whole(&none, false, WALL));
     Ok(())
 }
 
@@ -197,27 +278,20 @@ fn plan_over_two_parts(
     Ok(Some(plan))
 }
 
+// Whether a plan has this one action at this cost.
+fn is_step(plan: Option<Plan>, action: u32, cost: u64) -> bool {
+    match plan {
+        Some(plan) => plan.actions() == [action].as_slice() && plan.cost() == cost,
+        None => false,
+    }
+}
+
+// The rows stand in one bundle, and then in two parts.
 #[test]
 fn a_plan_is_read_off_the_rows(rt: HostRuntime) -> Result<(), Fail> {
     let task = two_cells(rt.alloc())?;
-    let plan = plan_of_step(rt.alloc(), &task, 3)?;
-    assert!(rt; plan.is_some());
-    if let Some(plan) = plan {
-        assert!(rt; plan.actions() == [3u32].as_slice());
-        assert!(rt; plan.cost() == 1);
-    }
-    Ok(())
-}
-
-#[test]
-fn a_plan_is_read_off_the_rows_of_two_parts(rt: HostRuntime) -> Result<(), Fail> {
-    let task = two_cells(rt.alloc())?;
-    let plan = plan_over_two_parts(rt.alloc(), &task, 3)?;
-    assert!(rt; plan.is_some());
-    if let Some(plan) = plan {
-        assert!(rt; plan.actions() == [3u32].as_slice());
-        assert!(rt; plan.cost() == 1);
-    }
+    assert!(rt; is_step(plan_of_step(rt.alloc(), &task, 3)?, 3, 1));
+    assert!(rt; is_step(plan_over_two_parts(rt.alloc(), &task, 3)?, 3, 1));
     Ok(())
 }
 
@@ -227,14 +301,9 @@ fn pieces_end_with_lines(rt: HostRuntime) -> Result<(), Fail> {
     for state in 0..100u32 {
         rows.push((state, 7, Status::Closed))?;
     }
-    let bundle = bundle_of(rt.alloc(), &rows)?;
-    let certificate = Certificate::of(rt.alloc(), "grid", 1, 1, None, &bundle)?;
-    let mut shelf = MemShelf::new(rt.alloc())?;
-    shelf.reserve("c", 8000)?;
-    shelf.fail(3, 0)?;
-    assert!(rt; certificate.write_to(&mut shelf, "c") == Err(Failed));
-    assert!(rt; shelf.has("c"));
-    let file = shelf.file("c");
+    let saved = save_one(rt.alloc(), &rows, None, Some(3))?;
+    assert!(rt; saved.answer == Err(Failed));
+    let file = saved.file.unwrap_or(Vec::new(rt.alloc()));
     assert!(rt; file.len() <= 4096);
     assert!(rt; file.len() > 3968);
     assert!(rt; file.last() == Some(&b'\n'));

@@ -18,7 +18,9 @@ use std::test::Fail;
 
 // The graph of a search of the task by two workers.
 fn graph(alloc: Global, task: Task, budget: u64, lot: u64) -> Result<Option<LeaseGraph>, AllocError>
-    ensures { IfOk result (λ found. MatchOption found ⊤ (λ g. (counts_in g ≡ opening_counts g.table.settings 0) × (g.table.settings.workers ≡ 2))) }
+    ensures { IfOk result (λ found. MatchOption found ⊤
+        (λ g. (counts_in g ≡ opening_counts g.table.settings 0)
+        × (g.table.settings.workers ≡ 2))) }
 {
     let abstraction = AbsGraph::of(alloc, &task, 256)?;
     let mut estimator = Estimator::of(alloc, &task)?;
@@ -50,7 +52,8 @@ enum Told {
     Memory,
 }
 
-// What is seen while worker 0 has a lease: its block, what worker 1 is told, and how many events the journal has. The lease comes back.
+// What is seen while worker 0 has a lease: its block, what worker 1 is told, and how many events
+// the journal has. The lease comes back.
 fn ask_twice(graph: &mut LeaseGraph) -> Option<(u32, Told, usize)>
     requires opening { counts_in graph.old ≡ opening_counts graph.old.table.settings 0 }
     requires workers { graph.old.table.settings.workers ≡ 2 }
@@ -73,7 +76,8 @@ fn ask(graph: &mut LeaseGraph) -> Told
     requires worker { 1 < graph.old.table.settings.workers }
     requires vacant { (counts_in graph.old).leases 1 ≡ None }
     requires stays { IsFalse ((counts_in graph.old).signed_off 1) }
-    ensures others { (lease : LeaseValue) → IsFalse (lease.worker == 1) → IsOfGraph graph.old lease → IsOfGraph graph.new lease }
+    ensures others { (lease : LeaseValue) → IsFalse (lease.worker == 1) → IsOfGraph graph.old lease
+        → IsOfGraph graph.new lease }
 {
     match graph.lease(1) {
         LeaseReply::Leased(lease) => {
@@ -86,7 +90,8 @@ fn ask(graph: &mut LeaseGraph) -> Told
     }
 }
 
-// What is seen in the corridor while worker 0 has a lease; then the settings, and how many events the journal has.
+// What is seen in the corridor while worker 0 has a lease; then the settings, and how many events
+// the journal has.
 fn waiting(
     alloc: Global,
 ) -> Result<Option<(Option<(u32, Told, usize)>, Settings, usize)>, AllocError> {
@@ -114,7 +119,8 @@ fn a_second_worker_waits(rt: HostRuntime) -> Result<(), Fail> {
     Ok(())
 }
 
-// What worker 0 is answered that has a lease: marks of the blocks 1, 1, 8 and 3, and the mark of block 1 taken away twice.
+// What worker 0 is answered while it has a lease: marks of the blocks 1, 1, 8 and 3, and the mark
+// of block 1 taken away twice.
 fn mark(graph: &mut LeaseGraph) -> [bool; 6]
     requires count { (blocks graph.old.table).count ≡ 9 }
     requires leased { IsSome ((counts_in graph.old).leases 0) }
@@ -146,7 +152,8 @@ fn mark_one(graph: &mut LeaseGraph, block: u32, hot: bool) -> bool
     }
 }
 
-// The block of worker 0's lease, its rival, what the worker's marks are answered, and the room that is left.
+// The block of worker 0's lease, its rival, what the worker's marks are answered, and the room that
+// is left.
 type Marked = (u32, Option<u32>, [bool; 6], u32);
 
 fn mark_with_lease(graph: &mut LeaseGraph) -> Option<Marked>
@@ -169,7 +176,8 @@ fn mark_with_lease(graph: &mut LeaseGraph) -> Option<Marked>
     }
 }
 
-// What is seen of worker 0's marks on the open square; then how many events the journal has, and the end.
+// What is seen of worker 0's marks on the open square; then how many events the journal has, and
+// the end.
 fn marking(alloc: Global) -> Result<Option<(Option<Marked>, usize, Option<End>)>, AllocError> {
     let task = open_square(alloc)?;
     let Some(mut graph) = graph(alloc, task, 1000, 256)? else {
@@ -219,7 +227,7 @@ fn spend_one(graph: &mut LeaseGraph, lease: Lease) -> bool
     }
 }
 
-// What is seen of a lease of the open square that goes on where it may.
+// What is seen of a lease of the open square that goes on if it may.
 fn going_on(alloc: Global, budget: u64) -> Result<Option<(bool, Option<End>)>, AllocError> {
     let task = open_square(alloc)?;
     let Some(mut graph) = graph(alloc, task, budget, 1)? else {

@@ -20,8 +20,8 @@ use std::alloc::{AllocError, Global};
 use std::sync::Arc;
 use std::test::Fail;
 
-// The lease comes back where it may go on to another block: the block and the quota of that lease, which comes back too. None if the worker
-// has no next lease.
+// Gives a lease back and asks for the next one: the block and the quota of that, which comes back
+// too. None if there is no next lease.
 fn switch(graph: &mut LeaseGraph, lease: Lease) -> Option<(u32, u64)>
     requires { IsOfGraph graph.old lease }
 {
@@ -39,8 +39,9 @@ fn switch(graph: &mut LeaseGraph, lease: Lease) -> Option<(u32, u64)>
     }
 }
 
-// Worker 0 leases a block, works on it, and asks to go on: why its work stopped, after how many expansions, and the block and the quota of
-// the next lease, which comes back. None where it has no next lease.
+// Worker 0 leases a block, works on it, and asks to go on. The answer says why its work stopped,
+// after how many expansions, and the block and the quota of the next lease, which comes back. None
+// if there is no next lease.
 fn go_over(
     graph: &mut LeaseGraph,
     task: &Task,
@@ -49,7 +50,8 @@ fn go_over(
     succs: &mut Vec<Succ>,
 ) -> Option<(Worked, u64, u32, u64)>
     requires opening { counts_in graph.old ≡ opening_counts graph.old.table.settings 0 }
-    requires moment { (recorded : (worker : ℕ) → Rows) → IsMoment graph.old recorded (opening_machine (setup_in graph.old)) }
+    requires moment { (recorded : (worker : ℕ) → Rows)
+        → IsMoment graph.old recorded (opening_machine (setup_in graph.old)) }
     requires workers { 0 < graph.old.table.settings.workers }
     requires task { graph.old.task ≡ task.now }
     requires abstraction { graph.old.table.graph ≡ abstraction.now }
@@ -86,7 +88,8 @@ fn release(used: u64) -> Event {
     }
 }
 
-// What is seen as worker 0 goes on from the start of the open square, and whether the journal is this one. None if the start is no state.
+// What is seen as worker 0 goes on from the start of the open square, and whether the journal is
+// this one. None if the start is no state.
 fn switched(
     alloc: Global,
     journal: &[Event],

@@ -31,7 +31,7 @@ fn tables(
     Ok(Some(MachineTables::new(alloc, Arc::new(alloc, graph)?, settings)?))
 }
 
-// A call, by the worker where one makes it, or a look at the tables.
+// A call, by the worker if one makes it, or a look at the tables.
 #[derive(Clone, Copy)]
 enum Call {
     Lease(u32, u32),
@@ -50,7 +50,8 @@ enum Call {
     Events,
 }
 
-// Makes a call where it may be made: its quota or number, or 1 for true and for what answers nothing, and 0 for false; None where it may not be made.
+// Makes a call if it may be made: its quota or number, or 1 for true and for what answers nothing,
+// and 0 for false. None if it may not be made.
 fn play(tables: &mut MachineTables, call: Call) -> Result<Option<u64>, AllocError> {
     match call {
         Call::Lease(worker, block) => lease(tables, worker, block),
@@ -96,7 +97,8 @@ fn renew(tables: &mut MachineTables, worker: u32, used: u64) -> Option<u64> {
     Some(tables.renew(worker, used))
 }
 
-// How many renewals are made of so many, up to the first that isn't. Each settles one expansion, and its quota is 1.
+// How many renewals are made of so many, up to the first that isn't. Each settles one expansion,
+// and its quota is 1.
 fn renewals(tables: &mut MachineTables, worker: u32, times: u32) -> u64 {
     for made in 0..times {
         if renew(tables, worker, 1) != Some(1) {
@@ -118,7 +120,7 @@ fn release(tables: &mut MachineTables, worker: u32, used: u64, memory: bool) -> 
     Some(1)
 }
 
-// A mark, where it is told whether the block is outranked, or else one that is taken away.
+// A mark, with whether the block is outranked, or else one that is taken away.
 fn mark(
     tables: &mut MachineTables,
     worker: u32,
@@ -201,7 +203,8 @@ fn near(tables: &MachineTables, block: u32, hot: bool) -> Option<u64> {
     }
 }
 
-// What a test sees of a search of the task whose first calls are these: how many of them answer as they are to, and the end.
+// What a test sees of a search of the task whose first calls are these: how many of them answer as
+// they are to, and the end.
 fn played(
     alloc: Global,
     task: Task,
