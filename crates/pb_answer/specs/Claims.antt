@@ -1,4 +1,5 @@
--- What the program claims of a task, by the text that it prints and the certificate that it saves or checks.
+-- What the program claims of a task, by the text that it prints and the certificate that it saves
+-- or checks.
 use Rattle.std.specs.Prelude.{◌≡◌, ℕ, ◌^◌, ◌<◌, Option, None, Some, List, [], ◌∷◌, ◌++◌, Ok, Err}
 use Rattle.pb_model.specs.Weight.{Weight}
 use Rattle.pb_model.specs.Guide.{Guide}
@@ -43,8 +44,8 @@ journal_outputs None settings journal = []
 journal_outputs (Some name) settings journal = output name (journal_text settings journal) ∷ []
 
 -- A search of the task, as the words ask for it, came to a quiet end. It found this plan, which is
--- the one that its rows lead to, or it found none. What is saved is its certificate and, after that,
--- its journal, each if it has a name.
+-- the one that its rows lead to, or it found none. What is saved is its certificate and, after
+-- that, its journal, each if it has a name.
 abbrev pub Certifies : (saves : List Output → Type 0) → SolveMeaning → TaskParts → Option Plan
     → Type 0
 Certifies saves solve parts plan =
@@ -54,8 +55,8 @@ Certifies saves solve parts plan =
     (guide_of parts found.run.ends.graph) found.run.ends.machine.store plan outputs
     × saves (outputs ++ journal_outputs solve.journal (settings_of solve) journal)
 
--- A search of the task, as the words ask for it, came to the end of its budget. What is saved is its
--- journal, if it has a name.
+-- A search of the task, as the words ask for it, came to the end of its budget. What is saved is
+-- its journal, if it has a name.
 abbrev pub Stops : (saves : List Output → Type 0) → SolveMeaning → TaskParts → Type 0
 Stops saves solve parts =
     (journal : List Event) × SearchEnds parts (settings_of solve) Budget journal

@@ -98,7 +98,8 @@ abbrev pub check_task : CheckMeaning → (texts : List (List ℕ))
 check_task check texts =
     with_text (slice_get texts 0) (input_task check.input check.row check.swamp 1 texts)
 
--- the task that a journal is to be judged for, and the journal's text; its blocks are the same with swamp or without
+-- the task that a journal is to be judged for, and the journal's text; its blocks are the same with
+-- swamp or without
 abbrev pub journal_task : JournalMeaning → (texts : List (List ℕ))
     → Result (TaskParts × List ℕ) (List ℕ)
 journal_task journal texts =

@@ -73,7 +73,8 @@ PrintsNamedPlan says weight domain problem =
 
 -- ---- verdicts
 
--- what an accepted certificate shows: some plan has its cost, and none costs less than the bound; or there is none
+-- what an accepted certificate shows: some plan has its cost, and none costs less than the bound;
+-- or there is none
 abbrev pub NamedVerdict : Domain → Problem → Verdict → Type 0
 NamedVerdict domain problem (Bounded cost bound) =
     ((actions : List NamedAction) × IsPlan domain problem actions

@@ -1,4 +1,5 @@
--- Texts that spell a STRIPS task: a domain and a problem by the grammar, which are well typed and within the numbers of atoms and actions.
+-- Texts that spell a STRIPS task: a domain and a problem by the grammar, which are well typed and
+-- within the numbers of atoms and actions.
 use Rattle.std.specs.Prelude.{◌≡◌, ℕ, ◌+◌, List, Some, slice_get}
 use Rattle.pb_pddl.specs.declared.tree.Domain.{Domain}
 use Rattle.pb_pddl.specs.declared.tree.Problem.{Problem}

@@ -3,7 +3,8 @@ ghost use Rattle.std.specs.Prelude.{◌≡◌, ◌++◌, ◌∷◌, [], OnOk, sl
 use std::alloc::{AllocError, Global};
 use std::marker::Model;
 
-/// The texts of files, in the order in which they were loaded. Contracts see the list of their bytes.
+/// The texts of files, in the order in which they were loaded. Contracts see the list of their
+/// bytes.
 #[derive(Drop)]
 pub struct Texts {
     texts: Vec<Vec<u8>>,

@@ -104,7 +104,8 @@ IsLine line text = text ≡ line ++ 10 ∷ []
 abbrev pub text_most : ℕ
 text_most = 65536
 
--- a text for words that are out of form: it begins with `error: `, its last line is ended, and it isn't too long. The rest is clap's.
+-- a text for words that are out of form: it begins with `error: `, its last line is ended, and it
+-- isn't too long. The rest is clap's.
 pub record IsErrorText (text : List ℕ) : Type 0 where
   pub rest : List ℕ
   pub begins : text ≡ codes "error: " ++ rest

@@ -205,7 +205,8 @@ reading_of_words words =
 abbrev pub IsInRangeOf : NumberOption → ℕ → Type 0
 IsInRangeOf o n = (o.least ≤ n) × (n ≤ o.most)
 
--- the numbers of `solve` lie in their ranges, its weight is at least 1, and certificate and journal have two names
+-- the numbers of `solve` lie in their ranges, its weight is at least 1, and certificate and journal
+-- have two names
 pub record IsSolveInRange (solve : SolveMeaning) : Type 0 where
   pub row : IsInRangeOf row_option solve.row
   pub workers : IsInRangeOf workers_option solve.workers

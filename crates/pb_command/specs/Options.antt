@@ -1,5 +1,5 @@
--- What a command reads of its options, in whatever order its words come. Names, ranges and defaults are written out here once more: they
--- are what a user is promised.
+-- What a command reads of its options, in whatever order its words come. Names, ranges and defaults
+-- are written out here once more: they are what a user is promised.
 use Rattle.std.specs.Prelude.{◌≡◌, ◌≤◌, ◌<◌, ℕ, List, [], ◌∷◌, ◌++◌, ◌||◌, Bool, true, false, Option, None, Some, if◌then◌else◌, codes}
 use Rattle.std.specs.List.{AllByRecursion}
 use Rattle.std.specs.Option.{option_map_or}
@@ -173,7 +173,8 @@ file_words (Grid names) = names.map ∷ names.scenario ∷ []
 file_words (Tiles board) = board ∷ []
 file_words (Strips names) = names.domain ∷ names.problem ∷ []
 
--- arguments of `solve`: its kind and its files in their places, and options anywhere among them, none twice
+-- arguments of `solve`: its kind and its files in their places, and options anywhere among them,
+-- none twice
 pub record AreOfSolve (input : InputNames) (arguments : List Argument) : Type 0 where
   pub each : AllByRecursion (IsArgumentOf is_of_solve every_flag) arguments
   pub distinct : AreDistinct arguments
@@ -185,7 +186,8 @@ HaveTwoNames arguments =
     (name : Text) → value_given Certificate arguments ≡ Some name
     → value_given Journal arguments ≡ Some name → ⊥
 
--- `solve` with the kind and its files, and with options anywhere among them, searches this task with their values.
+-- `solve` with the kind and its files, and with options anywhere among them, searches this task
+-- with their values.
 abbrev pub SolveReadsOptions : Type 0
 SolveReadsOptions = (input : InputNames) (arguments : List Argument) → AreOfSolve input arguments
     → number_given Den 1 arguments ≤ number_given Num 1 arguments → HaveTwoNames arguments
@@ -218,8 +220,8 @@ OneNameIsRefused =
     → value_given Certificate arguments ≡ Some name → value_given Journal arguments ≡ Some name
     → reading_of_words (codes "solve" ∷ words_of arguments) ≡ Refused fault.Names
 
--- `check` with the kind, the certificate and the files, and with a row and the flag for swamp anywhere among them, checks that certificate for
--- this task.
+-- `check` with the kind, the certificate and the files, and with a row and the flag for swamp
+-- anywhere among them, checks that certificate for this task.
 abbrev pub CheckReadsOptions : Type 0
 CheckReadsOptions =
     (input : InputNames) (certificate : Text) (arguments : List Argument)
@@ -232,7 +234,8 @@ CheckReadsOptions =
       swamp = flag_given Swamp arguments;
     }))
 
--- `journal` with the kind, the journal and the files, and with a row anywhere among them, checks that journal for this task.
+-- `journal` with the kind, the journal and the files, and with a row anywhere among them, checks
+-- that journal for this task.
 abbrev pub JournalReadsOptions : Type 0
 JournalReadsOptions =
     (input : InputNames) (journal : Text) (arguments : List Argument)
@@ -250,13 +253,15 @@ word_of_kind kind.Grid = codes "grid"
 word_of_kind kind.Tiles = codes "tiles"
 word_of_kind kind.Strips = codes "strips"
 
--- a grid has a side from 1 to 2,048, a board from 0 to 1,000,000 moves, and a STRIPS problem from 1 to 14 blocks
+-- a grid has a side from 1 to 2,048, a board from 0 to 1,000,000 moves, and a STRIPS problem from 1
+-- to 14 blocks
 abbrev pub IsSizeOf : KindWord → ℕ → Type 0
 IsSizeOf kind.Grid n = (1 ≤ n) × (n ≤ 2048)
 IsSizeOf kind.Tiles n = n ≤ 1000000
 IsSizeOf kind.Strips n = (1 ≤ n) × (n ≤ 14)
 
--- arguments of `make`: the kind, a seed from 0 to 2^32 - 1 and a number below 2^64 in their places, and the number of workers anywhere among them, once at most
+-- arguments of `make`: the kind, a seed from 0 to 2^32 - 1 and a number below 2^64 in their places,
+-- and the number of workers anywhere among them, once at most
 pub record AreOfMake (k : KindWord) (seed size : Text) (arguments : List Argument) : Type 0 where
   pub each : AllByRecursion (IsArgumentOf is_of_make no_flag) arguments
   pub distinct : AreDistinct arguments

@@ -77,7 +77,8 @@ abbrev pub with_rules : App → List Rule → App
 with_rules a [] = a
 with_rules a (r ∷ rs) = with_rules (with_rule a r) rs
 
--- `solve KIND FILE [FILE] [--row K] [--workers W] [--num N] [--den D] [--budget B] [--lot L] [--blocks C] [--cert NAME] [--trace NAME] [--plain] [--swamp]`
+-- `solve KIND FILE [FILE] [--row K] [--workers W] [--num N] [--den D] [--budget B] [--lot L]
+-- [--blocks C] [--cert NAME] [--trace NAME] [--plain] [--swamp]`
 unfoldable pub the_solve : App
 the_solve =
     with_rules (new_app (codes "solve")) (required_rule (codes "KIND")

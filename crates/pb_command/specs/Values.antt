@@ -19,7 +19,8 @@ pub record StripsNames : Type 0 where
   pub domain : Text
   pub problem : Text
 
--- the task that a command names: its kind, with the names of its files, for tiles that of the board's
+-- the task that a command names: its kind, with the names of its files, for tiles that of the
+-- board's
 pub data InputNames : Type 0 where
   Grid : GridNames → InputNames
   Tiles : Text → InputNames
@@ -64,7 +65,8 @@ size_of rows = number_in 0 size_word_most None (one_of (codes "SIZE") rows)
 abbrev pub flag_of : Text → List Row → Bool
 flag_of name rows = option_map_or (λ text. bytes_eq text (codes "true")) (first_of name rows) false
 
--- the least and the greatest size of a made task: the side of a grid, the moves of a 3 by 3 board, and the blocks of a STRIPS problem
+-- the least and the greatest size of a made task: the side of a grid, the moves of a 3 by 3 board,
+-- and the blocks of a STRIPS problem
 abbrev pub least_size : KindWord → ℕ
 least_size kind.Grid = 1
 least_size kind.Tiles = 0

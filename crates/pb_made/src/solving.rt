@@ -74,8 +74,8 @@ pub fn solve_made<R: Threads + Wait + Sync, G: Gate>(
     ensures bound { IfOk result (λ a. IfAccepted a (λ cost bound.
         IsBound unweighted cost bound)) }
 
-    // A search with these workers found it, and the certificate of that search is accepted with this
-    // cost and bound.
+    // A search with these workers found it, and the certificate of that search is accepted with
+    // this cost and bound.
     ensures certified { IfOk result (λ a. IfAccepted a (λ cost bound.
         OfMade kind seed size (λ task. IsCertified task workers (Bounded cost bound)))) }
 

@@ -1,4 +1,5 @@
--- The texts that the program prints: of a plan, of a checked certificate, and of what is wrong with one or with the input.
+-- The texts that the program prints: of a plan, of a checked certificate, and of what is wrong with
+-- one or with the input.
 use Rattle.std.specs.Prelude.{ℕ, ◌<◌, Option, None, Some, List, map, codes, All}
 use Rattle.std.specs.Fmt.{decimal}
 use Rattle.pb_model.specs.Space.{Space}
@@ -192,7 +193,8 @@ cause_word causes.CostTwice = codes "CostTwice"
 cause_word causes.CostRange = codes "CostRange"
 cause_word causes.ZeroCost = codes "ZeroCost"
 
--- why names, costs or objects are refused: the cause, the number of the file and the place in it; or how many objects there are
+-- why names, costs or objects are refused: the cause, the number of the file and the place in it;
+-- or how many objects there are
 abbrev pub refusal_text : TypingRefusal → List ℕ
 refusal_text (Named cause place) =
     with_numbers (spaced (codes "input") (cause_word cause)) (file_number place.file) place.at

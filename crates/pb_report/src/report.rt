@@ -97,7 +97,8 @@ impl Report {
         }
     }
 
-    /// That a certificate is refused, and why: the fault's name, and its numbers in the order of its fields.
+    /// That a certificate is refused, and why: the fault's name, and its numbers in the order of
+    /// its fields.
     pub fn of_certificate_fault(
         alloc: Global,
         fault: &CertificateFault,

@@ -1,4 +1,5 @@
--- What a call of the program calls on the shelf and the sink: one sequence, of which it may do a beginning.
+-- What a call of the program calls on the shelf and the sink: one sequence, of which it may do a
+-- beginning.
 use Rattle.std.specs.Prelude.{◌≡◌, ◌⊎◌, ℕ, ◌<◌, Bool, true, false, ◌||◌, Option, None, Some, List, [], ◌∷◌, ◌++◌, length, take, drop}
 use Rattle.pb_outside.specs.declared.shelf.Load.{Load}
 use Rattle.pb_outside.specs.declared.shelf.Load.TheVariants.{Failed, TooLong, Memory}
@@ -81,7 +82,8 @@ EndLoads files texts (Some Memory) = ⊥
 
 -- ---- outputs
 
--- the calls save these files, one after another: each is begun, and grows by pieces that are together its text
+-- the calls save these files, one after another: each is begun, and grows by pieces that are
+-- together its text
 abbrev pub SaveAll : List Call → List Output → Type 0
 SaveAll calls [] = calls ≡ []
 SaveAll calls (first ∷ outputs) =

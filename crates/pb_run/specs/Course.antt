@@ -1,4 +1,5 @@
--- How a call of the program goes: what it calls on the shelf and the sink, how far it comes, and what it then answers.
+-- How a call of the program goes: what it calls on the shelf and the sink, how far it comes, and
+-- what it then answers.
 use Rattle.std.specs.Prelude.{◌≡◌, ◌⊎◌, ℕ, ◌<◌, ◌≤◌, Option, Some, IfSome, List, [], ◌∷◌, ◌++◌, length}
 use Rattle.pb_outside.specs.declared.shelf.Load.{Load}
 use Rattle.pb_outside.specs.declared.shelf.Load.TheVariants.{Failed}
@@ -47,7 +48,8 @@ pub record FailsToPut (said : Said) (status : ℕ) (saves sink : List Call) : Ty
   pub saves_are : SaveAll saves said.outputs
   pub sink_is : sink ≡ PutFailed said.report kept ∷ []
 
--- All files were loaded, or one was too long. What is answered of their texts is handed out, up to a call that fails.
+-- All files were loaded, or one was too long. What is answered of their texts is handed out, up to
+-- a call that fails.
 pub record HasAnswered (reading : Reading) (status : ℕ) (shelf sink : List Call) : Type 0 where
   pub texts : List (List ℕ)
   pub unloaded : Option Load
@@ -69,7 +71,8 @@ Does reading status shelf sink =
 
 -- ---- what was done
 
--- the texts that were loaded, and what was said: the status, what was put, and the files that were saved
+-- the texts that were loaded, and what was said: the status, what was put, and the files that were
+-- saved
 pub record Ran : Type 0 where
   pub texts : List (List ℕ)
   pub said : Said

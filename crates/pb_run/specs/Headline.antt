@@ -1,5 +1,6 @@
--- What the program promises of a call, by what the words ask for. The task is that of the loaded texts and of the words `--row` and `--swamp`. A
--- further command is one case more of each of these definitions.
+-- What the program promises of a call, by what the words ask for. The task is that of the loaded
+-- texts and of the words `--row` and `--swamp`. A further command is one case more of each of these
+-- definitions.
 use Rattle.std.specs.Prelude.{◌≡◌, ◌≢◌, ◌⊎◌, ℕ, ⊤, Option, None, Some, List, [], ◌∷◌, length, map, Result, Ok, Err, IfSome}
 use Rattle.pb_model.specs.Plan.{HasNoPlan}
 use Rattle.pb_model.specs.Texts.{none_report, stopped_report}
@@ -71,7 +72,8 @@ NoneIsCheaper (Read (Check check)) ran = ⊤
 NoneIsCheaper (Read (Journal journal)) ran = ⊤
 NoneIsCheaper (Read (Make make)) ran = ⊤
 
--- The saved certificate is that of the search, valid and accepted, and has the plan that is printed.
+-- The saved certificate is that of the search, valid and accepted, and has the plan that is
+-- printed.
 abbrev pub CertificateHolds : Reading → Ran → Type 0
 CertificateHolds (Refused fault) ran = ⊤
 CertificateHolds (Read (Solve solve)) ran =
@@ -157,7 +159,8 @@ CheckIsDecided (Read (Make make)) ran = ⊤
 
 -- ---- a journal
 
--- An accepted journal is the text of a finished legal history of so many events over the task's blocks, with the settings of its header.
+-- An accepted journal is the text of a finished legal history of so many events over the task's
+-- blocks, with the settings of its header.
 abbrev pub JournalIsLegal : Reading → Ran → Type 0
 JournalIsLegal (Refused fault) ran = ⊤
 JournalIsLegal (Read (Solve solve)) ran = ⊤
@@ -189,7 +192,8 @@ MadeIsLeast (Read (Make make)) ran = ran.said.status ≡ 0 → MakesPlan (Says r
 
 -- ---- by names, of a domain and a problem in PDDL, over sets of facts and actions with objects
 
--- The printed plan is a plan, with its cost and bound, and its cost is at most num / den times that of any plan.
+-- The printed plan is a plan, with its cost and bound, and its cost is at most num / den times that
+-- of any plan.
 abbrev pub NamedPlanIsPlan : Reading → Ran → Type 0
 NamedPlanIsPlan (Refused fault) ran = ⊤
 NamedPlanIsPlan (Read (Solve solve)) ran =
@@ -250,7 +254,8 @@ OutputsAreNamed reading ran =
 
 -- ---- completeness
 
--- whatever is answered of the texts, the shelf can hold what is to be saved, and the sink can take what is to be printed
+-- whatever is answered of the texts, the shelf can hold what is to be saved, and the sink can take
+-- what is to be printed
 abbrev pub CanHandOut : Reading → (texts : List (List ℕ)) → (can_hold : List ℕ → ℕ → Type 0)
     → (can_take : ℕ → Type 0) → Type 0
 CanHandOut reading texts can_hold can_take =

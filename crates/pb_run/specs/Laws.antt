@@ -1,5 +1,5 @@
--- What one call of the program saves, another one accepts: by what the words of both ask for, and by
--- the words themselves. A premise by the name of a clause is what that clause of `run` promises.
+-- What one call of the program saves, another one accepts: by what the words of both ask for, and
+-- by the words themselves. A premise by the name of a clause is what that clause of `run` promises.
 use Rattle.std.specs.Prelude.{◌≡◌, ◌⊎◌, ℕ, ◌≤◌, Bool, Some, List, [], ◌∷◌, ◌++◌, codes}
 use Rattle.std.specs.List.{AllByRecursion}
 use Rattle.pb_command.specs.Values.{InputNames}
@@ -18,9 +18,9 @@ IsSavedFirst said name text = (rest : List Output) × (said.outputs ≡ output n
 abbrev pub IsSavedLast : Said → (name text : List ℕ) → Type 0
 IsSavedLast said name text = (first : List Output) × (said.outputs ≡ first ++ output name text ∷ [])
 
--- A call searched a task, answered a plan or none, and saved a certificate under a name. Another call checks the
--- text of that certificate, which was loaded whole, for the same input, row and swamp. It accepts it, unless it answers nothing:
--- this follows from what is promised of both.
+-- A call searched a task, answered a plan or none, and saved a certificate under a name. Another
+-- call checks the text of that certificate, which was loaded whole, for the same input, row and
+-- swamp. It accepts it, unless it answers nothing: this follows from what is promised of both.
 abbrev pub SavedCertificatesAreAccepted : Type 0
 SavedCertificatesAreAccepted =
     (solve : SolveMeaning) (check : CheckMeaning) (solved checked : Ran) (name text : List ℕ)
@@ -32,9 +32,9 @@ SavedCertificatesAreAccepted =
     → CheckIsDecided (Read (Check check)) checked
     → (checked.said.status ≡ 0) ⊎ IsBroken checked.said.status
 
--- A call searched a task, answered a plan, none or a stop, and saved a journal under a name. Another
--- call judges the text of that journal, which was loaded whole, for the same input and row, with swamp or without. It accepts it,
--- unless it answers nothing.
+-- A call searched a task, answered a plan, none or a stop, and saved a journal under a name.
+-- Another call judges the text of that journal, which was loaded whole, for the same input and row,
+-- with swamp or without. It accepts it, unless it answers nothing.
 abbrev pub SavedJournalsAreAccepted : Type 0
 SavedJournalsAreAccepted =
     (solve : SolveMeaning) (journal : JournalMeaning) (solved judged : Ran) (name text : List ℕ)

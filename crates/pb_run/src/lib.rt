@@ -1,5 +1,5 @@
-//! The whole program over any shelf, sink and gate: loads the files that the words name, has their task answered, saves what is to be
-//! saved, and prints.
+//! The whole program over any shelf, sink and gate: loads the files that the words name, has their
+//! task answered, saves what is to be saved, and prints.
 //!
 //! What is answered is decided in `pb_answer`. `run` carries the headline as its contract.
 #![tactic(auto)]

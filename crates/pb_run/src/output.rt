@@ -83,7 +83,8 @@ fn save<H: Shelf>(shelf: &mut H, answer: &Answer<'_>) -> Result<(), Failed>
     save_journal(shelf, &answer.journal)
 }
 
-/// Saves the certificate and the journal of an answer, each if it has one, and prints the report. It takes no memory.
+/// Saves the certificate and the journal of an answer, each if it has one, and prints the report.
+/// It takes no memory.
 pub fn hand_out<H: Shelf, K: Sink>(shelf: &mut H, out: &mut K, answer: &Answer<'_>) -> Ending
     ensures hands { Hands (said_of answer.now) result (H.calls shelf.old) (H.calls shelf.new)
         (K.calls out.old) (K.calls out.new) (K.written out.old) (K.written out.new) }

@@ -81,7 +81,8 @@ pub fn run<R: Threads + Wait + Sync, H: Shelf, K: Sink, G: Gate>(
     ensures check_exact { CheckIsDecided (reading_of_words (map string_bytes words.now))
         (ran result (H.calls shelf.old) (H.calls shelf.new) (K.calls out.old) (K.calls out.new)) }
 
-    // An accepted journal is that of a finished legal history over the task's blocks, and each of those is accepted.
+    // An accepted journal is that of a finished legal history over the task's blocks, and each of
+    // those is accepted.
     ensures journal { JournalIsLegal (reading_of_words (map string_bytes words.now))
         (ran result (H.calls shelf.old) (H.calls shelf.new) (K.calls out.old) (K.calls out.new)) }
     ensures journal_exact { JournalIsDecided (reading_of_words (map string_bytes words.now))
@@ -91,7 +92,8 @@ pub fn run<R: Threads + Wait + Sync, H: Shelf, K: Sink, G: Gate>(
     ensures made { MadeIsLeast (reading_of_words (map string_bytes words.now))
         (ran result (H.calls shelf.old) (H.calls shelf.new) (K.calls out.old) (K.calls out.new)) }
 
-    // Of a domain and a problem in PDDL the same is true by names, over sets of facts and actions with objects.
+    // Of a domain and a problem in PDDL the same is true by names, over sets of facts and actions
+    // with objects.
     ensures named_plan { NamedPlanIsPlan (reading_of_words (map string_bytes words.now))
         (ran result (H.calls shelf.old) (H.calls shelf.new) (K.calls out.old) (K.calls out.new)) }
     ensures named_none { NamedNoneMeansNone (reading_of_words (map string_bytes words.now))

@@ -37,7 +37,8 @@ fn action(
     })
 }
 
-/// Six atoms. None of the actions changes atom 0, three change atom 1, two each of the atoms 2, 3 and 4, and one atom 5.
+/// Six atoms. None of the actions changes atom 0, three change atom 1, two each of the atoms 2, 3
+/// and 4, and one atom 5.
 pub fn six_atoms(alloc: Global) -> Result<Task, AllocError> {
     let actions = vec![in alloc;
         action(alloc, 6, 0b000010, 0b000100, 0b000010)?,

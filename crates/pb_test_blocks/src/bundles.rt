@@ -12,7 +12,8 @@ fn state(number: u8) -> Packed {
     Packed::zero().with_bits(0, 8, u64::from(number))
 }
 
-// Offers the start of a search, at a block that is at home. The helpers here have no clauses, so a test's proof stays short.
+// Offers the start of a search, at a block that is at home. The helpers here have no clauses, so a
+// test's proof stays short.
 fn offer(homes: &mut Homes, block: u32, number: u8, estimate: Estimate) -> Result<(), AllocError> {
     if homes.is_home(block) {
         homes.offer_start(block, state(number), estimate)?;

@@ -145,10 +145,12 @@ of 4096, 4095: [4095]
 
 // Each row has a wish and a block, whose scope stands in a line of the text.
 //
-// Each cell of a small map is a block. Land and water aren't joined, and scopes go along open cells. With at most 16 blocks the squares of
-// the 9 by 3 map have 2 by 2 cells: 5 by 2 of them. The blank takes tiles along between blocks, and projections of boards are as fine as
-// was wished for. Scopes of sets of atoms are those of the tracked ones: 5, 2, 3 and 4, from the least bit on, or all but atom 0, which
-// never changes. Without actions there is one block, and no more than twelve atoms are tracked.
+// Each cell of a small map is a block. Land and water aren't joined, and scopes go along open
+// cells. With at most 16 blocks the squares of the 9 by 3 map have 2 by 2 cells: 5 by 2 of them.
+// The blank takes tiles along between blocks, and projections of boards are as fine as was wished
+// for. Scopes of sets of atoms are those of the tracked ones: 5, 2, 3 and 4, from the least bit on,
+// or all but atom 0, which never changes. Without actions there is one block, and no more than
+// twelve atoms are tracked.
 #[test]
 fn scopes_are_as_counted(rt: HostRuntime) -> Result<(), Fail> {
     let mut text = String::new(rt.alloc());
@@ -239,9 +241,10 @@ fn interference_is_as_counted(rt: HostRuntime) -> Result<(), Fail> {
 
 // Each row has a wish, how many blocks there are then, and the bits of a state with its block.
 //
-// The states of the 9 by 3 map are the cell in column 7 of the last row, and a wall. Boards are written from their last cell to their
-// first: 1 0 / 2 3, then 1 4 2 / 3 5 8 / 6 7 0, and 1 0 4 / 3 5 2 / 6 8 7. Of six atoms those that the fewest actions change are tracked,
-// and the least of several comes first.
+// The states of the 9 by 3 map are the cell in column 7 of the last row, and a wall. Boards are
+// written from their last cell to their first: 1 0 / 2 3, then 1 4 2 / 3 5 8 / 6 7 0, and 1 0 4 / 3
+// 5 2 / 6 8 7. Of six atoms those that the fewest actions change are tracked, and the least of
+// several comes first.
 #[test]
 fn states_have_their_blocks(rt: HostRuntime) -> Result<(), Fail> {
     for (example, wish, count, bits, wanted) in [

@@ -1,4 +1,5 @@
-//! Tests of blocks: the abstract graphs of maps, boards and sets of atoms, and the bundles of rows by block.
+//! Tests of blocks: the abstract graphs of maps, boards and sets of atoms, and the bundles of rows
+//! by block.
 #![tactic(auto)]
 
 #[cfg(test)]

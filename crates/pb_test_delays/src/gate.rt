@@ -3,13 +3,15 @@ use pb_outside::Gate;
 use std::sync::atomic::{AtomicU64, Ordering};
 use std::thread::yield_now;
 
-/// Delays each call by 0 to 4,095 turns. They are drawn from a seed, and few turns are as likely as many.
+/// Delays each call by 0 to 4,095 turns. They are drawn from a seed, and few turns are as likely as
+/// many.
 #[derive(Drop)]
 pub struct DelayGate {
     drawn: AtomicU64,
 }
 
-// The bits of a number mixed, as Steele, Lea and Flood do for their generator of random numbers (OOPSLA 2014).
+// The bits of a number mixed, as Steele, Lea and Flood do for their generator of random numbers
+// (OOPSLA 2014).
 fn mixed(number: u64) -> u64 {
     let one = (number ^ (number >> 30)).wrapping_mul(0xbf58_476d_1ce4_e5b9);
     let two = (one ^ (one >> 27)).wrapping_mul(0x94d0_49bb_1331_11eb);

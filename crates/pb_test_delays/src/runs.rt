@@ -32,7 +32,8 @@ fn closed_rows(text: &[u8]) -> usize {
     count
 }
 
-// Whether a delayed search finds that there is no plan and closes nine rows, and both files that it saves are accepted.
+// Whether a delayed search finds that there is no plan and closes nine rows, and both files that it
+// saves are accepted.
 fn is_right<R: Threads + Wait + Sync>(rt: &R, alloc: Global, seed: u64) -> Result<bool, Memory> {
     let mut files = MemShelf::new(alloc)?;
     files.add("map", CORRIDOR.as_bytes())?;

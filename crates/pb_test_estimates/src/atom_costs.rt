@@ -34,7 +34,8 @@ fn action(alloc: Global, needs: u64, adds: u64, cost: u64) -> Result<GroundActio
     })
 }
 
-// From atom 0 over atom 1 and atom 2 to atom 3, the last step first, and a dearer step from atom 0 to atom 2.
+// From atom 0 over atom 1 and atom 2 to atom 3, the last step first, and a dearer step from atom 0
+// to atom 2.
 fn chain(alloc: Global, goal: u64, never: bool) -> Result<Task, AllocError> {
     let third = action(alloc, 4, 8, 1 << 20)?;
     let second = action(alloc, 2, 4, 5)?;
@@ -65,7 +66,8 @@ fn join(alloc: Global, goal: u64) -> Result<Task, AllocError> {
     }))
 }
 
-// Atom 2 costs 8 by atom 1, and not 9; a goal that holds costs nothing; without atom 0 no goal is reached.
+// Atom 2 costs 8 by atom 1, and not 9; a goal that holds costs nothing; without atom 0 no goal is
+// reached.
 #[test]
 fn the_cheapest_chain_of_actions_counts(rt: HostRuntime) -> Result<(), Fail> {
     let (far, free) = ((1 << 20) + 8, 0);
@@ -89,7 +91,8 @@ fn the_cheapest_chain_of_actions_counts(rt: HostRuntime) -> Result<(), Fail> {
     Ok(())
 }
 
-// What an action needs is as dear as its dearest atom alone, and so is the goal. An atom that an action deletes stands.
+// What an action needs is as dear as its dearest atom alone, and so is the goal. An atom that an
+// action deletes stands.
 #[test]
 fn the_dearest_of_needed_atoms_counts(rt: HostRuntime) -> Result<(), Fail> {
     for (goal, state, wanted) in [

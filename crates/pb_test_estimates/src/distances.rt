@@ -47,8 +47,9 @@ fn distances_are_counted_in_both_directions(rt: HostRuntime) -> Result<(), Fail>
     Ok(())
 }
 
-// The boards are written from their last cell to their first: 1 4 2 / 3 5 8 / 6 7 0, where 1, 4, 5 and 8 are one step away; the
-// goal; 0 2 1 / 3 4 5 / 6 7 8; 8 0 6 / 5 4 7 / 2 3 1, where 4 alone is at home, which has a distance of 21.
+// The boards are written from their last cell to their first: 1 4 2 / 3 5 8 / 6 7 0, where 1, 4, 5
+// and 8 are one step away; the goal; 0 2 1 / 3 4 5 / 6 7 8; 8 0 6 / 5 4 7 / 2 3 1, where 4 alone is
+// at home, which has a distance of 21.
 #[test]
 fn ways_of_all_tiles_but_the_blank_are_summed(rt: HostRuntime) -> Result<(), Fail> {
     let task = near_board(rt.alloc())?;

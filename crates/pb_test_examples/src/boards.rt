@@ -1,7 +1,8 @@
 use pb_task::{Board, Task, TilesParts};
 use std::alloc::{AllocError, Global};
 
-/// A board of 3 by 3 cells, four steps before its goal: 1 4 2 / 3 5 8 / 6 7 0. Its one cheapest plan costs 4.
+/// A board of 3 by 3 cells, four steps before its goal: 1 4 2 / 3 5 8 / 6 7 0. Its one cheapest
+/// plan costs 4.
 pub fn near_board(alloc: Global) -> Result<Task, AllocError> {
     let task = Task::of_tiles(TilesParts {
         rows: 3,

@@ -1,7 +1,8 @@
 use pb_task::{Cells, Class, GridParts, Swamp, Task};
 use std::alloc::{AllocError, Global};
 
-/// A map of 3 by 3 cells of land, from its upper left to its lower right cell. Its cheapest plans cost 4.
+/// A map of 3 by 3 cells of land, from its upper left to its lower right cell. Its cheapest plans
+/// cost 4.
 pub fn open_square(alloc: Global) -> Result<Task, AllocError> {
     let land = Class::Land;
     let task = Task::of_grid(GridParts {
@@ -41,8 +42,9 @@ pub fn two_cells(alloc: Global) -> Result<Task, AllocError> {
     Ok(task)
 }
 
-/// A map of 9 by 3 cells: one cell of land in the middle of the first row, a row of walls, and a row of land. The start is in the middle of
-/// the last row, and the goal is the lone cell, so there is no plan.
+/// A map of 9 by 3 cells: one cell of land in the middle of the first row, a row of walls, and a
+/// row of land. The start is in the middle of the last row, and the goal is the lone cell, so there
+/// is no plan.
 pub fn corridor(alloc: Global) -> Result<Task, AllocError> {
     let (wall, land) = (Class::Blocked, Class::Land);
     let classes = vec![in alloc;

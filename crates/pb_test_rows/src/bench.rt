@@ -128,7 +128,8 @@ impl Ran {
         }
     }
 
-    // Whether the files with room are first parts of the whole ones, and one that isn't whole has none after it.
+    // Whether the files with room are first parts of the whole ones, and one that isn't whole has
+    // none after it.
     fn is_broken_off(&self, whole: &Ran, rooms: &[Room]) -> bool {
         let mut is_whole = true;
         let mut is_right = true;
@@ -152,7 +153,8 @@ impl Ran {
         is_right
     }
 
-    // Whether the shelf failed, nothing was printed, and the files are first parts of the whole ones.
+    // Whether the shelf failed, nothing was printed, and the files are first parts of the whole
+    // ones.
     pub(crate) fn is_of_failed_shelf(&self, whole: &Ran, rooms: &[Room]) -> bool {
         self.status == 73 && self.sink.bytes().is_empty() && self.is_broken_off(whole, rooms)
     }

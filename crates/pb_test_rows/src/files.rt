@@ -24,8 +24,8 @@ fn do_file<R: Threads + Wait + Sync + Alloc + Print + Files, C: Command>(
     Ok(tally.differences.is_empty())
 }
 
-/// Does the rows of the files that the words after a program's name are, and prints how many each has and what differs. Gives whether all
-/// is as they say.
+/// Does the rows of the files that the words after a program's name are, and prints how many each
+/// has and what differs. Gives whether all is as they say.
 pub fn do_files<R: Threads + Wait + Sync + Alloc + Print + Files, C: Command>(
     rt: &R,
     alloc: Global,

@@ -21,7 +21,8 @@ fn beginning(bytes: &[u8], length: u64) -> &[u8] {
     bytes.get(..length as usize).unwrap_or(bytes)
 }
 
-// The run that the others are compared with: over the shortest beginning, or over a shelf and a sink that don't fail.
+// The run that the others are compared with: over the shortest beginning, or over a shelf and a
+// sink that don't fail.
 fn whole_trial(runs: Runs, bytes: &[u8]) -> Trial<'_> {
     let cut = match runs {
         Runs::Cuts(from, _) => Some(beginning(bytes, from)),
@@ -104,7 +105,8 @@ fn run_trial<R: Threads + Wait + Sync, C: Command>(
     run_over(rt, alloc, command, line, shelf, trial.sink)
 }
 
-// Runs a command line many times, and notes which run isn't as it must be. Gives the whole run, and how many others there were.
+// Runs a command line many times, and notes which run isn't as it must be. Gives the whole run, and
+// how many others there were.
 //
 // - Over beginnings of a text, whose lengths lie between two numbers, all have the answer of the first one.
 // - Over a shelf that fails at each call in turn, until none does, the file in hand is a first part of its text, an earlier one is whole,

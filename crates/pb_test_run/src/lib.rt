@@ -1,4 +1,5 @@
-//! Whole runs of the program over files and output in memory, as the crates of tests above call them.
+//! Whole runs of the program over files and output in memory, as the crates of tests above call
+//! them.
 #![tactic(auto)]
 
 mod runs;

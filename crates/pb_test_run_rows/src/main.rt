@@ -1,4 +1,5 @@
-//! Does the rows of the files that the words name, over the whole program, and prints how many each has and what differs.
+//! Does the rows of the files that the words name, over the whole program, and prints how many each
+//! has and what differs.
 #![tactic(auto)]
 
 use pb_outside::{MemShelf, MemSink, OpenGate};

@@ -1,4 +1,5 @@
-//! Tests of packed states, of rows and texts over them, and of the outside: files, output and the gate.
+//! Tests of packed states, of rows and texts over them, and of the outside: files, output and the
+//! gate.
 #![tactic(auto)]
 
 #[cfg(test)]

@@ -1,4 +1,5 @@
-//! What a task answers, as plain texts and numbers. A test that compares them doesn't see the clauses of what is called.
+//! What a task answers, as plain texts and numbers. A test that compares them doesn't see the
+//! clauses of what is called.
 use crate::examples::{Example, task_of};
 use pb_model::Succ;
 use pb_packed::Packed;
@@ -86,7 +87,8 @@ fn crosses_threads<T: Send + Sync>(value: &T) -> &T {
     value
 }
 
-/// How many actions there are, how many successors a state has at most, and what the actions are called.
+/// How many actions there are, how many successors a state has at most, and what the actions are
+/// called.
 pub fn actions(alloc: Global, example: Example) -> Result<String, AllocError> {
     let task = task_of(alloc, example)?;
     let degree = crosses_threads(&task).max_degree();
@@ -122,8 +124,9 @@ fn parts_text(alloc: Global, parts: &TaskParts) -> Result<String, AllocError> {
     }
 }
 
-/// A task's start, and what it is made of: of a map its sizes and its cells 8 and 9, of a board its sizes and both boards, and of ground
-/// actions how many atoms there are, whether the goal never holds, and how many actions there are and the last one's name.
+/// A task's start, and what it is made of: of a map its sizes and its cells 8 and 9, of a board its
+/// sizes and both boards, and of ground actions how many atoms there are, whether the goal never
+/// holds, and how many actions there are and the last one's name.
 pub fn start_and_parts(alloc: Global, example: Example) -> Result<(Packed, String), AllocError> {
     let task = task_of(alloc, example)?;
     let text = parts_text(alloc, task.parts())?;

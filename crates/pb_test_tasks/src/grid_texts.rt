@@ -53,7 +53,8 @@ const BYTES: &[u8] = b"type octile\nheight 1\nwidth 7\nmap\n.GSW@OT\n";
 
 const STAY: &[u8] = b"version 1\n0\tm\t7\t1\t0\t0\t3\t0\t0\n";
 
-// Width and height are told apart. The words give a row up to 1,000,000, and the reader takes any number.
+// Width and height are told apart. The words give a row up to 1,000,000, and the reader takes any
+// number.
 #[test]
 fn the_row_of_a_number_has_sizes_start_and_goal(rt: HostRuntime) {
     let (row, rows) = (u64::MAX, 1);

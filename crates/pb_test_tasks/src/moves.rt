@@ -8,11 +8,13 @@ use pb_test_examples::other_ring;
 use std::alloc::{AllocError, Global};
 use std::test::Fail;
 
-// States are their bits: of a map the column in the lowest 11 and the row in the next 11, of a board a hexadecimal digit for each cell,
-// the last one first, and of ground actions a bit for each atom.
+// States are their bits: of a map the column in the lowest 11 and the row in the next 11, of a
+// board a hexadecimal digit for each cell, the last one first, and of ground actions a bit for each
+// atom.
 //
-// Successors come in the order of their actions. No step leaves the map or the land, and swamp costs 2 to enter. The blank changes places
-// with its neighbours and never wraps round a row. An atom that is both deleted and added stands.
+// Successors come in the order of their actions. No step leaves the map or the land, and swamp
+// costs 2 to enter. The blank changes places with its neighbours and never wraps round a row. An
+// atom that is both deleted and added stands.
 #[test]
 fn successors_are_what_the_actions_lead_to(rt: HostRuntime) -> Result<(), Fail> {
     for (example, bits, wanted) in [
@@ -44,7 +46,8 @@ fn successors_are_what_the_actions_lead_to(rt: HostRuntime) -> Result<(), Fail> 
     Ok(())
 }
 
-// Each row has the bits of a state, whether the last of all 256 is set too, and whether it is a state and a goal.
+// Each row has the bits of a state, whether the last of all 256 is set too, and whether it is a
+// state and a goal.
 #[test]
 fn states_and_goals_are_told_by_their_bits(rt: HostRuntime) -> Result<(), Fail> {
     for (example, bits, last, is_state, is_goal) in [
@@ -159,7 +162,8 @@ fn the_parts_are_lent_and_name_the_start(rt: HostRuntime) -> Result<(), Fail> {
     Ok(())
 }
 
-// The state that an action leads to at the cost 1, from a state with two successors that is no goal.
+// The state that an action leads to at the cost 1, from a state with two successors that is no
+// goal.
 fn turned(
     alloc: Global,
     task: &Task,
@@ -176,7 +180,8 @@ fn turned(
     }
 }
 
-// The blank goes round a board of 2 by 2 cells: after twelve steps, and not before, the board is as it was.
+// The blank goes round a board of 2 by 2 cells: after twelve steps, and not before, the board is as
+// it was.
 #[test]
 fn boards_of_two_by_two_form_rings_of_twelve(rt: HostRuntime) -> Result<(), Fail> {
     let task = other_ring(rt.alloc())?;

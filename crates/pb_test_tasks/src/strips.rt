@@ -42,7 +42,8 @@ fn action(alloc: Global, name: &str, sets: Sets, cost: u64) -> Result<GroundActi
     })
 }
 
-/// A parcel (atom 2) is taken at one of two places (atoms 0 and 1) and brought to the other. The action that stays deletes what it adds.
+/// A parcel (atom 2) is taken at one of two places (atoms 0 and 1) and brought to the other. The
+/// action that stays deletes what it adds.
 pub fn parcel(alloc: Global, never: bool) -> Result<Task, AllocError> {
     let there = Sets {
         needs: 1,

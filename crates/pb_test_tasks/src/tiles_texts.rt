@@ -2,7 +2,8 @@ use pb_task::TaskParts;
 use pb_tiles::{TilesError, read_tiles};
 use std::alloc::Global;
 
-// The rows, the columns, and whether start and goal of the tiles that a text spells are these boards.
+// The rows, the columns, and whether start and goal of the tiles that a text spells are these
+// boards.
 fn spells(
     alloc: Global,
     text: &[u8],

@@ -32,7 +32,9 @@ impl Counter {
     // Counts once if there is memory for the history, and says whether it did.
     fn count_once(&mut self) -> bool
         ensures count { self.new.count ≡ counted result self.old.count }
-        ensures history { MatchBool result (self.new.history.items ≡ self.old.history.items ++ self.new.count ∷ []) (self.new.history.items ≡ self.old.history.items) }
+        ensures history { MatchBool result (self.new.history.items
+            ≡ self.old.history.items ++ self.new.count ∷ [])
+            (self.new.history.items ≡ self.old.history.items) }
     {
         let next = self.history.len() as u64 + 1;
         if self.history.push(next).is_err() {
@@ -132,19 +134,25 @@ fn count_by_two<R: Threads + Wait + Sync>(
     first: Pass<CounterRule>,
     second: Pass<CounterRule>,
 ) -> (Pass<CounterRule>, u64)
-    requires { IsPassOf lock.now first × IsResting first × IsPassOf lock.now second × IsResting second }
-    ensures pass { IsPassOf lock.now result.0 × IsResting result.0 × (parts result.0 ≡ parts first + parts second) }
+    requires { IsPassOf lock.now first × IsResting first × IsPassOf lock.now second
+        × IsResting second }
+    ensures pass { IsPassOf lock.now result.0 × IsResting result.0
+        × (parts result.0 ≡ parts first + parts second) }
     ensures counted { (view result.0 ≡ view first + view second + result.1) × (result.1 ≤ 200) }
 {
     let ((mut first, one), (second, other)) = join(
         rt,
         || -> (Pass<CounterRule>, u64)
             requires { IsPassOf lock.now first × IsResting first }
-            ensures { IsPassOf lock.entry.now result.0 × IsResting result.0 × (parts result.0 ≡ parts first) × (view result.0 ≡ view first + result.1) × (result.1 ≤ 100) }
+            ensures { IsPassOf lock.entry.now result.0 × IsResting result.0
+                × (parts result.0 ≡ parts first) × (view result.0 ≡ view first + result.1)
+                × (result.1 ≤ 100) }
         { count_times(rt, lock, first) },
         || -> (Pass<CounterRule>, u64)
             requires { IsPassOf lock.now second × IsResting second }
-            ensures { IsPassOf lock.entry.now result.0 × IsResting result.0 × (parts result.0 ≡ parts second) × (view result.0 ≡ view second + result.1) × (result.1 ≤ 100) }
+            ensures { IsPassOf lock.entry.now result.0 × IsResting result.0
+                × (parts result.0 ≡ parts second) × (view result.0 ≡ view second + result.1)
+                × (result.1 ≤ 100) }
         { count_times(rt, lock, second) },
     );
     lock.meet(&mut first, second);
@@ -178,12 +186,18 @@ fn count_by_four<R: Threads + Wait + Sync>(
     let ((mut first, two), (third, others)) = join(
         rt,
         || -> (Pass<CounterRule>, u64)
-            requires { IsPassOf shared.now first × IsResting first × IsPassOf shared.now second × IsResting second }
-            ensures { IsPassOf shared.entry.now result.0 × IsResting result.0 × (parts result.0 ≡ parts first + parts second) × (view result.0 ≡ view first + view second + result.1) × (result.1 ≤ 200) }
+            requires { IsPassOf shared.now first × IsResting first × IsPassOf shared.now second
+                × IsResting second }
+            ensures { IsPassOf shared.entry.now result.0 × IsResting result.0
+                × (parts result.0 ≡ parts first + parts second)
+                × (view result.0 ≡ view first + view second + result.1) × (result.1 ≤ 200) }
         { count_by_two(rt, shared, first, second) },
         || -> (Pass<CounterRule>, u64)
-            requires { IsPassOf shared.now third × IsResting third × IsPassOf shared.now fourth × IsResting fourth }
-            ensures { IsPassOf shared.entry.now result.0 × IsResting result.0 × (parts result.0 ≡ parts third + parts fourth) × (view result.0 ≡ view third + view fourth + result.1) × (result.1 ≤ 200) }
+            requires { IsPassOf shared.now third × IsResting third × IsPassOf shared.now fourth
+                × IsResting fourth }
+            ensures { IsPassOf shared.entry.now result.0 × IsResting result.0
+                × (parts result.0 ≡ parts third + parts fourth)
+                × (view result.0 ≡ view third + view fourth + result.1) × (result.1 ≤ 200) }
         { count_by_two(rt, shared, third, fourth) },
     );
     lock.meet(&mut first, third);
@@ -221,7 +235,8 @@ fn try_to_count(lock: &TurnLock<CounterRule>, pass: &mut Pass<CounterRule>) -> b
     }
 }
 
-// Two passes in one thread: the second tries while the first holds the turn, and again after it left.
+// Two passes in one thread: the second tries while the first holds the turn, and again after it
+// left.
 fn try_beside_a_holder<W: Wait>(
     rt: &W,
     lock: TurnLock<CounterRule>,
@@ -240,7 +255,8 @@ fn try_beside_a_holder<W: Wait>(
 
 // A lock over a new counter, and its first pass.
 fn open<R: Abort>(rt: &R, alloc: Global) -> (TurnLock<CounterRule>, Pass<CounterRule>)
-    ensures { IsPassOf result.0 result.1 × IsResting result.1 × (parts result.1 ≡ whole) × (view result.1 ≡ 0) }
+    ensures { IsPassOf result.0 result.1 × IsResting result.1 × (parts result.1 ≡ whole)
+        × (view result.1 ≡ 0) }
 {
     match TurnLock::new(alloc, Counter::new(alloc), 0) {
         Ok(made) => made,

@@ -1,4 +1,5 @@
-//! An example of a state that is handed on in turn, whole and with its proof: a counter with a history.
+//! An example of a state that is handed on in turn, whole and with its proof: a counter with a
+//! history.
 #![tactic(auto)]
 
 #[cfg(test)]

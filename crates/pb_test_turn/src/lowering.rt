@@ -13,7 +13,8 @@ use std::thread::{Threads, join};
 
 const TIMES: u64 = 100;
 
-/// Ties the number to the passes: it is at most what each has read or brought last. The state is the number at first.
+/// Ties the number to the passes: it is at most what each has read or brought last. The state is
+/// the number at first.
 struct LeastRule;
 
 impl TurnRule for LeastRule {
@@ -52,7 +53,8 @@ impl Leaving<LeastRule> for AsBefore {
 
 // A lock with this number, and its first pass.
 fn open<R: Abort>(rt: &R, alloc: Global, number: u64) -> (TurnLock<LeastRule>, Pass<LeastRule>)
-    ensures { IsPassOf result.0 result.1 × IsResting result.1 × (parts result.1 ≡ whole) × (view result.1 ≡ Some number) }
+    ensures { IsPassOf result.0 result.1 × IsResting result.1 × (parts result.1 ≡ whole)
+        × (view result.1 ≡ Some number) }
 {
     match TurnLock::new(alloc, number, number) {
         Ok(made) => made,
@@ -105,11 +107,13 @@ fn bring_by_two<R: Threads + Sync>(
         rt,
         || -> Pass<LeastRule>
             requires { IsPassOf shared.now first × IsResting first }
-            ensures { IsPassOf shared.entry.now result × IsResting result × (parts result ≡ parts first) }
+            ensures { IsPassOf shared.entry.now result × IsResting result
+                × (parts result ≡ parts first) }
         { bring_times(shared, first, 1000) },
         || -> Pass<LeastRule>
             requires { IsPassOf shared.now second × IsResting second }
-            ensures { IsPassOf shared.entry.now result × IsResting result × (parts result ≡ parts second) }
+            ensures { IsPassOf shared.entry.now result × IsResting result
+                × (parts result ≡ parts second) }
         { bring_times(shared, second, 450) },
     );
     lock.meet(&mut pass, other);
@@ -117,7 +121,8 @@ fn bring_by_two<R: Threads + Sync>(
     last
 }
 
-// Two passes in one thread: what each reads, the second while the first holds the turn too, and the last number.
+// Two passes in one thread: what each reads, the second while the first holds the turn too, and the
+// last number.
 fn read_beside_a_holder<W: Wait>(
     rt: &W,
     lock: TurnLock<LeastRule>,

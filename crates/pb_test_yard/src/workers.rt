@@ -23,7 +23,8 @@ use std::thread::{Threads, join, yield_now};
 // The graph of a search of a board of 2 by 2 cells by two workers, or None if its start is no
 // state.
 fn graph(alloc: Global) -> Result<Option<LeaseGraph>, AllocError>
-    ensures { IfOk result (λ found. MatchOption found ⊤ (λ g. IsOpening g × (g.table.settings.workers ≡ 2))) }
+    ensures { IfOk result (λ found. MatchOption found ⊤
+        (λ g. IsOpening g × (g.table.settings.workers ≡ 2))) }
 {
     let task = Task::of_tiles(TilesParts {
         rows: 2,
@@ -158,7 +159,8 @@ fn finish(yard: Yard, mut first: Pass, second: Pass) -> LeaseGraph
     requires parts { parts_of first + parts_of second ≡ all_parts }
     requires second { (view_of second).journal.made ≡ 0 }
     requires all { ((view_of first).journal.made ≡ 2) × ((view_of first).settings.workers ≡ 2) }
-    requires alone { ((view_of first).journal.taken_in ≡ []) × ((view_of second).journal.taken_in ≡ []) }
+    requires alone { ((view_of first).journal.taken_in ≡ [])
+        × ((view_of second).journal.taken_in ≡ []) }
     requires off { HasSignedOff (view_of first) × HasSignedOff (view_of second) }
     ensures finished { AreFinished result.table.settings (counts_in result) }
     ensures home { IsFalse (is_out_in result) }
