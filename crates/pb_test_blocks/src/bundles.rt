@@ -39,6 +39,7 @@ fn the_best_block_is_chosen(rt: HostRuntime) -> Result<(), Fail> {
     offer(&mut homes, 3, 3, Estimate::Cost(4))?;
     offer(&mut homes, 4, 4, Estimate::Cost(5))?;
     assert!(rt; homes.key(2) == Some(Key::Sum { sum: 12, h: 4 }) && homes.key(0) == None);
+    assert!(rt; homes.key(4) == Some(Key::Sum { sum: 15, h: 5 }));
     assert!(rt; homes.is_any_opened());
     for (blocks, wanted) in [
         (0b11111, Some(2)),

@@ -302,7 +302,7 @@ fn pieces_end_with_lines(rt: HostRuntime) -> Result<(), Fail> {
         rows.push((state, 7, Status::Closed))?;
     }
     let saved = save_one(rt.alloc(), &rows, None, Some(3))?;
-    assert!(rt; saved.answer == Err(Failed));
+    assert!(rt; saved.length == 7458 && saved.answer == Err(Failed));
     let file = saved.file.unwrap_or(Vec::new(rt.alloc()));
     assert!(rt; file.len() <= 4096);
     assert!(rt; file.len() > 3968);

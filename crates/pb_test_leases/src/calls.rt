@@ -99,8 +99,9 @@ fn waiting(
     let Some(mut graph) = graph(alloc, task, 1000, 256)? else {
         return Ok(None);
     };
+    let settings = *graph.settings();
     let seen = ask_twice(&mut graph);
-    Ok(Some((seen, *graph.settings(), graph.journal().len())))
+    Ok(Some((seen, settings, graph.journal().len())))
 }
 
 #[test]

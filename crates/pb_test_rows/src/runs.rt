@@ -108,9 +108,10 @@ fn run_trial<R: Threads + Wait + Sync, C: Command>(
 // Runs a command line many times, and notes which run isn't as it must be. Gives the whole run, and
 // how many others there were.
 //
-// - Over beginnings of a text, whose lengths lie between two numbers, all have the answer of the first one.
-// - Over a shelf that fails at each call in turn, until none does, the file in hand is a first part of its text, an earlier one is whole,
-//   and nothing is printed.
+// - Over beginnings of a text, whose lengths lie between two numbers, all have the answer of the
+//   first one.
+// - Over a shelf that fails at each call in turn, until none does, the file in hand is a first part
+//   of its text, an earlier one is whole, and nothing is printed.
 // - Over a sink that keeps each number of bytes in turn, these are printed, and all is saved.
 pub(crate) fn run_many<R: Threads + Wait + Sync, C: Command>(
     rt: &R,

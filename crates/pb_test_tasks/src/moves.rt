@@ -1,7 +1,7 @@
 use crate::answers::{
     actions, is_state_and_goal, low, start_and_parts, step, steps_from, successors, verdict,
 };
-use crate::examples::Example;
+use crate::examples::{Example, task_of};
 use pb_packed::Packed;
 use pb_task::Task;
 use pb_test_examples::other_ring;
@@ -43,6 +43,13 @@ fn successors_are_what_the_actions_lead_to(rt: HostRuntime) -> Result<(), Fail> 
         let found = steps_from(rt.alloc(), example, bits)?;
         assert_eq!(rt; found.as_str(), wanted);
     }
+    Ok(())
+}
+
+#[test]
+fn swamp_costs_two_to_enter(rt: HostRuntime) -> Result<(), Fail> {
+    let task = task_of(rt.alloc(), Example::Marsh)?;
+    assert!(rt; step(&task, &low(0), 3) == Some((low(1), 2)));
     Ok(())
 }
 
