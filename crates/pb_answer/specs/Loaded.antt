@@ -72,7 +72,7 @@ strips_task (Some domain_text) (Some problem_text) =
     domain_told (domain_reading domain_text) (problem_reading problem_text)
 
 -- the task of the texts from this place on, and of the words for the row of the scenario and for
--- swamp; tiles and strips have neither
+-- swamp; for tiles and strips these words don't matter
 abbrev pub input_task : InputNames → (row : ℕ) → (swamp : Bool) → (first : ℕ)
     → (texts : List (List ℕ)) → Result TaskParts (List ℕ)
 input_task (Grid names) row swamp first texts =

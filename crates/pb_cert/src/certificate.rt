@@ -81,8 +81,9 @@ impl<'a> Certificate<'a> {
         ensures count { IfOk result (λ c. length c.certificate.lines < 2 ^ 63) }
         ensures lines { IfOk result (λ c. (guide : Guide) → IsPlaced guide.home (S.rows store.now)
             → AreLinesOf guide (S.rows store.now) c.certificate.lines) }
-        // For a sound store, whatever its incumbent is. The certificate is valid if the store is
-        // also quiet, and the plan is one of the space and backs the incumbent.
+        // If the store is sound, whatever its incumbent is, the lines are those of its rows. The
+        // certificate is valid if the store is also quiet, and there is a plan exactly if there is
+        // an incumbent. Such a plan must be one of the space, and cost no more than the incumbent.
         ensures rows { IfOk result (λ c. (space : Space) (guide : Guide) (incumbent : Option ℕ)
             → IsSound space guide (store_with (S.rows store.now) (S.weight store.now) incumbent)
             → AreLinesOf guide (S.rows store.now) c.certificate.lines) }

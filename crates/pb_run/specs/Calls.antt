@@ -64,8 +64,8 @@ have_failed (call ∷ calls) = has_failed call || have_failed calls
 
 -- ---- loads
 
--- The calls that load these files in order and get these texts. If a reason is given, the file
--- after them isn't loaded for that reason. There are no more calls.
+-- The calls that load these files in order and get these texts. If a reason is given, the load of
+-- the next file fails for that reason. There are no more calls.
 abbrev pub load_calls : List Wanted → (texts : List (List ℕ)) → (unloaded : Option Load) → List Call
 load_calls [] texts unloaded = []
 load_calls (file ∷ files) [] None = []

@@ -64,7 +64,7 @@ pub fn run<R: Threads + Wait + Sync, H: Shelf, K: Sink, G: Gate>(
     ensures certified_none { CertificateOfNone (reading_of_words (map string_bytes words.now))
         (ran result (H.calls shelf.old) (H.calls shelf.new) (K.calls out.old) (K.calls out.new)) }
 
-    // If no plan is printed, there is none.
+    // Only a search, of a made task too, answers that there is no plan, and then there is none.
     ensures none { NoneMeansNone (reading_of_words (map string_bytes words.now))
         (ran result (H.calls shelf.old) (H.calls shelf.new) (K.calls out.old) (K.calls out.new)) }
 

@@ -32,7 +32,7 @@ fn task_of(alloc: Global, domain: &Domain, problem: &Problem) -> Result<Task, St
 /// many atoms, then too many actions. Both limits are looked at before the atoms or actions are
 /// built. `Memory` says nothing of the texts.
 pub fn ground(alloc: Global, domain: &Domain, problem: &Problem) -> Result<Task, StripsError>
-    // The domain and the problem are this task.
+    // The domain and the problem are a task.
     ensures accepted { OnOk result (first_fault domain.now problem.now ≡ None) }
     // It is this task.
     ensures task { IfOk result (λ task. task ≡ Strips (strips_of domain.now problem.now)) }

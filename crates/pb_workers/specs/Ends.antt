@@ -24,8 +24,8 @@ pub record IsBestEnd (g : GraphValue) : Type 0 where
   pub shown : IsShown (space_of g.task) (guide_of g.task g.table.graph) (home_store g)
   pub holds : IncumbentHolds (space_of g.task) (weight_of g.table.settings) g.incumbent
 
--- As many expansions as the budget allows, none of them broken off, lead from the start's row alone
--- to the rows at home. One of these is Opened.
+-- Exactly as many expansions as the budget allows, none of them broken off, lead from the start's
+-- row alone to the rows at home. One of these is Opened.
 pub record IsSpentEnd (g : GraphValue) : Type 0 where
   pub works : List Work
   pub comes : Comes (space_of g.task) (guide_of g.task g.table.graph) works

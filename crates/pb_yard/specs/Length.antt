@@ -15,9 +15,10 @@ use Rattle.pb_yard.specs.Order.{RunsInTime}
 abbrev pub leases_out : (workers : ℕ) → Counts → ℕ
 leases_out workers counts = count_below workers (λ worker. is_some (counts.leases worker))
 
--- How many leases there can be. The number is by the actions, the settled expansions, the leases
--- that came back out of memory, and the leases that are out. The start has one Opened row, and an
--- expansion brings at most one for each action. Each other lease that came back closed one.
+-- The greatest number of leases. It depends on the actions, the settled expansions, the leases that
+-- came back out of memory, and the leases that are out. The start has one Opened row, and an
+-- expansion brings at most one for each action. Each lease that came back without such a report
+-- closed one.
 abbrev pub most_leases : (actions spent broken out : ℕ) → ℕ
 most_leases actions spent broken out = 1 + actions * spent + (1 + actions) * broken + out
 

@@ -7,8 +7,8 @@ pub fn leases_are_few()
     ensures { LeasesAreFew }
 {}
 
-/// The journal of a finished run in time is short. The run keeps within the room of its leases, and
-/// didn't end out of memory.
+/// Let a finished run in time keep within the room of its leases, and not end out of memory. Then
+/// its journal is short.
 pub fn runs_are_short()
     ensures { RunsAreShort }
 {}
