@@ -24,8 +24,8 @@ pub record IsAccepted (space : Space) (estimate : ℕ → Estimate) (kind : Task
 -- The bytes spell a certificate with this verdict whose claim is true of the space. Every plan of a
 -- cost f has num * f >= den * C, for the cost C of the certificate's plan and its weight num / den;
 -- or there is no plan.
-pub record ShowsClaim (space : Space) (kind : TaskKind) (bytes : List ℕ) (verdict : Verdict) : Type
-    0 where
+pub record ShowsClaim (space : Space) (kind : TaskKind) (bytes : List ℕ) (verdict : Verdict)
+    : Type 0 where
   pub certificate : Certificate
   pub spelled : IsSpelled bytes kind certificate
   pub weight : IsWeight certificate.weight

@@ -45,7 +45,7 @@ waiting wanted costs below = count (λ atom. wanted atom && not (is_final_in cos
 abbrev pub AreNoLess : (costs costs' : ℕ → Option ℕ) → Type 0
 AreNoLess costs costs' = (atom cost : ℕ) → IsAtMost (costs atom) cost → IsAtMost (costs' atom) cost
 
--- the costs of these atoms fell to at most this cost, and all other costs stayed
+-- each of these atoms costs the lesser of this cost and its cost before; all other costs stayed
 abbrev pub AreLowered : (atoms : List ℕ) → (cost : ℕ) → (before after : List AtomCost) → Type 0
 AreLowered atoms cost before after =
     (atom c : ℕ) → IsAtMost (cost_in after atom) c

@@ -66,7 +66,8 @@ abbrev pub AddsAtMost : RelaxedAction → (level : ℕ) → (costs : List AtomCo
 AddsAtMost action level costs =
     All (λ atom. IsAtMost (cost_in costs atom) (level + action.cost)) action.adds
 
--- the counter of the action `user` is 0, and the action adds the atom at this cost
+-- the counter of the action `user` is 0, the action adds the atom, and this cost is enough for the
+-- atom at this level
 abbrev pub IsAddedBy : List RelaxedAction → (level : ℕ) → (counts : List ℕ) → (user atom cost : ℕ)
     → Type 0
 IsAddedBy actions level counts user atom cost =

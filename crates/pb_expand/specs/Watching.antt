@@ -105,8 +105,8 @@ with_read false incumbent before = before
 -- Each turn has a read of its own. The only other read is one after the last turn, which found what
 -- the store has.
 pub record HasTurnedReading (space : Space) (guide : Guide) (known : Option ℕ → Bool)
-    (block used broken : ℕ) (read_after : Bool) (old new : Store) (was now : List (Option ℕ)) : Type
-    0 where
+    (block used broken : ℕ) (read_after : Bool) (old new : Store) (was now : List (Option ℕ))
+    : Type 0 where
   pub turned : HasTurned space guide known block used broken old new
   pub reads : now ≡ with_read read_after new.incumbent
       (copies_of space guide turned.work.works old was)

@@ -28,7 +28,8 @@ pub record HasPlaces (blocks : Blocks) (settings : Settings) (replay : Replay) :
   pub signed_off : length replay.signed_off.items ≡ settings.workers
   pub hot : length replay.hot.items ≡ blocks.count
 
--- there is a place for each worker and each block, and the counts are those of a legal history
+-- there is a place for each worker and each block, the settings are in range, and the counts are
+-- those of a legal history
 pub record IsLawfulReplay (blocks : Blocks) (settings : Settings) (replay : Replay) : Type 0 where
   pub places : HasPlaces blocks settings replay
   pub range : AreInRange settings

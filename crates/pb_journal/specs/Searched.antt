@@ -44,7 +44,7 @@ pub record IsWishedGraph (parts : TaskParts) (wish : ℕ) (graph : AbstractGraph
   pub finest : IsFinest parts wish graph.projection
 
 -- What is written of a finished search of a task, over its graph by the wish of the settings, is
--- accepted. Whoever accepts it makes the graph of the same task by the wish of the header.
+-- accepted. It is judged over the graph of the same task by the wish of the header.
 abbrev pub SearchesAreAccepted : Type 0
 SearchesAreAccepted = (parts : TaskParts) (setup : Setup) (graph own : AbstractGraph)
     (moves : List Move) → IsTask parts → setup.blocks ≡ blocks_of graph

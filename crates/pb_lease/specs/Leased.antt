@@ -32,9 +32,9 @@ setup_of task graph settings reopenings =
 abbrev pub grant_of : LeaseValue → Grant
 grant_of lease = record { block = lease.block; quota = lease.quota }
 
--- The lease is out in this machine. Its rows come from those that it was given or last renewed
--- with. The way there is exactly the expansions that it counts, and at most `most_broken` broken
--- ones.
+-- The lease is out in this machine. Its work leads to its rows from those that it was given or last
+-- renewed with. The work has exactly the expansions that the lease counts, and at most
+-- `most_broken` broken ones.
 pub record IsOut (setup : Setup) (machine : Machine) (most_broken : ℕ) (lease : LeaseValue) : Type 0
   where
     pub leased : machine.counts.leases lease.worker ≡ Some (grant_of lease)

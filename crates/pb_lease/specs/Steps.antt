@@ -92,8 +92,8 @@ pub record IsMarked (old : GraphValue) (worker : ℕ) (event : Event) (new : Gra
     pub room : rooms new.table ≡ with_entry (rooms old.table) worker (rooms old.table worker - 1)
     pub rest : new ≡ record old { table = new.table }
 
--- The sign-off is the one event. If the worker reports out of memory before the end, the end that
--- follows is another. Nothing else changed.
+-- The sign-off is the one event, unless the worker reports out of memory before the end. In that
+-- case the end by this report is a second event. Nothing else changed.
 pub record IsSignedOff (old : GraphValue) (worker : ℕ) (trouble : Bool) (new : GraphValue) : Type 0
   where
     pub events : Adds old.table new.table (Off worker trouble ∷ ending trouble old.table.end)
@@ -103,8 +103,8 @@ pub record IsSignedOff (old : GraphValue) (worker : ℕ) (trouble : Bool) (new :
 -- ---- a lease that comes back, or goes on
 
 -- The lease's bundles are home, their keys are noted, and the incumbent is the lesser of both. The
--- release is the one event. If the worker reports out of memory before the end, the end that
--- follows is another. All else is as before.
+-- release is the one event, unless the worker reports out of memory before the end. In that case
+-- the end by this report is a second event. All else is as before.
 pub record IsReleased (old : GraphValue) (lease : LeaseValue) (trouble : Bool) (new : GraphValue) :
     Type 0 where
   pub home : (block : ℕ) → content_at new.homes block
@@ -116,9 +116,10 @@ pub record IsReleased (old : GraphValue) (lease : LeaseValue) (trouble : Bool) (
   pub task : new.task ≡ old.task
   pub incumbent : new.incumbent ≡ lesser old.incumbent lease.incumbent
 
--- At a moment of the old graph the lease is out, with at most so many expansions broken off, and
--- shows what its worker told. If each worker can then have read the new graph's incumbent, these
--- events lead to a moment of the new graph. They are in order if the lease has worked in turns.
+-- Take any moment of the old graph at which the lease is out, with at most so many expansions
+-- broken off. Let the lease show what its worker told. If each worker can then have read the new
+-- graph's incumbent, these events lead to a moment of the new graph. They are in order if the
+-- lease has worked in turns.
 abbrev pub ReleasesNext : (old : GraphValue) → LeaseValue → (trouble : Bool) → (new : GraphValue)
     → Type 0
 ReleasesNext old lease trouble new =

@@ -18,10 +18,10 @@ use pb_machine::End;
 use std::alloc::AllocError;
 
 impl LeaseGraph {
-    /// The worker asks for a lease, and gets one of the first choice.
+    /// The worker asks for a lease. If it gets one, the lease is of the first choice.
     ///
     /// - The search is over exactly if it had ended, or no lease is out and either no row is Opened
-    ///   or nothing is left of the budget. The end then comes now.
+    ///   or nothing is left of the budget. If it had not ended, the end comes now.
     /// - The worker is to wait exactly if the search has not ended, some lease is out, and no block
     ///   may be leased. Nothing changes then.
     /// - All memory is taken first: for the list of the bundles, and in the journal for 65 events.

@@ -56,8 +56,8 @@ ArgumentsFit domain problem params (t ∷ terms) (w ∷ wanted) =
     × ArgumentsFit domain problem params terms wanted
 
 -- an atom of a declared predicate with such arguments
-pub record AtomFits (domain : Domain) (problem : Problem) (params : List Typed) (atom : Atom) : Type
-    0 where
+pub record AtomFits (domain : Domain) (problem : Problem) (params : List Typed) (atom : Atom)
+    : Type 0 where
   pub predicate : Predicate
   pub declared : predicate_of domain.predicates atom.predicate.text ≡ Some predicate
   pub arguments : ArgumentsFit domain problem params atom.terms predicate.params

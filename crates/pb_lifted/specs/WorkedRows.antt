@@ -68,7 +68,7 @@ letters =
     name (codes "a") 0 ∷ name (codes "b") 2 ∷ name (codes "a") 4 ∷ name (codes "c") 6
     ∷ name (codes "b") 8 ∷ []
 
--- The later names are reported, and those that are in the list before them; the earliest place is
+-- The later names are reported, and those that a list of earlier names has; the earliest place is
 -- the least byte.
 abbrev pub RepeatedNamesAreFound : Type 0
 RepeatedNamesAreFound =

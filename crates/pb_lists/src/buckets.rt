@@ -126,8 +126,8 @@ fn is_first(buckets: &Buckets, state: &Packed) -> bool
     }
 }
 
-// Takes entries from the first bucket until its top row is still Opened at the entry's key. It
-// takes out buckets that become empty.
+// Takes entries from the first bucket until the row of its top entry is Opened at the entry's key.
+// Takes out buckets that become empty.
 pub(crate) fn tidy(buckets: &mut Buckets, rows: &Rows, num: u64, den: u64)
     requires num { num ≤ 1000 }
     requires den { den ≤ 1000 }

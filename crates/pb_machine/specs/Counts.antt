@@ -126,11 +126,12 @@ pub record AreLawful (blocks : Blocks) (settings : Settings) (counts : Counts) :
   pub hot_are_apart : (block other : ℕ) → IsTrue (counts.hot block) → IsTrue (counts.hot other)
       → IsFalse (interferes blocks block other)
   pub sum : counts.spent + quotas_out settings.workers counts.leases + counts.left ≡ settings.budget
-  -- a signed-off worker has no lease; the search has ended, or an out-of-memory report is to end it
+  -- Who has signed off is one of the workers and has no lease. The search has ended, or an
+  -- out-of-memory report is to end it.
   pub off : (worker : ℕ) → IsTrue (counts.signed_off worker)
       → (worker < settings.workers) × (counts.leases worker ≡ None)
       × IsTrue (is_some counts.end || counts.trouble)
-  -- An out-of-memory report waits only for its end; before, only its worker may have signed off.
+  -- While an out-of-memory report waits, there is no end, and at most one worker has signed off.
   pub trouble : IsTrue counts.trouble → counts.end ≡ None
   pub waiting : IsTrue counts.trouble → count_below settings.workers counts.signed_off ≤ 1
   pub quiet : counts.end ≡ Some Quiet → IsFalse (is_any_out settings.workers counts.leases)

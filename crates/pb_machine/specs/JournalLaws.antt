@@ -311,8 +311,9 @@ ChosenRenewalsAreLegal =
     → refusal blocks settings counts
     (Renew worker used (min settings.lot (counts_with_lease_home counts worker used).left)) ≡ None
 
--- A block may be leased with the worker's lease home and the hot blocks as before. Then it may also
--- be leased after the release of that lease, when some of the hot blocks have become cold.
+-- Let a block be one that may be leased with the worker's lease home and the hot blocks as before.
+-- Then it may also be leased after the release of that lease, when some of the hot blocks have
+-- become cold.
 abbrev pub ChoicesOutliveReleases : Type 0
 ChoicesOutliveReleases =
     (blocks : Blocks) (settings : Settings) (counts : Counts) (store : Store)
@@ -416,12 +417,12 @@ LastViewsTellAll =
     (workers : ℕ) (journal : List Event) (views : List View) (seat : ℕ) (view : View)
     → AreTrueOf workers journal views
     → get_elem? views seat ≡ some view → IsTrue view.is_live
-    → StartsWith journal view.seen × AllByRecursion (IsShareOf journal view.seen)
-    (view.own ∷ view.taken_in)
-    × (((other : ℕ) (left : View) → get_elem? views other ≡ some left → other ≢ seat
-    → IsFalse left.is_live)
-    → (view.seen ≡ journal) × ((worker : ℕ) → HasWorker worker view
-    ⊎ (events_of worker journal ≡ [])))
+    → StartsWith journal view.seen
+    × AllByRecursion (IsShareOf journal view.seen) (view.own ∷ view.taken_in)
+    × (((other : ℕ) (left : View)
+    → get_elem? views other ≡ some left → other ≢ seat → IsFalse left.is_live)
+    → (view.seen ≡ journal)
+    × ((worker : ℕ) → HasWorker worker view ⊎ (events_of worker journal ≡ [])))
 
 -- Let a pass have taken in all others, and its view count as many passes as there are workers. If
 -- all workers that the view knows of have signed off, each worker has. The pass may be any
@@ -431,9 +432,10 @@ LastViewsSignOff =
     (workers : ℕ) (journal : List Event) (views : List View) (seat : ℕ) (view : View)
     → AreTrueOf workers journal views
     → get_elem? views seat ≡ some view → IsTrue view.is_live
-    → ((other : ℕ) (left : View) → get_elem? views other ≡ some left → other ≢ seat
-    → IsFalse left.is_live)
-    → view.made ≡ workers → AllByRecursion (λ share. IsTrue (list_any is_off share.events))
+    → ((other : ℕ) (left : View)
+    → get_elem? views other ≡ some left → other ≢ seat → IsFalse left.is_live)
+    → view.made ≡ workers
+    → AllByRecursion (λ share. IsTrue (list_any is_off share.events))
     (view.own ∷ view.taken_in)
     → (worker : ℕ) → worker < workers → IsTrue (list_any is_off (events_of worker journal))
 

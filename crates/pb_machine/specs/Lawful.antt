@@ -78,7 +78,7 @@ pub record IsLawful (setup : Setup) (machine : Machine) : Type 0 where
   pub teller : (worker cost : ℕ) → machine.told worker ≡ Some cost
       → ((grant : Grant) × (machine.counts.leases worker ≡ Some grant))
       × IsTrue (machine.known worker (Some cost))
-  -- some plan costs at most as much as each told cost
+  -- for each told cost, some plan costs at most as much
   pub told : (worker cost : ℕ) → machine.told worker ≡ Some cost
       → (plan : Plan) × IsPlan setup.space plan × (plan.cost ≤ cost)
   pub quiet : machine.counts.end ≡ Some Quiet → IsQuiet machine.store

@@ -228,8 +228,9 @@ WaitingReportsAreOne =
 
 -- ---- the work of a lease
 
--- Work of a lease may go on after other work of the lease in which no expansion was broken off:
--- both are work of the lease together. The later work knows the incumbents that the first knew.
+-- Let no expansion of some work of a lease be broken off, and let other work of the lease begin
+-- where it ends. If the later work may read every incumbent that the first might, both together
+-- are work of the lease.
 abbrev pub LeaseWorkGoesOn : Type 0
 LeaseWorkGoesOn =
     (space : Space) (guide : Guide) (block used more most_broken : ℕ)

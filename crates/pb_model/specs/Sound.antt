@@ -10,8 +10,8 @@ use Rattle.pb_model.specs.Store.{Store, row_at, HasRowWithin, MayBeCut}
 
 -- the row's action leads from its parent to its state; the parent has a row, and g is no less than
 -- by this step
-pub record HasParent (space : Space) (guide : Guide) (store : Store) (state : ℕ) (row : Row) : Type
-    0 where
+pub record HasParent (space : Space) (guide : Guide) (store : Store) (state : ℕ) (row : Row)
+    : Type 0 where
   pub parent : ℕ
   pub parent_row : Row
   pub cost : ℕ

@@ -19,8 +19,8 @@ use Rattle.pb_model.specs.Store.{Store, row_at, is_place_of, HasOpenedRow, IsQui
 --     the row stays Opened.
 --   cut: a row that may be cut is Cut.
 --   take_goal: the row of a goal is Cut, and the incumbent becomes its g if that is lower.
---   lower: the incumbent becomes this cost if that is lower. The caller has to show that such a
---     plan exists.
+--   lower: the incumbent becomes this cost if that is lower. That a plan of this cost or less
+--     exists is shown elsewhere.
 --   reopen: the search goes on with another weight; a Cut row that may not be cut under it is
 --     Opened again.
 pub data Work : Type 0 where

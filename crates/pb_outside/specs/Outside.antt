@@ -73,8 +73,8 @@ KeepsHolds old new = (name : List ℕ) (n : ℕ) → old name n → new name n
 -- P holds if the file is there and the shelf can hold so many bytes more after its bytes
 abbrev pub IfHeld : Option Files → List ℕ → ℕ → (ℕ → Type 0) → Type 0 → Type 0
 IfHeld files name more holds P =
-    IfSome files (λ told. IfSome (told name) (λ bytes. (n : ℕ) → holds n → length bytes + more ≤ n
-    → P))
+    IfSome files (λ told. IfSome (told name) (λ bytes.
+    (n : ℕ) → holds n → length bytes + more ≤ n → P))
 
 -- of a load that was too long: the file is longer than `most`
 abbrev pub IsTooLong : Files → List ℕ → ℕ → Load → Type 0

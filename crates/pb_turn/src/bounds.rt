@@ -12,8 +12,8 @@ fn shares<T: Sync>(value: &T) {
 }
 
 // Nobody calls this function. Its proof for each rule shows two facts. If the state may be sent to
-// another thread, so may the lock, passes and what a holder has; the lock may be shared. A pass has
-// no bytes.
+// another thread, the lock may be sent and shared, and passes and what a holder has may be sent. A
+// pass has no bytes.
 fn crosses<R: TurnRule>(lock: &TurnLock<R>, pass: &Pass<R>, held: &Held<R>)
 where
     R::State: Send,
