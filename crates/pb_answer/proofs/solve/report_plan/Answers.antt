@@ -21,8 +21,8 @@ trace-requires-clause-goal c =
     (can_be_traced c.args.task.now (settings_of (solve_meant c.args.solve)) c.args.graph.now
     c.requires.quiet c.requires.known.0 c.requires.known.1).1
 
-pub plan-requires : goal.plan-requires
-plan-requires c =
+pub of_plan-requires : goal.of_plan-requires
+of_plan-requires c =
     let is = c.in_ok-plan.ensures.plan in
     All-from_recursion (λ (action : ℕ). action < (space_of c.args.task.now).actions) c.in_ok-plan.plan.actions
     (walk_actions (space_of c.args.task.now) greatest_cost (tasks_are_proper c.args.task.now c.max_degree-lawful.ensures.lawful).0 c.in_ok-plan.plan.actions
