@@ -2,10 +2,10 @@
 #![tactic(auto)]
 
 #[cfg(test)]
-mod alone;
+mod gates;
+#[cfg(test)]
+mod samples;
 #[cfg(test)]
 mod searches;
-#[cfg(test)]
-mod several;
 #[cfg(test)]
 mod watched;

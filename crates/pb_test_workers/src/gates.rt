@@ -1,0 +1,120 @@
+//! What a gate is told, and that two leases are out at once.
+
+use crate::samples::{ONE_WORKER, Sample, search_sample};
+use pb_machine::{End, Settings};
+use pb_outside::Gate;
+use std::sync::atomic::{AtomicU64, Ordering};
+use std::test::Fail;
+use std::thread::yield_now;
+
+// How often each of a gate's calls came.
+#[derive(Drop)]
+struct CountingGate {
+    leased: AtomicU64,
+    giving: AtomicU64,
+}
+
+impl Gate for CountingGate {
+    fn leased(&self, _worker: u32, _block: u32) {
+        self.leased.fetch_add(1, Ordering::SeqCst);
+    }
+
+    fn giving(&self, _worker: u32, _block: u32) {
+        self.giving.fetch_add(1, Ordering::SeqCst);
+    }
+}
+
+// A gate is told of each lease of each worker, and before each renewal and release.
+#[test]
+fn the_gate_is_told(rt: HostRuntime) -> Result<(), Fail> {
+    for (workers, budget, wish) in [(1, 500, 16), (4, 5000, 256)] {
+        let gate = CountingGate {
+            leased: AtomicU64::new(0),
+            giving: AtomicU64::new(0),
+        };
+        let settings = Settings {
+            workers,
+            budget,
+            lot: 1,
+            wish,
+            ..ONE_WORKER
+        };
+        let seen = search_sample(&rt, rt.alloc(), Sample::BoardWithoutPlan, settings, &gate)?;
+        assert_eq!(rt;
+            (
+                gate.leased.load(Ordering::SeqCst),
+                Some(gate.giving.load(Ordering::SeqCst))
+            ),
+            (seen.leases, seen.renewals.checked_add(seen.releases))
+        );
+        assert!(rt; workers > 1 || seen.renewals > 0);
+        assert_eq!(rt; seen.incumbent, None);
+    }
+    Ok(())
+}
+
+// Holds the first lease of block 20 or 24 until the other of the two is leased too, for at most
+// 10,000,000 turns.
+#[derive(Drop)]
+struct PairGate {
+    left: AtomicU64,
+    right: AtomicU64,
+    both: AtomicU64,
+}
+
+impl PairGate {
+    // Whether this block is leased, and whether the other of the two is.
+    fn flags(&self, block: u32) -> Option<(&AtomicU64, &AtomicU64)> {
+        match block {
+            20 => Some((&self.left, &self.right)),
+            24 => Some((&self.right, &self.left)),
+            _ => None,
+        }
+    }
+}
+
+impl Gate for PairGate {
+    fn leased(&self, _worker: u32, block: u32) {
+        let Some((own, other)) = self.flags(block) else {
+            return;
+        };
+        own.store(1, Ordering::SeqCst);
+        for _ in 0..10_000_000 {
+            if other.load(Ordering::SeqCst) == 1 {
+                self.both.store(1, Ordering::SeqCst);
+            }
+            if self.both.load(Ordering::SeqCst) == 1 {
+                return;
+            }
+            yield_now();
+        }
+    }
+
+    fn giving(&self, _worker: u32, block: u32) {
+        if let Some((own, _other)) = self.flags(block) {
+            own.store(0, Ordering::SeqCst);
+        }
+    }
+}
+
+// Two leases with scopes that have no block in common are out at once: nobody takes turns for whole
+// leases.
+#[test]
+fn two_leases_are_out_at_once(rt: HostRuntime) -> Result<(), Fail> {
+    let gate = PairGate {
+        left: AtomicU64::new(0),
+        right: AtomicU64::new(0),
+        both: AtomicU64::new(0),
+    };
+    let settings = Settings {
+        workers: 2,
+        ..ONE_WORKER
+    };
+    let seen = search_sample(&rt, rt.alloc(), Sample::Corridor, settings, &gate)?;
+    assert_eq!(rt; gate.both.load(Ordering::SeqCst), 1);
+    assert_eq!(rt;
+        (seen.end, seen.incumbent, seen.expansions),
+        (Some(End::Quiet), None, 9)
+    );
+    Ok(())
+}

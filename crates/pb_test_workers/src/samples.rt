@@ -1,0 +1,147 @@
+//! Whole searches of small tasks, and what the tests see of them.
+
+use pb_lease::LeaseGraph;
+use pb_machine::{End, Event, Settings};
+use pb_outside::{Gate, OpenGate};
+use pb_search::search;
+use pb_task::{Board, Task, TilesParts};
+use pb_test_examples::{corridor, near_board, open_square, other_ring, solved_board};
+use std::alloc::{AllocError, Global};
+use std::process::Abort;
+use std::sync::{Arc, Wait};
+use std::thread::Threads;
+
+pub(crate) const ONE_WORKER: Settings = Settings {
+    workers: 1,
+    num: 1,
+    den: 1,
+    budget: 16_777_216,
+    lot: 256,
+    wish: 256,
+    plain: false,
+};
+
+// The tasks that are searched.
+#[derive(Clone, Copy)]
+pub(crate) enum Sample {
+    Solved,
+    OtherRing,
+    Square,
+    NearBoard,
+    // It has 3 by 3 cells. The start reaches 181,440 boards.
+    BoardWithoutPlan,
+    Corridor,
+}
+
+fn task_of(alloc: Global, sample: Sample) -> Result<Task, AllocError> {
+    match sample {
+        Sample::Solved => solved_board(alloc),
+        Sample::OtherRing => other_ring(alloc),
+        Sample::Square => open_square(alloc),
+        Sample::NearBoard => near_board(alloc),
+        Sample::BoardWithoutPlan => Ok(Task::of_tiles(TilesParts {
+            rows: 3,
+            cols: 3,
+            start: Board::of(vec![in alloc; 0, 2, 1, 3, 4, 5, 6, 7, 8]?),
+            goal: Board::of(vec![in alloc; 0, 1, 2, 3, 4, 5, 6, 7, 8]?),
+        })),
+        Sample::Corridor => corridor(alloc),
+    }
+}
+
+// The graph after a search. The function has no clauses, so its callers' proofs don't hold those of
+// the search.
+fn searched<R: Threads + Wait + Sync + Abort, G: Gate>(
+    rt: &R,
+    alloc: Global,
+    sample: Sample,
+    settings: Settings,
+    gate: &G,
+) -> Result<LeaseGraph, AllocError> {
+    let Settings {
+        workers,
+        num,
+        den,
+        budget,
+        lot,
+        wish,
+        plain: _,
+    } = settings;
+    if workers == 0 || workers > 64 || den == 0 || num < den || num > 1000 {
+        panic!(rt; "the workers or the weight are out of range")
+    }
+    if budget == 0 || budget > 1 << 40 || lot == 0 || lot > 1 << 20 || wish < 16 || wish > 4096 {
+        panic!(rt; "the budget, the lot or the blocks are out of range")
+    }
+    let task = Arc::new(alloc, task_of(alloc, sample)?)?;
+    search(rt, alloc, &task, settings, gate)
+}
+
+// How a search ended, and what the events of its journal add up to.
+#[derive(Drop)]
+pub(crate) struct Summary {
+    pub(crate) end: Option<End>,
+    pub(crate) incumbent: Option<u64>,
+    pub(crate) leases: u64,
+    pub(crate) renewals: u64,
+    pub(crate) releases: u64,
+    // How often a block was marked hot.
+    pub(crate) marks: u64,
+    // Sign-offs that report want of memory aren't counted.
+    pub(crate) sign_offs: u64,
+    pub(crate) expansions: u64,
+}
+
+fn summary_of(graph: &LeaseGraph) -> Summary {
+    let (mut leases, mut renewals, mut releases) = (0u64, 0u64, 0u64);
+    let (mut marks, mut sign_offs, mut expansions) = (0u64, 0u64, 0u64);
+    for event in graph.journal() {
+        match event {
+            Event::Lease { .. } => leases = leases.wrapping_add(1),
+            Event::Renew { used, .. } => {
+                renewals = renewals.wrapping_add(1);
+                expansions = expansions.wrapping_add(*used);
+            }
+            Event::Hot { .. } => marks = marks.wrapping_add(1),
+            Event::Release { used, .. } => {
+                releases = releases.wrapping_add(1);
+                expansions = expansions.wrapping_add(*used);
+            }
+            Event::Off { memory: false, .. } => sign_offs = sign_offs.wrapping_add(1),
+            Event::Off { .. } | Event::Cold { .. } | Event::Ended(_) => {}
+        }
+    }
+    Summary {
+        end: graph.end(),
+        incumbent: graph.incumbent(),
+        leases,
+        renewals,
+        releases,
+        marks,
+        sign_offs,
+        expansions,
+    }
+}
+
+pub(crate) fn search_sample<R: Threads + Wait + Sync + Abort, G: Gate>(
+    rt: &R,
+    alloc: Global,
+    sample: Sample,
+    settings: Settings,
+    gate: &G,
+) -> Result<Summary, AllocError> {
+    let graph = searched(rt, alloc, sample, settings, gate)?;
+    Ok(summary_of(&graph))
+}
+
+// Whether a search by one worker has exactly this journal, and this incumbent at its end.
+pub(crate) fn has_journal<R: Threads + Wait + Sync + Abort>(
+    rt: &R,
+    alloc: Global,
+    sample: Sample,
+    journal: &[Event],
+    incumbent: Option<u64>,
+) -> Result<bool, AllocError> {
+    let graph = searched(rt, alloc, sample, ONE_WORKER, &OpenGate)?;
+    Ok(graph.journal() == journal && graph.incumbent() == incumbent)
+}
