@@ -2,8 +2,6 @@
 #![tactic(auto)]
 
 #[cfg(test)]
-mod calls;
-#[cfg(test)]
-mod switching;
+mod graphs;
 #[cfg(test)]
 mod tables;

@@ -1,5 +1,5 @@
 use Rattle.std.proofs.Common.{refl}
-use Rattle.pb_test_leases.proofs.switching.switch.Goals as goal
+use Rattle.pb_test_leases.proofs.graphs.switch.Goals as goal
 
 pub release-requires : goal.release-requires
 release-requires c = (c.in-Switched.ensures.switched c.in-Switched.next refl).1.leased.of_graph

@@ -1,6 +1,10 @@
-use Rattle.std.proofs.Common.{◌==◌, false, refl, ap, ◌∙◌}
+use Rattle.std.proofs.Common.{◌<◌, ◌==◌, false, refl, ap, ◌∙◌, arith, subst}
+use Rattle.pb_machine.specs.declared.settings.Settings.{Settings}
 use Rattle.pb_lease.proofs.Holders.{leased_else, released_else, ended_else}
-use Rattle.pb_test_leases.proofs.calls.ask.Goals as goal
+use Rattle.pb_test_leases.proofs.graphs.is_told_to_wait.Goals as goal
+
+pub lease-requires-clause-worker : goal.lease-requires-clause-worker
+lease-requires-clause-worker c = subst (λ (s : Settings). 1 < s.workers) c.settings.ensures.settings (omega arith)
 
 pub release-requires : goal.release-requires
 release-requires c = (c.in-Leased.ensures.leased c.in-Leased.lease refl).of_graph
@@ -15,5 +19,5 @@ returns-in-Leased c = record {
 
 pub returns-in-Over : goal.returns-in-Over
 returns-in-Over c = record {
-  others = λ lease different of. ended_else c.args.graph.now c.in-Over.end c.lease.new.self (c.in-Over.ensures.ended c.in-Over.end refl) lease of;
+  others = λ lease different of. ended_else c.args.graph.now c.in-Over.field-0 c.lease.new.self (c.in-Over.ensures.ended c.in-Over.field-0 refl) lease of;
 }
