@@ -1,446 +1,318 @@
-use pb_command::{CommandFault, CommandLine, CommandRefusal, Input, KindWord, read_words};
-use std::alloc::{AllocError, Global};
-use std::test::Fail;
+use pb_command::{CommandRefusal, read_words};
+use std::alloc::Global;
+use std::process::Abort;
 
-fn texts(alloc: Global, words: &[&str]) -> Result<Vec<String>, AllocError> {
-    let mut made = Vec::new(alloc);
-    for word in words {
-        made.push(String::from_str(alloc, *word)?)?;
-    }
-    Ok(made)
-}
-
-fn words_of(alloc: Global, line: &str) -> Result<Vec<String>, AllocError> {
-    let mut made = Vec::new(alloc);
+fn words_of<R: Abort>(rt: &R, alloc: Global, line: &str) -> Vec<String> {
+    let mut words = Vec::new(alloc);
     for word in line.split(' ') {
-        made.push(String::from_str(alloc, word)?)?;
+        let word = String::from_str(alloc, word).expect(rt, "memory");
+        words.push(word).expect(rt, "memory");
     }
-    Ok(made)
+    words
 }
 
-fn is_grid(input: &Input<'_>, map: &str, scenario: &str) -> bool {
-    match input {
-        Input::Grid(files) => files.map == map && files.scenario == scenario,
-        Input::Tiles(_) | Input::Strips(_) => false,
-    }
+// What the words of a line are answered: the command, or the fault, and below it the message.
+fn answer<R: Abort>(rt: &R, alloc: Global, line: &str) -> String {
+    let words = words_of(rt, alloc, line);
+    let text = match read_words(alloc, words.as_slice()) {
+        Ok(command) => format!(in alloc; "{command:?}\n"),
+        Err(CommandRefusal::Words(fault, message)) => {
+            let Ok(text) = std::str::from_utf8(message.as_bytes()) else {
+                panic!(rt; "no text")
+            };
+            format!(in alloc; "{fault:?}\n{text}")
+        }
+        Err(CommandRefusal::Memory) => panic!(rt; "memory"),
+    };
+    text.expect(rt, "memory")
 }
 
-fn is_tiles(input: &Input<'_>, board: &str) -> bool {
-    match input {
-        Input::Grid(_) | Input::Strips(_) => false,
-        Input::Tiles(name) => *name == board,
+// A line that begins with `> ` has words. Below it stands what they are to be answered.
+fn compare<R: Abort>(rt: &R, alloc: Global, lines: &str) {
+    let mut text = String::new(alloc);
+    for line in lines.lines() {
+        if let Some(words) = line.strip_prefix("> ") {
+            let answer = answer(rt, alloc, words);
+            let row = format!(in alloc; "{line}\n{answer}").expect(rt, "memory");
+            text.push_str(row.as_str()).expect(rt, "memory");
+        }
     }
+    assert_eq!(rt; text.as_str(), lines);
 }
 
-fn is_strips(input: &Input<'_>, domain: &str, problem: &str) -> bool {
-    match input {
-        Input::Grid(_) | Input::Tiles(_) => false,
-        Input::Strips(files) => files.domain == domain && files.problem == problem,
-    }
+// How long the answer is to a kind of 70,000 of these letters, whether it is the fault of the kind,
+// and whether its last line is ended.
+fn answer_to_long_kind<R: Abort>(rt: &R, alloc: Global, letter: &str) -> (usize, bool, bool) {
+    let kind = letter.repeat(alloc, 70_000).expect(rt, "memory");
+    let line = format!(in alloc; "solve {kind} m").expect(rt, "memory");
+    let answer = answer(rt, alloc, line.as_str());
+    let text = answer.as_str();
+    (text.len(), text.starts_with("Kind\n"), text.ends_with("\n"))
 }
 
-#[test]
-fn commands_with_their_options(rt: HostRuntime) -> Result<(), Fail> {
-    let alloc = rt.alloc();
-    let words = words_of(
-        alloc,
-        "solve grid m --row 1000000 s --budget=1099511627776 --lot 1048576 --blocks=4096 --cert c --workers 64 --swamp --num=1000 --plain --den 999 --trace=t",
-    )?;
-    match read_words(alloc, words.as_slice()) {
-        Ok(CommandLine::Solve(command)) => {
-            assert!(rt; is_grid(&command.input, "m", "s"));
-            assert!(rt; command.row == 1000000 && command.budget == 1099511627776);
-            assert!(rt; command.lot == 1048576 && command.blocks == 4096);
-            assert!(rt; command.workers == 64 && command.num == 1000 && command.den == 999);
-            assert!(rt; command.plain && command.swamp && command.journal == Some("t"));
-            assert!(rt; command.certificate == Some("c"));
-        }
-        _ => assert!(rt; false),
-    }
-    for (line, swamp) in [
-        ("check grid c m s", false),
-        ("check grid --swamp c m s", true),
-    ] {
-        let words = words_of(alloc, line)?;
-        match read_words(alloc, words.as_slice()) {
-            Ok(CommandLine::Check(command)) => {
-                assert!(rt; is_grid(&command.input, "m", "s"));
-                assert!(rt; command.certificate == "c" && command.row == 0);
-                assert!(rt; command.swamp == swamp);
-            }
-            _ => assert!(rt; false),
-        }
-    }
-    Ok(())
-}
+// Options may stand anywhere after the command. Those that aren't given have their defaults.
+const COMMANDS: &str = "\
+> solve grid m --row 1000000 s --budget=1099511627776 --lot 1048576 --blocks=4096 --cert c \
+--workers 64 --swamp --num=1000 --plain --den 999 --trace=t
+Solve(SolveCommand { input: Grid(GridFiles { map: \"m\", scenario: \"s\" }), row: 1000000, \
+workers: 64, num: 1000, den: 999, budget: 1099511627776, lot: 1048576, blocks: 4096, plain: true, \
+swamp: true, certificate: Some(\"c\"), journal: Some(\"t\") })
+> check grid c m s
+Check(CheckCommand { input: Grid(GridFiles { map: \"m\", scenario: \"s\" }), certificate: \"c\", \
+row: 0, swamp: false })
+> check grid --swamp c m s
+Check(CheckCommand { input: Grid(GridFiles { map: \"m\", scenario: \"s\" }), certificate: \"c\", \
+row: 0, swamp: true })
+> solve tiles --row 7 b --budget=1 --cert c
+Solve(SolveCommand { input: Tiles(\"b\"), row: 7, workers: 1, num: 1, den: 1, budget: 1, lot: 256, \
+blocks: 256, plain: false, swamp: false, certificate: Some(\"c\"), journal: None })
+> check tiles c b
+Check(CheckCommand { input: Tiles(\"b\"), certificate: \"c\", row: 0, swamp: false })
+> solve strips d --row 7 p --blocks=16 --lot 1 --cert c
+Solve(SolveCommand { input: Strips(StripsFiles { domain: \"d\", problem: \"p\" }), row: 7, \
+workers: 1, num: 1, den: 1, budget: 16777216, lot: 1, blocks: 16, plain: false, swamp: false, \
+certificate: Some(\"c\"), journal: None })
+> check strips c d p
+Check(CheckCommand { input: Strips(StripsFiles { domain: \"d\", problem: \"p\" }), certificate: \
+\"c\", row: 0, swamp: false })
+> solve grid m s
+Solve(SolveCommand { input: Grid(GridFiles { map: \"m\", scenario: \"s\" }), row: 0, workers: 1, \
+num: 1, den: 1, budget: 16777216, lot: 256, blocks: 256, plain: false, swamp: false, certificate: \
+None, journal: None })
+> solve grid m s --lot 1
+Solve(SolveCommand { input: Grid(GridFiles { map: \"m\", scenario: \"s\" }), row: 0, workers: 1, \
+num: 1, den: 1, budget: 16777216, lot: 1, blocks: 256, plain: false, swamp: false, certificate: \
+None, journal: None })
+> solve grid m s --lot=1048576
+Solve(SolveCommand { input: Grid(GridFiles { map: \"m\", scenario: \"s\" }), row: 0, workers: 1, \
+num: 1, den: 1, budget: 16777216, lot: 1048576, blocks: 256, plain: false, swamp: false, \
+certificate: None, journal: None })
+> solve tiles b --blocks 16
+Solve(SolveCommand { input: Tiles(\"b\"), row: 0, workers: 1, num: 1, den: 1, budget: 16777216, \
+lot: 256, blocks: 16, plain: false, swamp: false, certificate: None, journal: None })
+> solve tiles --blocks=4096 b
+Solve(SolveCommand { input: Tiles(\"b\"), row: 0, workers: 1, num: 1, den: 1, budget: 16777216, \
+lot: 256, blocks: 4096, plain: false, swamp: false, certificate: None, journal: None })
+> solve tiles --blocks=17 b --lot=2
+Solve(SolveCommand { input: Tiles(\"b\"), row: 0, workers: 1, num: 1, den: 1, budget: 16777216, \
+lot: 2, blocks: 17, plain: false, swamp: false, certificate: None, journal: None })
+> journal grid j --row=7 m s
+Journal(JournalCommand { input: Grid(GridFiles { map: \"m\", scenario: \"s\" }), journal: \"j\", \
+row: 7 })
+> make grid 0 2048
+Make(MakeCommand { kind: Grid, seed: 0, size: 2048, workers: 1 })
+> make tiles 4294967295 --workers 64 0
+Make(MakeCommand { kind: Tiles, seed: 4294967295, size: 0, workers: 64 })
+> make --workers=2 strips +07 14
+Make(MakeCommand { kind: Strips, seed: 7, size: 14, workers: 2 })
+";
 
-#[test]
-fn commands_of_tiles(rt: HostRuntime) -> Result<(), Fail> {
-    let alloc = rt.alloc();
-    let words = words_of(alloc, "solve tiles --row 7 b --budget=1 --cert c")?;
-    match read_words(alloc, words.as_slice()) {
-        Ok(CommandLine::Solve(command)) => {
-            assert!(rt; is_tiles(&command.input, "b"));
-            assert!(rt; command.row == 7 && command.budget == 1);
-            assert!(rt; command.lot == 256 && command.blocks == 256);
-            assert!(rt; command.certificate == Some("c"));
-        }
-        _ => assert!(rt; false),
-    }
-    let words = words_of(alloc, "check tiles c b")?;
-    match read_words(alloc, words.as_slice()) {
-        Ok(CommandLine::Check(command)) => {
-            assert!(rt; is_tiles(&command.input, "b"));
-            assert!(rt; command.certificate == "c" && command.row == 0);
-        }
-        _ => assert!(rt; false),
-    }
-    Ok(())
-}
+// The words are tested in a fixed order. The first test that fails gives the answer.
+const REFUSALS: &str = "\
+> solve grid m
+Files
+words files
+> check grid c m
+Files
+words files
+> solve tiles b s
+Files
+words files
+> check tiles c b s
+Files
+words files
+> solve strips d
+Files
+words files
+> check strips c d
+Files
+words files
+> check strips c d p --row 1000001
+Form
+error: invalid value '1000001' for '--row <row>': 1000001 is not in 0..=1000000
+> solve tiles b --row 1000001
+Form
+error: invalid value '1000001' for '--row <row>': 1000001 is not in 0..=1000000
+> solve maze m
+Kind
+error: invalid value 'maze' for '<KIND>'
+  [possible values: grid, tiles, strips]
 
-#[test]
-fn commands_of_strips(rt: HostRuntime) -> Result<(), Fail> {
-    let alloc = rt.alloc();
-    let words = words_of(
-        alloc,
-        "solve strips d --row 7 p --blocks=16 --lot 1 --cert c",
-    )?;
-    match read_words(alloc, words.as_slice()) {
-        Ok(CommandLine::Solve(command)) => {
-            assert!(rt; is_strips(&command.input, "d", "p"));
-            assert!(rt; command.row == 7 && command.budget == 16777216);
-            assert!(rt; command.lot == 1 && command.blocks == 16);
-            assert!(rt; command.certificate == Some("c"));
-        }
-        _ => assert!(rt; false),
-    }
-    let words = words_of(alloc, "check strips c d p")?;
-    match read_words(alloc, words.as_slice()) {
-        Ok(CommandLine::Check(command)) => {
-            assert!(rt; is_strips(&command.input, "d", "p"));
-            assert!(rt; command.certificate == "c" && command.row == 0);
-        }
-        _ => assert!(rt; false),
-    }
-    Ok(())
-}
+Usage: solve [OPTIONS] <KIND> <FIRST_FILE> [SECOND_FILE]
+> solve grid m s --row 1000001
+Form
+error: invalid value '1000001' for '--row <row>': 1000001 is not in 0..=1000000
+> solve grid m s --budget 0
+Form
+error: invalid value '0' for '--budget <budget>': 0 is not in 1..=1099511627776
+> solve grid m s --lot 0
+Form
+error: invalid value '0' for '--lot <lot>': 0 is not in 1..=1048576
+> solve grid m s --lot 1048577
+Form
+error: invalid value '1048577' for '--lot <lot>': 1048577 is not in 1..=1048576
+> solve tiles b --blocks 15
+Form
+error: invalid value '15' for '--blocks <blocks>': 15 is not in 16..=4096
+> solve tiles b --blocks 4097
+Form
+error: invalid value '4097' for '--blocks <blocks>': 4097 is not in 16..=4096
+> solve tiles b --lot many
+Form
+error: invalid value 'many' for '--lot <lot>': invalid digit found in string
+> solve tiles b --blocks=
+Form
+error: invalid value '' for '--blocks <blocks>': cannot parse integer from empty string
+> solve tiles b --lot
+Form
+error: a value is required for '--lot <lot>' but none was supplied
+> check tiles c b --lot 1
+Form
+error: unexpected argument '--lot' found
 
-#[test]
-fn lots_and_numbers_of_blocks(rt: HostRuntime) -> Result<(), Fail> {
-    let alloc = rt.alloc();
-    let rows = [
-        ("solve grid m s", 256, 256),
-        ("solve grid m s --lot 1", 1, 256),
-        ("solve grid m s --lot=1048576", 1048576, 256),
-        ("solve tiles b --blocks 16", 256, 16),
-        ("solve tiles --blocks=4096 b", 256, 4096),
-        ("solve tiles --blocks=17 b --lot=2", 2, 17),
-    ];
-    for (line, lot, blocks) in rows {
-        let words = words_of(alloc, line)?;
-        match read_words(alloc, words.as_slice()) {
-            Ok(CommandLine::Solve(command)) => {
-                assert!(rt; command.lot == lot && command.blocks == blocks, "{line:?}");
-                assert!(rt; command.row == 0 && command.budget == 16777216, "{line:?}");
-                assert!(rt;
-                    command.workers == 1 && command.num == 1 && command.den == 1,
-                    "{line:?}"
-                );
-                assert!(rt; !command.plain && !command.swamp, "{line:?}");
-                assert!(rt; command.journal == None, "{line:?}");
-            }
-            _ => assert!(rt; false, "{line:?}"),
-        }
-    }
-    Ok(())
-}
+  tip: to pass '--lot' as a value, use '-- --lot'
 
-#[test]
-fn journals_that_are_checked(rt: HostRuntime) -> Result<(), Fail> {
-    let alloc = rt.alloc();
-    let words = words_of(alloc, "journal grid j --row=7 m s")?;
-    match read_words(alloc, words.as_slice()) {
-        Ok(CommandLine::Journal(command)) => {
-            assert!(rt; is_grid(&command.input, "m", "s"));
-            assert!(rt; command.journal == "j" && command.row == 7);
-        }
-        _ => assert!(rt; false),
-    }
-    Ok(())
-}
+Usage: check <KIND> <CERTIFICATE> <FIRST_FILE> [SECOND_FILE]
+> check grid c m s --blocks 16
+Form
+error: unexpected argument '--blocks' found
 
-#[test]
-fn tasks_that_are_made(rt: HostRuntime) -> Result<(), Fail> {
-    let alloc = rt.alloc();
-    let rows = [
-        ("make grid 0 2048", KindWord::Grid, 0, 2048, 1),
-        (
-            "make tiles 4294967295 --workers 64 0",
-            KindWord::Tiles,
-            4294967295,
-            0,
-            64,
-        ),
-        ("make --workers=2 strips +07 14", KindWord::Strips, 7, 14, 2),
-    ];
-    for (line, kind, seed, size, workers) in rows {
-        let words = words_of(alloc, line)?;
-        match read_words(alloc, words.as_slice()) {
-            Ok(CommandLine::Make(command)) => {
-                assert!(rt; command.kind == kind && command.seed == seed, "{line:?}");
-                assert!(rt;
-                    command.size == size && command.workers == workers,
-                    "{line:?}"
-                );
-            }
-            _ => assert!(rt; false, "{line:?}"),
-        }
-    }
-    Ok(())
-}
+  tip: to pass '--blocks' as a value, use '-- --blocks'
 
-#[test]
-fn printed_texts_of_refused_words(rt: HostRuntime) -> Result<(), Fail> {
-    let alloc = rt.alloc();
-    let rows = [
-        ("solve grid m", CommandFault::Files, "words files\n"),
-        ("check grid c m", CommandFault::Files, "words files\n"),
-        ("solve tiles b s", CommandFault::Files, "words files\n"),
-        ("check tiles c b s", CommandFault::Files, "words files\n"),
-        ("solve strips d", CommandFault::Files, "words files\n"),
-        ("check strips c d", CommandFault::Files, "words files\n"),
-        (
-            "check strips c d p --row 1000001",
-            CommandFault::Form,
-            "error: invalid value '1000001' for '--row <row>': 1000001 is not in 0..=1000000\n",
-        ),
-        (
-            "solve tiles b --row 1000001",
-            CommandFault::Form,
-            "error: invalid value '1000001' for '--row <row>': 1000001 is not in 0..=1000000\n",
-        ),
-        (
-            "solve maze m",
-            CommandFault::Kind,
-            "error: invalid value 'maze' for '<KIND>'\n  [possible values: grid, tiles, strips]\n\nUsage: solve [OPTIONS] <KIND> <FIRST_FILE> [SECOND_FILE]\n",
-        ),
-        (
-            "solve grid m s --row 1000001",
-            CommandFault::Form,
-            "error: invalid value '1000001' for '--row <row>': 1000001 is not in 0..=1000000\n",
-        ),
-        (
-            "solve grid m s --budget 0",
-            CommandFault::Form,
-            "error: invalid value '0' for '--budget <budget>': 0 is not in 1..=1099511627776\n",
-        ),
-        (
-            "solve grid m s --lot 0",
-            CommandFault::Form,
-            "error: invalid value '0' for '--lot <lot>': 0 is not in 1..=1048576\n",
-        ),
-        (
-            "solve grid m s --lot 1048577",
-            CommandFault::Form,
-            "error: invalid value '1048577' for '--lot <lot>': 1048577 is not in 1..=1048576\n",
-        ),
-        (
-            "solve tiles b --blocks 15",
-            CommandFault::Form,
-            "error: invalid value '15' for '--blocks <blocks>': 15 is not in 16..=4096\n",
-        ),
-        (
-            "solve tiles b --blocks 4097",
-            CommandFault::Form,
-            "error: invalid value '4097' for '--blocks <blocks>': 4097 is not in 16..=4096\n",
-        ),
-        (
-            "solve tiles b --lot many",
-            CommandFault::Form,
-            "error: invalid value 'many' for '--lot <lot>': invalid digit found in string\n",
-        ),
-        (
-            "solve tiles b --blocks=",
-            CommandFault::Form,
-            "error: invalid value '' for '--blocks <blocks>': cannot parse integer from empty string\n",
-        ),
-        (
-            "solve tiles b --lot",
-            CommandFault::Form,
-            "error: a value is required for '--lot <lot>' but none was supplied\n",
-        ),
-        (
-            "check tiles c b --lot 1",
-            CommandFault::Form,
-            "error: unexpected argument '--lot' found\n\n  tip: to pass '--lot' as a value, use '-- --lot'\n\nUsage: check <KIND> <CERTIFICATE> <FIRST_FILE> [SECOND_FILE]\n",
-        ),
-        (
-            "check grid c m s --blocks 16",
-            CommandFault::Form,
-            "error: unexpected argument '--blocks' found\n\n  tip: to pass '--blocks' as a value, use '-- --blocks'\n\nUsage: check <KIND> <CERTIFICATE> <FIRST_FILE> <SECOND_FILE>\n",
-        ),
-        (
-            "check grid c m s --budget 1",
-            CommandFault::Form,
-            "error: unexpected argument '--budget' found\n\n  tip: to pass '--budget' as a value, use '-- --budget'\n\nUsage: check <KIND> <CERTIFICATE> <FIRST_FILE> <SECOND_FILE>\n",
-        ),
-        (
-            "solve grid m s --help",
-            CommandFault::Form,
-            "error: unexpected argument '--help' found\n\n  tip: to pass '--help' as a value, use '-- --help'\n\nUsage: solve <KIND> <FIRST_FILE> <SECOND_FILE>\n",
-        ),
-        (
-            "--version",
-            CommandFault::Form,
-            "error: unexpected argument '--version' found\n\nUsage: pbnf <COMMAND>\n",
-        ),
-        (
-            "help",
-            CommandFault::Form,
-            "error: unrecognized subcommand 'help'\n\nUsage: pbnf <COMMAND>\n",
-        ),
-    ];
-    for (line, fault, printed) in rows {
-        let words = words_of(alloc, line)?;
-        match read_words(alloc, words.as_slice()) {
-            Err(CommandRefusal::Words(found, message)) => {
-                assert_eq!(rt; found, fault);
-                assert!(rt; message.as_bytes() == printed.as_bytes(), "{line:?}");
-            }
-            _ => assert!(rt; false, "{line:?}"),
-        }
-    }
-    Ok(())
-}
+Usage: check <KIND> <CERTIFICATE> <FIRST_FILE> <SECOND_FILE>
+> check grid c m s --budget 1
+Form
+error: unexpected argument '--budget' found
+
+  tip: to pass '--budget' as a value, use '-- --budget'
+
+Usage: check <KIND> <CERTIFICATE> <FIRST_FILE> <SECOND_FILE>
+> solve grid m s --help
+Form
+error: unexpected argument '--help' found
+
+  tip: to pass '--help' as a value, use '-- --help'
+
+Usage: solve <KIND> <FIRST_FILE> <SECOND_FILE>
+> --version
+Form
+error: unexpected argument '--version' found
+
+Usage: pbnf <COMMAND>
+> help
+Form
+error: unrecognized subcommand 'help'
+
+Usage: pbnf <COMMAND>
+> make grid 0 0
+Size
+words size
+> make grid 0 2049
+Size
+words size
+> make tiles 0 1000001
+Size
+words size
+> make strips 0 15
+Size
+words size
+> make strips 0 18446744073709551615
+Size
+words size
+> solve grid m s --num 1 --den 2
+Weight
+words weight
+> solve tiles b --den 2 --cert c --trace c
+Weight
+words weight
+> solve tiles b --cert c --trace c
+Names
+words names
+> solve grid m --den 2
+Files
+words files
+> journal grid j m
+Files
+words files
+> journal tiles j b s
+Files
+words files
+> make strips 0 18446744073709551616
+Form
+error: invalid value '18446744073709551616' for '<SIZE>': number too large to fit in target type
+> make grid 4294967296 1
+Form
+error: invalid value '4294967296' for '<SEED>': 4294967296 is not in 0..=4294967295
+> make grid 0
+Form
+error: the following required arguments were not provided:
+  <SIZE>
+
+Usage: make <KIND> <SEED> <SIZE>
+> make maze 0 0
+Kind
+error: invalid value 'maze' for '<KIND>'
+  [possible values: grid, tiles, strips]
+
+Usage: make [OPTIONS] <KIND> <SEED> <SIZE>
+> solve grid m s --workers 0
+Form
+error: invalid value '0' for '--workers <workers>': 0 is not in 1..=64
+> make grid 0 1 --workers 65
+Form
+error: invalid value '65' for '--workers <workers>': 65 is not in 1..=64
+> solve grid m s --num 0
+Form
+error: invalid value '0' for '--num <num>': 0 is not in 1..=1000
+> solve grid m s --den 1001
+Form
+error: invalid value '1001' for '--den <den>': 1001 is not in 1..=1000
+> solve tiles b --num 2 --num 3
+Form
+error: the argument '--num <num>' cannot be used multiple times
+
+Usage: solve [OPTIONS] <KIND> <FIRST_FILE> [SECOND_FILE]
+> solve tiles b --plain --plain
+Form
+error: the argument '--plain' cannot be used multiple times
+
+Usage: solve [OPTIONS] <KIND> <FIRST_FILE> [SECOND_FILE]
+> journal grid j m s --swamp
+Form
+error: unexpected argument '--swamp' found
+
+  tip: to pass '--swamp' as a value, use '-- --swamp'
+
+Usage: journal <KIND> <JOURNAL> <FIRST_FILE> <SECOND_FILE>
+> solve tiles b --plain=yes
+Form
+error: unexpected value 'yes' for '--plain' found; no more were expected
+
+Usage: solve --plain <KIND> <FIRST_FILE> [SECOND_FILE]
+> check tiles c b --workers 2
+Form
+error: unexpected argument '--workers' found
+
+  tip: to pass '--workers' as a value, use '-- --workers'
+
+Usage: check <KIND> <CERTIFICATE> <FIRST_FILE> [SECOND_FILE]
+";
 
 #[test]
-fn printed_texts_of_each_test(rt: HostRuntime) -> Result<(), Fail> {
-    let alloc = rt.alloc();
-    let rows = [
-        ("make grid 0 0", CommandFault::Size, "words size\n"),
-        ("make grid 0 2049", CommandFault::Size, "words size\n"),
-        ("make tiles 0 1000001", CommandFault::Size, "words size\n"),
-        ("make strips 0 15", CommandFault::Size, "words size\n"),
-        (
-            "make strips 0 18446744073709551615",
-            CommandFault::Size,
-            "words size\n",
-        ),
-        (
-            "solve grid m s --num 1 --den 2",
-            CommandFault::Weight,
-            "words weight\n",
-        ),
-        (
-            "solve tiles b --den 2 --cert c --trace c",
-            CommandFault::Weight,
-            "words weight\n",
-        ),
-        (
-            "solve tiles b --cert c --trace c",
-            CommandFault::Names,
-            "words names\n",
-        ),
-        ("solve grid m --den 2", CommandFault::Files, "words files\n"),
-        ("journal grid j m", CommandFault::Files, "words files\n"),
-        ("journal tiles j b s", CommandFault::Files, "words files\n"),
-        (
-            "make strips 0 18446744073709551616",
-            CommandFault::Form,
-            "error: invalid value '18446744073709551616' for '<SIZE>': number too large to fit in target type\n",
-        ),
-        (
-            "make grid 4294967296 1",
-            CommandFault::Form,
-            "error: invalid value '4294967296' for '<SEED>': 4294967296 is not in 0..=4294967295\n",
-        ),
-        (
-            "make grid 0",
-            CommandFault::Form,
-            "error: the following required arguments were not provided:\n  <SIZE>\n\nUsage: make <KIND> <SEED> <SIZE>\n",
-        ),
-        (
-            "make maze 0 0",
-            CommandFault::Kind,
-            "error: invalid value 'maze' for '<KIND>'\n  [possible values: grid, tiles, strips]\n\nUsage: make [OPTIONS] <KIND> <SEED> <SIZE>\n",
-        ),
-        (
-            "solve grid m s --workers 0",
-            CommandFault::Form,
-            "error: invalid value '0' for '--workers <workers>': 0 is not in 1..=64\n",
-        ),
-        (
-            "make grid 0 1 --workers 65",
-            CommandFault::Form,
-            "error: invalid value '65' for '--workers <workers>': 65 is not in 1..=64\n",
-        ),
-        (
-            "solve grid m s --num 0",
-            CommandFault::Form,
-            "error: invalid value '0' for '--num <num>': 0 is not in 1..=1000\n",
-        ),
-        (
-            "solve grid m s --den 1001",
-            CommandFault::Form,
-            "error: invalid value '1001' for '--den <den>': 1001 is not in 1..=1000\n",
-        ),
-        (
-            "solve tiles b --num 2 --num 3",
-            CommandFault::Form,
-            "error: the argument '--num <num>' cannot be used multiple times\n\nUsage: solve [OPTIONS] <KIND> <FIRST_FILE> [SECOND_FILE]\n",
-        ),
-        (
-            "solve tiles b --plain --plain",
-            CommandFault::Form,
-            "error: the argument '--plain' cannot be used multiple times\n\nUsage: solve [OPTIONS] <KIND> <FIRST_FILE> [SECOND_FILE]\n",
-        ),
-        (
-            "journal grid j m s --swamp",
-            CommandFault::Form,
-            "error: unexpected argument '--swamp' found\n\n  tip: to pass '--swamp' as a value, use '-- --swamp'\n\nUsage: journal <KIND> <JOURNAL> <FIRST_FILE> <SECOND_FILE>\n",
-        ),
-        (
-            "solve tiles b --plain=yes",
-            CommandFault::Form,
-            "error: unexpected value 'yes' for '--plain' found; no more were expected\n\nUsage: solve --plain <KIND> <FIRST_FILE> [SECOND_FILE]\n",
-        ),
-        (
-            "check tiles c b --workers 2",
-            CommandFault::Form,
-            "error: unexpected argument '--workers' found\n\n  tip: to pass '--workers' as a value, use '-- --workers'\n\nUsage: check <KIND> <CERTIFICATE> <FIRST_FILE> [SECOND_FILE]\n",
-        ),
-    ];
-    for (line, fault, printed) in rows {
-        let words = words_of(alloc, line)?;
-        match read_words(alloc, words.as_slice()) {
-            Err(CommandRefusal::Words(found, message)) => {
-                assert_eq!(rt; found, fault);
-                assert!(rt; message.as_bytes() == printed.as_bytes(), "{line:?}");
-            }
-            _ => assert!(rt; false, "{line:?}"),
-        }
-    }
-    Ok(())
+fn lines_have_their_answers(rt: HostRuntime) {
+    compare(&rt, rt.alloc(), COMMANDS);
+    compare(&rt, rt.alloc(), REFUSALS);
 }
 
+// A message has at most 65,536 bytes, and ends with a whole character and a line feed. The line
+// `Kind` before it has 5 bytes.
 #[test]
-fn long_words_are_cut(rt: HostRuntime) -> Result<(), Fail> {
-    let alloc = rt.alloc();
-    for (letter, len) in [("w", 65_536), ("\u{e9}", 65_535)] {
-        let word = letter.repeat(alloc, 70_000)?;
-        let words = texts(alloc, ["solve", word.as_str(), "m"].as_slice())?;
-        match read_words(alloc, words.as_slice()) {
-            Err(CommandRefusal::Words(fault, message)) => {
-                assert_eq!(rt; fault, CommandFault::Kind);
-                let bytes = message.as_bytes();
-                assert!(rt;
-                    bytes.len() == len && bytes.last() == Some(&b'\n'),
-                    "{letter}"
-                );
-                assert!(rt; std::str::from_utf8(bytes).is_ok(), "{letter}");
-            }
-            _ => assert!(rt; false, "{letter}"),
-        }
+fn long_words_are_cut(rt: HostRuntime) {
+    for (letter, bytes) in [("w", 5 + 65_536), ("\u{e9}", 5 + 65_535)] {
+        assert_eq!(rt;
+            answer_to_long_kind(&rt, rt.alloc(), letter),
+            (bytes, true, true),
+            "{letter}"
+        );
     }
-    Ok(())
 }
