@@ -3,79 +3,97 @@ use pb_model::Estimate;
 use pb_packed::Packed;
 use pb_task::{Cells, Class, GridParts, Swamp, Task};
 use pb_test_examples::near_board;
-use std::alloc::{AllocError, Global};
-use std::test::Fail;
+use std::alloc::Global;
+use std::process::Abort;
 
-// A map of 3 by 3 cells of land, from its upper left to its lower middle cell.
-fn open_square(alloc: Global) -> Result<Task, AllocError> {
+// Only values that threads may share and hand on are taken.
+fn crosses_threads<T: Send + Sync>(value: &T) {
+    let _ = value;
+}
+
+// The estimates of a state, of another one, and of the first once more, all by one new estimator.
+fn ask<R: Abort>(
+    rt: &R,
+    alloc: Global,
+    task: &Task,
+    state: &Packed,
+    other: &Packed,
+) -> (Estimate, Estimate, Estimate) {
+    if !task.is_state(state) || !task.is_state(other) {
+        panic!(rt; "no state");
+    }
+    let mut estimator = Estimator::of(alloc, task).expect(rt, "memory");
+    crosses_threads(&estimator);
+    let first = estimator.estimate(task, state);
+    let second = estimator.estimate(task, other);
+    (first, second, estimator.estimate(task, state))
+}
+
+/// The same of a task that ends here: it is dropped in this function alone, so its callers'
+/// proofs stay short. Both are to be states of the task.
+pub fn estimates<R: Abort>(
+    rt: &R,
+    alloc: Global,
+    task: Task,
+    state: &Packed,
+    other: &Packed,
+) -> (Estimate, Estimate, Estimate) {
+    ask(rt, alloc, &task, state, other)
+}
+
+// On a map of 3 by 3 cells of land, whose goal is the lower middle cell: the estimates of a cell,
+// by its column and row, and of the lower right cell.
+fn on_square<R: Abort>(rt: &R, alloc: Global, x: u8, y: u8) -> (Estimate, Estimate, Estimate) {
     let land = Class::Land;
-    let classes = vec![in alloc; land, land, land, land, land, land, land, land, land]?;
+    let classes = vec![in alloc; land, land, land, land, land, land, land, land, land];
+    let classes = classes.expect(rt, "memory");
+    let swamp = vec![in alloc; false; 9].expect(rt, "memory");
     let task = Task::of_grid(GridParts {
         width: 3,
         height: 3,
         cells: Cells::of(classes),
-        swamp: Swamp::of(vec![in alloc; false; 9]?),
+        swamp: Swamp::of(swamp),
         start: (0, 0),
         goal: (1, 2),
     });
-    Ok(task)
+    let column = Packed::zero().with_bits(0, 11, u64::from(x));
+    let state = column.with_bits(11, 11, u64::from(y));
+    let corner = Packed::zero().with_bits(0, 11, 2).with_bits(11, 11, 2);
+    estimates(rt, alloc, task, &state, &corner)
 }
 
-/// The estimate of a state, if it is one of the task's.
-pub fn estimate(
-    alloc: Global,
-    task: &Task,
-    state: &Packed,
-) -> Result<Option<Estimate>, AllocError> {
-    let mut estimator = Estimator::of(alloc, task)?;
-    if task.is_state(state) {
-        Ok(Some(estimator.estimate(task, state)))
-    } else {
-        Ok(None)
-    }
+// On a board of 3 by 3 cells: the estimates of a board, written from its last cell to its first,
+// and of the goal.
+fn on_board<R: Abort>(rt: &R, alloc: Global, digits: u64) -> (Estimate, Estimate, Estimate) {
+    let task = near_board(alloc).expect(rt, "memory");
+    let state = Packed::zero().with_bits(0, 64, digits);
+    let goal = Packed::zero().with_bits(0, 64, 0x876543210);
+    estimates(rt, alloc, task, &state, &goal)
 }
 
-// The distances from some cells, each by its column and row, to the goal in column 1 and row 2.
+// Distances on a map are counted in both directions, and those of all tiles but the blank are
+// summed.
+//
+// The boards, in their order:
+// - 1 4 2 / 3 5 8 / 6 7 0, where 1, 4, 5 and 8 are one step away;
+// - the goal;
+// - 0 2 1 / 3 4 5 / 6 7 8;
+// - 8 0 6 / 5 4 7 / 2 3 1, where 4 alone is at home, which has a distance of 21.
 #[test]
-fn distances_are_counted_in_both_directions(rt: HostRuntime) -> Result<(), Fail> {
-    let task = open_square(rt.alloc())?;
-    for (x, y, wanted) in [(0, 0, 3), (1, 2, 0), (2, 0, 3), (2, 2, 1), (0, 1, 2)] {
-        let state = Packed::zero().with_bits(0, 11, x).with_bits(11, 11, y);
-        let found = estimate(rt.alloc(), &task, &state)?;
-        assert_eq!(rt; found, Some(Estimate::Cost(wanted)));
+fn distances_are_summed(rt: HostRuntime) {
+    for (x, y, steps) in [(0, 0, 3), (1, 2, 0), (2, 0, 3), (2, 2, 1), (0, 1, 2)] {
+        let wanted = Estimate::Cost(steps);
+        let found = on_square(&rt, rt.alloc(), x, y);
+        assert_eq!(rt; found, (wanted, Estimate::Cost(1), wanted), "{x} {y}");
     }
-    Ok(())
-}
-
-// The boards are written from their last cell to their first: 1 4 2 / 3 5 8 / 6 7 0, where 1, 4, 5
-// and 8 are one step away; the goal; 0 2 1 / 3 4 5 / 6 7 8; 8 0 6 / 5 4 7 / 2 3 1, where 4 alone is
-// at home, which has a distance of 21.
-#[test]
-fn ways_of_all_tiles_but_the_blank_are_summed(rt: HostRuntime) -> Result<(), Fail> {
-    let task = near_board(rt.alloc())?;
-    let boards = [
+    for (digits, steps) in [
         (0x076853241, 4),
         (0x876543210, 0),
         (0x876543120, 2),
         (0x132745608, 21),
-    ];
-    for (digits, wanted) in boards {
-        let state = Packed::zero().with_bits(0, 64, digits);
-        let found = estimate(rt.alloc(), &task, &state)?;
-        assert_eq!(rt; found, Some(Estimate::Cost(wanted)));
+    ] {
+        let wanted = Estimate::Cost(steps);
+        let found = on_board(&rt, rt.alloc(), digits);
+        assert_eq!(rt; found, (wanted, Estimate::Cost(0), wanted), "{digits:x}");
     }
-    Ok(())
-}
-
-// Only values that threads may share and hand on are taken.
-fn crosses_threads<T: Send + Sync>(value: &T) -> &T {
-    value
-}
-
-#[test]
-fn threads_may_take_an_estimator(rt: HostRuntime) -> Result<(), Fail> {
-    let task = open_square(rt.alloc())?;
-    let estimator = Estimator::of(rt.alloc(), &task)?;
-    let _ = crosses_threads(&estimator);
-    Ok(())
 }
