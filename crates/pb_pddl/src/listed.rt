@@ -5,7 +5,7 @@ use std::marker::Model;
 
 /// A list on the heap, which keeps the allocator of its constructor. A contract sees the list of
 /// its elements.
-#[derive(Debug, Drop)]
+#[derive(Drop)]
 pub struct Listed<T> {
     items: Vec<T>,
 }

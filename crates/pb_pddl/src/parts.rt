@@ -4,28 +4,28 @@ use crate::listed::Listed;
 use crate::tree::{Action, Atom, Cost, Literal, Name, Predicate, Typed};
 
 /// The names of a list that have their type, and those that wait for a type.
-#[derive(Debug, Drop)]
+#[derive(Drop)]
 pub struct Group {
     pub done: Listed<Typed>,
     pub waiting: Listed<Name>,
 }
 
 /// What an effect said so far.
-#[derive(Debug, Drop)]
+#[derive(Drop)]
 pub struct EffectParts {
     pub literals: Listed<Literal>,
     pub costs: Listed<Cost>,
 }
 
 /// What `:init` said so far.
-#[derive(Debug, Drop)]
+#[derive(Drop)]
 pub struct InitParts {
     pub atoms: Listed<Atom>,
     pub costs: Listed<Cost>,
 }
 
 /// The parts of an action so far; `costs` are those of its effect.
-#[derive(Debug, Drop)]
+#[derive(Drop)]
 pub struct ActionParts {
     pub params: Option<Listed<Typed>>,
     pub pre: Option<Listed<Atom>>,
@@ -35,7 +35,7 @@ pub struct ActionParts {
 
 /// The sections of a domain so far: whether `:functions` came, and whether it declared
 /// `total-cost`.
-#[derive(Debug, Drop)]
+#[derive(Drop)]
 pub struct DomainParts {
     pub requirements: bool,
     pub types: Option<Listed<Typed>>,
@@ -48,7 +48,7 @@ pub struct DomainParts {
 
 /// The sections of a problem so far; `costs` are those of `:init`, and `metric` is the place of its
 /// `total-cost`.
-#[derive(Debug, Drop)]
+#[derive(Drop)]
 pub struct ProblemParts {
     pub requirements: bool,
     pub domain: Option<Name>,

@@ -7,7 +7,7 @@ use std::rc::Rc;
 
 /// A range of bytes, which a text shares with its copies and its parts. Copies and parts of any
 /// length take the same time and memory. A contract sees the list of the bytes.
-#[derive(Debug, Drop)]
+#[derive(Drop)]
 pub struct Text {
     bytes: Rc<Listed<u8>, Global>,
     from: u32,

@@ -29,7 +29,7 @@ pub enum TokenKind {
 
 /// A token and its place: the slice of its text that begins there. The order of the fields keeps it
 /// at 24 bytes.
-#[derive(Debug, Drop)]
+#[derive(Drop)]
 pub struct Token {
     /// The token's bytes, in lower case, as a range of the whole text.
     pub text: Text,
@@ -42,7 +42,7 @@ pub struct Token {
 }
 
 /// Where the next token may begin, as a reader of bytes goes over them.
-#[derive(Debug, Drop)]
+#[derive(Drop)]
 pub struct Cursor {
     pub at: u64,
     /// The places of the `(` that are open.

@@ -6,42 +6,42 @@ use crate::text::Text;
 
 /// A word or a variable: its bytes in lower case, a variable's with its `?`, and the place of its
 /// first byte.
-#[derive(Debug, Drop)]
+#[derive(Drop)]
 pub struct Name {
     pub text: Text,
     pub at: u64,
 }
 
 /// A name or variable and the type after its `-`, if there is one.
-#[derive(Debug, Drop)]
+#[derive(Drop)]
 pub struct Typed {
     pub name: Name,
     pub kind: Option<Name>,
 }
 
 /// An argument of an atom.
-#[derive(Debug, Drop)]
+#[derive(Drop)]
 pub enum Term {
     Object(Name),
     Variable(Name),
 }
 
 /// A predicate with its arguments.
-#[derive(Debug, Drop)]
+#[derive(Drop)]
 pub struct Atom {
     pub predicate: Name,
     pub terms: Listed<Term>,
 }
 
 /// An atom that an effect adds, or deletes if it is negated.
-#[derive(Debug, Drop)]
+#[derive(Drop)]
 pub struct Literal {
     pub atom: Atom,
     pub negated: bool,
 }
 
 /// The `increase` of the total cost in an effect, or its `=` in `:init`.
-#[derive(Clone, Copy, Debug)]
+#[derive(Clone, Copy)]
 pub struct Cost {
     /// The place of the word `increase` or `=`.
     pub at: u64,
@@ -54,7 +54,7 @@ pub struct Cost {
 }
 
 /// A predicate as it is declared.
-#[derive(Debug, Drop)]
+#[derive(Drop)]
 pub struct Predicate {
     pub name: Name,
     pub params: Listed<Typed>,
@@ -62,7 +62,7 @@ pub struct Predicate {
 
 /// An action schema: its parameters, the atoms of its precondition, and the literals and costs of
 /// its effect.
-#[derive(Debug, Drop)]
+#[derive(Drop)]
 pub struct Action {
     pub name: Name,
     pub params: Listed<Typed>,
@@ -73,7 +73,7 @@ pub struct Action {
 
 /// A domain. Each name in `types` has the type above it as its `kind`. `has_cost` says whether
 /// `:functions` declares `total-cost`.
-#[derive(Debug, Drop)]
+#[derive(Drop)]
 pub struct Domain {
     pub name: Name,
     pub types: Listed<Typed>,
@@ -85,7 +85,7 @@ pub struct Domain {
 
 /// A problem. `domain` is the name that it gives to its domain, and `costs` are those of `:init`.
 /// `metric` is the place of the metric's `total-cost`, if there is a metric.
-#[derive(Debug, Drop)]
+#[derive(Drop)]
 pub struct Problem {
     pub name: Name,
     pub domain: Name,
