@@ -14,7 +14,7 @@ use pb_pddl::Listed;
 use std::alloc::{AllocError, Global};
 
 /// An instance of an action schema. Atoms are named by their numbers.
-#[derive(Debug, Drop)]
+#[derive(Drop)]
 pub struct ActionInstance {
     /// The number of the schema.
     pub schema: usize,

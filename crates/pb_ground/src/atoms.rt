@@ -15,14 +15,14 @@ use std::collections::BTreeSet;
 use std::marker::Model;
 
 /// A predicate of objects, by numbers: a fact that a step can change.
-#[derive(Debug, Drop)]
+#[derive(Drop)]
 pub struct GroundAtom {
     pub predicate: usize,
     pub objects: Listed<usize>,
 }
 
 /// The ground atoms in the order of their numbers. A contract sees the list of them.
-#[derive(Debug, Drop)]
+#[derive(Drop)]
 pub struct Atoms {
     items: Listed<GroundAtom>,
 }
