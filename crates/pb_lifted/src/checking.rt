@@ -91,6 +91,26 @@ fn find_refusal(
     too_many_objects(domain, problem)
 }
 
+/// The lifted task, or the first refusal, from the tables. Memory may run out.
+fn resolve_by(
+    alloc: Global,
+    tables: &NameTables,
+    domain: &Domain,
+    problem: &Problem,
+) -> Result<Lifted, LiftedError>
+    requires tables { AreTables tables.now domain.now problem.now }
+    ensures task { OnOk result (first_refusal domain.now problem.now ≡ None) }
+    ensures lifted { IfOk result (λ lifted. lifted ≡ lifted_of domain.now problem.now) }
+    ensures refused { IfErr result (Tells (first_refusal domain.now problem.now)) }
+{
+    let none = Names::new(alloc);
+    if let Some(refusal) = find_refusal(tables, domain, problem, &none) {
+        return Err(LiftedError::Refused(refusal));
+    }
+    let lifted = lifted_of(alloc, tables, domain, problem)?;
+    Ok(lifted)
+}
+
 /// The lifted task of a domain and a problem: the names are resolved to numbers. At `Refused` the
 /// two are no task, for the first cause in the stated order (that of `Cause`, then too many
 /// objects). The place is the cause's first: in the domain before the problem, and in one file the
@@ -104,10 +124,5 @@ pub fn resolve(alloc: Global, domain: &Domain, problem: &Problem) -> Result<Lift
     ensures refused { IfErr result (Tells (first_refusal domain.now problem.now)) }
 {
     let tables = tables_of(alloc, domain, problem)?;
-    let none = Names::new(alloc);
-    if let Some(refusal) = find_refusal(&tables, domain, problem, &none) {
-        return Err(LiftedError::Refused(refusal));
-    }
-    let lifted = lifted_of(alloc, &tables, domain, problem)?;
-    Ok(lifted)
+    resolve_by(alloc, &tables, domain, problem)
 }

@@ -12,14 +12,14 @@ pub enum Argument {
 }
 
 /// A predicate, by its number, with its arguments.
-#[derive(Debug, Drop)]
+#[derive(Drop)]
 pub struct LiftedAtom {
     pub predicate: usize,
     pub arguments: Listed<Argument>,
 }
 
 /// An action schema.
-#[derive(Debug, Drop)]
+#[derive(Drop)]
 pub struct Schema {
     /// For each parameter the number of its type.
     pub params: Listed<usize>,
@@ -35,7 +35,7 @@ pub struct Schema {
 
 /// A lifted task. Predicates and actions have the numbers that they have in the domain. Objects are
 /// the constants and then the objects of the problem. Type 0 is `object`.
-#[derive(Debug, Drop)]
+#[derive(Drop)]
 pub struct Lifted {
     /// The number of the type above each type. Above a type after the end there is `object`.
     pub types: Listed<usize>,

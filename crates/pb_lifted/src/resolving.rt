@@ -1,7 +1,9 @@
 ghost use Rattle.std.specs.Prelude.{◌≡◌, [], ◌++◌, map, OnOk, IfOk};
 ghost use Rattle.pb_lifted.specs.Types.{name_text};
 ghost use Rattle.pb_lifted.specs.Lifted.{kind_numbers, argument_of, arguments_of, atom_of, atoms_of, atom_if, effect_of, schema_of, schemas_of, predicate_kinds, lifted_of};
+ghost use Rattle.pb_lifted.specs.Objects.{objects_of};
 ghost use Rattle.pb_lifted.specs.Tables.{AreTables, names_of_params};
+ghost use Rattle.pb_lifted.specs.Tree.{parent_numbers};
 
 use crate::costs::cost_of;
 use crate::declared::kind_text;
@@ -175,6 +177,44 @@ fn predicate_kinds(
     Ok(list)
 }
 
+/// The numbers of the types above `object` and above each declared type.
+fn parents_of(alloc: Global, types: &Names, list: &[Typed]) -> Result<Listed<usize>, AllocError>
+    ensures { IfOk result (λ kinds. kinds ≡ parent_numbers types.now list.now) }
+{
+    let mut kinds = Listed::new(alloc);
+    kinds.push(0)?;
+    add_kinds(&mut kinds, types, list)?;
+    Ok(kinds)
+}
+
+/// The numbers of the types of the constants, and then of the objects of the problem.
+fn kinds_of_objects(
+    alloc: Global,
+    types: &Names,
+    domain: &Domain,
+    problem: &Problem,
+) -> Result<Listed<usize>, AllocError>
+    ensures { IfOk result (λ kinds. kinds ≡ kind_numbers types.now
+        (objects_of domain.now problem.now)) }
+{
+    let mut kinds = kinds_of(alloc, types, domain.constants.as_slice())?;
+    add_kinds(&mut kinds, types, problem.objects.as_slice())?;
+    Ok(kinds)
+}
+
+/// Atoms without variables by numbers.
+fn ground_atoms(
+    alloc: Global,
+    tables: &NameTables,
+    atoms: &[Atom],
+) -> Result<Listed<LiftedAtom>, AllocError>
+    ensures { IfOk result (λ list. list ≡ atoms_of tables.now.predicates tables.now.objects []
+        atoms.now) }
+{
+    let none = Names::new(alloc);
+    atoms_of(alloc, &tables.predicates, &tables.objects, &none, atoms)
+}
+
 /// A domain and a problem by numbers. The call fails if memory runs out.
 pub(crate) fn lifted_of(
     alloc: Global,
@@ -186,20 +226,12 @@ pub(crate) fn lifted_of(
     ensures { IfOk result (λ lifted. lifted ≡ lifted_of domain.now problem.now) }
 {
     let names = &tables.types.names;
-    let predicates = &tables.predicates;
-    let objects = &tables.objects;
-    let none = Names::new(alloc);
-    let mut types = Listed::new(alloc);
-    types.push(0)?;
-    add_kinds(&mut types, names, domain.types.as_slice())?;
-    let mut kinds = kinds_of(alloc, names, domain.constants.as_slice())?;
-    add_kinds(&mut kinds, names, problem.objects.as_slice())?;
     Ok(Lifted {
-        types,
-        objects: kinds,
+        types: parents_of(alloc, names, domain.types.as_slice())?,
+        objects: kinds_of_objects(alloc, names, domain, problem)?,
         predicates: predicate_kinds(alloc, names, domain.predicates.as_slice())?,
         actions: schemas_of(alloc, tables, problem, domain.actions.as_slice())?,
-        init: atoms_of(alloc, predicates, objects, &none, problem.init.as_slice())?,
-        goal: atoms_of(alloc, predicates, objects, &none, problem.goal.as_slice())?,
+        init: ground_atoms(alloc, tables, problem.init.as_slice())?,
+        goal: ground_atoms(alloc, tables, problem.goal.as_slice())?,
     })
 }

@@ -1,12 +1,13 @@
-ghost use Rattle.std.specs.Prelude.{◌≡◌, [], map, IfOk};
-ghost use Rattle.pb_lifted.specs.Names.{earliest};
+ghost use Rattle.std.specs.Prelude.{◌≡◌, [], map, None, IfOk};
+ghost use Rattle.pb_lifted.specs.Names.{earliest, repeated};
+ghost use Rattle.pb_lifted.specs.Types.{declared_types};
 ghost use Rattle.pb_lifted.specs.Tables.{AreTables, names_of_params};
-ghost use Rattle.pb_lifted.specs.Refusals.{repeated_params};
+ghost use Rattle.pb_lifted.specs.Refusals.{repeated_params, typed_name};
 
 use crate::declared::{enter_all, enter_types, names_of};
 use crate::names::Names;
 use crate::tree::{Tree, first_cycle, tree_of};
-use pb_pddl::{Action, Domain, Problem};
+use pb_pddl::{Action, Domain, Problem, Typed};
 use std::alloc::{AllocError, Global};
 
 /// The names of a domain and a problem, to look them up. For each file also the first place of a
@@ -45,6 +46,15 @@ fn params_of(
     Ok((all, found))
 }
 
+/// The first place of a type that is declared twice. The call fails if memory runs out.
+fn twice_in_types(alloc: Global, types: &[Typed]) -> Result<Option<u64>, AllocError>
+    ensures { IfOk result (λ found. found ≡ earliest None
+        (repeated [] (map typed_name (declared_types types.now)))) }
+{
+    let mut declared = Names::new(alloc);
+    enter_types(&mut declared, types, None)
+}
+
 /// The names of a domain and a problem. The call fails if memory runs out.
 #[tactic(auto, using(crate::proofs::Earliest::earliest_append))]
 pub(crate) fn tables_of(
@@ -56,8 +66,7 @@ pub(crate) fn tables_of(
 {
     let types = tree_of(alloc, domain.types.as_slice())?;
     let cycle = first_cycle(alloc, &types, domain.types.as_slice())?;
-    let mut declared = Names::new(alloc);
-    let found = enter_types(&mut declared, domain.types.as_slice(), None)?;
+    let found = twice_in_types(alloc, domain.types.as_slice())?;
     let (constants, found) = names_of(alloc, domain.constants.as_slice(), found)?;
     let mut objects = constants;
     let twice_in_problem = enter_all(&mut objects, problem.objects.as_slice(), None)?;

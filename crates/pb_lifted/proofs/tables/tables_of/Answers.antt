@@ -9,15 +9,15 @@ use Rattle.pb_lifted.specs.Refusals.{typed_name, predicate_name, action_name, re
 use Rattle.pb_lifted.proofs.Earliest.{joined}
 use Rattle.pb_lifted.proofs.tables.tables_of.Goals as goal
 
-constants : (c : goal.After-drop-declared-inside-3) → c.in_ok-constants.constants ≡ map name_text c.args.domain.now.constants
+constants : (c : goal.After-drop-actions-inside-3) → c.in_ok-constants.constants ≡ map name_text c.args.domain.now.constants
 constants c = c.in_ok-constants.ensures.names ∙ ap (map name_text) c.as_slice-4.ensures
 
-objects : (c : goal.After-drop-declared-inside-3) → c.enter_all.new.names ≡ map name_text (c.args.domain.now.constants ++ c.args.problem.now.objects)
+objects : (c : goal.After-drop-actions-inside-3) → c.enter_all.new.names ≡ map name_text (c.args.domain.now.constants ++ c.args.problem.now.objects)
 objects c =
     c.in_ok-twice_in_problem.ensures.added ∙ (ap (λ names. names ++ map name_text c.as_slice-5.result.now) (constants c)
     ∙ (ap (λ ts. map name_text c.args.domain.now.constants ++ map name_text ts) c.as_slice-5.ensures ∙ sym (map-append name_text c.args.domain.now.constants c.args.problem.now.objects)))
 
-in_domain : (c : goal.After-drop-declared-inside-3) → c.in_ok-params.twice_in_domain ≡ earliest None (repeated [] (map typed_name (declared_types c.args.domain.now.types))
+in_domain : (c : goal.After-drop-actions-inside-3) → c.in_ok-params.twice_in_domain ≡ earliest None (repeated [] (map typed_name (declared_types c.args.domain.now.types))
     ++ repeated [] (map typed_name c.args.domain.now.constants) ++ repeated [] (map predicate_name c.args.domain.now.predicates) ++ repeated [] (map action_name c.args.domain.now.actions)
     ++ repeated_params c.args.domain.now.actions)
 in_domain c =
@@ -27,8 +27,7 @@ in_domain c =
     let predicates = repeated [] (map predicate_name domain.predicates) in
     let actions = repeated [] (map action_name domain.actions) in
     let params = repeated_params domain.actions in
-    let one = c.in_ok-found.ensures ∙ (ap (λ names. earliest None (repeated names (map typed_name (declared_types c.as_slice-3.result.now)))) c.new-declared.ensures
-    ∙ ap (λ ts. earliest None (repeated [] (map typed_name (declared_types ts)))) c.as_slice-3.ensures) in
+    let one = c.in_ok-found.ensures ∙ ap (λ ts. earliest None (repeated [] (map typed_name (declared_types ts)))) c.as_slice-3.ensures in
     let two = joined types constants c.in_ok-found.found c.in_ok-constants.found one
     (c.in_ok-constants.ensures.twice ∙ ap (λ ts. earliest c.in_ok-found.found (repeated [] (map typed_name ts))) c.as_slice-4.ensures) in
     let three = joined (types ++ constants) predicates c.in_ok-constants.found c.in_ok-predicates.found two
