@@ -77,6 +77,13 @@ abbrev pub with_rules : App → List Rule → App
 with_rules a [] = a
 with_rules a (r ∷ rs) = with_rules (with_rule a r) rs
 
+-- the options of `solve` that have a number
+abbrev pub number_rules : List Rule
+number_rules =
+    option_rule row_option ∷ option_rule workers_option ∷ option_rule num_option
+    ∷ option_rule den_option ∷ option_rule budget_option ∷ option_rule lot_option
+    ∷ option_rule blocks_option ∷ []
+
 -- `solve KIND FILE [FILE] [--row K] [--workers W] [--num N] [--den D] [--budget B] [--lot L]
 -- [--blocks C] [--cert NAME] [--trace NAME] [--plain] [--swamp]`
 unfoldable pub the_solve : App

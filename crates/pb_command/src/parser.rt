@@ -1,9 +1,10 @@
 //! The command as it is declared to clap.
 ghost use Rattle.std.specs.Prelude.{◌≡◌, false, IfOk};
-ghost use Rattle.clap.specs.Words.{app_of, rule_of, new_rule, with_rule, with_subcommand, shape_of};
+ghost use Rattle.clap.specs.Words.{App, app_of, rule_of, new_rule, with_rule, with_subcommand};
 ghost use Rattle.clap.specs.declared.builder.command.Command.TheViews.{out-Command as fields_of};
 ghost use Rattle.pb_command.specs.Parser.{the_program, the_solve, the_check, the_journal, the_make};
-ghost use Rattle.pb_command.specs.Parser.{bare_program, number_rule, text_rule, flag_rule};
+ghost use Rattle.pb_command.specs.Parser.{with_rules, number_rules, bare_program};
+ghost use Rattle.pb_command.specs.Parser.{number_rule, text_rule, flag_rule};
 ghost use Rattle.pb_command.specs.Parser.{required_rule, required_number_rule};
 
 use crate::values::{
@@ -66,15 +67,44 @@ fn optional_word<'a>(alloc: Global, name: &'a str) -> Arg<'a>
     Arg::new(alloc, name)
 }
 
-// Adds an argument, which is no global one.
-fn add<'a>(command: Command<'a>, arg: Arg<'a>) -> Result<Command<'a>, AllocError>
+// Adds an argument, which is no global one, to a command, if there is one. Callers hand each result
+// on, and look at the last alone: after a `?` for each, a proof would drop all that came before.
+fn add<'a>(
+    command: Result<Command<'a>, AllocError>,
+    arg: Arg<'a>,
+) -> Result<Command<'a>, AllocError>
     requires arg { arg.global ≡ false }
-    requires command { (fields_of command).has_globals ≡ false }
-    ensures app { IfOk result (λ c. app_of c
-        ≡ with_rule (app_of command.entry) (rule_of arg.entry)) }
+    requires command { IfOk command (λ c. (fields_of c).has_globals ≡ false) }
+    ensures app { (a : App) → IfOk command.entry (λ c. app_of c ≡ a)
+        → IfOk result (λ c. app_of c ≡ with_rule a (rule_of arg.entry)) }
     ensures local { IfOk result (λ c. (fields_of c).has_globals ≡ false) }
 {
-    command.arg(arg)
+    match command {
+        Ok(command) => command.arg(arg),
+        Err(error) => Err(error),
+    }
+}
+
+// Adds the options of `solve` that have a number.
+fn add_numbers<'a>(
+    alloc: Global,
+    command: Result<Command<'a>, AllocError>,
+) -> Result<Command<'a>, AllocError>
+    requires command { IfOk command (λ c. (fields_of c).has_globals ≡ false) }
+    ensures app { (a : App) → IfOk command.entry (λ c. app_of c ≡ a)
+        → IfOk result (λ c. app_of c ≡ with_rules a number_rules) }
+    ensures local { IfOk result (λ c. (fields_of c).has_globals ≡ false) }
+{
+    let with_row = add(command, number_option(alloc, "row", 0, ROW_MOST));
+    let with_workers = add(with_row, number_option(alloc, "workers", 1, WORKERS_MOST));
+    let with_num = add(with_workers, number_option(alloc, "num", 1, WEIGHT_MOST));
+    let with_den = add(with_num, number_option(alloc, "den", 1, WEIGHT_MOST));
+    let with_budget = add(with_den, number_option(alloc, "budget", 1, BUDGET_MOST));
+    let with_lot = add(with_budget, number_option(alloc, "lot", 1, LOT_MOST));
+    add(
+        with_lot,
+        number_option(alloc, "blocks", BLOCKS_LEAST, BLOCKS_MOST),
+    )
 }
 
 // `solve KIND FILE [FILE]` and its options.
@@ -82,22 +112,16 @@ pub(crate) fn solve<'a>(alloc: Global) -> Result<Command<'a>, AllocError>
     ensures app { IfOk result (λ c. app_of c ≡ the_solve) }
     ensures local { IfOk result (λ c. (fields_of c).has_globals ≡ false) }
 {
-    let with_kind = add(Command::new(alloc, "solve"), required_word(alloc, "KIND"))?;
-    let with_first = add(with_kind, required_word(alloc, "FIRST_FILE"))?;
-    let with_second = add(with_first, optional_word(alloc, "SECOND_FILE"))?;
-    let with_row = add(with_second, number_option(alloc, "row", 0, ROW_MOST))?;
-    let with_workers = add(with_row, number_option(alloc, "workers", 1, WORKERS_MOST))?;
-    let with_num = add(with_workers, number_option(alloc, "num", 1, WEIGHT_MOST))?;
-    let with_den = add(with_num, number_option(alloc, "den", 1, WEIGHT_MOST))?;
-    let with_budget = add(with_den, number_option(alloc, "budget", 1, BUDGET_MOST))?;
-    let with_lot = add(with_budget, number_option(alloc, "lot", 1, LOT_MOST))?;
-    let with_blocks = add(
-        with_lot,
-        number_option(alloc, "blocks", BLOCKS_LEAST, BLOCKS_MOST),
-    )?;
-    let with_certificate = add(with_blocks, text_option(alloc, "cert"))?;
-    let with_journal = add(with_certificate, text_option(alloc, "trace"))?;
-    let with_plain = add(with_journal, flag(alloc, "plain"))?;
+    let with_kind = add(
+        Ok(Command::new(alloc, "solve")),
+        required_word(alloc, "KIND"),
+    );
+    let with_first = add(with_kind, required_word(alloc, "FIRST_FILE"));
+    let with_second = add(with_first, optional_word(alloc, "SECOND_FILE"));
+    let with_numbers = add_numbers(alloc, with_second);
+    let with_certificate = add(with_numbers, text_option(alloc, "cert"));
+    let with_journal = add(with_certificate, text_option(alloc, "trace"));
+    let with_plain = add(with_journal, flag(alloc, "plain"));
     add(with_plain, flag(alloc, "swamp"))
 }
 
@@ -106,11 +130,14 @@ pub(crate) fn check<'a>(alloc: Global) -> Result<Command<'a>, AllocError>
     ensures app { IfOk result (λ c. app_of c ≡ the_check) }
     ensures local { IfOk result (λ c. (fields_of c).has_globals ≡ false) }
 {
-    let with_kind = add(Command::new(alloc, "check"), required_word(alloc, "KIND"))?;
-    let with_certificate = add(with_kind, required_word(alloc, "CERTIFICATE"))?;
-    let with_first = add(with_certificate, required_word(alloc, "FIRST_FILE"))?;
-    let with_second = add(with_first, optional_word(alloc, "SECOND_FILE"))?;
-    let with_row = add(with_second, number_option(alloc, "row", 0, ROW_MOST))?;
+    let with_kind = add(
+        Ok(Command::new(alloc, "check")),
+        required_word(alloc, "KIND"),
+    );
+    let with_certificate = add(with_kind, required_word(alloc, "CERTIFICATE"));
+    let with_first = add(with_certificate, required_word(alloc, "FIRST_FILE"));
+    let with_second = add(with_first, optional_word(alloc, "SECOND_FILE"));
+    let with_row = add(with_second, number_option(alloc, "row", 0, ROW_MOST));
     add(with_row, flag(alloc, "swamp"))
 }
 
@@ -119,10 +146,13 @@ pub(crate) fn journal<'a>(alloc: Global) -> Result<Command<'a>, AllocError>
     ensures app { IfOk result (λ c. app_of c ≡ the_journal) }
     ensures local { IfOk result (λ c. (fields_of c).has_globals ≡ false) }
 {
-    let with_kind = add(Command::new(alloc, "journal"), required_word(alloc, "KIND"))?;
-    let with_journal = add(with_kind, required_word(alloc, "JOURNAL"))?;
-    let with_first = add(with_journal, required_word(alloc, "FIRST_FILE"))?;
-    let with_second = add(with_first, optional_word(alloc, "SECOND_FILE"))?;
+    let with_kind = add(
+        Ok(Command::new(alloc, "journal")),
+        required_word(alloc, "KIND"),
+    );
+    let with_journal = add(with_kind, required_word(alloc, "JOURNAL"));
+    let with_first = add(with_journal, required_word(alloc, "FIRST_FILE"));
+    let with_second = add(with_first, optional_word(alloc, "SECOND_FILE"));
     add(with_second, number_option(alloc, "row", 0, ROW_MOST))
 }
 
@@ -131,9 +161,12 @@ pub(crate) fn make<'a>(alloc: Global) -> Result<Command<'a>, AllocError>
     ensures app { IfOk result (λ c. app_of c ≡ the_make) }
     ensures local { IfOk result (λ c. (fields_of c).has_globals ≡ false) }
 {
-    let with_kind = add(Command::new(alloc, "make"), required_word(alloc, "KIND"))?;
-    let with_seed = add(with_kind, required_number(alloc, "SEED", 0, SEED_MOST))?;
-    let with_size = add(with_seed, required_number(alloc, "SIZE", 0, SIZE_WORD_MOST))?;
+    let with_kind = add(
+        Ok(Command::new(alloc, "make")),
+        required_word(alloc, "KIND"),
+    );
+    let with_seed = add(with_kind, required_number(alloc, "SEED", 0, SEED_MOST));
+    let with_size = add(with_seed, required_number(alloc, "SIZE", 0, SIZE_WORD_MOST));
     add(with_size, number_option(alloc, "workers", 1, WORKERS_MOST))
 }
 
@@ -149,15 +182,36 @@ fn without_commands<'a>(alloc: Global) -> Command<'a>
         .subcommand_required(true)
 }
 
-// Adds a subcommand with no global argument.
-fn add_command<'a>(program: Command<'a>, command: Command<'a>) -> Result<Command<'a>, AllocError>
+// Adds a subcommand with no global argument to the program, if there is one.
+fn add_to<'a>(
+    program: Command<'a>,
+    command: Result<Command<'a>, AllocError>,
+) -> Result<Command<'a>, AllocError>
     requires program { (fields_of program).has_globals ≡ false }
-    requires command { (fields_of command).has_globals ≡ false }
-    ensures app { IfOk result (λ c. app_of c
-        ≡ with_subcommand (app_of program.entry) (shape_of command.entry)) }
+    requires command { IfOk command (λ c. (fields_of c).has_globals ≡ false) }
+    ensures app { (b : App) → IfOk command.entry (λ c. app_of c ≡ b)
+        → IfOk result (λ c. app_of c ≡ with_subcommand (app_of program.entry) b.top) }
     ensures local { IfOk result (λ c. (fields_of c).has_globals ≡ false) }
 {
-    program.subcommand(command)
+    program.subcommand(command?)
+}
+
+// The same, if there is a program.
+fn add_command<'a>(
+    program: Result<Command<'a>, AllocError>,
+    command: Result<Command<'a>, AllocError>,
+) -> Result<Command<'a>, AllocError>
+    requires program { IfOk program (λ c. (fields_of c).has_globals ≡ false) }
+    requires command { IfOk command (λ c. (fields_of c).has_globals ≡ false) }
+    ensures app { (a : App) (b : App) → IfOk program.entry (λ c. app_of c ≡ a)
+        → IfOk command.entry (λ c. app_of c ≡ b)
+        → IfOk result (λ c. app_of c ≡ with_subcommand a b.top) }
+    ensures local { IfOk result (λ c. (fields_of c).has_globals ≡ false) }
+{
+    match program {
+        Ok(program) => add_to(program, command),
+        Err(error) => Err(error),
+    }
 }
 
 // The whole command.
@@ -165,8 +219,8 @@ pub(crate) fn program<'a>(alloc: Global) -> Result<Command<'a>, AllocError>
     ensures app { IfOk result (λ c. app_of c ≡ the_program) }
     ensures local { IfOk result (λ c. (fields_of c).has_globals ≡ false) }
 {
-    let with_solve = add_command(without_commands(alloc), solve(alloc)?)?;
-    let with_check = add_command(with_solve, check(alloc)?)?;
-    let with_journal = add_command(with_check, journal(alloc)?)?;
-    add_command(with_journal, make(alloc)?)
+    let with_solve = add_command(Ok(without_commands(alloc)), solve(alloc));
+    let with_check = add_command(with_solve, check(alloc));
+    let with_journal = add_command(with_check, journal(alloc));
+    add_command(with_journal, make(alloc))
 }

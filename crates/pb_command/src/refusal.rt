@@ -6,8 +6,8 @@ ghost use Rattle.pb_command.specs.Causes.{text_most};
 ghost use Rattle.pb_command.specs.declared.refusal.CommandRefusal.TheVariants.{Memory};
 
 use crate::parser::{check, journal, make, solve};
-use clap::Error;
 use clap::error::ErrorKind;
+use clap::{Command, Error};
 use std::alloc::{AllocError, Global};
 use std::marker::Model;
 
@@ -161,17 +161,21 @@ pub(crate) fn form_refusal(alloc: Global, error: &Error) -> CommandRefusal
     }
 }
 
+// The subcommand of this name.
+fn command_named<'a>(alloc: Global, name: &str) -> Result<Command<'a>, AllocError> {
+    match name {
+        "solve" => solve(alloc),
+        "check" => check(alloc),
+        "journal" => journal(alloc),
+        _ => make(alloc),
+    }
+}
+
 // The message of clap for a mistake in the words of a subcommand.
 fn clap_message(alloc: Global, name: &str, mistake: &str) -> Result<Message, AllocError>
     ensures { IfOk result IsErrorText }
 {
-    let command = match name {
-        "solve" => solve(alloc)?,
-        "check" => check(alloc)?,
-        "journal" => journal(alloc)?,
-        _ => make(alloc)?,
-    };
-    let mut command = command.disable_help_flag(true);
+    let mut command = command_named(alloc, name)?.disable_help_flag(true);
     let error = command.error(ErrorKind::InvalidValue, mistake)?;
     error_message(alloc, &error)
 }

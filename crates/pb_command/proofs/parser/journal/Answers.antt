@@ -1,4 +1,4 @@
-use Rattle.std.proofs.Common.{◌≡◌, ◌∙◌, ap₂, rules, codes}
+use Rattle.std.proofs.Common.{◌≡◌, ◌∙◌, ap, ap₂, rules, codes}
 use Rattle.std.proofs.lemmas.Result.{IfOk-weaker}
 use Rattle.clap.specs.Words.{app_of, new_app, with_rule}
 use Rattle.pb_command.specs.Parser.{the_journal}
@@ -8,8 +8,14 @@ pub returns-clause-app : goal.returns-clause-app
 unfolding the_journal
 returns-clause-app c =
     let new : app_of c.new.result ≡ new_app (codes "journal") = search rules in
-    let kind = c.in_ok-with_kind.ensures.app ∙ ap₂ with_rule new c.required_word.ensures.rule in
-    let journal = c.in_ok-with_journal.ensures.app ∙ ap₂ with_rule kind c.required_word-2.ensures.rule in
-    let first = c.in_ok-with_first.ensures.app ∙ ap₂ with_rule journal c.required_word-3.ensures.rule in
-    let second = c.in_ok-with_second.ensures.app ∙ ap₂ with_rule first c.optional_word.ensures.rule in
-    IfOk-weaker c.add-5.result _ _ (λ m h. h ∙ ap₂ with_rule second c.number_option.ensures.rule) c.add-5.ensures.app
+    let kind = ap (with_rule (new_app (codes "journal"))) c.required_word.ensures.rule in
+    let journal = ap₂ with_rule kind c.required_word-2.ensures.rule in
+    let first = ap₂ with_rule journal c.required_word-3.ensures.rule in
+    let second = ap₂ with_rule first c.optional_word.ensures.rule in
+    let row = ap₂ with_rule second c.number_option.ensures.rule in
+    let made-1 = c.add-with_kind.ensures.app _ new in
+    let made-2 = c.add-with_journal.ensures.app _ made-1 in
+    let made-3 = c.add-with_first.ensures.app _ made-2 in
+    let made-4 = c.add-with_second.ensures.app _ made-3 in
+    let made-5 = c.add.ensures.app _ made-4 in
+    IfOk-weaker c.add.result _ _ (λ m h. h ∙ row) made-5
