@@ -4,7 +4,7 @@ ghost use Rattle.pb_ground.specs.declared.error.GroundError.TheVariants.{Memory}
 use std::alloc::{AllocError, AllocFailed};
 
 /// Why a lifted task was not grounded.
-#[derive(Clone, Copy, Debug, PartialEq, Eq)]
+#[derive(Clone, Copy, Debug)]
 pub enum GroundError {
     /// There are more than 256 ground atoms: n, or 4,294,967,295 if there are more than that.
     TooManyAtoms { n: u64 },

@@ -3,7 +3,7 @@
 use pb_pddl::Listed;
 
 /// An argument of an atom.
-#[derive(Clone, Copy, Debug, PartialEq, Eq)]
+#[derive(Clone, Copy)]
 pub enum Argument {
     /// The object of this number.
     Object(usize),

@@ -4,7 +4,7 @@ ghost use Rattle.pb_lifted.specs.declared.refusal.LiftedError.TheVariants.{Memor
 use std::alloc::{AllocError, AllocFailed};
 
 /// The text that a place is in.
-#[derive(Clone, Copy, Debug, PartialEq, Eq)]
+#[derive(Clone, Copy)]
 pub enum File {
     /// The domain, the first file.
     Domain,
@@ -13,7 +13,7 @@ pub enum File {
 }
 
 /// The place of a name, a word or a number: its file, and its first byte there, counted from 0.
-#[derive(Clone, Copy, Debug, PartialEq, Eq)]
+#[derive(Clone, Copy)]
 pub struct Place {
     pub file: File,
     pub at: u64,
@@ -21,7 +21,7 @@ pub struct Place {
 
 /// Why a name, or a statement of costs, makes the two trees no task. The causes are in the order in
 /// which they are reported.
-#[derive(Clone, Copy, Debug, PartialEq, Eq)]
+#[derive(Clone, Copy)]
 pub enum Cause {
     /// The problem is of a domain of another name.
     DomainName,
@@ -54,7 +54,7 @@ pub enum Cause {
 }
 
 /// Why two trees are no task.
-#[derive(Clone, Copy, Debug, PartialEq, Eq)]
+#[derive(Clone, Copy)]
 pub enum TypingRefusal {
     /// This name, word or number.
     Named { cause: Cause, place: Place },
@@ -63,7 +63,7 @@ pub enum TypingRefusal {
 }
 
 /// Why no task was made.
-#[derive(Clone, Copy, Debug, PartialEq, Eq)]
+#[derive(Clone, Copy)]
 pub enum LiftedError {
     /// The trees are no task.
     Refused(TypingRefusal),

@@ -1,6 +1,6 @@
-ghost use Rattle.std.specs.Prelude.{◌≡◌, IfOk, option_copied, unwrap_or};
+ghost use Rattle.std.specs.Prelude.{◌≡◌, ◌++◌, ◌∷◌, [], OnOk, IfOk, option_copied, unwrap_or};
 ghost use Rattle.pb_lifted.specs.Names.{earliest, number_of, is_among};
-ghost use Rattle.pb_lifted.specs.Types.{is_object, kind_text, name_text, cyclic_types, is_below, unknown_kind, unknown_kinds};
+ghost use Rattle.pb_lifted.specs.Types.{object, type_names, is_object, kind_text, name_text, cyclic_types, is_below, unknown_kind, unknown_kinds};
 ghost use Rattle.pb_lifted.specs.Tree.{IsTree, parent_numbers, does_not_lead};
 
 use crate::climb::{at, climbs, far_up};
@@ -36,15 +36,31 @@ fn parents_of(alloc: Global, names: &Names, types: &[Typed]) -> Result<Vec<usize
     Ok(parents)
 }
 
+/// Adds the name `object`.
+fn enter_object(alloc: Global, names: &mut Names) -> Result<(), AllocError>
+    ensures { OnOk result (names.new ≡ names.old ++ object ∷ []) }
+{
+    let object = Text::new(alloc, b"object")?;
+    let _fresh = names.enter(&object)?;
+    Ok(())
+}
+
+/// Enters the names of the types, `object` first.
+fn enter_types(alloc: Global, names: &mut Names, types: &[Typed]) -> Result<(), AllocError>
+    requires { names.old ≡ [] }
+    ensures { OnOk result (names.new ≡ type_names types.now) }
+{
+    enter_object(alloc, names)?;
+    let _twice = enter_all(names, types, None)?;
+    enter_kinds(names, types)
+}
+
 /// The tree of the types. The call fails if memory runs out.
 pub(crate) fn tree_of(alloc: Global, types: &[Typed]) -> Result<Tree, AllocError>
     ensures { IfOk result (λ tree. IsTree tree types.now) }
 {
     let mut names = Names::new(alloc);
-    let object = Text::new(alloc, b"object")?;
-    let _fresh = names.enter(&object)?;
-    let _twice = enter_all(&mut names, types, None)?;
-    enter_kinds(&mut names, types)?;
+    enter_types(alloc, &mut names, types)?;
     let parents = parents_of(alloc, &names, types)?;
     Ok(Tree { names, parents })
 }

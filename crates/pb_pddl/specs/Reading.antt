@@ -237,10 +237,7 @@ unfoldable pub add_literal : Bool → EffectParts → List Token → Read Effect
 add_literal negated out ts = do
   atom ← atom_at true ts
   Ok (
-    record {
-      literals = out.literals ++ record { atom = atom.0; negated = negated } ∷ [];
-      costs = out.costs;
-    },
+    record out { literals = out.literals ++ record { atom = atom.0; negated = negated } ∷ [] },
     atom.1,
   )
 
@@ -248,7 +245,7 @@ add_literal negated out ts = do
 unfoldable pub add_increase : EffectParts → List Token → Read EffectParts
 add_increase out ts = do
   cost ← cost_at ts
-  Ok (record { literals = out.literals; costs = out.costs ++ cost.0 ∷ [] }, cost.1)
+  Ok (record out { costs = out.costs ++ cost.0 ∷ [] }, cost.1)
 
 -- after ( not
 unfoldable pub negative_at : EffectParts → List Token → Read EffectParts
@@ -309,11 +306,7 @@ close_group g ts = do
 unfoldable pub group_step : TokenKind → Group → List Token → Read Group
 group_step kind g ts =
     if begins kind ts
-    then Ok (
-      record { done = g.done; waiting = g.waiting ++ name_of (front ts) ∷ [] },
-      drop 1
-          ts,
-    )
+    then Ok (record g { waiting = g.waiting ++ name_of (front ts) ∷ [] }, drop 1 ts)
     else if length g.waiting == 0 then Err (fault_at wants.Group ts)
     else close_group g ts
 
@@ -354,13 +347,13 @@ keys_at ts = do
 unfoldable pub add_held : InitParts → List Token → Read InitParts
 add_held out ts = do
   atom ← atom_at false ts
-  Ok (record { atoms = out.atoms ++ atom.0 ∷ []; costs = out.costs }, atom.1)
+  Ok (record out { atoms = out.atoms ++ atom.0 ∷ [] }, atom.1)
 
 -- a cost, at its =
 unfoldable pub add_equal : InitParts → List Token → Read InitParts
 add_equal out ts = do
   cost ← cost_at ts
-  Ok (record { atoms = out.atoms; costs = out.costs ++ cost.0 ∷ [] }, cost.1)
+  Ok (record out { costs = out.costs ++ cost.0 ∷ [] }, cost.1)
 
 unfoldable pub add_fact : InitParts → List Token → Read InitParts
 add_fact out ts = do
@@ -396,20 +389,17 @@ unfoldable pub params_part : ActionParts → List Token → Read ActionParts
 params_part a ts = if is_some a.params then Err (once ts) else (do
   inside ← need kinds.Open wants.Paren (drop 1 ts)
   list ← list_at kinds.Variable wants.Variable inside
-  Ok (record { params = Some list.0; pre = a.pre; effect = a.effect; costs = a.costs }, list.1))
+  Ok (record a { params = Some list.0 }, list.1))
 
 unfoldable pub pre_part : (List Token → ℕ) → ActionParts → List Token → Read ActionParts
 pre_part room a ts = if is_some a.pre then Err (once ts) else (do
   all ← cond_at true (room (drop 1 ts)) [] (drop 1 ts)
-  Ok (record { params = a.params; pre = Some all.0; effect = a.effect; costs = a.costs }, all.1))
+  Ok (record a { pre = Some all.0 }, all.1))
 
 unfoldable pub effect_part : (List Token → ℕ) → ActionParts → List Token → Read ActionParts
 effect_part room a ts = if is_some a.effect then Err (once ts) else (do
   all ← effect_at (room (drop 1 ts)) no_effects (drop 1 ts)
-  Ok (
-    record { params = a.params; pre = a.pre; effect = Some all.0.literals; costs = all.0.costs },
-    all.1,
-  ))
+  Ok (record a { effect = Some all.0.literals; costs = all.0.costs }, all.1))
 
 -- a part of an action, at its keyword
 unfoldable pub part_at : (List Token → ℕ) → ActionParts → List Token → Read ActionParts
@@ -453,66 +443,22 @@ add_action room out ts = do
 unfoldable pub requirements_section : DomainParts → List Token → Read DomainParts
 requirements_section d ts = if d.requirements then Err (once ts) else (do
   rest ← keys_at (drop 1 ts)
-  Ok (
-    record {
-      requirements = true;
-      types = d.types;
-      constants = d.constants;
-      predicates = d.predicates;
-      functions = d.functions;
-      has_cost = d.has_cost;
-      actions = d.actions;
-    },
-    rest,
-  ))
+  Ok (record d { requirements = true }, rest))
 
 unfoldable pub types_section : DomainParts → List Token → Read DomainParts
 types_section d ts = if is_some d.types then Err (once ts) else (do
   list ← list_at kinds.Word wants.Name (drop 1 ts)
-  Ok (
-    record {
-      requirements = d.requirements;
-      types = Some list.0;
-      constants = d.constants;
-      predicates = d.predicates;
-      functions = d.functions;
-      has_cost = d.has_cost;
-      actions = d.actions;
-    },
-    list.1,
-  ))
+  Ok (record d { types = Some list.0 }, list.1))
 
 unfoldable pub constants_section : DomainParts → List Token → Read DomainParts
 constants_section d ts = if is_some d.constants then Err (once ts) else (do
   list ← list_at kinds.Word wants.Name (drop 1 ts)
-  Ok (
-    record {
-      requirements = d.requirements;
-      types = d.types;
-      constants = Some list.0;
-      predicates = d.predicates;
-      functions = d.functions;
-      has_cost = d.has_cost;
-      actions = d.actions;
-    },
-    list.1,
-  ))
+  Ok (record d { constants = Some list.0 }, list.1))
 
 unfoldable pub predicates_section : DomainParts → List Token → Read DomainParts
 predicates_section d ts = if is_some d.predicates then Err (once ts) else (do
   list ← predicates_at (drop 1 ts)
-  Ok (
-    record {
-      requirements = d.requirements;
-      types = d.types;
-      constants = d.constants;
-      predicates = Some list.0;
-      functions = d.functions;
-      has_cost = d.has_cost;
-      actions = d.actions;
-    },
-    list.1,
-  ))
+  Ok (record d { predicates = Some list.0 }, list.1))
 
 -- after ( :functions ( total-cost )
 unfoldable pub function_type : List Token → Result (List Token) SyntaxError
@@ -534,34 +480,12 @@ functions_at ts = if begins kinds.Close ts then Ok (false, drop 1 ts) else one_f
 unfoldable pub functions_section : DomainParts → List Token → Read DomainParts
 functions_section d ts = if d.functions then Err (once ts) else (do
   has_cost ← functions_at (drop 1 ts)
-  Ok (
-    record {
-      requirements = d.requirements;
-      types = d.types;
-      constants = d.constants;
-      predicates = d.predicates;
-      functions = true;
-      has_cost = has_cost.0;
-      actions = d.actions;
-    },
-    has_cost.1,
-  ))
+  Ok (record d { functions = true; has_cost = has_cost.0 }, has_cost.1))
 
 unfoldable pub action_section : (List Token → ℕ) → DomainParts → List Token → Read DomainParts
 action_section room d ts = do
   all ← add_action room d.actions (drop 1 ts)
-  Ok (
-    record {
-      requirements = d.requirements;
-      types = d.types;
-      constants = d.constants;
-      predicates = d.predicates;
-      functions = d.functions;
-      has_cost = d.has_cost;
-      actions = all.0;
-    },
-    all.1,
-  )
+  Ok (record d { actions = all.0 }, all.1)
 
 -- no keyword of a section that there is
 unfoldable pub no_section : List Token → SyntaxError
@@ -634,101 +558,35 @@ unfoldable pub domain_name_section : ProblemParts → List Token → Read Proble
 domain_name_section p ts = if is_some p.domain then Err (once ts) else (do
   name ← name_at kinds.Word wants.Name (drop 1 ts)
   rest ← need kinds.Close wants.Close name.1
-  Ok (
-    record {
-      requirements = p.requirements;
-      domain = Some name.0;
-      objects = p.objects;
-      init = p.init;
-      goal = p.goal;
-      costs = p.costs;
-      metric = p.metric;
-    },
-    rest,
-  ))
+  Ok (record p { domain = Some name.0 }, rest))
 
 unfoldable pub problem_requirements : ProblemParts → List Token → Read ProblemParts
 problem_requirements p ts = if p.requirements then Err (once ts) else (do
   rest ← keys_at (drop 1 ts)
-  Ok (
-    record {
-      requirements = true;
-      domain = p.domain;
-      objects = p.objects;
-      init = p.init;
-      goal = p.goal;
-      costs = p.costs;
-      metric = p.metric;
-    },
-    rest,
-  ))
+  Ok (record p { requirements = true }, rest))
 
 unfoldable pub objects_section : ProblemParts → List Token → Read ProblemParts
 objects_section p ts = if is_some p.objects then Err (once ts) else (do
   list ← list_at kinds.Word wants.Name (drop 1 ts)
-  Ok (
-    record {
-      requirements = p.requirements;
-      domain = p.domain;
-      objects = Some list.0;
-      init = p.init;
-      goal = p.goal;
-      costs = p.costs;
-      metric = p.metric;
-    },
-    list.1,
-  ))
+  Ok (record p { objects = Some list.0 }, list.1))
 
 unfoldable pub init_section : ProblemParts → List Token → Read ProblemParts
 init_section p ts = if is_some p.init then Err (once ts) else (do
   list ← facts_at (drop 1 ts)
-  Ok (
-    record {
-      requirements = p.requirements;
-      domain = p.domain;
-      objects = p.objects;
-      init = Some list.0.atoms;
-      goal = p.goal;
-      costs = list.0.costs;
-      metric = p.metric;
-    },
-    list.1,
-  ))
+  Ok (record p { init = Some list.0.atoms; costs = list.0.costs }, list.1))
 
 unfoldable pub goal_section : (List Token → ℕ) → ProblemParts → List Token → Read ProblemParts
 goal_section room p ts = if is_some p.goal then Err (once ts) else (do
   all ← cond_at false (room (drop 1 ts)) [] (drop 1 ts)
   rest ← need kinds.Close wants.Close all.1
-  Ok (
-    record {
-      requirements = p.requirements;
-      domain = p.domain;
-      objects = p.objects;
-      init = p.init;
-      goal = Some all.0;
-      costs = p.costs;
-      metric = p.metric;
-    },
-    rest,
-  ))
+  Ok (record p { goal = Some all.0 }, rest))
 
 unfoldable pub metric_section : ProblemParts → List Token → Read ProblemParts
 metric_section p ts = if is_some p.metric then Err (once ts) else (do
   word ← only_word (codes "minimize") left.Metric (drop 1 ts)
   function ← total_cost_at word
   rest ← need kinds.Close wants.Close function.1
-  Ok (
-    record {
-      requirements = p.requirements;
-      domain = p.domain;
-      objects = p.objects;
-      init = p.init;
-      goal = p.goal;
-      costs = p.costs;
-      metric = Some function.0;
-    },
-    rest,
-  ))
+  Ok (record p { metric = Some function.0 }, rest))
 
 unfoldable pub problem_key : (List Token → ℕ) → ProblemParts → List Token → Read ProblemParts
 problem_key room p ts =

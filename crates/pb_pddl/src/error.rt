@@ -5,7 +5,7 @@ use std::alloc::{AllocError, AllocFailed};
 
 /// What must come in place of a token. If the grammar allows several, the first that fits of
 /// `Paren`, `Section`, `Part`, `Name`, `Variable` and `Close`.
-#[derive(Clone, Copy, Debug, PartialEq, Eq)]
+#[derive(Clone, Copy)]
 pub enum Want {
     /// A `(`.
     Paren,
@@ -34,7 +34,7 @@ pub enum Want {
 }
 
 /// What of PDDL is left out here.
-#[derive(Clone, Copy, Debug, PartialEq, Eq)]
+#[derive(Clone, Copy)]
 pub enum LeftOut {
     /// A section with another keyword, as `:derived`.
     Section,
@@ -52,7 +52,7 @@ pub enum LeftOut {
 
 /// Why a text is no tree: the first token that can't go on. `at` is the place of its first byte,
 /// counted from 0.
-#[derive(Clone, Copy, Debug, PartialEq, Eq)]
+#[derive(Clone, Copy)]
 pub enum SyntaxError {
     /// The bytes there begin no token.
     Byte { at: u64 },

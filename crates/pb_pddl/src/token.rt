@@ -3,7 +3,7 @@ use crate::text::Text;
 
 /// The kind of a token. Each place of a text has one: `Byte` if no token begins there, and `End` at
 /// the end of the text.
-#[derive(Clone, Copy, Debug, PartialEq, Eq)]
+#[derive(Clone, Copy)]
 pub enum TokenKind {
     /// A `(`.
     Open,

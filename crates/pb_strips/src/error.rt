@@ -7,7 +7,7 @@ use pb_lifted::{LiftedError, TypingRefusal};
 use std::alloc::{AllocError, AllocFailed};
 
 /// Why a domain and a problem are no task, the first cause in the order of these variants.
-#[derive(Clone, Copy, Debug, PartialEq, Eq)]
+#[derive(Clone, Copy)]
 pub enum StripsError {
     /// A name or a cost is at fault, or there are too many objects.
     Refused(TypingRefusal),

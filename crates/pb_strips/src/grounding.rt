@@ -1,17 +1,41 @@
-ghost use Rattle.std.specs.Prelude.{◌≡◌, None, OnOk, IfOk, IfErr};
+ghost use Rattle.std.specs.Prelude.{◌≡◌, ◌≤◌, length, None, OnOk, IfOk, IfErr};
 ghost use Rattle.pb_task.specs.declared.parts.TaskParts.TheVariants.{Strips};
 ghost use Rattle.pb_strips.specs.Grounding.{strips_of};
+ghost use Rattle.pb_lifted.specs.Lifted.{lifted_of};
+ghost use Rattle.pb_lifted.specs.Refusals.{first_refusal};
 ghost use Rattle.pb_lifted.specs.Typing.{IsWellTyped};
+ghost use Rattle.pb_ground.specs.Atoms.{ground_atoms};
 ghost use Rattle.pb_strips.specs.declared.error.StripsError.TheVariants.{Memory};
 ghost use Rattle.pb_strips.specs.Refusals.{first_fault, Tells, IsWithinLimits};
 
 use crate::error::StripsError;
 use crate::parts::parts_of;
-use pb_ground::{ground_actions, ground_atoms};
-use pb_lifted::resolve;
+use pb_ground::{Atoms, ground_actions, ground_atoms};
+use pb_lifted::{Lifted, resolve};
 use pb_pddl::{Domain, Problem};
 use pb_task::Task;
 use std::alloc::Global;
+
+// The task of a lifted task and its ground atoms.
+fn task_by(
+    alloc: Global,
+    domain: &Domain,
+    problem: &Problem,
+    lifted: &Lifted,
+    atoms: &Atoms,
+) -> Result<Task, StripsError>
+    requires resolved { first_refusal domain.now problem.now ≡ None }
+    requires lifted { lifted.now ≡ lifted_of domain.now problem.now }
+    requires atoms { atoms.now ≡ ground_atoms lifted.now }
+    requires few { length (ground_atoms lifted.now) ≤ 256 }
+    ensures accepted { OnOk result (first_fault domain.now problem.now ≡ None) }
+    ensures task { IfOk result (λ task. task ≡ Strips (strips_of domain.now problem.now)) }
+    ensures refused { IfErr result (Tells (first_fault domain.now problem.now)) }
+{
+    let actions = ground_actions(alloc, lifted, atoms)?;
+    let parts = parts_of(alloc, domain, problem, lifted, atoms, actions.as_slice())?;
+    Ok(Task::of_strips(parts))
+}
 
 fn task_of(alloc: Global, domain: &Domain, problem: &Problem) -> Result<Task, StripsError>
     ensures accepted { OnOk result (first_fault domain.now problem.now ≡ None) }
@@ -20,9 +44,7 @@ fn task_of(alloc: Global, domain: &Domain, problem: &Problem) -> Result<Task, St
 {
     let lifted = resolve(alloc, domain, problem)?;
     let atoms = ground_atoms(alloc, &lifted)?;
-    let actions = ground_actions(alloc, &lifted, &atoms)?;
-    let parts = parts_of(alloc, domain, problem, &lifted, &atoms, actions.as_slice())?;
-    Ok(Task::of_strips(parts))
+    task_by(alloc, domain, problem, &lifted, &atoms)
 }
 
 /// The task of a domain and a problem. Its atoms are the ground atoms in their order. Its actions

@@ -1,3 +1,4 @@
 pub mod Folds
 pub mod Values
 pub mod Keys
+pub mod Steps

@@ -1,11 +1,12 @@
 ghost use Rattle.std.specs.Prelude.{◌≡◌, [], codes, drop, is_some, Ok};
+ghost use Rattle.pb_syntax.specs.Forms.{all_parts, action_of};
 ghost use Rattle.pb_pddl.specs.Reading.{Gives, all_of, begins_key, once, params_part, pre_part, effect_part, part_at, or_empty, parts_want, limited, add_action};
 
 use crate::conditions::{cond, effect};
 use crate::lists::{begins_key, list};
 use crate::pieces::{behind, left_out, name, need, place, spells};
 use pb_pddl::{
-    Action, ActionParts, Atom, EffectParts, LeftOut, Listed, Literal, SyntaxError, Token,
+    Action, ActionParts, Atom, EffectParts, LeftOut, Listed, Literal, Name, SyntaxError, Token,
     TokenKind, Typed, Want,
 };
 use std::alloc::Global;
@@ -139,8 +140,34 @@ fn parts_want(parts: &ActionParts) -> Want
     }
 }
 
+// The parts of an action, and the `)` after them.
+#[tactic(auto, unfolding(crate::specs::Forms::all_parts))]
+fn all_parts<'a>(
+    alloc: Global,
+    out: &mut ActionParts,
+    tokens: &'a [Token],
+) -> Result<&'a [Token], SyntaxError>
+    ensures { Gives (λ rest. (out.new, rest.now)) result (all_parts out.old tokens.now) }
+{
+    let rest = parts(alloc, out, tokens)?;
+    need(TokenKind::Close, parts_want(out), rest)
+}
+
+// An action with this name and these parts.
+fn action_of(alloc: Global, name: Name, parts: ActionParts) -> Action
+    ensures { result ≡ action_of name parts }
+{
+    Action {
+        name,
+        params: or_empty(alloc, parts.params),
+        pre: or_empty(alloc, parts.pre),
+        effect: or_empty(alloc, parts.effect),
+        costs: parts.costs,
+    }
+}
+
 // An action, after its keyword.
-#[tactic(auto, unfolding(pb_pddl::specs::Reading::add_action))]
+#[tactic(auto, using(crate::proofs::Steps::action_in_steps))]
 pub fn add_action<'a>(
     alloc: Global,
     out: &mut Listed<Action>,
@@ -155,14 +182,7 @@ pub fn add_action<'a>(
         effect: None,
         costs: Listed::new(alloc),
     };
-    let rest = parts(alloc, &mut all, rest)?;
-    let rest = need(TokenKind::Close, parts_want(&all), rest)?;
-    out.push(Action {
-        name,
-        params: or_empty(alloc, all.params),
-        pre: or_empty(alloc, all.pre),
-        effect: or_empty(alloc, all.effect),
-        costs: all.costs,
-    })?;
+    let rest = all_parts(alloc, &mut all, rest)?;
+    out.push(action_of(alloc, name, all))?;
     Ok(rest)
 }

@@ -1,4 +1,5 @@
 ghost use Rattle.std.specs.Prelude.{◌≡◌, [], codes, drop, is_some, Ok};
+ghost use Rattle.pb_syntax.specs.Forms.{head_at, whole_domain};
 ghost use Rattle.pb_pddl.specs.Reading.{Gives, all_of, begins_open, requirements_section, types_section, constants_section, predicates_section, functions_section, action_section, no_section, domain_key, domain_section, title_at, end_at, limited, domain_at};
 
 use crate::action::{add_action, once, or_empty};
@@ -172,8 +173,19 @@ fn domain_sections<'a>(
     Ok(rest)
 }
 
+// The first words of a form: `( define ( WORD`.
+#[tactic(auto, unfolding(crate::specs::Forms::head_at))]
+fn head<'a>(word: &[u8], tokens: &'a [Token]) -> Result<&'a [Token], SyntaxError>
+    ensures { Gives (λ x. x.now) result (head_at word.now tokens.now) }
+{
+    let rest = need(TokenKind::Open, Want::Paren, tokens)?;
+    let rest = need_word(b"define", rest)?;
+    let rest = need(TokenKind::Open, Want::Paren, rest)?;
+    need_word(word, rest)
+}
+
 // The name of a form.
-#[tactic(auto, unfolding(pb_pddl::specs::Reading::title_at))]
+#[tactic(auto, using(crate::proofs::Steps::title_in_steps))]
 pub fn title<'a>(
     alloc: Global,
     word: &[u8],
@@ -181,10 +193,7 @@ pub fn title<'a>(
 ) -> Result<(Name, &'a [Token]), SyntaxError>
     ensures { Gives (λ x. (x.0, x.1.now)) result (title_at word.now tokens.now) }
 {
-    let rest = need(TokenKind::Open, Want::Paren, tokens)?;
-    let rest = need_word(b"define", rest)?;
-    let rest = need(TokenKind::Open, Want::Paren, rest)?;
-    let rest = need_word(word, rest)?;
+    let rest = head(word, tokens)?;
     let (name, rest) = name(alloc, TokenKind::Word, Want::Name, rest)?;
     let rest = need(TokenKind::Close, Want::Close, rest)?;
     Ok((name, rest))
@@ -206,8 +215,19 @@ pub fn end(tokens: &[Token]) -> Result<&[Token], SyntaxError>
     }
 }
 
+// The sections of a domain, the `)` after them, and the end of the text.
+#[tactic(auto, unfolding(crate::specs::Forms::whole_domain))]
+fn whole_domain(alloc: Global, out: &mut DomainParts, tokens: &[Token]) -> Result<(), SyntaxError>
+    ensures { Gives (λ _. out.new) result (whole_domain out.old tokens.now) }
+{
+    let rest = domain_sections(alloc, out, tokens)?;
+    let rest = need(TokenKind::Close, Want::Paren, rest)?;
+    let _end = end(rest)?;
+    Ok(())
+}
+
 /// The domain that these tokens are.
-#[tactic(auto, unfolding(pb_pddl::specs::Reading::domain_at))]
+#[tactic(auto, using(crate::proofs::Steps::domain_in_steps))]
 pub fn domain(alloc: Global, tokens: &[Token]) -> Result<Domain, SyntaxError>
     ensures { Gives (λ domain. domain) result (domain_at limited tokens.now) }
 {
@@ -221,9 +241,7 @@ pub fn domain(alloc: Global, tokens: &[Token]) -> Result<Domain, SyntaxError>
         has_cost: false,
         actions: Listed::new(alloc),
     };
-    let rest = domain_sections(alloc, &mut all, rest)?;
-    let rest = need(TokenKind::Close, Want::Paren, rest)?;
-    let _end = end(rest)?;
+    whole_domain(alloc, &mut all, rest)?;
     Ok(Domain {
         name,
         types: or_empty(alloc, all.types),

@@ -111,8 +111,26 @@ fn groups<'a>(
     Ok(rest)
 }
 
-// A list of names with types, and the `)` after it.
+// Adds the names of a list and gives them their types. It reads the `)` after the list.
 #[tactic(auto, unfolding(pb_pddl::specs::Reading::list_at))]
+fn add_list<'a>(
+    alloc: Global,
+    kind: TokenKind,
+    want: Want,
+    group: &mut Group,
+    tokens: &'a [Token],
+) -> Result<&'a [Token], SyntaxError>
+    requires { group.old ≡ record { done = []; waiting = [] } }
+    ensures { Gives (λ rest. (group.new.done, rest.now)) result (list_at kind want tokens.now) }
+{
+    let rest = groups(alloc, kind, group, tokens)?;
+    let rest = need(TokenKind::Close, want, rest)?;
+    give_type(&mut group.done, group.waiting.as_slice(), &None)?;
+    group.done.trim();
+    Ok(rest)
+}
+
+// A list of names with types, and the `)` after it.
 pub fn list(
     alloc: Global,
     kind: TokenKind,
@@ -125,10 +143,7 @@ pub fn list(
         done: Listed::new(alloc),
         waiting: Listed::new(alloc),
     };
-    let rest = groups(alloc, kind, &mut group, tokens)?;
-    let rest = need(TokenKind::Close, want, rest)?;
-    give_type(&mut group.done, group.waiting.as_slice(), &None)?;
-    group.done.trim();
+    let rest = add_list(alloc, kind, want, &mut group, tokens)?;
     Ok((group.done, rest))
 }
 

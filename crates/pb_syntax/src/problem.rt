@@ -1,4 +1,5 @@
-ghost use Rattle.std.specs.Prelude.{◌≡◌, [], codes, drop, is_some, Ok};
+ghost use Rattle.std.specs.Prelude.{◌≡◌, [], codes, drop, is_some, true, Ok, OnOk};
+ghost use Rattle.pb_syntax.specs.Forms.{whole_problem, problem_of};
 ghost use Rattle.pb_pddl.specs.Reading.{Gives, all_of, begins_open, domain_name_section, problem_requirements, objects_section, init_section, goal_section, metric_section, problem_key, problem_section, missing, there, stood_all, sections_want, limited, problem_at};
 
 use crate::action::{DEEPEST, once, or_empty};
@@ -210,8 +211,9 @@ fn missing(tokens: &[Token]) -> SyntaxError
 
 // A section that must be there, at the last `)`.
 #[tactic(auto, unfolding(pb_pddl::specs::Reading::there))]
-fn there<T: Drop>(section: Option<T>, tokens: &[Token]) -> Result<T, SyntaxError>
-    ensures { Gives (λ x. x) result (there section tokens.now) }
+fn there<'a, T>(section: &'a Option<T>, tokens: &[Token]) -> Result<&'a T, SyntaxError>
+    ensures read { Gives (λ x. x.now) result (there section.now tokens.now) }
+    ensures some { OnOk result (is_some section.now ≡ true) }
 {
     match section {
         None => Err(missing(tokens)),
@@ -219,8 +221,42 @@ fn there<T: Drop>(section: Option<T>, tokens: &[Token]) -> Result<T, SyntaxError
     }
 }
 
+// The sections of a problem with those that must be there, the `)` after them, and the end of the
+// text.
+#[tactic(auto, unfolding(crate::specs::Forms::whole_problem))]
+fn whole_problem(alloc: Global, out: &mut ProblemParts, tokens: &[Token]) -> Result<(), SyntaxError>
+    ensures read { Gives (λ _. out.new) result (whole_problem out.old tokens.now) }
+    ensures domain { OnOk result (is_some out.new.domain ≡ true) }
+    ensures goal { OnOk result (is_some out.new.goal ≡ true) }
+{
+    let last = problem_sections(alloc, out, tokens)?;
+    let rest = need(TokenKind::Close, sections_want(out), last)?;
+    let _domain = there(&out.domain, last)?;
+    let _goal = there(&out.goal, last)?;
+    let _end = end(rest)?;
+    Ok(())
+}
+
+// The problem with this name and these sections.
+#[tactic(auto, unfolding(crate::specs::Forms::problem_of, pb_pddl::specs::Reading::there))]
+fn problem_of(alloc: Global, name: Name, parts: ProblemParts) -> Problem
+    requires domain { is_some parts.domain ≡ true }
+    requires goal { is_some parts.goal ≡ true }
+    ensures { problem_of name parts [] ≡ Ok result }
+{
+    Problem {
+        name,
+        domain: parts.domain.unwrap(),
+        objects: or_empty(alloc, parts.objects),
+        init: or_empty(alloc, parts.init),
+        goal: parts.goal.unwrap(),
+        costs: parts.costs,
+        metric: parts.metric,
+    }
+}
+
 /// The problem that these tokens are.
-#[tactic(auto, unfolding(pb_pddl::specs::Reading::problem_at))]
+#[tactic(auto, using(crate::proofs::Steps::problem_in_steps))]
 pub fn problem(alloc: Global, tokens: &[Token]) -> Result<Problem, SyntaxError>
     ensures { Gives (λ problem. problem) result (problem_at limited tokens.now) }
 {
@@ -234,18 +270,6 @@ pub fn problem(alloc: Global, tokens: &[Token]) -> Result<Problem, SyntaxError>
         costs: Listed::new(alloc),
         metric: None,
     };
-    let last = problem_sections(alloc, &mut all, rest)?;
-    let rest = need(TokenKind::Close, sections_want(&all), last)?;
-    let domain = there(all.domain, last)?;
-    let goal = there(all.goal, last)?;
-    let _end = end(rest)?;
-    Ok(Problem {
-        name,
-        domain,
-        objects: or_empty(alloc, all.objects),
-        init: or_empty(alloc, all.init),
-        goal,
-        costs: all.costs,
-        metric: all.metric,
-    })
+    whole_problem(alloc, &mut all, rest)?;
+    Ok(problem_of(alloc, name, all))
 }

@@ -1,6 +1,6 @@
-ghost use Rattle.std.specs.Prelude.{◌≡◌, ◌+◌, ◌≤◌, ◌<◌, ◌^◌, ◌∷◌, length, take, drop, map, IfOk, OnOk, false, Ok};
+ghost use Rattle.std.specs.Prelude.{◌≡◌, ◌+◌, ◌≤◌, ◌<◌, ◌^◌, ◌∷◌, [], length, take, drop, map, IfOk, OnOk, false, Ok};
 ghost use Rattle.pb_pddl.specs.Spans.{Spans};
-ghost use Rattle.pb_pddl.specs.Tokens.{lower, kind_of, kind_inside, len_of, token_at, is_last, is_open, behind, unclosed, TextTokens};
+ghost use Rattle.pb_pddl.specs.Tokens.{lower, kind_of, kind_inside, len_of, token_at, is_last, is_open, behind, unclosed, start, TextTokens};
 
 use crate::bytes::{begins_word, gap_len, lower_bytes, run_len, word_first};
 use pb_pddl::{Cursor, Listed, Text, Token, TokenKind};
@@ -186,32 +186,49 @@ fn pass(here: &mut Cursor, token: &Token) -> Result<(), AllocError>
     Ok(())
 }
 
+// Adds the tokens of a text. `source` is the text in lower case, and `here` is at its start.
+fn add_tokens(
+    source: &Text,
+    text: &[u8],
+    here: &mut Cursor,
+    out: &mut Listed<Token>,
+) -> Result<(), AllocError>
+    requires source { source.now ≡ map lower text.now }
+    requires start { here.old ≡ start }
+    requires empty { out.old ≡ [] }
+    ensures tokens { OnOk result (TextTokens text.now out.new) }
+    ensures slices { OnOk result (Spans 0 text.now out.new) }
+{
+    let mut rest = text;
+    loop {
+        let (gap, bytes) = rest.split_at(gap_len(rest));
+        here.at += gap.len() as u64;
+        let token = token_at(source, here, bytes)?;
+        if is_last(token.kind) {
+            out.push(token)?;
+            return Ok(());
+        }
+        pass(here, &token)?;
+        let (_, after) = bytes.split_at(token.text.as_slice().len());
+        rest = after;
+        out.push(token)?;
+    }
+}
+
 // The tokens of a text. `source` is the text in lower case.
 fn tokens_in(alloc: Global, source: &Text, text: &[u8]) -> Result<Listed<Token>, AllocError>
     requires { source.now ≡ map lower text.now }
     ensures tokens { IfOk result (TextTokens text.now) }
     ensures slices { IfOk result (Spans 0 text.now) }
 {
-    let mut out = Listed::new(alloc);
     let mut here = Cursor {
         at: 0,
         nest: Listed::new(alloc),
         head: false,
     };
-    let mut rest = text;
-    loop {
-        let (gap, bytes) = rest.split_at(gap_len(rest));
-        here.at += gap.len() as u64;
-        let token = token_at(source, &here, bytes)?;
-        if is_last(token.kind) {
-            out.push(token)?;
-            return Ok(out);
-        }
-        pass(&mut here, &token)?;
-        let (_, after) = bytes.split_at(token.text.as_slice().len());
-        rest = after;
-        out.push(token)?;
-    }
+    let mut out = Listed::new(alloc);
+    add_tokens(source, text, &mut here, &mut out)?;
+    Ok(out)
 }
 
 /// The tokens of a text, each the longest at its place. The last is the first that goes on nowhere:

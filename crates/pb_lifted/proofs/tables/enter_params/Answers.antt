@@ -3,7 +3,7 @@ use Rattle.pb_lifted.specs.Names.{repeated, earliest}
 use Rattle.pb_lifted.specs.Types.{name_text}
 use Rattle.pb_lifted.specs.Refusals.{typed_name}
 use Rattle.pb_lifted.proofs.Earliest.{kept, taken}
-use Rattle.pb_lifted.proofs.tables.params_of.Goals as goal
+use Rattle.pb_lifted.proofs.tables.enter_params.Goals as goal
 
 pub loop-action-preserved : goal.loop-action-preserved
 loop-action-preserved c = record {

@@ -2,7 +2,7 @@ use Rattle.std.proofs.Common.{◌≡◌, take, drop}
 use Rattle.pb_lifted.specs.Names.{earliest}
 use Rattle.pb_lifted.specs.Tables.{names_of_params}
 use Rattle.pb_lifted.specs.Refusals.{repeated_params}
-use Rattle.pb_lifted.proofs.tables.params_of.Given as goal
+use Rattle.pb_lifted.proofs.tables.enter_params.Given as goal
 
 abbrev pub invariant-loop-action : goal.invariant-loop-action
 invariant-loop-action l = record {
