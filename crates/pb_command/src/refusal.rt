@@ -40,7 +40,7 @@ const ERROR: &str = "error: ";
 const REST_MOST: usize = 65_536 - 7;
 
 /// Lines that are to be printed, each of which ends with LF.
-#[derive(Debug, Drop)]
+#[derive(Drop)]
 pub struct Message {
     text: String,
 }
@@ -130,7 +130,7 @@ fn is_ended(text: &str) -> bool
 }
 
 /// Why words were not read.
-#[derive(Debug, Drop)]
+#[derive(Drop)]
 pub enum CommandRefusal {
     /// They are no command line, since they fail this test; the message is what is to be printed.
     Words(CommandFault, Message),
