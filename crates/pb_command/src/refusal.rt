@@ -4,7 +4,8 @@ ghost use Rattle.std.specs.String.Boundary.{IsSplitPoint};
 ghost use Rattle.clap.specs.Words.{kind_of};
 ghost use Rattle.clap.specs.declared.error.kind.ErrorKind.TheVariants.{OutOfMemory};
 ghost use Rattle.pb_command.specs.Meaning.{Reading, Refused};
-ghost use Rattle.pb_command.specs.Causes.{IsCause, IsRefusal, EndsLine, IsErrorText, IsLine, IsPrinted};
+ghost use Rattle.pb_command.specs.Causes.{IsCause, IsRefusal, EndsLine, IsErrorText, IsLine};
+ghost use Rattle.pb_command.specs.Causes.{IsPrinted};
 ghost use Rattle.pb_command.specs.Causes.{text_most};
 ghost use Rattle.pb_command.specs.declared.refusal.CommandRefusal.TheVariants.{Memory};
 
@@ -154,8 +155,7 @@ fn error_message(alloc: Global, error: &Error) -> Result<Message, AllocError>
     Message::of_clap(alloc, text.as_str())
 }
 
-// The refusal of words that are out of form if clap's error isn't that memory ran out. It has clap's
-// text.
+// The answer to an error of clap: the words are out of form, with clap's text, or memory ran out.
 pub(crate) fn form_refusal(alloc: Global, error: &Error) -> CommandRefusal
     ensures { (reading : Reading)
         → (kind_of error.now ≢ OutOfMemory → reading ≡ Refused CommandFault.Form)
