@@ -5,7 +5,7 @@ use std::alloc::{AllocError, AllocFailed};
 
 /// Why a certificate is refused. If it has several faults, the first in the order of these names is
 /// reported, and of one name the first row or action. Lines are counted from 1.
-#[derive(Clone, Copy, Debug, PartialEq, Eq)]
+#[derive(Clone, Copy)]
 pub enum CertificateFault {
     /// The first line that is not spelled as a certificate's; a line that is missing is the one
     /// after the last.
@@ -40,7 +40,7 @@ pub enum CertificateFault {
 }
 
 /// Why there is no verdict.
-#[derive(Clone, Copy, Debug, PartialEq, Eq)]
+#[derive(Clone, Copy)]
 pub enum CheckError {
     /// The certificate is not valid for the task: its first fault.
     Fault(CertificateFault),
@@ -49,7 +49,7 @@ pub enum CheckError {
 }
 
 /// What a valid certificate shows of its task.
-#[derive(Clone, Copy, Debug, PartialEq, Eq)]
+#[derive(Clone, Copy)]
 pub enum Verdict {
     /// Some plan has this cost, and no plan costs less than the bound: the least whole number that
     /// is no less than the cost divided by the weight. Both are in the unit of the task's action

@@ -4,7 +4,7 @@ ghost use Rattle.pb_check.specs.Kinds.{kind_of};
 use pb_task::{Task, TaskParts};
 
 /// The kinds of tasks that a certificate can state.
-#[derive(Clone, Copy, Debug, PartialEq, Eq)]
+#[derive(Clone, Copy)]
 pub enum TaskKind {
     /// A way on a map.
     Grid,

@@ -5,7 +5,7 @@ use pb_packed::Packed;
 use std::marker::Model;
 
 /// A row of a certificate. Contracts see a line of the model.
-#[derive(Debug, Drop)]
+#[derive(Drop)]
 pub struct StatedRow {
     pub state: Packed,
     pub g: u64,
@@ -22,7 +22,7 @@ impl Model for StatedRow {
 
 /// The rows of a certificate, in the order of the text. The states, the costs and the statuses are
 /// in an array each. Contracts see the list of the rows.
-#[derive(Debug, Drop)]
+#[derive(Drop)]
 pub struct StatedRows {
     pub(crate) states: Vec<Packed>,
     pub(crate) costs: Vec<u64>,

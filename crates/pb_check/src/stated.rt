@@ -5,14 +5,14 @@ use crate::rows::StatedRows;
 use std::marker::Model;
 
 /// The weight that a certificate states, in range or not.
-#[derive(Clone, Copy, Debug, PartialEq, Eq)]
+#[derive(Clone, Copy)]
 pub struct StatedWeight {
     pub num: u64,
     pub den: u64,
 }
 
 /// The actions of a plan, and the cost that is stated. Contracts see a plan of the model.
-#[derive(Debug, Drop)]
+#[derive(Drop)]
 pub struct StatedPlan {
     pub actions: Vec<u64>,
     pub cost: u64,
@@ -27,7 +27,7 @@ impl Model for StatedPlan {
 }
 
 /// All that a certificate says: contracts see what a text says.
-#[derive(Debug, Drop)]
+#[derive(Drop)]
 pub struct StatedText {
     pub kind: TaskKind,
     pub weight: StatedWeight,

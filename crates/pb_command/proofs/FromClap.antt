@@ -1,8 +1,8 @@
 -- From what clap says of a parse to what words mean.
 use Rattle.std.proofs.Common.{◌≡◌, ◌∙◌, ◌≢◌, ◌≤◌, inl, inr, ℕ, Bool, true, false, List, [], ◌∷◌, Option, None, Some, Result, Ok, Err, refl, sym, ap, ap₂, subst, option_map}
-use Rattle.std.specs.Prelude.{if◌then◌else◌}
+use Rattle.std.specs.Prelude.{if◌then◌else◌, IfOk, IfErr}
 use Rattle.std.specs.Str.Parse.{ParsesUnsigned, digits_value, without_leading_plus}
-use Rattle.clap.specs.Words.{App, HasMatchesOf, HasKind, IsParsedFrom, Kinds, Row, Text, TriesOne, IsUnsignedIn, app_of, fault_of, has_subcommand, is_simple, is_simple_and_free, kind_of, subcommand_of, subcommand_name_of, subcommand_rows, subcommand_rows_of}
+use Rattle.clap.specs.Words.{App, FailsBy, HasMatchesOf, HasKind, IsParsedFrom, Kinds, Row, Text, TriesOne, IsUnsignedIn, app_of, fault_of, has_subcommand, is_simple, is_simple_and_free, kind_of, subcommand_of, subcommand_name_of, subcommand_rows, subcommand_rows_of}
 use Rattle.clap.specs.ValueTests.{is_unsigned_in}
 use Rattle.clap.proofs.ValueTestLemmas.{accepts-Accepts, Accepts-accepts}
 use Rattle.clap.specs.declared.builder.command.Command.TheViews.{out-Command}
@@ -113,6 +113,24 @@ some_none e h = cc
 -- a parse of the program has met a subcommand
 pub has_met : (p : Command) (m : ArgMatches) (met : Bool) → IsParsedFrom p m → app_of p ≡ the_program → (out-Command p).has_globals ≡ false → met ≡ has_subcommand m → met ≡ true
 has_met p m met parsed is local e = e ∙ subcommand_required p m parsed local (ap (λ (a : App). a.top.subcommand_required) is ∙ required_here)
+
+-- so what clap finds in the words: its matches have what they mean, and an error refuses them
+pub found_meaning : (p : Command) (words : List Text) (r : Result ArgMatches Error) → app_of p ≡ the_program
+    → IfOk r (HasMatchesOf (app_of p) words) → (is_simple_and_free (app_of p) ≡ true → FailsBy (fault_of (app_of p) words) r)
+    → IfOk r (λ m. reading_of_words words ≡ command_at (subcommand_rows_of m))
+found_meaning p words (Ok m) is has free = command_met p words m is has free
+found_meaning p words (Err e) is has free = tt
+
+pub found_refusal : (p : Command) (words : List Text) (r : Result ArgMatches Error) → app_of p ≡ the_program
+    → (is_simple_and_free (app_of p) ≡ true → FailsBy (fault_of (app_of p) words) r)
+    → IfErr r (λ e. kind_of e ≢ OutOfMemory → reading_of_words words ≡ Refused Form)
+found_refusal p words (Ok m) is free = tt
+found_refusal p words (Err e) is free = words_refused p words e is free
+
+pub found_subcommand : (p : Command) (r : Result ArgMatches Error) → app_of p ≡ the_program → (out-Command p).has_globals ≡ false
+    → IfOk r (IsParsedFrom p) → IfOk r (λ m. has_subcommand m ≡ true)
+found_subcommand p (Ok m) is local parsed = has_met p m (has_subcommand m) parsed is local refl
+found_subcommand p (Err e) is local parsed = tt
 
 name_in_rows : {Z : Type 0} (met : Option (Box SubCommand Z)) → option_map (λ b. (out-SubCommand (box_value b)).name.now) met ≡ option_map (λ q. q.0) (subcommand_rows met)
 name_in_rows None = refl

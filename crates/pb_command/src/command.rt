@@ -1,5 +1,5 @@
 /// What kind of task a command is about.
-#[derive(Clone, Copy, Debug, PartialEq, Eq)]
+#[derive(Clone, Copy)]
 pub enum KindWord {
     /// A grid of a map and a scenario.
     Grid,
@@ -10,7 +10,7 @@ pub enum KindWord {
 }
 
 /// The names of the files of a grid.
-#[derive(Clone, Copy, Debug)]
+#[derive(Clone, Copy)]
 pub struct GridFiles<'a> {
     /// The map's file.
     pub map: &'a str,
@@ -19,7 +19,7 @@ pub struct GridFiles<'a> {
 }
 
 /// The names of the files of a STRIPS problem in PDDL.
-#[derive(Clone, Copy, Debug)]
+#[derive(Clone, Copy)]
 pub struct StripsFiles<'a> {
     /// The domain's file.
     pub domain: &'a str,
@@ -28,7 +28,7 @@ pub struct StripsFiles<'a> {
 }
 
 /// The kind of the task, with the names of its files.
-#[derive(Clone, Copy, Debug)]
+#[derive(Clone, Copy)]
 pub enum Input<'a> {
     /// `grid MAP SCEN`: a grid of the MovingAI benchmarks (Sturtevant, "Benchmarks for grid-based
     /// pathfinding", 2012).
@@ -41,7 +41,7 @@ pub enum Input<'a> {
 }
 
 /// `solve KIND FILE [FILE]` and its options.
-#[derive(Clone, Copy, Debug)]
+#[derive(Clone, Copy)]
 pub struct SolveCommand<'a> {
     /// The task.
     pub input: Input<'a>,
@@ -73,7 +73,7 @@ pub struct SolveCommand<'a> {
 }
 
 /// `check KIND CERT FILE [FILE] [--row K] [--swamp]`.
-#[derive(Clone, Copy, Debug)]
+#[derive(Clone, Copy)]
 pub struct CheckCommand<'a> {
     /// The task.
     pub input: Input<'a>,
@@ -87,7 +87,7 @@ pub struct CheckCommand<'a> {
 }
 
 /// `journal KIND JOURNAL FILE [FILE] [--row K]`.
-#[derive(Clone, Copy, Debug)]
+#[derive(Clone, Copy)]
 pub struct JournalCommand<'a> {
     /// The task.
     pub input: Input<'a>,
@@ -99,7 +99,7 @@ pub struct JournalCommand<'a> {
 }
 
 /// `make KIND SEED SIZE [--workers W]`.
-#[derive(Clone, Copy, Debug)]
+#[derive(Clone, Copy)]
 pub struct MakeCommand {
     /// The kind of the task that is made.
     pub kind: KindWord,
@@ -113,7 +113,7 @@ pub struct MakeCommand {
 }
 
 /// What words ask for.
-#[derive(Clone, Copy, Debug)]
+#[derive(Clone, Copy)]
 pub enum CommandLine<'a> {
     /// Search for a plan.
     Solve(SolveCommand<'a>),

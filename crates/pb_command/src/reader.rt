@@ -1,13 +1,15 @@
 //! The words of the command line, read.
-ghost use Rattle.std.specs.Prelude.{◌≡◌, ◌≤◌, false, map, option_map, IfOk, IfErr, IfSome};
+ghost use Rattle.std.specs.Prelude.{◌≡◌, ◌≢◌, ◌≤◌, true, false, map, option_map};
+ghost use Rattle.std.specs.Prelude.{IfOk, IfErr, OnOk, IfSome};
 ghost use Rattle.std.specs.String.{string_bytes};
-ghost use Rattle.clap.specs.Words.{found_of, rows_of};
-ghost use Rattle.pb_command.specs.Meaning.{reading_of_words, command_of, solve_of, check_of};
-ghost use Rattle.pb_command.specs.Meaning.{journal_of, make_of, numbers_of, solve_tested, Read};
-ghost use Rattle.pb_command.specs.Meaning.{Refused, Solve, Check, Journal, Make, IsInRange};
+ghost use Rattle.clap.specs.Words.{found_of, rows_of, kind_of, has_subcommand, subcommand_rows_of};
+ghost use Rattle.clap.specs.declared.error.kind.ErrorKind.TheVariants.{OutOfMemory};
+ghost use Rattle.pb_command.specs.Meaning.{reading_of_words, command_met, command_of, solve_of};
+ghost use Rattle.pb_command.specs.Meaning.{check_of, journal_of, make_of, numbers_of, solve_tested};
+ghost use Rattle.pb_command.specs.Meaning.{Read, Refused, Solve, IsInRange};
 ghost use Rattle.pb_command.specs.Values.{are_one_name};
 ghost use Rattle.pb_command.specs.Causes.{IsCause, Answers, AreInRange, numbers_meant, meaning_of};
-ghost use Rattle.pb_command.specs.Causes.{solve_meant, check_meant, journal_meant, make_meant};
+ghost use Rattle.pb_command.specs.Causes.{solve_meant};
 
 use crate::command::{
     CheckCommand, CommandLine, Input, JournalCommand, KindWord, MakeCommand, SolveCommand,
@@ -19,8 +21,7 @@ use crate::values::{
     ROW_MOST, SEED_MOST, SIZE_WORD_MOST, WEIGHT_DEFAULT, WEIGHT_MOST, WORKERS_DEFAULT,
     WORKERS_MOST, input_of, is_given, is_one_name, is_size, known_kind, number, text,
 };
-use clap::ArgMatches;
-use clap::error::ErrorKind;
+use clap::{ArgMatches, Error};
 use std::alloc::Global;
 
 // The numbers of the options of `solve`.
@@ -41,38 +42,42 @@ fn solve_numbers(matches: &ArgMatches<'_>) -> Option<GivenNumbers>
         ≡ numbers_of (rows_of (found_of matches.now)) }
     ensures ranges { IfSome result AreInRange }
 {
-    let row = number(matches, "row", 0, ROW_MOST, Some(0))?;
-    let workers = number(matches, "workers", 1, WORKERS_MOST, Some(WORKERS_DEFAULT))?;
-    let num = number(matches, "num", 1, WEIGHT_MOST, Some(WEIGHT_DEFAULT))?;
-    let den = number(matches, "den", 1, WEIGHT_MOST, Some(WEIGHT_DEFAULT))?;
-    let budget = number(matches, "budget", 1, BUDGET_MOST, Some(BUDGET_DEFAULT))?;
-    let lot = number(matches, "lot", 1, LOT_MOST, Some(LOT_DEFAULT))?;
-    let blocks = number(
-        matches,
-        "blocks",
-        BLOCKS_LEAST,
-        BLOCKS_MOST,
-        Some(BLOCKS_DEFAULT),
-    )?;
-    Some(GivenNumbers {
-        row,
-        workers,
-        num,
-        den,
-        budget,
-        lot,
-        blocks,
-    })
+    match (
+        number(matches, "row", 0, ROW_MOST, Some(0)),
+        number(matches, "workers", 1, WORKERS_MOST, Some(WORKERS_DEFAULT)),
+        number(matches, "num", 1, WEIGHT_MOST, Some(WEIGHT_DEFAULT)),
+        number(matches, "den", 1, WEIGHT_MOST, Some(WEIGHT_DEFAULT)),
+        number(matches, "budget", 1, BUDGET_MOST, Some(BUDGET_DEFAULT)),
+        number(matches, "lot", 1, LOT_MOST, Some(LOT_DEFAULT)),
+        number(
+            matches,
+            "blocks",
+            BLOCKS_LEAST,
+            BLOCKS_MOST,
+            Some(BLOCKS_DEFAULT),
+        ),
+    ) {
+        (Some(row), Some(workers), Some(num), Some(den), Some(budget), Some(lot), Some(blocks)) =>
+            Some(GivenNumbers {
+                row,
+                workers,
+                num,
+                den,
+                budget,
+                lot,
+                blocks,
+            }),
+        _ => None,
+    }
 }
 
 // The command, if its weight is at least 1 and its two files have two names.
-fn tested_solve<'a>(command: SolveCommand<'a>) -> Result<SolveCommand<'a>, CommandFault>
-    ensures read { Answers (λ s. Solve (solve_meant s))
-        (solve_tested (solve_meant command.entry)) result }
-    ensures same { IfOk result (λ s. s ≡ command.entry) }
-    ensures weight { IfOk result (λ s. s.den ≤ s.num) }
-    ensures names { IfOk result
-        (λ s. are_one_name (solve_meant s).certificate (solve_meant s).journal ≡ false) }
+fn tested_solve<'a>(command: SolveCommand<'a>) -> Result<CommandLine<'a>, CommandFault>
+    ensures read { Answers meaning_of (solve_tested (solve_meant command.entry)) result }
+    ensures same { IfOk result (λ c. meaning_of c ≡ Solve (solve_meant command.entry)) }
+    ensures weight { OnOk result (command.entry.den ≤ command.entry.num) }
+    ensures names { OnOk result (are_one_name (solve_meant command.entry).certificate
+        (solve_meant command.entry).journal ≡ false) }
 {
     if command.num < command.den {
         return Err(CommandFault::Weight);
@@ -80,14 +85,13 @@ fn tested_solve<'a>(command: SolveCommand<'a>) -> Result<SolveCommand<'a>, Comma
     if is_one_name(command.certificate, command.journal) {
         return Err(CommandFault::Names);
     }
-    Ok(command)
+    Ok(CommandLine::Solve(command))
 }
 
 // What the values of `solve` ask for.
-fn read_solve<'a>(matches: &ArgMatches<'a>) -> Result<SolveCommand<'a>, CommandFault>
-    ensures read { Answers (λ s. Solve (solve_meant s))
-        (solve_of (rows_of (found_of matches.now))) result }
-    ensures ranges { IfOk result (λ s. IsInRange (Solve (solve_meant s))) }
+fn read_solve<'a>(matches: &ArgMatches<'a>) -> Result<CommandLine<'a>, CommandFault>
+    ensures read { Answers meaning_of (solve_of (rows_of (found_of matches.now))) result }
+    ensures ranges { IfOk result (λ c. IsInRange (meaning_of c)) }
 {
     let kind = known_kind(text(matches, "KIND"));
     let first = text(matches, "FIRST_FILE");
@@ -123,10 +127,9 @@ fn read_solve<'a>(matches: &ArgMatches<'a>) -> Result<SolveCommand<'a>, CommandF
 }
 
 // What the values of `check` ask for.
-fn read_check<'a>(matches: &ArgMatches<'a>) -> Result<CheckCommand<'a>, CommandFault>
-    ensures read { Answers (λ s. Check (check_meant s))
-        (check_of (rows_of (found_of matches.now))) result }
-    ensures ranges { IfOk result (λ s. IsInRange (Check (check_meant s))) }
+fn read_check<'a>(matches: &ArgMatches<'a>) -> Result<CommandLine<'a>, CommandFault>
+    ensures read { Answers meaning_of (check_of (rows_of (found_of matches.now))) result }
+    ensures ranges { IfOk result (λ c. IsInRange (meaning_of c)) }
 {
     let kind = known_kind(text(matches, "KIND"));
     let certificate = text(matches, "CERTIFICATE");
@@ -139,12 +142,12 @@ fn read_check<'a>(matches: &ArgMatches<'a>) -> Result<CheckCommand<'a>, CommandF
     };
     match (certificate, first, row) {
         (Some(certificate), Some(first), Some(row)) => match input_of(kind, first, second) {
-            Some(input) => Ok(CheckCommand {
+            Some(input) => Ok(CommandLine::Check(CheckCommand {
                 input,
                 certificate,
                 row,
                 swamp,
-            }),
+            })),
             None => Err(CommandFault::Files),
         },
         _ => Err(CommandFault::Form),
@@ -152,10 +155,9 @@ fn read_check<'a>(matches: &ArgMatches<'a>) -> Result<CheckCommand<'a>, CommandF
 }
 
 // What the values of `journal` ask for.
-fn read_journal<'a>(matches: &ArgMatches<'a>) -> Result<JournalCommand<'a>, CommandFault>
-    ensures read { Answers (λ s. Journal (journal_meant s))
-        (journal_of (rows_of (found_of matches.now))) result }
-    ensures ranges { IfOk result (λ s. IsInRange (Journal (journal_meant s))) }
+fn read_journal<'a>(matches: &ArgMatches<'a>) -> Result<CommandLine<'a>, CommandFault>
+    ensures read { Answers meaning_of (journal_of (rows_of (found_of matches.now))) result }
+    ensures ranges { IfOk result (λ c. IsInRange (meaning_of c)) }
 {
     let kind = known_kind(text(matches, "KIND"));
     let journal = text(matches, "JOURNAL");
@@ -167,11 +169,11 @@ fn read_journal<'a>(matches: &ArgMatches<'a>) -> Result<JournalCommand<'a>, Comm
     };
     match (journal, first, row) {
         (Some(journal), Some(first), Some(row)) => match input_of(kind, first, second) {
-            Some(input) => Ok(JournalCommand {
+            Some(input) => Ok(CommandLine::Journal(JournalCommand {
                 input,
                 journal,
                 row,
-            }),
+            })),
             None => Err(CommandFault::Files),
         },
         _ => Err(CommandFault::Form),
@@ -179,10 +181,9 @@ fn read_journal<'a>(matches: &ArgMatches<'a>) -> Result<JournalCommand<'a>, Comm
 }
 
 // What the values of `make` ask for.
-fn read_make(matches: &ArgMatches<'_>) -> Result<MakeCommand, CommandFault>
-    ensures read { Answers (λ s. Make (make_meant s))
-        (make_of (rows_of (found_of matches.now))) result }
-    ensures ranges { IfOk result (λ s. IsInRange (Make (make_meant s))) }
+fn read_make<'a>(matches: &ArgMatches<'a>) -> Result<CommandLine<'a>, CommandFault>
+    ensures read { Answers meaning_of (make_of (rows_of (found_of matches.now))) result }
+    ensures ranges { IfOk result (λ c. IsInRange (meaning_of c)) }
 {
     let kind = known_kind(text(matches, "KIND"));
     let seed = number(matches, "SEED", 0, SEED_MOST, None);
@@ -194,12 +195,12 @@ fn read_make(matches: &ArgMatches<'_>) -> Result<MakeCommand, CommandFault>
     match (seed, size, workers) {
         (Some(seed), Some(size), Some(workers)) => {
             if is_size(kind, size) {
-                Ok(MakeCommand {
+                Ok(CommandLine::Make(MakeCommand {
                     kind,
                     seed,
                     size,
                     workers,
-                })
+                }))
             } else {
                 Err(CommandFault::Size)
             }
@@ -215,23 +216,41 @@ fn read_command<'a>(name: &str, matches: &ArgMatches<'a>) -> Result<CommandLine<
     ensures ranges { IfOk result (λ c. IsInRange (meaning_of c)) }
 {
     match name {
-        "solve" => match read_solve(matches) {
-            Ok(command) => Ok(CommandLine::Solve(command)),
-            Err(fault) => Err(fault),
-        },
-        "check" => match read_check(matches) {
-            Ok(command) => Ok(CommandLine::Check(command)),
-            Err(fault) => Err(fault),
-        },
-        "journal" => match read_journal(matches) {
-            Ok(command) => Ok(CommandLine::Journal(command)),
-            Err(fault) => Err(fault),
-        },
-        _ => match read_make(matches) {
-            Ok(command) => Ok(CommandLine::Make(command)),
-            Err(fault) => Err(fault),
-        },
+        "solve" => read_solve(matches),
+        "check" => read_check(matches),
+        "journal" => read_journal(matches),
+        _ => read_make(matches),
     }
+}
+
+// What the values of a subcommand ask for, or the refusal of its words.
+fn read_subcommand<'a>(
+    alloc: Global,
+    name: &str,
+    matches: &ArgMatches<'a>,
+) -> Result<CommandLine<'a>, CommandRefusal>
+    ensures read { IfOk result (λ c. command_of name.now (rows_of (found_of matches.now))
+        ≡ Read (meaning_of c)) }
+    ensures ranges { IfOk result (λ c. IsInRange (meaning_of c)) }
+    ensures refused { IfErr result
+        (IsCause (command_of name.now (rows_of (found_of matches.now)))) }
+{
+    match read_command(name, matches) {
+        Ok(command) => Ok(command),
+        Err(fault) => Err(refuse(alloc, name, text(matches, "KIND"), fault)),
+    }
+}
+
+// What clap finds in the words.
+fn parse<'a>(alloc: Global, words: &'a [String]) -> Result<ArgMatches<'a>, Error>
+    ensures met { IfOk result (λ m. has_subcommand m ≡ true) }
+    ensures meaning { IfOk result (λ m. reading_of_words (map string_bytes words.entry.now)
+        ≡ command_met (subcommand_rows_of m)) }
+    ensures refused { IfErr result (λ e. kind_of e ≢ OutOfMemory
+        → reading_of_words (map string_bytes words.entry.now) ≡ Refused CommandFault.Form) }
+{
+    let program = program(alloc)?;
+    program.try_get_matches_from(words)
 }
 
 /// Reads the words after the program's name: the command that they are, or why they are none, with
@@ -245,18 +264,11 @@ pub fn read_words<'a>(alloc: Global, words: &'a [String]) -> Result<CommandLine<
     ensures refused { IfErr result
         (λ r. IsCause (reading_of_words (map string_bytes words.entry.now)) r) }
 {
-    let program = program(alloc)?;
-    match program.try_get_matches_from(words) {
+    match parse(alloc, words) {
         Ok(matches) => match matches.subcommand() {
-            Some((name, inner)) => match read_command(name, inner) {
-                Ok(command) => Ok(command),
-                Err(fault) => Err(refuse(alloc, name, text(inner, "KIND"), fault)),
-            },
+            Some((name, inner)) => read_subcommand(alloc, name, inner),
             None => unreachable!(),
         },
-        Err(error) => match error.kind() {
-            ErrorKind::OutOfMemory => Err(CommandRefusal::Memory),
-            _ => Err(form_refusal(alloc, &error)),
-        },
+        Err(error) => Err(form_refusal(alloc, &error)),
     }
 }

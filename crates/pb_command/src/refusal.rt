@@ -1,7 +1,11 @@
-ghost use Rattle.std.specs.Prelude.{◌≡◌, ◌≤◌, ◌+◌, true, length, IfOk, codes};
+ghost use Rattle.std.specs.Prelude.{◌≡◌, ◌≢◌, ◌≤◌, ◌+◌, true, length, IfOk, codes};
 ghost use Rattle.std.specs.String.{string_bytes};
 ghost use Rattle.std.specs.String.Boundary.{IsSplitPoint};
-ghost use Rattle.pb_command.specs.Causes.{IsRefusal, EndsLine, IsErrorText, IsLine, IsPrinted};
+ghost use Rattle.clap.specs.Words.{kind_of};
+ghost use Rattle.clap.specs.declared.error.kind.ErrorKind.TheVariants.{OutOfMemory};
+ghost use Rattle.pb_command.specs.Meaning.{Reading, Refused};
+ghost use Rattle.pb_command.specs.Causes.{IsCause, IsRefusal, EndsLine, IsErrorText, IsLine};
+ghost use Rattle.pb_command.specs.Causes.{IsPrinted};
 ghost use Rattle.pb_command.specs.Causes.{text_most};
 ghost use Rattle.pb_command.specs.declared.refusal.CommandRefusal.TheVariants.{Memory};
 
@@ -37,7 +41,7 @@ const ERROR: &str = "error: ";
 const REST_MOST: usize = 65_536 - 7;
 
 /// Lines that are to be printed, each of which ends with LF.
-#[derive(Debug, Drop)]
+#[derive(Drop)]
 pub struct Message {
     text: String,
 }
@@ -127,7 +131,7 @@ fn is_ended(text: &str) -> bool
 }
 
 /// Why words were not read.
-#[derive(Debug, Drop)]
+#[derive(Drop)]
 pub enum CommandRefusal {
     /// They are no command line, since they fail this test; the message is what is to be printed.
     Words(CommandFault, Message),
@@ -151,13 +155,18 @@ fn error_message(alloc: Global, error: &Error) -> Result<Message, AllocError>
     Message::of_clap(alloc, text.as_str())
 }
 
-// The refusal of clap, with its text.
+// The answer to an error of clap: the words are out of form, with clap's text, or memory ran out.
 pub(crate) fn form_refusal(alloc: Global, error: &Error) -> CommandRefusal
-    ensures { IsRefusal CommandFault.Form result }
+    ensures { (reading : Reading)
+        → (kind_of error.now ≢ OutOfMemory → reading ≡ Refused CommandFault.Form)
+        → IsCause reading result }
 {
-    match error_message(alloc, error) {
-        Ok(message) => CommandRefusal::Words(CommandFault::Form, message),
-        Err(_) => CommandRefusal::Memory,
+    match error.kind() {
+        ErrorKind::OutOfMemory => CommandRefusal::Memory,
+        _ => match error_message(alloc, error) {
+            Ok(message) => CommandRefusal::Words(CommandFault::Form, message),
+            Err(_) => CommandRefusal::Memory,
+        },
     }
 }
 
@@ -171,13 +180,28 @@ fn command_named<'a>(alloc: Global, name: &str) -> Result<Command<'a>, AllocErro
     }
 }
 
+// The error of clap for a mistake in the words of a subcommand.
+fn clap_error(alloc: Global, name: &str, mistake: &str) -> Result<Error, AllocError> {
+    let mut command = command_named(alloc, name)?.disable_help_flag(true);
+    command.error(ErrorKind::InvalidValue, mistake)
+}
+
 // The message of clap for a mistake in the words of a subcommand.
 fn clap_message(alloc: Global, name: &str, mistake: &str) -> Result<Message, AllocError>
     ensures { IfOk result IsErrorText }
 {
-    let mut command = command_named(alloc, name)?.disable_help_flag(true);
-    let error = command.error(ErrorKind::InvalidValue, mistake)?;
+    let error = clap_error(alloc, name, mistake)?;
     error_message(alloc, &error)
+}
+
+// The message of clap for a word that names no kind.
+fn kind_message(alloc: Global, name: &str, word: &str) -> Result<Message, AllocError>
+    ensures { IfOk result IsErrorText }
+{
+    let mistake = format!(in alloc;
+        "invalid value '{word}' for '<KIND>'\n  [possible values: grid, tiles, strips]"
+    )?;
+    clap_message(alloc, name, mistake.as_str())
 }
 
 // What is printed if the words of a subcommand fail a test. The word is the one in the place of the
@@ -192,13 +216,7 @@ pub(crate) fn message_of(
 {
     match fault {
         CommandFault::Form => clap_message(alloc, name, "a required value is missing"),
-        CommandFault::Kind => {
-            let word = word.unwrap_or("");
-            let mistake = format!(in alloc;
-                "invalid value '{word}' for '<KIND>'\n  [possible values: grid, tiles, strips]"
-            )?;
-            clap_message(alloc, name, mistake.as_str())
-        }
+        CommandFault::Kind => kind_message(alloc, name, word.unwrap_or("")),
         CommandFault::Files => Message::of_line(alloc, "words files"),
         CommandFault::Weight => Message::of_line(alloc, "words weight"),
         CommandFault::Names => Message::of_line(alloc, "words names"),

@@ -8,7 +8,7 @@ use std::alloc::AllocError;
 
 /// Why a line of a journal is refused. If several of these are true of a line, the first in the
 /// order that the formats state decides.
-#[derive(Clone, Copy, Debug, PartialEq, Eq)]
+#[derive(Clone, Copy, PartialEq, Eq)]
 pub enum Why {
     /// The line is not spelled as a line at that place must be, or the text ends within it.
     Spelling,
@@ -42,14 +42,14 @@ pub enum Why {
 
 /// The first line that is refused, and why. Lines are counted from 1; a line that is missing is the
 /// one after the last.
-#[derive(Clone, Copy, Debug, PartialEq, Eq)]
+#[derive(Clone, Copy)]
 pub(crate) struct Fault {
     pub(crate) line: u64,
     pub(crate) why: Why,
 }
 
 /// Why a journal is not accepted.
-#[derive(Clone, Copy, Debug, PartialEq, Eq)]
+#[derive(Clone, Copy, PartialEq, Eq)]
 pub enum JournalError {
     /// This line is the first that is refused. Lines are counted from 1; a line that is missing is
     /// the one after the last.

@@ -15,7 +15,7 @@ use std::alloc::{AllocError, Global};
 /// Who has which lease and who has signed off, by worker; which blocks are hot; and what was spent
 /// and is left of the budget. Also the search's end, if it has ended, and whether the event before
 /// reported out of memory while it had not.
-#[derive(Debug, Drop)]
+#[derive(Drop)]
 pub struct Replay {
     pub leases: Vec<Option<Grant>>,
     pub hot: Vec<bool>,

@@ -2,7 +2,7 @@ use pb_machine::End;
 
 /// An event as a line of a journal states it, with numbers of any size below 2^63. The fields are
 /// those of the event.
-#[derive(Clone, Copy, Debug, PartialEq, Eq)]
+#[derive(Clone, Copy)]
 pub enum StatedEvent {
     Lease {
         worker: u64,

@@ -10,7 +10,7 @@ pub trait Gate: Sync {
 }
 
 /// A gate that holds nobody: each call returns at once.
-#[derive(Clone, Copy, Debug)]
+#[derive(Clone, Copy)]
 pub struct OpenGate;
 
 impl Gate for OpenGate {

@@ -1,5 +1,5 @@
 //! Lines of words and numbers, at the end of a list of bytes.
-ghost use Rattle.std.specs.Prelude.{◌≡◌, ◌++◌, OnOk, map};
+ghost use Rattle.std.specs.Prelude.{◌≡◌, ◌++◌, [], OnOk, map};
 ghost use Rattle.std.specs.Fmt.{decimal};
 ghost use Rattle.pb_model.specs.Texts.{line, lines, spaced};
 ghost use Rattle.pb_task.specs.Parts.{space_of, action_name};
@@ -39,6 +39,16 @@ pub(crate) fn push_with_numbers(
     push_with_number(out, between, second)
 }
 
+// A text, a number and a space.
+fn push_spaced(out: &mut Vec<u8>, text: &[u8], number: u64) -> Result<(), AllocError>
+    ensures { OnOk result (out.new.items ≡ out.old.items
+        ++ (text.now ++ spaced (decimal number) [])) }
+{
+    push_text(out, text)?;
+    push_number(out, number)?;
+    push_text(out, b" ")
+}
+
 // A line of a text, two numbers and a word, with spaces between them.
 pub(crate) fn push_with_numbers_and_word(
     out: &mut Vec<u8>,
@@ -50,11 +60,8 @@ pub(crate) fn push_with_numbers_and_word(
     ensures { OnOk result (out.new.items ≡ out.old.items ++ line
         (text.now ++ spaced (decimal first) (spaced (decimal second) word.now))) }
 {
-    push_text(out, text)?;
-    push_number(out, first)?;
-    push_text(out, b" ")?;
-    push_number(out, second)?;
-    push_text(out, b" ")?;
+    push_spaced(out, text, first)?;
+    push_spaced(out, b"", second)?;
     push_line(out, word)
 }
 
@@ -69,9 +76,7 @@ pub(crate) fn push_with_wide(
         (text.now ++ spaced (decimal first) (decimal second))) }
 {
     let mut buffer = Buffer::new();
-    push_text(out, text)?;
-    push_number(out, first)?;
-    push_text(out, b" ")?;
+    push_spaced(out, text, first)?;
     push_line(out, buffer.format(second).as_bytes())
 }
 

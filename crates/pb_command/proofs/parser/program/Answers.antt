@@ -1,4 +1,3 @@
-use Rattle.std.proofs.lemmas.Result.{IfOk-weaker}
 use Rattle.pb_command.specs.Parser.{the_program}
 use Rattle.pb_command.proofs.parser.program.Goals as goal
 
