@@ -79,7 +79,7 @@ pub struct Grant {
 }
 
 /// Why an event may not come next.
-#[derive(Clone, Copy, Debug, PartialEq, Eq)]
+#[derive(Clone, Copy, PartialEq, Eq)]
 pub enum EventRefusal {
     /// The search has already ended.
     Ended,
