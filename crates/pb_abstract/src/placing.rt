@@ -1,5 +1,5 @@
 /// The cells of a board that the blank and the tiles 1 and 2 are in.
-#[derive(Clone, Copy, Debug, PartialEq, Eq)]
+#[derive(Clone, Copy)]
 pub struct Placing {
     /// The blank's cell.
     pub blank: u32,

@@ -1,7 +1,7 @@
 use crate::tracked::TrackedAtoms;
 
 /// How the states of a task are mapped to blocks.
-#[derive(Clone, Copy, Debug, PartialEq, Eq)]
+#[derive(Clone, Copy)]
 pub enum Projection {
     /// On a grid: by the square of cells that the state's cell lies in.
     Squares {

@@ -8,7 +8,7 @@ use std::marker::Model;
 const MOST: usize = 12;
 
 /// The numbers of the ground atoms that are tracked, at most 12. Contracts see them as a list.
-#[derive(Clone, Copy, Debug, PartialEq, Eq)]
+#[derive(Clone, Copy, PartialEq, Eq)]
 pub struct TrackedAtoms {
     atoms: [u8; MOST],
     count: usize,

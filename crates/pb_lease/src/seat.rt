@@ -5,7 +5,7 @@ ghost use Rattle.pb_lease.specs.Tables.{vacant};
 use pb_machine::Grant;
 
 /// What a worker has.
-#[derive(Clone, Copy, Debug, PartialEq, Eq)]
+#[derive(Clone, Copy)]
 pub struct Seat {
     /// Its lease, or None.
     pub grant: Option<Grant>,

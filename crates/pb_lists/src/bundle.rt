@@ -43,7 +43,7 @@ impl Model for Bundle {
 }
 
 /// What became of an offer.
-#[derive(Clone, Copy, Debug, PartialEq, Eq)]
+#[derive(Clone, Copy, PartialEq, Eq)]
 pub enum Offer {
     /// The state had no row and has one now.
     New,

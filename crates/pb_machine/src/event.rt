@@ -12,7 +12,7 @@ pub enum End {
 /// An event of the lease machine of Parallel Best-NBlock-First search (Burns, Lemons, Ruml and
 /// Zhou, 2010), as a line of a journal. Workers and blocks are numbered from 0. Quotas and used
 /// numbers are in expansions.
-#[derive(Clone, Copy, Debug, PartialEq, Eq)]
+#[derive(Clone, Copy, PartialEq, Eq)]
 pub enum Event {
     /// The worker takes the rows of the block's scope, and may make so many expansions of the
     /// block's rows.
@@ -79,7 +79,7 @@ pub struct Grant {
 }
 
 /// Why an event may not come next.
-#[derive(Clone, Copy, Debug, PartialEq, Eq)]
+#[derive(Clone, Copy, PartialEq, Eq)]
 pub enum EventRefusal {
     /// The search has already ended.
     Ended,

@@ -1,5 +1,5 @@
 /// The settings of a search.
-#[derive(Clone, Copy, Debug, PartialEq, Eq)]
+#[derive(Clone, Copy, PartialEq, Eq)]
 pub struct Settings {
     /// How many workers there are: 1 to 64.
     pub workers: u32,

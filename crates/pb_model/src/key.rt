@@ -7,7 +7,7 @@ use std::cmp::Ordering;
 
 /// The order of open rows: by the sum den * g + num * h for a weight of num / den, and then by h
 /// (Pohl 1970). The key of a row whose estimate is `Estimate::Dead` comes after all others.
-#[derive(Clone, Copy, Debug)]
+#[derive(Clone, Copy)]
 pub enum Key {
     /// The key of a row whose estimate is known.
     Sum { sum: u128, h: u64 },

@@ -24,7 +24,7 @@ pub enum Status {
 }
 
 /// What a search knows of a state that it has met.
-#[derive(Clone, Copy, Debug, PartialEq, Eq)]
+#[derive(Clone, Copy, PartialEq, Eq)]
 pub struct Row {
     /// The cost of a known walk from the start to the state.
     pub g: u64,
@@ -39,7 +39,7 @@ pub struct Row {
 }
 
 /// A successor of a state.
-#[derive(Clone, Copy, Debug, PartialEq, Eq)]
+#[derive(Clone, Copy, PartialEq, Eq)]
 pub struct Succ {
     /// The number of the action that leads to it.
     pub action: u32,
