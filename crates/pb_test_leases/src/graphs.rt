@@ -341,7 +341,7 @@ fn graphs_lease_mark_renew_and_switch(rt: HostRuntime) {
         wish: 256,
         plain: false,
     };
-    assert_eq!(rt; waiting(rt.alloc()), Ok((Some((22, true, 1)), settings, 2)));
+    assert!(rt; waiting(rt.alloc()) == Ok((Some((22, true, 1)), settings, 2)));
     let answers = [true, false, false, false, true, false];
     let marked = Some((9, 0, None, answers, 61));
     assert_eq!(rt; marking(rt.alloc()), Ok((marked, 4, None)));

@@ -230,47 +230,38 @@ fn is_off(event: &Event) -> bool {
     )
 }
 
+// The journal of two workers, the first of whom had a lease.
+const ONE_JOURNAL: [Event; 5] = [
+    Event::Lease {
+        worker: 0,
+        block: 19,
+        quota: 256,
+    },
+    Event::Release {
+        worker: 0,
+        used: 0,
+        memory: true,
+    },
+    Event::Ended(End::Memory),
+    Event::Off {
+        worker: 0,
+        memory: false,
+    },
+    Event::Off {
+        worker: 1,
+        memory: false,
+    },
+];
+
 #[test]
 fn two_passes_on_one_thread_make_one_journal(rt: HostRuntime) -> Result<(), Fail> {
     let (yard, first) = open(&rt, rt.alloc());
     let (beside, seen, graph) = on_one_thread(&rt, yard, first);
     assert_eq!(rt; beside, Some((true, 1)));
     assert_eq!(rt; seen, [4, 5]);
-    let journal = graph.journal();
-    assert_eq!(rt; journal.len(), 5);
     // the blank is in the last of 4 cells, tile 1 in the first of the 3 others, and tile 2 in the
     // second of the 2 that are left
-    assert_eq!(rt;
-        journal[0],
-        Event::Lease {
-            worker: 0,
-            block: 19,
-            quota: 256
-        }
-    );
-    assert_eq!(rt;
-        journal[1],
-        Event::Release {
-            worker: 0,
-            used: 0,
-            memory: true
-        }
-    );
-    assert_eq!(rt; journal[2], Event::Ended(End::Memory));
-    assert_eq!(rt;
-        journal[3],
-        Event::Off {
-            worker: 0,
-            memory: false
-        }
-    );
-    assert_eq!(rt;
-        journal[4],
-        Event::Off {
-            worker: 1,
-            memory: false
-        }
-    );
+    assert!(rt; graph.journal() == ONE_JOURNAL.as_slice());
     Ok(())
 }
 
