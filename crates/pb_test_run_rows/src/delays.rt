@@ -1,5 +1,6 @@
 //! Searches of a corridor by several workers, whose only right answer is known.
 use crate::gate::DelayGate;
+use crate::lines::Lines;
 use pb_outside::{MemShelf, MemSink, Memory};
 use pb_test_run::{gated_outcome, outcome};
 use std::alloc::Global;
@@ -65,8 +66,8 @@ fn is_right<R: Threads + Wait + Sync>(rt: &R, alloc: Global, seed: u64) -> Resul
     Ok(closed == 9 && checked == 0 && judged == 0 && said)
 }
 
-/// How many of so many runs, each with a seed of its own, are right.
-pub fn right_runs<R: Threads + Wait + Sync>(
+// How many of so many runs, each with a seed of its own, are right.
+fn count_right<R: Threads + Wait + Sync>(
     rt: &R,
     alloc: Global,
     runs: u64,
@@ -79,4 +80,22 @@ pub fn right_runs<R: Threads + Wait + Sync>(
         }
     }
     Ok(right)
+}
+
+/// How many of so many runs are right, each with a seed of its own from the first one on, as a
+/// line. None if a word is no number.
+pub(crate) fn right_runs<R: Threads + Wait + Sync>(
+    rt: &R,
+    alloc: Global,
+    runs: &str,
+    seed: &str,
+) -> Result<Option<Lines>, Memory> {
+    let (Ok(runs), Ok(seed)) = (runs.parse::<u64>(), seed.parse::<u64>()) else {
+        return Ok(None);
+    };
+    let right = count_right(rt, alloc, runs, seed)?;
+    let line = format!(in alloc; "{right} of {runs} runs are right, from seed {seed}\n")?;
+    let mut lines = Lines::new(alloc);
+    lines.first(line.as_str())?;
+    Ok(Some(lines))
 }

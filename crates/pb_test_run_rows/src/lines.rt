@@ -29,6 +29,13 @@ impl Lines {
         Ok(())
     }
 
+    // Adds bytes as they are.
+    pub(crate) fn bytes(&mut self, bytes: &[u8]) -> Result<(), Memory> {
+        let text = String::from_utf8_lossy(self.alloc, bytes)?;
+        self.text.push_str(text.as_str())?;
+        Ok(())
+    }
+
     // Adds bytes that are a word, and the place where they stand.
     pub(crate) fn name(&mut self, bytes: &[u8], at: u64) -> Result<(), Memory> {
         let name = String::from_utf8_lossy(self.alloc, bytes)?;
