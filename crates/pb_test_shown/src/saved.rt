@@ -91,13 +91,10 @@ fn certificate_of<'a, S: Store>(
     Certificate::of(alloc, "grid", 1, 1, plan, store)
 }
 
-// A shelf with room for so many bytes, that fails at a call if it is to.
-fn shelf_for(alloc: Global, room: u128, failing: Option<u64>) -> Result<MemShelf, Memory> {
+// A shelf with room for so many bytes.
+fn shelf_for(alloc: Global, room: u128) -> Result<MemShelf, Memory> {
     let mut shelf = MemShelf::new(alloc)?;
     shelf.reserve("c", room)?;
-    if let Some(call) = failing {
-        shelf.fail(call, 0)?;
-    }
     Ok(shelf)
 }
 
@@ -124,14 +121,10 @@ struct Saved {
     file: Option<Vec<u8>>,
 }
 
-// Saves a certificate on a shelf with room for it, that fails at a call if it is to.
-fn save(
-    alloc: Global,
-    certificate: &Certificate<'_>,
-    failing: Option<u64>,
-) -> Result<Saved, Memory> {
+// Saves a certificate on a shelf with room for it.
+fn save(alloc: Global, certificate: &Certificate<'_>) -> Result<Saved, Memory> {
     let length = certificate.len();
-    let mut shelf = shelf_for(alloc, length, failing)?;
+    let mut shelf = shelf_for(alloc, length)?;
     let answer = write(certificate, &mut shelf);
     let file = file(alloc, &shelf)?;
     Ok(Saved {
@@ -147,11 +140,10 @@ fn save_one(
     alloc: Global,
     rows: &[(u32, u64, Status)],
     plan: Option<Plan>,
-    failing: Option<u64>,
 ) -> Result<Saved, Memory> {
     let bundle = bundle_of(alloc, rows)?;
     let certificate = certificate_of(alloc, plan, &bundle)?;
-    save(alloc, &certificate, failing)
+    save(alloc, &certificate)
 }
 
 // The certificate of two parts, saved.
@@ -166,7 +158,7 @@ fn save_two(
         second: bundle_of(alloc, second)?,
     };
     let certificate = certificate_of(alloc, plan, &store)?;
-    save(alloc, &certificate, None)
+    save(alloc, &certificate)
 }
 
 // Whether all is saved, and is this text.
@@ -224,11 +216,11 @@ fn plan_of_four(alloc: Global) -> Result<Plan, AllocError> {
 #[test]
 fn certificates_are_saved(rt: HostRuntime) -> Result<(), Fail> {
     let alloc = rt.alloc();
-    let one = save_one(alloc, &ALL, Some(plan_of_four(alloc)?), None)?;
+    let one = save_one(alloc, &ALL, Some(plan_of_four(alloc)?))?;
     assert!(rt; is_whole(&one, true, OPEN_SQUARE));
     let two = save_two(alloc, &FIRST, &SECOND, Some(plan_of_four(alloc)?))?;
     assert!(rt; is_whole(&two, true, OPEN_SQUARE));
-    let none = save_one(alloc, &ROW, None, None)?;
+    let none = save_one(alloc, &ROW, None)?;
     assert!(rt; is_whole(&none, false, WALL));
     Ok(())
 }
@@ -292,20 +284,5 @@ fn a_plan_is_read_off_the_rows(rt: HostRuntime) -> Result<(), Fail> {
     let task = two_cells(rt.alloc())?;
     assert!(rt; is_step(plan_of_step(rt.alloc(), &task, 3)?, 3, 1));
     assert!(rt; is_step(plan_over_two_parts(rt.alloc(), &task, 3)?, 3, 1));
-    Ok(())
-}
-
-#[test]
-fn pieces_end_with_lines(rt: HostRuntime) -> Result<(), Fail> {
-    let mut rows = Vec::new(rt.alloc());
-    for state in 0..100u32 {
-        rows.push((state, 7, Status::Closed))?;
-    }
-    let saved = save_one(rt.alloc(), &rows, None, Some(3))?;
-    assert!(rt; saved.length == 7458 && saved.answer == Err(Failed));
-    let file = saved.file.unwrap_or(Vec::new(rt.alloc()));
-    assert!(rt; file.len() <= 4096);
-    assert!(rt; file.len() > 3968);
-    assert!(rt; file.last() == Some(&b'\n'));
     Ok(())
 }
