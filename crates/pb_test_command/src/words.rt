@@ -1,5 +1,8 @@
-use pb_command::{CommandRefusal, read_words};
-use std::alloc::Global;
+use pb_command::{
+    CheckCommand, CommandLine, CommandRefusal, Input, JournalCommand, KindWord, MakeCommand,
+    SolveCommand, read_words,
+};
+use std::alloc::{AllocError, Global};
 use std::process::Abort;
 
 fn words_of<R: Abort>(rt: &R, alloc: Global, line: &str) -> Vec<String> {
@@ -11,11 +14,71 @@ fn words_of<R: Abort>(rt: &R, alloc: Global, line: &str) -> Vec<String> {
     words
 }
 
+// The kind of a task, and the names of its files.
+fn input_text(alloc: Global, input: &Input<'_>) -> Result<String, AllocError> {
+    match input {
+        Input::Grid(files) => format!(in alloc; "grid {} {}", files.map, files.scenario),
+        Input::Tiles(board) => format!(in alloc; "tiles {board}"),
+        Input::Strips(files) => format!(in alloc; "strips {} {}", files.domain, files.problem),
+    }
+}
+
+fn solve_text(alloc: Global, command: &SolveCommand<'_>) -> Result<String, AllocError> {
+    let input = input_text(alloc, &command.input)?;
+    let SolveCommand {
+        row,
+        workers,
+        num,
+        den,
+        budget,
+        lot,
+        blocks,
+        ..
+    } = command;
+    let numbers = format!(in alloc; "{row} {workers} {num}/{den} {budget} {lot} {blocks}")?;
+    let (plain, swamp) = (command.plain, command.swamp);
+    let (saved, noted) = (command.certificate, command.journal);
+    format!(in alloc; "solve {input}: {numbers} {plain} {swamp} {saved:?} {noted:?}\n")
+}
+
+fn check_text(alloc: Global, command: &CheckCommand<'_>) -> Result<String, AllocError> {
+    let input = input_text(alloc, &command.input)?;
+    let (name, row, swamp) = (command.certificate, command.row, command.swamp);
+    format!(in alloc; "check {name} {input}: {row} {swamp}\n")
+}
+
+fn journal_text(alloc: Global, command: &JournalCommand<'_>) -> Result<String, AllocError> {
+    let input = input_text(alloc, &command.input)?;
+    format!(in alloc; "journal {} {input}: {}\n", command.journal, command.row)
+}
+
+fn make_text(alloc: Global, command: &MakeCommand) -> Result<String, AllocError> {
+    let kind = match command.kind {
+        KindWord::Grid => "grid",
+        KindWord::Tiles => "tiles",
+        KindWord::Strips => "strips",
+    };
+    format!(in alloc;
+        "make {kind}: {} {} {}\n",
+        command.seed, command.size, command.workers
+    )
+}
+
+// What words ask for, as a line. After the files come the numbers in their order, flags and names.
+fn command_text(alloc: Global, command: &CommandLine<'_>) -> Result<String, AllocError> {
+    match command {
+        CommandLine::Solve(command) => solve_text(alloc, command),
+        CommandLine::Check(command) => check_text(alloc, command),
+        CommandLine::Journal(command) => journal_text(alloc, command),
+        CommandLine::Make(command) => make_text(alloc, command),
+    }
+}
+
 // What the words of a line are answered: the command, or the fault, and below it the message.
 fn answer<R: Abort>(rt: &R, alloc: Global, line: &str) -> String {
     let words = words_of(rt, alloc, line);
     let text = match read_words(alloc, words.as_slice()) {
-        Ok(command) => format!(in alloc; "{command:?}\n"),
+        Ok(command) => command_text(alloc, &command),
         Err(CommandRefusal::Words(fault, message)) => {
             let Ok(text) = std::str::from_utf8(message.as_bytes()) else {
                 panic!(rt; "no text")
@@ -50,61 +113,45 @@ fn answer_to_long_kind<R: Abort>(rt: &R, alloc: Global, letter: &str) -> (usize,
     (text.len(), text.starts_with("Kind\n"), text.ends_with("\n"))
 }
 
-// Options may stand anywhere after the command. Those that aren't given have their defaults.
+// Options may stand anywhere after the command. Those that aren't given have their defaults. A line
+// of `solve` has the row, the workers, the weight, the budget, the lot, the blocks, `--plain`,
+// `--swamp` and the names of certificate and journal.
 const COMMANDS: &str = "\
 > solve grid m --row 1000000 s --budget=1099511627776 --lot 1048576 --blocks=4096 --cert c \
 --workers 64 --swamp --num=1000 --plain --den 999 --trace=t
-Solve(SolveCommand { input: Grid(GridFiles { map: \"m\", scenario: \"s\" }), row: 1000000, \
-workers: 64, num: 1000, den: 999, budget: 1099511627776, lot: 1048576, blocks: 4096, plain: true, \
-swamp: true, certificate: Some(\"c\"), journal: Some(\"t\") })
+solve grid m s: 1000000 64 1000/999 1099511627776 1048576 4096 true true Some(\"c\") Some(\"t\")
 > check grid c m s
-Check(CheckCommand { input: Grid(GridFiles { map: \"m\", scenario: \"s\" }), certificate: \"c\", \
-row: 0, swamp: false })
+check c grid m s: 0 false
 > check grid --swamp c m s
-Check(CheckCommand { input: Grid(GridFiles { map: \"m\", scenario: \"s\" }), certificate: \"c\", \
-row: 0, swamp: true })
+check c grid m s: 0 true
 > solve tiles --row 7 b --budget=1 --cert c
-Solve(SolveCommand { input: Tiles(\"b\"), row: 7, workers: 1, num: 1, den: 1, budget: 1, lot: 256, \
-blocks: 256, plain: false, swamp: false, certificate: Some(\"c\"), journal: None })
+solve tiles b: 7 1 1/1 1 256 256 false false Some(\"c\") None
 > check tiles c b
-Check(CheckCommand { input: Tiles(\"b\"), certificate: \"c\", row: 0, swamp: false })
+check c tiles b: 0 false
 > solve strips d --row 7 p --blocks=16 --lot 1 --cert c
-Solve(SolveCommand { input: Strips(StripsFiles { domain: \"d\", problem: \"p\" }), row: 7, \
-workers: 1, num: 1, den: 1, budget: 16777216, lot: 1, blocks: 16, plain: false, swamp: false, \
-certificate: Some(\"c\"), journal: None })
+solve strips d p: 7 1 1/1 16777216 1 16 false false Some(\"c\") None
 > check strips c d p
-Check(CheckCommand { input: Strips(StripsFiles { domain: \"d\", problem: \"p\" }), certificate: \
-\"c\", row: 0, swamp: false })
+check c strips d p: 0 false
 > solve grid m s
-Solve(SolveCommand { input: Grid(GridFiles { map: \"m\", scenario: \"s\" }), row: 0, workers: 1, \
-num: 1, den: 1, budget: 16777216, lot: 256, blocks: 256, plain: false, swamp: false, certificate: \
-None, journal: None })
+solve grid m s: 0 1 1/1 16777216 256 256 false false None None
 > solve grid m s --lot 1
-Solve(SolveCommand { input: Grid(GridFiles { map: \"m\", scenario: \"s\" }), row: 0, workers: 1, \
-num: 1, den: 1, budget: 16777216, lot: 1, blocks: 256, plain: false, swamp: false, certificate: \
-None, journal: None })
+solve grid m s: 0 1 1/1 16777216 1 256 false false None None
 > solve grid m s --lot=1048576
-Solve(SolveCommand { input: Grid(GridFiles { map: \"m\", scenario: \"s\" }), row: 0, workers: 1, \
-num: 1, den: 1, budget: 16777216, lot: 1048576, blocks: 256, plain: false, swamp: false, \
-certificate: None, journal: None })
+solve grid m s: 0 1 1/1 16777216 1048576 256 false false None None
 > solve tiles b --blocks 16
-Solve(SolveCommand { input: Tiles(\"b\"), row: 0, workers: 1, num: 1, den: 1, budget: 16777216, \
-lot: 256, blocks: 16, plain: false, swamp: false, certificate: None, journal: None })
+solve tiles b: 0 1 1/1 16777216 256 16 false false None None
 > solve tiles --blocks=4096 b
-Solve(SolveCommand { input: Tiles(\"b\"), row: 0, workers: 1, num: 1, den: 1, budget: 16777216, \
-lot: 256, blocks: 4096, plain: false, swamp: false, certificate: None, journal: None })
+solve tiles b: 0 1 1/1 16777216 256 4096 false false None None
 > solve tiles --blocks=17 b --lot=2
-Solve(SolveCommand { input: Tiles(\"b\"), row: 0, workers: 1, num: 1, den: 1, budget: 16777216, \
-lot: 2, blocks: 17, plain: false, swamp: false, certificate: None, journal: None })
+solve tiles b: 0 1 1/1 16777216 2 17 false false None None
 > journal grid j --row=7 m s
-Journal(JournalCommand { input: Grid(GridFiles { map: \"m\", scenario: \"s\" }), journal: \"j\", \
-row: 7 })
+journal j grid m s: 7
 > make grid 0 2048
-Make(MakeCommand { kind: Grid, seed: 0, size: 2048, workers: 1 })
+make grid: 0 2048 1
 > make tiles 4294967295 --workers 64 0
-Make(MakeCommand { kind: Tiles, seed: 4294967295, size: 0, workers: 64 })
+make tiles: 4294967295 0 64
 > make --workers=2 strips +07 14
-Make(MakeCommand { kind: Strips, seed: 7, size: 14, workers: 2 })
+make strips: 7 14 2
 ";
 
 // The words are tested in a fixed order. The first test that fails gives the answer.

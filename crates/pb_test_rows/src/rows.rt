@@ -220,7 +220,7 @@ pub fn do_rows<R: Threads + Wait + Sync, C: Command>(
         };
         do_row(rt, alloc, command, &mut texts, lines, first, &mut notes)?;
         pieces = pieces.saturating_add(1);
-        number = number.saturating_add(piece.lines().count() as u64);
+        number = number.saturating_add(piece.split('\n').count() as u64);
     }
     Ok(Tally {
         rows: pieces.saturating_sub(1),

@@ -34,6 +34,7 @@ fn escaped(byte: u8) -> u8 {
         b'n' => b'\n',
         b't' => b'\t',
         b's' => b' ',
+        b'!' => 255,
         other => other,
     }
 }

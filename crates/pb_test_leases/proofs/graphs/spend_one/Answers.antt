@@ -1,5 +1,0 @@
-use Rattle.std.proofs.Common.{refl}
-use Rattle.pb_test_leases.proofs.graphs.spend_one.Goals as goal
-
-pub release-requires : goal.release-requires
-release-requires c = (c.in-Kept.ensures.kept c.in-Kept.lease refl).1.of_graph

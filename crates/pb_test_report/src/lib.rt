@@ -1,5 +1,0 @@
-//! Tests of reports, byte for byte.
-#![tactic(auto)]
-
-#[cfg(test)]
-mod reports;

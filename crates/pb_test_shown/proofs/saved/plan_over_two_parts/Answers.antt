@@ -1,0 +1,18 @@
+use Rattle.std.proofs.Common.{sym, ap, ◌∙◌}
+use Rattle.pb_lists.specs.Bundle.{Content, row_of}
+use Rattle.pb_task.specs.Parts.{space_of, greatest_cost}
+use Rattle.pb_task.proofs.Grids.{tasks_are_proper}
+use Rattle.pb_test_shown.proofs.TwoRows.{two_parts_are_sound}
+use Rattle.pb_test_shown.proofs.saved.plan_over_two_parts.Goals as goal
+
+pub trace-requires-clause-sound : goal.trace-requires-clause-sound
+trace-requires-clause-sound c =
+    two_parts_are_sound (space_of c.args.task.now) greatest_cost (tasks_are_proper c.args.task.now c.initial-start.ensures.lawful).0 c.initial-start.result c.args.action _ _
+    c.in_ok-first.first c.offer.new.self c.offer-2.new.self c.in_ok-second.second c.initial-start.ensures.start
+    (λ state. ap (λ (content : Content). row_of content state) c.in_ok-first.ensures)
+    (λ state. ap (λ (content : Content). row_of content state) c.in_ok-second.ensures)
+    (ap (λ (content : Content). content.weight) c.in_ok-offer.ensures.put ∙ ap (λ (content : Content). content.weight) c.in_ok-first.ensures)
+    (sym c.in-Some.ensures) c.if-eq.ensures c.in_ok-offer.ensures.sets c.in_ok-offer-2.ensures.sets
+
+pub apply-requires : goal.apply-requires
+apply-requires c = rw c.initial-start.ensures.start ((tasks_are_proper c.args.task.now c.initial-start.ensures.lawful).0.start)
