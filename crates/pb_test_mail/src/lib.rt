@@ -1,0 +1,5 @@
+//! Tests of `pb_mail`.
+#![tactic(auto)]
+
+#[cfg(test)]
+mod posting;
