@@ -74,10 +74,11 @@ fn only_successor<R: Abort>(rt: &R, alloc: Global, task: &Task, state: &Packed) 
 {
     let mut succs = Vec::with_capacity(alloc, task.max_degree() as usize).expect(rt, "memory");
     task.successors(state, &mut succs);
-    if succs.len() != 1 {
+    let found = succs.as_slice();
+    if found.len() != 1 {
         panic!(rt; "one successor");
     }
-    let succ = succs[0];
+    let succ = found[0];
     if !task.is_state(&succ.state) {
         panic!(rt; "a state");
     }

@@ -13,7 +13,7 @@ pub offer-requires-clause-there : goal.offer-requires-clause-there
 offer-requires-clause-there g c =
     let t = c.args.task.now in
     let a = c.args.abstraction.now in
-    let s = c.first_row.result.0 in
+    let s = c.first_row-state.result.0 in
     subst (λ block. IsSome (content_in c.args.lease.now.parts block)) (sym c.block-block.ensures.block)
     (only_leads (space_of t) (guide_of t a) s c.args.lease.now.parts c.only_successor-succ.result c.only_successor-succ.ensures.only (c.requires.there s c.see_that_it_is_expanded.ensures.home))
 
@@ -32,12 +32,12 @@ pub returns-clause-worked : goal.returns-clause-worked
 returns-clause-worked g c =
     let t = c.args.task.now in
     let a = c.args.abstraction.now in
-    let s = c.first_row.result.0 in
+    let s = c.first_row-state.result.0 in
     let succ = c.only_successor-succ.result in
     let see = c.see_that_it_is_expanded.ensures in
-    worked_by_hand (space_of t) (guide_of t a) c.args.lease.now c.offer.new.lease c.close.new.lease c.spend.new.self s c.first_row.result.1 succ c.first_row.ensures
+    worked_by_hand (space_of t) (guide_of t a) c.args.lease.now c.offer.new.lease c.close.new.lease c.spend.new.self s c.first_row-state.result.1 succ c.first_row-state.ensures
     see.home see.no_goal see.kept c.only_successor-succ.ensures.only
-    (subst (λ block. OffersAt c.args.lease.now c.offer.new.lease block succ.state (c.first_row.result.1.g + succ.cost) (estimate_of t succ.state) (Some s) succ.action) c.block-block.ensures.block c.offer.ensures.rows)
+    (subst (λ block. OffersAt c.args.lease.now c.offer.new.lease block succ.state (c.first_row-state.result.1.g + succ.cost) (estimate_of t succ.state) (Some s) succ.action) c.block-block.ensures.block c.offer.ensures.rows)
     c.offer.ensures.changes c.close.ensures.rows c.close.ensures.changes c.spend.ensures
 
 pub returns-clause-changes : goal.returns-clause-changes
