@@ -18,8 +18,8 @@ use Rattle.pb_bundles.specs.Parts.{content_in}
 use Rattle.pb_lease.specs.LeaseValue.{LeaseValue, leased_store, HasWeights, IsSameLease}
 use Rattle.pb_lease.specs.Leased.{guide_of, setup_of, grant_of, HasScope, IsOut, IsInTurns}
 use Rattle.pb_expand.specs.Turned.{own_rows, IsAtWork, reads_none, HasTurned}
-use Rattle.pb_expand.specs.Rows.{LeadsInto}
-use Rattle.pb_expand.proofs.Same.{same_places}
+use Rattle.pb_lease.specs.Rows.{LeadsInto}
+use Rattle.pb_lease.proofs.Same.{same_places}
 use Rattle.pb_expand.proofs.Turned.{turned_on}
 
 -- costs of a task are in the range of the planner

@@ -1,7 +1,4 @@
 mod Examples
-pub mod Fewer
-pub mod Changed
-pub mod Same
 pub mod Turned
 pub mod Known
 pub mod Listed

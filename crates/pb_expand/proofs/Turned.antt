@@ -1,19 +1,17 @@
 -- Turns of a lease.
-use Rattle.std.proofs.Common.{◌≡◌, ℕ, ◌+◌, ◌<◌, cond, List, [], ◌∷◌, ◌++◌, length, take, get_or, Bool, Option, Some, IsTrue, refl, sym, ap, ◌∙◌, subst, arith, inl, inr}
+use Rattle.std.proofs.Common.{◌≡◌, ℕ, ◌+◌, ◌<◌, List, [], ◌∷◌, ◌++◌, take, Bool, Option, Some, IsTrue, refl, sym, ap, ◌∙◌, subst, arith, inl, inr}
 use Rattle.std.specs.List.{AllByRecursion}
-use Rattle.std.proofs.lemmas.List.{take_more}
 use Rattle.pb_model.specs.declared.row.Status.{Status}
 use Rattle.pb_model.specs.declared.row.Status.TheVariants.{Closed, Cut}
 use Rattle.pb_model.specs.declared.row.Row.{Row}
 use Rattle.pb_model.specs.declared.row.Succ.{Succ}
 use Rattle.pb_model.specs.Space.{Space, steps}
 use Rattle.pb_model.specs.Guide.{Guide}
-use Rattle.pb_model.specs.Store.{Store, is_place_of, lesser, MayBeCut}
+use Rattle.pb_model.specs.Store.{Store, lesser, MayBeCut}
 use Rattle.pb_model.specs.Key.{IsFirstRow}
-use Rattle.pb_model.specs.Work.{Work, expand, break_off, cut, take_goal, lower, offered_row, row_after_offer, row_after_offers, row_after_status, row_after, incumbent_after, weight_after, g_of, g_before, store_after, May, expansions, broken_expansions}
+use Rattle.pb_model.specs.Work.{Work, expand, break_off, cut, take_goal, lower, row_after_offers, row_after_status, g_of, store_after, May, expansions, broken_expansions}
 use Rattle.pb_model.proofs.Locality.{broken_append}
-use Rattle.pb_model.proofs.Offers.{Left, place_of, offers_leave, offers_push}
-use Rattle.pb_model.proofs.Tests.{by_cases}
+use Rattle.pb_model.proofs.Offers.{Left, offers_leave}
 use Rattle.pb_model.proofs.Successors.{IsStep, are_steps, all_take}
 use Rattle.pb_machine.specs.Machine.{IsOn, IsWorked, BreaksLast}
 use Rattle.pb_machine.specs.Turns.{IsLeaseTurn, AreLeaseTurns}
@@ -22,8 +20,9 @@ use Rattle.pb_machine.proofs.LeaseTurns.{lease_turns_go_on}
 use Rattle.pb_lists.specs.Bundle.{IsOpened}
 use Rattle.pb_bundles.specs.Parts.{away_rows}
 use Rattle.pb_lease.specs.LeaseValue.{LeaseValue, leased_store}
+use Rattle.pb_lease.proofs.AfterWork.{store_is, status_rows}
 use Rattle.pb_expand.specs.Turned.{own_rows, HasTurned, with_copy, HasTurnedOnce, IsNext}
-use Rattle.pb_expand.specs.Rows.{ChangesRows, SetsStatusAt, OffersAt, HasOffers, IsBrokenOff}
+use Rattle.pb_lease.specs.Rows.{ChangesRows, SetsStatusAt, HasOffers, IsBrokenOff}
 
 module _ (space : Space) (guide : Guide) {known : Option ℕ → Bool} (block : ℕ) where
   -- nothing was done
@@ -70,18 +69,6 @@ module _ (space : Space) (guide : Guide) {known : Option ℕ → Bool} (block : 
 
 -- ---- the store after a turn
 
-module _ (space : Space) (guide : Guide) (work : Work) (g : ℕ) (old new : LeaseValue) where
-  store_is : g_before guide (leased_store old) work ≡ g
-      → ((home state : ℕ) → away_rows new.parts home state ≡ row_after space guide work g old.incumbent home state (away_rows old.parts home state))
-      → new.incumbent ≡ incumbent_after work g old.incumbent → new.weight ≡ weight_after work old.weight → leased_store new ≡ store_after space guide work (leased_store old)
-  store_is at rows incumbent weight =
-      let same : g ≡ g_before guide (leased_store old) work = sym at in
-      λ i. record {
-        rows = λ home state. (rows home state ∙ ap (λ k. row_after space guide work k old.incumbent home state (away_rows old.parts home state)) same) i;
-        incumbent = (incumbent ∙ ap (λ k. incumbent_after work k old.incumbent) same) i;
-        weight = weight i;
-      }
-
 -- a cost was taken that was read
 unfoldable pub lowered_turned : (space : Space) (guide : Guide) (known : Option ℕ → Bool) (block : ℕ) (old new : LeaseValue) (cost : ℕ) → IsTrue (known (Some cost))
     → new ≡ record old { incumbent = lesser old.incumbent (Some cost) } → HasTurned space guide known block 0 0 (leased_store old) (leased_store new)
@@ -100,16 +87,12 @@ module _ (space : Space) (guide : Guide) (block : ℕ) (old : LeaseValue) (state
     g_is : g_of (away_rows old.parts (guide.home state) state) ≡ row.g
     g_is = ap g_of at_home.found
 
-    status_rows : (from to : LeaseValue) (status : Status) → SetsStatusAt from to block state status
-        → (other_home other : ℕ) → away_rows to.parts other_home other ≡ row_after_status guide state status other_home other (away_rows from.parts other_home other)
-    status_rows from to status set = subst (λ k. SetsStatusAt from to k state status) (sym home) set
-
     -- a row was cut that may be cut
     pub cut_turned : {known : Option ℕ → Bool} → (new : LeaseValue) → MayBeCut old.weight old.incumbent row.g row.estimate → SetsStatusAt old new block state Cut → ChangesRows old new
         → HasTurnedOnce space guide known block 0 0 (leased_store old) (leased_store new)
     cut_turned {known = known} new may set changes =
         one_turn space guide {known = known} block (cut state) 0 0 (leased_store old) (leased_store new) home (row, at_home.found, at_home.opened, may) (row, at_home) (λ before. refl)
-        (store_is space guide (cut state) row.g old new g_is (status_rows old new Cut set) (ap (λ (l : LeaseValue). l.incumbent) changes.others) (ap (λ (l : LeaseValue). l.weight) changes.others))
+        (store_is space guide (cut state) row.g old new g_is (status_rows guide block state home old new Cut set) (ap (λ (l : LeaseValue). l.incumbent) changes.others) (ap (λ (l : LeaseValue). l.weight) changes.others))
         refl refl tt
 
     -- a goal's row was taken
@@ -118,7 +101,7 @@ module _ (space : Space) (guide : Guide) (block : ℕ) (old : LeaseValue) (state
         → HasTurnedOnce space guide known block 0 0 (leased_store old) (leased_store new)
     take_turned {known = known} new kept goal set changes =
         one_turn space guide {known = known} block (take_goal state) 0 0 (leased_store old) (leased_store new) home ((row, at_home.found, at_home.opened), goal) (row, at_home, kept) (λ before. refl)
-        (store_is space guide (take_goal state) row.g old new g_is (status_rows (record old { incumbent = lesser old.incumbent (Some row.g) }) new Cut set)
+        (store_is space guide (take_goal state) row.g old new g_is (status_rows guide block state home (record old { incumbent = lesser old.incumbent (Some row.g) }) new Cut set)
         (ap (λ (l : LeaseValue). l.incumbent) changes.others) (ap (λ (l : LeaseValue). l.weight) changes.others))
         refl refl tt
 
@@ -145,7 +128,7 @@ module _ (space : Space) (guide : Guide) (block : ℕ) (old : LeaseValue) (state
     expand_turned {known = known} mid new has first set second counted is =
         one_turn space guide {known = known} block (expand state) 1 0 (leased_store old) (leased_store counted) home ((row, (at_home next.first).found, (at_home next.first).opened), next.no_goal) (row, at_home next.first, next.kept) (λ before. refl)
         (ap leased_store is ∙ store_is space guide (expand state) row.g old new (g_is next.first)
-        (λ other_home other. status_rows next.first mid new Closed set other_home other ∙ ap (row_after_status guide state Closed other_home other) (has other_home other))
+        (λ other_home other. status_rows guide block state home mid new Closed set other_home other ∙ ap (row_after_status guide state Closed other_home other) (has other_home other))
         (ap (λ (l : LeaseValue). l.incumbent) second.others ∙ ap (λ (l : LeaseValue). l.incumbent) first.others) (ap (λ (l : LeaseValue). l.weight) second.others ∙ ap (λ (l : LeaseValue). l.weight) first.others))
         refl refl tt
 
@@ -157,25 +140,3 @@ module _ (space : Space) (guide : Guide) (block : ℕ) (old : LeaseValue) (state
         (store_is space guide (break_off state broken.0) row.g old new (g_is next.first) broken.2
         (ap (λ (l : LeaseValue). l.incumbent) changes.others) (ap (λ (l : LeaseValue). l.weight) changes.others))
         refl refl refl
-
--- ---- offers one after another
-
-module _ (guide : Guide) (own g : ℕ) where
-  offers_more : (succs : List Succ) (succ : Succ) (old mid new : LeaseValue) → HasOffers guide own g succs old mid
-      → OffersAt mid new (guide.home succ.state) succ.state (g + succ.cost) (guide.estimate succ.state) (Some own) succ.action → HasOffers guide own g (succs ++ succ ∷ []) old new
-  offers_more succs succ old mid new has one home state =
-      one_more home state ∙ ap (row_after_offer guide own g succ home state) (has home state) ∙ sym (offers_push guide own g succs succ home state (away_rows old.parts home state))
-    where
-      one_more : (home state : ℕ) → away_rows new.parts home state ≡ row_after_offer guide own g succ home state (away_rows mid.parts home state)
-      one_more home state = one home state ∙ by_cases (is_place_of guide succ.state home state)
-          (λ e. ap (λ h. cond (is_place_of guide succ.state home state) (Some (offered_row (g + succ.cost) h (Some own) succ.action (away_rows mid.parts home state))) (away_rows mid.parts home state))
-          (ap guide.estimate (sym (place_of guide succ.state home state e).1)))
-          (λ e. ap (λ b. cond b (Some (offered_row (g + succ.cost) (guide.estimate succ.state) (Some own) succ.action (away_rows mid.parts home state))) (away_rows mid.parts home state)) e
-          ∙ sym (ap (λ b. cond b (Some (offered_row (g + succ.cost) (guide.estimate state) (Some own) succ.action (away_rows mid.parts home state))) (away_rows mid.parts home state)) e))
-
-  -- the next of a list of successors
-  pub offers_next : (succs : List Succ) (i : ℕ) (succ : Succ) (old mid new : LeaseValue) → i < length succs → succ ≡ get_or succs i succ → HasOffers guide own g (take i succs) old mid
-      → OffersAt mid new (guide.home succ.state) succ.state (g + succ.cost) (guide.estimate succ.state) (Some own) succ.action → HasOffers guide own g (take (i + 1) succs) old new
-  offers_next succs i succ old mid new less is has one =
-      subst (λ ss. HasOffers guide own g ss old new) (sym (take_more succs i succ less))
-      (subst (λ s. HasOffers guide own g (take i succs ++ s ∷ []) old new) is (offers_more (take i succs) succ old mid new has one))

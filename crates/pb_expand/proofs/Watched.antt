@@ -21,22 +21,12 @@ use Rattle.pb_lease.specs.LeaseValue.{LeaseValue, leased_store, HasWeights, IsSa
 use Rattle.pb_lease.specs.Leased.{guide_of, setup_of, HasScope}
 use Rattle.pb_expand.specs.Turned.{own_rows, IsAtWork, HasTurned, with_copy, copies_of, HasTurnedOnce, reads_none}
 use Rattle.pb_expand.specs.Watching.{WatchView, IsFromLent, IsWatched, MayTell, KeepsWatch, HasRead, HasTold, IsAtWatch, with_read, HasTurnedReading, HasTurnedWatched}
-use Rattle.pb_expand.specs.Rows.{ChangesRows}
-use Rattle.pb_expand.proofs.Same.{same_none, same_on, same_changed}
+use Rattle.pb_lease.specs.Rows.{ChangesRows}
+use Rattle.pb_lease.proofs.Same.{lesser_other, none_below, same_none, same_on, same_changed}
 use Rattle.pb_expand.proofs.Known.{scope_on, row_is_home, row_is_cheap}
 use Rattle.pb_expand.proofs.Turned.{turned_none, turned_on, turned_on_works, lowered_turned}
 
 -- ---- costs
-
--- the lesser of both is the second where that is no greater
-pub lesser_other : (u : Option ℕ) (cost : ℕ) → AtMost (Some cost) u → lesser u (Some cost) ≡ Some cost
-lesser_other None cost low = refl
-lesser_other (Some u) cost low = ap (λ n. Some n) (omega (arith, low))
-
--- what is no greater than an unknown cost
-pub none_below : (u : Option ℕ) → AtMost None u → u ≡ None
-none_below None low = refl
-none_below (Some u) low = absurd low
 
 lesser_none : (u : Option ℕ) → lesser u None ≡ u
 lesser_none None = refl

@@ -1,4 +1,3 @@
 pub mod Turned
-pub mod Rows
 pub mod Worked
 pub mod Watching

@@ -10,7 +10,7 @@ ghost use Rattle.pb_lists.specs.Bundle.{IsOpened};
 ghost use Rattle.pb_bundles.specs.Parts.{content_in};
 ghost use Rattle.pb_lease.specs.LeaseValue.{HasWeights};
 ghost use Rattle.pb_expand.specs.Turned.{own_rows};
-ghost use Rattle.pb_expand.specs.Rows.{ChangesRows, SetsStatusAt, OffersAt, own_opened};
+ghost use Rattle.pb_lease.specs.Rows.{ChangesRows, SetsStatusAt, OffersAt, own_opened};
 
 use pb_estimate::Estimator;
 use pb_lease::Lease;

@@ -5,7 +5,7 @@ ghost use Rattle.pb_task.specs.Parts.{space_of, greatest_cost};
 ghost use Rattle.pb_estimate.specs.Tables.{IsOfTask};
 ghost use Rattle.pb_abstract.specs.Graph.{IsGraphOf};
 ghost use Rattle.pb_lease.specs.Leased.{guide_of};
-ghost use Rattle.pb_expand.specs.Rows.{ChangesRows, HasOffers, IsBrokenOff, LeadsInto};
+ghost use Rattle.pb_lease.specs.Rows.{ChangesRows, HasOffers, IsBrokenOff, LeadsInto};
 
 use crate::bundles::offer;
 use pb_abstract::AbsGraph;

@@ -9,7 +9,7 @@ ghost use Rattle.pb_bundles.specs.Parts.{content_in};
 ghost use Rattle.pb_lease.specs.LeaseValue.{leased_store, HasWeights, IsSameLease};
 ghost use Rattle.pb_lease.specs.Leased.{guide_of};
 ghost use Rattle.pb_expand.specs.Turned.{own_rows, IsAtWork, HasTurned, IsNext, reads_none, HasTurnedOnce};
-ghost use Rattle.pb_expand.specs.Rows.{own_opened};
+ghost use Rattle.pb_lease.specs.Rows.{own_opened};
 
 use crate::bundles::{close, cut, first};
 use crate::offers::offer_all;

@@ -13,7 +13,7 @@ ghost use Rattle.pb_bundles.specs.Parts.{content_in};
 ghost use Rattle.pb_lease.specs.LeaseValue.{leased_store, HasWeights, IsSameLease};
 ghost use Rattle.pb_lease.specs.Leased.{guide_of, HasScope};
 ghost use Rattle.pb_expand.specs.Turned.{own_rows, IsAtWork, IsNext};
-ghost use Rattle.pb_expand.specs.Rows.{own_opened};
+ghost use Rattle.pb_lease.specs.Rows.{own_opened};
 ghost use Rattle.pb_expand.specs.Worked.{broken_by, ends_with_read};
 ghost use Rattle.pb_expand.specs.Watching.{IsWatched, KeepsWatch, IsAtWatch, HasTurnedReading, HasTurnedWatched};
 ghost use Rattle.pb_expand.specs.declared.working.Worked.TheVariants.{Spent, Empty, Memory};

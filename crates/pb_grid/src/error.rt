@@ -6,7 +6,7 @@ use std::alloc::{AllocError, AllocFailed};
 /// Why two texts were not read as a grid. Lines and columns are counted from 1, rows of a scenario
 /// from 0. If several of these fit, the first in the order of these names is reported, but a map's
 /// rows are judged line by line.
-#[derive(Clone, Copy, Debug, PartialEq, Eq)]
+#[derive(Clone, Copy, PartialEq, Eq)]
 pub enum GridError {
     /// This line of the map, one of its first four, is missing or does not say what it must.
     Header { line: u64 },

@@ -9,7 +9,7 @@ use crate::words::{is_blank_line, split_last_word};
 use pb_lines::short_number_of;
 
 /// What the chosen row of a scenario says.
-#[derive(Clone, Copy, Debug)]
+#[derive(Clone, Copy)]
 pub struct ScenarioParts {
     pub width: u32,
     pub height: u32,

@@ -27,3 +27,7 @@ pub mod StaysOut
 pub mod InOrder
 pub mod WorkedOut
 pub mod MomentsStay
+pub mod Same
+pub mod Fewer
+pub mod Changed
+pub mod AfterWork

@@ -11,3 +11,4 @@ pub mod GraphValue
 pub mod Moments
 pub mod Choices
 pub mod Steps
+pub mod Rows

@@ -4,7 +4,7 @@ ghost use Rattle.pb_tiles.specs.declared.error.TilesError.TheVariants.{Memory};
 use std::alloc::{AllocError, AllocFailed};
 
 /// Why a text was not read as sliding tiles.
-#[derive(Clone, Copy, Debug, PartialEq, Eq)]
+#[derive(Clone, Copy, PartialEq, Eq)]
 pub enum TilesError {
     /// This line, counted from 1, has a word that is neither a number nor the first `goal` after at
     /// least two numbers.

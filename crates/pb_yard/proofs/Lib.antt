@@ -13,4 +13,5 @@ pub mod Wording
 pub mod Passing
 pub mod Closing
 pub mod Told
+mod ByHand
 mod Worked

@@ -18,7 +18,7 @@ use Rattle.pb_machine.specs.Turns.{AreLeaseTurns}
 use Rattle.pb_machine.proofs.LeaseWork.{lease_work_stays}
 use Rattle.pb_lease.specs.LeaseValue.{leased_store}
 use Rattle.pb_lease.specs.Leased.{guide_of}
-use Rattle.pb_expand.proofs.Watched.{lesser_other, none_below}
+use Rattle.pb_lease.proofs.Same.{lesser_other, none_below}
 use Rattle.pb_yard.specs.Returning.{IsBrought}
 use Rattle.pb_yard.specs.declared.view.View.{View}
 use Rattle.pb_yard.specs.Views.{cost_of, bounded, view_read, view_left}

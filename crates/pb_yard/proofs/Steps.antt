@@ -31,7 +31,7 @@ use Rattle.pb_lease.specs.Moments.{IsMomentAt, Follows, moves_of, ShowsTold, IsK
 use Rattle.pb_lease.specs.Steps.{IsLeased, LeasesNext, end_events, KeepsLeases, IsReleased, ReleasesNext, IsRenewed, RenewsNext, GoesOn}
 use Rattle.pb_lease.proofs.MomentReturns.{ending_leases}
 use Rattle.pb_lease.proofs.WorkedOut.{worked_leases_are_out}
-use Rattle.pb_expand.proofs.Same.{same_places}
+use Rattle.pb_lease.proofs.Same.{same_places}
 use Rattle.pb_yard.specs.declared.view.View.{View}
 use Rattle.pb_yard.specs.Order.{HasCause, RunsSettled}
 use Rattle.pb_yard.specs.Rule.{rows_of, grant_in, was_read, IsLent, IsViewOf, IsYard}

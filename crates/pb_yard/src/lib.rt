@@ -37,4 +37,6 @@ pub use view::{JournalView, View};
 pub use yard::Yard;
 
 #[cfg(test)]
+mod by_hand;
+#[cfg(test)]
 mod tests;

@@ -1,24 +1,19 @@
 //! A worked row: a worker goes on to another block in one call, which never waits. While another
 //! pass holds the turn nothing is done, and the lease is as it was.
-ghost use Rattle.std.specs.Prelude.{◌≡◌, ◌+◌, ◌-◌, false, [], None};
+ghost use Rattle.std.specs.Prelude.{◌≡◌, ◌+◌, false, [], None};
 ghost use Rattle.std.specs.Arc.{arc_value};
-ghost use Rattle.pb_model.specs.Store.{HasOpened};
-ghost use Rattle.pb_task.specs.Parts.{space_of};
 ghost use Rattle.pb_abstract.specs.Graph.{IsGraphOf};
 ghost use Rattle.pb_lease.specs.declared.answer.LeaseReply.TheVariants.{Leased};
-ghost use Rattle.pb_lease.specs.LeaseValue.{leased_store, IsSameLease};
-ghost use Rattle.pb_lease.specs.Leased.{guide_of, HasScope};
-ghost use Rattle.pb_expand.specs.Turned.{own_rows, reads_none, IsAtWork, HasTurned};
 ghost use Rattle.pb_yard.specs.declared.switch.Switch.TheVariants.{Gave, Busy};
 ghost use Rattle.pb_yard.specs.Passes.{view_of, worker_of, parts_of, misses_of, all_parts, IsOf, IsFirstPass, KeepsPass};
 ghost use Rattle.pb_yard.specs.Order.{HasCause};
 ghost use Rattle.pb_yard.specs.Returning.{IsBrought};
 ghost use Rattle.pb_yard.specs.Calls.{IsReady, IsActive, IsAlone, HasSignedOff, KeepsWorkers, GivesAndLeases};
 
+use crate::by_hand::expand_only;
 use crate::{Pass, Switch, Yard, YardRule};
 use pb_abstract::AbsGraph;
 use pb_estimate::Estimator;
-use pb_expand::{Worked, work};
 use pb_lease::{Lease, LeaseGraph, LeaseReply};
 use pb_machine::{End, Event, Settings};
 use pb_task::{Cells, Class, GridParts, Swamp, Task};
@@ -109,37 +104,7 @@ fn gave<R: Abort>(rt: &R, answer: Switch) -> LeaseReply
     }
 }
 
-// Expands the rows of the lease's block until none is Opened. No goal is among them.
-fn expand_all<R: Abort>(
-    rt: &R,
-    alloc: Global,
-    task: &Task,
-    abstraction: &AbsGraph,
-    lease: &mut Lease,
-)
-    requires graph { IsGraphOf task.now abstraction.now }
-    requires at_work { IsAtWork task.now abstraction.now lease.old }
-    ensures turned { HasTurned (space_of task.now) (guide_of task.now abstraction.now) reads_none
-        lease.old.block (lease.new.used - lease.old.used) 0
-        (leased_store lease.old) (leased_store lease.new) }
-    ensures same { IsSameLease lease.old lease.new }
-    ensures scope { HasScope abstraction.now lease.new }
-    ensures empty { HasOpened (own_rows lease.new) → ⊥ }
-    ensures none { lease.new.incumbent ≡ None }
-{
-    let mut estimator = Estimator::of(alloc, task).expect(rt, "memory");
-    let mut succs = Vec::with_capacity(alloc, task.max_degree() as usize).expect(rt, "memory");
-    match work(task, &mut estimator, abstraction, lease, &mut succs) {
-        Worked::Empty => {}
-        Worked::Spent | Worked::Memory => panic!(rt; "rows are left"),
-    }
-    match lease.incumbent() {
-        None => {}
-        Some(_) => panic!(rt; "a goal"),
-    }
-}
-
-// The worker leases a block and works on it, until no row of it is Opened.
+// The worker leases a block and expands its only row. No row of it is Opened then.
 fn lease_and_work<R: Wait + Abort>(
     rt: &R,
     alloc: Global,
@@ -161,7 +126,7 @@ fn lease_and_work<R: Wait + Abort>(
 {
     let reply = yard.lease(rt, pass);
     let mut lease = leased(rt, reply);
-    expand_all(rt, alloc, task, abstraction, &mut lease);
+    expand_only(rt, alloc, task, abstraction, &mut lease);
     lease
 }
 
@@ -339,13 +304,14 @@ fn search_by_two<R: Threads + Wait + Abort + Sync>(
     (seen, finish(yard, first, second))
 }
 
-// A map of 3 by 3 cells of land, from its upper left to its lower right cell.
-fn open_square(alloc: Global) -> Result<Task, AllocError> {
-    let land = Class::Land;
+// A map of 3 by 3 cells, from its upper left to its lower right cell. One step alone leads away
+// from the start, since the cell below it is blocked.
+fn square(alloc: Global) -> Result<Task, AllocError> {
+    let (land, rock) = (Class::Land, Class::Blocked);
     let task = Task::of_grid(GridParts {
         width: 3,
         height: 3,
-        cells: Cells::of(vec![in alloc; land, land, land, land, land, land, land, land, land]?),
+        cells: Cells::of(vec![in alloc; land, land, land, rock, land, land, land, land, land]?),
         swamp: Swamp::of(vec![in alloc; false; 9]?),
         start: (0, 0),
         goal: (2, 2),
@@ -414,7 +380,7 @@ fn release(used: u64, memory: bool) -> Event {
 #[test]
 fn a_worker_goes_on_without_waiting(rt: HostRuntime) -> Result<(), Fail> {
     let alloc = rt.alloc();
-    let task = Arc::new(alloc, open_square(alloc)?)?;
+    let task = Arc::new(alloc, square(alloc)?)?;
     let abstraction = Arc::new(alloc, AbsGraph::of(alloc, &task, 256)?)?;
     let (yard, first) = open(&rt, alloc, &task, &abstraction);
     let (seen, graph) = search_by_two(&rt, alloc, yard, first, &task, &abstraction);

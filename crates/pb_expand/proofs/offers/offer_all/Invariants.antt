@@ -1,7 +1,7 @@
 use Rattle.std.proofs.Common.{take}
 use Rattle.pb_estimate.specs.Tables.{IsOfTask}
 use Rattle.pb_lease.specs.Leased.{guide_of}
-use Rattle.pb_expand.specs.Rows.{ChangesRows, HasOffers}
+use Rattle.pb_lease.specs.Rows.{ChangesRows, HasOffers}
 use Rattle.pb_expand.proofs.offers.offer_all.Given as goal
 
 abbrev pub invariant-loop-succ : goal.invariant-loop-succ

@@ -5,7 +5,7 @@ use Rattle.pb_bundles.specs.Parts.{content_in}
 use Rattle.pb_lease.specs.LeaseValue.{leased_store, HasWeights, IsSameLease}
 use Rattle.pb_lease.specs.Leased.{guide_of}
 use Rattle.pb_expand.specs.Turned.{IsAtWork, HasTurned, reads_none}
-use Rattle.pb_expand.specs.Rows.{own_opened}
+use Rattle.pb_lease.specs.Rows.{own_opened}
 use Rattle.pb_expand.proofs.turns.settle.Given as goal
 
 abbrev pub invariant-loop-state : goal.invariant-loop-state

@@ -1,7 +1,7 @@
 use Rattle.std.proofs.Common.{◌∷◌, ◌∙◌, Option, ℕ, IsSome, sym, ap, subst}
 use Rattle.pb_bundles.specs.Parts.{content_in}
 use Rattle.pb_lease.specs.LeaseValue.{LeaseValue, HasWeights}
-use Rattle.pb_expand.specs.Rows.{own_opened}
+use Rattle.pb_lease.specs.Rows.{own_opened}
 use Rattle.pb_expand.proofs.Watched.{read_taken, taken_copy}
 use Rattle.pb_expand.proofs.watching.next_row.Goals as goal
 

@@ -2,7 +2,7 @@ use Rattle.std.proofs.Common.{false}
 use Rattle.pb_task.specs.Parts.{space_of}
 use Rattle.pb_abstract.specs.Graph.{AbstractGraph}
 use Rattle.pb_lease.specs.Leased.{guide_of}
-use Rattle.pb_expand.specs.Rows.{own_opened}
+use Rattle.pb_lease.specs.Rows.{own_opened}
 use Rattle.pb_expand.specs.Watching.{IsAtWatch, HasTurnedWatched}
 use Rattle.pb_expand.proofs.watching.settle_watched.Given as goal
 

@@ -6,7 +6,7 @@ use Rattle.pb_model.specs.declared.row.Status.TheVariants.{Opened, Cut}
 use Rattle.pb_model.specs.declared.row.Row.{Row}
 use Rattle.pb_model.proofs.Offers.{some_row}
 use Rattle.pb_lists.specs.Bundle.{Content, row_in, row_of, put}
-use Rattle.pb_expand.specs.Rows.{one_if_opened, opened_in}
+use Rattle.pb_lease.specs.Rows.{one_if_opened, opened_in}
 
 abbrev one_of : ℕ × Row → ℕ
 one_of entry = one_if_opened entry.1.status

@@ -1,12 +1,12 @@
--- What of a lease stays where its rows change.
-use Rattle.std.proofs.Common.{◌≡◌, ℕ, Bool, true, false, cond, nat_eq, List, [], ◌∷◌, Option, Some, is_some, IsSome, refl, sym, ap, ◌∙◌, subst}
+-- What of a lease stays where its rows change, and how its incumbent falls.
+use Rattle.std.proofs.Common.{◌≡◌, ℕ, Bool, true, false, cond, nat_eq, List, [], ◌∷◌, Option, Some, None, is_some, IsSome, refl, sym, ap, ◌∙◌, subst, arith}
 use Rattle.std.specs.Map.{keys_of}
-use Rattle.pb_model.specs.Store.{AtMost}
+use Rattle.pb_model.specs.Store.{AtMost, lesser}
 use Rattle.pb_model.proofs.Incumbents.{at_most_self, at_most_trans}
 use Rattle.pb_lists.specs.Bundle.{Content}
 use Rattle.pb_bundles.specs.Parts.{content_in}
 use Rattle.pb_lease.specs.LeaseValue.{LeaseValue, IsSameLease}
-use Rattle.pb_expand.specs.Rows.{ChangesRows}
+use Rattle.pb_lease.specs.Rows.{ChangesRows}
 
 -- whether a block is among these
 abbrev has_key : (keys : List ℕ) → (block : ℕ) → Bool
@@ -61,3 +61,15 @@ same_changed old new changes = record {
   places = changes.places;
   incumbent = subst (λ (u : Option ℕ). AtMost u old.incumbent) (sym (ap (λ (lease : LeaseValue). lease.incumbent) changes.others)) (at_most_self old.incumbent);
 }
+
+-- ---- the incumbent
+
+-- the lesser of both is the second where that is no greater
+pub lesser_other : (u : Option ℕ) (cost : ℕ) → AtMost (Some cost) u → lesser u (Some cost) ≡ Some cost
+lesser_other None cost low = refl
+lesser_other (Some u) cost low = ap (λ n. Some n) (omega (arith, low))
+
+-- what is no greater than an unknown cost
+pub none_below : (u : Option ℕ) → AtMost None u → u ≡ None
+none_below None low = refl
+none_below (Some u) low = absurd low

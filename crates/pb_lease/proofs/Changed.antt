@@ -14,9 +14,8 @@ use Rattle.pb_model.proofs.Tests.{by_cases, equal, equal_self, equal_swap}
 use Rattle.pb_lists.specs.Bundle.{Content, row_of, put, SetsRow, SetsStatus, IsOpened}
 use Rattle.pb_bundles.specs.Parts.{content_in, with_content, rows_in, away_rows}
 use Rattle.pb_lease.specs.LeaseValue.{LeaseValue, with_bundle}
-use Rattle.pb_expand.specs.Turned.{own_rows}
-use Rattle.pb_expand.specs.Rows.{ChangesRows, SetsStatusAt, OffersAt, own_opened, opened_in}
-use Rattle.pb_expand.proofs.Fewer.{opened_fall}
+use Rattle.pb_lease.specs.Rows.{ChangesRows, SetsStatusAt, OffersAt, own_opened, opened_in}
+use Rattle.pb_lease.proofs.Fewer.{opened_fall}
 
 pub on_err : {X E : Type 0} (r : Result X E) (P : Type 0) → P → OnErr r P
 on_err (Ok x) P h = tt
@@ -85,7 +84,7 @@ module _ (lease : LeaseValue) (block : ℕ) (was now : Content) (there : content
   }
 
   -- the lease's own rows are those of this bundle
-  pub own_is : lease.block ≡ block → (other : ℕ) → own_rows lease other ≡ row_of was other
+  pub own_is : lease.block ≡ block → (other : ℕ) → away_rows lease.parts lease.block other ≡ row_of was other
   own_is own other = rows_before lease.parts block was now there lease.block other (ap (λ k. k == block) own ∙ equal_self block)
 
   -- the bundle is as it was
