@@ -7,10 +7,10 @@ use Rattle.std.proofs.lemmas.List.Sums.{position_or_len_is, passes_at_first, fai
 use Rattle.std.proofs.lemmas.List.Folds.{Any-from_list_any}
 use Rattle.std.proofs.lemmas.Map.Keys.{apart_from_distinct, IsDistinct-from_apart}
 use Rattle.std.proofs.lemmas.Map.Steps.{length-le_from_distinct_below}
-use Rattle.pb_model.proofs.Tests.{equal, equal_self, equal_swap, and_true, by_cases, below}
+use Rattle.pb_model.proofs.Callers.{equal, equal_self, equal_swap, and_true, by_cases, below}
 use Rattle.pb_packed.specs.Bits.{bits_of}
 use Rattle.pb_task.specs.Tiles.{are_distinct, is_board, is_board_state, board_of}
-use Rattle.pb_task.proofs.Boards.{Listed, to_distinct, whole}
+use Rattle.pb_task.proofs.Callers.{Listed, to_distinct, whole}
 use Rattle.pb_abstract.specs.Placings.{cell_with, IsPlacing, placing_of}
 use Rattle.pb_abstract.proofs.Ranks.{placing_same}
 

@@ -9,12 +9,11 @@ use Rattle.std.proofs.lemmas.Nat.{and_le_l, or_lt}
 use Rattle.std.proofs.lemmas.Nat.Bits.{bit_at-zero}
 use Rattle.std.proofs.lemmas.Option.{slice_get-map, slice_get-get_or, slice_get_within, get_or_from_slice_get}
 use Rattle.std.proofs.lemmas.List.Folds.{Any-from_list_any, list_any_at}
-use Rattle.pb_model.proofs.Tests.{and_true, or_true, by_cases, equal, equal_self, not_false}
+use Rattle.pb_model.proofs.Callers.{and_true, or_true, by_cases, equal, equal_self, not_false}
 use Rattle.pb_task.specs.declared.parts.GroundAction.{GroundAction}
 use Rattle.pb_task.specs.declared.parts.StripsParts.{StripsParts}
 use Rattle.pb_task.specs.Strips.{has_atom, holds_after, Acts}
-use Rattle.pb_task.proofs.AtomSets.{same_atoms, both_atoms, any_atom, no_atom, common_all, all_common}
-use Rattle.pb_task.proofs.Acting.{strips_act}
+use Rattle.pb_task.proofs.Callers.{same_atoms, both_atoms, any_atom, no_atom, common_all, all_common, strips_act}
 use Rattle.pb_abstract.specs.declared.changes.Change.{Change}
 use Rattle.pb_abstract.specs.Tracked.{AreAtoms, tracked_set, tracked_action, tracked_task, IsTrackedEdge}
 use Rattle.pb_abstract.specs.Borders.{is_number}

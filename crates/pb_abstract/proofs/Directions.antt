@@ -1,7 +1,7 @@
 -- What holds in one of four directions.
 use Rattle.std.proofs.Common.{◌≡◌, ℕ, zero, suc, ◌<◌, Bool, true, false, Option, Some, List, [], ◌∷◌, ◌||◌, sym, arith, ◌⊎◌, inl, inr, true≢false}
 use Rattle.std.proofs.lemmas.Bool.{or_left, or_right}
-use Rattle.pb_model.proofs.Tests.{or_true}
+use Rattle.pb_model.proofs.Callers.{or_true}
 use Rattle.pb_task.specs.Grid.{cell_beside}
 
 pub four : (a a' b b' c c' d d' : Option ℕ) → a ≡ a' → b ≡ b' → c ≡ c' → d ≡ d' → ◌≡◌ {A = List (Option ℕ)} (a ∷ (b ∷ (c ∷ (d ∷ [])))) (a' ∷ (b' ∷ (c' ∷ (d' ∷ []))))

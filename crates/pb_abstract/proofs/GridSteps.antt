@@ -8,7 +8,7 @@ use Rattle.pb_task.specs.Grid.{class_at, entry_cost, class_of_state, cell_state,
 use Rattle.pb_task.specs.declared.parts.Class.{Class}
 use Rattle.pb_task.specs.declared.parts.Class.TheVariants.{Blocked}
 use Rattle.pb_task.specs.declared.parts.GridParts.{GridParts}
-use Rattle.pb_task.proofs.Grids.{passable_from, passable_to, on_map, x_of, y_of, class_of_cell}
+use Rattle.pb_task.proofs.Callers.{passable_from, passable_to, on_map, x_of, y_of, class_of_cell}
 use Rattle.pb_abstract.specs.Squares.{square_count, square_of, IsSquareEdge}
 use Rattle.pb_abstract.proofs.Squaring.{fits_parts}
 use Rattle.pb_abstract.proofs.Ranks.{digits_below}

@@ -2,7 +2,7 @@
 use Rattle.std.proofs.Common.{◌≡◌, ℕ, ◌+◌, ◌<◌, ◌==◌, ◌++◌, ◌∷◌, ◌↔◌, ◌⊎◌, IsTrue, List, [], get_or, length, true, false, sym, subst, arith}
 use Rattle.std.proofs.lemmas.Bool.Decides.{nat_tests}
 use Rattle.std.proofs.lemmas.List.{get_or_push, get_or_append_left}
-use Rattle.pb_model.proofs.Tests.{equal, by_cases}
+use Rattle.pb_model.proofs.Callers.{equal, by_cases}
 use Rattle.pb_abstract.specs.Graph.{has}
 
 -- one scope more

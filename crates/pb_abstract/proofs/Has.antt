@@ -2,9 +2,9 @@
 use Rattle.std.proofs.Common.{◌≡◌, ℕ, zero, suc, ◌<◌, ◌≤◌, true, not, ◌&&◌, ◌==◌, List, [], ◌∷◌, get_or, length, All, sym, ap, ◌∙◌, arith, true≢false, ◌⊎◌, inl, inr}
 use Rattle.std.proofs.lemmas.Bool.{or_left, or_right, cases_lt}
 use Rattle.std.proofs.lemmas.List.{get_or_past, get_or_read}
-use Rattle.pb_model.proofs.Tests.{equal_self, and_true}
+use Rattle.pb_model.proofs.Callers.{equal_self, and_true}
 use Rattle.pb_machine.specs.Blocks.{meets, interferes}
-use Rattle.pb_machine.proofs.TableLaws.{any_some}
+use Rattle.pb_machine.proofs.Callers.{any_some}
 use Rattle.pb_abstract.specs.Graph.{has, blocks_in, AreKnown, AreInterference}
 
 -- a list has each of its items

@@ -1,21 +1,22 @@
-pub mod TrackedSets
-pub mod Has
-pub mod Members
-pub mod Growing
-pub mod Directions
-pub mod Squaring
-pub mod SquareEdges
-pub mod BoardCells
-pub mod Ranks
-pub mod TileEdges
-pub mod GridSteps
-pub mod TileSteps
-pub mod TrackedSteps
-pub mod Ranking
-pub mod Ordering
-pub mod Changing
-pub mod Walking
-pub mod Sizes
-pub mod Unique
-pub mod Marks
-pub mod Example
+pub mod Callers
+mod TrackedSets
+mod Has
+mod Members
+mod Growing
+mod Directions
+mod Squaring
+mod SquareEdges
+mod BoardCells
+mod Ranks
+mod TileEdges
+mod GridSteps
+mod TileSteps
+mod TrackedSteps
+mod Ranking
+mod Ordering
+mod Changing
+mod Walking
+mod Sizes
+mod Unique
+mod Marks
+mod Example

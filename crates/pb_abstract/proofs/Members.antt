@@ -7,10 +7,10 @@ use Rattle.std.proofs.lemmas.Bool.Decides.{nat_tests, same_from_decides}
 use Rattle.std.proofs.lemmas.List.{get_or_read, get_or_push, get_or_append_left}
 use Rattle.std.proofs.lemmas.List.Folds.{Any-from_list_any, list_any_at}
 use Rattle.std.proofs.lemmas.List.Kept.{Contains-dedup_nat, Contains-from_dedup}
-use Rattle.pb_model.proofs.Tests.{equal, and_true, by_cases}
+use Rattle.pb_model.proofs.Callers.{equal, and_true, by_cases}
 use Rattle.pb_machine.specs.Tables.{any_below}
 use Rattle.pb_machine.specs.Blocks.{interferes}
-use Rattle.pb_machine.proofs.TableLaws.{any_some, any_at}
+use Rattle.pb_machine.proofs.Callers.{any_some, any_at}
 use Rattle.pb_abstract.specs.Graph.{has, blocks_in, AreKnown, AreSources}
 use Rattle.pb_abstract.proofs.Has.{has_at}
 

@@ -3,7 +3,7 @@ use Rattle.std.proofs.Common.{◌≡◌, ◌≢◌, ℕ, suc, ◌+◌, ◌^◌, 
 use Rattle.std.proofs.Math.Pow.{pow_mono}
 use Rattle.std.proofs.lemmas.Bool.{or_from, cases_lt}
 use Rattle.std.proofs.lemmas.List.Elements.{All-head, All-tail, All-weaker, All-contains}
-use Rattle.pb_model.proofs.Tests.{and_true, or_true, or_false, by_cases, equal, equal_self, below, not_both}
+use Rattle.pb_model.proofs.Callers.{and_true, or_true, or_false, by_cases, equal, equal_self, below, not_both}
 use Rattle.pb_task.specs.declared.parts.StripsParts.{StripsParts}
 use Rattle.pb_abstract.specs.Tracked.{changers, is_changed, comes_before, AreInOrder, AreTracked, AreDifferent, AreAtoms}
 use Rattle.pb_abstract.specs.Graph.{has}

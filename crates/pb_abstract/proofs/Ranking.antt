@@ -6,7 +6,7 @@ use Rattle.std.proofs.lemmas.Bool.{and_from, or_left, or_right, cases_lt}
 use Rattle.std.proofs.lemmas.Bool.Decides.{nat_tests}
 use Rattle.std.proofs.lemmas.List.{get_or_past, at_drop_more}
 use Rattle.std.proofs.lemmas.List.Elements.{All-push, All-cons, All-head, All-tail, All-nil}
-use Rattle.pb_model.proofs.Tests.{and_true, or_true, not_true, by_cases, equal, equal_self, below, not_both}
+use Rattle.pb_model.proofs.Callers.{and_true, or_true, not_true, by_cases, equal, equal_self, below, not_both}
 use Rattle.pb_machine.specs.Tables.{one_if}
 use Rattle.pb_task.specs.declared.parts.GroundAction.{GroundAction}
 use Rattle.pb_task.specs.declared.parts.StripsParts.{StripsParts}

@@ -9,7 +9,7 @@ use Rattle.pb_task.specs.declared.parts.GridParts.{GridParts}
 use Rattle.pb_task.specs.Parts.{IsTask}
 use Rattle.pb_task.specs.Grid.{IsGrid}
 use Rattle.pb_task.specs.Tiles.{cell_count}
-use Rattle.pb_task.proofs.Sliding.{few_cells}
+use Rattle.pb_task.proofs.Callers.{few_cells}
 use Rattle.pb_abstract.specs.declared.projection.Projection.{Projection}
 use Rattle.pb_abstract.specs.declared.projection.Projection.TheVariants.{Squares, Blank, BlankAndOne, BlankAndTwo, Atoms}
 use Rattle.pb_abstract.specs.Squares.{square_count}

@@ -4,11 +4,11 @@ use Rattle.std.specs.Int.{div_ceil}
 use Rattle.std.specs.List.{list_any}
 use Rattle.std.proofs.lemmas.Bool.{or_left, or_right}
 use Rattle.std.proofs.lemmas.Nat.{div-mul-add, mod-mul-add, div-add-mod'}
-use Rattle.pb_model.proofs.Tests.{equal, equal_self, or_true}
-use Rattle.pb_machine.proofs.TableLaws.{any_some, any_at}
+use Rattle.pb_model.proofs.Callers.{equal, equal_self, or_true}
+use Rattle.pb_machine.proofs.Callers.{any_some, any_at}
 use Rattle.pb_task.specs.Grid.{class_at, are_connected, cell_beside}
 use Rattle.pb_task.specs.declared.parts.GridParts.{GridParts}
-use Rattle.pb_task.proofs.Grids.{passable_from, on_map}
+use Rattle.pb_task.proofs.Callers.{passable_from, on_map}
 use Rattle.pb_abstract.specs.Squares.{IsSquareEdge}
 use Rattle.pb_abstract.specs.Borders.{is_number, border_cell, is_joined, are_joined, crosses, number_in, beyond}
 use Rattle.pb_abstract.proofs.Directions.{one_of_four, among_four, by_four}

@@ -5,7 +5,7 @@ use Rattle.std.proofs.lemmas.Bool.{cases_lt, lt-ltb}
 use Rattle.std.proofs.lemmas.Nat.{div-mul-add, div-add-mod', mod_below}
 use Rattle.std.proofs.lemmas.Grind.{div_ceil_times}
 use Rattle.std.proofs.Math.Nat.{div-lt_iff_lt-mul}
-use Rattle.pb_model.proofs.Tests.{below}
+use Rattle.pb_model.proofs.Callers.{below}
 use Rattle.pb_task.specs.Grid.{cell_beside}
 use Rattle.pb_abstract.specs.Borders.{border_cell}
 

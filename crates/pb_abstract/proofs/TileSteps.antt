@@ -4,12 +4,10 @@ use Rattle.std.specs.Prelude.{swap}
 use Rattle.std.proofs.lemmas.Bool.{eqb-false, ne_eqb}
 use Rattle.std.proofs.lemmas.List.Edits.{swapped_from_swap, Swapped}
 use Rattle.pb_model.specs.Space.{Steps}
-use Rattle.pb_model.proofs.Tests.{equal, equal_self}
+use Rattle.pb_model.proofs.Callers.{equal, equal_self}
 use Rattle.pb_task.specs.declared.parts.TilesParts.{TilesParts}
 use Rattle.pb_task.specs.Tiles.{cell_count, board_state, board_of, neighbour, exchange, slide, blank_of, slide_on, tiles_space, IsTiles}
-use Rattle.pb_task.proofs.Boards.{Listed, listed, board_in, is_board_swapped, state_of_board}
-use Rattle.pb_task.proofs.Sliding.{Moves, IsStep, step_is, few_cells, neighbour_within}
-use Rattle.pb_task.proofs.Slides.{blank_is_there}
+use Rattle.pb_task.proofs.Callers.{Listed, listed, board_in, is_board_swapped, state_of_board, Moves, IsStep, step_is, few_cells, neighbour_within, blank_is_there}
 use Rattle.pb_abstract.specs.declared.placing.Placing.{Placing}
 use Rattle.pb_abstract.specs.declared.projection.Projection.{Projection}
 use Rattle.pb_abstract.specs.Placings.{cell_with, IsPlacing, placing_of, placing_number, placing_after, tile_after, IsTileEdge}

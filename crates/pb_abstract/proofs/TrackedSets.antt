@@ -8,7 +8,7 @@ use Rattle.pb_packed.specs.Bits.{bit_number}
 use Rattle.std.specs.Int.{bit_at}
 use Rattle.std.proofs.lemmas.Nat.Bits.{bit_at_lowest, bit_at-suc}
 use Rattle.pb_task.specs.Strips.{has_atom}
-use Rattle.pb_task.proofs.AtomSets.{same_atoms}
+use Rattle.pb_task.proofs.Callers.{same_atoms}
 use Rattle.pb_abstract.specs.Tracked.{tracked_set}
 
 pub bit_small : (test : Bool) → bit_number test ≤ 1

@@ -5,14 +5,13 @@ use Rattle.std.proofs.lemmas.Bool.{and_from, or_left}
 use Rattle.std.proofs.lemmas.Option.{slice_get-map, same_Some}
 use Rattle.std.proofs.lemmas.List.Elements.{All-get_or}
 use Rattle.pb_model.specs.Space.{Steps}
-use Rattle.pb_model.proofs.Tests.{and_true, equal, equal_self}
+use Rattle.pb_model.proofs.Callers.{and_true, equal, equal_self}
 use Rattle.pb_machine.specs.Tables.{any_below}
-use Rattle.pb_machine.proofs.TableLaws.{any_some, any_at}
+use Rattle.pb_machine.proofs.Callers.{any_some, any_at}
 use Rattle.pb_task.specs.declared.parts.GroundAction.{GroundAction}
 use Rattle.pb_task.specs.declared.parts.StripsParts.{StripsParts}
 use Rattle.pb_task.specs.Strips.{has_atom, set_of, holds_after, strips_space, Acts}
-use Rattle.pb_task.proofs.AtomSets.{sets_are_of_atoms}
-use Rattle.pb_task.proofs.Acting.{strips_act}
+use Rattle.pb_task.proofs.Callers.{sets_are_of_atoms, strips_act}
 use Rattle.pb_abstract.specs.Tracked.{AreDifferent, AreAtoms, tracked_set, tracked_action, tracked_task, IsTrackedEdge}
 use Rattle.pb_abstract.proofs.Members.{same_tests}
 use Rattle.pb_abstract.proofs.TrackedSets.{set_small, has_tracked, tracked_is}

@@ -7,8 +7,7 @@ use Rattle.pb_task.specs.declared.parts.TaskParts.{TaskParts}
 use Rattle.pb_task.specs.declared.parts.TaskParts.TheVariants.{Grid, Tiles, Strips}
 use Rattle.pb_task.specs.Parts.{space_of, IsTask}
 use Rattle.pb_task.specs.Tiles.{cell_count, board_of}
-use Rattle.pb_task.proofs.Grids.{tasks_are_proper}
-use Rattle.pb_task.proofs.Boards.{listed, board_in}
+use Rattle.pb_task.proofs.Callers.{tasks_are_proper, listed, board_in}
 use Rattle.pb_abstract.specs.declared.projection.Projection.{Projection}
 use Rattle.pb_abstract.specs.declared.projection.Projection.TheVariants.{Squares, Blank, BlankAndOne, BlankAndTwo, Atoms}
 use Rattle.pb_abstract.specs.Projection.{Fits, block_count, block_of, IsEdge}

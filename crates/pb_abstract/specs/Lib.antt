@@ -1,3 +1,9 @@
+pub use Rattle.pb_machine.specs.Blocks
+pub use Rattle.pb_packed.specs.Bits
+pub use Rattle.pb_task.specs.Grid
+pub use Rattle.pb_task.specs.Parts
+pub use Rattle.pb_task.specs.Strips
+pub use Rattle.pb_task.specs.Tiles
 pub mod Padded
 pub mod Squares
 pub mod Placings

@@ -14,14 +14,11 @@ use Rattle.pb_strips.specs.declared.error.StripsError.{StripsError}
 use Rattle.pb_pddl.specs.Readings.{tokens_of}
 use Rattle.pb_pddl.specs.Trees.{SpellsDomain, SpellsProblem}
 use Rattle.pb_pddl.specs.Words.{DomainHasWords, ProblemHasWords}
-use Rattle.pb_pddl_laws.proofs.FormsRead.{domain_is, problem_is}
-use Rattle.pb_pddl_laws.proofs.TokensOf.{texts_have_tokens}
-use Rattle.pb_pddl_laws.proofs.NamesAreWords.{domain_has_words, problem_has_words}
+use Rattle.pb_pddl_laws.proofs.Callers.{domain_is, problem_is, texts_have_tokens, domain_has_words, problem_has_words}
 use Rattle.pb_strips.specs.Names.{action_bytes}
-use Rattle.pb_strips.proofs.Printed.{names_are_printed}
+use Rattle.pb_strips.proofs.Callers.{names_are_printed, packed_plans_are_plans, plans_are_packed_plans}
 use Rattle.pb_strips.specs.Grounding.{strips_of}
 use Rattle.pb_strips.specs.Refusals.{first_fault}
-use Rattle.pb_strips.proofs.PlansAgree.{packed_plans_are_plans, plans_are_packed_plans}
 use Rattle.pb_check.specs.declared.fault.Verdict.{Verdict}
 use Rattle.pb_check.specs.declared.fault.Verdict.TheVariants.{Bounded, Unsolvable}
 use Rattle.pb_check.specs.Shown.{VerdictHolds}

@@ -11,7 +11,7 @@ use Rattle.pb_check.specs.Kinds.{kind_of, kind_name}
 use Rattle.pb_cert.specs.Stated.{Stated, text_of}
 use Rattle.pb_made.specs.Searches.{LeavesQuiet}
 use Rattle.pb_made.specs.Found.{IsPlanOf}
-use Rattle.pb_made.proofs.QuietEnds as searched
+use Rattle.pb_made.proofs.Callers as searched
 use Rattle.pb_command.specs.Meaning.{SolveMeaning, IsSolveInRange}
 use Rattle.pb_report.specs.Texts.{plan_text}
 use Rattle.pb_answer.specs.Searches.{settings_of, weight_asked}

@@ -16,9 +16,9 @@ use Rattle.pb_grid.specs.Reading.{grid_reading, task_of}
 use Rattle.pb_tiles.specs.declared.error.TilesError.{TilesError}
 use Rattle.pb_tiles.specs.Reading.{tiles_reading}
 use Rattle.pb_task.specs.Parts.{space_of, action_name, IsTask, greatest_cost}
-use Rattle.pb_model.proofs.Tests.{not_both, by_cases, equal}
+use Rattle.pb_model.proofs.Callers.{not_both, by_cases, equal}
 use Rattle.pb_strips.specs.Naming.{AreTellingNames}
-use Rattle.pb_task.proofs.Grids.{tasks_are_proper}
+use Rattle.pb_task.proofs.Callers.{tasks_are_proper}
 use Rattle.pb_report.specs.Texts.{plan_text, input_text, tiles_text}
 use Rattle.pb_answer.specs.Loaded.{refused_with, grid_told, grid_task, tiles_told, tiles_task}
 use Rattle.pb_answer.specs.Named.{NamesTell}
@@ -28,7 +28,7 @@ use Rattle.pb_command.specs.Meaning.{SolveMeaning}
 use Rattle.pb_answer.specs.Searches.{weight_asked}
 use Rattle.pb_answer.specs.Outputs.{Output}
 use Rattle.pb_answer.specs.Claims.{Certifies, Solves, PrintsLeastCost, SavesPlan}
-use Rattle.pb_made.proofs.QuietEnds.{walk_actions, walk_length}
+use Rattle.pb_made.proofs.Callers.{walk_actions, walk_length}
 use Rattle.pb_answer.proofs.Reports.{IsFree, AreFree, report_tells_cost, report_tells_steps}
 
 -- ---- the names of actions

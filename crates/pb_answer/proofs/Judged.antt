@@ -5,13 +5,13 @@ use Rattle.pb_machine.specs.Blocks.{Blocks}
 use Rattle.pb_task.specs.declared.parts.TaskParts.{TaskParts}
 use Rattle.pb_abstract.specs.Projection.{IsFinest}
 use Rattle.pb_abstract.specs.Graph.{AbstractGraph, blocks_of, IsGraphOf}
-use Rattle.pb_abstract.proofs.Unique.{graphs_are_unique}
+use Rattle.pb_abstract.proofs.Callers.{graphs_are_unique}
 use Rattle.pb_journal.specs.declared.error.JournalError.{JournalError}
 use Rattle.pb_journal.specs.declared.error.JournalError.TheVariants.{At, Memory}
 use Rattle.pb_journal.specs.Faults.{fault_at, Gives}
 use Rattle.pb_journal.specs.Judging.{settings_of, judged}
 use Rattle.pb_journal.specs.Shown.{IsFinishedJournal, IsFirstFault}
-use Rattle.pb_journal.proofs.Faulty.{refused_lines_are_first}
+use Rattle.pb_journal.proofs.Callers.{refused_lines_are_first}
 use Rattle.pb_answer.specs.Journals.{IsJournalGraph, IsEventFault, IsNoJournalOf, GivesJournal}
 
 not_fault : {A B C : Type 0} (x : A) (fault : C) → ◌≡◌ {A = Result A C} (Ok x) (Err fault) → B

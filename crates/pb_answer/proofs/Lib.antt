@@ -1,9 +1,10 @@
-pub mod Reports
-pub mod Groups
-pub mod Certified
-pub mod Judged
-pub mod SavedJournals
-pub mod MadeTasks
-pub mod ByNames
-pub mod Spelled
-pub mod SameBlocks
+pub mod Callers
+mod Reports
+mod Groups
+mod Certified
+mod Judged
+mod SavedJournals
+mod MadeTasks
+mod ByNames
+mod Spelled
+mod SameBlocks

@@ -6,7 +6,7 @@ use Rattle.std.specs.Fmt.{decimal}
 use Rattle.std.proofs.lemmas.Fmt.{decimal_by_steps, decimal_injective}
 use Rattle.std.proofs.lemmas.Bool.Decides.{nat_tests}
 use Rattle.pb_model.specs.Texts.{line, lines, spaced, plan_report}
-use Rattle.pb_model.proofs.Tests.{equal_self}
+use Rattle.pb_model.proofs.Callers.{equal_self}
 
 -- the byte does not stand in the text
 abbrev pub IsFree : (byte : ℕ) → List ℕ → Type 0

@@ -5,11 +5,11 @@ use Rattle.pb_task.specs.declared.parts.TaskParts.TheVariants as parts
 use Rattle.pb_pddl.specs.declared.tree.Domain.{Domain}
 use Rattle.pb_pddl.specs.declared.tree.Problem.{Problem}
 use Rattle.pb_pddl.specs.Readings.{problem_reading}
-use Rattle.pb_pddl_laws.proofs.Whole.{domain_is_read, problem_is_read}
+use Rattle.pb_pddl_laws.proofs.Callers.{domain_is_read, problem_is_read}
 use Rattle.pb_lifted.specs.Typing.{IsWellTyped}
 use Rattle.pb_strips.specs.Grounding.{strips_of}
 use Rattle.pb_strips.specs.Refusals.{first_fault, IsWithinLimits}
-use Rattle.pb_strips.proofs.Never.{no_fault}
+use Rattle.pb_strips.proofs.Callers.{no_fault}
 use Rattle.pb_command.specs.Values.{InputNames, Grid, Tiles, Strips}
 use Rattle.pb_command.specs.Meaning.{Reading, Refused, Read, Solve, Check, Journal, Make}
 use Rattle.pb_answer.specs.Loaded.{strips_told, problem_told, domain_told, strips_task, input_task, with_text, RefusesTexts}

@@ -1,3 +1,5 @@
+pub use Rattle.pb_command.specs.Causes
+pub use Rattle.pb_command.specs.Meaning
 pub mod Statuses
 pub mod Loaded
 pub mod Tasks

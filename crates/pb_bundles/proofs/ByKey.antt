@@ -4,8 +4,7 @@ use Rattle.pb_model.specs.declared.key.Key.{Key}
 use Rattle.pb_model.specs.Weight.{Weight}
 use Rattle.pb_model.specs.Store.{Part, HasOpened}
 use Rattle.pb_model.specs.Key.{IsBest}
-use Rattle.pb_model.proofs.Keys.{best_keys_are_unique}
-use Rattle.pb_model.proofs.Tests.{by_cases, below, not_below}
+use Rattle.pb_model.proofs.Callers.{best_keys_are_unique, by_cases, below, not_below}
 use Rattle.pb_machine.specs.Choice.{ComesBefore, IsBetter, IsBetterNear, IsRival, MayBeLeased}
 use Rattle.pb_bundles.specs.Choosing.{IsBetterBy, MayBeFirst, MayRival, IsRivalBy}
 use Rattle.pb_bundles.specs.Laws.{BettersAreByKey, OpenedIsByKey, RivalsAreByKey, FirstChoicesAreByKey}

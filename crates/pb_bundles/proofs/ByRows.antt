@@ -8,7 +8,7 @@ use Rattle.pb_model.specs.declared.row.Row.{Row}
 use Rattle.pb_model.specs.Weight.{Weight}
 use Rattle.pb_model.specs.Store.{Part, lesser}
 use Rattle.pb_model.specs.Key.{IsBest}
-use Rattle.pb_model.proofs.Tests.{by_cases, equal, equal_swap, not_true, below, not_below, none_found, some_found}
+use Rattle.pb_model.proofs.Callers.{by_cases, equal, equal_swap, not_true, below, not_below, none_found, some_found}
 use Rattle.pb_lists.specs.Bundle.{Content, row_of}
 use Rattle.pb_bundles.specs.Parts.{content_in, with_content, rows_in}
 use Rattle.pb_bundles.specs.Homes.{content_at, key_at, home_rows}

@@ -3,7 +3,7 @@ use Rattle.std.proofs.Common.{◌≡◌, ℕ, ◌<◌, ◌^◌, Bool, true, fals
 use Rattle.std.specs.Option.{option_or}
 use Rattle.pb_model.specs.declared.key.Key.{Key}
 use Rattle.pb_model.specs.Key.{IsBest}
-use Rattle.pb_model.proofs.Tests.{by_cases}
+use Rattle.pb_model.proofs.Callers.{by_cases}
 use Rattle.pb_lists.specs.Bundle.{Content, row_of}
 use Rattle.pb_bundles.specs.Parts.{content_in}
 use Rattle.pb_bundles.specs.Homes.{HomeTable, AreHomes}

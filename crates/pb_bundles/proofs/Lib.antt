@@ -1,11 +1,12 @@
-pub mod Lists
-pub mod Moving
-pub mod Noting
-pub mod Orders
-pub mod Trees
-pub mod Kept
-pub mod ByKey
-pub mod ByRows
-pub mod Opening
-pub mod Distinct
-pub mod Worked
+pub mod Callers
+mod Lists
+mod Moving
+mod Noting
+mod Orders
+mod Trees
+mod Kept
+mod ByKey
+mod ByRows
+mod Opening
+mod Distinct
+mod Worked

@@ -9,7 +9,7 @@ use Rattle.std.proofs.lemmas.Map.Keys.{IsDistinct-head, IsDistinct-tail}
 use Rattle.std.specs.Map.{keys_of, lookup, set_value}
 use Rattle.indexmap.specs.IndexMap.{set_value_at}
 use Rattle.std.specs.List.{position, position_or_len}
-use Rattle.pb_model.proofs.Tests.{by_cases, equal, equal_self, equal_swap}
+use Rattle.pb_model.proofs.Callers.{by_cases, equal, equal_self, equal_swap}
 use Rattle.pb_bundles.specs.Moves.{is_among}
 
 -- ---- one place is set

@@ -4,7 +4,7 @@ use Rattle.std.specs.List.{AllByRecursion, filter_map, cons_option}
 use Rattle.std.specs.Option.{option_map, option_or}
 use Rattle.std.specs.Map.{keys_of}
 use Rattle.std.proofs.lemmas.List.Elements.{filter_map-append}
-use Rattle.pb_model.proofs.Tests.{by_cases, equal, equal_swap}
+use Rattle.pb_model.proofs.Callers.{by_cases, equal, equal_swap}
 use Rattle.pb_lists.specs.Bundle.{Content}
 use Rattle.pb_bundles.specs.Parts.{content_in}
 use Rattle.pb_bundles.specs.Moves.{is_among, vacated, moved, put_back}

@@ -4,7 +4,7 @@ use Rattle.std.proofs.lemmas.Bool.{eqb-false}
 use Rattle.std.proofs.lemmas.Option.{none-some, same_Some}
 use Rattle.pb_model.specs.declared.key.Key.{Key}
 use Rattle.pb_model.specs.Key.{IsBest}
-use Rattle.pb_model.proofs.Tests.{by_cases, equal}
+use Rattle.pb_model.proofs.Callers.{by_cases, equal}
 use Rattle.pb_lists.specs.Bundle.{Content, row_of}
 use Rattle.pb_bundles.specs.Parts.{content_in}
 use Rattle.pb_bundles.specs.Moves.{NotesKey, NotesKeys}

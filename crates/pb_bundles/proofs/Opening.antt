@@ -6,7 +6,7 @@ use Rattle.pb_model.specs.Space.{Space}
 use Rattle.pb_model.specs.Guide.{Guide}
 use Rattle.pb_model.specs.Weight.{Weight}
 use Rattle.pb_model.specs.Work.{opening_store, offered_row}
-use Rattle.pb_model.proofs.Tests.{by_cases, below, not_below}
+use Rattle.pb_model.proofs.Callers.{by_cases, below, not_below}
 use Rattle.pb_lists.specs.Bundle.{Content}
 use Rattle.pb_bundles.specs.Parts.{rows_in}
 use Rattle.pb_bundles.specs.Homes.{content_at, home_rows, with_start}

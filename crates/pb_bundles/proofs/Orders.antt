@@ -5,8 +5,7 @@ use Rattle.std.proofs.lemmas.Bool.{cases_order}
 use Rattle.pb_model.specs.declared.key.Key.{Key}
 use Rattle.pb_model.specs.declared.key.Key.TheVariants.{Sum, Dead}
 use Rattle.pb_model.specs.Key.{IsKeyBelow, IsBefore}
-use Rattle.pb_model.proofs.Keys.{key_cases}
-use Rattle.pb_model.proofs.Tests.{by_cases, below, not_below, equal, equal_self, or_true}
+use Rattle.pb_model.proofs.Callers.{key_cases, by_cases, below, not_below, equal, equal_self, or_true}
 use Rattle.pb_machine.specs.Choice.{ComesBefore}
 use Rattle.pb_bundles.specs.Moves.{is_among}
 use Rattle.pb_bundles.specs.Choosing.{IsBetterBy, IsBestOf, IsBetterOf, MayBeFirst, MayRival, IsRivalBy}

@@ -3,7 +3,7 @@ use Rattle.std.proofs.Common.{◌≡◌, ◌≢◌, ℕ, zero, suc, ◌+◌, ◌
 use Rattle.std.proofs.lemmas.Bool.{eqb-false}
 use Rattle.std.proofs.lemmas.Option.{none-some, same_Some}
 use Rattle.pb_model.specs.declared.key.Key.{Key}
-use Rattle.pb_model.proofs.Tests.{by_cases, below, not_below, equal}
+use Rattle.pb_model.proofs.Callers.{by_cases, below, not_below, equal}
 use Rattle.pb_machine.specs.Choice.{ComesBefore}
 use Rattle.pb_bundles.specs.declared.winner.Winner.{Winner}
 use Rattle.pb_bundles.specs.Tree.{leaf, node, IsAhead, IsWonBy, IsWon, IsKeyTree, Under, IsNotBehind, IsBestBelow}

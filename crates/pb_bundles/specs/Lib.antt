@@ -1,3 +1,6 @@
+pub use Rattle.pb_lists.specs.Bundle
+pub use Rattle.pb_machine.specs.Choice
+pub use Rattle.pb_model.specs.Work
 pub mod Parts
 pub mod Rooms
 pub mod Homes

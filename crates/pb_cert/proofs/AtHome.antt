@@ -1,5 +1,5 @@
 -- The rows of a search by leases that are all at home.
-use Rattle.pb_lease.proofs.GraphBasics.{all_rows}
+use Rattle.pb_lease.proofs.Callers.{all_rows}
 use Rattle.pb_cert.specs.Laws.{HomeRowsAreWhole, ShownRowsCanBeTraced}
 
 pub home_rows_are_whole : HomeRowsAreWhole

@@ -9,8 +9,7 @@ use Rattle.pb_model.specs.Guide.{Guide}
 use Rattle.pb_model.specs.Store.{Rows, Store, row_at}
 use Rattle.pb_model.specs.Sound.{HasParent}
 use Rattle.pb_model.specs.Trace.{TracesBack}
-use Rattle.pb_model.proofs.Tests.{by_cases, equal, equal_self, not_both, not_false, not_true}
-use Rattle.pb_model.proofs.Incumbents.{some_number}
+use Rattle.pb_model.proofs.Callers.{by_cases, equal, equal_self, not_both, not_false, not_true, some_number}
 use Rattle.pb_cert.specs.Store.{IsSoundAt, IsPlaced, rows_at_home, guide_with, store_with}
 use Rattle.pb_cert.specs.Traced.{IsFirstGoal, IsTrace, IsLastStep, g_at}
 

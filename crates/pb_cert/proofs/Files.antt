@@ -4,11 +4,11 @@ use Rattle.std.proofs.lemmas.List.{length-append, take-append-drop, take_all}
 use Rattle.std.proofs.Math.Seq.{take-suc}
 use Rattle.std.proofs.lemmas.Option.{get_or_from_slice_get, slice_get_within}
 use Rattle.pb_model.specs.Texts.{line, lines}
-use Rattle.pb_print.proofs.Lines.{lines-append, lines-last}
+use Rattle.pb_print.proofs.Callers.{lines-append, lines-last}
 use Rattle.pb_outside.specs.Outside.{Files}
 use Rattle.pb_outside.specs.Calls.{HasBytes}
 use Rattle.pb_outside.specs.Saves.{HoldsPart, IsWritten}
-use Rattle.pb_outside.proofs.Saves.{added_written, part_of_more}
+use Rattle.pb_outside.proofs.Callers.{added_written, part_of_more}
 use Rattle.pb_cert.specs.Stated.{PutsLine}
 use Rattle.pb_cert.specs.Saved.{AreLines, AddsLine}
 

@@ -9,7 +9,7 @@ use Rattle.std.proofs.lemmas.Map.Entries.{lookup_from_place, place_from_lookup}
 use Rattle.pb_model.specs.declared.row.Row.{Row}
 use Rattle.pb_model.specs.Space.{Space}
 use Rattle.pb_model.specs.Store.{Part, Rows}
-use Rattle.pb_model.proofs.Tests.{equal}
+use Rattle.pb_model.proofs.Callers.{equal}
 use Rattle.pb_lists.specs.Bundle.{row_in}
 use Rattle.pb_cert.specs.declared.goal.Goal.{Goal}
 use Rattle.pb_cert.specs.Store.{HasNoneFrom}

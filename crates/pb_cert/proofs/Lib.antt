@@ -1,4 +1,5 @@
-pub mod AtHome
+pub mod Callers
+mod AtHome
 mod Back
 mod Distinct
 mod Files
@@ -8,4 +9,4 @@ mod Parts
 mod SavedCalls
 mod Sorted
 mod Places
-pub mod Unique
+mod Unique

@@ -6,7 +6,7 @@ use Rattle.std.specs.Fmt.{decimal}
 use Rattle.pb_model.specs.Plan.{Plan}
 use Rattle.pb_model.specs.Certificate.{Line, Certificate}
 use Rattle.pb_model.specs.Texts.{line, lines, spaced, line_text, plan_text, weight_text, rows_text}
-use Rattle.pb_print.proofs.Lines.{lines-append, lines-last}
+use Rattle.pb_print.proofs.Callers.{lines-append, lines-last}
 use Rattle.pb_cert.specs.Stated.{Stated, text_of, head_lines, plan_lines, rows_lines, weight_line, lines_of, PutsLine}
 
 -- ---- a line by its number

@@ -2,10 +2,10 @@
 use Rattle.std.proofs.Common.{◌≡◌, ℕ, ◌+◌, ◌≤◌, Some, List, ◌++◌, length, take, drop, slice_get, sym, subst, ap, arith, ◌∙◌}
 use Rattle.std.proofs.lemmas.List.{length-append, take-append-drop}
 use Rattle.pb_model.specs.Texts.{line, lines}
-use Rattle.pb_print.proofs.Lines.{lines-append}
+use Rattle.pb_print.proofs.Callers.{lines-append}
 use Rattle.pb_outside.specs.Calls.{Call}
 use Rattle.pb_outside.specs.Saves.{SavesPart, HaveBegun}
-use Rattle.pb_outside.proofs.Saves.{added_begun, failed_more}
+use Rattle.pb_outside.proofs.Callers.{added_begun, failed_more}
 use Rattle.pb_cert.specs.Saved.{CallForLine}
 use Rattle.pb_cert.specs.Stated.{Stated, lines_of}
 use Rattle.pb_cert.proofs.Files.{one_more}

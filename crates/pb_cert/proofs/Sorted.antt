@@ -20,8 +20,7 @@ use Rattle.pb_model.specs.Guide.{Guide}
 use Rattle.pb_model.specs.Store.{Rows, IsQuiet}
 use Rattle.pb_model.specs.Sound.{IsSound}
 use Rattle.pb_model.specs.Certificate.{Line, Ascends, AreLinesOf, IsPlanIfAny, IsBackedBy, IsValid, line_of}
-use Rattle.pb_model.proofs.Tests.{by_cases, equal, equal_swap}
-use Rattle.pb_model.proofs.Certificates.{quiet_stores_certify}
+use Rattle.pb_model.proofs.Callers.{by_cases, equal, equal_swap, quiet_stores_certify}
 use Rattle.pb_lists.specs.Bundle.{row_in}
 use Rattle.pb_cert.specs.Store.{IsPlaced, HasNoneFrom, store_with}
 use Rattle.pb_cert.specs.Listed.{entry_line}

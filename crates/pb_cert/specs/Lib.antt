@@ -1,3 +1,14 @@
+pub use Rattle.pb_lists.specs.Bundle
+pub use Rattle.pb_model.specs.Certificate
+pub use Rattle.pb_model.specs.Guide
+pub use Rattle.pb_model.specs.Plan
+pub use Rattle.pb_model.specs.Sound
+pub use Rattle.pb_model.specs.Space
+pub use Rattle.pb_model.specs.Store as ModelStore
+pub use Rattle.pb_outside.specs.Calls
+pub use Rattle.pb_outside.specs.Outside
+pub use Rattle.pb_outside.specs.Saves
+pub use Rattle.pb_task.specs.Parts
 pub mod Store
 pub mod Traced
 pub mod Listed

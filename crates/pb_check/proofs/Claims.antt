@@ -8,7 +8,7 @@ use Rattle.pb_model.specs.Guide.{IsAdmissible}
 use Rattle.pb_model.specs.Weight.{Weight, IsWeight}
 use Rattle.pb_model.specs.Plan.{Plan}
 use Rattle.pb_model.specs.Certificate.{ClaimHolds}
-use Rattle.pb_model.proofs.Certificates.{valid_certificates_hold}
+use Rattle.pb_model.proofs.Callers.{valid_certificates_hold}
 use Rattle.pb_check.specs.declared.kind.TaskKind.{TaskKind}
 use Rattle.pb_check.specs.declared.fault.Verdict.{Verdict}
 use Rattle.pb_check.specs.declared.fault.CheckError.{CheckError}

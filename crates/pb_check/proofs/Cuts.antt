@@ -18,7 +18,7 @@ use Rattle.pb_check.specs.Faults.{◌>>=◌, wanted, Gives}
 use Rattle.pb_check.specs.Reading.{line_at, number_behind, kind_in, weight_in, row_in, fixed_at, number_at, kind_at, weight_at, row_at, actions_at, rows_at, steps_at, plan_at, plan_lines, Text, end_at, body_at, text_of}
 use Rattle.pb_check.specs.Judging.{judged, checked}
 use Rattle.pb_check.specs.Shown.{IsCutOff, CutCertificatesAreRefused}
-use Rattle.pb_lines.proofs.Parts.{part_is, part_none, part_again, one_feed, no_feed}
+use Rattle.pb_lines.proofs.Callers.{part_is, part_none, part_again, one_feed, no_feed}
 use Rattle.pb_check.proofs.Spelled.{bind_ok, ok_is, guard_ok}
 use Rattle.pb_check.proofs.Written.{read_as_spelled}
 

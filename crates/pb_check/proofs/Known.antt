@@ -3,9 +3,9 @@ use Rattle.std.proofs.Common.{List, ℕ, Result, Ok, Err}
 use Rattle.std.specs.Prelude.{IfOk}
 use Rattle.pb_task.specs.Parts.{space_of, IsTask, greatest_cost}
 use Rattle.pb_task.specs.declared.parts.TaskParts.{TaskParts}
-use Rattle.pb_task.proofs.Grids.{tasks_are_proper}
+use Rattle.pb_task.proofs.Callers.{tasks_are_proper}
 use Rattle.pb_estimate.specs.Estimates.{estimate_of}
-use Rattle.pb_estimate.proofs.Estimates.{estimates_are_admissible}
+use Rattle.pb_estimate.proofs.Callers.{estimates_are_admissible}
 use Rattle.pb_model.specs.Space.{IsProper}
 use Rattle.pb_check.specs.declared.fault.Verdict.{Verdict}
 use Rattle.pb_check.specs.declared.fault.CheckError.{CheckError}

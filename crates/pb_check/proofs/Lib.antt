@@ -1,17 +1,18 @@
+pub mod Callers
 mod Cuts
-pub mod Lines
-pub mod Loops
-pub mod Walks
-pub mod Finding
-pub mod Arrays
-pub mod Passes
-pub mod Spelled
-pub mod Readable
-pub mod States
-pub mod Sixteens
-pub mod Written
-pub mod Validity
-pub mod Completeness
-pub mod Claims
-pub mod Known
-pub mod Judged
+mod Lines
+mod Loops
+mod Walks
+mod Finding
+mod Arrays
+mod Passes
+mod Spelled
+mod Readable
+mod States
+mod Sixteens
+mod Written
+mod Validity
+mod Completeness
+mod Claims
+mod Known
+mod Judged

@@ -6,7 +6,7 @@ use Rattle.pb_model.specs.Plan.{Plan}
 use Rattle.pb_model.specs.Certificate.{Line}
 use Rattle.pb_check.specs.declared.kind.TaskKind.{TaskKind}
 use Rattle.pb_check.specs.declared.kind.TaskKind.TheVariants.{Grid, Tiles, Strips}
-use Rattle.pb_lines.proofs.NumberWords.{IsNumberWord}
+use Rattle.pb_lines.proofs.Callers.{IsNumberWord}
 use Rattle.pb_check.specs.Words.{hex_value}
 use Rattle.pb_check.specs.Reading.{Text, plan_lines}
 

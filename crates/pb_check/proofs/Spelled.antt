@@ -13,9 +13,7 @@ use Rattle.pb_check.specs.declared.kind.TaskKind.TheVariants.{Grid, Tiles, Strip
 use Rattle.pb_check.specs.declared.fault.CertificateFault.{CertificateFault}
 use Rattle.pb_check.specs.declared.fault.CertificateFault.TheVariants.{Syntax}
 use Rattle.pb_lines.specs.Words.{part, behind, is_text, number_of}
-use Rattle.pb_lines.proofs.NumberWords.{IsNumberWord}
-use Rattle.pb_lines.proofs.Numbers.{number_word_of}
-use Rattle.pb_lines.proofs.Parts.{if_some, part_is, behind_is, text_is}
+use Rattle.pb_lines.proofs.Callers.{IsNumberWord, number_word_of, if_some, part_is, behind_is, text_is}
 use Rattle.pb_check.specs.Words.{hex_value, hex_after, state_of}
 use Rattle.pb_check.specs.Faults.{◌>>=◌, wanted}
 use Rattle.pb_check.specs.Reading.{line_at, number_behind, kind_in, weight_in, closed_in, row_in, fixed_at, number_at, kind_at, weight_at, row_at, actions_at, rows_at, steps_at, plan_at, plan_lines, Text, end_at, body_at, text_of}

@@ -8,8 +8,7 @@ use Rattle.std.proofs.lemmas.Bool.Decides.{nat_tests}
 use Rattle.std.proofs.lemmas.List.Folds.{list_all-append}
 use Rattle.pb_packed.specs.Bits.{bits_of, with_bits_of}
 use Rattle.pb_packed.specs.Digits.{hex_digit, hex_digits}
-use Rattle.pb_packed.proofs.HexDigits.{no_digits, one_more, followed}
-use Rattle.pb_packed.proofs.DigitLaws.{digits_are_hex}
+use Rattle.pb_packed.proofs.Callers.{no_digits, one_more, followed, digits_are_hex}
 use Rattle.pb_check.specs.Words.{hex_value}
 use Rattle.pb_check.proofs.Lines.{hex_value_after, IsStateWord}
 

@@ -16,7 +16,7 @@ use Rattle.pb_check.specs.Spelling.{PlanFitsIfAny, IsSpelled, ReadAsSpelled}
 use Rattle.pb_check.proofs.Lines.{BeginsWithNumber, kind_text, closed_text, IsWeightLine, IsRowLine, AreActionLines, AreRowLines, ArePlanLines, Spells}
 use Rattle.pb_check.proofs.Spelled.{spelled}
 use Rattle.pb_check.proofs.Readable.{readable}
-use Rattle.pb_lines.proofs.Numbers.{number_word, number_word_is}
+use Rattle.pb_lines.proofs.Callers.{number_word, number_word_is}
 use Rattle.pb_check.proofs.States.{state_word, state_word_is}
 
 -- ---- a line and what follows it

@@ -1,13 +1,13 @@
-pub mod Declared
-pub mod FromClap
-pub mod Stopped
-pub mod Walking
-pub mod Arguments
-pub mod Found
-pub mod Shapes
-pub mod SolveReading
-pub mod CheckReading
-pub mod JournalReading
-pub mod MakeReading
-pub mod OutOfForm
-pub mod Examples
+mod Declared
+mod FromClap
+mod Stopped
+mod Walking
+mod Arguments
+mod Found
+mod Shapes
+mod SolveReading
+mod CheckReading
+mod JournalReading
+mod MakeReading
+mod OutOfForm
+mod Examples

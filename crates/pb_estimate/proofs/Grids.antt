@@ -7,7 +7,7 @@ use Rattle.pb_model.specs.Plan.{Walk}
 use Rattle.pb_task.specs.Grid.{is_passable, are_connected, class_at, is_swamp, entry_cost, cell_state, class_of_state, cell_beside, step_to, grid_space, IsGrid}
 use Rattle.pb_task.specs.declared.parts.GridParts.{GridParts}
 use Rattle.pb_task.specs.declared.parts.Class.{Class}
-use Rattle.pb_task.proofs.Grids.{passable_to, on_map, x_of, y_of}
+use Rattle.pb_task.proofs.Callers.{passable_to, on_map, x_of, y_of}
 use Rattle.pb_estimate.specs.Estimates.{apart, manhattan, cell_of}
 use Rattle.pb_estimate.proofs.Consistent.{no_walk_is_cheaper}
 

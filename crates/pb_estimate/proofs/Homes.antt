@@ -4,7 +4,7 @@ use Rattle.std.proofs.Math.Nat.{mul_assoc, pow-suc}
 use Rattle.std.proofs.lemmas.Bool.{ne_eqb}
 use Rattle.pb_packed.specs.Bits.{bits_of}
 use Rattle.pb_task.specs.Tiles.{board_of}
-use Rattle.pb_task.proofs.Boards.{number_at}
+use Rattle.pb_task.proofs.Callers.{number_at}
 use Rattle.pb_estimate.specs.Estimates.{manhattan, place_of, cell_with, way_home, ways_home}
 use Rattle.pb_estimate.specs.Tables.{AreWaysHome}
 

@@ -1,19 +1,20 @@
-pub mod Consistent
-pub mod Grids
-pub mod Homes
-pub mod Ways
-pub mod Estimates
-pub mod Totals
-pub mod Costs
-pub mod Rounds
-pub mod Fixed
-pub mod Reached
-pub mod Counts
-pub mod Lowered
-pub mod Least
-pub mod Queue
-pub mod Released
-pub mod Sets
-pub mod Underway
-pub mod Steps
-pub mod Relaxing
+pub mod Callers
+mod Consistent
+mod Grids
+mod Homes
+mod Ways
+mod Estimates
+mod Totals
+mod Costs
+mod Rounds
+mod Fixed
+mod Reached
+mod Counts
+mod Lowered
+mod Least
+mod Queue
+mod Released
+mod Sets
+mod Underway
+mod Steps
+mod Relaxing

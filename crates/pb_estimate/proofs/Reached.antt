@@ -7,8 +7,7 @@ use Rattle.pb_model.specs.Guide.{IsLowerBound}
 use Rattle.pb_model.specs.Plan.{Walk}
 use Rattle.pb_task.specs.declared.parts.GroundAction.{GroundAction}
 use Rattle.pb_task.specs.declared.parts.StripsParts.{StripsParts}
-use Rattle.pb_task.proofs.Acting.{strips_act}
-use Rattle.pb_task.proofs.AtomSets.{from_within}
+use Rattle.pb_task.proofs.Callers.{strips_act, from_within}
 use Rattle.pb_task.specs.Strips.{has_atom, is_within, strips_space, Acts}
 use Rattle.pb_estimate.specs.Hmax.{IsAtMost, cheapest_by, atom_cost, goal_cost, estimate_by, hmax}
 use Rattle.pb_estimate.proofs.Costs.{lesser_left, lesser_right, lesser_cases, dearest_from, CostsByOne, cheapest_is, cheapest_from}

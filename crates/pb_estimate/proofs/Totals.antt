@@ -4,10 +4,10 @@ use Rattle.std.proofs.Math.Nat.{zero-mul, one-mul, mul-one}
 use Rattle.std.proofs.lemmas.Bool.{and_parts, or_parts, not-true, eqb-true, ltb-true}
 use Rattle.std.proofs.lemmas.Bool.Decides.{nat_tests}
 use Rattle.std.specs.List.{list_any, list_all}
-use Rattle.pb_model.proofs.Tests.{equal_self}
+use Rattle.pb_model.proofs.Callers.{equal_self}
 use Rattle.pb_model.specs.declared.row.Estimate.TheVariants.{Cost}
 use Rattle.pb_task.specs.Tiles.{cell_count, are_distinct, board_of}
-use Rattle.pb_task.proofs.Boards.{Listed, listed, board_in}
+use Rattle.pb_task.proofs.Callers.{Listed, listed, board_in}
 use Rattle.pb_estimate.specs.Estimates.{manhattan, place_of, cell_with, way_home, ways_home, tile_way, tile_ways}
 use Rattle.pb_estimate.specs.Laws.{EstimatesCountTiles}
 use Rattle.pb_estimate.proofs.Ways.{sum_below, ways_are, none, own_cell}

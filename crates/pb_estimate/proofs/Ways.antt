@@ -7,13 +7,11 @@ use Rattle.std.proofs.lemmas.Map.Keys.{apart_from_distinct}
 use Rattle.std.specs.List.{position_or_len}
 use Rattle.pb_model.specs.Space.{Steps}
 use Rattle.pb_model.specs.Plan.{Walk}
-use Rattle.pb_model.proofs.Tests.{equal_self, equal_swap}
+use Rattle.pb_model.proofs.Callers.{equal_self, equal_swap}
 use Rattle.pb_task.specs.Tiles.{cell_count, board_state, board_of, is_board_state, tiles_space, IsTiles}
 use Rattle.pb_task.specs.Slides.{LiesBeside, Slides}
 use Rattle.pb_task.specs.declared.parts.TilesParts.{TilesParts}
-use Rattle.pb_task.proofs.Boards.{Listed, listed, to_distinct, boards_are_packed}
-use Rattle.pb_task.proofs.Sliding.{few_cells, step_is}
-use Rattle.pb_task.proofs.Slides.{tiles_slide}
+use Rattle.pb_task.proofs.Callers.{Listed, listed, to_distinct, boards_are_packed, few_cells, step_is, tiles_slide}
 use Rattle.pb_estimate.specs.Estimates.{manhattan, place_of, cell_with, way_home, ways_home}
 use Rattle.pb_estimate.proofs.Consistent.{no_walk_is_cheaper}
 use Rattle.pb_estimate.proofs.Grids.{near_in_x, near_in_y}

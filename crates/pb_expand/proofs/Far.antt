@@ -8,7 +8,7 @@ use Rattle.pb_abstract.specs.Graph.{AbstractGraph}
 use Rattle.pb_lease.specs.LeaseValue.{LeaseValue, leased_store, HasWeights, IsSameLease}
 use Rattle.pb_lease.specs.Leased.{guide_of, setup_of, HasScope, IsOut, IsInTurns}
 use Rattle.pb_expand.specs.Turned.{IsAtWork, HasTurned, reads_none}
-use Rattle.pb_lease.proofs.Same.{same_on}
+use Rattle.pb_lease.proofs.Callers.{same_on}
 use Rattle.pb_expand.proofs.Known.{scope_on, out_on, at_work_on, worked_on}
 
 module _ (task : TaskParts) (graph : AbstractGraph) (first lease : LeaseValue) where

@@ -3,14 +3,11 @@ use Rattle.std.proofs.Common.{◌≡◌, ℕ, ◌+◌, ◌-◌, ◌<◌, ◌≤�
 use Rattle.pb_model.specs.declared.row.Row.{Row}
 use Rattle.pb_model.specs.Sound.{IsSound}
 use Rattle.pb_model.specs.Store.{Store}
-use Rattle.pb_model.proofs.Locality.{comes_append}
-use Rattle.pb_model.proofs.Soundness.{work_keeps_sound}
+use Rattle.pb_model.proofs.Callers.{comes_append, work_keeps_sound}
 use Rattle.pb_machine.specs.declared.settings.Settings.{Settings}
 use Rattle.pb_machine.specs.Machine.{Setup, IsSetup, Machine, IsWorked, lent_store}
 use Rattle.pb_machine.specs.Turns.{AreLeaseTurns}
-use Rattle.pb_machine.proofs.LeaseWork.{merged, works_there, row_there, lease_work_goes_on, lease_work_stays}
-use Rattle.pb_machine.proofs.LeaseTurns.{lease_turns_go_on}
-use Rattle.pb_machine.proofs.MomentLaws.{lease_costs_fit}
+use Rattle.pb_machine.proofs.Callers.{merged, works_there, row_there, lease_work_goes_on, lease_work_stays, lease_turns_go_on, lease_costs_fit}
 use Rattle.pb_task.specs.declared.parts.TaskParts.{TaskParts}
 use Rattle.pb_task.specs.Parts.{space_of, greatest_cost}
 use Rattle.pb_abstract.specs.Graph.{AbstractGraph, blocks_of}
@@ -19,7 +16,7 @@ use Rattle.pb_lease.specs.LeaseValue.{LeaseValue, leased_store, HasWeights, IsSa
 use Rattle.pb_lease.specs.Leased.{guide_of, setup_of, grant_of, HasScope, IsOut, IsInTurns}
 use Rattle.pb_expand.specs.Turned.{own_rows, IsAtWork, reads_none, HasTurned}
 use Rattle.pb_lease.specs.Rows.{LeadsInto}
-use Rattle.pb_lease.proofs.Same.{same_places}
+use Rattle.pb_lease.proofs.Callers.{same_places}
 use Rattle.pb_expand.proofs.Turned.{turned_on}
 
 -- costs of a task are in the range of the planner

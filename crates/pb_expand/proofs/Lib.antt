@@ -1,6 +1,6 @@
 mod Examples
-pub mod Turned
-pub mod Known
-pub mod Listed
-pub mod Far
-pub mod Watched
+mod Turned
+mod Known
+mod Listed
+mod Far
+mod Watched

@@ -3,7 +3,7 @@ use Rattle.std.proofs.Common.{◌≡◌, ℕ, zero, suc, ◌<◌, List, [], ◌�
 use Rattle.std.specs.List.{AllByRecursion}
 use Rattle.pb_model.specs.declared.row.Succ.{Succ}
 use Rattle.pb_model.specs.Space.{Space, steps}
-use Rattle.pb_model.proofs.Successors.{IsStep, are_steps}
+use Rattle.pb_model.proofs.Callers.{IsStep, are_steps}
 
 -- what holds of every successor of a list holds of the one at this place
 one_of_all : (P : Succ → Type 0) (succs : List Succ) (i : ℕ) (succ : Succ) → AllByRecursion P succs → i < length succs → succ ≡ get_or succs i succ → P succ

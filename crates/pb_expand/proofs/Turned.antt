@@ -10,17 +10,14 @@ use Rattle.pb_model.specs.Guide.{Guide}
 use Rattle.pb_model.specs.Store.{Store, lesser, MayBeCut}
 use Rattle.pb_model.specs.Key.{IsFirstRow}
 use Rattle.pb_model.specs.Work.{Work, expand, break_off, cut, take_goal, lower, row_after_offers, row_after_status, g_of, store_after, May, expansions, broken_expansions}
-use Rattle.pb_model.proofs.Locality.{broken_append}
-use Rattle.pb_model.proofs.Offers.{Left, offers_leave}
-use Rattle.pb_model.proofs.Successors.{IsStep, are_steps, all_take}
+use Rattle.pb_model.proofs.Callers.{broken_append, Left, offers_leave, IsStep, are_steps, all_take}
 use Rattle.pb_machine.specs.Machine.{IsOn, IsWorked, BreaksLast}
 use Rattle.pb_machine.specs.Turns.{IsLeaseTurn, AreLeaseTurns}
-use Rattle.pb_machine.proofs.LeaseWork.{lease_work_goes_on}
-use Rattle.pb_machine.proofs.LeaseTurns.{lease_turns_go_on}
+use Rattle.pb_machine.proofs.Callers.{lease_work_goes_on, lease_turns_go_on}
 use Rattle.pb_lists.specs.Bundle.{IsOpened}
 use Rattle.pb_bundles.specs.Parts.{away_rows}
 use Rattle.pb_lease.specs.LeaseValue.{LeaseValue, leased_store}
-use Rattle.pb_lease.proofs.AfterWork.{store_is, status_rows}
+use Rattle.pb_lease.proofs.Callers.{store_is, status_rows}
 use Rattle.pb_expand.specs.Turned.{own_rows, HasTurned, with_copy, HasTurnedOnce, IsNext}
 use Rattle.pb_lease.specs.Rows.{ChangesRows, SetsStatusAt, HasOffers, IsBrokenOff}
 

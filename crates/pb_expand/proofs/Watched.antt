@@ -8,12 +8,10 @@ use Rattle.pb_model.specs.Guide.{Guide}
 use Rattle.pb_model.specs.Store.{Store, HasGoalWithin, AtMost, lesser}
 use Rattle.std.specs.List.{AllByRecursion}
 use Rattle.pb_model.specs.Work.{Work, store_after, Comes, broken_expansions}
-use Rattle.pb_model.proofs.Backing.{goal_still, goal_within}
-use Rattle.pb_model.proofs.Incumbents.{at_most_self, at_most_trans, lesser_at_most, lesser_falls, lesser_cases}
+use Rattle.pb_model.proofs.Callers.{goal_still, goal_within, at_most_self, at_most_trans, lesser_at_most, lesser_falls, lesser_cases}
 use Rattle.pb_machine.specs.Machine.{IsOn, IsWorked, lent_store}
 use Rattle.pb_machine.specs.Turns.{AreLeaseTurns}
-use Rattle.pb_machine.proofs.LeaseWork.{lease_work_goes_on, lease_work_stays}
-use Rattle.pb_machine.proofs.LeaseTurns.{lease_turns_go_on}
+use Rattle.pb_machine.proofs.Callers.{lease_work_goes_on, lease_work_stays, lease_turns_go_on}
 use Rattle.pb_task.specs.declared.parts.TaskParts.{TaskParts}
 use Rattle.pb_task.specs.Parts.{space_of}
 use Rattle.pb_abstract.specs.Graph.{AbstractGraph}
@@ -22,7 +20,7 @@ use Rattle.pb_lease.specs.Leased.{guide_of, setup_of, HasScope}
 use Rattle.pb_expand.specs.Turned.{own_rows, IsAtWork, HasTurned, with_copy, copies_of, HasTurnedOnce, reads_none}
 use Rattle.pb_expand.specs.Watching.{WatchView, IsFromLent, IsWatched, MayTell, KeepsWatch, HasRead, HasTold, IsAtWatch, with_read, HasTurnedReading, HasTurnedWatched}
 use Rattle.pb_lease.specs.Rows.{ChangesRows}
-use Rattle.pb_lease.proofs.Same.{lesser_other, none_below, same_none, same_on, same_changed}
+use Rattle.pb_lease.proofs.Callers.{lesser_other, none_below, same_none, same_on, same_changed}
 use Rattle.pb_expand.proofs.Known.{scope_on, row_is_home, row_is_cheap}
 use Rattle.pb_expand.proofs.Turned.{turned_none, turned_on, turned_on_works, lowered_turned}
 

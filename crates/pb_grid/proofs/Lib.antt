@@ -1,15 +1,16 @@
-pub mod Parting
-pub mod Sizes
-pub mod Rows
-pub mod Chosen
-pub mod Steps
-pub mod SpelledMaps
-pub mod SpelledScenarios
-pub mod ReadableMaps
-pub mod ReadableScenarios
-pub mod Swamps
-pub mod Grids
-pub mod Refusals
-pub mod Examples
-pub mod CaseOf
-pub mod CaseTold
+pub mod Callers
+mod Parting
+mod Sizes
+mod Rows
+mod Chosen
+mod Steps
+mod SpelledMaps
+mod SpelledScenarios
+mod ReadableMaps
+mod ReadableScenarios
+mod Swamps
+mod Grids
+mod Refusals
+mod Examples
+mod CaseOf
+mod CaseTold

@@ -4,7 +4,7 @@ use Rattle.std.specs.List.{slice_get, starts_with, filter}
 use Rattle.std.proofs.lemmas.Bool.{eqb-true}
 use Rattle.std.proofs.lemmas.List.{reverse-append, length-reverse}
 use Rattle.pb_lines.specs.ShortNumbers.{short_number_of, IsShortNumber}
-use Rattle.pb_lines.proofs.ShortNumbers.{reads_short_number}
+use Rattle.pb_lines.proofs.Callers.{reads_short_number}
 use Rattle.pb_grid.specs.declared.error.GridError.TheVariants as errors
 use Rattle.pb_grid.specs.declared.scenario.ScenarioParts.{ScenarioParts}
 use Rattle.pb_grid.specs.Lines.{lines_of, line_at, words_of, is_blank_line}

@@ -6,7 +6,7 @@ use Rattle.std.proofs.lemmas.Bool.Decides.{Decides-eqb}
 use Rattle.std.proofs.lemmas.List.{reverse-append, reverse-reverse, length-reverse}
 use Rattle.std.proofs.lemmas.Slice.Eq.{starts_is}
 use Rattle.pb_lines.specs.ShortNumbers.{short_number_of, IsShortNumber}
-use Rattle.pb_lines.proofs.ShortNumbers.{spells_short_number}
+use Rattle.pb_lines.proofs.Callers.{spells_short_number}
 use Rattle.pb_grid.specs.declared.error.GridError.TheVariants as errors
 use Rattle.pb_grid.specs.declared.scenario.ScenarioParts.{ScenarioParts}
 use Rattle.pb_grid.specs.Lines.{lines_of, line_at, words_of, is_blank_line}

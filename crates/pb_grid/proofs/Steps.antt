@@ -5,8 +5,7 @@ use Rattle.std.proofs.lemmas.Bool.{eqb-true, and_parts, and_from}
 use Rattle.std.proofs.lemmas.Slice.Eq.{bytes_eq-Decides}
 use Rattle.pb_grid.specs.declared.error.GridError.{GridError}
 use Rattle.pb_lines.specs.ShortNumbers.{short_number_of, IsShortNumber}
-use Rattle.pb_lines.proofs.Parts.{if_some}
-use Rattle.pb_lines.proofs.ShortNumbers.{spells_short_number, reads_short_number}
+use Rattle.pb_lines.proofs.Callers.{if_some, spells_short_number, reads_short_number}
 use Rattle.pb_grid.specs.Lines.{words_of, is_blank_line}
 use Rattle.pb_grid.specs.Reading.{◌>>=◌, wanted, must, are_words, number_named}
 

@@ -1,10 +1,11 @@
-pub mod Agreeing
-pub mod Finding
-pub mod Gathering
-pub mod Indexing
-pub mod Membership
-pub mod Once
-pub mod Products
-pub mod Rows
-pub mod Sorted
-pub mod Stepping
+pub mod Callers
+mod Agreeing
+mod Finding
+mod Gathering
+mod Indexing
+mod Membership
+mod Once
+mod Products
+mod Rows
+mod Sorted
+mod Stepping

@@ -13,12 +13,8 @@ use Rattle.pb_model.specs.Guide.{Guide}
 use Rattle.pb_model.specs.Store.{Store, row_at, HasRowWithin, HasGoalWithin, AtMost, MayBeCut, lesser}
 use Rattle.pb_model.specs.Sound.{HasParent}
 use Rattle.pb_model.specs.Work.{Work, expand, break_off, cut, take_goal, lower, reopen, g_of, g_before, store_after, May}
-use Rattle.pb_model.proofs.Tests.{equal, equal_self}
-use Rattle.pb_model.proofs.Incumbents.{at_most_self, lesser_cases}
-use Rattle.pb_model.proofs.Offers.{some_row, IsFresh}
-use Rattle.pb_model.proofs.Successors.{are_steps, all_take, each_step, steps_are_successors}
-use Rattle.pb_model.proofs.Effects as effects
-use Rattle.pb_model.proofs.Effects.{Change, Effect}
+use Rattle.pb_model.proofs.Callers.{equal, equal_self, at_most_self, lesser_cases, some_row, IsFresh, are_steps, all_take, each_step, steps_are_successors, Change, Effect}
+use Rattle.pb_model.proofs.Callers as effects
 use Rattle.pb_mail.specs.declared.letter.Letter.{Letter}
 use Rattle.pb_hashed.specs.Mailed.{Owner, Mailed, all_rows, store_of, own_store, IsOffer, HasLetterWithin, IsSoundMailed, MailCostsAtMost}
 use Rattle.pb_hashed.specs.MailWork.{MailWork, by_owner, letter_for, letters_out, sent_by, IsOwnWork, owner_after, with_owner, mail_after}

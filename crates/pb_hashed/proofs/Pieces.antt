@@ -11,10 +11,7 @@ use Rattle.pb_model.specs.Space.{Space, Steps, steps, IsProper}
 use Rattle.pb_model.specs.Guide.{Guide}
 use Rattle.pb_model.specs.Store.{Store, row_at, is_place_of, HasRowWithin, AtMost, MayBeCut, lesser}
 use Rattle.pb_model.specs.Work.{Work, expand, break_off, cut, take_goal, lower, reopen, row_after_offers, with_status, row_after_status, row_after, incumbent_after, weight_after, g_of, g_before, store_after, May, expansions, broken_expansions}
-use Rattle.pb_model.proofs.Incumbents.{at_most_self, lesser_at_most, goal_may_be_cut}
-use Rattle.pb_model.proofs.Successors.{all_more, all_take, are_steps, IsStep}
-use Rattle.pb_model.proofs.Offers.{some_row, place_of, IsFresh, Left, offers_leave, offers_cover}
-use Rattle.pb_model.proofs.Effects.{Change, same, fresh, marked, Effect}
+use Rattle.pb_model.proofs.Callers.{at_most_self, lesser_at_most, goal_may_be_cut, all_more, all_take, are_steps, IsStep, some_row, place_of, IsFresh, Left, offers_leave, offers_cover, Change, same, fresh, marked, Effect}
 use Rattle.pb_mail.specs.declared.letter.Letter.{Letter}
 use Rattle.pb_hashed.specs.Mailed.{Owner, Mailed, all_rows, store_of, own_store, IsOffer, IsSoundMailed, MailCostsAtMost}
 use Rattle.pb_hashed.specs.MailWork.{letter_for, letters_out, sent_by, IsOwnWork, owner_after, with_owner}

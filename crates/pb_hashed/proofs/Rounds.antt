@@ -7,7 +7,7 @@ use Rattle.pb_model.specs.Weight.{Weight}
 use Rattle.pb_model.specs.Guide.{Guide}
 use Rattle.pb_model.specs.Store.{Part, lesser}
 use Rattle.pb_model.specs.Work.{Work, expand, break_off, cut, take_goal, lower, reopen, g_before, May, expansions, broken_expansions}
-use Rattle.pb_model.proofs.Tests.{equal_self}
+use Rattle.pb_model.proofs.Callers.{equal_self}
 use Rattle.pb_mail.specs.declared.letter.Letter.{Letter}
 use Rattle.pb_mail.specs.declared.letter.Sent.{Sent}
 use Rattle.pb_mail.specs.Views.{letters_of}
@@ -110,14 +110,14 @@ module _ (space : Space) (guide : Guide) where
     mid_letters k other = go (k == to) refl
       where
         go : (b : Bool) → (k == to) ≡ b → (mid.owner k).letters other ≡ (m.owner k).letters other
-        go true e = ap (λ b. (cond b (record (m.owner to) { part = part_with guide letter (m.owner to).part }) (m.owner k)).letters other) e ∙ ap (λ j. (m.owner j).letters other) (sym (Rattle.pb_model.proofs.Tests.equal k to e))
+        go true e = ap (λ b. (cond b (record (m.owner to) { part = part_with guide letter (m.owner to).part }) (m.owner k)).letters other) e ∙ ap (λ j. (m.owner j).letters other) (sym (Rattle.pb_model.proofs.Callers.equal k to e))
         go false e = ap (λ b. (cond b (record (m.owner to) { part = part_with guide letter (m.owner to).part }) (m.owner k)).letters other) e
 
     mid_copy : (k : ℕ) → (mid.owner k).incumbent ≡ (m.owner k).incumbent
     mid_copy k = go (k == to) refl
       where
         go : (b : Bool) → (k == to) ≡ b → (mid.owner k).incumbent ≡ (m.owner k).incumbent
-        go true e = ap (λ b. (cond b (record (m.owner to) { part = part_with guide letter (m.owner to).part }) (m.owner k)).incumbent) e ∙ ap (λ j. (m.owner j).incumbent) (sym (Rattle.pb_model.proofs.Tests.equal k to e))
+        go true e = ap (λ b. (cond b (record (m.owner to) { part = part_with guide letter (m.owner to).part }) (m.owner k)).incumbent) e ∙ ap (λ j. (m.owner j).incumbent) (sym (Rattle.pb_model.proofs.Callers.equal k to e))
         go false e = ap (λ b. (cond b (record (m.owner to) { part = part_with guide letter (m.owner to).part }) (m.owner k)).incumbent) e
 
     new_part : (k : ℕ) → (new.owner k).part ≡ (mid.owner k).part

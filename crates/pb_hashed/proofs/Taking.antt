@@ -10,9 +10,7 @@ use Rattle.pb_model.specs.Guide.{Guide}
 use Rattle.pb_model.specs.Store.{Part, Store, row_at, HasRowWithin, AtMost}
 use Rattle.pb_model.specs.Sound.{HasParent}
 use Rattle.pb_model.specs.Work.{offered_row}
-use Rattle.pb_model.proofs.Tests.{equal, equal_self, below, not_below}
-use Rattle.pb_model.proofs.Incumbents.{at_most_self}
-use Rattle.pb_model.proofs.Offers.{some_row}
+use Rattle.pb_model.proofs.Callers.{equal, equal_self, below, not_below, at_most_self, some_row}
 use Rattle.pb_mail.specs.declared.letter.Letter.{Letter}
 use Rattle.pb_hashed.specs.Mailed.{Owner, Mailed, all_rows, store_of, IsOffer, HasLetterWithin, IsSoundMailed, MailCostsAtMost}
 use Rattle.pb_hashed.specs.MailWork.{MailWork, take_in, part_with, without_first, without_letter, with_owner, with_row_in, mail_after, MayMail}

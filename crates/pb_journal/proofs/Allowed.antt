@@ -1,6 +1,6 @@
 -- What is true of an event that may come next.
 use Rattle.std.proofs.Common.{◌≡◌, ℕ, ◌+◌, ◌-◌, ◌<◌, ◌≤◌, ◌^◌, min, Bool, false, not, nat_lt, is_some, true≢false, Option, Some, None, refl, ap, arith}
-use Rattle.pb_model.proofs.Tests.{and_true, or_false, not_false, equal, below, not_below}
+use Rattle.pb_model.proofs.Callers.{and_true, or_false, not_false, equal, below, not_below}
 use Rattle.pb_machine.specs.declared.event.Event.TheVariants.{Lease, Renew, Hot, Cold, Release, Off}
 use Rattle.pb_machine.specs.declared.event.Grant.{Grant}
 use Rattle.pb_machine.specs.declared.event.EventRefusal.{EventRefusal}
@@ -9,7 +9,7 @@ use Rattle.pb_machine.specs.Settings.{AreInRange}
 use Rattle.pb_machine.specs.Blocks.{Blocks}
 use Rattle.pb_machine.specs.Counts.{Counts, AreLawful, quota_of}
 use Rattle.pb_machine.specs.Legality.{is_wrong_quota, refusal}
-use Rattle.pb_machine.proofs.CountsLaws.{passes, within, grant_of}
+use Rattle.pb_machine.proofs.Callers.{passes, within, grant_of}
 use Rattle.pb_journal.proofs.Budgets.{quota_within}
 
 -- nothing refuses

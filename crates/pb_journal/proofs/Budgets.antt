@@ -5,7 +5,7 @@ use Rattle.pb_machine.specs.declared.settings.Settings.{Settings}
 use Rattle.pb_machine.specs.Settings.{AreInRange}
 use Rattle.pb_machine.specs.Blocks.{Blocks}
 use Rattle.pb_machine.specs.Counts.{Counts, AreLawful, quota_of}
-use Rattle.pb_machine.proofs.TableLaws.{sum_with_entry}
+use Rattle.pb_machine.proofs.Callers.{sum_with_entry}
 
 -- a quota that is out, what was settled and what is left are within the budget
 pub quota_within : (blocks : Blocks) (settings : Settings) (counts : Counts) (worker : ℕ)

@@ -5,7 +5,7 @@ use Rattle.pb_journal.specs.declared.error.Fault.{Fault}
 use Rattle.pb_journal.specs.Faults.{◌>>=◌, wanted}
 use Rattle.pb_lines.specs.Words.{behind}
 use Rattle.pb_journal.specs.Reading.{by_word}
-use Rattle.pb_lines.proofs.Parts.{behind_is}
+use Rattle.pb_lines.proofs.Callers.{behind_is}
 
 pub bind_ok : {A B : Type 0} (r : Result A Fault) (f : A → Result B Fault) (y : B) → (r >>= f)
     ≡ Ok y → (x : A) × (r ≡ Ok x) × (f x ≡ Ok y)

@@ -6,7 +6,7 @@ use Rattle.std.proofs.lemmas.List.{nil_from_length}
 use Rattle.std.proofs.lemmas.List.Sums.{sum_by-cons}
 use Rattle.std.proofs.lemmas.Bool.Decides.{nat_tests}
 use Rattle.pb_model.specs.Texts.{lines}
-use Rattle.pb_model.proofs.Tests.{or_false, not_both}
+use Rattle.pb_model.proofs.Callers.{or_false, not_both}
 use Rattle.pb_machine.specs.declared.event.Event.{Event}
 use Rattle.pb_machine.specs.declared.event.Event.TheVariants.{Lease, Renew, Hot, Cold, Release, Off, Ended}
 use Rattle.pb_machine.specs.declared.event.End.TheVariants.{Quiet, Budget, Memory}
@@ -16,7 +16,7 @@ use Rattle.pb_machine.specs.Blocks.{Blocks}
 use Rattle.pb_machine.specs.Counts.{Counts, opening_counts, counts_after}
 use Rattle.pb_machine.specs.Legality.{refusal}
 use Rattle.pb_machine.specs.History.{AreFinished}
-use Rattle.pb_machine.proofs.CountsLaws.{passes, within}
+use Rattle.pb_machine.proofs.Callers.{passes, within}
 use Rattle.pb_journal.specs.declared.error.Fault.{Fault}
 use Rattle.pb_journal.specs.declared.error.JournalError.{JournalError}
 use Rattle.pb_journal.specs.declared.error.Why.{Why}
@@ -26,7 +26,7 @@ use Rattle.pb_lines.specs.Words.{part, behind, is_text, number_of, line_feeds}
 use Rattle.pb_journal.specs.Reading.{why_missing, first_line, line_at, with_first, lines_in, tail_in, fixed_at, number_at, plain_in, plain_at, event_in, header_of}
 use Rattle.pb_journal.specs.Judging.{unless_refused, after_line, after_lines, are_finished, end_fault, events_of, judged}
 use Rattle.pb_journal.specs.Shown.{IsCutOff, cut_fault, CutJournalsAreRefused}
-use Rattle.pb_lines.proofs.Parts.{part_is, part_none, part_again}
+use Rattle.pb_lines.proofs.Callers.{part_is, part_none, part_again}
 use Rattle.pb_journal.proofs.Splits.{has_end, has_line, has_no_line}
 use Rattle.pb_journal.proofs.Chains.{bind_ok, ok_is, guard_ok}
 use Rattle.pb_journal.proofs.WholeTexts.{is_some_line, ends, text_is}

@@ -12,8 +12,7 @@ use Rattle.pb_journal.specs.Faults.{◌>>=◌, fault_at, wanted}
 use Rattle.pb_lines.specs.Words.{part, behind, is_text, number_of, has_none}
 use Rattle.pb_journal.specs.Texts.{report_word, event_line, Fits, IsSpelled}
 use Rattle.pb_journal.specs.Reading.{number_before, report_in, lease_in, renewal_in, hot_in, cold_in, release_in, off_in, end_in, event_in}
-use Rattle.pb_lines.proofs.Numbers.{number_is, number_again, number_none}
-use Rattle.pb_lines.proofs.Parts.{part_is, text_is, part_again, none_both}
+use Rattle.pb_lines.proofs.Callers.{number_is, number_again, number_none, part_is, text_is, part_again, none_both}
 use Rattle.pb_journal.proofs.Chains.{bind_ok, ok_is, wanted_ok, by_word_ok}
 
 -- ---- what is read is spelled so

@@ -12,7 +12,7 @@ use Rattle.pb_machine.specs.Blocks.{Blocks}
 use Rattle.pb_machine.specs.Counts.{Counts, opening_counts, counts_after}
 use Rattle.pb_machine.specs.Legality.{refusal}
 use Rattle.pb_machine.specs.History.{replay}
-use Rattle.pb_machine.proofs.Histories.{replay_first}
+use Rattle.pb_machine.proofs.Callers.{replay_first}
 use Rattle.pb_journal.specs.declared.error.Fault.{Fault}
 use Rattle.pb_journal.specs.declared.error.Why.TheVariants.{Spelling, Short}
 use Rattle.pb_journal.specs.Faults.{◌>>=◌, fault_at, wanted, why_of}

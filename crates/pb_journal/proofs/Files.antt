@@ -4,11 +4,11 @@ use Rattle.std.proofs.Common.{◌≡◌, ℕ, suc, ◌+◌, ◌<◌, ◌≤◌, 
 use Rattle.std.proofs.lemmas.List.{map-append, length-append, take-append-drop, take_all}
 use Rattle.std.proofs.Math.Seq.{take-suc}
 use Rattle.pb_model.specs.Texts.{line, lines}
-use Rattle.pb_print.proofs.Lines.{lines-append, lines-last}
+use Rattle.pb_print.proofs.Callers.{lines-append, lines-last}
 use Rattle.pb_outside.specs.Outside.{Files}
 use Rattle.pb_outside.specs.Calls.{Call, HasBytes}
 use Rattle.pb_outside.specs.Saves.{HoldsPart, SavesPart}
-use Rattle.pb_outside.proofs.Saves.{part_of_more, failed_more}
+use Rattle.pb_outside.proofs.Callers.{part_of_more, failed_more}
 use Rattle.pb_machine.specs.declared.event.Event.{Event}
 use Rattle.pb_journal.specs.Texts.{event_line, header_lines, header_text, events_text, journal_text}
 use Rattle.pb_machine.specs.declared.settings.Settings.{Settings}

@@ -4,7 +4,7 @@ use Rattle.std.proofs.lemmas.List.{length-map, nil_from_length}
 use Rattle.std.proofs.lemmas.Bool.{eqb-true}
 use Rattle.pb_model.specs.Texts.{lines}
 use Rattle.pb_model.specs.Weight.{IsWeight}
-use Rattle.pb_model.proofs.Tests.{and_true, not_false, not_true}
+use Rattle.pb_model.proofs.Callers.{and_true, not_false, not_true}
 use Rattle.pb_machine.specs.declared.event.Event.{Event}
 use Rattle.pb_machine.specs.declared.event.Event.TheVariants.{Lease, Renew, Hot, Cold, Release, Off, Ended}
 use Rattle.pb_machine.specs.declared.event.EventRefusal.{EventRefusal}
@@ -15,10 +15,7 @@ use Rattle.pb_machine.specs.Blocks.{Blocks}
 use Rattle.pb_machine.specs.Counts.{Counts, opening_counts, counts_after, AreLawful}
 use Rattle.pb_machine.specs.Legality.{refusal}
 use Rattle.pb_machine.specs.History.{replay, IsHistory, AreFinished}
-use Rattle.pb_machine.proofs.TableLaws.{any_none, any_some}
-use Rattle.pb_machine.proofs.CountsLaws.{event_keeps, opening_lawful}
-use Rattle.pb_machine.proofs.Histories.{some_counts, replay_first, first_may}
-use Rattle.pb_machine.proofs.EndsTold.{histories_have_any_weight}
+use Rattle.pb_machine.proofs.Callers.{any_none, any_some, event_keeps, opening_lawful, some_counts, replay_first, first_may, histories_have_any_weight}
 use Rattle.pb_journal.specs.declared.error.Why.TheVariants.{Spelling, Short}
 use Rattle.pb_journal.specs.Faults.{◌>>=◌, fault_at}
 use Rattle.pb_journal.specs.Texts.{event_line, header_text, events_text, journal_text, Fits}

@@ -13,8 +13,7 @@ use Rattle.pb_lines.specs.Words.{part, behind, is_text, number_of, has_none}
 use Rattle.pb_journal.specs.Texts.{plain_line, header_text}
 use Rattle.pb_journal.specs.Shown.{one}
 use Rattle.pb_journal.specs.Reading.{first_line, line_at, fixed_at, number_at, plain_in, plain_at, header_of}
-use Rattle.pb_lines.proofs.Numbers.{number_is, number_again, number_none}
-use Rattle.pb_lines.proofs.Parts.{part_is, behind_is, text_is, text_again, part_again, behind_again, none_both, conjuncts, both}
+use Rattle.pb_lines.proofs.Callers.{number_is, number_again, number_none, part_is, behind_is, text_is, text_again, part_again, behind_again, none_both, conjuncts, both}
 use Rattle.pb_journal.proofs.Chains.{bind_ok, ok_is, wanted_ok, guard_ok}
 
 -- ---- what is read is spelled so

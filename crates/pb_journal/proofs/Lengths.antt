@@ -13,8 +13,7 @@ use Rattle.pb_machine.specs.Blocks.{Blocks}
 use Rattle.pb_machine.specs.Counts.{Counts, opening_counts, counts_after, AreLawful}
 use Rattle.pb_machine.specs.Legality.{refusal}
 use Rattle.pb_machine.specs.History.{replay}
-use Rattle.pb_machine.proofs.CountsLaws.{event_keeps, opening_lawful}
-use Rattle.pb_machine.proofs.Histories.{first_may, replay_first}
+use Rattle.pb_machine.proofs.Callers.{event_keeps, opening_lawful, first_may, replay_first}
 use Rattle.pb_journal.specs.Texts.{numbered, plain_line, header_text, report_word, event_line, events_text}
 use Rattle.pb_journal.specs.Lengths.{JournalTextsAreShort}
 use Rattle.pb_journal.proofs.Allowed.{lease_allowed, renewal_allowed, hot_allowed, cold_allowed, release_allowed, off_allowed}

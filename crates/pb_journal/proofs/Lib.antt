@@ -1,17 +1,18 @@
-pub mod Looking
-pub mod Budgets
-pub mod Allowed
-pub mod Releases
-pub mod Splits
-pub mod Loops
-pub mod Files
-pub mod Chains
-pub mod EventLines
-pub mod HeaderLines
-pub mod WholeTexts
-pub mod Finished
-pub mod Answered
-pub mod Faulty
-pub mod Cuts
-pub mod Searched
-pub mod Lengths
+pub mod Callers
+mod Looking
+mod Budgets
+mod Allowed
+mod Releases
+mod Splits
+mod Loops
+mod Files
+mod Chains
+mod EventLines
+mod HeaderLines
+mod WholeTexts
+mod Finished
+mod Answered
+mod Faulty
+mod Cuts
+mod Searched
+mod Lengths

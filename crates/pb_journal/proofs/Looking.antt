@@ -2,15 +2,14 @@
 use Rattle.std.proofs.Common.{◌≡◌, ℕ, suc, ◌+◌, ◌<◌, Bool, true, false, not, ◌&&◌, ◌||◌, ◌==◌, List, length, get_or, Option, Some, None, refl, sym, ap, ◌∙◌, arith}
 use Rattle.std.specs.List.{list_any, All}
 use Rattle.std.proofs.lemmas.List.Elements.{All-get_or}
-use Rattle.pb_model.proofs.Tests.{by_cases, equal, equal_swap}
+use Rattle.pb_model.proofs.Callers.{by_cases, equal, equal_swap}
 use Rattle.pb_machine.specs.declared.event.Grant.{Grant}
 use Rattle.pb_machine.specs.Tables.{any_below}
 use Rattle.pb_machine.specs.Blocks.{Blocks, meets, interferes}
 use Rattle.pb_machine.specs.Counts.{is_lease_of, is_busy, is_taken, is_near_hot}
-use Rattle.pb_machine.proofs.ListTables.{item_is}
-use Rattle.pb_machine.proofs.TableLaws.{any_at, any_same}
+use Rattle.pb_machine.proofs.Callers.{item_is, any_at, any_same}
 use Rattle.pb_abstract.specs.Graph.{AbstractGraph, blocks_of, has, IsGraph}
-use Rattle.pb_abstract.proofs.Members.{any_of, has_contains}
+use Rattle.pb_abstract.proofs.Callers.{any_of, has_contains}
 
 -- one number more below which none passes
 pub none_more : (n : ℕ) (test : ℕ → Bool) → any_below n test ≡ false → test n ≡ false

@@ -4,7 +4,7 @@ use Rattle.pb_machine.specs.declared.settings.Settings.{Settings}
 use Rattle.pb_machine.specs.Settings.{AreInRange}
 use Rattle.pb_machine.specs.Blocks.{Blocks}
 use Rattle.pb_machine.specs.Counts.{Counts, opening_counts, AreLawful}
-use Rattle.pb_machine.proofs.CountsLaws.{opening_lawful}
+use Rattle.pb_machine.proofs.Callers.{opening_lawful}
 use Rattle.pb_journal.specs.declared.error.Fault.{Fault}
 use Rattle.pb_journal.specs.declared.replay.Replay.{Replay}
 use Rattle.pb_journal.specs.Faults.{◌>>=◌}

@@ -7,8 +7,7 @@ use Rattle.pb_machine.specs.declared.settings.Settings.{Settings}
 use Rattle.pb_machine.specs.Tables.{with_entry}
 use Rattle.pb_machine.specs.Blocks.{Blocks, interferes}
 use Rattle.pb_machine.specs.Counts.{Counts, AreLawful, counts_after, is_busy}
-use Rattle.pb_machine.proofs.CountsLaws.{releases_cool_near}
-use Rattle.pb_machine.proofs.ListTables.{table_at}
+use Rattle.pb_machine.proofs.Callers.{releases_cool_near, table_at}
 use Rattle.pb_abstract.specs.Graph.{has}
 
 -- what becomes cold where it is near and not busy is all that is not busy, where all of that is

@@ -1,7 +1,7 @@
 -- The journals of finished searches are accepted, and those of plain ones have no hot mark.
 use Rattle.std.proofs.Common.{◌≡◌, ℕ, ◌≤◌, true, false, List, [], ◌∷◌, map, None, Some, Ok, refl, sym, subst, ap, ◌∙◌, arith, true≢false}
 use Rattle.std.specs.List.{AllByRecursion}
-use Rattle.pb_model.proofs.Tests.{or_false}
+use Rattle.pb_model.proofs.Callers.{or_false}
 use Rattle.pb_machine.specs.declared.event.End.TheVariants.{Quiet, Budget, Memory}
 use Rattle.pb_machine.specs.declared.event.Event.{Event}
 use Rattle.pb_machine.specs.declared.event.Event.TheVariants.{Lease, Renew, Hot, Cold, Release, Off, Ended}
@@ -12,13 +12,10 @@ use Rattle.pb_machine.specs.Counts.{Counts, opening_counts, counts_after}
 use Rattle.pb_machine.specs.Legality.{refusal}
 use Rattle.pb_machine.specs.History.{replay, IsHistory}
 use Rattle.pb_machine.specs.Machine.{journal_of, opening_machine}
-use Rattle.pb_machine.proofs.CountsLaws.{passes}
-use Rattle.pb_machine.proofs.Histories.{replay_first, first_may}
-use Rattle.pb_machine.proofs.MomentLaws.{journals_are_histories}
+use Rattle.pb_machine.proofs.Callers.{passes, replay_first, first_may, journals_are_histories}
 use Rattle.pb_task.specs.declared.parts.TaskParts.{TaskParts}
 use Rattle.pb_abstract.specs.Graph.{AbstractGraph, blocks_of}
-use Rattle.pb_abstract.proofs.Sizes.{graph_is}
-use Rattle.pb_abstract.proofs.Unique.{graphs_are_unique}
+use Rattle.pb_abstract.proofs.Callers.{graph_is, graphs_are_unique}
 use Rattle.pb_journal.specs.Texts.{event_line, events_text}
 use Rattle.pb_journal.specs.Faults.{◌>>=◌}
 use Rattle.pb_journal.specs.Reading.{lines_in, header_of}

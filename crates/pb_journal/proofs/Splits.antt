@@ -2,7 +2,7 @@
 use Rattle.std.proofs.Common.{◌≡◌, ℕ, suc, ◌+◌, ◌<◌, ◌≤◌, Bool, true, false, cond, ◌||◌, ◌==◌, nat_lt, Option, None, Some, List, [], ◌∷◌, length, take, drop, refl, sym, ap, ◌∙◌, arith}
 use Rattle.std.specs.List.{list_any}
 use Rattle.std.proofs.lemmas.Bool.{ltb-true}
-use Rattle.pb_model.proofs.Tests.{not_below}
+use Rattle.pb_model.proofs.Callers.{not_below}
 use Rattle.pb_lines.specs.Words.{place_of, part}
 use Rattle.pb_journal.specs.Reading.{with_first, lines_in, tail_in}
 

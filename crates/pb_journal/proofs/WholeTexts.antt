@@ -1,12 +1,12 @@
 -- A text is its lines and what stands after them, and lines are found again.
 use Rattle.std.proofs.Common.{◌≡◌, ℕ, Bool, true, false, cond, ◌||◌, ◌==◌, List, [], ◌∷◌, ◌++◌, map, refl, sym, ap, ◌∙◌, append_assoc}
 use Rattle.pb_model.specs.Texts.{line, lines}
-use Rattle.pb_model.proofs.Tests.{equal}
+use Rattle.pb_model.proofs.Callers.{equal}
 use Rattle.pb_machine.specs.declared.event.Event.{Event}
 use Rattle.pb_journal.specs.Texts.{event_line, events_text, Fits}
 use Rattle.pb_journal.specs.Reading.{with_first, lines_in, tail_in}
 use Rattle.pb_lines.specs.Words.{has_none}
-use Rattle.pb_lines.proofs.Parts.{part_again}
+use Rattle.pb_lines.proofs.Callers.{part_again}
 use Rattle.pb_journal.proofs.Splits.{has_end, has_line}
 use Rattle.pb_journal.proofs.EventLines.{event_none}
 

@@ -1,3 +1,13 @@
+pub use Rattle.pb_abstract.specs.Graph
+pub use Rattle.pb_lines.specs.Words
+pub use Rattle.pb_machine.specs.Blocks
+pub use Rattle.pb_machine.specs.Counts
+pub use Rattle.pb_machine.specs.Legality
+pub use Rattle.pb_machine.specs.Settings
+pub use Rattle.pb_model.specs.Texts as ModelTexts
+pub use Rattle.pb_outside.specs.Calls
+pub use Rattle.pb_outside.specs.Outside
+pub use Rattle.pb_outside.specs.Saves
 pub mod Faults
 pub mod Texts
 pub mod Reading

@@ -7,8 +7,7 @@ use Rattle.pb_model.specs.Space.{Space}
 use Rattle.pb_model.specs.Guide.{Guide}
 use Rattle.pb_model.specs.Store.{is_place_of}
 use Rattle.pb_model.specs.Work.{Work, offered_row, row_after_offer, row_after_status, row_after, incumbent_after, weight_after, g_before, store_after}
-use Rattle.pb_model.proofs.Offers.{place_of, offers_push}
-use Rattle.pb_model.proofs.Tests.{by_cases}
+use Rattle.pb_model.proofs.Callers.{place_of, offers_push, by_cases}
 use Rattle.pb_bundles.specs.Parts.{away_rows}
 use Rattle.pb_lease.specs.LeaseValue.{LeaseValue, leased_store}
 use Rattle.pb_lease.specs.Rows.{SetsStatusAt, OffersAt, HasOffers}

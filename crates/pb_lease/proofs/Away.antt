@@ -1,12 +1,11 @@
 -- Which blocks are away, as leases are given, renewed and released.
 use Rattle.std.proofs.Common.{◌≡◌, ℕ, ◌<◌, Bool, true, false, ◌&&◌, ◌||◌, ◌==◌, is_some, Option, Some, None, refl, sym, ap, ◌∙◌, true≢false}
-use Rattle.pb_model.proofs.Tests.{by_cases, equal, equal_self, not_both}
+use Rattle.pb_model.proofs.Callers.{by_cases, equal, equal_self, not_both}
 use Rattle.pb_machine.specs.declared.event.Grant.{Grant}
 use Rattle.pb_machine.specs.Tables.{with_entry, any_below}
 use Rattle.pb_machine.specs.Blocks.{Blocks, meets}
 use Rattle.pb_machine.specs.Counts.{is_lease_of, is_taken, is_any_out, with_quota}
-use Rattle.pb_machine.proofs.TableLaws.{any_same, any_some, any_at, entry_here, entry_else}
-use Rattle.pb_machine.proofs.WholeStore.{leased_block}
+use Rattle.pb_machine.proofs.Callers.{any_same, any_some, any_at, entry_here, entry_else, leased_block}
 
 -- whether the block is in a leased scope
 abbrev pub away : Blocks → (workers : ℕ) → (ℕ → Option Grant) → (block : ℕ) → Bool

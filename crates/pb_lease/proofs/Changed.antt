@@ -10,7 +10,7 @@ use Rattle.pb_model.specs.declared.row.Status.{Status}
 use Rattle.pb_model.specs.declared.row.Status.TheVariants.{Opened, Cut}
 use Rattle.pb_model.specs.Store.{Part, HasOpened}
 use Rattle.pb_model.specs.Work.{with_status, offered_row}
-use Rattle.pb_model.proofs.Tests.{by_cases, equal, equal_self, equal_swap}
+use Rattle.pb_model.proofs.Callers.{by_cases, equal, equal_self, equal_swap}
 use Rattle.pb_lists.specs.Bundle.{Content, row_of, put, SetsRow, SetsStatus, IsOpened}
 use Rattle.pb_bundles.specs.Parts.{content_in, with_content, rows_in, away_rows}
 use Rattle.pb_lease.specs.LeaseValue.{LeaseValue, with_bundle}

@@ -11,9 +11,8 @@ use Rattle.pb_machine.specs.Counts.{Counts, counts_after}
 use Rattle.pb_machine.specs.Counters.{busy_count}
 use Rattle.pb_machine.specs.Legality.{refusal}
 use Rattle.pb_machine.specs.History.{IsHistory}
-use Rattle.pb_model.proofs.Tests.{and_true}
-use Rattle.pb_machine.proofs.CountsLaws.{counts_same, none_end}
-use Rattle.pb_machine.proofs.LegalEvents.{ends_are_legal}
+use Rattle.pb_model.proofs.Callers.{and_true}
+use Rattle.pb_machine.proofs.Callers.{counts_same, none_end, ends_are_legal}
 use Rattle.pb_lease.specs.declared.seat.Seat.{Seat}
 use Rattle.pb_lease.specs.Tables.{Table, blocks, counts_of, seat_of, rooms}
 use Rattle.pb_lease.specs.Events.{counts_along, ending, end_after, Adds}

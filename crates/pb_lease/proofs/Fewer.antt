@@ -4,7 +4,7 @@ use Rattle.std.proofs.lemmas.List.Sums.{sum_by-cons}
 use Rattle.pb_model.specs.Weight.{Weight}
 use Rattle.pb_model.specs.declared.row.Status.TheVariants.{Opened, Cut}
 use Rattle.pb_model.specs.declared.row.Row.{Row}
-use Rattle.pb_model.proofs.Offers.{some_row}
+use Rattle.pb_model.proofs.Callers.{some_row}
 use Rattle.pb_lists.specs.Bundle.{Content, row_in, row_of, put}
 use Rattle.pb_lease.specs.Rows.{one_if_opened, opened_in}
 

@@ -1,15 +1,14 @@
 -- Which blocks can be leased, by the counters.
 use Rattle.std.proofs.Common.{◌≡◌, ℕ, zero, suc, ◌+◌, ◌-◌, ◌<◌, Bool, true, false, cond, not, ◌&&◌, ◌||◌, ◌==◌, nat_lt, is_none, List, length, get_or, Option, Some, None, refl, sym, ap, ◌∙◌}
 use Rattle.std.proofs.Math.Bool.{or-false}
-use Rattle.pb_model.proofs.Tests.{by_cases, equal, equal_swap}
+use Rattle.pb_model.proofs.Callers.{by_cases, equal, equal_swap}
 use Rattle.pb_machine.specs.declared.event.Grant.{Grant}
 use Rattle.pb_machine.specs.Tables.{with_entry, any_below}
 use Rattle.pb_machine.specs.Blocks.{Blocks, meets, interferes}
 use Rattle.pb_machine.specs.Counts.{Counts, is_lease_of, is_busy, is_taken, is_near_hot, quota_of}
 use Rattle.pb_machine.specs.Counters.{busy_count}
 use Rattle.pb_machine.specs.Choice.{counts_with_lease_home}
-use Rattle.pb_machine.proofs.TableLaws.{any_same, any_at, any_false, entry_here, entry_else}
-use Rattle.pb_machine.proofs.Counters.{busy_is_counted, hot_is_counted}
+use Rattle.pb_machine.proofs.Callers.{any_same, any_at, any_false, entry_here, entry_else, busy_is_counted, hot_is_counted}
 use Rattle.pb_lease.specs.declared.seat.Seat.{Seat}
 use Rattle.pb_lease.specs.Tables.{Table, blocks, counts_of, seat_of}
 use Rattle.pb_lease.specs.Leasing.{can_be_leased}

@@ -1,11 +1,11 @@
 -- A lease that is given out.
 use Rattle.std.proofs.Common.{◌≡◌, ℕ, min, cond, is_some, Some, None, refl, sym, ap, ◌∙◌, List, [], ◌∷◌, true≢false}
-use Rattle.pb_model.proofs.Tests.{by_cases, equal_self}
+use Rattle.pb_model.proofs.Callers.{by_cases, equal_self}
 use Rattle.pb_machine.specs.declared.event.Event.TheVariants.{Lease}
 use Rattle.pb_machine.specs.Settings.{weight_of}
 use Rattle.pb_machine.specs.Tables.{with_entry}
 use Rattle.pb_machine.specs.Counts.{Counts}
-use Rattle.pb_machine.proofs.TableLaws.{entry_here}
+use Rattle.pb_machine.proofs.Callers.{entry_here}
 use Rattle.pb_abstract.specs.Graph.{AbstractGraph, blocks_of, has}
 use Rattle.pb_lists.specs.Bundle.{Content}
 use Rattle.pb_bundles.specs.Parts.{content_in}

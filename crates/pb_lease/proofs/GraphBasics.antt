@@ -3,21 +3,18 @@ use Rattle.std.proofs.Common.{◌≡◌, ℕ, ◌<◌, ◌≤◌, true, false, n
 use Rattle.std.proofs.lemmas.Bool.{lt-ltb}
 use Rattle.std.proofs.lemmas.List.{get_or_past}
 use Rattle.pb_model.specs.Store.{Rows, HasOpened}
-use Rattle.pb_model.proofs.Tests.{and_true, not_true, below, not_below, by_cases}
+use Rattle.pb_model.proofs.Callers.{and_true, not_true, below, not_below, by_cases}
 use Rattle.pb_task.specs.Parts.{greatest_cost}
-use Rattle.pb_task.proofs.Grids.{tasks_are_proper}
+use Rattle.pb_task.proofs.Callers.{tasks_are_proper}
 use Rattle.pb_machine.specs.declared.settings.Settings.{Settings}
 use Rattle.pb_machine.specs.Blocks.{Blocks}
 use Rattle.pb_machine.specs.Counts.{Counts, AreLawful, is_any_out, is_taken, is_near_hot}
 use Rattle.pb_machine.specs.Choice.{MayBeLeased, IsFirstChoice}
 use Rattle.pb_machine.specs.Machine.{IsSetup, Machine}
-use Rattle.pb_machine.proofs.CountsLaws.{none_end}
-use Rattle.pb_machine.proofs.Histories.{histories_are_lawful}
-use Rattle.pb_machine.proofs.WholeStore.{all_is_home}
-use Rattle.pb_abstract.proofs.Walking.{abstract_graphs_are_blocks}
+use Rattle.pb_machine.proofs.Callers.{none_end, histories_are_lawful, all_is_home}
+use Rattle.pb_abstract.proofs.Callers.{abstract_graphs_are_blocks}
 use Rattle.pb_bundles.specs.Homes.{content_at, key_at, home_rows}
-use Rattle.pb_bundles.proofs.Lists.{some_within}
-use Rattle.pb_bundles.proofs.ByKey.{first_choices_are_by_key, opened_is_by_key}
+use Rattle.pb_bundles.proofs.Callers.{some_within, first_choices_are_by_key, opened_is_by_key}
 use Rattle.pb_lease.specs.Tables.{blocks}
 use Rattle.pb_lease.specs.Leasing.{can_be_leased}
 use Rattle.pb_lease.specs.Leased.{guide_of}

@@ -1,7 +1,7 @@
 -- What a lease, a renewal, a release and other events keep of a graph.
 use Rattle.std.proofs.Common.{◌≡◌, ℕ, ◌<◌, Bool, true, cond, not, ◌&&◌, ◌||◌, is_some, is_none, List, [], ◌∷◌, ◌++◌, Option, Some, None, refl, sym, ap, ◌∙◌, arith, subst, length, get_or, append_assoc, true≢false}
 use Rattle.std.specs.Option.{option_or}
-use Rattle.pb_model.proofs.Tests.{by_cases, equal_self, none_found}
+use Rattle.pb_model.proofs.Callers.{by_cases, equal_self, none_found}
 use Rattle.pb_machine.specs.declared.event.Event.{Event}
 use Rattle.pb_machine.specs.declared.event.Event.TheVariants.{Lease, Renew, Release, Off}
 use Rattle.pb_machine.specs.declared.event.Grant.{Grant}
@@ -11,14 +11,13 @@ use Rattle.pb_machine.specs.Tables.{with_entry}
 use Rattle.pb_machine.specs.Counts.{Counts, counts_after, with_quota}
 use Rattle.pb_machine.specs.Legality.{refusal}
 use Rattle.pb_machine.specs.History.{IsHistory}
-use Rattle.pb_machine.proofs.TableLaws.{entry_here}
-use Rattle.pb_machine.proofs.Histories.{histories_grow}
+use Rattle.pb_machine.proofs.Callers.{entry_here, histories_grow}
 use Rattle.pb_abstract.specs.Graph.{AbstractGraph, IsGraphOf, blocks_of, has}
 use Rattle.pb_lists.specs.Bundle.{Content}
 use Rattle.pb_bundles.specs.Homes.{HomeTable, content_at}
 use Rattle.pb_bundles.specs.Parts.{content_in}
 use Rattle.pb_bundles.specs.Moves.{vacated, IsVacant}
-use Rattle.pb_bundles.proofs.Moving.{vacated_length}
+use Rattle.pb_bundles.proofs.Callers.{vacated_length}
 use Rattle.pb_lease.specs.Tables.{Table, blocks, counts_of}
 use Rattle.pb_lease.specs.Events.{Adds, counts_along, ending}
 use Rattle.pb_lease.specs.LeaseValue.{LeaseValue}

@@ -17,18 +17,14 @@ use Rattle.pb_machine.specs.Counts.{Counts, opening_counts, is_any_out}
 use Rattle.pb_machine.specs.History.{IsHistory}
 use Rattle.pb_machine.specs.Machine.{opening_machine}
 use Rattle.pb_machine.specs.Lawful.{IsLawful}
-use Rattle.pb_machine.proofs.TableLaws.{any_false}
-use Rattle.pb_machine.proofs.Moments.{opening_is_lawful}
-use Rattle.pb_machine.proofs.WholeStore.{all_is_home}
+use Rattle.pb_machine.proofs.Callers.{any_false, opening_is_lawful, all_is_home}
 use Rattle.pb_abstract.specs.Graph.{AbstractGraph, IsGraphOf, blocks_of, home_of}
 use Rattle.pb_lists.specs.Bundle.{Content}
 use Rattle.pb_bundles.specs.Homes.{HomeTable, content_at, key_at, home_rows, empty_homes, with_start, AreNoted}
 use Rattle.pb_bundles.specs.Moves.{NotesKey}
 use Rattle.pb_bundles.specs.Stores.{HasKeys}
-use Rattle.pb_bundles.proofs.Lists.{some_within, set_at}
-use Rattle.pb_model.proofs.Tests.{equal_self}
-use Rattle.pb_bundles.proofs.Opening.{opening_rows_are_home}
-use Rattle.pb_bundles.proofs.ByRows.{keys_at_home_are_best}
+use Rattle.pb_bundles.proofs.Callers.{some_within, set_at, opening_rows_are_home, keys_at_home_are_best}
+use Rattle.pb_model.proofs.Callers.{equal_self}
 use Rattle.pb_lease.specs.Tables.{Table, blocks, counts_of}
 use Rattle.pb_lease.specs.Leased.{guide_of}
 use Rattle.pb_lease.specs.GraphValue.{GraphValue, setup_in, IsLeaseGraph}

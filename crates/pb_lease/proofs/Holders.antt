@@ -6,7 +6,7 @@ use Rattle.pb_machine.specs.declared.event.Event.TheVariants.{Lease, Release}
 use Rattle.pb_machine.specs.declared.event.Grant.{Grant}
 use Rattle.pb_machine.specs.Settings.{weight_of}
 use Rattle.pb_machine.specs.Counts.{Counts, counts_after}
-use Rattle.pb_machine.proofs.TableLaws.{entry_else}
+use Rattle.pb_machine.proofs.Callers.{entry_else}
 use Rattle.pb_abstract.specs.Graph.{AbstractGraph, blocks_of}
 use Rattle.pb_lease.specs.Tables.{blocks}
 use Rattle.pb_lease.specs.Events.{Adds, counts_along, ending}

@@ -1,12 +1,11 @@
 -- The numbers of hot blocks while blocks become hot and cold one by one.
 use Rattle.std.proofs.Common.{◌≡◌, ℕ, ◌+◌, ◌<◌, ◌≤◌, ◌^◌, Bool, true, false, nat_lt, List, None, length, get_or, slice_set, ap, ◌∙◌, arith, length-set}
 use Rattle.std.proofs.lemmas.List.{get_or_past}
-use Rattle.pb_model.proofs.Tests.{by_cases, below, not_below}
+use Rattle.pb_model.proofs.Callers.{by_cases, below, not_below}
 use Rattle.pb_machine.specs.Tables.{with_entry, one_if}
-use Rattle.pb_machine.proofs.ListTables.{table_at}
+use Rattle.pb_machine.proofs.Callers.{table_at, marks_change_hot, interference_is_mutual, counters_fit}
 use Rattle.pb_machine.specs.Blocks.{Blocks, interferes}
 use Rattle.pb_machine.specs.Counters.{hot_count}
-use Rattle.pb_machine.proofs.Counters.{marks_change_hot, interference_is_mutual, counters_fit}
 use Rattle.pb_lease.specs.Kept.{AreMarks}
 
 -- a list after a write, as a table

@@ -6,7 +6,7 @@ use Rattle.pb_machine.specs.declared.event.Event.TheVariants.{Lease, Renew, Rele
 use Rattle.pb_machine.specs.declared.event.Grant.{Grant}
 use Rattle.pb_machine.specs.Tables.{with_entry, one_if}
 use Rattle.pb_machine.specs.Machine.{Setup, Machine, with_incumbent}
-use Rattle.pb_machine.proofs.Known.{known_new}
+use Rattle.pb_machine.proofs.Callers.{known_new}
 use Rattle.pb_bundles.specs.Parts.{away_rows}
 use Rattle.pb_lease.specs.Events.{ending}
 use Rattle.pb_lease.specs.LeaseValue.{LeaseValue}

@@ -1,7 +1,7 @@
 -- What a lease and a renewal keep.
 use Rattle.std.proofs.Common.{◌≡◌, ℕ, ◌+◌, ◌-◌, ◌<◌, ◌≤◌, ◌^◌, min, true, false, if◌then◌else◌, not, is_some, nat_lt, List, [], ◌∷◌, ◌++◌, length, get_or, slice_set, Option, Some, None, refl, sym, ap, ◌∙◌, arith, subst, length-set}
 use Rattle.std.proofs.lemmas.List.{get_or_past}
-use Rattle.pb_model.proofs.Tests.{by_cases, below, not_below}
+use Rattle.pb_model.proofs.Callers.{by_cases, below, not_below}
 use Rattle.pb_machine.specs.declared.event.Event.{Event}
 use Rattle.pb_machine.specs.declared.event.Event.TheVariants.{Lease, Renew}
 use Rattle.pb_machine.specs.declared.event.Grant.{Grant}
@@ -11,10 +11,7 @@ use Rattle.pb_machine.specs.Counts.{Counts, AreLawful, counts_after, with_quota,
 use Rattle.pb_machine.specs.Counters.{busy_count}
 use Rattle.pb_machine.specs.Legality.{refusal}
 use Rattle.pb_machine.specs.Choice.{counts_with_lease_home}
-use Rattle.pb_machine.proofs.TableLaws.{sum_with_entry}
-use Rattle.pb_machine.proofs.CountsLaws.{counts_same}
-use Rattle.pb_machine.proofs.Counters.{events_change_busy, interference_is_mutual, counters_fit}
-use Rattle.pb_machine.proofs.Histories.{histories_are_lawful}
+use Rattle.pb_machine.proofs.Callers.{sum_with_entry, counts_same, events_change_busy, interference_is_mutual, counters_fit, histories_are_lawful}
 use Rattle.pb_lease.specs.declared.seat.Seat.{Seat}
 use Rattle.pb_lease.specs.Tables.{Table, blocks, counts_of, seat_of, rooms}
 use Rattle.pb_lease.specs.Events.{Adds}

@@ -2,12 +2,11 @@
 use Rattle.std.proofs.Common.{◌≡◌, ℕ, ◌<◌, Bool, true, false, not, ◌&&◌, is_some, is_none, sym, ap, ◌∙◌, true≢false}
 use Rattle.std.proofs.Math.Bool.{and-false}
 use Rattle.std.proofs.lemmas.Bool.{lt-ltb}
-use Rattle.pb_model.proofs.Tests.{by_cases, none_found}
+use Rattle.pb_model.proofs.Callers.{by_cases, none_found}
 use Rattle.pb_machine.specs.Tables.{any_below}
 use Rattle.pb_machine.specs.Blocks.{meets, interferes}
 use Rattle.pb_machine.specs.Counts.{is_taken, is_near_hot, is_lease_of}
-use Rattle.pb_machine.proofs.TableLaws.{any_false, any_none, any_some}
-use Rattle.pb_machine.proofs.CountsLaws.{none_out_none_hot}
+use Rattle.pb_machine.proofs.Callers.{any_false, any_none, any_some, none_out_none_hot}
 use Rattle.pb_lease.specs.Laws.{OpenedBlocksMayBeLeased, NoneOutCanBeLeased}
 use Rattle.pb_lease.proofs.NextEvents.{may_be_leased}
 

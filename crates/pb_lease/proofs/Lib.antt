@@ -1,33 +1,34 @@
-pub mod Lists
-pub mod HotCounts
-pub mod SeatLists
-pub mod NextEvents
-pub mod EndKept
-pub mod LeaseKept
-pub mod MarkKept
-pub mod RoomKept
-pub mod ReleaseKept
-pub mod FreeBlocks
-pub mod Opening
-pub mod LeasingLaws
-pub mod Scopes
-pub mod Away
-pub mod GraphBasics
-pub mod GraphKept
-pub mod MomentSteps
-pub mod GivenOut
-pub mod MomentReturns
-pub mod MomentNumbers
-pub mod GraphOpening
-pub mod Rivals
-pub mod Renewals
-pub mod Holders
-pub mod Switches
-pub mod StaysOut
-pub mod InOrder
-pub mod WorkedOut
-pub mod MomentsStay
-pub mod Same
-pub mod Fewer
-pub mod Changed
-pub mod AfterWork
+pub mod Callers
+mod Lists
+mod HotCounts
+mod SeatLists
+mod NextEvents
+mod EndKept
+mod LeaseKept
+mod MarkKept
+mod RoomKept
+mod ReleaseKept
+mod FreeBlocks
+mod Opening
+mod LeasingLaws
+mod Scopes
+mod Away
+mod GraphBasics
+mod GraphKept
+mod MomentSteps
+mod GivenOut
+mod MomentReturns
+mod MomentNumbers
+mod GraphOpening
+mod Rivals
+mod Renewals
+mod Holders
+mod Switches
+mod StaysOut
+mod InOrder
+mod WorkedOut
+mod MomentsStay
+mod Same
+mod Fewer
+mod Changed
+mod AfterWork

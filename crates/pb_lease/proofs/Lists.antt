@@ -6,9 +6,9 @@ use Rattle.std.proofs.lemmas.List.Folds.{list_any_more, list_any_at}
 use Rattle.std.proofs.lemmas.List.Elements.{All-get_or}
 use Rattle.std.proofs.Math.Bool.{or-true, or-false}
 use Rattle.std.proofs.lemmas.Bool.Decides.{nat_tests}
-use Rattle.pb_model.proofs.Tests.{by_cases, equal, equal_self}
+use Rattle.pb_model.proofs.Callers.{by_cases, equal, equal_self}
 use Rattle.pb_machine.specs.Tables.{one_if}
-use Rattle.pb_machine.proofs.ListTables.{written_here, written_else}
+use Rattle.pb_machine.proofs.Callers.{written_here, written_else}
 use Rattle.pb_abstract.specs.Graph.{has}
 
 -- of a rising list each number is below those after it

@@ -1,6 +1,6 @@
 -- What a hot mark, and a mark taken away, keep.
 use Rattle.std.proofs.Common.{◌≡◌, ℕ, ◌+◌, ◌-◌, ◌<◌, Bool, true, false, cond, if◌then◌else◌, not, ◌&&◌, ◌||◌, ◌==◌, is_some, nat_lt, List, [], ◌∷◌, ◌++◌, length, get_or, slice_set, Option, Some, None, refl, sym, ap, ◌∙◌, arith, length-set}
-use Rattle.pb_model.proofs.Tests.{and_true, not_true, below}
+use Rattle.pb_model.proofs.Callers.{and_true, not_true, below}
 use Rattle.pb_machine.specs.declared.event.Event.{Event}
 use Rattle.pb_machine.specs.declared.event.Event.TheVariants.{Hot, Cold}
 use Rattle.pb_machine.specs.declared.event.Grant.{Grant}
@@ -9,13 +9,12 @@ use Rattle.pb_machine.specs.Counts.{counts_after}
 use Rattle.pb_machine.specs.Counters.{busy_count}
 use Rattle.pb_machine.specs.Legality.{refusal}
 use Rattle.pb_machine.specs.Room.{room_with, HasRoom}
-use Rattle.pb_machine.proofs.CountsLaws.{counts_same, none_end}
+use Rattle.pb_machine.proofs.Callers.{counts_same, none_end, table_at}
 use Rattle.pb_lease.specs.declared.seat.Seat.{Seat}
 use Rattle.pb_lease.specs.Tables.{Table, blocks, counts_of, seat_of, rooms}
 use Rattle.pb_lease.specs.Marking.{may_be_marked, may_be_cooled}
 use Rattle.pb_lease.specs.Kept.{IsKept, AreMarks}
 use Rattle.pb_lease.proofs.RoomKept.{LeavesRoom, event_room}
-use Rattle.pb_machine.proofs.ListTables.{table_at}
 use Rattle.pb_lease.proofs.LeaseKept.{lawful, busy_same}
 use Rattle.pb_lease.proofs.NextEvents.{history_with, mark_may, cold_may}
 use Rattle.pb_lease.proofs.SeatLists.{seat_set, seat_kept, seat_bound, due_set}

@@ -11,13 +11,10 @@ use Rattle.pb_machine.specs.Legality.{refusal}
 use Rattle.pb_machine.specs.Machine.{Machine, RowPart, event_move}
 use Rattle.pb_machine.specs.Turns.{IsInOrder, RunsInOrder}
 use Rattle.pb_machine.specs.Whole.{IsWhole}
-use Rattle.pb_machine.proofs.LegalEvents.{ends_are_legal}
-use Rattle.pb_machine.proofs.Moments.{runs_are_lawful}
-use Rattle.pb_machine.proofs.LeaseTurns.{ordered_runs_are_runs}
-use Rattle.pb_machine.proofs.WholeStore.{others_keep_whole}
+use Rattle.pb_machine.proofs.Callers.{ends_are_legal, runs_are_lawful, ordered_runs_are_runs, others_keep_whole}
 use Rattle.pb_bundles.specs.Homes.{HomeTable, key_at, home_rows}
 use Rattle.pb_bundles.specs.Stores.{HasKeys}
-use Rattle.pb_bundles.proofs.ByKey.{opened_is_by_key, betters_are_by_key}
+use Rattle.pb_bundles.proofs.Callers.{opened_is_by_key, betters_are_by_key}
 use Rattle.pb_lease.specs.Tables.{blocks}
 use Rattle.pb_lease.specs.Events.{Adds, counts_along, ending}
 use Rattle.pb_lease.specs.GraphValue.{GraphValue, setup_in, counts_in, IsLeaseGraph}

@@ -4,7 +4,7 @@ use Rattle.std.proofs.lemmas.List.{get_or_past}
 use Rattle.std.specs.Option.{option_or}
 use Rattle.pb_model.specs.Store.{Rows, Store, lesser}
 use Rattle.pb_model.specs.Local.{merged_store}
-use Rattle.pb_model.proofs.Tests.{equal_self, not_true, none_found, and_true}
+use Rattle.pb_model.proofs.Callers.{equal_self, not_true, none_found, and_true}
 use Rattle.pb_task.specs.Parts.{greatest_cost}
 use Rattle.pb_machine.specs.declared.event.End.{End}
 use Rattle.pb_machine.specs.declared.event.End.TheVariants.{Memory}
@@ -19,18 +19,13 @@ use Rattle.pb_machine.specs.Legality.{refusal}
 use Rattle.pb_machine.specs.Machine.{Setup, Machine, with_incumbent, lent_store, RowPart, event_move, CameBack, Moves, Runs}
 use Rattle.pb_machine.specs.Turns.{IsInOrder, RunsInOrder}
 use Rattle.pb_machine.specs.Whole.{IsWhole}
-use Rattle.pb_machine.proofs.TableLaws.{entry_here}
-use Rattle.pb_machine.proofs.CountsLaws.{none_end}
-use Rattle.pb_machine.proofs.LegalEvents.{ends_are_legal}
-use Rattle.pb_machine.proofs.Moments.{runs_are_lawful}
-use Rattle.pb_machine.proofs.LeaseTurns.{ordered_runs_are_runs}
-use Rattle.pb_machine.proofs.WholeStore.{renewing_keeps_whole, releasing_keeps_whole, recorded_rows_are_lent, others_keep_whole}
+use Rattle.pb_machine.proofs.Callers.{entry_here, none_end, ends_are_legal, runs_are_lawful, ordered_runs_are_runs, renewing_keeps_whole, releasing_keeps_whole, recorded_rows_are_lent, others_keep_whole}
 use Rattle.pb_lists.specs.Bundle.{Content}
 use Rattle.pb_bundles.specs.Parts.{content_in, rows_in, away_rows}
 use Rattle.pb_bundles.specs.Homes.{content_at, key_at, home_rows}
 use Rattle.pb_bundles.specs.Stores.{HasKeys}
 use Rattle.pb_bundles.specs.Moves.{NotesKeys}
-use Rattle.pb_bundles.proofs.ByRows.{among_found, noted_keys_are_best}
+use Rattle.pb_bundles.proofs.Callers.{among_found, noted_keys_are_best, first_choices_are_by_key}
 use Rattle.pb_lease.specs.Tables.{blocks}
 use Rattle.pb_lease.specs.Leasing.{can_be_leased}
 use Rattle.pb_lease.specs.Events.{counts_along, ending}
@@ -38,7 +33,6 @@ use Rattle.pb_lease.specs.LeaseValue.{LeaseValue, leased_store}
 use Rattle.pb_lease.specs.Leased.{grant_of, IsOut, IsInTurns, IsOutInTurns}
 use Rattle.pb_lease.specs.GraphValue.{GraphValue, setup_in, counts_in, IsLeaseGraph, IsOfGraph}
 use Rattle.pb_lease.specs.Moments.{IsMomentAt, Follows, moves_of, ShowsTold, IsKnownThen}
-use Rattle.pb_bundles.proofs.ByKey.{first_choices_are_by_key}
 use Rattle.pb_lease.specs.Choices.{IsChoiceWithHome}
 use Rattle.pb_lease.specs.Steps.{ChoosesByRows, IsReleased, ReleasesNext, IsRenewed, RenewsNext, renewed_quota}
 use Rattle.pb_lease.proofs.NextEvents.{release_may, renewal_may}

@@ -2,7 +2,7 @@
 use Rattle.std.proofs.Common.{◌≡◌, ◌==◌, ℕ, ◌<◌, Bool, true, false, cond, List, [], ◌∷◌, Option, Some, None, refl, sym, ap, ◌∙◌, arith, subst, get_or}
 use Rattle.pb_model.specs.declared.key.Key.{Key}
 use Rattle.pb_model.specs.Store.{Rows}
-use Rattle.pb_model.proofs.Tests.{by_cases, equal_self, not_true}
+use Rattle.pb_model.proofs.Callers.{by_cases, equal_self, not_true}
 use Rattle.pb_task.specs.Parts.{greatest_cost}
 use Rattle.pb_machine.specs.declared.event.Event.{Event}
 use Rattle.pb_machine.specs.declared.event.Event.TheVariants.{Lease}
@@ -13,9 +13,7 @@ use Rattle.pb_machine.specs.Legality.{refusal}
 use Rattle.pb_machine.specs.Machine.{Setup, Machine, lent_store, Moves, event_move}
 use Rattle.pb_machine.specs.Lawful.{IsLawful}
 use Rattle.pb_machine.specs.Whole.{IsWhole}
-use Rattle.pb_machine.proofs.TableLaws.{entry_here, entry_else}
-use Rattle.pb_machine.proofs.Moments.{moves_keep_lawful}
-use Rattle.pb_machine.proofs.WholeStore.{leasing_keeps_whole, recorded_rows_are_lent}
+use Rattle.pb_machine.proofs.Callers.{entry_here, entry_else, moves_keep_lawful, leasing_keeps_whole, recorded_rows_are_lent}
 use Rattle.pb_bundles.specs.Parts.{rows_in, away_rows}
 use Rattle.pb_bundles.specs.Homes.{content_at, key_at, home_rows}
 use Rattle.pb_bundles.specs.Stores.{HasKeys}

@@ -1,16 +1,13 @@
 -- A graph that stays a moment while costs are told or taken, and whose moves a run's events are.
 use Rattle.std.proofs.Common.{◌≡◌, ℕ, min, Bool, nat_lt, cond, List, [], ◌∷◌, Option, Some, None, IsTrue, refl, sym, ap, ◌∙◌, subst, arith}
 use Rattle.pb_model.specs.Store.{Store, lesser}
-use Rattle.pb_model.proofs.Tests.{by_cases, below, not_below}
+use Rattle.pb_model.proofs.Callers.{by_cases, below, not_below}
 use Rattle.pb_task.specs.Parts.{greatest_cost}
 use Rattle.pb_machine.specs.declared.event.Event.{Event}
 use Rattle.pb_machine.specs.Counts.{Counts, is_any_out}
 use Rattle.pb_machine.specs.History.{is_event_of, events_of}
 use Rattle.pb_machine.specs.Machine.{tell_move, AreOfOthers}
-use Rattle.pb_machine.proofs.Moments.{moves_keep_lawful}
-use Rattle.pb_machine.proofs.MomentLaws.{known_stays}
-use Rattle.pb_machine.proofs.OwnMoves.{none_out_untold}
-use Rattle.pb_machine.proofs.WholeStore.{others_keep_whole}
+use Rattle.pb_machine.proofs.Callers.{moves_keep_lawful, known_stays, none_out_untold, others_keep_whole}
 use Rattle.pb_bundles.specs.Homes.{key_at, home_rows}
 use Rattle.pb_bundles.specs.Stores.{HasKeys}
 use Rattle.pb_lease.specs.GraphValue.{GraphValue, setup_in, IsLeaseGraph}

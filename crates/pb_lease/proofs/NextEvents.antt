@@ -1,7 +1,7 @@
 -- Which events may come next from what the tables keep, and the history with them.
 use Rattle.std.proofs.Common.{◌≡◌, ℕ, ◌<◌, ◌≤◌, min, Bool, true, false, not, ◌||◌, nat_lt, is_some, List, [], ◌∷◌, ◌++◌, Some, None, refl, sym, ap, ◌∙◌, arith, subst}
 use Rattle.std.proofs.lemmas.Bool.Decides.{nat_tests}
-use Rattle.pb_model.proofs.Tests.{and_true, not_true, below}
+use Rattle.pb_model.proofs.Callers.{and_true, not_true, below}
 use Rattle.pb_model.specs.declared.row.Row.{Row}
 use Rattle.pb_model.specs.declared.row.Estimate.TheVariants.{Dead}
 use Rattle.pb_model.specs.declared.row.Status.TheVariants.{Opened}
@@ -15,9 +15,7 @@ use Rattle.pb_machine.specs.Counts.{Counts, AreLawful, counts_after, is_busy}
 use Rattle.pb_machine.specs.Legality.{refusal, is_stranger}
 use Rattle.pb_machine.specs.Choice.{MayBeLeased, counts_with_lease_home}
 use Rattle.pb_machine.specs.History.{IsHistory}
-use Rattle.pb_machine.proofs.CountsLaws.{none_end}
-use Rattle.pb_machine.proofs.Histories.{histories_grow}
-use Rattle.pb_machine.proofs.LegalEvents.{chosen_leases_are_legal, chosen_renewals_are_legal, leases_are_of_workers, releases_are_legal, marks_are_legal, sign_offs_are_legal}
+use Rattle.pb_machine.proofs.Callers.{none_end, histories_grow, chosen_leases_are_legal, chosen_renewals_are_legal, leases_are_of_workers, releases_are_legal, marks_are_legal, sign_offs_are_legal}
 use Rattle.pb_lease.specs.Tables.{Table}
 use Rattle.pb_lease.specs.Events.{Adds}
 use Rattle.pb_lease.specs.Leasing.{can_be_leased}

@@ -9,10 +9,7 @@ use Rattle.pb_machine.specs.Settings.{AreInRange}
 use Rattle.pb_machine.specs.Counts.{Counts, opening_counts}
 use Rattle.pb_machine.specs.History.{replay}
 use Rattle.pb_machine.specs.Room.{room_after, KeepsWithinRoom}
-use Rattle.pb_machine.proofs.TableLaws.{any_false}
-use Rattle.pb_machine.proofs.ListTables.{defaults}
-use Rattle.pb_machine.proofs.CountsLaws.{counts_same}
-use Rattle.pb_machine.proofs.Counters.{counters_begin_at_none}
+use Rattle.pb_machine.proofs.Callers.{any_false, defaults, counts_same, counters_begin_at_none}
 use Rattle.pb_abstract.specs.Graph.{AbstractGraph, IsGraph, blocks_of}
 use Rattle.pb_lease.specs.declared.seat.Seat.{Seat}
 use Rattle.pb_lease.specs.Tables.{Table, vacant, seat_of, counts_of}

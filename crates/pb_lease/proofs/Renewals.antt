@@ -3,8 +3,7 @@ use Rattle.std.proofs.Common.{◌≡◌, ℕ, ◌-◌, false, is_some, List, [],
 use Rattle.std.specs.Option.{option_or}
 use Rattle.pb_model.specs.declared.key.Key.{Key}
 use Rattle.pb_model.specs.Store.{lesser}
-use Rattle.pb_model.proofs.Tests.{by_cases, none_found, some_found}
-use Rattle.pb_model.proofs.Keys.{best_keys_are_unique}
+use Rattle.pb_model.proofs.Callers.{by_cases, none_found, some_found, best_keys_are_unique}
 use Rattle.pb_machine.specs.declared.event.Event.TheVariants.{Renew}
 use Rattle.pb_machine.specs.Tables.{with_entry}
 use Rattle.pb_machine.specs.Choice.{counts_with_lease_home}

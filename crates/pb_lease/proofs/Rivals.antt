@@ -5,22 +5,21 @@ use Rattle.pb_model.specs.declared.key.Key.{Key}
 use Rattle.pb_model.specs.Store.{Rows}
 use Rattle.pb_machine.specs.Blocks.{interferes}
 use Rattle.pb_machine.specs.Choice.{IsRival}
-use Rattle.pb_machine.proofs.Choosing.{not_both_come}
+use Rattle.pb_machine.proofs.Callers.{not_both_come, none_end}
 use Rattle.pb_machine.specs.Machine.{Machine}
 use Rattle.std.specs.Bool.{MatchBool}
 use Rattle.std.specs.List.{HoldsAt, AllWithin}
 use Rattle.pb_abstract.specs.Graph.{has}
-use Rattle.pb_abstract.proofs.Has.{interferes_known}
+use Rattle.pb_abstract.proofs.Callers.{interferes_known}
 use Rattle.pb_bundles.specs.Homes.{key_at}
 use Rattle.pb_bundles.specs.Moves.{is_among}
 use Rattle.pb_bundles.specs.Choosing.{IsBestOf, IsBetterBy, IsRivalBy}
-use Rattle.pb_bundles.proofs.ByKey.{rivals_are_by_key}
+use Rattle.pb_bundles.proofs.Callers.{rivals_are_by_key}
 use Rattle.pb_lease.specs.Tables.{blocks}
 use Rattle.pb_machine.specs.declared.event.Event.TheVariants.{Hot, Cold}
 use Rattle.pb_machine.specs.declared.event.Grant.{Grant}
 use Rattle.pb_machine.specs.Legality.{refusal}
-use Rattle.pb_machine.proofs.CountsLaws.{none_end}
-use Rattle.pb_model.proofs.Tests.{and_true, not_true, not_both, by_cases, below, some_found}
+use Rattle.pb_model.proofs.Callers.{and_true, not_true, not_both, by_cases, below, some_found}
 use Rattle.pb_lease.specs.Marking.{may_be_marked, may_be_cooled}
 use Rattle.pb_lease.specs.GraphValue.{GraphValue, counts_in, IsLeaseGraph}
 use Rattle.pb_lease.proofs.NextEvents.{mark_may, cold_may}

@@ -5,7 +5,7 @@ use Rattle.pb_machine.specs.declared.event.End.TheVariants.{Memory}
 use Rattle.pb_machine.specs.declared.event.Event.{Event}
 use Rattle.pb_machine.specs.declared.event.Event.TheVariants.{Ended}
 use Rattle.pb_machine.specs.Room.{room_with, room_after, HasRoom, KeepsWithinRoom}
-use Rattle.pb_machine.proofs.Rooms.{room_goes_on}
+use Rattle.pb_machine.proofs.Callers.{room_goes_on}
 use Rattle.pb_lease.specs.Events.{ending}
 
 -- the journal keeps within room, and this is the room that it leaves

@@ -2,7 +2,7 @@
 use Rattle.std.proofs.Common.{◌≡◌, ℕ, Bool, true, false, cond, nat_eq, List, [], ◌∷◌, Option, Some, None, is_some, IsSome, refl, sym, ap, ◌∙◌, subst, arith}
 use Rattle.std.specs.Map.{keys_of}
 use Rattle.pb_model.specs.Store.{AtMost, lesser}
-use Rattle.pb_model.proofs.Incumbents.{at_most_self, at_most_trans}
+use Rattle.pb_model.proofs.Callers.{at_most_self, at_most_trans}
 use Rattle.pb_lists.specs.Bundle.{Content}
 use Rattle.pb_bundles.specs.Parts.{content_in}
 use Rattle.pb_lease.specs.LeaseValue.{LeaseValue, IsSameLease}

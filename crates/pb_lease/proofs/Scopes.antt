@@ -8,7 +8,7 @@ use Rattle.std.proofs.lemmas.Bool.Decides.{nat_tests}
 use Rattle.std.proofs.lemmas.List.{get_or_default}
 use Rattle.std.proofs.lemmas.Map.Keys.{IsDistinct-from_apart}
 use Rattle.std.proofs.lemmas.Map.Steps.{length-le_from_keys}
-use Rattle.pb_model.proofs.Tests.{equal_swap, by_cases}
+use Rattle.pb_model.proofs.Callers.{equal_swap, by_cases}
 use Rattle.pb_abstract.specs.Graph.{has}
 use Rattle.pb_lease.proofs.Lists.{rising}
 

@@ -2,14 +2,14 @@
 use Rattle.std.proofs.Common.{◌≡◌, ℕ, zero, suc, ◌+◌, ◌<◌, ◌≤◌, Bool, true, false, cond, ◌==◌, List, [], ◌∷◌, length, get_or, slice_set, Option, Some, None, IsSome, refl, sym, ap, ◌∙◌, arith, true≢false}
 use Rattle.std.specs.List.{sum_by}
 use Rattle.std.proofs.lemmas.List.Sums.{sum_by-set}
-use Rattle.pb_model.proofs.Tests.{by_cases, equal}
+use Rattle.pb_model.proofs.Callers.{by_cases, equal}
 use Rattle.pb_machine.specs.declared.event.Grant.{Grant}
 use Rattle.pb_machine.specs.Tables.{with_entry}
 use Rattle.pb_machine.specs.Counts.{is_lease_of}
 use Rattle.pb_lease.specs.declared.seat.Seat.{Seat}
 use Rattle.pb_lease.specs.Tables.{vacant, seat_of}
 use Rattle.pb_lease.specs.Kept.{due_of}
-use Rattle.pb_machine.proofs.ListTables.{table_at}
+use Rattle.pb_machine.proofs.Callers.{table_at}
 
 -- a field of each entry of a table
 pub field_at : {A B : Type 0} (f : A → B) (table : ℕ → A) (i : ℕ) (v : A) (k : ℕ) → f (with_entry table i v k) ≡ with_entry (λ n. f (table n)) i (f v) k

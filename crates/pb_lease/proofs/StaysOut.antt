@@ -2,7 +2,7 @@
 use Rattle.std.proofs.Common.{◌≡◌, ◌==◌, ℕ, Bool, true, false, cond, List, [], ◌∷◌, Option, Some, None, refl, sym, ap, ◌∙◌, subst, arith}
 use Rattle.pb_model.specs.Store.{Store}
 use Rattle.pb_model.specs.Work.{Work}
-use Rattle.pb_model.proofs.Tests.{by_cases, equal_swap}
+use Rattle.pb_model.proofs.Callers.{by_cases, equal_swap}
 use Rattle.pb_machine.specs.declared.event.End.TheVariants.{Quiet, Budget, Memory}
 use Rattle.pb_machine.specs.declared.event.Event.{Event}
 use Rattle.pb_machine.specs.declared.event.Event.TheVariants.{Lease, Renew, Hot, Cold, Release, Off, Ended}
@@ -13,11 +13,7 @@ use Rattle.pb_machine.specs.History.{is_event_of}
 use Rattle.pb_machine.specs.Machine.{Setup, IsSetup, Machine, IsWorked, lent_store, with_incumbent, KeepsRows, CameBack, Happens, Move, event_move, tell_move, Moves, is_move_of}
 use Rattle.pb_machine.specs.Turns.{AreLeaseTurns}
 use Rattle.pb_machine.specs.Lawful.{IsLawful}
-use Rattle.pb_machine.proofs.TableLaws.{entry_else}
-use Rattle.pb_machine.proofs.Known.{known_more}
-use Rattle.pb_machine.proofs.LeaseWork.{lease_work_stays}
-use Rattle.pb_machine.proofs.MomentLaws.{scopes_are_apart, known_stays}
-use Rattle.pb_machine.proofs.Moments.{moves_keep_lawful}
+use Rattle.pb_machine.proofs.Callers.{entry_else, known_more, lease_work_stays, scopes_are_apart, known_stays, moves_keep_lawful}
 use Rattle.pb_lease.specs.LeaseValue.{LeaseValue, leased_store}
 use Rattle.pb_lease.specs.Leased.{grant_of, IsOut, IsInTurns}
 use Rattle.pb_lease.specs.Laws.{LeasesStayOut}

@@ -1,9 +1,9 @@
 -- A worker whose lease came back may lease again.
 use Rattle.std.proofs.Common.{◌≡◌, ◌<◌, false, None, sym, ap, ◌∙◌, subst, is_some, true≢false}
-use Rattle.pb_model.proofs.Tests.{by_cases, equal_self}
+use Rattle.pb_model.proofs.Callers.{by_cases, equal_self}
 use Rattle.pb_machine.specs.declared.settings.Settings.{Settings}
 use Rattle.pb_machine.specs.Counts.{Counts}
-use Rattle.pb_machine.proofs.TableLaws.{entry_here}
+use Rattle.pb_machine.proofs.Callers.{entry_here}
 use Rattle.pb_lease.specs.LeaseValue.{LeaseValue}
 use Rattle.pb_lease.specs.Leased.{grant_of}
 use Rattle.pb_lease.specs.GraphValue.{GraphValue, counts_in, IsLeaseGraph, IsOfGraph}

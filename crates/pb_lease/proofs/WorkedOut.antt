@@ -5,8 +5,7 @@ use Rattle.pb_model.specs.Work.{Work}
 use Rattle.pb_machine.specs.Counts.{Counts}
 use Rattle.pb_machine.specs.Machine.{Machine, IsWorked, lent_store}
 use Rattle.pb_machine.specs.Turns.{AreLeaseTurns}
-use Rattle.pb_machine.proofs.LeaseWork.{lease_work_stays}
-use Rattle.pb_machine.proofs.WholeStore.{recorded_rows_are_lent}
+use Rattle.pb_machine.proofs.Callers.{lease_work_stays, recorded_rows_are_lent}
 use Rattle.pb_bundles.specs.Parts.{away_rows}
 use Rattle.pb_bundles.specs.Homes.{home_rows}
 use Rattle.pb_lease.specs.LeaseValue.{LeaseValue, leased_store, IsSameLease}

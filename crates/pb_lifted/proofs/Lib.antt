@@ -1,24 +1,25 @@
-pub mod Accepted
-pub mod Counting
-pub mod DistinctNames
-pub mod Earliest
-pub mod FarEnough
-pub mod Faultless
-pub mod FittingCosts
-pub mod FittingObjects
-pub mod Found
-pub mod GroundSteps
-pub mod InOrder
-pub mod KnownNames
-pub mod NamesUp
-pub mod Numbering
-pub mod SameCosts
-pub mod SameFacts
-pub mod SamePlans
-pub mod TwinAtoms
-pub mod TwinFacts
-pub mod TypeTree
-pub mod TypedInstances
-pub mod WaysUp
-pub mod WellTyped
-pub mod WorkedRows
+pub mod Callers
+mod Accepted
+mod Counting
+mod DistinctNames
+mod Earliest
+mod FarEnough
+mod Faultless
+mod FittingCosts
+mod FittingObjects
+mod Found
+mod GroundSteps
+mod InOrder
+mod KnownNames
+mod NamesUp
+mod Numbering
+mod SameCosts
+mod SameFacts
+mod SamePlans
+mod TwinAtoms
+mod TwinFacts
+mod TypeTree
+mod TypedInstances
+mod WaysUp
+mod WellTyped
+mod WorkedRows

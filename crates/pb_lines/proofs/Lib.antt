@@ -1,6 +1,7 @@
-pub mod NumberWords
-pub mod Numbers
-pub mod ShortNumbers
-pub mod Parts
+pub mod Callers
+mod NumberWords
+mod Numbers
+mod ShortNumbers
+mod Parts
 mod Places
 mod Joined

@@ -12,7 +12,7 @@ use Rattle.pb_model.specs.declared.row.Row.{Row}
 use Rattle.pb_model.specs.declared.row.Status.{Status}
 use Rattle.pb_model.specs.declared.row.Status.TheVariants.{Opened}
 use Rattle.pb_model.specs.Work.{offered_row, with_status}
-use Rattle.pb_model.proofs.Tests.{equal, equal_self}
+use Rattle.pb_model.proofs.Callers.{equal, equal_self}
 use Rattle.pb_lists.specs.Bundle.{Content, row_in, row_of, put, SetsRow, SetsStatus}
 use Rattle.pb_lists.specs.Laws.{EntriesAreRows}
 

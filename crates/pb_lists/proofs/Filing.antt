@@ -16,7 +16,7 @@ use Rattle.pb_lists.specs.Fields.{key_at, is_opened, is_open_at, sum_of, estimat
 use Rattle.pb_lists.specs.Buckets.{Buckets, Entry, has_entry, has_in, has_at, has_state, top_of, first_key_of, is_of, is_on_top, IsOrdered, HasHeaps, HasFiled, is_led, is_tidy, IsTidy, KeepsEntries, KeepsLive}
 use Rattle.pb_lists.specs.declared.bucket.Bucket.{Bucket}
 use Rattle.pb_lists.proofs.Order.{key_self, key_found}
-use Rattle.pb_model.proofs.Tests.{equal, equal_self, equal_swap}
+use Rattle.pb_model.proofs.Callers.{equal, equal_self, equal_swap}
 use Rattle.pb_lists.proofs.Parts.{top_empty}
 use Rattle.std.specs.BinaryHeap.{heap_items}
 

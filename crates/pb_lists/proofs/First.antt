@@ -10,8 +10,7 @@ use Rattle.pb_model.specs.declared.row.Status.TheVariants.{Opened, Closed, Cut}
 use Rattle.pb_model.specs.Key.{IsBest, IsBefore, IsFirstRow, IsKeyBelow}
 use Rattle.pb_model.specs.KeyOrder.{key_cmp, same_key}
 use Rattle.pb_model.specs.Weight.{Weight}
-use Rattle.pb_model.proofs.Keys.{key_cases}
-use Rattle.pb_model.proofs.Tests.{by_cases, below, not_below}
+use Rattle.pb_model.proofs.Callers.{key_cases, by_cases, below, not_below}
 use Rattle.pb_lists.specs.Bundle.{row_in}
 use Rattle.pb_lists.specs.Fields.{key_at, is_opened, is_open_at, sum_of, estimate_in, key_with}
 use Rattle.pb_lists.specs.Buckets.{Buckets, Entry, IsNoLater, has_entry, has_in, has_at, top_of, IsOrdered, HasHeaps, HasFiled, is_led, is_tidy, IsTidy}

@@ -1,6 +1,6 @@
-pub mod Order
-pub mod Parts
-pub mod Filing
-pub mod First
-pub mod Entries
-pub mod Tables
+mod Order
+mod Parts
+mod Filing
+mod First
+mod Entries
+mod Tables

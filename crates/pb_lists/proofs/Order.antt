@@ -7,8 +7,7 @@ use Rattle.pb_model.specs.declared.key.Key.{Key}
 use Rattle.pb_model.specs.declared.key.Key.TheVariants.{Sum, Dead}
 use Rattle.pb_model.specs.Key.{IsKeyBelow}
 use Rattle.pb_model.specs.KeyOrder.{key_cmp, same_key}
-use Rattle.pb_model.proofs.Keys.{key_cases}
-use Rattle.pb_model.proofs.Tests.{below}
+use Rattle.pb_model.proofs.Callers.{key_cases, below}
 
 pub key_below : (key other : Key) → IsKeyBelow key other → key_cmp key other ≡ Less
 key_below (Sum a h) (Sum b k) (inl l) = rw (sym (nat_cmp_is a b Less l)) refl

@@ -11,7 +11,7 @@ use Rattle.std.specs.declared.cmp.Ordering.TheVariants.{Less, Equal, Greater}
 use Rattle.std.specs.Ordering.{nat_cmp, ordering_then, is_lt}
 use Rattle.std.specs.BinaryHeap.{heap_items, lt_by_cmp}
 use Rattle.std.specs.declared.cmp.Reverse.{Reverse}
-use Rattle.pb_model.proofs.Tests.{equal, equal_self}
+use Rattle.pb_model.proofs.Callers.{equal, equal_self}
 use Rattle.pb_lists.specs.declared.bucket.Bucket.{Bucket}
 use Rattle.pb_lists.specs.Buckets.{Entry, entry_cmp, later, IsNoLater, is_same, is_among, has_entry, first_of, is_wide_before, top_of}
 

@@ -12,7 +12,7 @@ use Rattle.pb_lists.specs.declared.small_row.SmallRow.{SmallRow}
 use Rattle.pb_lists.specs.Bundle.{row_in}
 use Rattle.pb_lists.specs.SmallRow.{wide_row}
 use Rattle.pb_lists.specs.Rows.{wide_entry, HasWords}
-use Rattle.pb_model.proofs.Tests.{equal, equal_swap}
+use Rattle.pb_model.proofs.Callers.{equal, equal_swap}
 
 -- ---- a value that is put
 

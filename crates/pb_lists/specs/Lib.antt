@@ -1,3 +1,6 @@
+pub use Rattle.pb_model.specs.Key
+pub use Rattle.pb_model.specs.Store
+pub use Rattle.pb_model.specs.Work
 pub mod Bundle
 pub mod Offers
 pub mod Laws

@@ -2,7 +2,7 @@
 use Rattle.std.proofs.Common.{◌≡◌, ℕ, Option, Some, None, refl, sym, ap, arith, ◌⊎◌, inl, inr, subst}
 use Rattle.pb_model.specs.declared.key.Key.{Key}
 use Rattle.pb_model.specs.Store.{Store}
-use Rattle.pb_model.proofs.Keys.{not_both_before, best_keys_are_unique}
+use Rattle.pb_model.proofs.Callers.{not_both_before, best_keys_are_unique}
 use Rattle.pb_machine.specs.Choice.{ComesBefore, IsBetter}
 use Rattle.pb_machine.specs.JournalLaws.{FirstChoicesAreUnique, RivalsAreUnique}
 

@@ -2,8 +2,8 @@
 use Rattle.std.proofs.Common.{◌≡◌, ℕ, ◌+◌, ◌-◌, ◌<◌, ◌≤◌, min, Bool, true, false, cond, not, ◌&&◌, ◌||◌, ◌==◌, nat_lt, is_some, is_none, List, [], ◌∷◌, Option, Some, None, refl, sym, ap, ◌∙◌, arith, true≢false, ◌⊎◌, inl, inr}
 use Rattle.std.specs.List.{AllByRecursion}
 pub use Rattle.std.proofs.lemmas.Option.{same_Some as some_is}
-pub use Rattle.pb_model.proofs.Tests.{none_found as none_leased}
-use Rattle.pb_model.proofs.Tests.{and_true, or_false, or_true, not_false, not_true, by_cases, and_swap, not_both, equal, equal_self, equal_swap, below, not_below, none_found, some_found}
+pub use Rattle.pb_model.proofs.Callers.{none_found as none_leased}
+use Rattle.pb_model.proofs.Callers.{and_true, or_false, or_true, not_false, not_true, by_cases, and_swap, not_both, equal, equal_self, equal_swap, below, not_below, none_found, some_found}
 use Rattle.pb_machine.specs.declared.event.End.{End}
 use Rattle.pb_machine.specs.declared.event.End.TheVariants.{Quiet, Budget, Memory}
 use Rattle.pb_machine.specs.declared.event.Event.{Event}

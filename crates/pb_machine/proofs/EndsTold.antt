@@ -2,7 +2,7 @@
 use Rattle.std.proofs.Common.{◌≡◌, cond, is_some, is_none, List, [], ◌∷◌, Option, Some, None, refl, sym, ap, ◌∙◌, true≢false}
 use Rattle.std.specs.Option.{option_or}
 use Rattle.pb_model.specs.Weight.{Weight}
-use Rattle.pb_model.proofs.Tests.{by_cases, none_found}
+use Rattle.pb_model.proofs.Callers.{by_cases, none_found}
 use Rattle.pb_machine.specs.declared.event.End.{End}
 use Rattle.pb_machine.specs.declared.event.End.TheVariants.{Quiet, Budget, Memory}
 use Rattle.pb_machine.specs.declared.event.Event.{Event}

@@ -20,9 +20,7 @@ use Rattle.pb_machine.specs.Choice.{IsBetter, IsFirstChoice}
 use Rattle.pb_machine.specs.Turns.{CameBackInTurns, RunsInOrder}
 use Rattle.pb_machine.specs.Lawful.{IsLawful}
 use Rattle.pb_machine.proofs.Moments.{opening_keeps, run_keeps, sound_after}
-use Rattle.pb_model.proofs.Offers.{some_row}
-use Rattle.pb_model.proofs.Tests.{below}
-use Rattle.pb_model.proofs.Incumbents.{some_number}
+use Rattle.pb_model.proofs.Callers.{some_row, below, some_number}
 
 abbrev step : ℕ → ℕ → Option (ℕ × ℕ)
 step zero zero = Some (1, 1)

@@ -9,8 +9,7 @@ use Rattle.pb_model.specs.declared.row.Row.{Row}
 use Rattle.pb_model.specs.Store.{Store, IsQuiet}
 use Rattle.pb_model.specs.Work.{expand, cut, take_goal, lower, store_after}
 use Rattle.pb_model.specs.Local.{merged_store}
-use Rattle.pb_model.proofs.Offers.{some_row}
-use Rattle.pb_model.proofs.Tests.{below}
+use Rattle.pb_model.proofs.Callers.{some_row, below}
 use Rattle.pb_machine.specs.declared.event.End.TheVariants.{Quiet}
 use Rattle.pb_machine.specs.declared.event.Event.TheVariants.{Lease, Hot, Cold, Release, Off, Ended}
 use Rattle.pb_machine.specs.Tables.{with_entry}

@@ -3,7 +3,7 @@ use Rattle.std.proofs.Common.{◌≡◌, ℕ, suc, ◌+◌, length, Bool, true, 
 use Rattle.std.specs.List.{list_any}
 use Rattle.std.proofs.Math.Bool.{or-true, or-false}
 pub use Rattle.std.proofs.lemmas.Option.{same_Some as some_counts}
-use Rattle.pb_model.proofs.Tests.{by_cases, equal_swap, and_true, not_false}
+use Rattle.pb_model.proofs.Callers.{by_cases, equal_swap, and_true, not_false}
 use Rattle.pb_machine.specs.declared.event.End.{End}
 use Rattle.pb_machine.specs.declared.event.End.TheVariants.{Quiet, Budget, Memory}
 use Rattle.pb_machine.specs.declared.event.Event.{Event}

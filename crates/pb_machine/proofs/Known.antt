@@ -2,7 +2,7 @@
 use Rattle.std.proofs.Common.{◌≡◌, ℕ, min, Bool, true, ◌||◌, nat_lt, Option, Some, None, refl, sym, ap, ◌∙◌, ◌⊎◌, inl, inr, arith, true≢false}
 use Rattle.std.proofs.Math.Bool.{or-true}
 use Rattle.pb_model.specs.Store.{lesser}
-use Rattle.pb_model.proofs.Tests.{by_cases, equal, equal_self, below, not_below}
+use Rattle.pb_model.proofs.Callers.{by_cases, equal, equal_self, below, not_below}
 use Rattle.pb_machine.specs.Machine.{is_same, with_known}
 
 pub same_is : (a b : Option ℕ) → is_same a b ≡ true → a ≡ b

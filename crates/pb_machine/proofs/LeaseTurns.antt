@@ -8,7 +8,7 @@ use Rattle.pb_model.specs.Key.{IsFirstRow}
 use Rattle.pb_model.specs.Work.{Work, expand, break_off, cut, take_goal, lower, reopen, weight_after, store_after, Comes}
 use Rattle.pb_model.specs.Turns.{IsFirst}
 use Rattle.pb_model.specs.Local.{IsWithin, AgreesOn}
-use Rattle.pb_model.proofs.Locality.{work_is_local}
+use Rattle.pb_model.proofs.Callers.{work_is_local}
 use Rattle.pb_machine.specs.Machine.{lent_store, Setup, Machine, Move, event_move, tell_move, Runs, journal_of}
 use Rattle.pb_machine.specs.Turns.{IsLeaseTurn, AreLeaseTurns, IsOnFirst, AreOnFirst, RunsInOrder}
 use Rattle.pb_machine.specs.Laws.{TurnsCarryOver, OrderedRunsAreRuns, LeaseTurnsGoOn, RunsGoOn}

@@ -7,9 +7,7 @@ use Rattle.pb_model.specs.Guide.{Guide}
 use Rattle.pb_model.specs.Store.{Store, HasGoalWithin, AtMost}
 use Rattle.pb_model.specs.Work.{Work, broken_expansions, reopenings, expand, break_off, cut, take_goal, lower, reopen, store_after, Comes, LowersTo}
 use Rattle.pb_model.specs.Local.{IsWithin, AgreesOn, merged_store}
-use Rattle.pb_model.proofs.Tests.{by_cases, not_true}
-use Rattle.pb_model.proofs.Incumbents.{lesser_same}
-use Rattle.pb_model.proofs.Locality.{row_outside, work_is_local, work_goes_on}
+use Rattle.pb_model.proofs.Callers.{by_cases, not_true, lesser_same, row_outside, work_is_local, work_goes_on}
 use Rattle.pb_machine.specs.declared.event.Grant.{Grant}
 use Rattle.pb_machine.specs.Machine.{Setup, IsSetup, Machine, IsOn, BreaksLast, lent_store, IsWorked}
 use Rattle.pb_machine.specs.Lawful.{IsLawful}

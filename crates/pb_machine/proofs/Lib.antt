@@ -1,27 +1,28 @@
-pub mod TableLaws
-pub mod ListTables
-pub mod CountsLaws
-pub mod Histories
-pub mod Choosing
-pub mod LegalEvents
-pub mod Counters
-pub mod Places
-pub mod Holding
-pub mod Splitting
-pub mod Meeting
-pub mod WorkedJournals
-pub mod LeaseWork
-pub mod LeaseTurns
-pub mod Known
-pub mod Reports
-pub mod Moments
-pub mod Showing
-pub mod MomentLaws
-pub mod Reopening
-pub mod WholeStore
-pub mod OwnMoves
-pub mod EndsTold
-pub mod Rooms
-pub mod Example
-pub mod ExampleEnds
-pub mod ExampleTwo
+pub mod Callers
+mod TableLaws
+mod ListTables
+mod CountsLaws
+mod Histories
+mod Choosing
+mod LegalEvents
+mod Counters
+mod Places
+mod Holding
+mod Splitting
+mod Meeting
+mod WorkedJournals
+mod LeaseWork
+mod LeaseTurns
+mod Known
+mod Reports
+mod Moments
+mod Showing
+mod MomentLaws
+mod Reopening
+mod WholeStore
+mod OwnMoves
+mod EndsTold
+mod Rooms
+mod Example
+mod ExampleEnds
+mod ExampleTwo

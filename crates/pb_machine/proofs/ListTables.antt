@@ -1,6 +1,6 @@
 -- A list as a table by worker or by block.
 use Rattle.std.proofs.Common.{◌≡◌, ℕ, zero, suc, ◌<◌, true, false, cond, ◌==◌, List, [], ◌∷◌, length, get_or, slice_set, replicate, sym, refl, ap, ◌∙◌, arith, true≢false, get_or-set_same, get_or-set_other}
-use Rattle.pb_model.proofs.Tests.{by_cases, equal, equal_self, equal_swap}
+use Rattle.pb_model.proofs.Callers.{by_cases, equal, equal_self, equal_swap}
 use Rattle.pb_machine.specs.Tables.{with_entry}
 
 -- at a place that there is, the default tells nothing

@@ -3,7 +3,7 @@ use Rattle.std.proofs.Common.{◌≡◌, ◌≢◌, ℕ, ◌+◌, ◌<◌, ◌�
 use mathlib.Core.Option.{some, some-injective}
 use lib.ListN.{get_elem?}
 use Rattle.std.proofs.lemmas.Bool.{ne_eqb, cond_both}
-use Rattle.pb_model.proofs.Tests.{by_cases, not_both, equal, equal_self, below, not_below}
+use Rattle.pb_model.proofs.Callers.{by_cases, not_both, equal, equal_self, below, not_below}
 use Rattle.pb_machine.specs.declared.event.Event.{Event}
 use Rattle.pb_machine.specs.History.{events_of, StartsWith}
 use Rattle.pb_machine.specs.Views.{IsAmong, Share, View, IsShareOf, IsTrueOf, HasWorker, AreTrueOf, spent_view, longer, met_view}

@@ -5,11 +5,8 @@ use Rattle.std.proofs.lemmas.Option.{same_Some}
 use Rattle.pb_model.specs.Plan.{IncumbentHolds}
 use Rattle.pb_model.specs.Guide.{IsAdmissible}
 use Rattle.pb_model.specs.Store.{Store, HasGoalWithin, HasOpened, AtMost}
-use Rattle.pb_model.proofs.Tests.{by_cases, equal}
-use Rattle.pb_model.proofs.Incumbents.{at_most_self, at_most_trans, lesser_at_most}
+use Rattle.pb_model.proofs.Callers.{by_cases, equal, at_most_self, at_most_trans, lesser_at_most, weights_stay, quiet_incumbents_hold}
 use Rattle.pb_model.specs.Work.{opening_store}
-use Rattle.pb_model.proofs.Locality.{weights_stay}
-use Rattle.pb_model.proofs.Shown.{quiet_incumbents_hold}
 use Rattle.pb_machine.specs.declared.event.End.{End}
 use Rattle.pb_machine.specs.declared.event.End.TheVariants.{Quiet}
 use Rattle.pb_machine.specs.declared.event.Event.{Event}

@@ -4,12 +4,7 @@ use Rattle.pb_model.specs.Store.{Store, HasGoalWithin, HasOpened, IsQuiet, Costs
 use Rattle.pb_model.specs.Work.{Work, expand, break_off, cut, take_goal, reopen, lower, Comes, LowersTo, opening_store}
 use Rattle.pb_model.specs.Sound.{IsSound}
 use Rattle.pb_model.specs.Plan.{Plan, IsPlan}
-use Rattle.pb_model.proofs.Tracing.{goals_are_plans}
-use Rattle.pb_model.proofs.Tests.{or_true, not_both, equal, equal_self, by_cases}
-use Rattle.pb_model.proofs.Incumbents.{some_number, at_most_self, at_most_trans, lesser_at_most, lesser_below, lesser_cases}
-use Rattle.pb_model.proofs.Soundness.{work_keeps_sound}
-use Rattle.pb_model.proofs.Backing.{costs_never_rise, incumbents_are_backed}
-use Rattle.pb_model.proofs.Locality.{work_goes_on, never_reopens, reopens_append}
+use Rattle.pb_model.proofs.Callers.{goals_are_plans, or_true, not_both, equal, equal_self, by_cases, some_number, at_most_self, at_most_trans, lesser_at_most, lesser_below, lesser_cases, work_keeps_sound, costs_never_rise, incumbents_are_backed, work_goes_on, never_reopens, reopens_append}
 use Rattle.pb_machine.specs.declared.event.End.{End}
 use Rattle.pb_machine.specs.declared.event.End.TheVariants.{Quiet, Budget, Memory}
 use Rattle.pb_machine.specs.declared.event.Event.{Event}

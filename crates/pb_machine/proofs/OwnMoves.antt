@@ -1,6 +1,6 @@
 -- What moves of others leave, and which recorded rows count.
 use Rattle.std.proofs.Common.{◌≡◌, ◌==◌, ℕ, ◌<◌, true, false, is_some, [], ◌∷◌, Option, Some, None, refl, sym, ap, ◌∙◌, true≢false}
-use Rattle.pb_model.proofs.Tests.{equal_swap}
+use Rattle.pb_model.proofs.Callers.{equal_swap}
 use Rattle.pb_machine.specs.declared.event.End.TheVariants.{Quiet, Budget, Memory}
 use Rattle.pb_machine.specs.declared.event.Event.{Event}
 use Rattle.pb_machine.specs.declared.event.Event.TheVariants.{Lease, Renew, Hot, Cold, Release, Off, Ended}

@@ -6,7 +6,7 @@ use Rattle.std.proofs.lemmas.List.{append-nil, append_assoc, nil_from_length}
 use Rattle.std.proofs.lemmas.List.Elements.{filter-append}
 use mathlib.Core.Option.{some, some-injective, some-ne-none}
 use lib.ListN.{get_elem?}
-use Rattle.pb_model.proofs.Tests.{by_cases, not_both, equal, equal_self}
+use Rattle.pb_model.proofs.Callers.{by_cases, not_both, equal, equal_self}
 use Rattle.pb_machine.specs.declared.event.Event.{Event}
 use Rattle.pb_machine.specs.History.{is_event_of, events_of, StartsWith}
 use Rattle.pb_machine.specs.Views.{Share, AreDistinct, IsShareOf, IsAmong}

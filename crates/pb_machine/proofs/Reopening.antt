@@ -3,7 +3,7 @@ use Rattle.std.proofs.Common.{true≢false, ◌≡◌, ℕ, false, [], ◌∷◌
 use Rattle.pb_model.specs.Weight.{Weight, IsWeight}
 use Rattle.pb_model.specs.Store.{Store, AtMost}
 use Rattle.pb_model.specs.Work.{reopen, store_after, opening_store}
-use Rattle.pb_model.proofs.Locality.{work_goes_on, reopens_append}
+use Rattle.pb_model.proofs.Callers.{work_goes_on, reopens_append, at_most_self}
 use Rattle.pb_machine.specs.declared.event.End.{End}
 use Rattle.pb_machine.specs.declared.event.End.TheVariants.{Quiet, Budget, Memory}
 use Rattle.pb_machine.specs.Counts.{quota_of, is_any_out}
@@ -14,7 +14,6 @@ use Rattle.pb_machine.proofs.TableLaws.{sum_zero}
 use Rattle.pb_machine.proofs.CountsLaws.{opening_lawful}
 use Rattle.pb_machine.proofs.Moments.{goal_still}
 use Rattle.pb_machine.proofs.Known.{same_is, same_self}
-use Rattle.pb_model.proofs.Incumbents.{at_most_self}
 use Rattle.pb_machine.proofs.MomentLaws.{none_leased_at, shown, none_broken_at}
 
 module _ (p : Setup) (greatest_cost : ℕ) (is_setup : IsSetup p greatest_cost) where

@@ -3,7 +3,7 @@ use Rattle.std.proofs.Common.{◌≡◌, ℕ, ◌+◌, ◌<◌, ◌≤◌, Bool,
 use Rattle.std.specs.List.{AllByRecursion}
 use Rattle.std.proofs.Math.Bool.{and-false}
 use Rattle.std.proofs.lemmas.Bool.{or_from}
-use Rattle.pb_model.proofs.Tests.{and_true, or_false, not_false, not_both, equal, by_cases, below, not_below}
+use Rattle.pb_model.proofs.Callers.{and_true, or_false, not_false, not_both, equal, by_cases, below, not_below}
 use Rattle.pb_machine.specs.Laws.{WaitingReportsAreOne}
 use Rattle.pb_machine.specs.declared.event.End.{End}
 use Rattle.pb_machine.specs.declared.event.End.TheVariants.{Quiet, Budget, Memory}

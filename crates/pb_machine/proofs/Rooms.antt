@@ -1,6 +1,6 @@
 -- A journal that keeps within room is short: what is still owed pays for each event.
 use Rattle.std.proofs.Common.{◌≡◌, ℕ, zero, suc, ◌+◌, ◌-◌, ◌*◌, ◌<◌, ◌≤◌, length, Bool, true, false, cond, not, ◌==◌, is_none, List, [], ◌∷◌, ◌++◌, filter, Option, Some, None, refl, sym, ap, ◌∙◌, arith}
-use Rattle.pb_model.proofs.Tests.{by_cases, or_false, equal, equal_self, equal_swap}
+use Rattle.pb_model.proofs.Callers.{by_cases, or_false, equal, equal_self, equal_swap}
 use Rattle.pb_machine.specs.declared.event.Event.{Event}
 use Rattle.pb_machine.specs.declared.event.Event.TheVariants.{Lease, Renew, Hot, Cold, Release, Off, Ended}
 use Rattle.pb_machine.specs.declared.event.Grant.{Grant}

@@ -9,8 +9,7 @@ use Rattle.std.specs.Prelude.{take}
 use Rattle.pb_model.specs.Guide.{Guide}
 use Rattle.pb_model.specs.Store.{Store, is_place_of}
 use Rattle.pb_model.specs.Work.{Work, expand, break_off, cut, take_goal, lower, reopen, offered_row, row_after_offer, row_after_offers, with_status, row_after_status, row_after, g_before, store_after, Comes, expansions, reopenings}
-use Rattle.pb_model.proofs.Tests.{by_cases, below}
-use Rattle.pb_model.proofs.Offers.{own_place}
+use Rattle.pb_model.proofs.Callers.{by_cases, below, own_place}
 use Rattle.pb_machine.specs.Laws.{ReturnsShowWork}
 use Rattle.pb_machine.proofs.LeaseWork.{none_reopens}
 use Rattle.pb_machine.proofs.Moments.{comes_back}

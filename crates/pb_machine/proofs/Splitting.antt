@@ -5,7 +5,7 @@ use Rattle.std.proofs.lemmas.Bool.{ne_eqb}
 use Rattle.std.proofs.lemmas.Bool.Decides.{nat_tests}
 use mathlib.Core.Option.{some, some-injective}
 use lib.ListN.{get_elem?}
-use Rattle.pb_model.proofs.Tests.{by_cases, not_both, equal, equal_self}
+use Rattle.pb_model.proofs.Callers.{by_cases, not_both, equal, equal_self}
 use Rattle.pb_machine.specs.declared.event.Event.{Event}
 use Rattle.pb_machine.specs.History.{events_of}
 use Rattle.pb_machine.specs.Views.{Share, View, IsTrueOf, HasWorker, AreTrueOf, with_one_more, next_view}

@@ -3,7 +3,7 @@ use Rattle.std.proofs.Common.{◌≡◌, ℕ, ◌<◌, Bool, true, false, cond, 
 use Rattle.std.specs.List.{AllByRecursion}
 use Rattle.pb_model.specs.Store.{Rows, Store}
 use Rattle.pb_model.specs.Local.{AgreesOn, merged_store}
-use Rattle.pb_model.proofs.Tests.{not_both, not_true, not_false, or_false, equal, equal_self, equal_swap, below, by_cases}
+use Rattle.pb_model.proofs.Callers.{not_both, not_true, not_false, or_false, equal, equal_self, equal_swap, below, by_cases}
 use Rattle.pb_machine.specs.declared.event.Event.TheVariants.{Lease, Renew, Release}
 use Rattle.pb_machine.specs.declared.event.EventRefusal.TheVariants.{Trouble}
 use Rattle.pb_machine.specs.declared.event.Grant.{Grant}

@@ -1,6 +1,7 @@
-pub mod QuietEnds
-pub mod Answered
-pub mod Searched
-pub mod Clauses
-pub mod Lines
-pub mod Spelled
+pub mod Callers
+mod QuietEnds
+mod Answered
+mod Searched
+mod Clauses
+mod Lines
+mod Spelled

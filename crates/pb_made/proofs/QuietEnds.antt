@@ -16,7 +16,7 @@ use Rattle.pb_model.specs.Texts.{head_1, certificate_text}
 use Rattle.pb_task.specs.declared.parts.TaskParts.{TaskParts}
 use Rattle.pb_task.specs.declared.parts.TaskParts.TheVariants.{Grid, Tiles, Strips}
 use Rattle.pb_task.specs.Parts.{space_of, IsTask, greatest_cost}
-use Rattle.pb_task.proofs.Grids.{tasks_are_proper}
+use Rattle.pb_task.proofs.Callers.{tasks_are_proper}
 use Rattle.pb_estimate.specs.Estimates.{estimate_of}
 use Rattle.pb_machine.specs.declared.event.End.TheVariants.{Quiet}
 use Rattle.pb_machine.specs.declared.settings.Settings.{Settings}
@@ -33,11 +33,11 @@ use Rattle.pb_check.specs.Kinds.{kind_of, kind_name}
 use Rattle.pb_check.specs.Judging.{checked, verdict_of}
 use Rattle.pb_check.specs.Shown.{IsAccepted}
 use Rattle.pb_check.specs.Spelling.{PlanFits, PlanFitsIfAny, Fits}
-use Rattle.pb_check.proofs.Completeness.{gives_accepted}
+use Rattle.pb_check.proofs.Callers.{gives_accepted}
 use Rattle.pb_cert.specs.Store.{store_with, guide_to, IsPlaced, IsSoundAt}
 use Rattle.pb_cert.specs.Traced.{HasGoal, IsTrace}
 use Rattle.pb_cert.specs.Stated.{Stated, text_of}
-use Rattle.pb_cert.proofs.AtHome.{shown_rows_can_be_traced}
+use Rattle.pb_cert.proofs.Callers.{shown_rows_can_be_traced}
 use Rattle.pb_made.specs.Searches.{SearchEnds, LeavesQuiet}
 use Rattle.pb_made.specs.Found.{IsTracedIfAny, Finds, IsPlanOf, certificate_of, certificate_bytes, IsCertificateOf}
 

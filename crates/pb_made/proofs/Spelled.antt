@@ -26,9 +26,7 @@ use Rattle.pb_make.specs.Domain.{domain_text}
 use Rattle.pb_make.specs.Maps.{map_text, scenario_text}
 use Rattle.pb_make.specs.Problems.{problem_text}
 use Rattle.pb_make_laws.specs.Made.{made_grid, made_tiles}
-use Rattle.pb_make_laws.proofs.BlocksTasks.{made_problems_are_tasks}
-use Rattle.pb_make_laws.proofs.SpelledBoards.{made_boards_are_spelled}
-use Rattle.pb_make_laws.proofs.SpelledMaps.{made_maps_are_spelled}
+use Rattle.pb_make_laws.proofs.Callers.{made_problems_are_tasks, made_boards_are_spelled, made_maps_are_spelled}
 use Rattle.pb_made.specs.Made.{IsMadeTask, IsSize}
 
 -- an error that can't be another is memory

@@ -1,8 +1,8 @@
-pub mod Letters
-pub mod Keeping
-pub mod Passing
-pub mod Splitting
-pub mod Meeting
-pub mod Opening
-pub mod Posting
+mod Letters
+mod Keeping
+mod Passing
+mod Splitting
+mod Meeting
+mod Opening
+mod Posting
 mod Emptiness

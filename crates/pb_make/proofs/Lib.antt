@@ -1,4 +1,4 @@
-pub mod Drawn
-pub mod Rows
-pub mod Nine
-pub mod Examples
+mod Drawn
+mod Rows
+mod Nine
+mod Examples

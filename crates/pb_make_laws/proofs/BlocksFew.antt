@@ -9,14 +9,14 @@ use Rattle.pb_lifted.specs.declared.lifted.Lifted.{Lifted}
 use Rattle.pb_lifted.specs.declared.lifted.Schema.{Schema}
 use Rattle.pb_lifted.specs.Lifted.{lifted_of}
 use Rattle.pb_lifted.specs.Tree.{comes_to}
-use Rattle.pb_lifted.proofs.Accepted.{well_typed_is_accepted}
+use Rattle.pb_lifted.proofs.Callers.{well_typed_is_accepted}
 use Rattle.pb_ground.specs.declared.atoms.GroundAtom.{GroundAtom}
 use Rattle.pb_ground.specs.Atoms.{atom_of, atoms_from, atoms_of, ground_atoms, is_fluent}
 use Rattle.pb_ground.specs.Actions.{actions_from, actions_of, action_of, ground_actions, rows_of}
 use Rattle.pb_ground.specs.Count.{product_of}
 use Rattle.pb_ground.specs.Instances.{candidates, fitting, fitting_from, instances}
 use Rattle.pb_ground.specs.Statics.{statics_hold}
-use Rattle.pb_ground.proofs.Products.{product_is}
+use Rattle.pb_ground.proofs.Callers.{product_is}
 use Rattle.pb_strips.specs.Refusals.{first_fault, or_too_many}
 use Rattle.pb_make_laws.proofs.BlocksTree.{blocks_tree}
 use Rattle.pb_make_laws.proofs.BlocksRead.{IsBlocksProblem}

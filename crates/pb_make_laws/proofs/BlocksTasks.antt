@@ -1,5 +1,5 @@
 -- The text of a made problem is read, and with the domain of the blocks world it is a task.
-use Rattle.pb_pddl_laws.proofs.Whole.{problem_is_read}
+use Rattle.pb_pddl_laws.proofs.Callers.{problem_is_read}
 use Rattle.pb_make_laws.specs.Laws.{MadeProblemsAreTasks}
 use Rattle.pb_make_laws.proofs.SpelledDomain.{blocks_domain_is_tree}
 use Rattle.pb_make_laws.proofs.BlocksTree.{blocks_tree}

@@ -1,14 +1,15 @@
-pub mod MadeBoards
-pub mod SpelledBoards
-pub mod Words
-pub mod MapCells
-pub mod SpelledMaps
-pub mod SpelledDomain
-pub mod SpacedTokens
-pub mod BlocksTree
-pub mod BlocksAtoms
-pub mod BlocksProblems
-pub mod BlocksRead
-pub mod BlocksTyped
-pub mod BlocksFew
-pub mod BlocksTasks
+pub mod Callers
+mod MadeBoards
+mod SpelledBoards
+mod Words
+mod MapCells
+mod SpelledMaps
+mod SpelledDomain
+mod SpacedTokens
+mod BlocksTree
+mod BlocksAtoms
+mod BlocksProblems
+mod BlocksRead
+mod BlocksTyped
+mod BlocksFew
+mod BlocksTasks

@@ -2,7 +2,7 @@
 use Rattle.std.proofs.Common.{◌≡◌, ℕ, zero, suc, ◌+◌, ◌-◌, ◌%◌, ◌<◌, Bool, true, false, nat_lt, ◌==◌, Option, None, Some, if◌then◌else◌, List, [], ◌∷◌, length, refl, arith}
 use Rattle.std.proofs.lemmas.Bool.{ltb-true, eqb-false}
 use Rattle.std.specs.List.{fold, position_or_len}
-use Rattle.pb_task.proofs.Boards.{Listed, listed, is_board_swapped}
+use Rattle.pb_task.proofs.Callers.{Listed, listed, is_board_swapped}
 use Rattle.pb_make.specs.Draws.{draws}
 use Rattle.pb_make.specs.Boards.{blank_of, cell_beside, exchanged, goal_board, made_board, moved, target_of}
 

@@ -4,13 +4,13 @@ use Rattle.std.proofs.lemmas.Bool.{and_parts}
 use Rattle.std.proofs.lemmas.Bool.Decides.{nat_tests}
 use Rattle.std.proofs.lemmas.Fmt.{decimal_digit}
 use Rattle.std.specs.List.{list_all}
-use Rattle.pb_task.proofs.Boards.{is_board_by}
+use Rattle.pb_task.proofs.Callers.{is_board_by}
 use Rattle.pb_tiles.specs.Words.{is_blank}
 use Rattle.pb_lines.specs.ShortNumbers.{IsShortNumber}
 use Rattle.pb_tiles.specs.Spelling.{AreNumbers, AreWordsOf}
 use Rattle.pb_make.specs.Boards.{board_text, goal_board, made_board, row_line}
 use Rattle.pb_make_laws.specs.Laws.{MadeBoardsAreSpelled}
-use Rattle.pb_tiles.proofs.Spelled.{blank_front}
+use Rattle.pb_tiles.proofs.Callers.{blank_front}
 use Rattle.pb_make_laws.proofs.MadeBoards.{made_listed, goal_listed}
 use Rattle.pb_make_laws.proofs.Words.{digit_is}
 

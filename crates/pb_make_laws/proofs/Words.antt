@@ -9,8 +9,8 @@ use Rattle.std.specs.List.{AllByRecursion, join_with_byte, list_all, onto_first,
 use Rattle.std.specs.Str.Lines.{strip_carriage_return}
 use Rattle.pb_grid.specs.Lines.{is_line_feed, is_blank, has_bytes, lines_of, without_empty_last, words_of}
 use Rattle.pb_lines.specs.ShortNumbers.{value_behind, IsShortNumber}
-use Rattle.pb_lines.proofs.ShortNumbers.{value_push}
-use Rattle.pb_grid.proofs.Parting.{keeps, no_lines, no_words, split_some}
+use Rattle.pb_lines.proofs.Callers.{value_push}
+use Rattle.pb_grid.proofs.Callers.{keeps, no_lines, no_words, split_some}
 use Rattle.pb_make.specs.Lines.{line, lines}
 
 -- ---- tests of all elements

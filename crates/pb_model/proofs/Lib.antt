@@ -1,16 +1,17 @@
-pub mod Tests
-pub mod Successors
-pub mod Incumbents
-pub mod Offers
-pub mod Effects
-pub mod Soundness
-pub mod Locality
-pub mod Backing
-pub mod Tracing
-pub mod Optimality
-pub mod Certificates
-pub mod OnePart
-pub mod Keys
-pub mod Shown
-pub mod Growth
-pub mod Example
+pub mod Callers
+mod Tests
+mod Successors
+mod Incumbents
+mod Offers
+mod Effects
+mod Soundness
+mod Locality
+mod Backing
+mod Tracing
+mod Optimality
+mod Certificates
+mod OnePart
+mod Keys
+mod Shown
+mod Growth
+mod Example

@@ -1,7 +1,8 @@
+pub mod Callers
 mod Kept
 mod Known
 mod Places
-pub mod Saves
-pub mod Told
+mod Saves
+mod Told
 mod Untold
 mod Walks

@@ -1,4 +1,5 @@
-pub mod Shifts
-pub mod HexDigits
-pub mod Fields
-pub mod DigitLaws
+pub mod Callers
+mod Shifts
+mod HexDigits
+mod Fields
+mod DigitLaws

@@ -1,39 +1,40 @@
-pub mod Singles
-pub mod ManyRead
-pub mod AtomsRead
-pub mod CondsRead
-pub mod EffectsRead
-pub mod ListsRead
-pub mod CostsRead
-pub mod PiecesRead
-pub mod ActionsRead
-pub mod SectionsRead
-pub mod FormsRead
-pub mod Whole
-pub mod Readers
-pub mod Loops
-pub mod Following
-pub mod Agreeing
-pub mod Nesting
-pub mod Rooms
-pub mod Refusals
-pub mod Closing
-pub mod NestedForms
-pub mod AtomPlaces
-pub mod ConditionPlaces
-pub mod CostPlaces
-pub mod EffectPlaces
-pub mod ListPlaces
-pub mod PiecePlaces
-pub mod Keys
-pub mod KeyedSections
-pub mod Noted
-pub mod ActionPlaces
-pub mod DomainPlaces
-pub mod ProblemPlaces
-pub mod Ends
-pub mod Faults
-pub mod Limits
-pub mod TokensOf
-pub mod WordTokens
-pub mod NamesAreWords
+pub mod Callers
+mod Singles
+mod ManyRead
+mod AtomsRead
+mod CondsRead
+mod EffectsRead
+mod ListsRead
+mod CostsRead
+mod PiecesRead
+mod ActionsRead
+mod SectionsRead
+mod FormsRead
+mod Whole
+mod Readers
+mod Loops
+mod Following
+mod Agreeing
+mod Nesting
+mod Rooms
+mod Refusals
+mod Closing
+mod NestedForms
+mod AtomPlaces
+mod ConditionPlaces
+mod CostPlaces
+mod EffectPlaces
+mod ListPlaces
+mod PiecePlaces
+mod Keys
+mod KeyedSections
+mod Noted
+mod ActionPlaces
+mod DomainPlaces
+mod ProblemPlaces
+mod Ends
+mod Faults
+mod Limits
+mod TokensOf
+mod WordTokens
+mod NamesAreWords

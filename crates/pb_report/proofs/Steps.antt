@@ -3,7 +3,7 @@ use Rattle.std.proofs.Common.{◌≡◌, ℕ, ◌+◌, ◌<◌, List, [], ◌∷
 use Rattle.std.proofs.lemmas.List.{map-append}
 use Rattle.std.proofs.Math.Seq.{take-suc}
 use Rattle.pb_model.specs.Texts.{line, lines}
-use Rattle.pb_print.proofs.Lines.{lines-last}
+use Rattle.pb_print.proofs.Callers.{lines-last}
 
 -- the lines of the first names and one more
 pub one_more : (name : ℕ → List ℕ) (actions : List ℕ) (at : ℕ) → at < length actions

@@ -20,8 +20,7 @@ use Rattle.pb_answer.specs.Searches.{settings_of, weight_asked}
 use Rattle.pb_answer.specs.Claims.{IsCertificate, journal_outputs, Certifies}
 use Rattle.pb_answer.specs.Journals.{IsJournalOf}
 use Rattle.pb_answer.specs.Answer.{Saves}
-use Rattle.pb_answer.proofs.SavedJournals.{SavesJournal, of_quiet, of_stopped}
-use Rattle.pb_answer.proofs.SameBlocks.{without_swamp}
+use Rattle.pb_answer.proofs.Callers.{SavesJournal, of_quiet, of_stopped, without_swamp}
 use Rattle.pb_run.specs.Course.{Ran}
 use Rattle.pb_run.specs.Headline.{IsAnswer, IsBroken, IsOfVerdict, AllOfOnePlan, CertificateOfNone, StopHasCause, CheckIsDecided, JournalIsDecided}
 use Rattle.pb_run.specs.Laws.{IsSavedFirst, IsSavedLast, SavedCertificatesAreAccepted, SavedJournalsAreAccepted, Keeps, AcceptsIt, CertificatesAreAcceptedByWords, JournalsAreAcceptedByWords}

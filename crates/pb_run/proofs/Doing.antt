@@ -3,7 +3,7 @@ use Rattle.std.proofs.Common.{◌≡◌, ◌≢◌, ◌⊎◌, ◌↔◌, inl, i
 use Rattle.pb_outside.specs.Outside.{Files, IfTold, Appends, KeepsAll}
 use Rattle.pb_outside.specs.Calls.{Call}
 use Rattle.pb_outside.specs.declared.shelf.Load.TheVariants.{Failed}
-use Rattle.pb_outside.proofs.Told.{told_as}
+use Rattle.pb_outside.proofs.Callers.{told_as}
 use Rattle.pb_task.specs.Parts.{space_of}
 use Rattle.pb_estimate.specs.Estimates.{estimate_of}
 use Rattle.pb_check.specs.declared.fault.CertificateFault.{CertificateFault}

@@ -2,7 +2,7 @@
 use Rattle.std.proofs.Common.{◌≡◌, ◌⊎◌, inl, inr, ℕ, Option, None, Some, IsSome, List, [], ◌∷◌, ◌++◌, length, take, refl, sym, ap, subst, ◌∙◌, append_assoc, append-nil}
 use Rattle.pb_outside.specs.Outside.{Files, IfTold, Appends, KeepsAll, KeepsOthers, KeepsHolds}
 use Rattle.pb_outside.specs.Calls.{Call, Put, PutFailed}
-use Rattle.pb_outside.proofs.Told.{told_then, told_both, told_as}
+use Rattle.pb_outside.proofs.Callers.{told_then, told_both, told_as}
 use Rattle.pb_outside.specs.declared.shelf.Load.TheVariants.{Failed}
 use Rattle.pb_command.specs.Meaning.{Reading}
 use Rattle.pb_outside.specs.Saves.{IsPartSaved}

@@ -1,9 +1,9 @@
-pub mod Some
-pub mod Saving
-pub mod Loads
-pub mod Told
-pub mod CallLists
-pub mod Loading
-pub mod Doing
-pub mod Handing
-pub mod Accepted
+mod Some
+mod Saving
+mod Loads
+mod Told
+mod CallLists
+mod Loading
+mod Doing
+mod Handing
+mod Accepted

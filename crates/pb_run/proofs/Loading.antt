@@ -5,7 +5,7 @@ use Rattle.pb_outside.specs.declared.shelf.Load.{Load}
 use Rattle.pb_outside.specs.declared.shelf.Load.TheVariants as load
 use Rattle.pb_outside.specs.Outside.{Files, IfTold, KeepsAll}
 use Rattle.pb_outside.specs.Calls.{Call, Loaded, LoadFailed, Notes}
-use Rattle.pb_outside.proofs.Told.{told_then, all_then}
+use Rattle.pb_outside.proofs.Callers.{told_then, all_then}
 use Rattle.pb_run.specs.Asked.{Wanted, CanLoad}
 use Rattle.pb_run.specs.Calls.{load_calls}
 use Rattle.pb_run.specs.Files.{wanted_of, LoadsText}

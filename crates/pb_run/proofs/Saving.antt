@@ -3,7 +3,7 @@ use Rattle.std.proofs.Common.{inl, inr, ℕ, Option, None, Some, IsSome, List, [
 use Rattle.pb_outside.specs.Outside.{Files, IfTold, KeepsAll}
 use Rattle.pb_outside.specs.Calls.{Call}
 use Rattle.pb_outside.specs.Saves.{Saves, SavesPart}
-use Rattle.pb_outside.proofs.Told.{told_then, told_as}
+use Rattle.pb_outside.proofs.Callers.{told_then, told_as}
 use Rattle.pb_answer.specs.Outputs.{Output, output}
 use Rattle.pb_run.specs.Calls.{SaveAll, FailToSaveAll, CanHold}
 use Rattle.pb_run.specs.Contents.{SavesIn, SavesPartIn, Saved, SavedPart}

@@ -24,8 +24,7 @@ use Rattle.pb_answer.specs.Answer.{Said, Says, Saves, IsSolved, IsUnsolvable, Is
 use Rattle.pb_run.specs.Course.{Ran}
 use Rattle.pb_run.specs.Headline.{IsAnswer, AllOfOnePlan, PlanIsPlan, NoneIsCheaper, CertificateHolds, NoneMeansNone, CertificateOfNone, StopHasCause, AcceptedIsValid, RejectedIsFaulty, IsOfVerdict, CheckIsDecided, JournalIsLegal, JournalIsDecided, MadeIsLeast, NamedPlanIsPlan, NamedNoneMeansNone, NamedVerdictHolds, WordsAreRefused, InputIsRefused, SpelledIsNotRefused, AreSomeOf, OutputsAreNamed, IsAnswered}
 use Rattle.pb_run.proofs.Some.{all_are_some, some_behind}
-use Rattle.pb_answer.proofs.Spelled.{never_refused}
-use Rattle.pb_answer.proofs.ByNames.{solved_by_names, none_by_names, accepted_by_names}
+use Rattle.pb_answer.proofs.Callers.{never_refused, solved_by_names, none_by_names, accepted_by_names}
 
 module _ (texts : List (List ℕ)) (said : Said) where
   abbrev pub Done : Ran

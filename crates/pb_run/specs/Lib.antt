@@ -1,3 +1,8 @@
+pub use Rattle.pb_answer.specs.Answer
+pub use Rattle.pb_command.specs.Meaning
+pub use Rattle.pb_model.specs.Texts
+pub use Rattle.pb_outside.specs.Calls as OutsideCalls
+pub use Rattle.pb_outside.specs.Outside
 pub mod Asked
 pub mod Loads
 pub mod Calls

@@ -3,8 +3,7 @@ use Rattle.std.proofs.Common.{◌≡◌, ◌≤◌, ◌^◌, ◌⊎◌, inl, inr
 use Rattle.std.proofs.lemmas.Result.{IfOk-weaker}
 use Rattle.pb_model.specs.Weight.{Weight}
 use Rattle.pb_model.specs.Work.{Comes, expansions, opening_store}
-use Rattle.pb_model.proofs.Tests.{by_cases}
-use Rattle.pb_model.proofs.Locality.{weights_stay}
+use Rattle.pb_model.proofs.Callers.{by_cases, weights_stay}
 use Rattle.pb_machine.specs.declared.event.End.{End}
 use Rattle.pb_machine.specs.declared.event.End.TheVariants.{Quiet, Budget, Memory}
 use Rattle.pb_machine.specs.declared.settings.Settings.{Settings}
@@ -14,16 +13,14 @@ use Rattle.pb_machine.specs.History.{IsHistory}
 use Rattle.pb_machine.specs.Room.{KeepsWithinRoom}
 use Rattle.pb_machine.specs.Machine.{Setup, IsSetup, Machine, journal_of, opening_machine}
 use Rattle.pb_machine.specs.Lawful.{broken_leases, IsLawful}
-use Rattle.pb_machine.proofs.TableLaws.{none_counted}
-use Rattle.pb_machine.proofs.Histories.{spent_is_used, used_fits_budget}
-use Rattle.pb_machine.proofs.MomentLaws.{journals_are_histories, costs_fit}
+use Rattle.pb_machine.proofs.Callers.{none_counted, spent_is_used, used_fits_budget, journals_are_histories, costs_fit}
 use Rattle.pb_task.specs.declared.parts.TaskParts.{TaskParts}
 use Rattle.pb_abstract.specs.Projection.{IsFinest}
 use Rattle.pb_abstract.specs.Graph.{AbstractGraph, blocks_of, IsGraph, IsGraphOf}
 use Rattle.pb_lease.specs.GraphValue.{GraphValue, setup_in}
-use Rattle.pb_lease.proofs.GraphBasics.{setup_is, all_rows}
-use Rattle.pb_yard.proofs.Few.{runs_are_short}
-use Rattle.pb_workers.proofs.Ended.{store_is, best_end}
+use Rattle.pb_lease.proofs.Callers.{setup_is, all_rows}
+use Rattle.pb_yard.proofs.Callers.{runs_are_short}
+use Rattle.pb_workers.proofs.Callers.{store_is, best_end}
 use Rattle.pb_search.specs.Ends.{search_of, HasSmallCosts, IsBestOf, HasEndedSo, EndsBy, StopsWith, EndsQuietly, MarksNothing}
 use Rattle.pb_search.specs.Searched.{HasSearched}
 use Rattle.pb_search.proofs.Marks.{marks_nothing}

@@ -8,7 +8,7 @@ use Rattle.pb_machine.specs.Counts.{Counts, opening_counts, is_any_out}
 use Rattle.pb_machine.specs.History.{AreFinished}
 use Rattle.pb_machine.specs.Room.{KeepsWithinRoom}
 use Rattle.pb_machine.specs.Machine.{Setup, journal_of, opening_machine}
-use Rattle.pb_machine.proofs.TableLaws.{any_false}
+use Rattle.pb_machine.proofs.Callers.{any_false}
 use Rattle.pb_task.specs.declared.parts.TaskParts.{TaskParts}
 use Rattle.pb_abstract.specs.Graph.{AbstractGraph}
 use Rattle.pb_lease.specs.GraphValue.{GraphValue, setup_in, counts_in, IsLeaseGraph}
@@ -18,7 +18,7 @@ use Rattle.pb_workers.specs.Teams.{KeepsSearch}
 use Rattle.pb_yard.specs.declared.view.View.{View}
 use Rattle.pb_yard.specs.Views.{opening_view}
 use Rattle.pb_yard.specs.Calls.{IsClosed}
-use Rattle.pb_yard.proofs.InTime.{in_time_is_run}
+use Rattle.pb_yard.proofs.Callers.{in_time_is_run}
 use Rattle.pb_search.specs.Ends.{search_of, LeadsInTime}
 use Rattle.pb_search.specs.Searched.{Opens, HasSearched}
 

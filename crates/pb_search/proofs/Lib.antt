@@ -1,3 +1,3 @@
-pub mod Marks
-pub mod Ending
-pub mod Clauses
+mod Marks
+mod Ending
+mod Clauses

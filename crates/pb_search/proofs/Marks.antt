@@ -1,13 +1,13 @@
 -- No block is marked hot in a plain search.
 use Rattle.std.proofs.Common.{◌≡◌, true, false, ◌||◌, None, List, [], ◌∷◌, refl, sym, ap, ◌∙◌, true≢false}
 use Rattle.std.specs.List.{list_any}
-use Rattle.pb_model.proofs.Tests.{or_false}
+use Rattle.pb_model.proofs.Callers.{or_false}
 use Rattle.pb_machine.specs.declared.event.Event.{Event}
 use Rattle.pb_machine.specs.declared.event.Event.TheVariants.{Lease, Renew, Hot, Cold, Release, Off, Ended}
 use Rattle.pb_machine.specs.Counts.{Counts}
 use Rattle.pb_machine.specs.Legality.{tests, refusal}
 use Rattle.pb_machine.specs.Machine.{Setup, Machine, Move, event_move, tell_move, Runs, journal_of}
-use Rattle.pb_machine.proofs.CountsLaws.{none_true, rest_passes}
+use Rattle.pb_machine.proofs.Callers.{none_true, rest_passes}
 use Rattle.pb_search.specs.Ends.{is_mark, MarksNothing}
 
 module _ (setup : Setup) (plain : setup.settings.plain ≡ true) where

@@ -8,7 +8,7 @@ use Rattle.std.proofs.lemmas.List.Folds.{list_any-append}
 use Rattle.std.proofs.Math.Nat.{mul_assoc, add-mul-div_right, div-mul-le_self, mul-le-mul_right}
 use Rattle.pb_packed.specs.Bits.{bits_of, with_bits_of, bit_number}
 use Rattle.pb_task.specs.Strips.{set_of}
-use Rattle.pb_task.proofs.AtomSets.{sets_are_of_atoms}
+use Rattle.pb_task.proofs.Callers.{sets_are_of_atoms}
 use Rattle.pb_strips.specs.Grounding.{numbered_set}
 
 -- ---- sets as numbers

@@ -8,9 +8,7 @@ use Rattle.pb_lifted.specs.Costs.{cost_at}
 use Rattle.pb_lifted.specs.Lifted.{lifted_of}
 use Rattle.pb_lifted.specs.Refusals.{first_refusal}
 use Rattle.pb_lifted.specs.Steps.{cost_of_schema}
-use Rattle.pb_lifted.proofs.FittingObjects.{mapped_at}
-use Rattle.pb_lifted.proofs.GroundSteps.{schema_in}
-use Rattle.pb_lifted.proofs.SameCosts.{schemas_cost_the_same, costs_are_in_range}
+use Rattle.pb_lifted.proofs.Callers.{mapped_at, schema_in, schemas_cost_the_same, costs_are_in_range}
 use Rattle.pb_ground.specs.declared.actions.ActionInstance.{ActionInstance}
 use Rattle.pb_ground.specs.declared.atoms.GroundAtom.{GroundAtom}
 use Rattle.pb_ground.specs.Actions.{ground_actions}

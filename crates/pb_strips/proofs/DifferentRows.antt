@@ -13,7 +13,7 @@ use Rattle.pb_ground.specs.declared.atoms.GroundAtom.{GroundAtom}
 use Rattle.pb_ground.specs.Actions.{action_of, rows_of, actions_of, actions_from, ground_actions}
 use Rattle.pb_ground.specs.Instances.{fitting_from, fitting, instances}
 use Rattle.pb_ground.specs.Statics.{statics_hold}
-use Rattle.pb_ground.proofs.Membership.{none_before, no_empty, with_first}
+use Rattle.pb_ground.proofs.Callers.{none_before, no_empty, with_first}
 use Rattle.pb_strips.proofs.Apart.{AreApart, joined, kept_apart}
 
 -- ---- numbers

@@ -7,14 +7,14 @@ use Rattle.std.proofs.lemmas.List.Folds.{list_any_at}
 use Rattle.std.proofs.lemmas.Slice.Eq.{bytes_eq-Decides}
 use Rattle.pb_lifted.specs.declared.lifted.Lifted.{Lifted}
 use Rattle.pb_lifted.specs.declared.lifted.Schema.{Schema}
-use Rattle.pb_lifted.proofs.FittingObjects.{at_mapped, holds_at}
+use Rattle.pb_lifted.proofs.Callers.{at_mapped, holds_at}
 use Rattle.pb_ground.specs.declared.actions.ActionInstance.{ActionInstance}
 use Rattle.pb_ground.specs.declared.atoms.GroundAtom.{GroundAtom}
 use Rattle.pb_ground.specs.Actions.{action_of, rows_of, actions_of, actions_from, ground_actions}
 use Rattle.pb_ground.specs.Instances.{instances}
 use Rattle.pb_ground.specs.Members.{is_instance}
 use Rattle.pb_ground.specs.Statics.{statics_hold}
-use Rattle.pb_ground.proofs.Membership.{instances_are}
+use Rattle.pb_ground.proofs.Callers.{instances_are}
 
 -- ---- places in lists
 

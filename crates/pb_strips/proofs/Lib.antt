@@ -1,18 +1,19 @@
-pub mod AtomSets
-pub mod Below
-pub mod Bridges
-pub mod CostsBelow
-pub mod Instances
-pub mod Numbered
-pub mod Packed
-pub mod PlansAgree
-pub mod StatesAgree
-pub mod StepsAgree
-pub mod TaskParts
-pub mod Words
-pub mod Apart
-pub mod DifferentRows
-pub mod Texts
-pub mod Telling
-pub mod Printed
-pub mod Never
+pub mod Callers
+mod AtomSets
+mod Below
+mod Bridges
+mod CostsBelow
+mod Instances
+mod Numbered
+mod Packed
+mod PlansAgree
+mod StatesAgree
+mod StepsAgree
+mod TaskParts
+mod Words
+mod Apart
+mod DifferentRows
+mod Texts
+mod Telling
+mod Printed
+mod Never

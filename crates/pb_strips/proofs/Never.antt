@@ -7,7 +7,7 @@ use Rattle.pb_pddl.specs.declared.tree.Problem.{Problem}
 use Rattle.pb_lifted.specs.declared.refusal.TypingRefusal.{TypingRefusal}
 use Rattle.pb_lifted.specs.Lifted.{lifted_of}
 use Rattle.pb_lifted.specs.Typing.{IsWellTyped}
-use Rattle.pb_lifted.proofs.Accepted.{well_typed_is_accepted}
+use Rattle.pb_lifted.proofs.Callers.{well_typed_is_accepted}
 use Rattle.pb_ground.specs.Atoms.{ground_atoms}
 use Rattle.pb_ground.specs.Actions.{ground_actions}
 use Rattle.pb_ground.specs.Errors as ground

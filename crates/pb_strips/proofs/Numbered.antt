@@ -10,8 +10,7 @@ use Rattle.pb_ground.specs.declared.atoms.GroundAtom.{GroundAtom}
 use Rattle.pb_ground.specs.Atoms.{is_fluent, same_atom, grounded, number_in, ground_atoms}
 use Rattle.pb_ground.specs.Members.{is_instance_of}
 use Rattle.pb_ground.specs.Steps.{all_grounded, is_in, AreNumbered}
-use Rattle.pb_ground.proofs.Membership.{atoms_are}
-use Rattle.pb_ground.proofs.Stepping.{one_atom}
+use Rattle.pb_ground.proofs.Callers.{atoms_are, one_atom}
 use Rattle.pb_strips.proofs.Bridges.{to_atom, from_fitting}
 
 -- an atom that is among others has a number there

@@ -8,7 +8,7 @@ use Rattle.pb_pddl.specs.declared.tree.Problem.{Problem}
 use Rattle.pb_ground.specs.declared.actions.ActionInstance as instance
 use Rattle.pb_ground.specs.Steps.{bits_after}
 use Rattle.pb_task.specs.Strips.{has_atom, holds_after}
-use Rattle.pb_task.proofs.AtomSets.{Within, sets_are_of_atoms}
+use Rattle.pb_task.proofs.Callers.{Within, sets_are_of_atoms}
 use Rattle.pb_strips.specs.Grounding.{numbered_set, packed_action}
 use Rattle.pb_strips.specs.Packing.{AreAtoms}
 

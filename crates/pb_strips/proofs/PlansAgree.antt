@@ -10,7 +10,7 @@ use Rattle.pb_lifted.specs.Plans.{NamedAction, Leads, step_cost, plan_cost}
 use Rattle.pb_lifted.specs.Space.{Fact, State, IsStep, AllHold, added, deleted, facts_of, is_fact_in, start_of, IsGoal}
 use Rattle.pb_ground.specs.Atoms.{ground_atoms}
 use Rattle.pb_task.specs.Strips.{name_in, strips_space, Acts}
-use Rattle.pb_task.proofs.Acting.{strips_act}
+use Rattle.pb_task.proofs.Callers.{strips_act}
 use Rattle.pb_strips.specs.Correspondence.{facts_of_state, PackedPlansArePlans, PlansArePackedPlans}
 use Rattle.pb_strips.specs.Grounding.{strips_of}
 use Rattle.pb_strips.specs.Names.{action_text}

@@ -9,7 +9,7 @@ use Rattle.pb_ground.specs.Actions.{action_of}
 use Rattle.pb_ground.specs.Atoms.{is_fluent, number_in, ground_atoms}
 use Rattle.pb_ground.specs.Statics.{is_initial}
 use Rattle.pb_ground.specs.Steps.{all_grounded, is_in, facts_after, bits_after, Packs, KeepsStatics, AreNumbered, Corresponds}
-use Rattle.pb_ground.proofs.Stepping.{correspond, kept}
+use Rattle.pb_ground.proofs.Callers.{correspond, kept}
 use Rattle.pb_task.specs.Strips.{has_atom}
 use Rattle.pb_strips.specs.Correspondence.{holds_by_number, holds_in}
 use Rattle.pb_strips.proofs.Below.{number_below}

@@ -16,20 +16,17 @@ use Rattle.pb_lifted.specs.Refusals.{first_refusal}
 use Rattle.pb_lifted.specs.Space.{IsStep}
 use Rattle.pb_lifted.specs.Steps.{GroundFact, AreFitting, IsGroundStep, ground_start, is_of_task, by_number}
 use Rattle.pb_lifted.specs.Typing.{named}
-use Rattle.pb_lifted.proofs.FittingObjects.{at_mapped, mapped_at}
-use Rattle.pb_lifted.proofs.GroundSteps.{ground_start_is_start, ground_goal_is_goal, ground_steps_are_steps, steps_are_ground_steps}
-use Rattle.pb_lifted.proofs.TypedInstances.{instances_are_typed, start_is_typed, goal_is_typed}
+use Rattle.pb_lifted.proofs.Callers.{at_mapped, mapped_at, ground_start_is_start, ground_goal_is_goal, ground_steps_are_steps, steps_are_ground_steps, instances_are_typed, start_is_typed, goal_is_typed}
 use Rattle.pb_ground.specs.declared.actions.ActionInstance as instance
 use Rattle.pb_ground.specs.declared.atoms.GroundAtom.{GroundAtom}
 use Rattle.pb_ground.specs.Actions.{action_of, numbers_of, ground_actions}
 use Rattle.pb_ground.specs.Atoms.{is_fluent, number_in, ground_atoms}
 use Rattle.pb_ground.specs.Statics.{statics_hold}
 use Rattle.pb_ground.specs.Steps.{all_grounded, is_in, bits_after}
-use Rattle.pb_ground.proofs.Stepping.{numbers_alike}
+use Rattle.pb_ground.proofs.Callers.{numbers_alike}
 use Rattle.pb_task.specs.declared.parts.GroundAction.{GroundAction}
 use Rattle.pb_task.specs.Strips.{has_atom, holds_after, is_within, name_in, name_of, state_after, strips_space, Acts}
-use Rattle.pb_task.proofs.Acting.{strips_act}
-use Rattle.pb_task.proofs.AtomSets.{Within, sets_are_of_atoms, from_within, to_within}
+use Rattle.pb_task.proofs.Callers.{strips_act, Within, sets_are_of_atoms, from_within, to_within}
 use Rattle.pb_strips.specs.Correspondence.{holds_in, facts_of_state, PackedStepsAreSteps, StepsArePackedSteps, StartsAgree, GoalsAgree}
 use Rattle.pb_strips.specs.Grounding.{numbered_set, packed_action, strips_of}
 use Rattle.pb_strips.specs.Names.{action_text}

@@ -19,10 +19,7 @@ use Rattle.pb_lifted.specs.Facts.{name_at}
 use Rattle.pb_lifted.specs.Lifted.{lifted_of}
 use Rattle.pb_lifted.specs.Refusals.{first_refusal, causes_in_order, action_name, typed_name, predicate_name, repeated_params}
 use Rattle.pb_lifted.specs.Typing.{object_names, named, AreDistinct, IsWellTyped}
-use Rattle.pb_lifted.proofs.DistinctNames.{distinct_on, text_of}
-use Rattle.pb_lifted.proofs.Faultless.{faultless, nil_left, nil_right}
-use Rattle.pb_lifted.proofs.FittingObjects.{at_mapped, count_is as objects_agree}
-use Rattle.pb_lifted.proofs.WellTyped.{accepted_is_well_typed}
+use Rattle.pb_lifted.proofs.Callers.{distinct_on, text_of, faultless, nil_left, nil_right, at_mapped, count_is as objects_agree, accepted_is_well_typed}
 use Rattle.pb_ground.specs.declared.actions.ActionInstance as instance
 use Rattle.pb_ground.specs.Atoms.{ground_atoms}
 use Rattle.pb_ground.specs.Actions.{ground_actions}
@@ -32,7 +29,7 @@ use Rattle.pb_strips.specs.Names.{action_word, action_bytes}
 use Rattle.pb_strips.specs.Grounding.{packed_action, strips_of}
 use Rattle.pb_strips.specs.Refusals.{first_fault, or_too_many}
 use Rattle.pb_strips.proofs.Instances.{IsInstance, is_instance_at}
-use Rattle.pb_model.proofs.Tests.{and_true}
+use Rattle.pb_model.proofs.Callers.{and_true}
 use Rattle.pb_strips.specs.Naming.{AreTellingNames, NamesTellActions}
 use Rattle.pb_strips.proofs.Apart.{same_place}
 use Rattle.pb_strips.proofs.DifferentRows.{row_of, actions_apart}

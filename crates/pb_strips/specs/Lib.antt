@@ -1,3 +1,4 @@
+pub use Rattle.pb_lifted.specs.Typing
 pub mod Names
 pub mod Grounding
 pub mod Refusals

@@ -1,4 +1,4 @@
-pub mod Folds
-pub mod Values
-pub mod Keys
-pub mod Steps
+mod Folds
+mod Values
+mod Keys
+mod Steps

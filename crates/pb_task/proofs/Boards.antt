@@ -13,7 +13,7 @@ use Rattle.std.specs.Bool.{Decides}
 use Rattle.std.specs.List.{list_any, list_all, IsDistinct, AllByRecursion}
 use Rattle.std.specs.List.Sorted.{IsPermutation}
 use Rattle.pb_packed.specs.Bits.{bits_of, with_bits_of}
-use Rattle.pb_model.proofs.Tests.{equal_swap}
+use Rattle.pb_model.proofs.Callers.{equal_swap}
 use Rattle.pb_task.specs.Laws.{BoardsArePacked}
 use Rattle.pb_task.specs.Tiles.{are_distinct, is_board, board_state, board_of, is_board_state}
 

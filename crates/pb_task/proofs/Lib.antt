@@ -1,11 +1,12 @@
-pub mod Boards
-pub mod Sliding
-pub mod Exchanges
-pub mod Slides
-pub mod AtomSets
-pub mod Acting
-pub mod Grids
-pub mod Successors
-pub mod Degrees
-pub mod Walks
-pub mod Validation
+pub mod Callers
+mod Boards
+mod Sliding
+mod Exchanges
+mod Slides
+mod AtomSets
+mod Acting
+mod Grids
+mod Successors
+mod Degrees
+mod Walks
+mod Validation

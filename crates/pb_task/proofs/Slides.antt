@@ -8,7 +8,7 @@ use Rattle.std.proofs.lemmas.Map.Keys.{apart_from_distinct}
 use Rattle.std.specs.Prelude.{swap}
 use Rattle.std.specs.List.{position_or_len}
 use Rattle.pb_model.specs.Space.{Steps}
-use Rattle.pb_model.proofs.Tests.{equal_swap}
+use Rattle.pb_model.proofs.Callers.{equal_swap}
 use Rattle.pb_task.specs.Tiles.{cell_count, is_board, board_state, board_of, cell_on, neighbour, exchange, slide, blank_of, slide_on, tiles_space, IsTiles}
 use Rattle.pb_task.specs.Slides.{LiesBeside, Slides}
 use Rattle.pb_task.specs.Laws.{TilesSlide}

@@ -1,3 +1,5 @@
+pub use Rattle.pb_model.specs.Plan
+pub use Rattle.pb_model.specs.Space
 pub mod Grid
 pub mod Tiles
 pub mod Slides

@@ -4,7 +4,7 @@ use Rattle.std.proofs.lemmas.List.Sums.{sum_by-cons}
 use mathlib.Core.Option.{some, some-injective, some-ne-none}
 use lib.ListN.{get_elem?}
 use Rattle.pb_test_search.specs.Counting.{up_to, Counts, counted}
-use Rattle.pb_turn.proofs.PassLists.{sum_set, sum_snoc}
+use Rattle.pb_turn.proofs.Callers.{sum_set, sum_snoc}
 
 -- a holding: the counter went on by one, or stays
 pub holding_keeps : (did : Bool) (x y v pass : ℕ) (xs ys : List ℕ) → y ≡ counted did x → MatchBool did (ys ≡ xs ++ y ∷ []) (ys ≡ xs)

@@ -4,7 +4,7 @@ use Rattle.std.proofs.Math.Nat.{min-le_left, min-le_right}
 use mathlib.Core.Option.{some, some-injective, some-ne-none}
 use lib.ListN.{get_elem?}
 use Rattle.pb_test_search.specs.Lowering.{IsAtMost, brought}
-use Rattle.pb_turn.proofs.PassLists.{Some_same, each_set, each_snoc}
+use Rattle.pb_turn.proofs.Callers.{Some_same, each_set, each_snoc}
 
 -- what a view says of the number
 abbrev Says : ℕ → Option ℕ → Type 0

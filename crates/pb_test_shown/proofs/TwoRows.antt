@@ -10,7 +10,7 @@ use Rattle.pb_model.specs.Weight.{Weight, IsWeight}
 use Rattle.pb_model.specs.Work.{offered_row}
 use Rattle.pb_model.specs.Store.{Part, Rows}
 use Rattle.pb_model.specs.Sound.{HasParent}
-use Rattle.pb_model.proofs.Tests.{by_cases, equal, equal_self}
+use Rattle.pb_model.proofs.Callers.{by_cases, equal, equal_self}
 use Rattle.pb_lists.specs.Bundle.{Content, row_of, SetsRow}
 use Rattle.pb_cert.specs.Store.{IsSoundAt, guide_with, store_with, rows_at_home, one_part_rows}
 

@@ -5,9 +5,9 @@ use Rattle.std.proofs.lemmas.Bool.Decides.{nat_tests}
 use Rattle.std.proofs.lemmas.List.FromFn.{map-range_with_len_more}
 use Rattle.std.proofs.Math.Nat.{mul-le-mul_left}
 use Rattle.std.specs.List.{list_any, list_all, range_with_len}
-use Rattle.pb_model.proofs.Tests.{equal_swap}
+use Rattle.pb_model.proofs.Callers.{equal_swap}
 use Rattle.pb_task.specs.Tiles.{are_distinct, IsTiles}
-use Rattle.pb_task.proofs.Boards.{Listed, is_board_by, all_below_more}
+use Rattle.pb_task.proofs.Callers.{Listed, is_board_by, all_below_more}
 use Rattle.pb_tiles.specs.declared.error.TilesError.{TilesError}
 use Rattle.pb_tiles.specs.declared.error.TilesError.TheVariants.{Count, Number, Twice}
 use Rattle.pb_tiles.specs.Reading.{count_fault, board_fault, first_fault, boards_fault}

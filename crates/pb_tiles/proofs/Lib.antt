@@ -1,3 +1,4 @@
-pub mod Parting
-pub mod Filling
-pub mod Spelled
+pub mod Callers
+mod Parting
+mod Filling
+mod Spelled

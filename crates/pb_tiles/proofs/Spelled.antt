@@ -8,12 +8,12 @@ use Rattle.std.specs.Option.{option_map_or, option_and_then}
 use Rattle.std.specs.Str.{bytes_eq}
 use Rattle.pb_task.specs.Tiles.{cell_count, IsTiles}
 use Rattle.pb_task.specs.declared.parts.TilesParts.{TilesParts}
-use Rattle.pb_task.proofs.Boards.{listed}
+use Rattle.pb_task.proofs.Callers.{listed}
 use Rattle.pb_tiles.specs.declared.error.TilesError.{TilesError}
 use Rattle.pb_tiles.specs.declared.error.TilesError.TheVariants.{Syntax, Size, Count, Number, Twice, Memory}
 use Rattle.pb_tiles.specs.Said.{Said}
 use Rattle.pb_lines.specs.ShortNumbers.{short_number_of}
-use Rattle.pb_lines.proofs.ShortNumbers.{spells_short_number, reads_short_number}
+use Rattle.pb_lines.proofs.Callers.{spells_short_number, reads_short_number}
 use Rattle.pb_tiles.specs.Words.{is_blank, Word, word_end, line_behind, words_behind, words}
 use Rattle.pb_tiles.specs.Reading.{nothing_said, with_word, next, said_by, is_side, boards_fault, unless_fault, boards_reading, numbers_reading, read_after, tiles_reading}
 use Rattle.pb_tiles.specs.Spelling.{BeginsBlank, AreBlanks, AreWordsOf, AreNumbers, SpellsGoal, SpellsTiles}

@@ -1,4 +1,4 @@
-pub mod Runs
-pub mod Lex
-pub mod SpansLaw
-pub mod Place
+mod Runs
+mod Lex
+mod SpansLaw
+mod Place

@@ -2,7 +2,7 @@
 use Rattle.std.proofs.Common.{◌≡◌, ℕ, ◌+◌, ◌<◌, ◌≤◌, List, length, take, drop, map, sym, ap, ◌∙◌, arith}
 use Rattle.std.proofs.lemmas.List.{length-drop, length-map, length-take-le, take-map, drop-map}
 use Rattle.pb_pddl.specs.Tokens.{lower}
-use Rattle.pb_pddl.proofs.Ranges.{drop_drop}
+use Rattle.pb_pddl.proofs.Callers.{drop_drop}
 
 place_behind : (at n : ℕ) (source rest : List ℕ) → drop at source ≡ map lower rest → drop (at + n) source ≡ map lower (drop n rest)
 place_behind at n source rest place = sym (drop_drop at n source) ∙ ap (drop n) place ∙ drop-map lower n rest

@@ -5,7 +5,7 @@ use Rattle.pb_pddl.specs.declared.token.Token.{Token}
 use Rattle.pb_pddl.specs.declared.token.Cursor.{Cursor}
 use Rattle.pb_pddl.specs.Tokens.{lower, gap_len, token_at, kind_of, kind_inside, word_first, len_of, is_last, AreTokens, moved, behind}
 use Rattle.pb_pddl.specs.Spans.{Spans}
-use Rattle.pb_pddl.proofs.Ranges.{drop_drop}
+use Rattle.pb_pddl.proofs.Callers.{drop_drop}
 
 take_taken : (n : ℕ) (xs : List ℕ) → take (length (map lower (take n xs))) xs ≡ take n xs
 take_taken zero xs = refl

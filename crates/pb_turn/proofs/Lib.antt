@@ -1,2 +1,3 @@
-pub mod PassLists
-pub mod Keeping
+pub mod Callers
+mod PassLists
+mod Keeping

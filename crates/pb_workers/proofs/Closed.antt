@@ -8,7 +8,7 @@ use Rattle.pb_lease.specs.Events.{ending}
 use Rattle.pb_lease.specs.GraphValue.{GraphValue, counts_in}
 use Rattle.pb_lease.specs.Choices.{is_out_in}
 use Rattle.pb_lease.specs.Steps.{IsSignedOff, KeepsLeases}
-use Rattle.pb_yard.proofs.InTime.{ending_grants_none}
+use Rattle.pb_yard.proofs.Callers.{ending_grants_none}
 use Rattle.pb_workers.specs.Runs.{IsSameSearch, RunsOn}
 use Rattle.pb_workers.proofs.Going.{keeping_runs}
 use Rattle.pb_workers.proofs.Returned.{ending_same, ended_by_memory}

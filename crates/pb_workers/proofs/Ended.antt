@@ -7,17 +7,17 @@ use Rattle.pb_model.specs.Store.{IsQuiet, IsShown, HasOpened}
 use Rattle.pb_model.specs.Sound.{IsSound}
 use Rattle.pb_model.specs.Plan.{IncumbentHolds}
 use Rattle.pb_task.specs.Parts.{space_of, greatest_cost}
-use Rattle.pb_estimate.proofs.Estimates.{estimates_are_admissible}
+use Rattle.pb_estimate.proofs.Callers.{estimates_are_admissible}
 use Rattle.pb_machine.specs.declared.event.End.TheVariants.{Quiet, Budget}
 use Rattle.pb_machine.specs.Counts.{Counts, is_any_out}
 use Rattle.pb_machine.specs.Settings.{weight_of}
 use Rattle.pb_machine.specs.Machine.{Machine}
-use Rattle.pb_machine.proofs.MomentLaws.{lawful_stores_are_sound, quiet_ends_are_best, budget_ends_are_spent, none_out_is_shown}
+use Rattle.pb_machine.proofs.Callers.{lawful_stores_are_sound, quiet_ends_are_best, budget_ends_are_spent, none_out_is_shown}
 use Rattle.pb_lease.specs.Leased.{guide_of}
 use Rattle.pb_lease.specs.GraphValue.{GraphValue, setup_in, IsLeaseGraph}
 use Rattle.pb_lease.specs.Choices.{is_out_in}
 use Rattle.pb_lease.specs.Moments.{IsMoment}
-use Rattle.pb_lease.proofs.GraphBasics.{setup_is, all_rows}
+use Rattle.pb_lease.proofs.Callers.{setup_is, all_rows}
 use Rattle.pb_workers.specs.Ends.{home_store, IsBestEnd, IsSpentEnd}
 
 module _ (g : GraphValue) (k : IsLeaseGraph g) (home : is_out_in g ≡ false) (recorded : (worker : ℕ) → Rows) (machine : Machine) (m : IsMoment g recorded machine) where

@@ -5,17 +5,16 @@ use Rattle.pb_model.specs.Store.{Rows}
 use Rattle.pb_machine.specs.declared.event.Event.{Event}
 use Rattle.pb_machine.specs.Counts.{Counts, is_any_out}
 use Rattle.pb_machine.specs.Machine.{Setup, Machine, journal_of}
-use Rattle.pb_machine.proofs.LeaseTurns.{runs_go_on}
-use Rattle.pb_machine.proofs.WholeStore.{all_is_home}
+use Rattle.pb_machine.proofs.Callers.{runs_go_on, all_is_home}
 use Rattle.pb_bundles.specs.Homes.{home_rows}
 use Rattle.pb_lease.specs.Leased.{setup_of}
 use Rattle.pb_lease.specs.GraphValue.{GraphValue, setup_in}
 use Rattle.pb_lease.specs.Choices.{is_out_in}
 use Rattle.pb_lease.specs.Moments.{IsMoment, FollowsInOrder, moves_of}
 use Rattle.pb_lease.specs.Steps.{KeepsLeases}
-use Rattle.pb_lease.proofs.InOrder.{keeps_in_order}
+use Rattle.pb_lease.proofs.Callers.{keeps_in_order}
 use Rattle.pb_yard.specs.Order.{RunsInTime}
-use Rattle.pb_yard.proofs.InTime.{GrantsNone, events_of_moves, in_time_on, in_time_events}
+use Rattle.pb_yard.proofs.Callers.{GrantsNone, events_of_moves, in_time_on, in_time_events}
 use Rattle.pb_workers.specs.Runs.{IsSameSearch, RunsTo, RunsOn}
 
 -- ---- the same search

@@ -1,13 +1,13 @@
 -- The turns of a worker that has a lease.
 use Rattle.std.proofs.Common.{◌≡◌, ℕ, ◌+◌, ◌-◌, ◌<◌, ◌≤◌, Bool, true, false, is_some, length, [], ◌∷◌, ◌++◌, Option, Some, None, sym, ap, ◌∙◌, arith, subst, inl, inr, nat_lt}
 use Rattle.pb_model.specs.Store.{HasOpened}
-use Rattle.pb_model.proofs.Tests.{by_cases, below, not_below, equal_self}
+use Rattle.pb_model.proofs.Callers.{by_cases, below, not_below, equal_self}
 use Rattle.pb_machine.specs.declared.event.Event.TheVariants.{Renew, Release}
 use Rattle.pb_machine.specs.declared.event.Grant.{Grant}
 use Rattle.pb_machine.specs.Tables.{with_entry}
 use Rattle.pb_machine.specs.Counts.{Counts, quota_of}
 use Rattle.pb_machine.specs.Machine.{Machine}
-use Rattle.pb_machine.proofs.TableLaws.{entry_here}
+use Rattle.pb_machine.proofs.Callers.{entry_here}
 use Rattle.pb_task.specs.declared.parts.TaskParts.{TaskParts}
 use Rattle.pb_abstract.specs.Graph.{AbstractGraph, blocks_of}
 use Rattle.pb_bundles.specs.Parts.{away_rows}
@@ -18,11 +18,9 @@ use Rattle.pb_lease.specs.LeaseValue.{LeaseValue, leased_store, IsSameLease}
 use Rattle.pb_lease.specs.Leased.{grant_of, HasScope, IsOutInTurns}
 use Rattle.pb_lease.specs.GraphValue.{GraphValue, setup_in, counts_in, IsLeaseGraph, IsOfGraph}
 use Rattle.pb_lease.specs.Steps.{IsReleased, ReleasesNext, IsRenewed, RenewsNext, GoesOn, renewed_quota}
-use Rattle.pb_lease.proofs.GraphBasics.{setup_is}
-use Rattle.pb_lease.proofs.InOrder.{releases_in_order, renews_in_order}
+use Rattle.pb_lease.proofs.Callers.{setup_is, releases_in_order, renews_in_order}
 use Rattle.pb_expand.specs.Turned.{IsAtWork}
-use Rattle.pb_yard.proofs.InTime.{in_time_one, in_time_events, ending_grants_none}
-use Rattle.pb_yard.proofs.Causes.{still_first}
+use Rattle.pb_yard.proofs.Callers.{in_time_one, in_time_events, ending_grants_none, still_first}
 use Rattle.pb_workers.specs.Runs.{IsSameSearch}
 use Rattle.pb_workers.specs.Holding.{Works, IsHeld, RunsOut, RunsHome, left_with, IsNearer, IsMarkedAtMost}
 use Rattle.pb_workers.proofs.Going.{same_then, run_one, run_then}

@@ -1,13 +1,14 @@
-pub mod Going
-pub mod Serving
-pub mod Opened
-pub mod Marked
-pub mod Returned
-pub mod Held
-pub mod GoingOn
-pub mod Searching
-pub mod Closed
-pub mod Ended
-pub mod Watches
-pub mod Sharing
-pub mod Teaming
+pub mod Callers
+mod Going
+mod Serving
+mod Opened
+mod Marked
+mod Returned
+mod Held
+mod GoingOn
+mod Searching
+mod Closed
+mod Ended
+mod Watches
+mod Sharing
+mod Teaming

@@ -1,11 +1,11 @@
 -- What a mark leaves as it was.
 use Rattle.std.proofs.Common.{◌≡◌, ◌↔◌, ℕ, ◌-◌, ◌≤◌, Bool, IsTrue, IsFalse, [], ◌∷◌, sym, ap, ◌∙◌, arith, subst, inl, inr}
 use Rattle.pb_model.specs.Store.{Rows}
-use Rattle.pb_model.proofs.Tests.{by_cases, equal_self}
+use Rattle.pb_model.proofs.Callers.{by_cases, equal_self}
 use Rattle.pb_machine.specs.declared.event.Event.TheVariants.{Hot}
 use Rattle.pb_machine.specs.Counts.{Counts}
 use Rattle.pb_machine.specs.Machine.{Machine}
-use Rattle.pb_machine.proofs.TableLaws.{entry_here}
+use Rattle.pb_machine.proofs.Callers.{entry_here}
 use Rattle.pb_lease.specs.Tables.{rooms}
 use Rattle.pb_lease.specs.LeaseValue.{LeaseValue}
 use Rattle.pb_lease.specs.Leased.{IsOutInTurns}
@@ -13,8 +13,8 @@ use Rattle.pb_lease.specs.GraphValue.{GraphValue, setup_in, counts_in}
 use Rattle.pb_lease.specs.Choices.{MayMark}
 use Rattle.pb_lease.specs.Moments.{IsMoment}
 use Rattle.pb_lease.specs.Steps.{IsMarked, KeepsLeases}
-use Rattle.pb_lease.proofs.InOrder.{keeps_in_order}
-use Rattle.pb_yard.proofs.InTime.{in_time_events}
+use Rattle.pb_lease.proofs.Callers.{keeps_in_order}
+use Rattle.pb_yard.proofs.Callers.{in_time_events}
 use Rattle.pb_workers.specs.Runs.{IsSameSearch, RunsTo}
 use Rattle.pb_workers.specs.Holding.{MarksWhereMay, IsMarkedAtMost}
 use Rattle.pb_workers.proofs.Going.{run_none, run_one}

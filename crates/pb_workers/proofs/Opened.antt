@@ -9,7 +9,7 @@ use Rattle.pb_model.specs.Space.{Space}
 use Rattle.pb_model.specs.Guide.{Guide}
 use Rattle.pb_model.specs.Store.{Store, HasOpened, is_place_of}
 use Rattle.pb_model.specs.Work.{Work, expand, break_off, cut, take_goal, lower, reopen, with_status, row_after_status, Comes, store_after, expansions, broken_expansions}
-use Rattle.pb_model.proofs.Tests.{by_cases}
+use Rattle.pb_model.proofs.Callers.{by_cases}
 use Rattle.pb_machine.specs.Tables.{one_if, count_below}
 use Rattle.pb_machine.specs.Machine.{IsOn}
 

@@ -1,7 +1,7 @@
 -- What a lease that came back leaves.
 use Rattle.std.proofs.Common.{◌≡◌, ℕ, ◌+◌, ◌-◌, ◌<◌, Bool, true, false, cond, ◌&&◌, is_some, is_none, [], ◌∷◌, Option, Some, None, refl, sym, ap, ◌∙◌, arith, subst, true≢false}
 use Rattle.pb_model.specs.Store.{Rows, HasOpened}
-use Rattle.pb_model.proofs.Tests.{equal_self}
+use Rattle.pb_model.proofs.Callers.{equal_self}
 use Rattle.pb_machine.specs.declared.event.End.{End}
 use Rattle.pb_machine.specs.declared.event.End.TheVariants.{Memory}
 use Rattle.pb_machine.specs.declared.event.Event.TheVariants.{Release, Ended}
@@ -11,12 +11,12 @@ use Rattle.pb_machine.specs.Tables.{count_below}
 use Rattle.pb_machine.specs.Blocks.{Blocks}
 use Rattle.pb_machine.specs.Counts.{Counts, quota_of, counts_after}
 use Rattle.pb_machine.specs.Machine.{Machine, lent_store}
-use Rattle.pb_machine.proofs.TableLaws.{entry_here}
+use Rattle.pb_machine.proofs.Callers.{entry_here}
 use Rattle.pb_abstract.specs.Graph.{AbstractGraph, blocks_of}
 use Rattle.pb_lists.specs.Bundle.{Content}
 use Rattle.pb_bundles.specs.Parts.{content_in}
 use Rattle.pb_bundles.specs.Homes.{key_at}
-use Rattle.pb_bundles.proofs.ByKey.{opened_is_by_key}
+use Rattle.pb_bundles.proofs.Callers.{opened_is_by_key}
 use Rattle.pb_lease.specs.Tables.{blocks}
 use Rattle.pb_lease.specs.Events.{counts_along, ending}
 use Rattle.pb_lease.specs.LeaseValue.{LeaseValue, leased_store}
@@ -24,8 +24,8 @@ use Rattle.pb_lease.specs.Leased.{grant_of, IsOutInTurns}
 use Rattle.pb_lease.specs.GraphValue.{GraphValue, setup_in, counts_in, IsLeaseGraph, IsOfGraph}
 use Rattle.pb_lease.specs.Moments.{IsMoment}
 use Rattle.pb_lease.specs.Steps.{IsReleased}
-use Rattle.pb_lease.proofs.GraphBasics.{setup_is}
-use Rattle.pb_yard.proofs.Causes.{brought_opened, block_known, none_here, none_left}
+use Rattle.pb_lease.proofs.Callers.{setup_is}
+use Rattle.pb_yard.proofs.Callers.{brought_opened, block_known, none_here, none_left}
 use Rattle.pb_workers.specs.Runs.{IsSameSearch}
 use Rattle.pb_workers.specs.Holding.{opened_blocks}
 use Rattle.pb_workers.proofs.Opened.{none_opened, count_fewer}

@@ -1,12 +1,12 @@
 -- Leases of a worker that searches alone, and how near the search is to its end.
 use Rattle.std.proofs.Common.{◌≡◌, ℕ, ◌+◌, ◌-◌, ◌*◌, ◌<◌, ◌≤◌, min, Bool, true, false, if◌then◌else◌, ◌||◌, is_some, List, [], ◌∷◌, ◌++◌, Option, Some, None, refl, sym, ap, ◌∙◌, arith, subst, true≢false, get_or, inl, inr}
 use Rattle.pb_model.specs.declared.key.Key.{Key}
-use Rattle.pb_model.proofs.Tests.{none_found}
+use Rattle.pb_model.proofs.Callers.{none_found}
 use Rattle.pb_machine.specs.declared.event.End.{End}
 use Rattle.pb_machine.specs.declared.event.Event.TheVariants.{Lease}
 use Rattle.pb_machine.specs.Tables.{with_entry, any_below, count_below, one_if}
 use Rattle.pb_machine.specs.Counts.{Counts}
-use Rattle.pb_machine.proofs.TableLaws.{any_none, one_small, sum_small}
+use Rattle.pb_machine.proofs.Callers.{any_none, one_small, sum_small}
 use Rattle.pb_abstract.specs.Graph.{AbstractGraph, blocks_of}
 use Rattle.pb_bundles.specs.Parts.{away_rows}
 use Rattle.pb_bundles.specs.Homes.{key_at}
@@ -16,9 +16,8 @@ use Rattle.pb_lease.specs.LeaseValue.{LeaseValue}
 use Rattle.pb_lease.specs.GraphValue.{GraphValue, setup_in, counts_in}
 use Rattle.pb_lease.specs.Choices.{is_out_in, IsOver}
 use Rattle.pb_lease.specs.Steps.{IsLeased, LeasesNext, IsEnded, KeepsLeases, end_events}
-use Rattle.pb_lease.proofs.GraphBasics.{passes_from}
-use Rattle.pb_lease.proofs.InOrder.{leases_in_order}
-use Rattle.pb_yard.proofs.InTime.{in_time_one, end_grants_none}
+use Rattle.pb_lease.proofs.Callers.{passes_from, leases_in_order}
+use Rattle.pb_yard.proofs.Callers.{in_time_one, end_grants_none}
 use Rattle.pb_workers.specs.Runs.{IsSameSearch, IsAnyMoment, RunsOn}
 use Rattle.pb_workers.specs.Holding.{IsHeld, RunsHome, left_with, opened_blocks, IsNearer}
 use Rattle.pb_workers.proofs.Going.{run_one, run_then, run_home, on_then, keeping_runs}

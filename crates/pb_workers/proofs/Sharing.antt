@@ -5,8 +5,7 @@ use Rattle.std.proofs.lemmas.Bool.{or_from}
 use Rattle.std.proofs.lemmas.List.Folds.{list_any-append}
 use Rattle.std.proofs.Math.Bool.{or-true}
 use Rattle.pb_model.specs.Work.{Work}
-use Rattle.pb_model.proofs.Incumbents.{at_most_self}
-use Rattle.pb_model.proofs.Tests.{equal_self}
+use Rattle.pb_model.proofs.Callers.{at_most_self, equal_self}
 use Rattle.pb_machine.specs.declared.event.End.{End}
 use Rattle.pb_machine.specs.declared.event.Event.{Event}
 use Rattle.pb_machine.specs.declared.event.Event.TheVariants.{Hot, Off}
@@ -14,8 +13,7 @@ use Rattle.pb_machine.specs.History.{events_of, is_off, end_in}
 use Rattle.pb_machine.specs.Views as of_machine
 use Rattle.pb_machine.specs.Machine.{lent_store}
 use Rattle.pb_machine.specs.Turns.{AreLeaseTurns}
-use Rattle.pb_machine.proofs.EndsTold.{ends_are_told}
-use Rattle.pb_machine.proofs.LeaseWork.{lease_work_stays}
+use Rattle.pb_machine.proofs.Callers.{ends_are_told, lease_work_stays}
 use Rattle.pb_task.specs.declared.parts.TaskParts.{TaskParts}
 use Rattle.pb_task.specs.Parts.{space_of}
 use Rattle.pb_abstract.specs.Graph.{AbstractGraph, blocks_of, IsGraphOf}
@@ -35,8 +33,7 @@ use Rattle.pb_yard.specs.Rule.{rows_of, was_read, grant_in, IsViewOf}
 use Rattle.pb_yard.specs.Replies.{LeasesAs, lease_events, lent_by, told_by, ReleasesAs, release_events, RenewsAs, renewal_events, RivalsAs, MarksAs, mark_events, off_events}
 use Rattle.pb_yard.specs.Returning.{IsLeaseOf, IsBrought}
 use Rattle.pb_yard.specs.Calls.{Holds, HasRead, ReadsAndHolds, Looks, Leases, Renews, GivesAndLeases, Releases, AsksRival, Marks, SignsOff, IsActive}
-use Rattle.pb_yard.proofs.Meaning.{history, leased, begins}
-use Rattle.pb_yard.proofs.Told.{own_none_off, end_none_off, ending_none_off, ended_end}
+use Rattle.pb_yard.proofs.Callers.{history, leased, begins, own_none_off, end_none_off, ending_none_off, ended_end}
 use Rattle.pb_workers.specs.Shared.{IsSameHolder, IsIdle, IsLeased}
 use Rattle.pb_workers.specs.Watching.{watch_view, KeepsLease}
 

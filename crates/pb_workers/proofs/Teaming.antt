@@ -3,7 +3,7 @@ use Rattle.std.proofs.Common.{◌≡◌, ℕ, true, [], ◌∷◌, suc, refl, sy
 use Rattle.std.specs.List.{list_any, AllByRecursion}
 use Rattle.pb_machine.specs.History.{is_off}
 use Rattle.pb_machine.specs.Views.{Share}
-use Rattle.pb_machine.proofs.Places.{all_append}
+use Rattle.pb_machine.proofs.Callers.{all_append}
 use Rattle.pb_task.specs.declared.parts.TaskParts.{TaskParts}
 use Rattle.pb_abstract.specs.Graph.{AbstractGraph}
 use Rattle.pb_yard.specs.declared.view.View.{View}

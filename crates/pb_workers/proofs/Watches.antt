@@ -1,8 +1,8 @@
 -- The incumbent of a yard, as a worker watches it while it works.
 use Rattle.std.proofs.Common.{◌≡◌, ℕ, true, Option, Some, None, refl, sym, arith, subst}
 use Rattle.pb_model.specs.Store.{AtMost}
-use Rattle.pb_model.proofs.Incumbents.{lesser_at_most}
-use Rattle.pb_machine.proofs.LeaseWork.{lease_work_stays}
+use Rattle.pb_model.proofs.Callers.{lesser_at_most}
+use Rattle.pb_machine.proofs.Callers.{lease_work_stays}
 use Rattle.pb_task.specs.Parts.{space_of}
 use Rattle.pb_lease.specs.LeaseValue.{LeaseValue, leased_store}
 use Rattle.pb_lease.specs.Leased.{guide_of}
@@ -11,7 +11,7 @@ use Rattle.pb_yard.specs.declared.view.View.{View}
 use Rattle.pb_yard.specs.Views.{view_read, view_told}
 use Rattle.pb_yard.specs.Rule.{was_read}
 use Rattle.pb_yard.specs.Returning.{IsFound}
-use Rattle.pb_yard.proofs.Reading.{more_read, reads_it}
+use Rattle.pb_yard.proofs.Callers.{more_read, reads_it}
 use Rattle.pb_workers.specs.Watching.{watch_view, KeepsLease}
 
 -- ---- a reading

@@ -6,8 +6,7 @@ use lib.ListN.{get_elem?}
 use Rattle.pb_machine.specs.declared.event.End.{End}
 use Rattle.pb_machine.specs.Counts.{Counts}
 use Rattle.pb_machine.specs.History.{StartsWith, is_off, end_in}
-use Rattle.pb_machine.proofs.Histories.{signing_off_is_told}
-use Rattle.pb_machine.proofs.EndsTold.{ends_are_told, ends_stand}
+use Rattle.pb_machine.proofs.Callers.{signing_off_is_told, ends_are_told, ends_stand}
 use Rattle.pb_abstract.specs.Graph.{AbstractGraph, blocks_of}
 use Rattle.pb_lease.specs.Tables.{blocks}
 use Rattle.pb_lease.specs.LeaseValue.{LeaseValue}

@@ -9,15 +9,14 @@ use Rattle.pb_model.specs.Guide.{Guide}
 use Rattle.pb_model.specs.Store.{MayBeCut}
 use Rattle.pb_model.specs.Key.{IsFirstRow}
 use Rattle.pb_model.specs.Work.{expand, row_after, row_after_status, g_of, store_after}
-use Rattle.pb_model.proofs.Successors.{IsStep, are_steps}
+use Rattle.pb_model.proofs.Callers.{IsStep, are_steps}
 use Rattle.pb_machine.specs.Machine.{IsWorked}
 use Rattle.pb_machine.specs.Turns.{AreLeaseTurns}
 use Rattle.pb_lists.specs.Bundle.{Content}
 use Rattle.pb_bundles.specs.Parts.{content_in, away_rows}
 use Rattle.pb_lease.specs.LeaseValue.{LeaseValue, leased_store}
 use Rattle.pb_lease.specs.Rows.{ChangesRows, SetsStatusAt, OffersAt, HasOffers, LeadsInto}
-use Rattle.pb_lease.proofs.Same.{changes_on}
-use Rattle.pb_lease.proofs.AfterWork.{store_is, status_rows, offers_more}
+use Rattle.pb_lease.proofs.Callers.{changes_on, store_is, status_rows, offers_more}
 
 -- a list of one successor has that one
 pub one_succ : (succs : List Succ) (succ : Succ) → length succs ≡ 1 → get_or succs 0 succ ≡ succ → succs ≡ succ ∷ []

@@ -4,7 +4,7 @@ use Rattle.pb_model.specs.declared.key.Key.{Key}
 use Rattle.pb_model.specs.Weight.{Weight}
 use Rattle.pb_model.specs.Key.{IsBest}
 use Rattle.pb_model.specs.Store.{Part, Rows, HasOpened}
-use Rattle.pb_model.proofs.Tests.{by_cases}
+use Rattle.pb_model.proofs.Callers.{by_cases}
 use Rattle.pb_task.specs.Parts.{greatest_cost}
 use Rattle.pb_machine.specs.Counts.{Counts}
 use Rattle.pb_machine.specs.Choice.{IsFirstChoice, counts_with_lease_home}
@@ -13,8 +13,7 @@ use Rattle.pb_lists.specs.Bundle.{Content, row_of}
 use Rattle.pb_bundles.specs.Parts.{content_in, rows_in}
 use Rattle.pb_bundles.specs.Homes.{key_at}
 use Rattle.pb_bundles.specs.Moves.{NotesKeys}
-use Rattle.pb_bundles.proofs.Lists.{past}
-use Rattle.pb_bundles.proofs.ByKey.{opened_is_by_key, first_choices_are_by_key}
+use Rattle.pb_bundles.proofs.Callers.{past, opened_is_by_key, first_choices_are_by_key}
 use Rattle.pb_lease.specs.Tables.{blocks}
 use Rattle.pb_lease.specs.LeaseValue.{LeaseValue, leased_store}
 use Rattle.pb_lease.specs.Leased.{grant_of}
@@ -22,7 +21,7 @@ use Rattle.pb_lease.specs.Leasing.{can_be_leased}
 use Rattle.pb_lease.specs.GraphValue.{GraphValue, setup_in, counts_in, IsOfGraph}
 use Rattle.pb_lease.specs.Choices.{IsChoiceWithHome}
 use Rattle.pb_lease.specs.Moments.{IsMomentAt}
-use Rattle.pb_lease.proofs.GraphBasics.{passes_from, passes_to}
+use Rattle.pb_lease.proofs.Callers.{passes_from, passes_to}
 
 opened_best : (weight : Weight) (part : Part) (key : Option Key) → IsBest weight part key → is_some key ≡ true → HasOpened part
 opened_best weight part None best there = absurd (true≢false (sym there))

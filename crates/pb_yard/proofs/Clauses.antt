@@ -5,7 +5,7 @@ use lib.Seq.{drop-append_seam}
 use mathlib.Core.Option.{some}
 use lib.ListN.{get_elem?}
 use Rattle.pb_turn.specs.Obligations.{LeaveKeeps, Stands}
-use Rattle.pb_turn.proofs.PassLists.{put_there}
+use Rattle.pb_turn.proofs.Callers.{put_there}
 use Rattle.pb_machine.specs.declared.event.End.{End}
 use Rattle.pb_machine.specs.declared.event.Event.{Event}
 use Rattle.pb_machine.specs.declared.event.Event.TheVariants.{Off}

@@ -2,20 +2,18 @@
 use Rattle.std.proofs.Common.{◌≡◌, ◌≢◌, ℕ, ◌<◌, true, false, List, map, Some, None, refl, sym, ap, ◌∙◌}
 use mathlib.Core.Option.{some}
 use lib.ListN.{get_elem?}
-use Rattle.pb_turn.proofs.PassLists.{map_at}
+use Rattle.pb_turn.proofs.Callers.{map_at}
 use Rattle.std.specs.List.{list_any}
 use Rattle.pb_machine.specs.declared.event.Grant.{Grant}
 use Rattle.pb_machine.specs.declared.settings.Settings.{Settings}
 use Rattle.pb_machine.specs.Counts.{Counts}
 use Rattle.pb_machine.specs.History.{is_off, events_of, AreFinished}
 use Rattle.pb_machine.specs.Views as of_machine
-use Rattle.pb_machine.proofs.Histories.{signed_off_is_finished, histories_are_lawful}
-use Rattle.pb_machine.proofs.EndsTold.{all_off_none_out}
-use Rattle.pb_machine.proofs.Holding.{last_views_tell_all, last_views_sign_off}
+use Rattle.pb_machine.proofs.Callers.{signed_off_is_finished, histories_are_lawful, all_off_none_out, last_views_tell_all, last_views_sign_off}
 use Rattle.pb_lease.specs.Tables.{blocks}
 use Rattle.pb_lease.specs.GraphValue.{GraphValue, counts_in}
 use Rattle.pb_lease.specs.Choices.{is_out_in}
-use Rattle.pb_lease.proofs.MomentsStay.{none_out_is_moment}
+use Rattle.pb_lease.proofs.Callers.{none_out_is_moment}
 use Rattle.pb_yard.specs.declared.view.View.{View}
 use Rattle.pb_yard.specs.Views.{spent_pass_view}
 use Rattle.pb_yard.specs.Rule.{rows_of, journal_view, IsYard}

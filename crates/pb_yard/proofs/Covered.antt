@@ -12,9 +12,9 @@ use Rattle.pb_model.specs.Space.{Space, steps}
 use Rattle.pb_model.specs.Guide.{Guide}
 use Rattle.pb_model.specs.Store.{Store, row_at, is_place_of, HasOpenedRow}
 use Rattle.pb_model.specs.Work.{Work, expand, break_off, cut, take_goal, lower, reopen, offered_row, row_after_offer, row_after_offers, with_status, row_after_status, g_of, store_after, May, Comes, expansions, broken_expansions}
-use Rattle.pb_model.proofs.Tests.{by_cases, and_true, not_both, equal, equal_self}
+use Rattle.pb_model.proofs.Callers.{by_cases, and_true, not_both, equal, equal_self}
 use Rattle.pb_machine.specs.Machine.{IsOn}
-use Rattle.pb_task.proofs.Degrees.{few_below}
+use Rattle.pb_task.proofs.Callers.{few_below}
 
 -- ---- lists of states
 

@@ -6,7 +6,7 @@ use Rattle.pb_model.specs.declared.row.Status.TheVariants.{Opened}
 use Rattle.pb_model.specs.declared.row.Row.{Row}
 use Rattle.pb_model.specs.Store.{Store, is_place_of, HasOpened}
 use Rattle.pb_model.specs.Work.{offered_row, Comes, expansions, broken_expansions}
-use Rattle.pb_model.proofs.Tests.{by_cases, and_true, equal}
+use Rattle.pb_model.proofs.Callers.{by_cases, and_true, equal}
 use Rattle.pb_machine.specs.declared.event.End.{End}
 use Rattle.pb_machine.specs.declared.event.End.TheVariants.{Quiet, Budget, Memory}
 use Rattle.pb_machine.specs.declared.event.Event.TheVariants.{Lease, Renew, Hot, Cold, Release, Off, Ended}
@@ -18,13 +18,7 @@ use Rattle.pb_machine.specs.History.{AreFinished}
 use Rattle.pb_machine.specs.Machine.{Setup, IsSetup, Machine, opening_machine, lent_store, CameBack, Happens, Move, event_move, tell_move, Moves, journal_of}
 use Rattle.pb_machine.specs.Lawful.{broken_leases, IsLawful}
 use Rattle.pb_yard.specs.Order.{IsTimely, settled_after, RunsSettled}
-use Rattle.pb_machine.proofs.TableLaws.{entry_here, entry_else, sum_with_entry, none_counted}
-use Rattle.pb_machine.proofs.CountsLaws.{passes, none_leased, within, some_is}
-use Rattle.pb_machine.proofs.Moments.{opening_is_lawful, moves_keep_lawful, runs_are_lawful}
-use Rattle.pb_machine.proofs.MomentLaws.{scopes_are_apart, journals_are_histories}
-use Rattle.pb_machine.proofs.Rooms.{journals_are_short}
-use Rattle.pb_machine.proofs.Reports.{broken_more}
-use Rattle.pb_machine.proofs.LeaseWork.{works_there}
+use Rattle.pb_machine.proofs.Callers.{entry_here, entry_else, sum_with_entry, none_counted, passes, none_leased, within, some_is, opening_is_lawful, moves_keep_lawful, runs_are_lawful, scopes_are_apart, journals_are_histories, journals_are_short, broken_more, works_there}
 use Rattle.pb_yard.specs.Length.{leases_out, most_leases, LeasesAreFew, RunsAreShort}
 use Rattle.pb_yard.proofs.InTime.{in_time_is_run}
 use Rattle.pb_yard.proofs.Covered.{has, Covers, at_most_once, nonzero, closings, works_covered, rows_stay, expansions_close}

@@ -2,9 +2,9 @@
 use Rattle.std.proofs.Common.{◌≡◌, ◌≢◌, ℕ, ◌==◌, true, false, List, ◌++◌, map, set, Option, Some, None, refl, sym, ap, ◌∙◌, subst}
 use mathlib.Core.Option.{some}
 use lib.ListN.{get_elem?}
-use Rattle.pb_turn.proofs.PassLists.{each_set, put_there, map_set}
+use Rattle.pb_turn.proofs.Callers.{each_set, put_there, map_set}
 use Rattle.pb_model.specs.Store.{Rows, AtMost}
-use Rattle.pb_model.proofs.Tests.{by_cases, equal, equal_self, equal_swap}
+use Rattle.pb_model.proofs.Callers.{by_cases, equal, equal_self, equal_swap}
 use Rattle.pb_task.specs.Parts.{greatest_cost}
 use Rattle.pb_machine.specs.declared.event.Event.{Event}
 use Rattle.pb_machine.specs.declared.event.Grant.{Grant}
@@ -15,15 +15,11 @@ use Rattle.pb_machine.specs.Counts.{Counts}
 use Rattle.pb_machine.specs.Views as of_machine
 use Rattle.pb_machine.specs.Views.{AreTrueOf, AreBy, view_after}
 use Rattle.pb_machine.specs.Machine.{Setup, IsSetup, Machine, opening_machine, journal_of}
-use Rattle.pb_machine.proofs.TableLaws.{entry_here, entry_else}
-use Rattle.pb_machine.proofs.Holding.{holding_keeps_views}
-use Rattle.pb_machine.proofs.LeaseTurns.{runs_go_on}
-use Rattle.pb_machine.proofs.MomentLaws.{known_stays}
-use Rattle.pb_machine.proofs.OwnMoves.{others_are_left}
+use Rattle.pb_machine.proofs.Callers.{entry_here, entry_else, holding_keeps_views, runs_go_on, known_stays, others_are_left}
 use Rattle.pb_lease.specs.LeaseValue.{LeaseValue}
 use Rattle.pb_lease.specs.GraphValue.{GraphValue, setup_in}
 use Rattle.pb_lease.specs.Moments.{moves_of, Follows}
-use Rattle.pb_lease.proofs.MomentsStay.{events_leave_others}
+use Rattle.pb_lease.proofs.Callers.{events_leave_others}
 use Rattle.pb_yard.specs.declared.view.View.{View}
 use Rattle.pb_yard.specs.Views.{view_then}
 use Rattle.pb_yard.specs.Order.{RunsSettled}

@@ -1,7 +1,7 @@
 -- Runs in order and in time: one after another, and of single events.
 use Rattle.std.proofs.Common.{◌≡◌, ℕ, Bool, true, false, cond, ◌&&◌, is_none, Option, None, Some, List, [], ◌∷◌, ◌++◌, refl, sym, ap, ◌∙◌, subst}
 use Rattle.pb_model.specs.Store.{Store, lesser, AtMost}
-use Rattle.pb_model.proofs.Incumbents.{at_most_self, at_most_trans, lesser_at_most}
+use Rattle.pb_model.proofs.Callers.{at_most_self, at_most_trans, lesser_at_most}
 use Rattle.pb_machine.specs.declared.event.End.{End}
 use Rattle.pb_machine.specs.declared.event.End.TheVariants.{Memory}
 use Rattle.pb_machine.specs.declared.event.Event.{Event}

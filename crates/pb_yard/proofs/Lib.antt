@@ -1,17 +1,18 @@
-pub mod Parts
-pub mod InTime
-pub mod Covered
-pub mod Few
-pub mod Causes
-pub mod Holding
-pub mod Meaning
-pub mod Steps
-pub mod Asks
-pub mod Clauses
-pub mod Reading
-pub mod Wording
-pub mod Passing
-pub mod Closing
-pub mod Told
+pub mod Callers
+mod Parts
+mod InTime
+mod Covered
+mod Few
+mod Causes
+mod Holding
+mod Meaning
+mod Steps
+mod Asks
+mod Clauses
+mod Reading
+mod Wording
+mod Passing
+mod Closing
+mod Told
 mod ByHand
 mod Worked

@@ -10,8 +10,7 @@ use Rattle.pb_machine.specs.declared.event.Event.{Event}
 use Rattle.pb_machine.specs.Counts.{Counts}
 use Rattle.pb_machine.specs.History.{IsHistory}
 use Rattle.pb_machine.specs.Machine.{opening_machine, Runs, lent_store}
-use Rattle.pb_machine.proofs.MomentLaws.{incumbents_are_plans, journals_are_histories, scopes_are_apart}
-use Rattle.pb_machine.proofs.WholeStore.{recorded_rows_are_lent}
+use Rattle.pb_machine.proofs.Callers.{incumbents_are_plans, journals_are_histories, scopes_are_apart, recorded_rows_are_lent}
 use Rattle.pb_bundles.specs.Homes.{home_rows}
 use Rattle.pb_lease.specs.Tables.{blocks}
 use Rattle.pb_lease.specs.LeaseValue.{LeaseValue, leased_store}

@@ -6,13 +6,13 @@ use mathlib.Core.Option.{some, some-injective}
 use lib.ListN.{get_elem?}
 use Rattle.atomic_table.proofs.Lists.{set_else, at_map}
 use Rattle.pb_model.specs.Store.{Rows, AtMost}
-use Rattle.pb_model.proofs.Tests.{by_cases, equal, equal_self, not_both}
+use Rattle.pb_model.proofs.Callers.{by_cases, equal, equal_self, not_both}
 use Rattle.pb_machine.specs.declared.event.Event.{Event}
 use Rattle.pb_machine.specs.declared.event.Grant.{Grant}
 use Rattle.pb_machine.specs.Settings.{weight_of}
 use Rattle.pb_machine.specs.Views.{AreTrueOf}
 use Rattle.pb_machine.specs.Machine.{Machine}
-use Rattle.pb_machine.proofs.OwnMoves.{recorded_where_leased}
+use Rattle.pb_machine.proofs.Callers.{recorded_where_leased}
 use Rattle.pb_bundles.specs.Homes.{home_rows}
 use Rattle.pb_abstract.specs.Graph.{AbstractGraph, blocks_of}
 use Rattle.pb_lease.specs.LeaseValue.{LeaseValue}

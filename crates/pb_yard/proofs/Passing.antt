@@ -5,19 +5,16 @@ use mathlib.Core.Option.{some, some-injective, some-ne-none}
 use lib.ListN.{get_elem?}
 use Rattle.atomic_table.proofs.Lists.{set_else, at_longer, at_map}
 use Rattle.pb_turn.specs.Obligations.{SplitKeeps, MeetKeeps}
-use Rattle.pb_turn.proofs.PassLists.{each_set, each_snoc, put_there, map_set, map_snoc}
-use Rattle.pb_model.proofs.Tests.{by_cases, equal, equal_self, not_both}
+use Rattle.pb_turn.proofs.Callers.{each_set, each_snoc, put_there, map_set, map_snoc}
+use Rattle.pb_model.proofs.Callers.{by_cases, equal, equal_self, not_both}
 use Rattle.pb_machine.specs.declared.event.Event.{Event}
 use Rattle.pb_machine.specs.declared.settings.Settings.{Settings}
 use Rattle.pb_machine.specs.Views as of_machine
 use Rattle.pb_machine.specs.Views.{AreTrueOf, first_view, spent_view, with_one_more, next_view, met_view}
 use Rattle.pb_machine.specs.Machine.{opening_machine}
-use Rattle.pb_machine.proofs.Holding.{first_views_are_true}
-use Rattle.pb_machine.proofs.Splitting.{splitting_keeps_views}
-use Rattle.pb_machine.proofs.Meeting.{meeting_keeps_views}
-use Rattle.pb_machine.proofs.MomentLaws.{known_stays}
+use Rattle.pb_machine.proofs.Callers.{first_views_are_true, splitting_keeps_views, meeting_keeps_views, known_stays}
 use Rattle.pb_lease.specs.GraphValue.{GraphValue, setup_in, IsLeaseGraph}
-use Rattle.pb_lease.proofs.GraphBasics.{setup_is}
+use Rattle.pb_lease.proofs.Callers.{setup_is}
 use Rattle.pb_yard.specs.declared.view.View.{View}
 use Rattle.pb_yard.specs.Views.{cost_of, opening_view, split_view, next_pass_view, met_pass_view, spent_pass_view}
 use Rattle.pb_yard.specs.Rule.{rows_of, grant_in, journal_view, was_read, IsViewOf, IsRecent, HasNoPass, IsYard}

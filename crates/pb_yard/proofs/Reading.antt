@@ -6,19 +6,17 @@ use mathlib.Core.Option.{some}
 use lib.ListN.{get_elem?}
 use Rattle.pb_turn.specs.Obligations.{LeaveKeeps, Stands}
 use Rattle.pb_model.specs.Store.{AtMost}
-use Rattle.pb_model.proofs.Incumbents.{at_most_trans}
-use Rattle.pb_model.proofs.Tests.{equal_self}
+use Rattle.pb_model.proofs.Callers.{at_most_trans, equal_self}
 use Rattle.pb_lease.specs.LeaseValue.{LeaseValue}
 use Rattle.pb_lease.specs.GraphValue.{GraphValue}
-use Rattle.pb_lease.proofs.MomentsStay.{bound_taken}
+use Rattle.pb_lease.proofs.Callers.{bound_taken, lesser_other, none_below}
 use Rattle.pb_task.specs.Parts.{space_of}
 use Rattle.pb_model.specs.Work.{Work}
 use Rattle.pb_machine.specs.declared.event.Event.{Event}
 use Rattle.pb_machine.specs.Turns.{AreLeaseTurns}
-use Rattle.pb_machine.proofs.LeaseWork.{lease_work_stays}
+use Rattle.pb_machine.proofs.Callers.{lease_work_stays}
 use Rattle.pb_lease.specs.LeaseValue.{leased_store}
 use Rattle.pb_lease.specs.Leased.{guide_of}
-use Rattle.pb_lease.proofs.Same.{lesser_other, none_below}
 use Rattle.pb_yard.specs.Returning.{IsBrought}
 use Rattle.pb_yard.specs.declared.view.View.{View}
 use Rattle.pb_yard.specs.Views.{cost_of, bounded, view_read, view_left}

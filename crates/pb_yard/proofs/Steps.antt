@@ -4,8 +4,7 @@ use Rattle.std.proofs.lemmas.Option.{none-some, same_Some}
 use mathlib.Core.Option.{some}
 use lib.ListN.{get_elem?}
 use Rattle.pb_model.specs.Store.{Rows, Store, HasGoalWithin, lesser, AtMost}
-use Rattle.pb_model.proofs.Incumbents.{at_most_self, at_most_trans, lesser_same}
-use Rattle.pb_model.proofs.Tests.{by_cases, equal, equal_self, equal_swap}
+use Rattle.pb_model.proofs.Callers.{at_most_self, at_most_trans, lesser_same, by_cases, equal, equal_self, equal_swap}
 use Rattle.pb_task.specs.declared.parts.TaskParts.{TaskParts}
 use Rattle.pb_task.specs.Parts.{space_of}
 use Rattle.pb_machine.specs.declared.event.End.{End}
@@ -17,8 +16,7 @@ use Rattle.pb_machine.specs.History.{is_event_of, events_of}
 use Rattle.pb_machine.specs.Views.{AreBy}
 use Rattle.pb_machine.specs.Machine.{Machine, IsWorked, KeepsRows}
 use Rattle.pb_machine.specs.Turns.{AreLeaseTurns, RunsInOrder}
-use Rattle.pb_machine.proofs.Known.{known_more}
-use Rattle.pb_machine.proofs.TableLaws.{entry_here, entry_else}
+use Rattle.pb_machine.proofs.Callers.{known_more, entry_here, entry_else}
 use Rattle.pb_abstract.specs.Graph.{AbstractGraph}
 use Rattle.pb_bundles.specs.Parts.{away_rows}
 use Rattle.pb_bundles.specs.Moves.{NotesKeys}
@@ -29,9 +27,7 @@ use Rattle.pb_lease.specs.Leased.{guide_of, grant_of, IsOutInTurns}
 use Rattle.pb_lease.specs.GraphValue.{GraphValue, setup_in, counts_in, IsOfGraph}
 use Rattle.pb_lease.specs.Moments.{IsMomentAt, Follows, moves_of, ShowsTold, IsKnownThen}
 use Rattle.pb_lease.specs.Steps.{IsLeased, LeasesNext, end_events, KeepsLeases, IsReleased, ReleasesNext, IsRenewed, RenewsNext, GoesOn}
-use Rattle.pb_lease.proofs.MomentReturns.{ending_leases}
-use Rattle.pb_lease.proofs.WorkedOut.{worked_leases_are_out}
-use Rattle.pb_lease.proofs.Same.{same_places}
+use Rattle.pb_lease.proofs.Callers.{ending_leases, worked_leases_are_out, same_places}
 use Rattle.pb_yard.specs.declared.view.View.{View}
 use Rattle.pb_yard.specs.Order.{HasCause, RunsSettled}
 use Rattle.pb_yard.specs.Rule.{rows_of, grant_in, was_read, IsLent, IsViewOf, IsYard}

@@ -3,14 +3,13 @@ use Rattle.std.proofs.Common.{◌≡◌, ℕ, ◌==◌, ◌||◌, Bool, true, fa
 use Rattle.std.specs.List.{list_any}
 use Rattle.std.proofs.lemmas.List.Folds.{list_any-append}
 use Rattle.std.proofs.Math.Bool.{or-true}
-use Rattle.pb_model.proofs.Incumbents.{at_most_self}
-use Rattle.pb_model.proofs.Tests.{by_cases, equal_self, or_false}
+use Rattle.pb_model.proofs.Callers.{at_most_self, by_cases, equal_self, or_false}
 use Rattle.pb_machine.specs.declared.event.End.{End}
 use Rattle.pb_machine.specs.declared.event.Event.{Event}
 use Rattle.pb_machine.specs.declared.event.Event.TheVariants.{Release, Off}
 use Rattle.pb_machine.specs.Counts.{Counts}
 use Rattle.pb_machine.specs.History.{is_event_of, events_of, is_off, end_in}
-use Rattle.pb_machine.proofs.EndsTold.{ends_are_told}
+use Rattle.pb_machine.proofs.Callers.{ends_are_told}
 use Rattle.pb_lease.specs.declared.answer.LeaseReply.{LeaseReply}
 use Rattle.pb_lease.specs.declared.answer.LeaseReply.TheVariants.{Leased, NotYet, Over, Memory}
 use Rattle.pb_lease.specs.declared.answer.Renewed.TheVariants.{Given}

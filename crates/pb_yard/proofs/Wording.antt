@@ -6,29 +6,23 @@ use mathlib.Core.Option.{some}
 use lib.ListN.{get_elem?}
 use Rattle.atomic_table.proofs.Lists.{set_again}
 use Rattle.pb_turn.specs.Obligations.{LoadKeeps, LowerKeeps, IsHeld, Stands, StandsAt}
-use Rattle.pb_turn.proofs.PassLists.{each_set, put_there, map_set}
+use Rattle.pb_turn.proofs.Callers.{each_set, put_there, map_set}
 use Rattle.pb_model.specs.Store.{lesser, AtMost, HasGoalWithin}
-use Rattle.pb_model.proofs.Incumbents.{at_most_self, at_most_trans, lesser_at_most}
-use Rattle.pb_model.proofs.Tests.{by_cases, equal, equal_self}
+use Rattle.pb_model.proofs.Callers.{at_most_self, at_most_trans, lesser_at_most, by_cases, equal, equal_self}
 use Rattle.pb_task.specs.Parts.{space_of, greatest_cost}
 use Rattle.pb_task.specs.declared.parts.TaskParts.{TaskParts}
 use Rattle.pb_machine.specs.Tables.{with_entry}
 use Rattle.pb_machine.specs.Views as of_machine
 use Rattle.pb_machine.specs.Views.{AreTrueOf}
 use Rattle.pb_machine.specs.Machine.{Machine, IsWorked, HasWorked, Tells, tell_move, opening_machine, journal_of, with_known, with_incumbent}
-use Rattle.pb_machine.proofs.Known.{known_new, known_more, lesser_one}
-use Rattle.pb_machine.proofs.TableLaws.{entry_here, entry_else}
-use Rattle.pb_machine.proofs.Moments.{moves_keep_lawful}
-use Rattle.pb_machine.proofs.MomentLaws.{known_stays}
-use Rattle.pb_machine.proofs.LeaseTurns.{runs_go_on}
-use Rattle.pb_machine.proofs.WholeStore.{others_keep_whole}
+use Rattle.pb_machine.proofs.Callers.{known_new, known_more, lesser_one, entry_here, entry_else, moves_keep_lawful, known_stays, runs_go_on, others_keep_whole}
 use Rattle.pb_bundles.specs.Homes.{home_rows}
 use Rattle.pb_abstract.specs.Graph.{AbstractGraph}
 use Rattle.pb_lease.specs.LeaseValue.{LeaseValue, leased_store}
 use Rattle.pb_lease.specs.Leased.{guide_of, grant_of, IsOut}
 use Rattle.pb_lease.specs.GraphValue.{GraphValue, setup_in}
 use Rattle.pb_lease.specs.Moments.{IsMomentAt}
-use Rattle.pb_lease.proofs.WorkedOut.{worked_leases_are_out}
+use Rattle.pb_lease.proofs.Callers.{worked_leases_are_out}
 use Rattle.pb_yard.specs.declared.view.View.{View}
 use Rattle.pb_yard.specs.Views.{cost_of, view_read, view_told}
 use Rattle.pb_yard.specs.Rule.{rows_of, journal_view, is_cost, was_read, IsLent, IsViewOf, IsRecent, IsYard}

@@ -11,7 +11,7 @@ use Rattle.pb_lease.specs.LeaseValue.{LeaseValue, leased_store, HasWeights, IsSa
 use Rattle.pb_lease.specs.Leased.{guide_of, grant_of, HasScope}
 use Rattle.pb_lease.specs.GraphValue.{GraphValue}
 use Rattle.pb_lease.specs.Rows.{ChangesRows, LeadsInto}
-use Rattle.pb_lease.proofs.Same.{same_changed}
+use Rattle.pb_lease.proofs.Callers.{same_changed}
 use Rattle.pb_yard.specs.declared.view.View.{View}
 use Rattle.pb_yard.specs.Rule.{was_read, IsAt, IsViewOf}
 use Rattle.pb_yard.specs.Returning.{IsBrought}

@@ -1,3 +1,9 @@
+pub use Rattle.pb_abstract.specs.Graph
+pub use Rattle.pb_lease.specs.GraphValue
+pub use Rattle.pb_lease.specs.LeaseValue
+pub use Rattle.pb_machine.specs.History
+pub use Rattle.pb_machine.specs.Tables
+pub use Rattle.pb_model.specs.Store
 pub mod Views
 pub mod Order
 pub mod Rule

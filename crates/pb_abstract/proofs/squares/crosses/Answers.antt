@@ -1,5 +1,5 @@
 use Rattle.std.proofs.Common.{sym, ap, ◌∙◌, arith}
-use Rattle.pb_machine.proofs.TableLaws.{any_at}
+use Rattle.pb_machine.proofs.Callers.{any_at}
 use Rattle.pb_abstract.specs.Borders.{are_joined, border_cell}
 use Rattle.pb_abstract.proofs.Members.{any_one_more}
 use Rattle.pb_abstract.proofs.squares.crosses.Goals as goal

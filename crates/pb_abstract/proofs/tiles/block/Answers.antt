@@ -1,6 +1,6 @@
 use Rattle.std.proofs.Common.{◌≤◌, ℕ, List, IsTrue, subst, sym, ap, ◌∙◌, arith}
 use Rattle.pb_task.specs.Tiles.{cell_count, board_of, is_board}
-use Rattle.pb_task.proofs.Boards.{listed, board_in}
+use Rattle.pb_task.proofs.Callers.{listed, board_in}
 use Rattle.pb_abstract.specs.Placings.{IsPlacing, placing_number}
 use Rattle.pb_abstract.proofs.BoardCells.{is_placing_of, placing_read, word_is}
 use Rattle.pb_abstract.proofs.Ranks.{four_cells}

@@ -1,6 +1,6 @@
 use Rattle.std.proofs.Common.{ℕ, ◌/◌, ◌%◌, List, length-set, sym, ap, ◌∙◌, arith}
 use Rattle.pb_task.specs.Tiles.{board_of}
-use Rattle.pb_task.proofs.Boards.{Listed, listed, number_at, next_digit}
+use Rattle.pb_task.proofs.Callers.{Listed, listed, number_at, next_digit}
 use Rattle.pb_abstract.proofs.BoardCells.{one_more_cell, cells_known}
 use Rattle.pb_abstract.proofs.tiles.cells_of.Goals as goal
 

@@ -1,5 +1,5 @@
 use Rattle.std.proofs.Common.{sym, subst}
-use Rattle.pb_strips.proofs.Telling.{names_tell_actions}
+use Rattle.pb_strips.proofs.Callers.{names_tell_actions}
 use Rattle.pb_answer.specs.Named.{NamesTell}
 use Rattle.pb_answer.proofs.input.strips_of.Goals as goal
 

@@ -3,7 +3,7 @@ use Rattle.pb_command.specs.Causes.{solve_meant}
 use Rattle.pb_answer.specs.Searches.{settings_of}
 use Rattle.pb_answer.specs.Claims.{journal_outputs}
 use Rattle.pb_answer.specs.Answer.{certificates_of, journals_of}
-use Rattle.pb_made.proofs.QuietEnds as searched
+use Rattle.pb_made.proofs.Callers as searched
 use Rattle.pb_answer.proofs.Certified.{with_journal}
 use Rattle.pb_answer.proofs.solve.report_none.Goals as goal
 

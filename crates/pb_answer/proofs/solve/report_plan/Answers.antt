@@ -2,8 +2,8 @@ use Rattle.std.proofs.Common.{◌<◌, ℕ, Some, refl, subst}
 use Rattle.std.proofs.lemmas.List.Elements.{All-from_recursion}
 use Rattle.pb_model.specs.Plan.{IsBound}
 use Rattle.pb_task.specs.Parts.{space_of, greatest_cost}
-use Rattle.pb_task.proofs.Grids.{tasks_are_proper}
-use Rattle.pb_made.proofs.QuietEnds.{walk_actions, can_be_traced, traced_plan}
+use Rattle.pb_task.proofs.Callers.{tasks_are_proper}
+use Rattle.pb_made.proofs.Callers.{walk_actions, can_be_traced, traced_plan}
 use Rattle.pb_command.specs.Causes.{solve_meant}
 use Rattle.pb_answer.specs.Searches.{settings_of, weight_asked}
 use Rattle.pb_answer.specs.Claims.{journal_outputs}

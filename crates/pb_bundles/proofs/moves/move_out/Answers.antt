@@ -1,6 +1,6 @@
 use Rattle.std.proofs.Common.{◌≡◌, ◌+◌, ◌++◌, ◌∷◌, [], None, cond, slice_set, is_some, take, get_or, ap, sym, ◌∙◌, add-one, arith}
 use Rattle.std.proofs.Math.Seq.{take-suc}
-use Rattle.pb_model.proofs.Tests.{some_found}
+use Rattle.pb_model.proofs.Callers.{some_found}
 use Rattle.pb_bundles.specs.Parts.{content_in}
 use Rattle.pb_bundles.specs.Moves.{vacated, moved}
 use Rattle.pb_bundles.proofs.Lists.{not_before, among_at}

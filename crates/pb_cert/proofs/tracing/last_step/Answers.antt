@@ -1,6 +1,6 @@
 use Rattle.std.proofs.Common.{sym, ◌∙◌}
 use Rattle.pb_task.specs.Parts.{space_of}
-use Rattle.pb_task.proofs.Grids.{tasks_are_proper}
+use Rattle.pb_task.proofs.Callers.{tasks_are_proper}
 use Rattle.pb_cert.proofs.Back.{is_state, some_parent, parent_is_state, steps, last_step}
 use Rattle.pb_cert.proofs.tracing.last_step.Goals as goal
 

@@ -1,6 +1,6 @@
 use Rattle.std.proofs.Common.{arith}
 use Rattle.pb_task.specs.Parts.{space_of, greatest_cost}
-use Rattle.pb_task.proofs.Grids.{tasks_are_proper}
+use Rattle.pb_task.proofs.Callers.{tasks_are_proper}
 use Rattle.pb_check.proofs.Walks.{step_state, step_small, no_step}
 use Rattle.pb_check.proofs.judging.step.Goals as goal
 

@@ -1,6 +1,6 @@
 use Rattle.std.proofs.Common.{sym, arith, ap}
 use Rattle.pb_task.specs.Parts.{space_of}
-use Rattle.pb_task.proofs.Grids.{tasks_are_proper}
+use Rattle.pb_task.proofs.Callers.{tasks_are_proper}
 use Rattle.pb_check.specs.Judging.{walk}
 use Rattle.pb_check.proofs.Walks.{walk_on, walk_fails, walk_done}
 use Rattle.pb_check.proofs.judging.walk.Goals as goal

@@ -1,7 +1,6 @@
 use Rattle.std.proofs.Common.{refl, ap, ◌/◌, ◌%◌, ◌∙◌, arith}
 use Rattle.pb_task.specs.Tiles.{cell_count}
-use Rattle.pb_task.proofs.Boards.{next_digit}
-use Rattle.pb_task.proofs.Sliding.{few_cells}
+use Rattle.pb_task.proofs.Callers.{next_digit, few_cells}
 use Rattle.pb_packed.specs.Bits.{bits_of}
 use Rattle.pb_estimate.proofs.Homes.{one_more}
 use Rattle.pb_estimate.proofs.tiles.distance.Goals as goal

@@ -2,7 +2,7 @@ use Rattle.std.proofs.Common.{sym, ◌∙◌, subst}
 use Rattle.pb_model.specs.declared.row.Status.TheVariants.{Cut}
 use Rattle.pb_lease.specs.LeaseValue.{with_bundle}
 use Rattle.pb_lease.specs.Rows.{SetsStatusAt}
-use Rattle.pb_lease.proofs.Changed.{changes, own_is, status_set, fewer_opened}
+use Rattle.pb_lease.proofs.Callers.{changes, own_is, status_set, fewer_opened}
 use Rattle.pb_expand.proofs.bundles.cut.Goals as goal
 
 pub returns-clause-rows : goal.returns-clause-rows

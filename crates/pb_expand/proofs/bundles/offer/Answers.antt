@@ -1,7 +1,7 @@
 use Rattle.std.proofs.Common.{ap, Some}
 use Rattle.pb_estimate.specs.Estimates.{estimate_of}
 use Rattle.pb_lists.specs.Bundle.{Content}
-use Rattle.pb_lease.proofs.Changed.{changes, known_offered, new_offered, unchanged, on_err, on_ok, if_ok, if_err}
+use Rattle.pb_lease.proofs.Callers.{changes, known_offered, new_offered, unchanged, on_err, on_ok, if_ok, if_err}
 use Rattle.pb_expand.proofs.bundles.offer.Goals as goal
 
 pub returns-in_err-offer_at-in-Some-clause-changes : goal.returns-in_err-offer_at-in-Some-clause-changes

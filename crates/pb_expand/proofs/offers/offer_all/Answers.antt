@@ -6,8 +6,7 @@ use Rattle.pb_bundles.specs.Parts.{content_in}
 use Rattle.pb_lease.specs.Leased.{guide_of}
 use Rattle.pb_lease.specs.Rows.{OffersAt}
 use Rattle.pb_expand.proofs.Listed.{step_at}
-use Rattle.pb_lease.proofs.Same.{still_there, changes_on}
-use Rattle.pb_lease.proofs.AfterWork.{offers_next}
+use Rattle.pb_lease.proofs.Callers.{still_there, changes_on, offers_next}
 use Rattle.pb_expand.proofs.offers.offer_all.Goals as goal
 
 pub overflow_add-cost : goal.overflow_add-cost

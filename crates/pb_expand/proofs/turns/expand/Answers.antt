@@ -7,7 +7,7 @@ use Rattle.pb_lease.specs.LeaseValue.{LeaseValue, HasWeights}
 use Rattle.pb_lease.specs.Leased.{guide_of}
 use Rattle.pb_expand.specs.Turned.{own_rows}
 use Rattle.pb_lease.specs.Rows.{SetsStatusAt}
-use Rattle.pb_lease.proofs.Changed.{on_err, has_opened}
+use Rattle.pb_lease.proofs.Callers.{on_err, has_opened}
 use Rattle.pb_expand.proofs.Known.{leads_into, row_is_home, row_is_state, row_is_cheap}
 use Rattle.pb_expand.proofs.Turned.{offers_keep_opened, broken_keeps_opened, expand_turned, break_turned}
 use Rattle.pb_expand.proofs.turns.expand.Goals as goal

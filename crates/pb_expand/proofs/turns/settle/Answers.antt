@@ -3,7 +3,7 @@ use Rattle.pb_task.specs.Parts.{space_of}
 use Rattle.pb_bundles.specs.Parts.{content_in}
 use Rattle.pb_lease.specs.LeaseValue.{leased_store}
 use Rattle.pb_lease.specs.Leased.{guide_of}
-use Rattle.pb_lease.proofs.Same.{same_none, same_on, still_there}
+use Rattle.pb_lease.proofs.Callers.{same_none, same_on, still_there}
 use Rattle.pb_expand.proofs.Known.{at_work_on, turned_then}
 use Rattle.pb_expand.proofs.Turned.{turned_none}
 use Rattle.pb_expand.proofs.turns.settle.Goals as goal

@@ -1,5 +1,5 @@
 use Rattle.std.proofs.Common.{refl, sym, ◌∙◌}
-use Rattle.pb_model.proofs.Tests.{not_both}
+use Rattle.pb_model.proofs.Callers.{not_both}
 use Rattle.pb_task.specs.Parts.{space_of}
 use Rattle.pb_lease.specs.LeaseValue.{leased_store}
 use Rattle.pb_lease.specs.Leased.{guide_of}

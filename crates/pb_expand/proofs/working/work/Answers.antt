@@ -3,7 +3,7 @@ use Rattle.pb_task.specs.Parts.{space_of}
 use Rattle.pb_lease.specs.LeaseValue.{leased_store}
 use Rattle.pb_lease.specs.Leased.{guide_of}
 use Rattle.pb_expand.specs.Turned.{HasTurned, reads_none}
-use Rattle.pb_lease.proofs.Same.{same_none}
+use Rattle.pb_lease.proofs.Callers.{same_none}
 use Rattle.pb_expand.proofs.Known.{own_there}
 use Rattle.pb_expand.proofs.Turned.{turned_none}
 use Rattle.pb_expand.proofs.Far.{IsFar, farther, whole_turned, whole_scope, whole_out}

@@ -1,7 +1,7 @@
 use Rattle.std.proofs.Common.{◌≡◌, ◌-◌, ◌+◌, suc, false, nat_eq, length, sym, ap, ◌∙◌, arith}
 use Rattle.std.proofs.lemmas.Bool.Decides.{nat_tests}
 use Rattle.pb_lifted.specs.Tree.{comes_to}
-use Rattle.pb_lifted.proofs.WaysUp.{stays, goes_up}
+use Rattle.pb_lifted.proofs.Callers.{stays, goes_up}
 use Rattle.pb_ground.proofs.fitting.is_below.Goals as goal
 
 pub returns-then-next-now : goal.returns-then-next-now

@@ -1,7 +1,7 @@
 use Rattle.std.proofs.Common.{sym, ◌∙◌, length, get_or, None, ℕ, Option}
 use Rattle.pb_machine.specs.declared.event.Grant.{Grant}
 use Rattle.pb_machine.specs.Counts.{is_lease_of}
-use Rattle.pb_machine.proofs.TableLaws.{any_at}
+use Rattle.pb_machine.proofs.Callers.{any_at}
 use Rattle.pb_abstract.specs.Graph.{blocks_of, has}
 use Rattle.pb_journal.proofs.Looking.{busy_is}
 use Rattle.pb_journal.proofs.replay.is_busy.Goals as goal

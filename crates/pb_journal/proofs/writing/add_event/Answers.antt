@@ -2,8 +2,7 @@ use Rattle.std.proofs.Common.{ℕ, List, ◌++◌}
 use Rattle.pb_model.specs.Texts.{line}
 use Rattle.pb_journal.specs.Texts.{event_line}
 use Rattle.pb_outside.specs.Saves.{IsWritten}
-use Rattle.pb_outside.proofs.Saves.{added_written, added_begun}
-use Rattle.pb_outside.proofs.Told.{told_as}
+use Rattle.pb_outside.proofs.Callers.{added_written, added_begun, told_as}
 use Rattle.pb_journal.proofs.Files.{line_full}
 use Rattle.pb_journal.proofs.writing.add_event.Goals as goal
 

@@ -2,8 +2,7 @@ use Rattle.std.proofs.Common.{ℕ, List, sym, subst}
 use Rattle.pb_outside.specs.Outside.{AppendsPartTo}
 use Rattle.pb_outside.specs.Calls.{HasBytes}
 use Rattle.pb_outside.specs.Saves.{IsWritten, HoldsPart, HaveBegun}
-use Rattle.pb_outside.proofs.Saves.{part_appended, begun_calls, failed_calls}
-use Rattle.pb_outside.proofs.Told.{on_err, told_as}
+use Rattle.pb_outside.proofs.Callers.{part_appended, begun_calls, failed_calls, on_err, told_as}
 use Rattle.pb_journal.proofs.writing.append_piece.Goals as goal
 
 pub returns-in_err-append-clause-err : goal.returns-in_err-append-clause-err

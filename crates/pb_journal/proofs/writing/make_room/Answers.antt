@@ -2,7 +2,7 @@ use Rattle.std.proofs.Common.{ℕ, List, sym, subst}
 use Rattle.pb_outside.specs.Outside.{IfTold}
 use Rattle.pb_outside.specs.Calls.{Call}
 use Rattle.pb_outside.specs.Saves.{IsWritten, HaveBegun}
-use Rattle.pb_outside.proofs.Told.{on_ok_both}
+use Rattle.pb_outside.proofs.Callers.{on_ok_both}
 use Rattle.pb_journal.proofs.writing.make_room.Goals as goal
 
 pub returns-clause-ok : goal.returns-clause-ok

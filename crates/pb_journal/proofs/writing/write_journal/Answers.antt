@@ -4,9 +4,8 @@ use Rattle.pb_machine.specs.declared.event.Event.TheVariants.{Lease}
 use Rattle.pb_outside.specs.Outside.{KeepsOthers}
 use Rattle.pb_journal.specs.Texts.{event_line, journal_text}
 use Rattle.pb_outside.specs.Saves.{IsPartSaved, HoldsPart, IsWritten, HaveBegun}
-use Rattle.pb_outside.proofs.Saves.{all_written, all_called, told_now}
+use Rattle.pb_outside.proofs.Callers.{all_written, all_called, told_now, told_then, others_then, on_err}
 use Rattle.std.proofs.lemmas.Result.{on_ok_weaker, on_err_weaker}
-use Rattle.pb_outside.proofs.Told.{told_then, others_then, on_err}
 use Rattle.pb_journal.proofs.Files.{text_before, one_event, part_of_text, failed_of_text, text_within, whole_text}
 use Rattle.pb_journal.proofs.writing.write_journal.Goals as goal
 

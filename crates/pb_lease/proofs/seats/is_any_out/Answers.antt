@@ -1,5 +1,5 @@
 use Rattle.std.proofs.Common.{sym, is_some, length}
-use Rattle.pb_machine.proofs.TableLaws.{any_at}
+use Rattle.pb_machine.proofs.Callers.{any_at}
 use Rattle.pb_lease.specs.Tables.{seat_of}
 use Rattle.pb_lease.proofs.seats.is_any_out.Goals as goal
 

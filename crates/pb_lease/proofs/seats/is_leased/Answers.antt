@@ -1,7 +1,7 @@
 use Rattle.std.proofs.Common.{◌≡◌, ◌==◌, ◌∙◌, sym, ap, length, subst, refl}
-use Rattle.pb_model.proofs.Tests.{equal_self}
+use Rattle.pb_model.proofs.Callers.{equal_self}
 use Rattle.pb_machine.specs.Counts.{is_lease_of}
-use Rattle.pb_machine.proofs.TableLaws.{any_at}
+use Rattle.pb_machine.proofs.Callers.{any_at}
 use Rattle.pb_lease.specs.Tables.{seat_of}
 use Rattle.pb_lease.proofs.seats.is_leased.Goals as goal
 

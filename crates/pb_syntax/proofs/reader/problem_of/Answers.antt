@@ -1,8 +1,7 @@
 use Rattle.std.proofs.Common.{sym, ap, ◌∙◌}
 use Rattle.std.proofs.lemmas.Result.{err_from_is_err_and}
 use Rattle.pb_pddl.specs.Reading.{limited, problem_at}
-use Rattle.pb_pddl_laws.proofs.Limits.{problem_limit}
-use Rattle.pb_pddl_laws.proofs.TokensOf.{same_tokens}
+use Rattle.pb_pddl_laws.proofs.Callers.{problem_limit, same_tokens}
 use Rattle.pb_syntax.proofs.reader.problem_of.Goals as goal
 
 pub returns-in_err-found-clause-is : goal.returns-in_err-found-clause-is

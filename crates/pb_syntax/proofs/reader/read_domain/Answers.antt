@@ -5,11 +5,7 @@ use Rattle.pb_pddl.specs.Trees.{SpellsDomain}
 use Rattle.pb_pddl.specs.Words.{DomainHasWords}
 use Rattle.pb_pddl.specs.Grammar.{IsDomain}
 use Rattle.pb_pddl_laws.specs.Table.{domain_form}
-use Rattle.pb_pddl_laws.proofs.FormsRead.{domain_is, domain_again}
-use Rattle.pb_pddl_laws.proofs.Faults.{domain_fault, domain_told, told_domain}
-use Rattle.pb_pddl_laws.proofs.TokensOf.{texts_have_tokens}
-use Rattle.pb_pddl_laws.proofs.NamesAreWords.{domain_has_words}
-use Rattle.pb_pddl_laws.proofs.Whole.{found, only, none, first, told, fault}
+use Rattle.pb_pddl_laws.proofs.Callers.{domain_is, domain_again, domain_fault, domain_told, told_domain, texts_have_tokens, domain_has_words, found, only, none, first, told, fault}
 use Rattle.pb_syntax.proofs.reader.read_domain.Goals as goal
 
 pub returns-clause-found : goal.returns-clause-found

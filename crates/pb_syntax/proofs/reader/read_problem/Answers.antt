@@ -5,11 +5,7 @@ use Rattle.pb_pddl.specs.Trees.{SpellsProblem}
 use Rattle.pb_pddl.specs.Words.{ProblemHasWords}
 use Rattle.pb_pddl.specs.Grammar.{IsProblem}
 use Rattle.pb_pddl_laws.specs.Table.{problem_form}
-use Rattle.pb_pddl_laws.proofs.FormsRead.{problem_is, problem_again}
-use Rattle.pb_pddl_laws.proofs.Faults.{problem_fault, problem_told, told_problem}
-use Rattle.pb_pddl_laws.proofs.TokensOf.{texts_have_tokens}
-use Rattle.pb_pddl_laws.proofs.NamesAreWords.{problem_has_words}
-use Rattle.pb_pddl_laws.proofs.Whole.{found, only, none, first, told, fault}
+use Rattle.pb_pddl_laws.proofs.Callers.{problem_is, problem_again, problem_fault, problem_told, told_problem, texts_have_tokens, problem_has_words, found, only, none, first, told, fault}
 use Rattle.pb_syntax.proofs.reader.read_problem.Goals as goal
 
 pub returns-clause-found : goal.returns-clause-found

@@ -2,7 +2,7 @@ use Rattle.std.proofs.Common.{ℕ, IsTrue, IsSome, [], ◌∷◌, refl, ap, ◌�
 use Rattle.std.specs.List.{IsDistinct}
 use Rattle.pb_bundles.specs.Homes.{HomeTable, content_at}
 use Rattle.pb_bundles.specs.Moves.{is_among}
-use Rattle.pb_bundles.proofs.ByRows.{among_found, taken_places_are_vacant}
+use Rattle.pb_bundles.proofs.Callers.{among_found, taken_places_are_vacant}
 use Rattle.pb_test_blocks.proofs.bundles.bundles_leave_home_and_come_back.Goals as goal
 
 pub take_out-parts-requires-clause-distinct : goal.take_out-parts-requires-clause-distinct

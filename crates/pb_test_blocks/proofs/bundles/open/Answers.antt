@@ -1,4 +1,4 @@
-use Rattle.pb_bundles.proofs.ByRows.{changes_are_apart}
+use Rattle.pb_bundles.proofs.Callers.{changes_are_apart}
 use Rattle.pb_test_blocks.proofs.bundles.open.Goals as goal
 
 pub returns : goal.returns

@@ -1,6 +1,6 @@
 use Rattle.std.proofs.Common.{◌<◌, ◌==◌, false, refl, ap, ◌∙◌, arith, subst}
 use Rattle.pb_machine.specs.declared.settings.Settings.{Settings}
-use Rattle.pb_lease.proofs.Holders.{leased_else, released_else, ended_else}
+use Rattle.pb_lease.proofs.Callers.{leased_else, released_else, ended_else}
 use Rattle.pb_test_search.proofs.graphs.is_told_to_wait.Goals as goal
 
 pub lease-requires-clause-worker : goal.lease-requires-clause-worker

@@ -2,7 +2,7 @@ use Rattle.std.proofs.Common.{None, refl, ap, arith}
 use Rattle.pb_machine.specs.Counts.{Counts}
 use Rattle.pb_machine.specs.Machine.{opening_machine}
 use Rattle.pb_lease.specs.GraphValue.{setup_in}
-use Rattle.pb_lease.proofs.GraphBasics.{setup_is}
+use Rattle.pb_lease.proofs.Callers.{setup_is}
 use Rattle.pb_test_search.proofs.graphs.lease_first.Goals as goal
 
 pub lease-requires-clause-worker : goal.lease-requires-clause-worker

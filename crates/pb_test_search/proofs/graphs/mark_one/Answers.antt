@@ -1,9 +1,9 @@
 use Rattle.std.proofs.Common.{◌<◌, is_some, refl, sym, ap, ◌∙◌, subst, [], ◌∷◌, arith}
-use Rattle.pb_model.proofs.Tests.{by_cases}
+use Rattle.pb_model.proofs.Callers.{by_cases}
 use Rattle.pb_machine.specs.declared.event.Event.TheVariants.{Hot, Cold}
 use Rattle.pb_abstract.specs.Graph.{AbstractGraph, blocks_of}
 use Rattle.pb_lease.specs.GraphValue.{GraphValue, counts_in, IsOfGraph}
-use Rattle.pb_lease.proofs.Holders.{stays_of_graph}
+use Rattle.pb_lease.proofs.Callers.{stays_of_graph}
 use Rattle.pb_test_search.proofs.graphs.mark_one.Goals as goal
 
 pub mark_hot-requires-clause-leased : goal.mark_hot-requires-clause-leased

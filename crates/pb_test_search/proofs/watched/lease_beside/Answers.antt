@@ -2,7 +2,7 @@ use Rattle.std.proofs.Common.{subst}
 use Rattle.pb_lease.specs.declared.answer.LeaseReply.{LeaseReply}
 use Rattle.pb_yard.specs.Passes.{view_of, worker_of}
 use Rattle.pb_yard.specs.Calls.{Leases}
-use Rattle.pb_workers.proofs.Sharing.{leased_then}
+use Rattle.pb_workers.proofs.Callers.{leased_then}
 use Rattle.pb_test_search.proofs.watched.lease_beside.Goals as goal
 
 pub work_beside-requires-clause-leased : goal.work_beside-requires-clause-leased

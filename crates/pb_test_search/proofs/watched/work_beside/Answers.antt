@@ -2,9 +2,9 @@ use Rattle.std.proofs.Common.{true, false, sym, ap, subst}
 use Rattle.pb_yard.specs.declared.view.View.{View}
 use Rattle.pb_yard.specs.Passes.{view_of}
 use Rattle.pb_yard.specs.Calls.{IsReady}
-use Rattle.pb_yard.proofs.Told.{released_ready}
+use Rattle.pb_yard.proofs.Callers.{released_ready}
 use Rattle.pb_workers.specs.declared.yard_watch.YardWatch.{YardWatch}
-use Rattle.pb_workers.proofs.Sharing.{at_work, watched, brought, work_active}
+use Rattle.pb_workers.proofs.Callers.{at_work, watched, brought, work_active}
 use Rattle.pb_test_search.proofs.watched.work_beside.Goals as goal
 use Rattle.pb_test_search.proofs.watched.work_beside.Goals.{in-Spent, in-Empty, in-Memory}
 

@@ -2,7 +2,7 @@ use Rattle.std.proofs.Common.{subst}
 use Rattle.pb_lease.specs.declared.answer.LeaseReply.{LeaseReply}
 use Rattle.pb_yard.specs.Passes.{view_of, worker_of}
 use Rattle.pb_yard.specs.Calls.{Leases}
-use Rattle.pb_yard.proofs.Told.{may_bring, leased_active, released_ready}
+use Rattle.pb_yard.proofs.Callers.{may_bring, leased_active, released_ready}
 use Rattle.pb_test_search.proofs.workers.is_told_to_wait.Goals as goal
 
 pub release-requires-clause-brought : goal.release-requires-clause-brought

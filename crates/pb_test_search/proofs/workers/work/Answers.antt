@@ -2,7 +2,7 @@ use Rattle.std.proofs.Common.{is_some, ap, ◌∙◌, subst}
 use Rattle.pb_lease.specs.declared.answer.LeaseReply.{LeaseReply}
 use Rattle.pb_yard.specs.Passes.{view_of, worker_of}
 use Rattle.pb_yard.specs.Calls.{Leases}
-use Rattle.pb_yard.proofs.Told.{may_bring, leased_active, leased_keeps, released_ready, released_keeps, keeps_on, ends_are_seen, signing_off_is_seen}
+use Rattle.pb_yard.proofs.Callers.{may_bring, leased_active, leased_keeps, released_ready, released_keeps, keeps_on, ends_are_seen, signing_off_is_seen}
 use Rattle.pb_test_search.proofs.workers.work.Goals as goal
 
 pub release-requires-clause-brought : goal.release-requires-clause-brought

@@ -1,7 +1,7 @@
 use Rattle.std.proofs.Common.{sym, ap, ◌∙◌}
 use Rattle.pb_lists.specs.Bundle.{Content, row_of}
 use Rattle.pb_task.specs.Parts.{space_of, greatest_cost}
-use Rattle.pb_task.proofs.Grids.{tasks_are_proper}
+use Rattle.pb_task.proofs.Callers.{tasks_are_proper}
 use Rattle.pb_test_shown.proofs.TwoRows.{one_part_is_sound}
 use Rattle.pb_test_shown.proofs.saved.plan_of_step.Goals as goal
 

@@ -1,6 +1,6 @@
 use Rattle.std.proofs.Common.{refl, sym, ap, ◌∙◌, subst, inr}
 use Rattle.pb_lease.specs.GraphValue.{GraphValue, counts_in}
-use Rattle.pb_yard.proofs.Told.{ended_end}
+use Rattle.pb_yard.proofs.Callers.{ended_end}
 use Rattle.pb_workers.specs.Runs.{RunsOn}
 use Rattle.pb_workers.proofs.Going.{same_then}
 use Rattle.pb_workers.proofs.Serving.{serves_then}

@@ -2,7 +2,7 @@ use Rattle.std.proofs.Common.{subst}
 use Rattle.pb_model.specs.declared.row.Status.TheVariants.{Closed}
 use Rattle.pb_lease.specs.LeaseValue.{with_bundle}
 use Rattle.pb_lease.specs.Rows.{SetsStatusAt}
-use Rattle.pb_lease.proofs.Changed.{changes, status_set}
+use Rattle.pb_lease.proofs.Callers.{changes, status_set}
 use Rattle.pb_yard.proofs.by_hand.close.Goals as goal
 
 pub returns-clause-rows : goal.returns-clause-rows

@@ -5,7 +5,7 @@ use Rattle.pb_estimate.specs.Estimates.{estimate_of}
 use Rattle.pb_lease.specs.LeaseValue.{LeaseValue}
 use Rattle.pb_lease.specs.Leased.{guide_of}
 use Rattle.pb_lease.specs.Rows.{OffersAt}
-use Rattle.pb_lease.proofs.Same.{still_there}
+use Rattle.pb_lease.proofs.Callers.{still_there}
 use Rattle.pb_yard.proofs.ByHand.{only_leads, worked_by_hand, changes_by_hand}
 use Rattle.pb_yard.proofs.by_hand.expand_first.Goals as goal
 

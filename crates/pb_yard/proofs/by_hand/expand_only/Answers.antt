@@ -1,7 +1,7 @@
 use Rattle.std.proofs.Common.{IsSome, sym, ap, subst}
 use Rattle.pb_bundles.specs.Parts.{content_in}
 use Rattle.pb_lease.specs.LeaseValue.{LeaseValue}
-use Rattle.pb_lease.proofs.Same.{still_there}
+use Rattle.pb_lease.proofs.Callers.{still_there}
 use Rattle.pb_yard.proofs.by_hand.expand_only.Goals as goal
 
 pub see_that_none_is_left-requires : goal.see_that_none_is_left-requires

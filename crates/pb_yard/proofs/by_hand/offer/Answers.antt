@@ -3,7 +3,7 @@ use Rattle.pb_model.specs.declared.row.Estimate.{Estimate}
 use Rattle.pb_lists.specs.Bundle.{Content}
 use Rattle.pb_lease.specs.LeaseValue.{with_bundle}
 use Rattle.pb_lease.specs.Rows.{OffersAt}
-use Rattle.pb_lease.proofs.Changed.{changes, offered}
+use Rattle.pb_lease.proofs.Callers.{changes, offered}
 use Rattle.pb_yard.proofs.ByHand.{when_ok}
 use Rattle.pb_yard.proofs.by_hand.offer.Goals as goal
 

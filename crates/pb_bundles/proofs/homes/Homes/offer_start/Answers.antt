@@ -2,7 +2,7 @@ use Rattle.pb_model.specs.declared.key.Key.{Key}
 use Rattle.std.proofs.Common.{◌≡◌, List, ◌<◌, Option, Some, None, IsSome, get_or, set, length, sym, subst, ap, ◌∙◌}
 use Rattle.std.proofs.lemmas.List.{get_or_read}
 use Rattle.pb_model.specs.Work.{offered_row}
-use Rattle.pb_model.proofs.Tests.{some_found}
+use Rattle.pb_model.proofs.Callers.{some_found}
 use Rattle.pb_lists.specs.Bundle.{Content, SetsRow, row_of}
 use Rattle.pb_bundles.specs.Parts.{rows_in}
 use Rattle.pb_bundles.specs.Homes.{HomeTable, AreHomes, content_at, with_start}

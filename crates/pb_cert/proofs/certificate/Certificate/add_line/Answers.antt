@@ -2,7 +2,7 @@ use Rattle.std.proofs.Common.{ℕ, List}
 use Rattle.pb_outside.specs.Saves.{IsWritten}
 use Rattle.pb_cert.specs.Saved.{AddsLine}
 use Rattle.pb_cert.specs.Stated.{lines_of}
-use Rattle.pb_outside.proofs.Told.{told_as}
+use Rattle.pb_outside.proofs.Callers.{told_as}
 use Rattle.pb_cert.proofs.Files.{line_written, line_of_lines, line_full}
 use Rattle.pb_cert.proofs.SavedCalls.{call_for_line}
 use Rattle.pb_cert.proofs.certificate.Certificate.add_line.Goals as goal

@@ -3,11 +3,10 @@ use Rattle.pb_model.specs.Texts.{lines}
 use Rattle.pb_outside.specs.Outside.{KeepsOthers}
 use Rattle.pb_cert.specs.Stated.{lines_of, text_of}
 use Rattle.pb_outside.specs.Saves.{IsPartSaved, HoldsPart, IsWritten}
-use Rattle.pb_outside.proofs.Saves.{all_written, all_called, told_now}
+use Rattle.pb_outside.proofs.Callers.{all_written, all_called, told_now, told_then, others_then, on_err}
 use Rattle.pb_cert.specs.Saved.{AddsLine}
 use Rattle.pb_cert.proofs.LineTexts.{lines_are_text}
 use Rattle.std.proofs.lemmas.Result.{on_ok_weaker, on_err_weaker}
-use Rattle.pb_outside.proofs.Told.{told_then, others_then, on_err}
 use Rattle.pb_cert.proofs.Files.{added_next, part_of_lines, all_lines}
 use Rattle.pb_cert.proofs.SavedCalls.{calls_next, failed_of_lines, lines_within, some_lines}
 use Rattle.pb_cert.proofs.certificate.Certificate.write_to.Goals as goal

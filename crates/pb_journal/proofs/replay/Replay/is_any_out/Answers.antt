@@ -1,5 +1,5 @@
 use Rattle.std.proofs.Common.{sym, ap, ◌<◌, ◌∙◌, is_some, length, arith, get_or, None}
-use Rattle.pb_machine.proofs.TableLaws.{any_at}
+use Rattle.pb_machine.proofs.Callers.{any_at}
 use Rattle.pb_journal.specs.Replaying.{counts_of}
 use Rattle.pb_journal.proofs.replay.Replay.is_any_out.Goals as goal
 

@@ -1,6 +1,6 @@
 use Rattle.std.proofs.Common.{sym, ap, ◌<◌, ◌∙◌, ◌&&◌, length, arith, get_or, false, not, is_some}
 use Rattle.std.proofs.Math.Bool.{and-false}
-use Rattle.pb_machine.proofs.TableLaws.{any_at}
+use Rattle.pb_machine.proofs.Callers.{any_at}
 use Rattle.pb_journal.specs.Replaying.{counts_of}
 use Rattle.pb_journal.proofs.replay.Replay.is_finished.Goals as goal
 

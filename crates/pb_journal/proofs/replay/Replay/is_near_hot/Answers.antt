@@ -3,7 +3,7 @@ use Rattle.std.specs.List.{list_any}
 use Rattle.std.proofs.lemmas.List.Folds.{list_any_at}
 use Rattle.std.proofs.lemmas.List.Elements.{All-get_or}
 use Rattle.std.proofs.Math.Seq.{take-length}
-use Rattle.pb_machine.proofs.ListTables.{item_is}
+use Rattle.pb_machine.proofs.Callers.{item_is}
 use Rattle.pb_abstract.specs.Graph.{blocks_of}
 use Rattle.pb_journal.specs.Replaying.{counts_of}
 use Rattle.pb_journal.proofs.Looking.{hot_is, has_small}

@@ -1,6 +1,6 @@
 use Rattle.std.proofs.Common.{sym, ap, ◌≡◌, ◌<◌, ◌∙◌, length, arith, get_or, None, false, subst}
 use Rattle.pb_machine.specs.Tables.{any_below}
-use Rattle.pb_machine.proofs.TableLaws.{any_at}
+use Rattle.pb_machine.proofs.Callers.{any_at}
 use Rattle.pb_abstract.specs.Graph.{blocks_of}
 use Rattle.pb_journal.specs.Replaying.{counts_of}
 use Rattle.pb_journal.proofs.Looking.{taken_is, meets_self, is_at_or_near}

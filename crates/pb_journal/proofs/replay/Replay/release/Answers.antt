@@ -1,10 +1,9 @@
 use Rattle.std.proofs.Common.{◌≡◌, ◌-◌, ◌+◌, ◌<◌, ℕ, Bool, None, Option, List, refl, sym, ap, ◌∙◌, arith, subst, length, get_or, slice_set, not, ◌&&◌, false, length-set}
-use Rattle.pb_model.proofs.Tests.{none_tested}
+use Rattle.pb_model.proofs.Callers.{none_tested}
 use Rattle.pb_machine.specs.declared.event.Event.TheVariants.{Release}
 use Rattle.pb_machine.specs.declared.event.Grant.{Grant}
 use Rattle.pb_machine.specs.Counts.{Counts, counts_after, quota_of, is_busy}
-use Rattle.pb_machine.proofs.CountsLaws.{counts_same}
-use Rattle.pb_machine.proofs.ListTables.{table_at}
+use Rattle.pb_machine.proofs.Callers.{counts_same, table_at}
 use Rattle.pb_abstract.specs.Graph.{blocks_of, has}
 use Rattle.pb_journal.specs.Replaying.{counts_of}
 use Rattle.pb_journal.proofs.Releases.{released_hot}

@@ -1,7 +1,7 @@
 use Rattle.std.proofs.Common.{◌≡◌, None, sym, subst, ◌∙◌}
 use Rattle.pb_machine.specs.Counts.{AreLawful}
 use Rattle.pb_machine.specs.Legality.{refusal}
-use Rattle.pb_machine.proofs.CountsLaws.{event_keeps}
+use Rattle.pb_machine.proofs.Callers.{event_keeps}
 use Rattle.pb_abstract.specs.Graph.{blocks_of}
 use Rattle.pb_journal.specs.Stated.{event_of}
 use Rattle.pb_journal.specs.Replaying.{counts_of}

@@ -1,5 +1,5 @@
 use Rattle.std.proofs.Common.{◌≡◌, ◌<◌, true, is_some, sym, ◌∙◌, refl, subst, [], ◌∷◌, true≢false}
-use Rattle.pb_model.proofs.Tests.{by_cases}
+use Rattle.pb_model.proofs.Callers.{by_cases}
 use Rattle.pb_machine.specs.declared.event.Event.TheVariants.{Hot}
 use Rattle.pb_lease.specs.Tables.{Table, blocks}
 use Rattle.pb_lease.specs.GraphValue.{GraphValue, counts_in, IsLeaseGraph}

@@ -2,7 +2,7 @@ use Rattle.std.proofs.Common.{◌≡◌, ◌<◌, true, sym, ap, ◌∙◌, subs
 use Rattle.std.specs.Arc.{arc_value}
 use Rattle.pb_task.specs.declared.parts.TaskParts.{TaskParts}
 use Rattle.pb_task.specs.Parts.{space_of, IsTask}
-use Rattle.pb_task.proofs.Grids.{tasks_are_proper}
+use Rattle.pb_task.proofs.Callers.{tasks_are_proper}
 use Rattle.pb_abstract.specs.Graph.{AbstractGraph, blocks_of, home_of}
 use Rattle.pb_lease.proofs.GraphOpening.{IsOpening, opening_of, opening_rows, opening_kept, opening_moment}
 use Rattle.pb_bundles.specs.Homes.{AreNoted}

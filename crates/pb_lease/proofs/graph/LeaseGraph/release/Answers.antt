@@ -1,5 +1,5 @@
 use Rattle.std.proofs.Common.{sym, ap, ◌∙◌, refl, subst, length}
-use Rattle.pb_bundles.proofs.Moving.{put_back_length}
+use Rattle.pb_bundles.proofs.Callers.{put_back_length}
 use Rattle.pb_lease.specs.LeaseValue.{LeaseValue}
 use Rattle.pb_lease.specs.GraphValue.{GraphValue, IsOfGraph}
 use Rattle.pb_lease.specs.Steps.{IsReleased, ReleasesNext}

@@ -1,6 +1,6 @@
 use Rattle.std.proofs.Common.{◌≡◌, ◌<◌, ℕ, false, true, cond, not, ◌&&◌, ◌==◌, nat_lt, is_none, ◌∙◌, arith, ap, sym, refl, subst, get_or}
-use Rattle.pb_model.proofs.Tests.{none_tested}
-use Rattle.pb_machine.proofs.ListTables.{item_is}
+use Rattle.pb_model.proofs.Callers.{none_tested}
+use Rattle.pb_machine.proofs.Callers.{item_is}
 use Rattle.pb_lease.specs.Tables.{Table, blocks, counts_of}
 use Rattle.pb_lease.specs.Leasing.{can_be_leased}
 use Rattle.pb_lease.proofs.FreeBlocks.{is_out, in_two, parts_are, walked_out}

@@ -1,12 +1,12 @@
 use Rattle.std.proofs.Common.{◌≡◌, ◌<◌, ◌≤◌, ◌+◌, ◌-◌, ℕ, false, true, cond, not, ◌&&◌, ◌==◌, nat_lt, is_none, Option, Some, ◌∙◌, arith, ap, sym, refl, subst, get_or}
-use Rattle.pb_model.proofs.Tests.{by_cases, equal, none_tested}
+use Rattle.pb_model.proofs.Callers.{by_cases, equal, none_tested}
 use Rattle.pb_machine.specs.declared.event.Grant.{Grant}
 use Rattle.pb_machine.specs.Tables.{one_if}
 use Rattle.pb_machine.specs.Blocks.{interferes}
 use Rattle.pb_machine.specs.Counts.{quota_of}
 use Rattle.pb_machine.specs.Counters.{busy_count}
 use Rattle.pb_machine.specs.Choice.{counts_with_lease_home}
-use Rattle.pb_machine.proofs.ListTables.{item_is}
+use Rattle.pb_machine.proofs.Callers.{item_is}
 use Rattle.pb_lease.specs.Tables.{Table, blocks, counts_of, seat_of}
 use Rattle.pb_lease.specs.Leasing.{can_be_leased}
 use Rattle.pb_lease.proofs.LeaseKept.{quota_within}

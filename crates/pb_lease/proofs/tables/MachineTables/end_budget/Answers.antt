@@ -1,7 +1,7 @@
 use Rattle.std.proofs.Common.{◌≡◌, false, None, ◌∙◌, arith, ap, subst, sym, refl}
 use Rattle.pb_machine.specs.declared.event.End.TheVariants.{Budget}
 use Rattle.pb_machine.specs.Counts.{is_any_out}
-use Rattle.pb_machine.proofs.LegalEvents.{ends_are_legal}
+use Rattle.pb_machine.proofs.Callers.{ends_are_legal}
 use Rattle.pb_lease.specs.Tables.{Table, blocks, counts_of}
 use Rattle.pb_lease.proofs.EndKept.{ended_kept}
 use Rattle.pb_lease.specs.contracts.tables.MachineTables.{the_view}

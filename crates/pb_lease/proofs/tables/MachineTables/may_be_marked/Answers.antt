@@ -1,8 +1,7 @@
 use Rattle.std.proofs.Common.{◌≡◌, ◌<◌, ℕ, false, not, ◌&&◌, nat_lt, is_none, ◌∙◌, arith, ap, sym, subst, get_or, IsSome}
 use Rattle.pb_machine.specs.Counts.{is_busy}
-use Rattle.pb_machine.proofs.Counters.{busy_is_counted}
-use Rattle.pb_model.proofs.Tests.{none_tested}
-use Rattle.pb_machine.proofs.ListTables.{item_is}
+use Rattle.pb_machine.proofs.Callers.{busy_is_counted, item_is}
+use Rattle.pb_model.proofs.Callers.{none_tested}
 use Rattle.pb_lease.specs.declared.seat.Seat.{Seat}
 use Rattle.pb_lease.specs.Tables.{Table, blocks, counts_of, rooms}
 use Rattle.pb_lease.specs.Marking.{may_be_marked}

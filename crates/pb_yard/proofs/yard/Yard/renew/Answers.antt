@@ -2,7 +2,7 @@ use Rattle.std.proofs.Common.{◌≡◌, List, Some, length, None, sym, ap, ◌�
 use Rattle.pb_machine.specs.declared.event.Event.{Event}
 use Rattle.pb_turn.specs.Passes.{view, number, found}
 use Rattle.pb_model.specs.Store.{AtMost}
-use Rattle.pb_model.proofs.Incumbents.{lesser_same}
+use Rattle.pb_model.proofs.Callers.{lesser_same}
 use Rattle.pb_lease.specs.declared.answer.Renewed.{Renewed}
 use Rattle.pb_lease.specs.LeaseValue.{LeaseValue}
 use Rattle.pb_lease.specs.Tables.{blocks}

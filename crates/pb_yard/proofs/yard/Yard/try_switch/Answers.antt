@@ -9,7 +9,7 @@ use Rattle.pb_lease.specs.declared.answer.Renewed.TheVariants.{Kept, Given}
 use Rattle.pb_lease.specs.LeaseValue.{LeaseValue}
 use Rattle.pb_lease.specs.Tables.{Table, blocks, counts_of}
 use Rattle.pb_lease.specs.GraphValue.{GraphValue, IsLeaseGraph, IsOfGraph}
-use Rattle.pb_lease.proofs.Switches.{worker_known, worker_vacant, worker_stays}
+use Rattle.pb_lease.proofs.Callers.{worker_known, worker_vacant, worker_stays}
 use Rattle.pb_yard.specs.declared.switch.Switch.{Switch}
 use Rattle.pb_yard.specs.declared.switch.Switch.TheVariants.{Gave}
 use Rattle.pb_yard.specs.declared.switch.Switch.TheVariants.{Kept as Keeps}

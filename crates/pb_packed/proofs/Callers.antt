@@ -1,0 +1,3 @@
+-- What proofs of other crates may cite. All else in proofs/ is private to this crate.
+pub use Rattle.pb_packed.proofs.DigitLaws.{digits_are_hex}
+pub use Rattle.pb_packed.proofs.HexDigits.{followed, no_digits, one_more}

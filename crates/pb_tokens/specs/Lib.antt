@@ -1,0 +1,2 @@
+pub use Rattle.pb_pddl.specs.Spans
+pub use Rattle.pb_pddl.specs.Tokens
