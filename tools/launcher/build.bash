@@ -152,9 +152,9 @@ count_room() {
 }
 
 # Begins a first look at the answer to the words, by the program as it is before any proof. It is
-# left out if little is to be built, and where memory is short: so many GB must be there. The caller
-# may say `no` or `yes` to it in PBNF_FIRST_LOOK. Of those that wait for another run's building, one
-# looks at a time.
+# left out if little is to be built, and where memory is short: so many GB must be there. It takes
+# up to 4, and a job up to 1.5. The caller may say `no` or `yes` to it in PBNF_FIRST_LOOK. Of those
+# that wait for another run's building, one looks at a time.
 look='' look_text=''
 begin_look() {
   local group
@@ -273,7 +273,7 @@ build_all() {
   touch "$marker"
   say_what_is_built
   is_building=1
-  [ -n "$had_look" ] || begin_look $((3 * jobs + 5)) "$@"
+  [ -n "$had_look" ] || begin_look $((3 * jobs / 2 + 4)) "$@"
   show_progress
   if is_chain || run_builder prove_side_by_side; then
     [ -t 2 ] || say "the ${#to_do[@]} crates that are left are proved one after another"
