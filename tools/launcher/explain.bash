@@ -35,7 +35,9 @@ explain_stop() {
   printf -v took '%d.%d s' $(($1 / 1000)) $(($1 % 1000 / 100))
   if [ "$2" -ge 1024 ]; then took+=" and $(($2 / 1024)).$(($2 % 1024 * 10 / 1024)) GiB of memory"
   elif [ "$2" -gt 0 ]; then took+=" and $2 MiB of memory"; fi
-  say "$counted expansions took $took. Nothing is known of plans; a greater --budget goes on"
+  took="$counted expansions took $took. Nothing is known of plans"
+  [ "$command_word" = make ] || took+='; a greater --budget goes on'
+  say "$took"
 }
 
 # Says if a saved file is too long to be judged.
