@@ -55,8 +55,11 @@ def no_words(place):
 
 def help_on_a_closed_output(place):
     """Help that can't be written is status 74."""
-    with open("/dev/full", "wb") as full:
-        place.run("--help", stdout=full).wants(74)
+    for words in (["--help"], ["solve", "-h"], ["--version"]):
+        with open("/dev/full", "wb") as full:
+            run = place.run(*words, stdout=full).wants(74, None, "could not be written")
+        if len(run.err.splitlines()) != 1:
+            raise Failed(f"one line was wanted:\n{run}")
 
 
 def tables_of_the_page(place):
