@@ -8,11 +8,14 @@ log=$root/build.log
 declare -gA below=() all_below=()
 crates=()
 add_crate() {
-  local dep all=' '
+  local dep it all=' '
   [ -z "${all_below[$1]-}" ] && [ -n "${below[$1]+is}" ] || return 0
   for dep in ${below[$1]}; do
+    [ -n "${below[$dep]+is}" ] || continue
     add_crate "$dep"
-    [ -z "${below[$dep]+is}" ] || all+="$dep ${all_below[$dep]}"
+    for it in $dep ${all_below[$dep]}; do
+      case $all in *" $it "*) ;; *) all+="$it " ;; esac
+    done
   done
   all_below[$1]=$all
   crates+=("$1")

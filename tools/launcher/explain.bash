@@ -21,10 +21,13 @@ explain() {
 # ---- a stop
 
 with_commas() {
-  counted=$1
-  while [[ $counted =~ ^([0-9]+)([0-9]{3}.*)$ && ${BASH_REMATCH[2]} =~ ^[0-9]{3}(,|$) ]]; do
-    counted=${BASH_REMATCH[1]},${BASH_REMATCH[2]}
+  local rest=$1
+  counted=''
+  while [ ${#rest} -gt 3 ]; do
+    counted=,${rest: -3}$counted
+    rest=${rest%???}
   done
+  counted=$rest$counted
 }
 
 # Milliseconds and MiB. Of a run that was too short to be looked at no memory is known.
