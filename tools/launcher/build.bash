@@ -114,14 +114,9 @@ begin_group() {
   set +m
 }
 end_group() {
-  local tries
   [ -n "$1" ] || return 0
   kill -TERM -- "-$1" 2>/dev/null
-  wait "$1" 2>/dev/null
-  for tries in {1..50}; do
-    kill -0 -- "-$1" 2>/dev/null || return 0
-    sleep 0.1 8>&-
-  done
+  wait "$1" 2>/dev/null || :
 }
 
 # The launcher alone has the end of this pipe that can be written.
