@@ -67,7 +67,11 @@ explain_words() {
     'words weight') say "N of --num is less than D of --den, and the weight N/D is at least 1" ;;
     'words names') say "--cert and --trace are given one name" ;;
     'words size') say "the size isn't in the range of its kind" ;;
-    *) say "the words are of no form above (docs/FORMATS.md has all of them)" ;;
+    *)
+      text=${text#error: }
+      text=${text%%$'\n'*}
+      say "${text//[^[:print:]]/?}"
+      ;;
   esac
 }
 explain_form() {

@@ -16,11 +16,12 @@ def words_refused(place):
     """At 64 the usage of the command follows, and then the reason."""
     grid = place.grid()
     for words, out, err in (
-        ([*grid, grid[0]], None, "the words are of no form above"),
+        ([*grid, grid[0]], None, "pbnf: unexpected argument"),
+        ([*grid, "--ro\x1bw"], None, "pbnf: unexpected argument '--ro?w' found"),
         ([grid[0]], "words files\n", "solve grid takes MAP SCENARIO; so many files were named: 1"),
         ([*grid, "--num", "1", "--den", "2"], "words weight\n", "less than D of --den"),
         ([*grid, "--cert", "x", "--trace", "x"], "words names\n", "are given one name"),
-        ([*grid, "--budget", "0"], None, "the words are of no form above"),
+        ([*grid, "--budget", "0"], None, "pbnf: invalid value '0' for '--budget"),
     ):
         run = place.run("solve", "grid", *words).wants(64, out, ["usage: pbnf solve grid MAP", err])
         if "--cert CERTIFICATE" not in run.err or not run.out:
@@ -44,6 +45,16 @@ def input_refused(place):
     place.run("solve", "strips", domain, problem).wants(65, None, [f"{domain}:1:", "^"])
     place.run("solve", "grid", place.grid()[0], scen, "--row", "7").wants(65, "input NoRow 7 1\n",
                                                                         "there is no row 7")
+
+
+def order_of_files(place):
+    """Files in another order than they should be are recognized."""
+    grid, problem = place.grid(), place.example("two-blocks.pddl")
+    cert = place.file("order.cert", "pbnf-certificate 1\n")
+    place.run("solve", "grid", *reversed(grid)).wants(65, None, "the map comes before it")
+    place.run("check", "grid", *grid, cert).wants(65, None, "it comes first")
+    place.run("solve", "strips", problem, place.example("blocks.pddl")).wants(
+        65, None, "the domain comes before it")
 
 
 def packed_input(place):
@@ -183,6 +194,6 @@ def ended_by_a_signal(place):
         raise Failed(f"status {it.returncode}: {err}")
 
 
-CASES = [words_refused, input_refused, packed_input, refused_certificate, other_row, other_costs,
+CASES = [words_refused, input_refused, order_of_files, packed_input, refused_certificate, other_row, other_costs,
          refused_journal, stopped, no_memory, files_failed, dash_is_a_name, output_failed,
          ended_by_a_signal]
