@@ -287,7 +287,7 @@ build() {
   local status is_building='' builder='' had_look='' doing jobs memory marker begun=$SECONDS
   local done_count done_before
   if ! command -v rt >/dev/null; then
-    say "the program isn't built, or a source has changed, and the toolchain's command rt isn't found"
+    say "the program isn't built, or a source has changed, and the toolchain's rt isn't found"
     return 1
   fi
   marker=$(mktemp) || { say "no file can be made in ${TMPDIR:-/tmp}"; return 1; }

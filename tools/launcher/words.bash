@@ -75,15 +75,16 @@ find_harm() {
     name=${value_of[$option]}
     for input in ${judged:+"$judged"} ${inputs[@]+"${inputs[@]}"}; do
       if is_one_file "$name" "$input"; then
-        harm="the ${saves[$option]} $(show "$name") would be written over the input $(show "$input")"
+        harm="the ${saves[$option]} $(show "$name") would be written over the input "
+        harm+=$(show "$input")
         return
       fi
     done
     for other in "${saving[@]}"; do
       [ "$other" != "$option" ] || break
       if will_be_one_file "$name" "${value_of[$other]}"; then
-        harm="the ${saves[$option]} $(show "$name") and the ${saves[$other]} \
-$(show "${value_of[$other]}") are one file"
+        harm="the ${saves[$option]} $(show "$name") and the ${saves[$other]} "
+        harm+="$(show "${value_of[$other]}") are one file"
         return
       fi
     done

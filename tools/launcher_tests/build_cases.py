@@ -36,7 +36,7 @@ def nothing_runs(place):
 
 
 def first_build(place):
-    """The first run shows a look on standard error, builds, and prints the program's answer alone."""
+    """The first run shows a look on standard error, and prints the program's answer alone."""
     unbuild(place)
     words = ["solve", "grid", *place.grid(), "--cert", "first.cert", "--trace=first.journal"]
     run = place.run(*words, env=slow(place, 0.06, 0.3))
@@ -65,7 +65,7 @@ def chain_is_proved_in_turn(place):
 
 
 def look_of_a_refusal(place):
-    """A first look shows a refused input in its file, and a name that isn't there is said at once."""
+    """A first look shows a refused input in its file. A name that isn't there is said at once."""
     unbuild(place)
     cut = place.file("bad.map", "type octile\nheight 1\nwidth 3\nmap\n.x.\n")
     run = place.run("solve", "grid", cut, place.grid()[1], env=slow(place, 0.06, 0.1))
@@ -89,7 +89,8 @@ def look_is_left_out(place):
         os.close(read)
         run.wants(0).lacks("NOT PROVED")
     unbuild(place)
-    place.run("solve", "grid", *place.grid(), env=slow(place, 0.01, 60)).wants(0).lacks("first look")
+    run = place.run("solve", "grid", *place.grid(), env=slow(place, 0.01, 60))
+    run.wants(0).lacks("first look")
     nothing_runs(place)
 
 

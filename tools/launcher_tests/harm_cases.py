@@ -1,4 +1,4 @@
-"""What the launcher keeps from harm: the caller's files, the machine, and the time of a building."""
+"""What the launcher guards: the caller's files, the machine, and the time of a building."""
 
 import os
 import shutil
@@ -11,7 +11,7 @@ HARD = "4 4\n15 14 8 12 10 11 9 13 2 6 5 1 3 7 4 0\n"
 
 
 def input_as_output(place):
-    """A file that is saved under the name of an input, by any spelling, is 64 before anything runs."""
+    """A file that is saved over an input, by any spelling, is 64 before anything runs."""
     text = open(place.grid()[0], "rb").read()
     name = place.file("room.map", text)
     scen = place.grid()[1]
@@ -22,7 +22,7 @@ def input_as_output(place):
         for option in ("--cert", "--trace"):
             for words in ([option, other], [f"{option}={other}"]):
                 run = place.run("solve", "grid", "room.map", scen, *words)
-                run.wants(64, "", ["usage: pbnf solve grid", "would be written over the input room.map"])
+                run.wants(64, "", ["usage: pbnf solve grid", "written over the input room.map"])
         if open(name, "rb").read() != text:
             raise Failed(f"{other} was written over")
     words = ["--cert", "x.cert", "--", "grid", "./room.map", scen, "--trace"]
@@ -109,7 +109,7 @@ def builds(place):
 
 
 def touched_source(place):
-    """Sources that are newer by their time alone, a copy and a change there and back build nothing."""
+    """Sources that are newer by time alone, a copy, and a change there and back build nothing."""
     source = place.root / "crates/pb_run/src/top.rt"
     text, before = source.read_bytes(), builds(place)
     wanted = place.run("solve", "grid", *place.grid()).wants(0).out

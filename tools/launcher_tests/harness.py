@@ -1,4 +1,4 @@
-"""A copy of the checkout in a folder of its own, with the built program, for the cases to run in."""
+"""A copy of the checkout in a folder of its own, with the built program, for the cases."""
 
 import os
 import pathlib

@@ -63,7 +63,7 @@ def help_on_a_closed_output(place):
 
 
 def tables_of_the_page(place):
-    """docs/FORMATS.md has each option's row and each form as options.txt has them, and no others."""
+    """docs/FORMATS.md has the options' rows and the forms that options.txt has, and no others."""
     page = (ROOT / "docs/FORMATS.md").read_text().split("\n## Statuses")[0].splitlines()
     rows = [it for it in page if it.startswith("| ") and it.count(" | ") in (2, 4)
             and not it.startswith(("| option |", "| word of "))]

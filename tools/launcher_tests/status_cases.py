@@ -36,7 +36,8 @@ def input_refused(place):
     """At 65 the place in the file is shown, with the name as the shell writes it."""
     scen = place.grid()[1]
     cut = place.file("cut.map", "type octile\nheight 2\nwidth 3\nmap\n...\n.x.\n")
-    place.run("solve", "grid", cut, scen).wants(65, "input Cell 6 2\n", [f"{cut}:6:2: ", "\n.x.\n ^"])
+    run = place.run("solve", "grid", cut, scen)
+    run.wants(65, "input Cell 6 2\n", [f"{cut}:6:2: ", "\n.x.\n ^"])
     board = place.file("twice \x1b[31m.tiles", "2 2\n1 1\n2 3\n")
     run = place.run("solve", "tiles", board).wants(65, "input Twice 1\n", "twice \\E[31m.tiles': ")
     run.lacks("\x1b")
@@ -194,6 +195,6 @@ def ended_by_a_signal(place):
         raise Failed(f"status {it.returncode}: {err}")
 
 
-CASES = [words_refused, input_refused, order_of_files, packed_input, refused_certificate, other_row, other_costs,
-         refused_journal, stopped, no_memory, files_failed, dash_is_a_name, output_failed,
-         ended_by_a_signal]
+CASES = [words_refused, input_refused, order_of_files, packed_input, refused_certificate,
+         other_row, other_costs, refused_journal, stopped, no_memory, files_failed,
+         dash_is_a_name, output_failed, ended_by_a_signal]

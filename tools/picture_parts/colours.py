@@ -40,7 +40,8 @@ SHADES = 8
 WORKERS = 8
 CONTRASTS = (
     [("ink", "page", 4.5), ("muted", "page", 4.5), ("ink", "land", 4.5), ("line", "page", 3),
-     ("water", "land", 3), ("swamp", "land", 3), ("blocked", "land", 3), ("plan", "casing", 4.5), ("cut", "land", 3),
+     ("water", "land", 3), ("swamp", "land", 3), ("blocked", "land", 3), ("plan", "casing", 4.5),
+     ("cut", "land", 3),
      ("cut", "page", 3), ("plan", "page", 3), ("mark", "page", 4.5), ("closed7", "land", 3)]
     + [(f"worker{i}", "page", 3) for i in range(WORKERS)]
     + [(f"closed{i}", f"closed{i + 1}", 1.15) for i in range(SHADES - 1)]
