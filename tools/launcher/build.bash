@@ -130,7 +130,7 @@ stop_building() {
   rm -f "$marker"
   clear_line
   if [ -n "$is_building" ]; then say "the building was stopped; what was proved is kept"
-  else say "the waiting was stopped; the other run goes on"; fi
+  elif [ -n "${doing-}" ]; then say "the waiting was stopped; the other run goes on"; fi
   end_by "$1"
 }
 
