@@ -11,6 +11,7 @@ COLOURS = {
     "line": ("#8c959f", "#768390"),
     "land": ("#faf8f3", "#1c2128"),
     "water": ("#3f8fc4", "#3a7fb5"),
+    "swamp": ("#6d8b34", "#7f9f45"),
     "blocked": ("#2b2f36", "#b1bac4"),
     "plan": ("#0b3fa8", "#7ab8ff"),
     "casing": ("#ffffff", "#05080c"),
@@ -34,11 +35,13 @@ COLOURS = {
     "worker7": ("#6e7781", "#adbac7"),
 }
 LIGHT, DARK = ({name: pair[theme] for name, pair in COLOURS.items()} for theme in (0, 1))
+AREAS = ("closed", "worker", "land", "water", "swamp", "blocked")
 SHADES = 8
 WORKERS = 8
 CONTRASTS = (
     [("ink", "page", 4.5), ("muted", "page", 4.5), ("ink", "land", 4.5), ("line", "page", 3),
-     ("water", "land", 3), ("blocked", "land", 3), ("plan", "casing", 4.5), ("cut", "land", 3),
+     ("water", "land", 3), ("swamp", "land", 3), ("blocked", "land", 3), ("plan", "casing", 4.5),
+     ("cut", "land", 3),
      ("cut", "page", 3), ("plan", "page", 3), ("mark", "page", 4.5), ("closed7", "land", 3)]
     + [(f"worker{i}", "page", 3) for i in range(WORKERS)]
     + [(f"closed{i}", f"closed{i + 1}", 1.15) for i in range(SHADES - 1)]
@@ -67,7 +70,7 @@ def rules(colours):
     parts = []
     for name, colour in colours.items():
         parts.append(f".f-{name}{{fill:{colour}}}.s-{name}{{stroke:{colour}}}")
-        if name.startswith(("closed", "worker", "land", "water", "blocked")):
+        if name.startswith(AREAS):
             parts.append(f".t-{name}{{fill:{colours[text_on(colours, name)]}}}")
     return "".join(parts)
 

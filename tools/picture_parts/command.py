@@ -57,9 +57,12 @@ def parser_of():
     plan = words.add_parser("plan", help="a plan; `plan --help` lists the kinds",
                             description="Draws a plan.")
     kinds = plan.add_subparsers(required=True, metavar="KIND")
-    add_row(add(kinds, "grid", draw_plan,
-                [*grid, report, ("[certificate]", "its closed and cut cells are shown")],
-                "a plan on its map"))
+    on_map = add(kinds, "grid", draw_plan,
+                 [*grid, report, ("[certificate]", "its closed and cut cells are shown")],
+                 "a plan on its map")
+    add_row(on_map)
+    on_map.add_argument("--swamp", action="store_true",
+                        help="shows the cells of swamp, if `solve` was given --swamp")
     add(kinds, "tiles", draw_tiles, [("board", "a board"), report], "the boards along a plan")
     add(kinds, "strips", draw_strips, [("domain", "a domain"), ("problem", "a problem"), report],
         "which facts hold along a plan")

@@ -43,10 +43,10 @@ def cell_pixels(grid):
     return max(1, min(40, round(FIGURE / max(grid.width, grid.height))))
 
 
-def map_runs(grid, byte):
+def map_runs(rows, byte):
     form = re.compile(re.escape(byte) + b"+")
     return [(y, [(m.start(), m.end() - m.start()) for m in form.finditer(row)])
-            for y, row in enumerate(grid.rows)]
+            for y, row in enumerate(rows)]
 
 
 def shade_count(rows):
@@ -104,11 +104,13 @@ def map_elements(grid, pixels, rows=None):
     crisp = ' shape-rendering="crispEdges"'
     parts = [f'<g transform="scale({pixels})"{crisp}>',
              canvas.rect("f-land", 0, 0, grid.width, grid.height)]
-    parts += canvas.runs("water", "water", map_runs(grid, b"W"))
+    parts += canvas.runs("water", "water", map_runs(grid.rows, b"W"))
+    parts += canvas.runs("swamp", "swamp", map_runs(grid.swamp, b"S"))
     if rows:
         for k, runs in enumerate(closed_runs(grid, rows)):
             parts += canvas.runs(f"closed{k}", "closed", runs)
-    parts += canvas.runs("blocked", "blocked", map_runs(grid, b"@"))
+    parts += canvas.runs("blocked", "blocked", map_runs(grid.rows, b"@"))
+    parts += swamp_strokes(grid, pixels) if rows else []
     parts.append("</g>")
     if pixels >= 10:
         parts.append(water_waves(grid, pixels, rows))
@@ -136,6 +138,16 @@ def water_waves(grid, pixels, rows):
     return f'<path class="none s-land" d="{"".join(d)}" stroke-width="{width}"/>' if d else ""
 
 
+def swamp_strokes(grid, pixels):
+    """A stroke along the lower edge of each cell of swamp, which is seen where a row covers it."""
+    runs = [(x, y, count) for y, found in map_runs(grid.swamp, b"S") for x, count in found]
+    if not runs:
+        return []
+    d = "".join(f"M{x} {y}.86h{count}" for x, y, count in runs)
+    dash = ' stroke-dasharray=".12 .08"' if pixels >= 10 else ""
+    return [f'<path class="s-swamp none reeds" d="{d}" stroke-width=".24"{dash}/>']
+
+
 def grid_lines(grid, pixels):
     d = [f"M{x * pixels} 0v{grid.height * pixels}" for x in range(1, grid.width)]
     d += [f"M0 {y * pixels}h{grid.width * pixels}" for y in range(1, grid.height)]
@@ -157,6 +169,8 @@ def numbers(rows, pixels, on_plan):
         if g < 0 or cell in on_plan or canvas.text_width(str(g), size) > pixels * 0.72:
             continue
         names = "t-water" if rows.grid.rows[cell[1]][cell[0]] == ord("W") else "f-ink"
+        if rows.grid.swamp and rows.grid.swamp[cell[1]][cell[0]] == ord("S"):
+            names = "t-swamp"
         if rows.is_closed[place]:
             names = f"t-closed{shade(rows, g)}"
         parts.append(canvas.text(names, (cell[0] + 0.5) * pixels,
@@ -233,21 +247,23 @@ def scale_swatch(rows):
     return draw, 0.7 * len(used)
 
 
-def has_class(grid, byte):
-    return any(byte in row for row in grid.rows)
+def has_byte(rows, byte):
+    return any(byte in row for row in rows)
 
 
 def land_legend(grid):
     items = [(canvas.box("f-land"), 1, "land")]
-    if has_class(grid, b"W"):
+    if has_byte(grid.rows, b"W"):
         items.append((canvas.box("f-water"), 1, "water"))
-    if has_class(grid, b"@"):
+    if has_byte(grid.swamp, b"S"):
+        items.append((canvas.box("f-swamp"), 1, "swamp, which costs 2 to enter"))
+    if has_byte(grid.rows, b"@"):
         items.append((canvas.box("f-blocked"), 1, "blocked"))
     return items
 
 
 def draw_plan(options):
-    grid = read_grid(options.map, options.scenario, options.row)
+    grid = read_grid(options.map, options.scenario, options.row, options.swamp)
     report = read_report(options.report, lambda step: step in GRID_MOVES)
     cells = plan_cells(grid, report, options.report)
     rows = Rows(grid, options.certificate) if options.certificate else None

@@ -152,6 +152,45 @@ def lane_frame(lanes, events):
     return parts
 
 
+COLUMNS, LINE = 1000, 8  # of the overview: how many columns at most, and a worker's height
+
+
+def held_columns(events, leases, workers):
+    """For each worker the columns of the overview in which it has a lease for half of the events
+    or more; and how many columns there are, each of about as many events."""
+    columns = min(COLUMNS, events)
+    counts = [[0] * columns for _ in range(workers)]
+    for lease in leases:
+        for at in range(lease.first, lease.last + 1):
+            counts[lease.worker][at * columns // events] += 1
+    wide = [0] * columns
+    for at in range(events):
+        wide[at * columns // events] += 1
+    return [[k for k in range(columns) if 2 * row[k] >= wide[k]] for row in counts], columns
+
+
+def overview_elements(lanes, events, leases):
+    """A thin line a worker over the whole journal, filled while it has a lease."""
+    held, columns = held_columns(events, leases, lanes.workers)
+    width = (lanes.used * lanes.pixels) / columns
+    parts = [canvas.text("f-ink", 0, lanes.workers * LINE / 2 + 5, 14, "all events")]
+    for worker, places in enumerate(held):
+        y, d, runs = worker * LINE, [], []
+        for place in places:
+            if runs and runs[-1][1] == place:
+                runs[-1][1] = place + 1
+            else:
+                runs.append([place, place + 1])
+        for first, end in runs:
+            x, wide = canvas.n(LEFT + first * width), canvas.n((end - first) * width)
+            d.append(f"M{x} {y + 1}h{wide}v{LINE - 2}h-{wide}z")
+        ends = [(LEFT, y + LINE / 2), (LEFT + columns * width, y + LINE / 2)]
+        parts.append(canvas.line("s-line", ends, 1, ' opacity=".7"'))
+        parts.append(f'<path class="f-worker{worker % colours.WORKERS} overview" '
+                     f'data-columns="{len(places)}" d="{"".join(d)}"/>')
+    return parts
+
+
 def leased_by(leases, squares, name):
     """For each block how often each worker leased it."""
     found = {}
@@ -243,6 +282,9 @@ def draw_journal(options):
     for lease in leases:
         parts += bar_elements(lanes, lease, pieces_of(lanes, lease))
     parts += mark_elements(lanes, marks)
+    if lanes.bands > 1:
+        overview = overview_elements(lanes, len(journal.events), leases)
+        page.figure(overview, lanes.width, settings["workers"] * LINE)
     page.figure(parts, lanes.width, lanes.height)
     items = list(LEGEND)
     if grid:

@@ -21,10 +21,12 @@ class Refused(Exception):
 
 
 class Map:
-    """Cells by row, each `.` (land), `W` (water) or `@` (blocked); a start and a goal as (x, y)."""
+    """Cells by row, each `.` (land), `W` (water) or `@` (blocked); a start and a goal as (x, y).
+    In `swamp` the rows have an `S` for each cell of swamp, if it is asked for."""
 
-    def __init__(self, rows, start, goal):
+    def __init__(self, rows, start, goal, swamp):
         self.rows = rows
+        self.swamp = swamp
         self.width = len(rows[0])
         self.height = len(rows)
         self.start = start
@@ -97,6 +99,7 @@ def is_number(word):
 
 
 def read_map_rows(name):
+    """The rows of a map by the classes of cells, and as they stand in the file."""
     lines = lines_of(load(name))
     sizes = []
     for at, head in enumerate((b"type", b"height", b"width", b"map")):
@@ -109,7 +112,7 @@ def read_map_rows(name):
     if not (1 <= height <= 2048 and 1 <= width <= 2048):
         raise Refused(name, "line 2", "height or width isn't 1 to 2048")
     classes = bytes.maketrans(b".GSW@OT", b"...W@@@")
-    rows = []
+    rows, bytes_of_rows = [], []
     for y in range(height):
         place = f"line {y + 5}"
         if y + 4 >= len(lines) or len(lines[y + 4]) != width:
@@ -117,15 +120,16 @@ def read_map_rows(name):
         other = re.search(rb"[^.GSW@OT]", lines[y + 4])
         if other:
             raise Refused(name, f"{place}, column {other.start() + 1}", "no cell of a map")
+        bytes_of_rows.append(lines[y + 4])
         rows.append(lines[y + 4].translate(classes))
     for at in range(height + 4, len(lines)):
         if words_of(lines[at]):
             raise Refused(name, f"line {at + 1}", "a line below the last row isn't blank")
-    return rows
+    return rows, bytes_of_rows
 
 
-def read_grid(map_name, scenario_name, row):
-    rows = read_map_rows(map_name)
+def read_grid(map_name, scenario_name, row, has_swamp=False):
+    rows, bytes_of_rows = read_map_rows(map_name)
     lines = lines_of(load(scenario_name))
     if not lines or not lines[0].startswith(b"version"):
         raise Refused(scenario_name, "line 1", "doesn't begin with `version`")
@@ -137,7 +141,8 @@ def read_grid(map_name, scenario_name, row):
     if len(words) < 9 or not all(is_number(word) for word in words[-7:-1]):
         raise Refused(scenario_name, place, "not a row of a scenario")
     width, height, start_x, start_y, goal_x, goal_y = (int(word) for word in words[-7:-1])
-    grid = Map(rows, (start_x, start_y), (goal_x, goal_y))
+    swamp = bytes_of_rows if has_swamp else []
+    grid = Map(rows, (start_x, start_y), (goal_x, goal_y), swamp)
     if (width, height) != (grid.width, grid.height):
         raise Refused(scenario_name, place, "width or height isn't the map's")
     for what, cell in (("start", grid.start), ("goal", grid.goal)):

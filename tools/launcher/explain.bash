@@ -1,0 +1,144 @@
+# What a status means for the caller, on standard error. The launcher sources this file.
+
+load words
+
+# What `check` and `journal` load at most.
+most_judged=$((1 << 30))
+
+explain() {
+  local status=$1
+  read_words "${@:4}"
+  case $status in
+    2) explain_stop "$2" "$3" && warn_of_size ;;
+    3 | 65) explain_refusal "${@:4}" ;;
+    64) explain_words "${@:4}" ;;
+    71) say "out of memory; nothing was printed, and no file was begun" ;;
+    73) explain_file ;;
+    74) say "standard output could not be written; a first part of the report stands there" ;;
+  esac
+}
+
+# ---- a stop
+
+with_commas() {
+  local rest=$1
+  counted=''
+  while [ ${#rest} -gt 3 ]; do
+    counted=,${rest: -3}$counted
+    rest=${rest%???}
+  done
+  counted=$rest$counted
+}
+
+# Milliseconds and MiB. Of a run that was too short to be looked at no memory is known.
+explain_stop() {
+  local budget=${value_of[--budget]:-${default_of[--budget]//,/}} counted took
+  budget=${budget#+}
+  with_commas $((10#$budget))
+  printf -v took '%d.%d s' $(($1 / 1000)) $(($1 % 1000 / 100))
+  if [ "$2" -ge 1024 ]; then took+=" and $(($2 / 1024)).$(($2 % 1024 * 10 / 1024)) GiB of memory"
+  elif [ "$2" -gt 0 ]; then took+=" and $2 MiB of memory"; fi
+  took="$counted expansions took $took. Nothing is known of plans"
+  [ "$command_word" = make ] || took+='; a greater --budget goes on'
+  say "$took"
+}
+
+# Says if a saved file is too long to be judged.
+warn_of_size() {
+  local option name size
+  for option in ${saving[@]+"${saving[@]}"}; do
+    name=${value_of[$option]}
+    [ -f "$name" ] && size=$(stat -Lc %s -- "$name" 2>/dev/null) || continue
+    [ "$size" -le $most_judged ] || say "the ${saves[$option]} $(show "$name") has" \
+      "$((size >> 20)) MiB, and one of more than 1,024 MiB can't be judged by pbnf"
+  done
+}
+
+# ---- a refusal of words
+
+explain_words() {
+  local text
+  load help
+  print_usage "${1-}" >&2
+  # (the text is had by a second run, which tests the words first and looks at no file)
+  text=$("$program" "$@" 2>/dev/null) && return
+  case $text in
+    'words files') for_each form explain_form "$command_word" ;;
+    'words weight') say "N of --num is less than D of --den, and the weight N/D is at least 1" ;;
+    'words names') say "--cert and --trace are given one name" ;;
+    'words size') say "the size isn't in the range of its kind" ;;
+    *)
+      text=${text#error: }
+      text=${text%%$'\n'*}
+      say "${text//[^[:print:]]/?}"
+      ;;
+  esac
+}
+explain_form() {
+  case "$1 $kind" in
+    "$2 ${3%% *}") say "$1 $kind takes ${3#* }; so many files were named:" \
+      $((${#inputs[@]} + (${#judged} > 0))) ;;
+  esac
+}
+
+# ---- a refusal of a text
+
+# The refusal is had by a second run: it comes before any search, and nothing is saved. A pipe can't
+# be read twice.
+explain_refusal() {
+  local name refusal
+  local -a options=()
+  for name in ${judged:+"$judged"} ${inputs[@]+"${inputs[@]}"}; do [ -f "$name" ] || return; done
+  refusal=$(${with_launcher[@]+"${with_launcher[@]}"} "$program" "$@" 2>/dev/null) && return
+  [ -z "${value_of[--swamp]-}" ] || options+=(--swamp)
+  [ -z "$judged" ] || options+=(--judged "$judged")
+  python3 "$root/tools/explain-refusal" ${options[@]+"${options[@]}"} \
+    "${refusal%%$'\n'*}" "$kind" "${value_of[--row]:-0}" "${inputs[@]}" >&2 2>/dev/null
+}
+
+# ---- a file that failed
+
+# Each of these puts into `fault` what is wrong with a name, if that is seen.
+look_at_input() {
+  fault=
+  if [ ! -e "$1" ]; then fault="isn't there"
+  elif [ -d "$1" ]; then fault='is a folder'
+  elif [ ! -r "$1" ]; then fault="can't be read"; fi
+  [ "$1" != - ] || fault+='; standard input is /dev/stdin'
+}
+look_at_saved() {
+  local folder=. left=''
+  fault=
+  case $1 in */*) folder=${1%/*}/ ;; esac
+  if [ ! -d "$folder" ]; then fault="its folder isn't there"
+  elif [ -d "$1" ]; then fault='is a folder'
+  elif [ -e "$1" ] && [ ! -w "$1" ]; then fault="can't be written"
+  elif [ ! -e "$1" ] && [ ! -w "$folder" ]; then fault="its folder can't be written"
+  elif [ "$1" -ef /dev/full ]; then fault='no space left'
+  elif [ ! -e "$1" ] || [ -f "$1" ]; then
+    left=$(df -Pk -- "$folder" 2>/dev/null) && left=${left##*$'\n'}
+    [[ $left =~ ^.*\ ([0-9]+)\ +[0-9]+% && ${BASH_REMATCH[1]} -lt 64 ]] && fault='no space left'
+  fi
+}
+
+# Names the files that failed, if that is seen: the inputs, and else those that are saved, since all
+# inputs are loaded first. If nothing is seen, it names all that may have failed. An input that is
+# there and can be read hasn't, if a file was to be saved.
+explain_file() {
+  local name option fault failed='' read='' saved='' is_pipe=''
+  for name in ${judged:+"$judged"} ${inputs[@]+"${inputs[@]}"}; do
+    look_at_input "$name"
+    [ -z "$fault" ] || failed+=", $(show "$name") ($fault)"
+    [ -f "$name" ] || is_pipe=1
+    read+=", $(show "$name")"
+  done
+  [ -n "$failed" ] || for option in ${saving[@]+"${saving[@]}"}; do
+    name=${value_of[$option]}
+    look_at_saved "$name"
+    [ -z "$fault" ] || failed+=", the ${saves[$option]} $(show "$name") ($fault)"
+    saved+=", the ${saves[$option]} $(show "$name")"
+  done
+  if [ -z "$failed" ] && [ -n "$saved" ] && [ -z "$is_pipe" ]; then failed=$saved; fi
+  [ -n "$failed" ] || failed=$read$saved
+  say "a file could not be read or written: ${failed#, }"
+}

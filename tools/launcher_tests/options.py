@@ -1,0 +1,51 @@
+"""What tools/launcher/options.txt says, and the tables that docs/FORMATS.md has of it."""
+
+import re
+
+from .harness import ROOT
+
+
+def lines_of(word, root=ROOT):
+    """The parts of each line that begins with a word."""
+    found = []
+    for line in (root / "tools/launcher/options.txt").read_text().splitlines():
+        if line.startswith(word + " "):
+            found.append([it.strip() for it in line[len(word) + 1:].split("|")])
+    return found
+
+
+def number_of(text):
+    """A whole number as it stands in a range: 1,000 or 2^40 or 2^32 - 1."""
+    total = 0
+    for part in text.replace(",", "").split(" - "):
+        base, _, power = part.partition("^")
+        value = int(base) ** int(power or 1)
+        total = value if total == 0 else total - value
+    return total
+
+
+def range_of(text):
+    """Least and greatest value of a range, or None if it isn't one of numbers."""
+    found = re.fullmatch(r"([\d,^ -]+) to ([\d,^ -]+)", text)
+    return (number_of(found[1]), number_of(found[2])) if found else None
+
+
+def table_rows():
+    """The rows that docs/FORMATS.md must have, of options and of words."""
+    rows = []
+    for name, commands, what, takes, default in lines_of("option"):
+        of = ", ".join(f"`{it}`" for it in commands.split())
+        rows.append(f"| `{name}` | {of} | {what} | {takes} | {default} |")
+    for name, _, what, takes in lines_of("word"):
+        rows.append(f"| {name} | {what} | {takes} |")
+    return rows
+
+
+def form_lines():
+    """The forms of all commands, with their options if they are few."""
+    lines = []
+    for command, form in lines_of("form"):
+        options = [it[0] for it in lines_of("option") if command in it[1].split()]
+        tail = "[OPTIONS]" if len(options) > 3 else " ".join(f"[{it}]" for it in options)
+        lines.append(f"pbnf {command} {form} {tail}")
+    return lines

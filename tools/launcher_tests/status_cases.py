@@ -1,0 +1,200 @@
+"""Each status that isn't 0, and what the launcher says of it."""
+
+import gzip
+import os
+import resource
+import shutil
+import signal
+import subprocess
+
+from .harness import Failed, wait_until
+
+TWO_ROWS = "version 1\n0\tm\t3\t3\t0\t0\t2\t2\t4\n0\tm\t3\t3\t0\t0\t2\t0\t2\n"
+
+
+def words_refused(place):
+    """At 64 the usage of the command follows, and then the reason."""
+    grid = place.grid()
+    for words, out, err in (
+        ([*grid, grid[0]], None, "pbnf: unexpected argument"),
+        ([*grid, "--ro\x1bw"], None, "pbnf: unexpected argument '--ro?w' found"),
+        ([grid[0]], "words files\n", "solve grid takes MAP SCENARIO; so many files were named: 1"),
+        ([*grid, "--num", "1", "--den", "2"], "words weight\n", "less than D of --den"),
+        ([*grid, "--cert", "x", "--trace", "x"], "words names\n", "are given one name"),
+        ([*grid, "--budget", "0"], None, "pbnf: invalid value '0' for '--budget"),
+    ):
+        run = place.run("solve", "grid", *words).wants(64, out, ["usage: pbnf solve grid MAP", err])
+        if "--cert CERTIFICATE" not in run.err or not run.out:
+            raise Failed(f"a refusal and the usage were wanted:\n{run}")
+    place.run("make", "grid", "1", "4000").wants(64, "words size\n", ["usage: pbnf make grid SEED"])
+    place.run("other").wants(64, None, "usage: pbnf COMMAND KIND")
+    place.run("check", "tiles", "a", "b", "c").wants(64, "words files\n",
+                                                     "check tiles takes CERTIFICATE BOARD")
+
+
+def input_refused(place):
+    """At 65 the place in the file is shown, with the name as the shell writes it."""
+    scen = place.grid()[1]
+    cut = place.file("cut.map", "type octile\nheight 2\nwidth 3\nmap\n...\n.x.\n")
+    run = place.run("solve", "grid", cut, scen)
+    run.wants(65, "input Cell 6 2\n", [f"{cut}:6:2: ", "\n.x.\n ^"])
+    board = place.file("twice \x1b[31m.tiles", "2 2\n1 1\n2 3\n")
+    run = place.run("solve", "tiles", board).wants(65, "input Twice 1\n", "twice \\E[31m.tiles': ")
+    run.lacks("\x1b")
+    domain = place.file("domain.pddl", "(define (domain d) (:requirements :strips) (:foo))\n")
+    problem = place.example("two-blocks.pddl")
+    place.run("solve", "strips", domain, problem).wants(65, None, [f"{domain}:1:", "^"])
+    place.run("solve", "grid", place.grid()[0], scen, "--row", "7").wants(65, "input NoRow 7 1\n",
+                                                                        "there is no row 7")
+
+
+def order_of_files(place):
+    """Files in another order than they should be are recognized."""
+    grid, problem = place.grid(), place.example("two-blocks.pddl")
+    cert = place.file("order.cert", "pbnf-certificate 1\n")
+    place.run("solve", "grid", *reversed(grid)).wants(65, None, "the map comes before it")
+    place.run("check", "grid", *grid, cert).wants(65, None, "it comes first")
+    place.run("solve", "strips", problem, place.example("blocks.pddl")).wants(
+        65, None, "the domain comes before it")
+
+
+def packed_input(place):
+    """A gzipped input or certificate is recognized, and the shown words work."""
+    grid = place.grid("lake")
+    packed = place.file("lake map.gz", gzip.compress(open(grid[0], "rb").read()))
+    run = place.run("solve", "grid", packed, grid[1])
+    shown = packed.replace(" ", "\\ ")
+    run.wants(65, "input Header 1\n", f"{shown} is gzipped: give <(zcat {shown}) in its place")
+    shown_again = subprocess.run(
+        ["bash", "-c", f"{shell(place.root / 'pbnf')} solve grid <(zcat {shown}) {shell(grid[1])}"],
+        capture_output=True, env=place.env, check=False)
+    if shown_again.returncode != 0:
+        raise Failed("the shown words don't work")
+    cert = place.file("some.cert.gz", gzip.compress(b"pbnf-certificate 1\n"))
+    place.run("check", "grid", cert, *grid).wants(3, "refused Syntax 1\n", "is gzipped")
+
+
+def shell(name):
+    return "'" + str(name).replace("'", "'\\''") + "'"
+
+
+def refused_certificate(place):
+    """At 3 the fault stands in words, with the line's text."""
+    grid = place.grid()
+    cert = place.file("first.cert", "")
+    place.run("solve", "grid", *grid, "--cert", cert).wants(0)
+    text = open(cert).read()
+    for change, out, err in (
+        (("weight 1 1", "weight 0 1"), "refused Weight\n", [":3: the weight", "weight 0 1"]),
+        (("cost 4", "cost 5"), "refused Cost 5 4\n", [":9: ", "costs 5, and it costs 4", "cost 5"]),
+        (("kind grid", "kind tiles"), "refused Kind\n", [":2: ", "kind tiles"]),
+        (("plan 4\n3", "plan 4\n0"), "refused PlanStep 0\n", [":5: this step", "\n0\n"]),
+        (("end\n", "End\n"), None, ["isn't spelled as one of a certificate", "End"]),
+    ):
+        other = place.file("other.cert", text.replace(*change))
+        place.run("check", "grid", other, *grid).wants(3, out, err)
+
+
+def other_row(place):
+    """A certificate of another row of the scenario is recognized."""
+    scen = place.file("two.scen", TWO_ROWS)
+    grid = [place.grid()[0], scen]
+    cert = place.file("row.cert", "")
+    place.run("solve", "grid", *grid, "--row", "1", "--cert", cert).wants(0)
+    place.run("check", "grid", cert, *grid).wants(
+        3, "refused NotGoal\n", ["(0, 0) to (2, 0), as row 1 of the scenario does: give --row 1?"])
+    place.run("check", "grid", cert, *grid, "--row", "1").wants(0, None).lacks("give --row")
+
+
+def other_costs(place):
+    """A certificate that was made with --swamp, or without, is recognized."""
+    swamp = place.file("swamp.map", "type octile\nheight 1\nwidth 3\nmap\n.S.\n")
+    scen = place.file("swamp.scen", "version 1\n0\tm\t3\t1\t0\t0\t2\t0\t2\n")
+    cert = place.file("swamp.cert", "")
+    place.run("solve", "grid", swamp, scen, "--swamp", "--cert", cert).wants(0)
+    place.run("check", "grid", cert, swamp, scen).wants(
+        3, "refused Cost 3 2\n", "was the certificate made with --swamp?")
+    place.run("solve", "grid", swamp, scen, "--cert", cert).wants(0)
+    place.run("check", "grid", cert, swamp, scen, "--swamp").wants(
+        3, "refused Cost 2 3\n", "was the certificate made without --swamp?")
+
+
+def refused_journal(place):
+    """The same of a journal."""
+    board = place.example("four-moves.tiles")
+    journal = place.file("four.journal", "")
+    place.run("solve", "tiles", board, "--trace", journal).wants(0)
+    text = open(journal).read()
+    other = place.file("other.journal", text.replace("off 0 ok", "off 1 ok"))
+    run = place.run("journal", "tiles", other, board)
+    run.wants(3, None, ["there is no such worker", "off 1 ok"])
+    place.run("journal", "tiles", board, board).wants(3, None, "this is no journal")
+
+
+def stopped(place):
+    """At 2 the time and the memory are said, also where no terminal is."""
+    ring = place.example("ring-2x2.tiles")
+    run = place.run("solve", "tiles", ring, "--lot", "1", "--budget", "+011")
+    run.wants(2, "stopped budget 11\n", ["pbnf: 11 expansions took 0.", " s"])
+    run = place.run("make", "tiles", "1", "1000000")
+    if run.status == 2:
+        run.wants(2, None, ["16,777,216 expansions took ", " of memory"])
+    board = place.file("long.tiles", "4 4\n15 14 8 12 10 11 9 13 2 6 5 1 3 7 4 0\n")
+    run = place.run("solve", "tiles", board, "--budget", "100000")
+    run.wants(2, "stopped budget 100000\n", ["100,000 expansions took ", "MiB of memory"])
+
+
+def no_memory(place):
+    """At 71 it is said that nothing was printed."""
+    def limit():
+        resource.setrlimit(resource.RLIMIT_AS, (12 << 20, 12 << 20))
+    board = place.file("hard.tiles", "3 4\n11 10 9 8 7 6 5 4 3 2 1 0\n")
+    # (the launcher itself gets by with less address space than the program)
+    place.run("solve", "tiles", board, preexec_fn=limit).wants(71, "", "out of memory")
+
+
+def files_failed(place):
+    """At 73 the file that failed is named, and no other."""
+    grid = place.grid()
+    none = str(place.work / "nothing.scen")
+    run = place.run("solve", "grid", grid[0], none).wants(73, "", f"{none} (isn't there)")
+    run.lacks("empty-3x3")
+    place.run("solve", "grid", grid[0], str(place.work)).wants(73, "", "(is a folder)")
+    for cert, err in (("/dev/full", "the certificate /dev/full (no space left)"),
+                      ("no/x", "the certificate no/x (its folder isn't there)"),
+                      (".", "the certificate . (is a folder)")):
+        place.run("solve", "grid", *grid, "--cert", cert, "--trace", "kept.journal").wants(
+            73, "", err).lacks("empty-3x3", "kept.journal")
+    place.run("solve", "grid", *grid, "--trace=/dev/full").wants(73, "", "the journal /dev/full")
+
+
+def dash_is_a_name(place):
+    """`-` alone is a name."""
+    run = place.run("solve", "grid", "-", "--row", "3", place.grid()[1])
+    run.wants(73, "", "- (isn't there; standard input is /dev/stdin)").lacks("empty-3x3")
+    shutil.copy(place.grid()[0], place.work / "-")
+    place.run("solve", "grid", "-", place.grid()[1]).wants(0)
+    os.remove(place.work / "-")
+
+
+def output_failed(place):
+    """At 74 a first part of the report is there."""
+    with open("/dev/full", "wb") as full:
+        place.run("solve", "grid", *place.grid(), stdout=full).wants(74, "", "could not be written")
+
+
+def ended_by_a_signal(place):
+    """A program that a signal ends is said to be, with 128 and its number."""
+    board = place.file("endless.tiles", "4 4\n15 14 8 12 10 11 9 13 2 6 5 1 3 7 4 0\n")
+    with place.begin("solve", "tiles", board) as it:
+        wait_until("the program runs", lambda: place.processes(str(place.program)))
+        for process in place.processes(str(place.program)):
+            os.kill(process, signal.SIGKILL)
+        _, err = it.communicate(timeout=20)
+    if it.returncode != 137 or b"the program was ended by signal 9" not in err:
+        raise Failed(f"status {it.returncode}: {err}")
+
+
+CASES = [words_refused, input_refused, order_of_files, packed_input, refused_certificate,
+         other_row, other_costs, refused_journal, stopped, no_memory, files_failed,
+         dash_is_a_name, output_failed, ended_by_a_signal]
