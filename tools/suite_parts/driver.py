@@ -67,6 +67,7 @@ class Round:
         """Gives what there is room for. A pool of processes of which one was killed is broken as a
         whole: it is begun anew when the last of its jobs has come back."""
         if self._is_broken and not self.running:
+            print("suite: a worker was killed; its runs begin anew", file=sys.stderr)
             self.pool.restart()
             self._is_broken = False
         while self.queue and not self._is_broken and self.pool.has_room(
