@@ -3,6 +3,7 @@ executors of concurrent.futures, so one driver serves them."""
 
 from __future__ import annotations
 
+import asyncio
 import concurrent.futures
 import contextlib
 import ctypes
@@ -18,6 +19,7 @@ from .work import Job, Record, refusal_of
 
 Work = typing.Callable[[Job], Record]
 SET_DEATH_SIGNAL = 1  # PR_SET_PDEATHSIG of Linux
+PATIENCE = 300  # seconds for the first worker of a cluster, which may wait for its machine
 
 
 class Pool(typing.Protocol):
@@ -88,7 +90,7 @@ class DaskPool:
         self.name = f"Dask at {address or scheduler_file}"
         try:
             self._client = distributed.Client(address, scheduler_file=scheduler_file, timeout=20)
-        except (OSError, ValueError) as error:
+        except (OSError, ValueError, asyncio.TimeoutError) as error:
             raise Faulty(f"no Dask scheduler answers at {address or scheduler_file}: "
                          f"{error}") from error
         register_by_value()
@@ -107,7 +109,10 @@ class DaskPool:
         """Every worker must see the same program, inputs and folder as the driver."""
         if not jobs:
             return
-        self._client.wait_for_workers(1, timeout=60)
+        try:
+            self._client.wait_for_workers(1, timeout=PATIENCE)
+        except (TimeoutError, asyncio.TimeoutError) as error:
+            raise Faulty(f"no worker came to {self.name} within {PATIENCE} seconds") from error
         wrong = {worker: refusal for worker, refusal in
                  self._client.run(refusal_of, jobs[0]).items() if refusal}
         if wrong:
