@@ -9,23 +9,25 @@ import resource
 import select
 import signal
 import subprocess
+import sys
 import tempfile
 import time
 import typing
 
 MOST_OUTPUT = 64 * 2**20
+BEFORE = {"setpriv", "prlimit", os.path.basename(os.path.realpath(sys.executable))}
 
 
 @dataclasses.dataclass(frozen=True)
 class Ended:
     """How a command ended: its status, or None after a signal, and in a word why it ended: `status`,
-    `time` or `signal N`."""
+    `time` or `signal N`. Its memory isn't known if the run was too short to be looked at."""
 
     status: typing.Optional[int]
     why: str
     wall_seconds: float
     cpu_seconds: float
-    mib: float
+    mib: typing.Optional[float]
     output: str
     errors: str
 
@@ -56,10 +58,10 @@ def run_limited(words: typing.Sequence[str], folder: str, seconds: float, mib: i
         wall = time.monotonic() - began
         code = child.returncode
         # What the kernel reports is at least the memory of the process that called this.
-        peak = usage.ru_maxrss if usage.ru_maxrss > before or not seen else seen
+        peak = usage.ru_maxrss if usage.ru_maxrss > before else seen
         return Ended(code if code >= 0 and not is_late else None, why_ended(code, is_late),
                      round(wall, 4), round(usage.ru_utime + usage.ru_stime, 4),
-                     round(peak / 1024, 1), text_of(output), text_of(errors))
+                     round(peak / 1024, 1) if peak else None, text_of(output), text_of(errors))
 
 
 def why_ended(code: int, is_late: bool) -> str:
@@ -89,8 +91,11 @@ def watch(process: int, until: float) -> typing.Tuple[bool, int]:
 
 
 def memory_of(process: int) -> int:
-    """The peak memory of a process in KiB up to now, or 0 if it has ended."""
+    """The peak memory of a process in KiB up to now; 0 if it has ended, or if it isn't yet the
+    command itself, but what sets its limits."""
     try:
+        if os.path.basename(os.readlink(f"/proc/{process}/exe")) in BEFORE:
+            return 0
         with open(f"/proc/{process}/status", encoding="ascii", errors="replace") as file:
             return next((int(line.split()[1]) for line in file if line.startswith("VmHWM:")), 0)
     except OSError:

@@ -67,7 +67,7 @@ def properties_of(records: typing.Sequence[Record]) -> str:
             "unsolvable": int(record["answer"] == "none"),
             "planner_exit_code": record["status"], "node": record["host"],
             "total_time": record["cpu_s"], "planner_wall_clock_time": record["wall_s"],
-            "memory": round(1024 * record["mib"]), "cost": record.get("cost"),
+            "memory": record["mib"] and round(1024 * record["mib"]), "cost": record.get("cost"),
             "plan_length": record.get("steps"), "expansions": record.get("expansions"),
             "cost_bound_below": record.get("bound"), "certificate_rows": record.get("rows"),
             "certified": record.get("certified") and int(record["certified"])}

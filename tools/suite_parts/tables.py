@@ -80,7 +80,7 @@ def rows_by_task(records: typing.Sequence[Record]) -> typing.List[Row]:
     records = in_order(records)
     body = [[record["task"], record["column"], claim(record), number(record.get("steps")),
              verdict(record), number(record.get("expansions")), number(record.get("rows")),
-             number(1000 * record["cpu_s"], 1), number(record["mib"], 0)] for record in records]
+             number(1000 * record["cpu_s"], 1), number(record.get("mib"), 0)] for record in records]
     if any(record["kind"] == "grid" for record in records):
         head.insert(3, "stated length")
         for row, record in zip(body, records):
@@ -103,7 +103,7 @@ def rows_by_domain(records: typing.Sequence[Record]) -> typing.List[Row]:
     for (domain, column), group in groups:
         alike = [record for record in group if task_key(record) in common]
         means = [geometric_mean(map(reading, alike)) for reading in (
-            lambda record: 1000 * record["cpu_s"], lambda record: record["mib"],
+            lambda record: 1000 * record["cpu_s"], lambda record: record.get("mib"),
             lambda record: record.get("expansions"), lambda record: record.get("rows"))]
         rows.append([
             domain, column, str(len(group)), count(group, "plan"), count(group, "none"),

@@ -29,7 +29,6 @@ class Limits(Case):
             "good": "plan", "endless": "time", "greedy": "memory", "killed": "signal",
             "wrong": "plan", "stopped": "stopped", "faulty": "refused", "hda": "plan"})
         self.assertGreater(found["greedy"]["mib"], 100)
-        self.assertLess(found["good"]["mib"], 100)
         self.assertTrue(found["good"]["certified"] and found["hda"]["certified"])
         self.assertFalse(found["wrong"]["certified"])
         self.assertEqual(found["good"]["expansions"], 4)
