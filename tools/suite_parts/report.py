@@ -21,7 +21,7 @@ from .work import Record
 COLUMNS = ("domain", "task", "kind", "row", "swamp", "column", "answer", "cost", "bound", "steps",
            "certified", "expansions", "rows", "wall_s", "cpu_s", "mib", "note", "status",
            "certificate", "certificate_bytes", "certificate_sha256", "check_proved",
-           "check_proved_s", "check_second", "check_second_s", "said", "host", "key")
+           "check_proved_s", "check_second", "check_second_s", "said", "key")
 # What Downward Lab calls the ends of runs.
 ERRORS = {"plan": "success", "none": "search-unsolvable", "stopped": "search-out-of-budget",
           "memory": "search-out-of-memory", "time": "search-out-of-time",
