@@ -1,0 +1,155 @@
+#!/usr/bin/env python3
+"""A stand-in for the built program in the tests of tools/suite: `solve` by a plain A* over the tasks
+of the second checker, with certificate and journal, and `check` by that checker.
+
+Some lots make it behave badly on purpose: 2001 never ends, 2002 takes memory without end, 2003 ends
+by a signal, 2004 saves a certificate with another cost. The file that STAND_IN_LOG names gets a line
+for each search that ended, and STAND_IN_PAUSE is how many seconds a search takes.
+"""
+
+import argparse
+import heapq
+import os
+import pathlib
+import signal
+import sys
+import time
+
+sys.dont_write_bytecode = True
+sys.path.insert(0, str(pathlib.Path(__file__).resolve().parent.parent.parent / "checker"))
+
+import pbnf_check  # noqa: E402
+
+STEPS = ("up", "down", "left", "right")
+ENDLESS, GREEDY, KILLED, WRONG = 2001, 2002, 2003, 2004
+
+
+def options_of(words):
+    parser = argparse.ArgumentParser()
+    parser.add_argument("command", choices=("solve", "check"))
+    parser.add_argument("kind")
+    parser.add_argument("files", nargs="+")
+    for name, default in (("row", 0), ("lot", 256), ("budget", 2**24), ("workers", 1), ("num", 1),
+                          ("den", 1), ("blocks", 256)):
+        parser.add_argument(f"--{name}", type=int, default=default)
+    parser.add_argument("--swamp", action="store_true")
+    parser.add_argument("--plain", action="store_true")
+    parser.add_argument("--engine")
+    parser.add_argument("--cert")
+    parser.add_argument("--trace")
+    try:
+        return parser.parse_args(words)
+    except SystemExit:
+        sys.exit(64)
+
+
+def search(task, budget):
+    """Rows by state, the goal if one was reached, and how many expansions were made. None if the
+    budget is used up."""
+    rows, parents, closed, made = {task.start: 0}, {}, set(), 0
+    queue = [(task.estimate(task.start), task.start)]
+    while queue:
+        _, state = heapq.heappop(queue)
+        if state in closed:
+            continue
+        if task.estimate(state) == 0:
+            return rows, closed, parents, state, made
+        if made == budget:
+            return None
+        made += 1
+        closed.add(state)
+        for action in range(len(task.actions)):
+            to = task.step(state, action)
+            g = rows[state] + (task.cost(action, to) if to is not None else 0)
+            if to is not None and g < rows.get(to, float("inf")):
+                rows[to], parents[to] = g, (state, action)
+                closed.discard(to)
+                if task.estimate(to) < float("inf"):
+                    heapq.heappush(queue, (g + task.estimate(to), to))
+    return rows, closed, parents, None, made
+
+
+def plan_to(state, parents):
+    actions = []
+    while state in parents:
+        state, action = parents[state]
+        actions.append(action)
+    return actions[::-1]
+
+
+def certificate_of(kind, plan, cost, rows, closed):
+    lines = ["pbnf-certificate 1", f"kind {kind}", "weight 1 1"]
+    lines += ["none"] if plan is None else [f"plan {len(plan)}", *map(str, plan), f"cost {cost}"]
+    lines.append(f"rows {len(rows)}")
+    lines += [f"{state:064x} {g} {'closed' if state in closed else 'cut'}"
+              for state, g in sorted(rows.items())]
+    return "\n".join([*lines, "end", ""])
+
+
+def solve(options):
+    texts = [pathlib.Path(name).read_bytes() for name in options.files]
+    try:
+        task = pbnf_check.KINDS[options.kind][0](options.row, *texts, swamp=options.swamp)
+    except pbnf_check.Refused as refused:
+        print("input", *refused.args)
+        return 65
+    misbehave(options.lot)
+    found = search(task, options.budget)
+    if found is None:
+        print(f"stopped budget {options.budget}")
+        return 2
+    rows, closed, parents, goal, made = found
+    plan = None if goal is None else plan_to(goal, parents)
+    cost = None if goal is None else rows[goal]
+    if options.cert:
+        said = cost + 1 if options.lot == WRONG else cost
+        pathlib.Path(options.cert).write_text(
+            certificate_of(options.kind, plan, said, rows, closed))
+    if options.trace:
+        pathlib.Path(options.trace).write_text(f"pbnf-journal 1\nrelease 0 {made} ok\n")
+    report(task, plan, cost)
+    return 1 if plan is None else 0
+
+
+def misbehave(lot):
+    time.sleep(float(os.environ.get("STAND_IN_PAUSE", "0")))
+    while lot == ENDLESS:
+        time.sleep(1)
+    if lot == GREEDY:
+        try:
+            taken = []
+            while True:
+                taken.append(bytearray(2**24))
+        except MemoryError:
+            sys.exit(71)
+    if lot == KILLED:
+        os.kill(os.getpid(), signal.SIGSEGV)
+
+
+def report(task, plan, cost):
+    if "STAND_IN_LOG" in os.environ:
+        with open(os.environ["STAND_IN_LOG"], "a", encoding="utf-8") as file:
+            file.write(" ".join(sys.argv[1:]) + "\n")
+    if plan is None:
+        print("none")
+        return
+    print(f"plan {cost} {len(plan)}")
+    for action in plan:
+        print(STEPS[action] if task.kind != "strips" else f"(action {action})")
+    print(f"bound {cost}")
+
+
+def main(words):
+    options = options_of(words)
+    if options.engine == "hda" and options.trace:
+        print("words engine")
+        return 64
+    if options.command == "check":
+        status, line = pbnf_check.answer(words)
+        print(line)
+        return status
+    return solve(options)
+
+
+if __name__ == "__main__":
+    sys.exit(main(sys.argv[1:]))
