@@ -1,0 +1,1 @@
+"""Parts of the tools for tasks, plans and certificates: plan-as, judge-plan, prepare-pddl and more."""
