@@ -22,12 +22,13 @@ WRONG_WORDS, REFUSED, NO_PROGRAM, NOT_WRITTEN = 2, 65, 70, 73
 class Parser(argparse.ArgumentParser):
     """Ends with status 2 and one line at a faulty command line."""
 
-    def __init__(self, prog: str, description: str | None) -> None:
-        super().__init__(prog=f"tools/{prog}", description=description,
+    def __init__(self, prog: str, description: str | None = None, **others) -> None:
+        prog = prog if prog.startswith("tools/") else f"tools/{prog}"
+        super().__init__(prog=prog, description=description, **others,
                          formatter_class=argparse.RawDescriptionHelpFormatter)
 
     def error(self, message: str):
-        name = self.prog.removeprefix("tools/")
+        name = self.prog.removeprefix("tools/").split(" ")[0]
         self.exit(WRONG_WORDS, f"{name}: {message}; see `{self.prog} --help`\n")
 
 
