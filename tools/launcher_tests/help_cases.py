@@ -178,5 +178,5 @@ def defaults(place):
 
 
 CASES = [help_of_all, help_of_each, version, program_refuses_help, no_words,
-         help_on_a_closed_output, tables_of_the_page, building_time, examples, ranges_of_options, ranges_of_words,
-         commands_of_options, defaults]
+         help_on_a_closed_output, tables_of_the_page, building_time, examples,
+         ranges_of_options, ranges_of_words, commands_of_options, defaults]
