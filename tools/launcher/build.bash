@@ -3,6 +3,9 @@
 load words
 log=$root/build.log
 
+# How long the building takes; the README has the same words.
+usual_time='40 to 50 minutes on 4 cores'
+
 # The crates of the program, those below it first. Each has a line NAME: DEP DEP .. in crates.txt,
 # maybe with words before the colon.
 declare -gA below=() all_below=()
@@ -239,7 +242,7 @@ run_builder() {
 
 # Says what is to be done. The line that is rewritten on a terminal is kept short, so that it fits.
 say_what_is_built() {
-  [ $done_count -gt 0 ] || say "the program is proved and built first: 40 to 50 minutes on 4 cores"
+  [ $done_count -gt 0 ] || say "the program is proved and built first: $usual_time"
   say "$done_count of ${#crates[@]} crates are proved and built (log: $(show "$log"))"
 }
 

@@ -1,5 +1,6 @@
 """Help, the version, and the options' file beside the program and docs/FORMATS.md."""
 
+import re
 import subprocess
 
 from .harness import ROOT, Failed
@@ -75,6 +76,14 @@ def tables_of_the_page(place):
         for row in found:
             if row not in wanted:
                 raise Failed(f"docs/FORMATS.md has this line, and options.txt has not:\n{row}")
+
+
+def building_time(place):
+    """The launcher and the README say the same of how long the building takes."""
+    text = (ROOT / "tools/launcher/build.bash").read_text()
+    words = re.search(r"usual_time='(.*)'", text)[1]
+    if words not in (ROOT / "README.md").read_text():
+        raise Failed(f"the README doesn't say {words!r}")
 
 
 def examples(place):
@@ -169,5 +178,5 @@ def defaults(place):
 
 
 CASES = [help_of_all, help_of_each, version, program_refuses_help, no_words,
-         help_on_a_closed_output, tables_of_the_page, examples, ranges_of_options, ranges_of_words,
-         commands_of_options, defaults]
+         help_on_a_closed_output, tables_of_the_page, building_time, examples,
+         ranges_of_options, ranges_of_words, commands_of_options, defaults]

@@ -4,6 +4,8 @@ import argparse
 import os
 import sys
 
+from names import quoted
+
 from .blocks_picture import draw_blocks
 from .frontier_picture import draw_frontier
 from .grid_picture import draw_plan
@@ -97,6 +99,6 @@ def main(words):
         with open(options.out, "w", encoding="utf-8") as file:
             file.write(svg)
     except OSError as fault:
-        print(f"picture: {options.out}: {os.strerror(fault.errno or 0)}", file=sys.stderr)
+        print(f"picture: {quoted(options.out)}: {os.strerror(fault.errno or 0)}", file=sys.stderr)
         return 73
     return 0

@@ -6,6 +6,8 @@ A file of another form is refused: `Refused` has one line with the file, the pla
 import os
 import re
 
+from names import quoted
+
 INPUT_BYTES = 16 * 2**20
 CERTIFICATE_BYTES = 2**30
 GRID_MOVES = {"up": (0, -1), "down": (0, 1), "left": (-1, 0), "right": (1, 0)}
@@ -16,7 +18,7 @@ class Refused(Exception):
     """A file that isn't as its format says."""
 
     def __init__(self, name, place, fault):
-        where = f"{name}: {place}: " if place else f"{name}: "
+        where = f"{quoted(name)}: {place}: " if place else f"{quoted(name)}: "
         super().__init__(where + fault)
 
 
