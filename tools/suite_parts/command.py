@@ -16,7 +16,7 @@ from .pools import DaskPool, LocalPool, opened
 from .results import Results
 from .tasks import Faulty, tasks_of
 from .version import version_of
-from .work import Job, Record, run_job, sum_of
+from .work import Job, run_job, sum_of
 
 ROOT = pathlib.Path(__file__).resolve().parent.parent.parent
 BUILT = ROOT / "crates" / "pbnf" / "out" / "pbnf"
@@ -78,7 +78,7 @@ def parser_of() -> Parser:
     show.add_argument("--markdown", action="store_true", help="tables of Markdown")
     show.set_defaults(call=show_results)
     report = words.add_parser("report", help="results.csv, report.html with plots, and the file "
-                                             "`properties` that Downward Lab reads")
+                                             "`properties` in the form of Downward Lab")
     report.add_argument("folder", metavar="DIR")
     report.set_defaults(call=report_results)
     add_verify(words)
@@ -217,25 +217,17 @@ def run_suite(options: argparse.Namespace) -> int:
     done = results.find_done()
     to_do = [job for job in jobs if job["key"] not in done]
     say(f"{len(to_do)} runs to do, {len(jobs) - len(to_do)} are done")
-    if not to_do:
-        return OK
-    refused = []
-
-    def take(record: Record) -> None:
-        results.add(record)
-        if record.get("certified") is False:
-            refused.append(record)
-            say(f"NOT CERTIFIED: {record['task']}, {record['column']}")
-
-    with opened(pool_of(options, to_do)) as pool:
-        lost = run_all(pool, run_job, to_do, take)
-    for job in lost:
-        say(f"no record: {job['task']}, {job['column']}: its worker was killed each time")
-    from .tables import contradictions
-    against = contradictions(results.read())
-    for line in against:
+    lost: typing.List[Job] = []
+    if to_do:
+        with opened(pool_of(options, to_do)) as pool:
+            lost = run_all(pool, run_job, to_do, results.add)
+    faults = [f"no record: {job['task']}, {job['column']}: its worker was killed each time"
+              for job in lost]
+    from .tables import contradictions, not_certified
+    faults += not_certified(results.read()) + contradictions(results.read())
+    for line in faults:
         say(line)
-    return FAULT if refused or lost or against else OK
+    return FAULT if faults else OK
 
 
 def show_results(options: argparse.Namespace) -> int:

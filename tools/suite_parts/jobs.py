@@ -5,6 +5,7 @@ from __future__ import annotations
 import dataclasses
 import hashlib
 import json
+import os
 import re
 import shlex
 import shutil
@@ -85,8 +86,8 @@ class Settings:
 
     def text(self) -> str:
         shown = dataclasses.asdict(self) | {"format": "pbnf-suite 1"}
-        # (where the program lies on this machine is no part of what was run)
-        shown["program"] = {name: self.program[name] for name in ("sha256", "version")}
+        # (where the program lies, and which commit it is called by, is no part of what was run)
+        shown["program"] = self.program["sha256"]
         shown["checkers"] = [checker["name"] for checker in self.checkers]
         return json.dumps(shown, indent=1, sort_keys=True) + "\n"
 
@@ -94,36 +95,48 @@ class Settings:
 def job_of(task: Task, column: Column, settings: Settings, folder: str,
            inputs: typing.List[typing.Dict[str, str]]) -> Job:
     is_pbnf = not column.command
-    paths = [file["path"] for file in inputs]
-    swamp = "--swamp" in column.options
-    if is_pbnf:
-        row = [f"--row={task.row}"] if task.kind == "grid" else []
-        words = ["solve", task.kind, *paths, *row, *column.options]
-        programs = [{"path": settings.program["path"], "sha256": settings.program["sha256"]}]
-        command = [settings.program["path"], *words]
-    else:
-        values = dict(zip(FILE_WORDS[task.kind], paths)) | {"row": str(task.row)}
-        words = [filled(word, values) for word in column.command]
-        programs = [{"path": column.command[0], "sha256": sum_of(column.command[0])}]
-        command = words
+    program, words = program_and_words(task, column, settings, [file["path"] for file in inputs])
     checkers = list(settings.checkers) if is_pbnf else []
-    identity = [task.name, task.kind, task.row, [file["sha256"] for file in inputs], column.name,
-                list(column.options), list(column.command), column.reader]
-    key = hashlib.sha256(json.dumps(identity).encode()).hexdigest()[:24]
+    key = key_of(task, column, inputs)
     return {
         "key": key, "name": f"{plain(task.name)}.{plain(column.name)}.{key[:8]}",
         "task": task.name, "domain": task.domain, "kind": task.kind, "note": task.note,
-        "row": task.row, "swamp": swamp, "column": column.name, "reader": column.reader,
-        "folder": folder, "inputs": inputs, "words": words, "command": command,
-        "program": {"sha256": programs[0]["sha256"],
-                    "version": settings.program["version"] if is_pbnf else column.command[0]},
-        "programs": programs + [{"path": checker["path"], "sha256": checker["sha256"]}
-                                for checker in checkers],
+        "row": task.row, "swamp": "--swamp" in column.options, "column": column.name,
+        "reader": column.reader, "folder": folder, "inputs": inputs, "words": words,
+        "command": [program["path"], *words], "program": {
+            name: program[name] for name in ("sha256", "version")},
+        "needs": needs_of("program", [program, *checkers]) + needs_of("input", inputs, folder),
         "limits": {"seconds": settings.seconds, "mib": settings.mib},
         "check_limits": {"seconds": settings.check_seconds, "mib": settings.check_mib},
-        "checkers": checkers, "is_pbnf": is_pbnf, "certified": is_pbnf and (
-            bool(checkers) or settings.keep),
-        "journal": is_pbnf and settings.journal, "keep": settings.keep, "places": column.places}
+        "checkers": checkers, "is_pbnf": is_pbnf,
+        "certified": is_pbnf and (bool(checkers) or settings.keep), "keep": settings.keep,
+        "journal": is_pbnf and settings.journal, "places": column.places}
+
+
+def program_and_words(task: Task, column: Column, settings: Settings, paths: typing.List[str]
+                      ) -> typing.Tuple[typing.Dict[str, str], typing.List[str]]:
+    """What is run, with its words. Names of inputs are seen from the results folder."""
+    if not column.command:
+        row = [f"--row={task.row}"] if task.kind == "grid" else []
+        return settings.program, ["solve", task.kind, *paths, *row, *column.options]
+    path, *words = column.command
+    values = dict(zip(FILE_WORDS[task.kind], paths)) | {"row": str(task.row)}
+    return ({"path": path, "sha256": sum_of(path), "version": path},
+            [filled(word, values) for word in words])
+
+
+def key_of(task: Task, column: Column, inputs: typing.List[typing.Dict[str, str]]) -> str:
+    """What tells a run from all others of its folder."""
+    identity = [task.name, task.kind, task.row, [file["sha256"] for file in inputs], column.name,
+                list(column.options), list(column.command), column.reader]
+    return hashlib.sha256(json.dumps(identity).encode()).hexdigest()[:24]
+
+
+def needs_of(what: str, files: typing.Sequence[typing.Dict[str, typing.Any]], folder: str = ""
+             ) -> typing.List[typing.Dict[str, str]]:
+    """Files that a worker must have with the same sums."""
+    return [{"what": what, "path": os.path.join(folder, file["path"]), "sha256": file["sha256"]}
+            for file in files]
 
 
 def filled(word: str, values: typing.Dict[str, str]) -> str:

@@ -55,7 +55,7 @@ def csv_of(records: typing.Sequence[Record]) -> str:
 
 
 def properties_of(records: typing.Sequence[Record]) -> str:
-    """Runs by their names in the words of Downward Lab: memory in KiB, times in seconds."""
+    """Runs by their names, with the attributes of Downward Lab: memory in KiB, times in seconds."""
     found = {}
     for record in records:
         problem = record["task"].partition(":")[2] or record["task"]

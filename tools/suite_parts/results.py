@@ -130,6 +130,6 @@ def demand_same(before: str, now: str, folder: pathlib.Path) -> None:
 
 
 def short(value: typing.Any) -> str:
-    if isinstance(value, dict):
-        return f"{value.get('sha256', '')[:16]}.."
+    if isinstance(value, str) and len(value) == 64:
+        return f"{value[:16]}.."
     return "+".join(value) if isinstance(value, list) else str(value)

@@ -28,6 +28,12 @@ def claim(record: Record) -> str:
     return "none" if record["answer"] == "none" else REASONS.get(record["answer"], "failed")
 
 
+def not_certified(records: typing.Sequence[Record]) -> typing.List[str]:
+    """The runs whose certificate a checker didn't accept as what was printed."""
+    return [f"NOT CERTIFIED: {record['task']}, {record['column']}"
+            for record in in_order(records) if record.get("certified") is False]
+
+
 def contradictions(records: typing.Sequence[Record]) -> typing.List[str]:
     """The tasks of which two columns say what can't both be true."""
     found = []

@@ -13,6 +13,7 @@ import pathlib
 import typing
 
 from .driver import run_all
+from .jobs import needs_of
 from .results import Results
 from .tables import claim
 from .tasks import Faulty
@@ -60,8 +61,7 @@ def job_of_record(folder: pathlib.Path, name: str, record: Record, checkers: Che
             "swamp": record["swamp"], "inputs": record["inputs"], "places": 1, "key": name,
             "certificate": record["certificate"], "certified": True, "checkers": list(checkers),
             "certificate_sha256": record["certificate_sha256"],
-            "programs": [{"path": checker["path"], "sha256": checker["sha256"]}
-                         for checker in checkers],
+            "needs": needs_of("checker", checkers),
             "check_limits": {"seconds": options.check_seconds, "mib": options.check_mib},
             "settings": settings_of(folder)}
 

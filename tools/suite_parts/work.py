@@ -17,7 +17,6 @@ import shutil
 import socket
 import sys
 import tempfile
-import time
 import typing
 import zlib
 
@@ -43,10 +42,8 @@ def refusal_of(job: Job) -> typing.Optional[str]:
     settings = os.path.join(job["folder"], "suite.json")
     if not os.path.exists(settings) or sum_of(settings) != job["settings"]:
         return f"it doesn't see the results folder {job['folder']}"
-    wanted = [(file["path"], file["sha256"], "program") for file in job["programs"]]
-    wanted += [(os.path.join(job["folder"], file["path"]), file["sha256"], "input")
-               for file in job["inputs"]]
-    for path, total, what in wanted:
+    for file in job["needs"]:
+        path, what, total = file["path"], file["what"], file["sha256"]
         if not os.path.exists(path):
             return f"it has no {what} {path}"
         if sum_of(path) != total:
@@ -204,7 +201,9 @@ def keep_certificate(job: Job, record: Record, certificate: str) -> None:
 def verify_job(job: Job) -> Record:
     """Unpacks a kept certificate and has it checked. Nothing of the record is taken but which
     files belong together; the sums are of the files that are there."""
-    began = time.monotonic()
+    refusal = refusal_of(job)
+    if refusal:
+        return {"refused": refusal, "host": socket.gethostname()}
     found: Record = {"name": job["name"], "faults": []}
     for file in job["inputs"]:
         path = os.path.join(job["folder"], file["path"])
@@ -221,7 +220,6 @@ def verify_job(job: Job) -> Record:
         if sum_of(certificate) != job["certificate_sha256"]:
             found["faults"].append("the certificate isn't the one that the record names")
         found |= judge(job, certificate, None, scratch)
-    found["seconds"] = round(time.monotonic() - began, 3)
     return found
 
 

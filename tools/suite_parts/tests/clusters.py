@@ -128,7 +128,7 @@ class Clusters(Case):
         record = next(iter(self.records().values()))
         return {**record, "folder": str(self.out), "places": 1, "name": "any",
                 "settings": work.sum_of(str(self.out / "suite.json")),
-                "programs": [{"path": STAND_IN, "sha256": 64 * "0"}]}
+                "needs": [{"what": "program", "path": STAND_IN, "sha256": 64 * "0"}]}
 
     def test_a_folder_that_no_worker_sees(self) -> None:
         job = {"folder": "/nowhere", "settings": "", "places": 1}
