@@ -19,7 +19,7 @@ class Limits(Case):
     def test_ends_are_told_apart(self) -> None:
         columns = [word for name, options in self.COLUMNS.items()
                    for word in ("--column", f"{name}={options}")]
-        run = self.run_suite(BOARD, *columns, "--seconds", 4, "--mib", 250, "--journal",
+        run = self.run_suite(BOARD, *columns, "--seconds", 15, "--mib", 250, "--journal",
                              "--processes", 4)
         self.assertEqual(run.returncode, 1, run.stderr)
         self.assertIn("NOT CERTIFIED: four-moves, wrong", run.stderr)
