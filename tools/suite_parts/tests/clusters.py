@@ -6,6 +6,7 @@ import json
 import contextlib
 import os
 import pathlib
+import shutil
 import signal
 import subprocess
 import sys
@@ -54,14 +55,13 @@ class Clusters(Case):
     @classmethod
     def setUpClass(cls) -> None:
         packages.load("distributed")
-        cls._place = tempfile.TemporaryDirectory(prefix="suite-check-dask-",
-                                                 ignore_cleanup_errors=True)
-        cls.cluster = Cluster(pathlib.Path(cls._place.name))
+        cls._place = pathlib.Path(tempfile.mkdtemp(prefix="suite-check-dask-"))
+        cls.cluster = Cluster(cls._place)
 
     @classmethod
     def tearDownClass(cls) -> None:
         cls.cluster.close()
-        cls._place.cleanup()
+        shutil.rmtree(cls._place, ignore_errors=True)
 
     def setUp(self) -> None:
         super().setUp()

@@ -19,7 +19,7 @@ SUITE = str(TOOLS / "suite")
 STAND_IN = str(TOOLS / "suite_parts" / "stand_in.py")
 EXAMPLES = ROOT / "examples"
 BOARD = str(EXAMPLES / "four-moves.tiles")
-PATIENCE = 60.0
+PATIENCE = 300.0
 
 
 class Case(unittest.TestCase):
@@ -38,7 +38,7 @@ class Case(unittest.TestCase):
 
     def call(self, *words: typing.Any, pause: float = 0.0) -> subprocess.CompletedProcess:
         """Runs the tool to its end."""
-        return subprocess.run(self.words(*words), capture_output=True, text=True, timeout=120,
+        return subprocess.run(self.words(*words), capture_output=True, text=True, timeout=600,
                               env={**self.environment, "STAND_IN_PAUSE": str(pause)}, check=False)
 
     def run_suite(self, *words: typing.Any, pause: float = 0.0) -> subprocess.CompletedProcess:
@@ -102,7 +102,7 @@ def board_of(number: int) -> typing.List[int]:
 
 
 def wait_for(holds: typing.Callable[[], typing.Any], what: str) -> None:
-    """Waits until something holds, and fails if it doesn't in a minute."""
+    """Waits until something holds, and fails if it never does."""
     until = time.monotonic() + PATIENCE
     while not holds():
         if time.monotonic() > until:

@@ -53,7 +53,7 @@ class Folders(Case):
         second = self.run_suite(BOARD)
         self.assertEqual(second.returncode, 64)
         self.assertIn("another tools/suite writes to", second.stderr)
-        self.assertEqual(first.wait(timeout=60), 0)
+        self.assertEqual(first.wait(timeout=600), 0)
 
     def test_the_record_says_what_was_run(self) -> None:
         self.assertEqual(self.run_suite(EXAMPLES / "lake.scen", "--column",

@@ -19,7 +19,7 @@ class Limits(Case):
     def test_ends_are_told_apart(self) -> None:
         columns = [word for name, options in self.COLUMNS.items()
                    for word in ("--column", f"{name}={options}")]
-        run = self.run_suite(BOARD, *columns, "--seconds", 4, "--mib", 250, "--journal",
+        run = self.run_suite(BOARD, *columns, "--seconds", 15, "--mib", 250, "--journal",
                              "--processes", 4)
         self.assertEqual(run.returncode, 1, run.stderr)
         self.assertIn("NOT CERTIFIED: four-moves, wrong", run.stderr)
@@ -62,7 +62,7 @@ class Kills(Case):
     def test_the_driver_is_interrupted(self) -> None:
         driver = self.begin_and_wait(2)
         driver.send_signal(signal.SIGINT)
-        _, errors = driver.communicate(timeout=60)
+        _, errors = driver.communicate(timeout=600)
         self.assertEqual(driver.returncode, 130, errors)
         self.assertIn("the same command goes on", errors)
         self.assertEqual(processes_with(str(self.place)), [])
@@ -75,7 +75,7 @@ class Kills(Case):
         self.assertEqual(len(workers), 2)
         before = set(self.records())
         os.kill(int(workers[0]), signal.SIGKILL)
-        _, errors = driver.communicate(timeout=120)
+        _, errors = driver.communicate(timeout=600)
         self.assertEqual(driver.returncode, 0, errors)
         self.assertIn("a worker was killed", errors)
         self.demand_all_once(self.COUNT, before)
