@@ -12,26 +12,32 @@ EITHERS = ["(either k0 k1)", "k0", "k1", "k", "object", "k", "object"]
 
 
 def problem(random: Random) -> tuple[str, str]:
-    """The texts of a domain and a problem."""
+    """The texts of a domain and a problem; most have a plan with steps."""
+    while True:
+        domain, problem_without_goal, fluent, names = draw(random)
+        if random.random() < 0.15:
+            goal = [condition(random, fluent, names) for _ in range(random.randint(1, 4))]
+        else:
+            goal = reached_goal(random, Search(domain, problem_without_goal.format("")), fluent,
+                                names)
+        if goal:
+            return domain, problem_without_goal.format(" ".join(goal))
+
+
+def draw(random: Random) -> tuple[str, str, dict[str, int], list[str]]:
+    """A domain, a problem but for its goal, and what goals are made of."""
     kinds = random.choice(TYPES)
-    names = [name for name in kinds.split() if name.startswith("k")]
-    objects = {f"o{number}": random.choice(names) for number in range(random.randint(2, 3))}
-    predicates = {f"p{number}": random.choice([0, 1, 1, 2]) for number in range(3)}
-    predicates |= {"s0": random.choice([1, 2]), "s1": 2}  # static ones
+    types = [name for name in kinds.split() if name.startswith("k")]
+    objects = {f"o{number}": random.choice(types) for number in range(random.randint(2, 3))}
+    fluent = {"p0": random.choice([0, 1, 2]), "p1": random.choice([1, 2]), "p2": 1}
+    predicates = {**fluent, "s0": random.choice([1, 2]), "s1": 2}  # (two are static)
     functions = {"f0": random.choice([0, 1, 2]), "f1": 1}
     costs = random.choice(["none", "small", "small", "zero", "zero", "large"])
     actions = [action(random, number, predicates, functions, list(objects)[:1], costs)
                for number in range(random.randint(2, 4))]
     domain = domain_text(kinds, list(objects)[0], objects, predicates, functions, actions, costs)
-    head, init = problem_parts(random, objects, predicates, functions, costs)
-    fluent = {name: arity for name, arity in predicates.items() if name.startswith("p")}
-    goal = [condition(random, predicates if random.random() < 0.2 else fluent, list(objects))
-            for _ in range(random.randint(1, 4))]
-    metric = "" if costs == "none" else "\n(:metric minimize (total-cost))"
-    if random.random() < 0.85:
-        search = Search(domain, f"({head} {init} (:goal (and)) {metric})")
-        goal = reached_goal(random, search, fluent, list(objects)) or goal
-    return domain, f"({head}\n{init}\n(:goal (and {' '.join(goal)})){metric})\n"
+    return (domain, problem_text(random, objects, predicates, functions, costs), fluent,
+            list(objects))
 
 
 def reached_goal(random: Random, search: Search, fluent: dict[str, int],
@@ -46,7 +52,7 @@ def reached_goal(random: Random, search: Search, fluent: dict[str, int],
     turned = [atom for atom in atoms if (atom in start) != (atom in state)]
     if not turned:
         return []
-    chosen = random.sample(turned, min(len(turned), random.randint(1, 3)))
+    chosen = random.sample(turned, min(len(turned), random.randint(1, 4)))
     chosen += random.sample(atoms, min(len(atoms), random.randint(0, 2)))
     return [f"({' '.join(atom)})" if atom in state else f"(not ({' '.join(atom)}))"
             for atom in chosen]
@@ -77,10 +83,14 @@ def action(random: Random, number: int, predicates: dict[str, int], functions: d
     parameters = [f"?x{place}" for place in range(random.randint(0, 3))]
     typed = " ".join(f"{name} - {random.choice(EITHERS)}" for name in parameters)
     terms = parameters + constants
-    needs = [condition(random, predicates, terms) for _ in range(random.randint(0, 3))]
+    needs = [condition(random, predicates, terms) for _ in range(random.choice([0, 1, 1, 2, 3]))]
     fluent = {name: arity for name, arity in predicates.items() if name.startswith("p")}
-    effects = [atom(random, fluent, terms) for _ in range(random.randint(1, 3))]
+    effects = [atom(random, fluent, terms) for _ in range(random.randint(1, 2))]
     effects = [f"(not {effect})" if random.random() < 0.4 else effect for effect in effects]
+    if random.random() < 0.6:  # (something moves, perhaps to where it is)
+        moved = random.choice([name for name in fluent if terms or fluent[name] == 0])
+        effects += [f"(not {atom(random, {moved: fluent[moved]}, terms)})",
+                    atom(random, {moved: fluent[moved]}, terms)]
     effects += increase(random, functions, terms, costs)
     return (f"(:action a{number} :parameters ({typed})\n  :precondition (and {' '.join(needs)})\n"
             f"  :effect (and {' '.join(effects)}))")
@@ -108,19 +118,23 @@ def domain_text(kinds: str, constant: str, objects: dict[str, str], predicates: 
             f"(:predicates {declared(predicates)})\n{total}{lines})\n")
 
 
-def problem_parts(random: Random, objects: dict[str, str], predicates: dict[str, int],
-                  functions: dict[str, int], costs: str) -> tuple[str, str]:
-    """The problem's text up to its objects, and its section `:init`."""
+def problem_text(random: Random, objects: dict[str, str], predicates: dict[str, int],
+                 functions: dict[str, int], costs: str) -> str:
+    """The problem's text, with `{}` in place of its goal."""
     names = list(objects)
-    facts = {atom(random, predicates, names) for _ in range(random.randint(1, 8))}
+    density = random.choice([0.2, 0.4, 0.6])
+    facts = {f"({' '.join([name, *terms])})" for name, arity in predicates.items()
+             for terms in tuples(names, arity) if random.random() < density}
+    metric = ""
     if costs != "none":
+        metric = "(:metric minimize (total-cost))"
         for name, arity in functions.items():
             for terms in tuples(names, arity):
-                if random.random() < 0.8:
+                if random.random() < 0.9:
                     facts.add(f"(= ({' '.join([name, *terms])}) {value(random, costs)})")
     listed = " ".join(f"{name} - {objects[name]}" for name in names[1:])
-    return (f"define (problem drawn) (:domain drawn)\n(:objects {listed})",
-            f"(:init {' '.join(sorted(facts))})")
+    return (f"(define (problem drawn) (:domain drawn)\n(:objects {listed})\n"
+            f"(:init {' '.join(sorted(facts))})\n(:goal (and {{}}))\n{metric})\n")
 
 
 def tuples(names: list[str], arity: int) -> list[tuple[str, ...]]:
