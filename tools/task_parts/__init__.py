@@ -1,1 +1,1 @@
-"""Parts of the tools for tasks, plans and certificates: plan-as, judge-plan, prepare-pddl and more."""
+"""Parts of the tools for plans and certificates: plan-as, judge-plan, prepare-pddl and others."""

@@ -68,13 +68,15 @@ def problem_text(preparation: Preparation) -> str:
 class Claim:
     """What a report says in the original's names and costs.
 
-    The bound holds of plans of fewer steps than `below`, and of all plans if that is None.
+    The bound holds of plans of fewer steps than `below`, and of all plans if that is None. Unit
+    costs are those where each action costs 1, as far as that is known.
     """
 
     steps: list[str]
     cost: int
     bound: int
     below: Optional[int]
+    is_unit: bool
 
 
 @dataclasses.dataclass(frozen=True)
@@ -116,7 +118,8 @@ class Back:
             cost += price
             steps.append(f"({' '.join([original, *objects])})")
         below = None if self.multiplier is None else len(steps) + self.multiplier
-        return Claim(steps, cost, self.bound(report.bound or 0, below), below)
+        is_unit = all(price == 1 for _, price in self.actions.values())
+        return Claim(steps, cost, self.bound(report.bound or 0, below), below, is_unit)
 
     def bound(self, bound: int, below: Optional[int]) -> int:
         """What plans of fewer steps than `below` cost at least, by the prepared task's bound."""
