@@ -1,0 +1,9 @@
+mod Counting
+mod Costs
+mod Rounds
+mod Walks
+mod Projections
+mod Boards
+mod Atoms
+mod Placings
+mod Values

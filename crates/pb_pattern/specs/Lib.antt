@@ -1,0 +1,5 @@
+pub mod Least
+pub mod Projection
+pub mod Projected
+pub mod Patterns
+pub mod Laws
