@@ -59,7 +59,7 @@ placed count many cells few long are =
 
 -- ---- a step
 
-cell_after_small : (blank other cell count : ℕ) → blank < count → other < count → cell < count → cell_after blank other cell < count
+pub cell_after_small : (blank other cell count : ℕ) → blank < count → other < count → cell < count → cell_after blank other cell < count
 cell_after_small blank other cell count b o c = go (cell == blank) (cell == other) where
   go : (first second : Bool) → (if first then other else (if second then blank else cell)) < count
   go true second = o
@@ -91,7 +91,7 @@ slid tiles tracked from action to cost step = go (is_placing (cell_count tiles) 
       let same : ◌≡◌ {A = ℕ × ℕ} (board_state (map (cell_after (slice_index (board_of (suc tracked) from) 0) other) (board_of (suc tracked) from)), 1) (to, cost) = cc in
       record { from_placing = is; other = other; other_is = at; to_is = sym (ap (λ (p : ℕ × ℕ). p.0) same); unit = sym (ap (λ (p : ℕ × ℕ). p.1) same) }
 
-  go : (test : Bool) → is_placing (cell_count tiles) (suc tracked) from ≡ test → ◌≡◌ {A = Option (ℕ × ℕ)} (if test then placing_step tiles (board_of (suc tracked) from) action else None) (Some (to, cost)) → Slid tiles tracked from action to cost
+  go : (test : Bool) → is_placing (cell_count tiles) (suc tracked) from ≡ test → ◌≡◌ {A = Option (ℕ × ℕ)} (if test then placing_step tiles.rows tiles.cols (board_of (suc tracked) from) action else None) (Some (to, cost)) → Slid tiles tracked from action to cost
   go true is e = inner is (neighbour tiles.rows tiles.cols (slice_index (board_of (suc tracked) from) 0) action) refl e
   go false is e = cc
 
@@ -190,8 +190,8 @@ module _ (tiles : TilesParts) (tracked : ℕ) (is : IsTiles tiles) (few : tracke
       let first : cell_with board 0 ≡ m.blank = ap (λ o. unwrap_or o 0) m.blank_is in
       let after : cells_from (board_of (cell_count tiles) to) 0 (suc tracked) ≡ map (cell_after m.blank m.other) (cells_from board 0 (suc tracked)) =
       ap (λ b. cells_from b 0 (suc tracked)) there ∙ all_moved board l m.blank m.other b_less o_less l' 0 (suc tracked) (let four = four_cells in omega (arith, few)) in
-      ap (λ t. if t then placing_step tiles (board_of (suc tracked) (placing_of tracked board)) action else None) p.placing
-      ∙ ap (λ cells. placing_step tiles cells action) p.again
+      ap (λ t. if t then placing_step tiles.rows tiles.cols (board_of (suc tracked) (placing_of tracked board)) action else None) p.placing
+      ∙ ap (λ cells. placing_step tiles.rows tiles.cols cells action) p.again
       ∙ ap (λ c. placing_after (cells_from board 0 (suc tracked)) c (neighbour tiles.rows tiles.cols c action)) first
       ∙ ap (placing_after (cells_from board 0 (suc tracked)) m.blank) m.other_is
       ∙ ap (λ cells. Some (board_state cells, 1)) (sym after)

@@ -8,7 +8,7 @@ use Rattle.pb_model.proofs.Callers.{some_number}
 use Rattle.pb_pattern.specs.Least.{Reaches, way_within, cheapest_way, HasStatesBelow, AreStable}
 use Rattle.pb_pattern.specs.Laws.{RoundsGiveLeast}
 use Rattle.pb_pattern.proofs.Counting.{count, count_is_small, count_grows, count_rises}
-use Rattle.pb_pattern.proofs.Costs.{Within, within_more, known, lesser_left, lesser_right, lesser_cases, is_within, within_is, is_within_from, ByStep, cheapest_is, cheapest_from}
+use Rattle.pb_pattern.proofs.Enough.{Within, within_more, known, lesser_left, lesser_right, lesser_cases, is_within, within_is, is_within_from, ByStep, cheapest_is, cheapest_from}
 use Rattle.pb_pattern.proofs.Walks.{step_reaches, stable_costs_are_least}
 
 pub in_later_rounds : (space : Space) (state cost round later : ℕ) → round ≤ later → Within (way_within space round state) cost → Within (way_within space later state) cost

@@ -5,7 +5,7 @@ use Rattle.pb_model.specs.Space.{Space, Steps, IsProper}
 use Rattle.pb_model.specs.Plan.{Walk}
 use Rattle.pb_pattern.specs.Least.{Reaches, IsLeastCost, estimate_as, AreOfWalks, AreStable}
 use Rattle.pb_pattern.specs.Laws.{LeastCostsAreUnique, StableCostsAreLeast}
-use Rattle.pb_pattern.proofs.Costs.{Within, known, within_more}
+use Rattle.pb_pattern.proofs.Enough.{Within, known, within_more}
 
 pub least_costs_are_unique : LeastCostsAreUnique
 least_costs_are_unique space state (Cost n) (Cost m) h k =

@@ -1,6 +1,7 @@
 -- The laws of this crate. Each is proved, as the contract of the public function that has its name.
-use Rattle.std.specs.Prelude.{◌≡◌, ℕ, ◌<◌, ◌≤◌, All, List, IsTrue, Option, length}
+use Rattle.std.specs.Prelude.{◌≡◌, ℕ, ◌*◌, ◌^◌, ◌<◌, ◌≤◌, All, List, IsTrue, Option, length}
 use Rattle.pb_model.specs.declared.row.Estimate.{Estimate}
+use Rattle.pb_model.specs.declared.row.Estimate.TheVariants.{Cost}
 use Rattle.pb_model.specs.Space.{Space, IsProper}
 use Rattle.pb_model.specs.Guide.{IsAdmissible}
 use Rattle.pb_task.specs.declared.parts.TaskParts.{TaskParts}
@@ -27,6 +28,13 @@ RoundsGiveLeast =
     (space : Space) (greatest_cost states state : ℕ) → IsProper space greatest_cost
     → HasStatesBelow space states → IsTrue (space.is_state state)
     → IsLeastCost space state (least_cost space states state)
+
+-- No least cost is greater than the cost of as many steps of 2^20 as there are states. So a table's
+-- costs have 36 bits, and no sum of one and a step's cost leaves 64 bits.
+abbrev pub LeastCostsAreSmall : Type 0
+LeastCostsAreSmall =
+    (space : Space) (states state cost : ℕ) → IsProper space (2 ^ 20) → HasStatesBelow space states
+    → IsTrue (space.is_state state) → IsLeastCost space state (Cost cost) → cost ≤ 2 ^ 20 * states
 
 -- Costs that are those of walks, and that no step makes cheaper, are least.
 abbrev pub StableCostsAreLeast : Type 0

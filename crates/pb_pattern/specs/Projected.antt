@@ -1,6 +1,6 @@
 -- Projected tasks. A grid has none. Of sliding tiles the cells of the blank and of the first tiles
 -- are kept, and of STRIPS some atoms.
-use Rattle.std.specs.Prelude.{ℕ, zero, suc, ◌+◌, ◌-◌, ◌^◌, min, Bool, false, not, List, [], ◌∷◌, ◌++◌, length, map, take, Option, None, Some, slice_index, if◌then◌else◌, nat_lt, position, unwrap_or, ◌==◌, ◌&&◌}
+use Rattle.std.specs.Prelude.{ℕ, zero, suc, ◌+◌, ◌-◌, ◌*◌, ◌^◌, min, Bool, false, not, List, [], ◌∷◌, ◌++◌, length, map, take, Option, None, Some, slice_index, if◌then◌else◌, nat_lt, position, unwrap_or, ◌==◌, ◌&&◌}
 use Rattle.std.specs.List.{list_all}
 use Rattle.pb_model.specs.Space.{Space}
 use Rattle.pb_task.specs.declared.parts.GroundAction.{GroundAction}
@@ -40,26 +40,32 @@ placing_after cells blank None = None
 placing_after cells blank (Some other) = Some (board_state (map (cell_after blank other) cells), 1)
 
 -- the blank is the first of the pieces
-abbrev pub placing_step : TilesParts → (cells : List ℕ) → (action : ℕ) → Option (ℕ × ℕ)
-placing_step tiles cells action =
-    placing_after cells (slice_index cells 0)
-    (neighbour tiles.rows tiles.cols (slice_index cells 0) action)
+abbrev pub placing_step : (rows cols : ℕ) → (cells : List ℕ) → (action : ℕ) → Option (ℕ × ℕ)
+placing_step rows cols cells action =
+    placing_after cells (slice_index cells 0) (neighbour rows cols (slice_index cells 0) action)
 
 -- so many pieces, each in a cell of the board
 abbrev pub is_placing : (count many placing : ℕ) → Bool
 is_placing count many placing =
     nat_lt placing (16 ^ many) && list_all (λ cell. nat_lt cell count) (board_of many placing)
 
-abbrev pub placing_space : TilesParts → (tracked : ℕ) → Space
-placing_space tiles tracked = record {
-  start = placing_of tracked tiles.start;
-  is_state = is_placing (cell_count tiles) (suc tracked);
-  is_goal = λ placing. placing == placing_of tracked tiles.goal;
+-- the placings of so many pieces on a board
+abbrev pub pieces_space : (rows cols pieces start goal : ℕ) → Space
+pieces_space rows cols pieces start goal = record {
+  start = start;
+  is_state = is_placing (rows * cols) pieces;
+  is_goal = λ placing. placing == goal;
   actions = 4;
   step =
-      λ placing action. if is_placing (cell_count tiles) (suc tracked) placing
-      then placing_step tiles (board_of (suc tracked) placing) action else None;
+      λ placing action. if is_placing (rows * cols) pieces placing
+      then placing_step rows cols (board_of pieces placing) action else None;
 }
+
+-- the blank and the tracked tiles
+abbrev pub placing_space : TilesParts → (tracked : ℕ) → Space
+placing_space tiles tracked =
+    pieces_space tiles.rows tiles.cols (suc tracked) (placing_of tracked tiles.start)
+    (placing_of tracked tiles.goal)
 
 abbrev pub image_of_board : TilesParts → (tracked state : ℕ) → ℕ
 image_of_board tiles tracked state = placing_of tracked (board_of (cell_count tiles) state)

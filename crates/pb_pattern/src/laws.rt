@@ -1,4 +1,4 @@
-ghost use Rattle.pb_pattern.specs.Laws.{LeastCostsAreUnique, RoundsGiveLeast, StableCostsAreLeast, ProjectionsAreAdmissible, StripsProject, TilesProject, PatternValuesAreLeast, PatternsAreAdmissible};
+ghost use Rattle.pb_pattern.specs.Laws.{LeastCostsAreUnique, RoundsGiveLeast, LeastCostsAreSmall, StableCostsAreLeast, ProjectionsAreAdmissible, StripsProject, TilesProject, PatternValuesAreLeast, PatternsAreAdmissible};
 
 /// A state has one least cost.
 pub fn least_costs_are_unique()
@@ -8,6 +8,11 @@ pub fn least_costs_are_unique()
 /// What is computed by rounds is the least cost of a walk to a goal.
 pub fn rounds_give_least()
     ensures { RoundsGiveLeast }
+{}
+
+/// No least cost is greater than the cost of as many dearest steps as there are states.
+pub fn least_costs_are_small()
+    ensures { LeastCostsAreSmall }
 {}
 
 /// Costs that are those of walks, and that no step makes cheaper, are least.

@@ -4,10 +4,14 @@
 //! The definition `pattern_value` in `specs` gives the value of a state for each pattern number.
 #![tactic(auto)]
 
+mod costs;
+mod graph;
 mod laws;
+mod pieces;
+mod sets;
 
 pub use laws::{
-    least_costs_are_unique, pattern_values_are_least, patterns_are_admissible,
-    projections_are_admissible, rounds_give_least, stable_costs_are_least, strips_project,
-    tiles_project,
+    least_costs_are_small, least_costs_are_unique, pattern_values_are_least,
+    patterns_are_admissible, projections_are_admissible, rounds_give_least, stable_costs_are_least,
+    strips_project, tiles_project,
 };
