@@ -1,9 +1,10 @@
 -- Boards of sliding tiles. What isn't passed on by the crates below is stated here again.
-use Rattle.std.proofs.Common.{◌≡◌, ℕ, zero, suc, ◌+◌, ◌*◌, ◌/◌, ◌%◌, ◌^◌, ◌<◌, ◌≤◌, Bool, true, false, not, ◌==◌, List, [], ◌∷◌, length, get_or, nat_lt, Some, None, unwrap_or, if◌then◌else◌, refl, sym, subst, ap, arith, ◌∙◌, ◌⊎◌, inl, inr}
+use Rattle.std.proofs.Common.{◌≡◌, ℕ, zero, suc, ◌+◌, ◌*◌, ◌/◌, ◌%◌, ◌^◌, ◌<◌, ◌≤◌, Bool, true, false, not, ◌==◌, List, [], ◌∷◌, length, get_or, nat_lt, Some, None, unwrap_or, if◌then◌else◌, refl, sym, subst, ap, arith, ◌∙◌, ◌⊎◌, inl, inr, append_assoc, append-nil, set, take, ◌++◌, ◌-◌}
 use Rattle.std.specs.Prelude.{swap}
 use Rattle.std.specs.List.{list_any, list_all, position_or_len}
 use Rattle.std.proofs.Math.Nat.{pow-suc, zero-mul, one-mul, mul-one}
 use Rattle.std.proofs.lemmas.Bool.{and_parts, or_parts, not-true, eqb-true, ltb-true, lt-ltb}
+use Rattle.std.proofs.lemmas.List.{take_more_set}
 use Rattle.std.proofs.lemmas.Bool.Decides.{nat_tests}
 use Rattle.std.proofs.lemmas.List.Quantifiers.{position-Some}
 use Rattle.std.proofs.lemmas.List.Sums.{position_or_len_is}
@@ -47,6 +48,23 @@ state_again (suc count) state less =
 pub length-board_of : (count state : ℕ) → length (board_of count state) ≡ count
 length-board_of zero state = refl
 length-board_of (suc count) state = ap suc (length-board_of count (state / 16))
+
+-- ---- a state is read
+
+-- one more number of a board is read
+pub one_more : (count cell word rest : ℕ) (cells : List ℕ) → cell < count → cell < length cells → take cell cells ++ board_of (count - cell) rest ≡ board_of count word
+    → take (cell + 1) (set cells cell (rest % 16)) ++ board_of (count - (cell + 1)) (rest / 16) ≡ board_of count word
+one_more count cell word rest cells less within before =
+    ap (λ xs. xs ++ board_of (count - (cell + 1)) (rest / 16)) (take_more_set cells cell (rest % 16) within)
+    ∙ append_assoc (take cell cells) (rest % 16 ∷ []) (board_of (count - (cell + 1)) (rest / 16))
+    ∙ ap (λ k. take cell cells ++ board_of k rest) (let e : suc (count - (cell + 1)) ≡ count - cell = omega arith in e) ∙ before
+
+-- all numbers of a board are read
+pub all_read : (count cell word rest : ℕ) (cells : List ℕ) → cell ≤ count → count ≤ cell → take cell cells ++ board_of (count - cell) rest ≡ board_of count word → take count cells ≡ board_of count word
+all_read count cell word rest cells up down before =
+    let same : cell ≡ count = omega arith in
+    let none : count - cell ≡ 0 = omega arith in
+    ap (λ n. take n cells) (sym same) ∙ sym (append-nil (take cell cells)) ∙ ap (λ n. take cell cells ++ board_of n rest) (sym none) ∙ before
 
 -- ---- slides
 

@@ -13,3 +13,4 @@ mod Slots
 mod Beginning
 mod Proper
 mod Values
+mod Imaged

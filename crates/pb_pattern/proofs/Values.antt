@@ -41,10 +41,10 @@ pattern_values_are_least = (
   λ strips tracked state is are few at. strips_least strips tracked (image_of_set tracked state) is are few ((strips_project strips tracked is are few).1.states state at),
 )
 
-few_tiles : (tiles : TilesParts) (pattern : ℕ) → tracked_tiles tiles pattern ≤ 3
+pub few_tiles : (tiles : TilesParts) (pattern : ℕ) → tracked_tiles tiles pattern ≤ 3
 few_tiles tiles pattern = grind arith
 
-few_atoms : (strips : StripsParts) (pattern : ℕ) → pattern ≤ 12 → length (tracked_atoms strips pattern) ≤ 12
+pub few_atoms : (strips : StripsParts) (pattern : ℕ) → pattern ≤ 12 → length (tracked_atoms strips pattern) ≤ 12
 few_atoms strips pattern few = let e : length (take pattern (goal_first strips)) ≡ min pattern (length (goal_first strips)) = length-take pattern (goal_first strips) in grind arith
 
 -- the pattern values of each kind

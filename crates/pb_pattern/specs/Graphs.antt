@@ -1,16 +1,17 @@
 -- Projected tasks in small: what a table's costs are computed from. The images are numbered, and the
 -- number of an image is the image itself.
-use Rattle.std.specs.Prelude.{ℕ, ◌^◌, ◌≤◌, false, [], map}
+use Rattle.std.specs.Prelude.{ℕ, suc, ◌^◌, ◌≤◌, false, List, [], map}
 use Rattle.pb_model.specs.Space.{Space, IsProper}
 use Rattle.pb_task.specs.declared.parts.GroundAction.{GroundAction}
 use Rattle.pb_task.specs.declared.parts.StripsParts.{StripsParts}
+use Rattle.pb_task.specs.declared.parts.TilesParts.{TilesParts}
 use Rattle.pb_task.specs.Strips.{strips_space, IsStrips}
 use Rattle.pb_pattern.specs.declared.sets.Rule.{Rule}
 use Rattle.pb_pattern.specs.declared.sets.Sets.{Sets}
 use Rattle.pb_pattern.specs.declared.pieces.Pieces.{Pieces}
 use Rattle.pb_pattern.specs.declared.graph.Graph.{Graph}
 use Rattle.pb_pattern.specs.declared.graph.Graph.TheVariants as graphs
-use Rattle.pb_pattern.specs.Projected.{pieces_space}
+use Rattle.pb_pattern.specs.Projected.{image_of_set, pieces_space, placing_of}
 
 -- ---- STRIPS
 
@@ -22,6 +23,15 @@ action_of rule = record {
   adds = rule.adds;
   deletes = rule.deletes;
   cost = rule.cost;
+}
+
+-- a ground action as far as it concerns the tracked atoms
+abbrev pub rule_of : (tracked : List ℕ) → GroundAction → Rule
+rule_of tracked action = record {
+  needs = image_of_set tracked action.needs;
+  adds = image_of_set tracked action.adds;
+  deletes = image_of_set tracked action.deletes;
+  cost = action.cost;
 }
 
 -- the rules as a task
@@ -47,6 +57,16 @@ pub record IsSets (sets : Sets) : Type 0 where
 abbrev pub board_space : Pieces → Space
 board_space pieces =
     pieces_space pieces.rows pieces.cols pieces.count pieces.start pieces.goal
+
+-- the blank and the first tiles of a task
+abbrev pub pieces_of : TilesParts → (tracked : ℕ) → Pieces
+pieces_of tiles tracked = record {
+  rows = tiles.rows;
+  cols = tiles.cols;
+  count = suc tracked;
+  start = placing_of tracked tiles.start;
+  goal = placing_of tracked tiles.goal;
+}
 
 -- a board of 2 to 4 rows and columns, and 1 to 4 pieces
 pub record IsPieces (pieces : Pieces) : Type 0 where

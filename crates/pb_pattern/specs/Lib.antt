@@ -4,4 +4,5 @@ pub mod Projected
 pub mod Patterns
 pub mod Costs
 pub mod Graphs
+pub mod Tables
 pub mod Laws
