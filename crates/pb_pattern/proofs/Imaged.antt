@@ -1,21 +1,19 @@
 -- What tables are computed from is the projected task.
-use Rattle.std.proofs.Common.{◌≡◌, ℕ, suc, ◌+◌, ◌*◌, ◌^◌, ◌<◌, ◌≤◌, true, false, List, [], ◌∷◌, length, map, All, IsTrue, refl, sym, ap, ◌∙◌, subst, arith, nat_lt}
+use Rattle.std.proofs.Common.{◌≡◌, ℕ, suc, ◌*◌, ◌^◌, ◌<◌, ◌≤◌, false, List, [], ◌∷◌, length, map, All, IsTrue, refl, sym, ap, ◌∙◌, subst, arith, nat_lt}
 use Rattle.std.proofs.lemmas.Bool.{and_parts, ltb-true}
 use Rattle.std.proofs.lemmas.List.Elements.{All-weaker}
 use Rattle.pb_packed.specs.Bits.{bits_of}
-use Rattle.pb_model.specs.declared.row.Estimate.{Estimate}
 use Rattle.pb_model.specs.Space.{Space, IsProper}
 use Rattle.pb_task.specs.declared.parts.GroundAction.{GroundAction}
 use Rattle.pb_task.specs.declared.parts.StripsParts.{StripsParts}
 use Rattle.pb_task.specs.declared.parts.TilesParts.{TilesParts}
 use Rattle.pb_task.specs.Tiles.{board_of, board_state, cell_count, is_board, is_board_state, IsTiles, tiles_space}
-use Rattle.pb_task.specs.Strips.{is_atom_set, strips_space, IsStrips}
-use Rattle.pb_task.proofs.Callers.{few_cells, whole}
-use Rattle.pb_pattern.specs.declared.sets.Rule.{Rule}
+use Rattle.pb_task.specs.Strips.{strips_space, IsStrips}
+use Rattle.pb_task.proofs.Callers.{whole}
 use Rattle.pb_pattern.specs.declared.sets.Sets.{Sets}
 use Rattle.pb_pattern.specs.Projected.{cells_from, image_of_board, image_of_set, placing_space, projected_action, projected_strips, tracked_atoms, tracked_tiles}
 use Rattle.pb_pattern.specs.Patterns.{strips_value, tiles_value}
-use Rattle.pb_pattern.specs.Costs.{cost_in, estimate_in, AreLeast}
+use Rattle.pb_pattern.specs.Costs.{cost_in, estimate_in}
 use Rattle.pb_pattern.specs.Graphs.{action_of, parts_of, pieces_of, rule_of, IsPieces, IsSets}
 use Rattle.pb_pattern.specs.Tables.{AreOfStrips, AreOfTiles}
 use Rattle.pb_pattern.proofs.Atoms.{strips_project, tracked_are_atoms}

@@ -6,3 +6,6 @@ pub mod Costs
 pub mod Graphs
 pub mod Tables
 pub mod Laws
+pub use Rattle.pb_task.specs.Parts
+pub use Rattle.pb_task.specs.Strips
+pub use Rattle.pb_task.specs.Tiles

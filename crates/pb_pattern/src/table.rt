@@ -27,7 +27,7 @@ pub struct Table {
 
 impl Model for Table {
     ghost use Rattle.pb_pattern.specs.Projected.{tracked_tiles};
-ghost use Rattle.pb_pattern.specs.Tables.{TableValue};
+    ghost use Rattle.pb_pattern.specs.Tables.{TableValue};
 
     ghost Value = { TableValue };
 
@@ -44,7 +44,11 @@ fn estimate_at(costs: &[u64], image: u32) -> Estimate
     ensures { result ≡ estimate_in (cost_in costs.now image) }
 {
     let cost = costs[image as usize];
-    if cost < UNKNOWN { Estimate::Cost(cost) } else { Estimate::Dead }
+    if cost < UNKNOWN {
+        Estimate::Cost(cost)
+    } else {
+        Estimate::Dead
+    }
 }
 
 // The least costs of the images of a board.
@@ -86,12 +90,7 @@ fn least_of_tiles(tiles: &TilesParts, k: u32, costs: &[u64], state: &Packed) -> 
 }
 
 // The pattern value of a set of atoms.
-fn least_of_strips(
-    strips: &StripsParts,
-    tracked: &[u32],
-    costs: &[u64],
-    state: &Packed,
-) -> Estimate
+fn least_of_strips(strips: &StripsParts, tracked: &[u32], costs: &[u64], state: &Packed) -> Estimate
     requires strips { IsStrips strips.now }
     requires few { length tracked.now ≤ 12 }
     requires atoms { All (λ atom. atom < strips.now.atoms) tracked.now }

@@ -1,4 +1,4 @@
-use Rattle.std.proofs.Common.{IfOk, sym, subst, ◌^◌}
+use Rattle.std.proofs.Common.{IfOk, subst, ◌^◌}
 use Rattle.pb_task.specs.declared.parts.StripsParts.{StripsParts}
 use Rattle.pb_task.specs.Strips.{strips_space}
 use Rattle.pb_pattern.specs.Costs.{AreLeast}

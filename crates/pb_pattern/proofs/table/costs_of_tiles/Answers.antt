@@ -1,4 +1,4 @@
-use Rattle.std.proofs.Common.{IfOk, sym, subst, suc, ◌^◌, ℕ}
+use Rattle.std.proofs.Common.{IfOk, sym, subst, suc, ◌^◌}
 use Rattle.pb_pattern.specs.declared.pieces.Pieces.{Pieces}
 use Rattle.pb_pattern.specs.Costs.{AreLeast}
 use Rattle.pb_pattern.specs.Projected.{placing_space}

@@ -1,4 +1,4 @@
-use Rattle.std.proofs.Common.{◌≡◌, ◌<◌, ◌^◌, length, sym, ap, ◌∙◌, subst}
+use Rattle.std.proofs.Common.{◌<◌, sym, ap, ◌∙◌, subst}
 use Rattle.pb_pattern.specs.Costs.{cost_in, estimate_in}
 use Rattle.pb_pattern.proofs.Imaged.{small_atoms, strips_table}
 use Rattle.pb_pattern.proofs.table.least_of_strips.Goals as goal

@@ -1,6 +1,5 @@
-use Rattle.std.proofs.Common.{◌≡◌, ℕ, ◌<◌, length, sym, ap, ◌∙◌, subst}
-use Rattle.pb_task.specs.Tiles.{tiles_space}
-use Rattle.pb_pattern.specs.Projected.{image_of_board, tracked_tiles}
+use Rattle.std.proofs.Common.{◌<◌, length, sym, ap, ◌∙◌, subst}
+use Rattle.pb_pattern.specs.Projected.{image_of_board}
 use Rattle.pb_pattern.specs.Costs.{cost_in, estimate_in}
 use Rattle.pb_pattern.proofs.Imaged.{inside_tiles, tiles_table}
 use Rattle.pb_pattern.proofs.table.least_of_tiles.Goals as goal
