@@ -1,0 +1,5 @@
+//! Tests of pattern values, which were counted by hand.
+#![tactic(auto)]
+
+#[cfg(test)]
+mod values;
