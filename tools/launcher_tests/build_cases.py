@@ -4,6 +4,7 @@ import os
 import re
 import shutil
 import signal
+import time
 
 from .harness import Failed, Run, wait_until
 
@@ -152,8 +153,13 @@ def building_on_terminal(place):
     if "is proved and built (" in run.out.replace("the program is proved and built (", ""):
         raise Failed(f"a line a crate wasn't wanted:\n{run}")
     unbuild(place)
+
+    def interrupt(it):
+        # (within the first moments the launcher may end without a word)
+        time.sleep(0.5)
+        os.killpg(it.pid, signal.SIGINT)
     run = place.on_terminal("solve", "grid", *place.grid(), env=slow(place, 0.3, 60),
-                            after="crates, 0 min", act=lambda it: os.killpg(it.pid, signal.SIGINT))
+                            after="crates, 0 min", act=interrupt)
     if run.status != -signal.SIGINT or "what was proved is kept" not in run.out:
         raise Failed(f"an interrupt was wanted:\n{run}")
     nothing_runs(place)

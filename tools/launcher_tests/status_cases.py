@@ -140,8 +140,9 @@ def stopped(place):
     if run.status == 2:
         run.wants(2, None, ["16,777,216 expansions took ", " of memory"])
     board = place.file("long.tiles", "4 4\n15 14 8 12 10 11 9 13 2 6 5 1 3 7 4 0\n")
-    run = place.run("solve", "tiles", board, "--budget", "100000")
-    run.wants(2, "stopped budget 100000\n", ["100,000 expansions took ", "MiB of memory"])
+    # (long enough for a look at the memory, on a quick machine too)
+    run = place.run("solve", "tiles", board, "--budget", "1000000")
+    run.wants(2, "stopped budget 1000000\n", ["1,000,000 expansions took ", "MiB of memory"])
 
 
 def no_memory(place):
