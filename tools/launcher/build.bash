@@ -128,7 +128,8 @@ begin_life() { [ ! -e /proc/self/fd ] || make_pipe life_in life_out; }
 end_life() { [ -z "$life_in" ] || exec {life_in}<&- {life_out}>&-; }
 
 stop_building() {
-  end_group "$builder"
+  # (a group that was begun this moment has no name yet)
+  end_group "${builder:-${!-}}"
   drop_look
   rm -f "$marker"
   clear_line
@@ -221,10 +222,16 @@ prove_in_turn() {
     exec rt run -- solve grid ../../examples/empty-3x3.map ../../examples/empty-3x3.scen
 }
 
+# Only the group writes to the log: the launcher's own words reach the user at every moment.
+run_logged() {
+  exec >>"$log" 2>&1
+  "$@"
+}
+
 # Runs one of these two until it ends, or until the crates that are left form a chain.
 run_builder() {
   local group status
-  begin_group "$@" >>"$log" 2>&1
+  begin_group run_logged "$@"
   builder=$group
   while kill -0 "$builder" 2>/dev/null; do
     [ "$1" = prove_in_turn ] || ! is_chain || break

@@ -4,7 +4,6 @@ import os
 import re
 import shutil
 import signal
-import time
 
 from .harness import Failed, Run, wait_until
 
@@ -155,8 +154,6 @@ def building_on_terminal(place):
     unbuild(place)
 
     def interrupt(it):
-        # (within the first moments the launcher may end without a word)
-        time.sleep(0.5)
         os.killpg(it.pid, signal.SIGINT)
     run = place.on_terminal("solve", "grid", *place.grid(), env=slow(place, 0.3, 60),
                             after="crates, 0 min", act=interrupt)
