@@ -4,7 +4,7 @@ load words
 log=$root/build.log
 
 # How long the building takes; the README has the same words.
-usual_time='40 to 50 minutes on 4 cores'
+usual_time='25 to 45 minutes on 4 cores'
 
 # The crates of the program, those below it first. Each has a line NAME: DEP DEP .. in crates.txt,
 # maybe with words before the colon.
