@@ -89,14 +89,16 @@ made_boards_are_spelled seed moves =
     let s = board_spelled board l.many l.small in
     let three : 3 < 10 = omega arith in
     record {
-      rows_word = 51 ∷ [];
-      cols_word = 51 ∷ [];
-      start_words = s.words;
-      goal_words = [];
-      words_are = s.are_words;
-      rows_is = digit_number 3 three;
-      cols_is = digit_number 3 three;
-      start_is = s.numbers;
-      goal_is = inl (refl, refl);
+      says = record {
+        rows_word = 51 ∷ [];
+        cols_word = 51 ∷ [];
+        start_words = s.words;
+        goal_words = [];
+        words_are = s.are_words;
+        rows_is = digit_number 3 three;
+        cols_is = digit_number 3 three;
+        start_is = s.numbers;
+        goal_is = inl (refl, refl);
+      };
       are_tiles = record { rows = (omega arith, omega arith); cols = (omega arith, omega arith); start = is_board_by 9 board l; goal = is_board_by 9 goal_board goal_listed };
     }

@@ -20,7 +20,7 @@ range_more number numbers is =
 -- ---- a number among others
 
 -- a number that is in the middle of a list is not before it, where no number stands twice
-not_before : (before board : List ℕ) (number : ℕ) → are_distinct (before ++ number ∷ board) ≡ true → list_any (λ other. other == number) before ≡ false
+pub not_before : (before board : List ℕ) (number : ℕ) → are_distinct (before ++ number ∷ board) ≡ true → list_any (λ other. other == number) before ≡ false
 not_before [] board number e = refl
 not_before (first ∷ before) board number e =
     let two = and_parts (not (list_any (λ other. other == first) (before ++ number ∷ board))) (are_distinct (before ++ number ∷ board)) e in
@@ -33,7 +33,7 @@ not_before (first ∷ before) board number e =
     passed (one ∷ before) board number first e = passed before board number first (or_parts (one == first) (list_any (λ other. other == first) (before ++ number ∷ board)) e).1
 
 -- a number that is not before is distinct from those
-distinct_more : (before : List ℕ) (number : ℕ) → are_distinct before ≡ true → list_any (λ other. other == number) before ≡ false → are_distinct (before ++ number ∷ []) ≡ true
+pub distinct_more : (before : List ℕ) (number : ℕ) → are_distinct before ≡ true → list_any (λ other. other == number) before ≡ false → are_distinct (before ++ number ∷ []) ≡ true
 distinct_more [] number e apart = refl
 distinct_more (first ∷ before) number e apart =
     let two = and_parts (not (list_any (λ other. other == first) before)) (are_distinct before) e in
@@ -83,13 +83,13 @@ faultless count place before (number ∷ board) distinct e =
 
 -- ---- both boards
 
-counted : (count : ℕ) (board : List ℕ) → count_fault count board ≡ None → length board ≡ count
+pub counted : (count : ℕ) (board : List ℕ) → count_fault count board ≡ None → length board ≡ count
 counted count board e = go (length board == count) refl e where
   go : (test : Bool) → (length board == count) ≡ test → ◌≡◌ {A = Option TilesError} (if test then None else Some (Count (length board) count)) None → length board ≡ count
   go true is e = grind (arith, nat_tests)
   go false is e = cc
 
-not_miscounted : (count : ℕ) (board : List ℕ) → length board ≡ count → count_fault count board ≡ None
+pub not_miscounted : (count : ℕ) (board : List ℕ) → length board ≡ count → count_fault count board ≡ None
 not_miscounted count board e = ap (λ test. if test then None else Some (Count (length board) count)) (let same : (length board == count) ≡ true = grind (arith, nat_tests) in same)
 
 none_first : (one other : Option TilesError) → first_fault one other ≡ None → (one ≡ None) × (other ≡ None)

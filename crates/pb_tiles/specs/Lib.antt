@@ -2,4 +2,5 @@ pub mod Words
 pub mod Said
 pub mod Reading
 pub mod Spelling
+pub mod Cases
 pub mod Laws

@@ -46,8 +46,8 @@ SpellsGoal words tiles =
     ⊎ ((numbers : List (List ℕ)) × (words ≡ codes "goal" ∷ numbers) × AreNumbers numbers tiles.goal)
 
 -- The text is words: the numbers of rows and of columns, the start, row by row, and maybe the goal.
--- These make up tiles.
-pub record SpellsTiles (text : List ℕ) (tiles : TilesParts) : Type 0 where
+-- They say these numbers, which may make up tiles or not.
+pub record SaysTiles (text : List ℕ) (tiles : TilesParts) : Type 0 where
   pub rows_word : List ℕ
   pub cols_word : List ℕ
   pub start_words : List (List ℕ)
@@ -57,4 +57,8 @@ pub record SpellsTiles (text : List ℕ) (tiles : TilesParts) : Type 0 where
   pub cols_is : IsShortNumber cols_word tiles.cols
   pub start_is : AreNumbers start_words tiles.start
   pub goal_is : SpellsGoal goal_words tiles
+
+-- the text says numbers that make up tiles
+pub record SpellsTiles (text : List ℕ) (tiles : TilesParts) : Type 0 where
+  pub says : SaysTiles text tiles
   pub are_tiles : IsTiles tiles

@@ -1,4 +1,4 @@
-ghost use Rattle.pb_tiles.specs.Laws.{ReadingsAreSpelled, SpelledTilesAreUnique};
+ghost use Rattle.pb_tiles.specs.Laws.{ReadingsAreSpelled, SpelledTilesAreUnique, RefusalsHaveTheirCase, CasesAreRefused};
 
 /// A text is read as the tiles that it spells, and no other text is read.
 pub fn readings_are_spelled()
@@ -8,4 +8,14 @@ pub fn readings_are_spelled()
 /// A text spells one start and one goal at most.
 pub fn spelled_tiles_are_unique()
     ensures { SpelledTilesAreUnique }
+{}
+
+/// A refusal is reported only in its case, as the formats describe it.
+pub fn refusals_have_their_case()
+    ensures { RefusalsHaveTheirCase }
+{}
+
+/// In its case a refusal is reported.
+pub fn cases_are_refused()
+    ensures { CasesAreRefused }
 {}

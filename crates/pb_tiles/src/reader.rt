@@ -4,6 +4,8 @@ ghost use Rattle.pb_task.specs.declared.parts.TilesParts.{TilesParts};
 ghost use Rattle.pb_task.specs.declared.parts.TaskParts.TheVariants.{Tiles};
 ghost use Rattle.pb_tiles.specs.Reading.{is_side, count_fault, boards_fault, boards_reading, reading, tiles_reading};
 ghost use Rattle.pb_tiles.specs.Spelling.{SpellsTiles};
+ghost use Rattle.pb_tiles.specs.Cases.{IsCaseOf};
+ghost use Rattle.pb_tiles.specs.declared.error.TilesError.{TilesError};
 ghost use Rattle.pb_tiles.specs.declared.error.TilesError.TheVariants.{Memory};
 
 use crate::boards::{board_fault, board_of, usual_goal};
@@ -22,6 +24,12 @@ pub fn read_tiles(alloc: Global, text: &[u8]) -> Result<Task, TilesError>
     ensures only { (tiles : TilesParts) → SpellsTiles text.now tiles
         → MatchResult result (λ task. task ≡ Tiles tiles) (λ e. e ≡ Memory) }
     ensures refused { IfErr result (λ e. e ≢ Memory → tiles_reading text.now ≡ Err e) }
+    // A refusal comes only in its case: all that is judged before is well-formed, and then comes
+    // the fault.
+    ensures due { IfErr result (λ e. e ≢ Memory → IsCaseOf text.now e) }
+    // In its case a refusal is reported, unless memory ran out.
+    ensures told { (error : TilesError) → IsCaseOf text.now error
+        → MatchResult result (λ _. ⊥) (λ e. e ≢ Memory → e ≡ error) }
 {
     match tiles_in(alloc, text) {
         Ok(parts) => Ok(Task::of_tiles(parts)),

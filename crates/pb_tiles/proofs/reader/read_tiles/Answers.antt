@@ -3,6 +3,8 @@ use Rattle.pb_task.specs.declared.parts.TilesParts.{TilesParts}
 use Rattle.pb_task.specs.declared.parts.TaskParts.TheVariants.{Tiles}
 use Rattle.pb_tiles.specs.declared.error.TilesError.{TilesError}
 use Rattle.pb_tiles.proofs.Spelled.{readings_are_spelled, only_memory}
+use Rattle.pb_tiles.proofs.CaseOf.{refusals_have_their_case}
+use Rattle.pb_tiles.proofs.CaseTold.{same_refusal, no_tiles}
 use Rattle.pb_tiles.proofs.reader.read_tiles.Goals as goal
 
 same_tiles : (tiles other : TilesParts) → ◌≡◌ {A = Result TilesParts TilesError} (Ok tiles) (Ok other) → tiles ≡ other
@@ -17,3 +19,12 @@ returns-in-Ok-clause-only c = λ tiles is.
 
 pub returns-in-Err-clause-only : goal.returns-in-Err-clause-only
 returns-in-Err-clause-only c = λ tiles is. only_memory c.args.text.now tiles c.in-Err.error is c.in-Err.ensures.refused
+
+pub returns-in-Err-clause-due : goal.returns-in-Err-clause-due
+returns-in-Err-clause-due c = λ is. refusals_have_their_case c.args.text.now c.in-Err.error (c.in-Err.ensures.refused is)
+
+pub returns-in-Ok-clause-told : goal.returns-in-Ok-clause-told
+returns-in-Ok-clause-told c = λ error is. no_tiles c.args.text.now error c.in-Ok.parts is c.in-Ok.ensures.read
+
+pub returns-in-Err-clause-told : goal.returns-in-Err-clause-told
+returns-in-Err-clause-told c = λ error is other. same_refusal c.args.text.now error c.in-Err.error is (c.in-Err.ensures.refused other)
