@@ -1,8 +1,10 @@
 //! Whole runs whose gate sees which blocks are leased, or holds a lease.
-use pb_outside::{Gate, MemShelf, MemSink};
+use crate::corridor::corridor_words;
+use pb_outside::{Gate, MemSink};
 use pb_test_run::{OPEN_MAP, SCENARIO, gated_outcome, grid_shelf};
 use std::sync::atomic::{AtomicBool, AtomicU64, Ordering};
 use std::test::Fail;
+use std::thread::yield_now;
 
 // Which blocks were leased, as the digits after a first 1, and how often a lease was to go on or to
 // come back.
@@ -64,33 +66,29 @@ impl Gate for HoldingGate {
             }
             return;
         }
-        for _ in 0..1_000_000_000 {
+        for _ in 0..10_000_000 {
             if self.both.load(Ordering::SeqCst) {
                 return;
             }
+            yield_now();
         }
     }
 
     fn giving(&self, _worker: u32, _block: u32) {}
 }
 
-// The start is in the middle of the lower row. The scopes of the row's two ends have no block in
-// common.
+// The scopes of the corridor's two ends have no block in common.
 #[test]
 fn two_blocks_are_leased_at_once(rt: HostRuntime) -> Result<(), Fail> {
-    let map = "type octile\nheight 3\nwidth 9\nmap\n@@@@.@@@@\n@@@@@@@@@\n.........\n";
-    let mut files = MemShelf::new(rt.alloc())?;
-    files.add("map", map.as_bytes())?;
-    files.add("scenario", b"version 1\n0\tm\t9\t3\t4\t2\t4\t0\t0\n")?;
-    let mut sink = MemSink::new(rt.alloc(), 4096)?;
     let gate = HoldingGate {
         first: AtomicU64::new(0),
         both: AtomicBool::new(false),
     };
-    let line = "solve grid map scenario --workers 2";
-    let status = gated_outcome(&rt, rt.alloc(), line, &mut files, &mut sink, &gate)?;
+    let line = "solve grid map scenario --workers 2 --cert c --trace j";
+    let (status, said, closed) = corridor_words(&rt, rt.alloc(), line, &gate)?;
     assert_eq!(rt; status, 1);
-    assert_eq!(rt; sink.bytes(), b"none\n".as_slice());
+    assert!(rt; said.bytes().starts_with(b"none\naccepted none\njournal "));
+    assert_eq!(rt; closed, 9);
     assert!(rt; gate.both.load(Ordering::SeqCst));
     Ok(())
 }

@@ -2,6 +2,8 @@
 #![tactic(auto)]
 
 #[cfg(test)]
+mod corridor;
+#[cfg(test)]
 mod held;
 #[cfg(test)]
 mod leased;
