@@ -38,8 +38,9 @@ explain_stop() {
   printf -v took '%d.%d s' $(($1 / 1000)) $(($1 % 1000 / 100))
   if [ "$2" -ge 1024 ]; then took+=" and $(($2 / 1024)).$(($2 % 1024 * 10 / 1024)) GiB of memory"
   elif [ "$2" -gt 0 ]; then took+=" and $2 MiB of memory"; fi
-  took="$counted expansions took $took. Nothing is known of plans"
-  [ "$command_word" = make ] || took+='; a greater --budget goes on'
+  [ "$counted" = 1 ] && counted+=' expansion' || counted+=' expansions'
+  took="$counted took $took. Nothing is known of plans"
+  [ "$command_word" = make ] || took+='; run it again with a greater --budget: it starts anew'
   say "$took"
 }
 
@@ -64,7 +65,8 @@ explain_words() {
   text=$("$program" "$@" 2>/dev/null) && return
   case $text in
     'words files') for_each form explain_form "$command_word" ;;
-    'words weight') say "N of --num is less than D of --den, and the weight N/D is at least 1" ;;
+    'words weight') say "N of --num (1 if it isn't given) is less than D of --den, and the weight" \
+      "N/D is at least 1" ;;
     'words names') say "--cert and --trace are given one name" ;;
     'words size') say "the size isn't in the range of its kind" ;;
     *)

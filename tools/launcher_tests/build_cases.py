@@ -53,14 +53,14 @@ def first_build(place):
 def chain_is_proved_in_turn(place):
     """Once the crates that are left form a chain, `rt all check` is ended and `rt run` goes on."""
     unbuild(place)
-    env = {**slow(place, 0.02, 0.1), "STAND_IN_LONG": "pb_report"}
+    env = {**slow(place, 0.02, 0.1), "STAND_IN_LONG": "pb_made"}
     place.run("solve", "grid", *place.grid(), env=env).wants(0)
     all_check, run = called(place, "all check"), called(place, "run -- ")
     begun = [it for it in calls(place) if it.startswith("run begins with ")]
     if len(all_check) != 1 or len(run) != 1 or len(begun) != 1:
         raise Failed(f"one call of each was wanted: {calls(place)}")
-    if begun[0] != "run begins with 33 crates":
-        raise Failed(f"rt run was to prove pb_report, pb_answer and pb_run: {begun[0]}")
+    if begun[0] != "run begins with 34 crates":
+        raise Failed(f"rt run was to prove pb_made and pb_run: {begun[0]}")
     nothing_runs(place)
 
 

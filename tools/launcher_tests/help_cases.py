@@ -4,7 +4,7 @@ import re
 import subprocess
 
 from .harness import ROOT, Failed
-from .options import form_lines, lines_of, range_of, table_rows
+from .options import form_lines, lines_of, proved_table, range_of, stated_table, table_rows
 
 
 def help_of_all(place):
@@ -76,6 +76,15 @@ def tables_of_the_page(place):
         for row in found:
             if row not in wanted:
                 raise Failed(f"docs/FORMATS.md has this line, and options.txt has not:\n{row}")
+
+
+def options_of_the_definitions(place):
+    """options.txt has the options of the definitions that the program is proved to read."""
+    stated, proved = stated_table(), proved_table()
+    for name in sorted(stated.keys() | proved.keys()):
+        if stated.get(name) != proved.get(name):
+            raise Failed(f"--{name}: options.txt has {stated.get(name)}, "
+                         f"and the definitions have {proved.get(name)}")
 
 
 def building_time(place):
@@ -178,5 +187,5 @@ def defaults(place):
 
 
 CASES = [help_of_all, help_of_each, version, program_refuses_help, no_words,
-         help_on_a_closed_output, tables_of_the_page, building_time, examples,
-         ranges_of_options, ranges_of_words, commands_of_options, defaults]
+         help_on_a_closed_output, tables_of_the_page, options_of_the_definitions, building_time,
+         examples, ranges_of_options, ranges_of_words, commands_of_options, defaults]

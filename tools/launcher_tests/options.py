@@ -49,3 +49,34 @@ def form_lines():
         tail = "[OPTIONS]" if len(options) > 3 else " ".join(f"[{it}]" for it in options)
         lines.append(f"pbnf {command} {form} {tail}")
     return lines
+
+
+def proved_table(root=ROOT):
+    """The table of the command line's definitions: for each option the commands that have it, and
+    its least and greatest number with the default, or the words "a file" or "no value"."""
+    text = (root / "crates/pb_command/specs/Table.antt").read_text()
+    text = re.sub(r"--.*", "", text)
+    kinds, names = {}, {}
+    for case, form, name, numbers in re.findall(
+            r"^entry_of (\w+) = (number|file_name) \(codes \"(\w+)\"\)((?: \d+)*)$", text, re.M):
+        names[case] = name
+        kinds[case] = tuple(map(int, numbers.split())) if form == "number" else "a file"
+    for case, name in re.findall(r"^flag_name (\w+) = codes \"(\w+)\"$", text, re.M):
+        names[case], kinds[case] = name, "no value"
+    commands = {case: set() for case in names}
+    lists = re.findall(r"^(\w+)_(?:options|flags) =\s+([\w∷\s]+?) ∷ \[\]$", text, re.M)
+    for command, cases in lists:
+        for case in cases.split(" ∷ "):
+            commands[case.strip()].add(command)
+    return {names[it]: (commands[it], kinds[it]) for it in names}
+
+
+def stated_table():
+    """The same as tools/launcher/options.txt states it."""
+    rows = {}
+    for name, commands, _, takes, default in lines_of("option"):
+        kind = {"no value": "no value", "a file that is saved": "a file"}.get(takes)
+        if kind is None and range_of(takes):
+            kind = (*range_of(takes), int(default.replace(",", "")))
+        rows[name.split()[0][2:]] = (set(commands.split()), kind or takes)
+    return rows

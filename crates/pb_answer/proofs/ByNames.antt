@@ -20,9 +20,10 @@ use Rattle.pb_strips.proofs.Callers.{names_are_printed, packed_plans_are_plans, 
 use Rattle.pb_strips.specs.Grounding.{strips_of}
 use Rattle.pb_strips.specs.Refusals.{first_fault}
 use Rattle.pb_check.specs.declared.fault.Verdict.{Verdict}
-use Rattle.pb_check.specs.declared.fault.Verdict.TheVariants.{Bounded, Unsolvable}
+use Rattle.pb_check.specs.declared.fault.Claim.TheVariants.{Bounded, Unsolvable}
 use Rattle.pb_check.specs.Shown.{VerdictHolds}
 use Rattle.pb_report.specs.Texts.{syntax_text, strips_text}
+use Rattle.pb_command.specs.declared.command.InputOptions.{InputOptions}
 use Rattle.pb_command.specs.Values.{InputNames, Grid, Tiles, Strips}
 use Rattle.pb_command.specs.Meaning.{SolveMeaning, CheckMeaning}
 use Rattle.pb_answer.specs.Searches.{weight_asked}
@@ -94,10 +95,10 @@ trees_of (Some domain_text) (Some problem_text) task e = at_domain (domain_readi
 
 -- what follows for every domain and problem from what holds of their task holds of the trees that the texts spell
 by_trees : (P : TaskParts → Type 0) (Q : Domain → Problem → Type 0) → ((domain : Domain) (problem : Problem) → AreTask domain problem → P (parts.Strips (strips_of domain problem)) → Q domain problem)
-    → (input : InputNames) (row : ℕ) (swamp : Bool) (first : ℕ) (texts : List (List ℕ)) (task : TaskParts) → input_task input row swamp first texts ≡ Ok task → P task → OfTrees input first texts Q
-by_trees P Q f (Grid names) row swamp first texts task is holds = tt
-by_trees P Q f (Tiles board) row swamp first texts task is holds = tt
-by_trees P Q f (Strips names) row swamp first texts task is holds =
+    → (input : InputNames) (options : InputOptions) (first : ℕ) (texts : List (List ℕ)) (task : TaskParts) → input_task input options first texts ≡ Ok task → P task → OfTrees input first texts Q
+by_trees P Q f (Grid names) options first texts task is holds = tt
+by_trees P Q f (Tiles board) options first texts task is holds = tt
+by_trees P Q f (Strips names) options first texts task is holds =
     let trees : Trees (slice_get texts first) (slice_get texts (first + 1)) task = trees_of (slice_get texts first) (slice_get texts (first + 1)) task is in
     (trees.domain, trees.problem, trees.spelled, f trees.domain trees.problem trees.are (subst P trees.is holds))
 
@@ -163,12 +164,12 @@ module _ (texts : List (List ℕ)) where
       by_trees (λ parts. Solves says saves solve parts)
       (PrintsNamedPlan says (weight_asked solve))
       (λ domain problem are solves. prints_named_plan domain problem are says saves solve solves)
-      solve.input solve.row solve.swamp 0 texts task is holds
+      solve.input solve.options 0 texts task is holds
 
   pub none_by_names : (solve : SolveMeaning) → OfTexts solve texts (λ task. HasNoPlan (space_of task)) → OfTrees solve.input 0 texts HasNoNamedPlan
-  none_by_names solve (task, is, holds) = by_trees (λ t. HasNoPlan (space_of t)) HasNoNamedPlan no_named_plan solve.input solve.row solve.swamp 0 texts task is holds
+  none_by_names solve (task, is, holds) = by_trees (λ t. HasNoPlan (space_of t)) HasNoNamedPlan no_named_plan solve.input solve.options 0 texts task is holds
 
   pub accepted_by_names : (says : List ℕ → Type 0) (check : CheckMeaning) → OfCheckedTexts check texts (Accepts says) → OfTrees check.input 1 texts (AcceptsNamed says)
   accepted_by_names says check (task, certificate, is, holds) =
-      by_trees (λ t. Accepts says t certificate) (AcceptsNamed says) (λ domain problem are claims. (claims.0, claims.1, named_verdict domain problem are claims.0 claims.5)) check.input check.row check.swamp 1 texts
-      task (checked_input (slice_get texts 0) (input_task check.input check.row check.swamp 1 texts) task certificate is) holds
+      by_trees (λ t. Accepts says t certificate) (AcceptsNamed says) (λ domain problem are claims. (claims.0, claims.1, named_verdict domain problem are claims.0 claims.5)) check.input check.options 1 texts
+      task (checked_input (slice_get texts 0) (input_task check.input check.options 1 texts) task certificate is) holds

@@ -2,4 +2,4 @@
 pub use Rattle.pb_answer.proofs.ByNames.{accepted_by_names, none_by_names, solved_by_names}
 pub use Rattle.pb_answer.proofs.SameBlocks.{without_swamp}
 pub use Rattle.pb_answer.proofs.SavedJournals.{SavesJournal, of_quiet, of_stopped}
-pub use Rattle.pb_answer.proofs.Spelled.{never_refused}
+pub use Rattle.pb_answer.proofs.Spelled.{never_refused, of_grid, of_tiles}

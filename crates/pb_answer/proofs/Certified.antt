@@ -1,22 +1,30 @@
 -- What a quiet search shows is an answer to the words.
 use Rattle.std.proofs.Common.{◌≡◌, ◌⊎◌, inl, inr, ℕ, ◌^◌, ◌<◌, ◌≤◌, Option, Some, List, [], ◌∷◌, length, Result, Ok, Err, IfOk, ◌++◌, refl, sym, subst, arith, le_trans, mul-le-mul_left}
-use Rattle.pb_model.specs.Plan.{Plan, NoneCheaper, IsBound}
+use Rattle.pb_model.specs.Weight.{Weight}
+use Rattle.pb_model.specs.Guide.{Guide}
+use Rattle.pb_model.specs.Store.{Store}
+use Rattle.pb_model.specs.Plan.{Plan, NoneCheaper, IncumbentHolds, IsBound}
 use Rattle.pb_model.specs.Certificate.{IsBackedBy}
 use Rattle.pb_task.specs.declared.parts.TaskParts.{TaskParts}
 use Rattle.pb_task.specs.Parts.{space_of, IsTask}
 use Rattle.pb_machine.specs.Settings.{weight_of}
-use Rattle.pb_lease.specs.Leased.{guide_of}
+use Rattle.pb_abstract.specs.Graph.{AbstractGraph}
 use Rattle.pb_lease.specs.GraphValue.{GraphValue}
-use Rattle.pb_check.specs.Kinds.{kind_of, kind_name}
-use Rattle.pb_cert.specs.Stated.{Stated, text_of}
-use Rattle.pb_made.specs.Searches.{LeavesQuiet}
-use Rattle.pb_made.specs.Found.{IsPlanOf}
-use Rattle.pb_made.proofs.Callers as searched
+use Rattle.pb_estimate.specs.Spelling.{spelling_of}
+use Rattle.pb_lists.specs.Store.{IsQuietEnd}
+use Rattle.pb_workers.specs.Ends.{home_store}
+use Rattle.pb_search.specs.Ends.{choice_of, searched_guide}
+use Rattle.pb_search.specs.Searches.{LeavesQuiet}
+use Rattle.pb_search.proofs.Callers.{quiet_end, search_ends}
+use Rattle.pb_cert.specs.Stated.{SpelledCertificate, text_of}
+use Rattle.pb_cert.specs.Found.{IsTracedIfAny, IsPlanOf, IsCertificateOf}
+use Rattle.pb_cert.proofs.Callers as quiet
 use Rattle.pb_command.specs.Meaning.{SolveMeaning, IsSolveInRange}
 use Rattle.pb_report.specs.Texts.{plan_text}
 use Rattle.pb_answer.specs.Searches.{settings_of, weight_asked}
 use Rattle.pb_answer.specs.Named.{NamesTell}
 use Rattle.pb_answer.specs.Outputs.{Output, output}
+use Rattle.pb_answer.specs.Engines.{left_by_leases}
 use Rattle.pb_answer.specs.Claims.{IsCertificate, journal_outputs, Certifies, Solves}
 use Rattle.pb_answer.specs.declared.answer.Answer.{Answer}
 use Rattle.pb_answer.specs.Answer.{Said, Says, Saves, IsSolved, IsUnsolvable, IsStopped, IsFound, said_of}
@@ -26,51 +34,83 @@ use Rattle.pb_answer.proofs.Groups.{prints_least_cost, saves_plan}
 
 module _ (parts : TaskParts) (solve : SolveMeaning) (graph : GraphValue)
     (left : LeavesQuiet parts (settings_of solve) graph) where
+  abbrev guide : Guide
+  guide = searched_guide parts graph.table.graph (settings_of solve)
+
+  -- the rows at home are those of a quiet end
+  abbrev pub at_end : IsQuietEnd (space_of parts) guide (home_store graph)
+  at_end = quiet_end parts (settings_of solve) graph left
+
+  -- a plan that the rows at home lead to, or none
+  abbrev pub IsPlanOfRows : Option Plan → Type 0
+  IsPlanOfRows plan = IsPlanOf parts guide (home_store graph) plan
+
+  pub holds : (incumbent : Option ℕ) → graph.incumbent ≡ incumbent
+      → IncumbentHolds (space_of parts) (weight_asked solve) incumbent
+  holds incumbent known =
+      subst (λ (o : Option ℕ). IncumbentHolds (space_of parts) (weight_asked solve) o) known
+      (subst (λ (w : Weight). IncumbentHolds (space_of parts) w graph.incumbent) left.best.weight
+      at_end.holds)
+
+  -- it is that of the search that left the graph
+  of_search : (P : Guide → Store → Type 0) → P guide (home_store graph)
+      → P (searched_guide parts left.run.ends.graph (settings_of solve)) left.run.ends.machine.store
+  of_search P is =
+      subst (λ (s : Store). P (searched_guide parts left.run.ends.graph (settings_of solve)) s) left.run.rows
+      (subst (λ (g : AbstractGraph). P (searched_guide parts g (settings_of solve)) (home_store graph)) left.run.blocks is)
+
   -- what is saved of a certificate that was made of the rows
-  pub is_certificate : IsTask parts → IsSolveInRange solve → (c : Stated) (plan : Option Plan)
-      (name : List ℕ) → c.kind ≡ kind_name (kind_of parts)
+  pub is_certificate : IsTask parts → IsSolveInRange solve → (c : SpelledCertificate)
+      (plan : Option Plan) (name : List ℕ) → c.spelling
+      ≡ spelling_of parts (choice_of (settings_of solve))
       → c.certificate.weight ≡ weight_of graph.table.settings → c.certificate.plan ≡ plan
       → length c.certificate.lines < 2 ^ 63
-      → searched.HasLines parts (settings_of solve) graph left c
-      → searched.IsValidFor parts (settings_of solve) graph left plan c
-      → IsPlanOf parts graph plan
-      → IsCertificate (Some name) parts (weight_asked solve) (guide_of parts left.run.ends.graph)
+      → quiet.HasLines parts guide (home_store graph) at_end c
+      → quiet.IsValidFor parts guide (home_store graph) at_end plan c
+      → IsPlanOfRows plan
+      → IsCertificate (Some name) parts (weight_asked solve) (searched_guide parts left.run.ends.graph (settings_of solve))
       left.run.ends.machine.store plan (output name (text_of c) ∷ [])
-  is_certificate lawful range c plan name kind w p count lines valid best =
-      let num = range.num.1 in
-      let den = range.den.1 in (
+  is_certificate lawful range c plan name spelling w p count lines valid best =
+      let num : solve.settings.num ≤ 1000 = range.settings.weight.small in
+      let den : solve.settings.den ≤ solve.settings.num = range.settings.weight.at_least_one in (
         text_of c,
-        searched.is_of_search parts (settings_of solve) graph left (weight_asked solve) plan
-            (text_of c)
-            (searched.is_certificate parts (settings_of solve) graph left lawful (omega (arith, num))
-            (omega (arith, den)) c plan (text_of c) refl kind w p count lines valid best),
+        of_search
+            (λ guide store. IsCertificateOf parts (weight_asked solve) guide store plan (text_of c))
+            (quiet.is_certificate parts guide (home_store graph) at_end lawful (choice_of (settings_of solve)) refl refl
+            (weight_asked solve) left.best.weight (omega (arith, num)) (omega (arith, num, den)) c plan
+            (text_of c) refl spelling w p count lines valid best),
         refl,
       )
 
   -- What is saved, with the journal behind it, is that of the search.
   pub certifies : (plan : Option Plan) (name : Option (List ℕ)) → solve.certificate ≡ name
-      → (certificate : List Output) → IsPlanOf parts graph plan
-      → IsCertificate name parts (weight_asked solve) (guide_of parts left.run.ends.graph)
+      → (certificate : List Output) → IsPlanOfRows plan
+      → IsCertificate name parts (weight_asked solve) (searched_guide parts left.run.ends.graph (settings_of solve))
       left.run.ends.machine.store plan certificate
       → Certifies (λ outputs. ◌≡◌ {A = List Output}
       (certificate ++ journal_outputs solve.journal (settings_of solve) graph.table.journal) outputs)
       solve parts plan
   certifies plan name named certificate best is = (
-    graph.table.journal,
-    searched.finds parts (settings_of solve) graph left plan best,
+    left_by_leases (search_ends parts (settings_of solve) graph left),
+    (graph.table.journal, search_ends parts (settings_of solve) graph left, refl),
+    record {
+      backed = of_search (λ guide store. IsBackedBy store.incumbent plan) best.backed;
+      traced =
+          of_search (λ guide store. IsTracedIfAny (space_of parts) guide store plan) best.traced;
+    },
     certificate,
     subst (λ (n : Option (List ℕ)). IsCertificate n parts (weight_asked solve)
-        (guide_of parts left.run.ends.graph) left.run.ends.machine.store plan certificate)
+        (searched_guide parts left.run.ends.graph (settings_of solve)) left.run.ends.machine.store plan certificate)
         (sym named) is,
     refl,
   )
 
   -- of a search that knows an incumbent
   pub solved : (lawful : IsTask parts) → NamesTell parts → (cost : ℕ) → graph.incumbent ≡ Some cost
-      → (plan : Plan) → IsPlanOf parts graph (Some plan) → (bound : ℕ)
+      → (plan : Plan) → IsPlanOfRows (Some plan) → (bound : ℕ)
       → IsBound (weight_asked solve) plan.cost bound → (said : Said) → said.status ≡ 0
       → said.report ≡ plan_text parts plan bound → plan.cost < 2 ^ 64
-      → (IsPlanOf parts graph (Some plan) → Certifies (Saves said) solve parts (Some plan))
+      → (IsPlanOfRows (Some plan) → Certifies (Saves said) solve parts (Some plan))
       → IsSolved solve parts said
   solved lawful names cost known plan best bound bounded said status says fits_it saved =
       let weight = weight_asked solve in
@@ -78,7 +118,7 @@ module _ (parts : TaskParts) (solve : SolveMeaning) (graph : GraphValue)
       subst (λ (o : Option ℕ). IsBackedBy o (Some plan)) known best.backed in
       let least : NoneCheaper (space_of parts) weight plan.cost =
       λ other other_is. le_trans (mul-le-mul_left weight.den within)
-      ((searched.holds parts (settings_of solve) graph left (Some cost) known).1 other other_is) in
+      ((holds (Some cost) known).1 other other_is) in
       let solves : Solves (Says said) (Saves said) solve parts = (
         plan,
         bound,

@@ -24,11 +24,12 @@ use Rattle.pb_answer.specs.Loaded.{refused_with, grid_told, grid_task, tiles_tol
 use Rattle.pb_answer.specs.Named.{NamesTell}
 use Rattle.pb_answer.specs.Tasks.{GivesTask}
 use Rattle.pb_answer.specs.declared.input.NoTask.{NoTask}
+use Rattle.pb_command.specs.declared.command.InputOptions.{InputOptions}
 use Rattle.pb_command.specs.Meaning.{SolveMeaning}
 use Rattle.pb_answer.specs.Searches.{weight_asked}
 use Rattle.pb_answer.specs.Outputs.{Output}
 use Rattle.pb_answer.specs.Claims.{Certifies, Solves, PrintsLeastCost, SavesPlan}
-use Rattle.pb_made.proofs.Callers.{walk_actions, walk_length}
+use Rattle.pb_cert.proofs.Callers.{walk_actions, walk_length}
 use Rattle.pb_answer.proofs.Reports.{IsFree, AreFree, report_tells_cost, report_tells_steps}
 
 -- ---- the names of actions
@@ -74,10 +75,10 @@ refused_is_no_task None task e = cc
 refused_is_no_task (Some text) task e = cc
 
 -- where the texts of a map and a scenario, or of a board, spell a task, its actions are named by their directions
-pub grid_names : (map_text scenario_text : Option (List ℕ)) (row : ℕ) (swamp : Bool) (task : TaskParts) → grid_task map_text scenario_text row swamp ≡ Ok task → NamesTell task
-grid_names None scenario_text row swamp task e = cc
-grid_names (Some map_text) None row swamp task e = cc
-grid_names (Some map_text) (Some scenario_text) row swamp task e = at (grid_reading map_text scenario_text row swamp) e
+pub grid_names : (map_text scenario_text : Option (List ℕ)) (options : InputOptions) (task : TaskParts) → grid_task map_text scenario_text options ≡ Ok task → NamesTell task
+grid_names None scenario_text options task e = cc
+grid_names (Some map_text) None options task e = cc
+grid_names (Some map_text) (Some scenario_text) options task e = at (grid_reading map_text scenario_text options.row options.swamp) e
   where
     at : (reading : Result GridParts GridError) → grid_told (task_of reading) ≡ Ok task → NamesTell task
     at (Ok grid) f =

@@ -4,7 +4,7 @@ mod Groups
 mod Certified
 mod Judged
 mod SavedJournals
-mod MadeTasks
 mod ByNames
 mod Spelled
 mod SameBlocks
+mod Long

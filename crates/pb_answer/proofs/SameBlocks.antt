@@ -9,6 +9,7 @@ use Rattle.pb_grid.specs.Lines.{lines_of}
 use Rattle.pb_grid.specs.Reading.{grid_reading, swamp_of, task_of}
 use Rattle.pb_abstract.specs.Laws.{BlocksAskForNoCosts}
 use Rattle.pb_report.specs.Texts.{input_text}
+use Rattle.pb_command.specs.declared.command.InputOptions.{InputOptions}
 use Rattle.pb_command.specs.Values.{InputNames, Grid, Tiles, Strips}
 use Rattle.pb_answer.specs.Loaded.{refused_with, grid_told, grid_task, input_task}
 use Rattle.pb_answer.specs.Journals.{IsJournalOf}
@@ -34,30 +35,30 @@ pub record Swampless (one : TaskParts) (task : Result TaskParts (List ℕ)) : Ty
   pub journals : HasItsJournals one other
 
 module _ (law : SwampChangesMarksAlone) (blocks : BlocksAskForNoCosts) where
-  of_texts : (map_text scenario_text : Option (List ℕ)) (row : ℕ) (swamp : Bool) (one : TaskParts) → grid_task map_text scenario_text row swamp ≡ Ok one
-      → Swampless one (grid_task map_text scenario_text row false)
-  of_texts None scenario_text row swamp one e = absurd cc
-  of_texts (Some map_text) None row swamp one e = absurd cc
-  of_texts (Some map_text) (Some scenario_text) row swamp one e = at (grid_reading map_text scenario_text row swamp) refl e
+  of_texts : (map_text scenario_text : Option (List ℕ)) (options : InputOptions) (one : TaskParts) → grid_task map_text scenario_text options ≡ Ok one
+      → Swampless one (grid_task map_text scenario_text (record options { swamp = false }))
+  of_texts None scenario_text options one e = absurd cc
+  of_texts (Some map_text) None options one e = absurd cc
+  of_texts (Some map_text) (Some scenario_text) options one e = at (grid_reading map_text scenario_text options.row options.swamp) refl e
     where
-      none : (report : Option (List ℕ)) → refused_with report ≡ Ok one → Swampless one (grid_task (Some map_text) (Some scenario_text) row false)
+      none : (report : Option (List ℕ)) → refused_with report ≡ Ok one → Swampless one (grid_task (Some map_text) (Some scenario_text) (record options { swamp = false }))
       none None f = absurd cc
       none (Some text) f = absurd cc
 
-      at : (reading : Result GridParts GridError) → grid_reading map_text scenario_text row swamp ≡ reading → grid_told (task_of reading) ≡ Ok one
-          → Swampless one (grid_task (Some map_text) (Some scenario_text) row false)
+      at : (reading : Result GridParts GridError) → grid_reading map_text scenario_text options.row options.swamp ≡ reading → grid_told (task_of reading) ≡ Ok one
+          → Swampless one (grid_task (Some map_text) (Some scenario_text) (record options { swamp = false }))
       at (Ok grid) reads f =
           let same : parts.Grid grid ≡ one = cc in
-          subst (λ (t : TaskParts). Swampless t (grid_task (Some map_text) (Some scenario_text) row false)) same (record {
+          subst (λ (t : TaskParts). Swampless t (grid_task (Some map_text) (Some scenario_text) (record options { swamp = false }))) same (record {
             other = parts.Grid (record grid { swamp = swamp_of false grid.height (lines_of map_text) });
-            is = ap (λ (r : Result GridParts GridError). grid_told (task_of r)) (law map_text scenario_text row swamp false grid reads);
+            is = ap (λ (r : Result GridParts GridError). grid_told (task_of r)) (law map_text scenario_text options.row options.swamp false grid reads);
             journals = of_grids blocks grid (swamp_of false grid.height (lines_of map_text));
           })
       at (Err error) reads f = none (input_text error) f
 
   -- the task of an input with the words for a row and for swamp, and of the same without swamp
-  pub without_swamp : (input : InputNames) (row : ℕ) (swamp : Bool) (first : ℕ) (texts : List (List ℕ)) (one : TaskParts) → input_task input row swamp first texts ≡ Ok one
-      → Swampless one (input_task input row false first texts)
-  without_swamp (Grid names) row swamp first texts one e = of_texts (slice_get texts first) (slice_get texts (first + 1)) row swamp one e
-  without_swamp (Tiles board) row swamp first texts one e = record { other = one; is = e; journals = λ text events is. is }
-  without_swamp (Strips names) row swamp first texts one e = record { other = one; is = e; journals = λ text events is. is }
+  pub without_swamp : (input : InputNames) (options : InputOptions) (first : ℕ) (texts : List (List ℕ)) (one : TaskParts) → input_task input options first texts ≡ Ok one
+      → Swampless one (input_task input (record options { swamp = false }) first texts)
+  without_swamp (Grid names) options first texts one e = of_texts (slice_get texts first) (slice_get texts (first + 1)) options one e
+  without_swamp (Tiles board) options first texts one e = record { other = one; is = e; journals = λ text events is. is }
+  without_swamp (Strips names) options first texts one e = record { other = one; is = e; journals = λ text events is. is }

@@ -10,11 +10,12 @@ use Rattle.pb_task.specs.declared.parts.TaskParts.{TaskParts}
 use Rattle.pb_abstract.specs.Graph.{blocks_of}
 use Rattle.pb_journal.specs.Texts.{journal_text}
 use Rattle.pb_journal.specs.Shown.{one, WrittenJournalsAreAccepted}
-use Rattle.pb_made.specs.Searches.{SearchEnds}
+use Rattle.pb_search.specs.Searches.{SearchEnds}
 use Rattle.pb_command.specs.Meaning.{SolveMeaning}
 use Rattle.pb_answer.specs.Outputs.{Output}
 use Rattle.pb_answer.specs.Searches.{settings_of}
-use Rattle.pb_answer.specs.Claims.{journal_outputs, Certifies, Stops}
+use Rattle.pb_answer.specs.Engines.{Left}
+use Rattle.pb_answer.specs.Claims.{journal_outputs, journal_outputs_if_any, Certifies, Stops}
 use Rattle.pb_answer.specs.Journals.{IsJournalOf}
 
 -- The last of what is saved is the journal with these events, if it has a name. Its text is that of
@@ -58,18 +59,18 @@ module _ (written : WrittenJournalsAreAccepted) (solve : SolveMeaning) (parts : 
 
   pub of_quiet : (saves : List Output → Type 0) (plan : Option Plan)
       → Certifies saves solve parts plan → SavesJournal saves solve parts
-  of_quiet saves plan (events, found, outputs, certificate, saved) = record {
+  of_quiet saves plan (left, (events, run, is), found, outputs, certificate, saved) = record {
     events = events;
     first = outputs;
-    saved = saved;
-    legal = is_journal _ events found.run;
+    saved = subst (λ (l : Left). saves (outputs ++ journal_outputs_if_any solve.journal (settings_of solve) l.journal)) is saved;
+    legal = is_journal _ events run;
   }
 
   pub of_stopped : (saves : List Output → Type 0) → Stops saves solve parts
       → SavesJournal saves solve parts
-  of_stopped saves (events, run, saved) = record {
+  of_stopped saves (left, (events, run, is), saved) = record {
     events = events;
     first = [];
-    saved = saved;
+    saved = subst (λ (l : Left). saves (journal_outputs_if_any solve.journal (settings_of solve) l.journal)) is saved;
     legal = is_journal _ events run;
   }

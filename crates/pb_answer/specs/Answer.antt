@@ -1,4 +1,4 @@
--- What is answered of a command line and of the texts that were loaded of its files.
+-- What is answered of the task that loaded texts spell, or of texts that are refused.
 use Rattle.std.specs.Prelude.{◌≡◌, ◌⊎◌, ℕ, Option, None, Some, List, [], ◌∷◌, ◌++◌, Result, Ok, Err}
 use Rattle.pb_model.specs.Plan.{HasNoPlan}
 use Rattle.pb_model.specs.Texts.{none_report, stopped_report}
@@ -6,15 +6,12 @@ use Rattle.pb_task.specs.declared.parts.TaskParts.{TaskParts}
 use Rattle.pb_task.specs.Parts.{space_of}
 use Rattle.pb_cert.specs.Stated.{text_of}
 use Rattle.pb_journal.specs.Texts.{journal_text}
-use Rattle.pb_command.specs.Meaning.{Reading, Refused, Read, Solve, Check, Journal, Make, SolveMeaning, MakeMeaning, reading_of_words}
-use Rattle.pb_command.specs.Causes.{IsPrinted}
+use Rattle.pb_command.specs.Meaning.{SolveMeaning}
 use Rattle.pb_answer.specs.Statuses.{number_of}
 use Rattle.pb_answer.specs.Outputs.{Output, output}
-use Rattle.pb_answer.specs.Loaded.{solve_task, check_task, journal_task}
 use Rattle.pb_answer.specs.Searches.{weight_asked}
 use Rattle.pb_answer.specs.Claims.{Certifies, Stops, Solves, PrintsLeastCost, SavesPlan, Accepts, Rejects}
 use Rattle.pb_answer.specs.Journals.{AcceptsJournal, RejectsJournal}
-use Rattle.pb_answer.specs.Makes.{MakesPlan, MakesNone, MakesStop}
 use Rattle.pb_answer.specs.declared.answer.Answer.{Answer}
 use Rattle.pb_answer.specs.declared.answer.SavedCertificate.{SavedCertificate}
 use Rattle.pb_answer.specs.declared.answer.SavedJournal.{SavedJournal}
@@ -69,7 +66,7 @@ IsUnsolvable solve parts said =
 -- a search as the words ask for it used up its budget of expansions, and there is no certificate
 abbrev pub IsStopped : SolveMeaning → TaskParts → Said → Type 0
 IsStopped solve parts said =
-    (said.status ≡ 2) × Says said (stopped_report solve.budget) × Stops (Saves said) solve parts
+    (said.status ≡ 2) × Says said (stopped_report solve.settings.budget) × Stops (Saves said) solve parts
 
 abbrev pub IsFound : SolveMeaning → TaskParts → Said → Type 0
 IsFound solve parts said =
@@ -89,15 +86,7 @@ IsJudged parts journal said =
     ((said.status ≡ 0) × Saves said [] × AcceptsJournal (Says said) parts journal)
     ⊎ ((said.status ≡ 3) × Saves said [] × RejectsJournal (Says said) parts journal)
 
--- ---- of a task that is to be made
-
-abbrev pub IsMade : MakeMeaning → Said → Type 0
-IsMade make said =
-    ((said.status ≡ 0) × Saves said [] × MakesPlan (Says said) make)
-    ⊎ (((said.status ≡ 1) × Saves said [] × MakesNone (Says said) make)
-    ⊎ ((said.status ≡ 2) × Saves said [] × MakesStop (Says said) make))
-
--- ---- of the words and the texts
+-- ---- of texts that may spell no task
 
 -- the input is refused with this report
 abbrev pub IsRefused : (report : List ℕ) → Said → Type 0
@@ -107,18 +96,3 @@ IsRefused report said = (said.status ≡ 65) × Says said report × Saves said [
 abbrev pub OrRefused : {A : Type 0} → Result A (List ℕ) → (P : A → Said → Type 0) → Said → Type 0
 OrRefused (Ok task) P said = P task said
 OrRefused (Err report) P said = IsRefused report said
-
-abbrev pub AnswersReading : Reading → (texts : List (List ℕ)) → Said → Type 0
-AnswersReading (Refused fault) texts said =
-    (said.status ≡ 64) × IsPrinted fault said.report × Saves said []
-AnswersReading (Read (Solve solve)) texts said =
-    OrRefused (solve_task solve texts) (IsFound solve) said
-AnswersReading (Read (Check check)) texts said =
-    OrRefused (check_task check texts) (λ task. IsChecked task.0 task.1) said
-AnswersReading (Read (Journal journal)) texts said =
-    OrRefused (journal_task journal texts) (λ task. IsJudged task.0 task.1) said
-AnswersReading (Read (Make make)) texts said = IsMade make said
-
--- this is answered of the words and of the texts that were loaded
-abbrev pub Answers : (words texts : List (List ℕ)) → Said → Type 0
-Answers words texts said = AnswersReading (reading_of_words words) texts said

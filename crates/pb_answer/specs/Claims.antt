@@ -6,25 +6,22 @@ use Rattle.pb_model.specs.Guide.{Guide}
 use Rattle.pb_model.specs.Store.{Store}
 use Rattle.pb_model.specs.Plan.{Plan, IsPlan, NoneCheaper, IsBound}
 use Rattle.pb_model.specs.Texts.{plan_report}
-use Rattle.pb_machine.specs.declared.event.End.TheVariants.{Budget}
+use Rattle.pb_machine.specs.declared.event.End.TheVariants.{Quiet, Budget}
 use Rattle.pb_machine.specs.declared.event.Event.{Event}
 use Rattle.pb_machine.specs.declared.settings.Settings.{Settings}
 use Rattle.pb_task.specs.declared.parts.TaskParts.{TaskParts}
 use Rattle.pb_task.specs.Parts.{space_of}
-use Rattle.pb_estimate.specs.Estimates.{estimate_of}
-use Rattle.pb_lease.specs.Leased.{guide_of}
 use Rattle.pb_journal.specs.Texts.{journal_text}
 use Rattle.pb_check.specs.declared.fault.CertificateFault.{CertificateFault}
 use Rattle.pb_check.specs.declared.fault.Verdict.{Verdict}
 use Rattle.pb_check.specs.Judging.{checked}
-use Rattle.pb_check.specs.Kinds.{kind_of}
 use Rattle.pb_check.specs.Shown.{IsAccepted, ShowsClaim, VerdictHolds}
-use Rattle.pb_made.specs.Searches.{SearchEnds}
-use Rattle.pb_made.specs.Found.{Finds, IsCertificateOf}
+use Rattle.pb_cert.specs.Found.{IsCertificateOf}
 use Rattle.pb_report.specs.Texts.{plan_text, verdict_text, fault_text}
-use Rattle.pb_command.specs.Meaning.{SolveMeaning}
+use Rattle.pb_command.specs.Meaning.{SolveMeaning, CheckMeaning}
 use Rattle.pb_answer.specs.Outputs.{Output, output}
 use Rattle.pb_answer.specs.Searches.{settings_of, weight_asked}
+use Rattle.pb_answer.specs.Engines.{engine_asked, Left, SearchLeaves, FindsIn}
 
 -- ---- of a search
 
@@ -43,24 +40,30 @@ abbrev pub journal_outputs : (name : Option (List ℕ)) → Settings → List Ev
 journal_outputs None settings journal = []
 journal_outputs (Some name) settings journal = output name (journal_text settings journal) ∷ []
 
+-- the same, if the engine keeps a journal
+abbrev pub journal_outputs_if_any : (name : Option (List ℕ)) → Settings → Option (List Event)
+    → List Output
+journal_outputs_if_any name settings None = []
+journal_outputs_if_any name settings (Some journal) = journal_outputs name settings journal
+
 -- A search of the task, as the words ask for it, came to a quiet end. It found this plan, which is
 -- the one that its rows lead to, or it found none. What is saved is its certificate and, after
 -- that, its journal, each if it has a name.
 abbrev pub Certifies : (saves : List Output → Type 0) → SolveMeaning → TaskParts → Option Plan
     → Type 0
 Certifies saves solve parts plan =
-    (journal : List Event) × (found : Finds parts (settings_of solve) journal plan)
+    (left : Left) × SearchLeaves (engine_asked solve) parts (settings_of solve) Quiet left
+    × FindsIn (space_of parts) left plan
     × (outputs : List Output)
-    × IsCertificate solve.certificate parts (weight_asked solve)
-    (guide_of parts found.run.ends.graph) found.run.ends.machine.store plan outputs
-    × saves (outputs ++ journal_outputs solve.journal (settings_of solve) journal)
+    × IsCertificate solve.certificate parts (weight_asked solve) left.guide left.store plan outputs
+    × saves (outputs ++ journal_outputs_if_any solve.journal (settings_of solve) left.journal)
 
 -- A search of the task, as the words ask for it, came to the end of its budget. What is saved is
 -- its journal, if it has a name.
 abbrev pub Stops : (saves : List Output → Type 0) → SolveMeaning → TaskParts → Type 0
 Stops saves solve parts =
-    (journal : List Event) × SearchEnds parts (settings_of solve) Budget journal
-    × saves (journal_outputs solve.journal (settings_of solve) journal)
+    (left : Left) × SearchLeaves (engine_asked solve) parts (settings_of solve) Budget left
+    × saves (journal_outputs_if_any solve.journal (settings_of solve) left.journal)
 
 -- All of one plan: it is printed with its cost and bound and is a plan of the task. Its cost is at
 -- most num / den times that of any plan, at the weight num / den. The rows of a search as the words
@@ -97,21 +100,26 @@ SavesPlan says saves solve parts =
 
 -- ---- of a certificate that is checked
 
+-- what is saved of an accepted certificate: nothing. Rewriting one in a later version is a case of
+-- this definition.
+abbrev pub rewritten_outputs : CheckMeaning → TaskParts → (certificate : List ℕ) → List Output
+rewritten_outputs check parts certificate = []
+
 -- The text is that of a valid certificate of the task, its verdict is printed, and what the
 -- certificate claims is true of the task. Every plan of a cost f has num * f >= den * C, for the
 -- certificate's cost C and its weight num / den; or there is no plan.
 abbrev pub Accepts : (says : List ℕ → Type 0) → TaskParts → (certificate : List ℕ) → Type 0
 Accepts says parts certificate =
     (verdict : Verdict) × says (verdict_text verdict)
-    × (checked (space_of parts) (estimate_of parts) (kind_of parts) certificate ≡ Ok verdict)
-    × IsAccepted (space_of parts) (estimate_of parts) (kind_of parts) certificate verdict
-    × ShowsClaim (space_of parts) (kind_of parts) certificate verdict
+    × (checked parts certificate ≡ Ok verdict)
+    × IsAccepted parts certificate verdict
+    × ShowsClaim parts certificate verdict
     × VerdictHolds (space_of parts) verdict
 
 -- The text is that of no valid certificate of the task, and its first fault is printed.
 abbrev pub Rejects : (says : List ℕ → Type 0) → TaskParts → (certificate : List ℕ) → Type 0
 Rejects says parts certificate =
     (fault : CertificateFault) × says (fault_text fault)
-    × (checked (space_of parts) (estimate_of parts) (kind_of parts) certificate ≡ Err fault)
-    × ((verdict : Verdict) → IsAccepted (space_of parts) (estimate_of parts) (kind_of parts)
+    × (checked parts certificate ≡ Err fault)
+    × ((verdict : Verdict) → IsAccepted parts
     certificate verdict → ⊥)

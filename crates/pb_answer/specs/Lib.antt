@@ -2,12 +2,14 @@ pub use Rattle.pb_command.specs.Causes
 pub use Rattle.pb_command.specs.Meaning
 pub mod Statuses
 pub mod Loaded
+pub mod Long
 pub mod Tasks
 pub mod Searches
 pub mod Named
 pub mod Spelled
 pub mod Outputs
+pub mod Engines
 pub mod Claims
 pub mod Journals
-pub mod Makes
 pub mod Answer
+pub mod Parts

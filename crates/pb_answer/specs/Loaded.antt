@@ -1,7 +1,7 @@
 -- Which task is spelled by the texts that were loaded of the files of a command line, or the report
 -- that refuses them. The task of each kind is in `input_task`. The words for the row and for swamp
 -- are part of what spells a grid.
-use Rattle.std.specs.Prelude.{◌≡◌, ℕ, ◌+◌, Bool, false, Option, None, Some, List, [], Result, Ok, Err, codes, slice_get}
+use Rattle.std.specs.Prelude.{◌≡◌, ℕ, ◌+◌, Option, None, Some, List, [], Result, Ok, Err, slice_get}
 use Rattle.pb_model.specs.Texts.{line}
 use Rattle.pb_task.specs.declared.parts.TaskParts.{TaskParts}
 use Rattle.pb_task.specs.declared.parts.TaskParts.TheVariants as parts
@@ -18,6 +18,8 @@ use Rattle.pb_strips.specs.declared.error.StripsError.{StripsError}
 use Rattle.pb_strips.specs.Grounding.{strips_of}
 use Rattle.pb_strips.specs.Refusals.{first_fault}
 use Rattle.pb_report.specs.Texts.{input_text, tiles_text, syntax_text, strips_text}
+use Rattle.pb_command.specs.Files.{too_long as fault_line}
+use Rattle.pb_command.specs.declared.command.InputOptions.{InputOptions}
 use Rattle.pb_command.specs.Values.{InputNames, Grid, Tiles, Strips}
 use Rattle.pb_command.specs.Meaning.{Reading, Refused, Read, Solve, Check, Journal, Make, SolveMeaning, CheckMeaning, JournalMeaning}
 
@@ -25,7 +27,7 @@ use Rattle.pb_command.specs.Meaning.{Reading, Refused, Read, Solve, Check, Journ
 
 -- a file was too long, so that its text and the later ones were not loaded
 abbrev pub too_long : List ℕ
-too_long = line (codes "input TooLong")
+too_long = line fault_line
 
 -- out of memory has no text, and no reading of texts gives it
 abbrev pub refused_with : Option (List ℕ) → Result TaskParts (List ℕ)
@@ -36,12 +38,12 @@ abbrev pub grid_told : Result TaskParts GridError → Result TaskParts (List ℕ
 grid_told (Ok task) = Ok task
 grid_told (Err error) = refused_with (input_text error)
 
-abbrev pub grid_task : (map_text scenario_text : Option (List ℕ)) → (row : ℕ) → (swamp : Bool)
+abbrev pub grid_task : (map_text scenario_text : Option (List ℕ)) → InputOptions
     → Result TaskParts (List ℕ)
-grid_task None scenario_text row swamp = Err too_long
-grid_task (Some map_text) None row swamp = Err too_long
-grid_task (Some map_text) (Some scenario_text) row swamp =
-    grid_told (task_of (grid_reading map_text scenario_text row swamp))
+grid_task None scenario_text options = Err too_long
+grid_task (Some map_text) None options = Err too_long
+grid_task (Some map_text) (Some scenario_text) options =
+    grid_told (task_of (grid_reading map_text scenario_text options.row options.swamp))
 
 abbrev pub tiles_told : Result TilesParts TilesError → Result TaskParts (List ℕ)
 tiles_told (Ok tiles) = Ok (parts.Tiles tiles)
@@ -71,19 +73,19 @@ strips_task (Some domain_text) None = Err too_long
 strips_task (Some domain_text) (Some problem_text) =
     domain_told (domain_reading domain_text) (problem_reading problem_text)
 
--- the task of the texts from this place on, and of the words for the row of the scenario and for
--- swamp; for tiles and strips these words don't matter
-abbrev pub input_task : InputNames → (row : ℕ) → (swamp : Bool) → (first : ℕ)
-    → (texts : List (List ℕ)) → Result TaskParts (List ℕ)
-input_task (Grid names) row swamp first texts =
-    grid_task (slice_get texts first) (slice_get texts (first + 1)) row swamp
-input_task (Tiles board) row swamp first texts = tiles_task (slice_get texts first)
-input_task (Strips names) row swamp first texts =
+-- the task of the texts from this place on, read as the words ask; what they say of the row and of
+-- swamp doesn't matter for tiles and strips
+abbrev pub input_task : InputNames → InputOptions → (first : ℕ) → (texts : List (List ℕ))
+    → Result TaskParts (List ℕ)
+input_task (Grid names) options first texts =
+    grid_task (slice_get texts first) (slice_get texts (first + 1)) options
+input_task (Tiles board) options first texts = tiles_task (slice_get texts first)
+input_task (Strips names) options first texts =
     strips_task (slice_get texts first) (slice_get texts (first + 1))
 
 -- the task that is to be solved
 abbrev pub solve_task : SolveMeaning → (texts : List (List ℕ)) → Result TaskParts (List ℕ)
-solve_task solve texts = input_task solve.input solve.row solve.swamp 0 texts
+solve_task solve texts = input_task solve.input solve.options 0 texts
 
 -- the text that is loaded first, beside the task of the texts after it
 abbrev pub with_text : Option (List ℕ) → Result TaskParts (List ℕ)
@@ -96,14 +98,14 @@ with_text (Some text) (Err report) = Err report
 abbrev pub check_task : CheckMeaning → (texts : List (List ℕ))
     → Result (TaskParts × List ℕ) (List ℕ)
 check_task check texts =
-    with_text (slice_get texts 0) (input_task check.input check.row check.swamp 1 texts)
+    with_text (slice_get texts 0) (input_task check.input check.options 1 texts)
 
--- the task that a journal is to be judged for, and the journal's text; its blocks are the same with
--- swamp or without
+-- the task that a journal is to be judged for, and the journal's text; `journal` reads a map without
+-- swamp, and the blocks are the same with it
 abbrev pub journal_task : JournalMeaning → (texts : List (List ℕ))
     → Result (TaskParts × List ℕ) (List ℕ)
 journal_task journal texts =
-    with_text (slice_get texts 0) (input_task journal.input journal.row false 1 texts)
+    with_text (slice_get texts 0) (input_task journal.input journal.options 1 texts)
 
 -- the texts spell a task to solve, and P holds of it
 abbrev pub OfTexts : SolveMeaning → (texts : List (List ℕ)) → (P : TaskParts → Type 0) → Type 0

@@ -14,7 +14,7 @@ use Rattle.pb_lifted.specs.Plans.{NamedAction, IsPlan, plan_cost}
 use Rattle.pb_strips.specs.Names.{action_bytes}
 use Rattle.pb_strips.specs.Naming.{AreTellingNames}
 use Rattle.pb_check.specs.declared.fault.Verdict.{Verdict}
-use Rattle.pb_check.specs.declared.fault.Verdict.TheVariants.{Bounded, Unsolvable}
+use Rattle.pb_check.specs.declared.fault.Claim.TheVariants.{Bounded, Unsolvable}
 use Rattle.pb_report.specs.Texts.{verdict_text}
 use Rattle.pb_command.specs.Values.{InputNames, Grid, Tiles, Strips}
 

@@ -1,21 +1,18 @@
-ghost use Rattle.std.specs.Prelude.{◌≡◌, IfOk, [], map, string_bytes};
+ghost use Rattle.std.specs.Prelude.{◌≡◌, IfOk, []};
 ghost use Rattle.pb_command.specs.Meaning.{IsInRange, Solve};
 ghost use Rattle.pb_command.specs.Causes.{solve_meant, check_meant, journal_meant};
 ghost use Rattle.pb_answer.specs.Statuses.{number_of};
 ghost use Rattle.pb_answer.specs.Loaded.{solve_task, check_task, journal_task};
-ghost use Rattle.pb_answer.specs.Answer.{Answers, IsRefused, IsFound, IsChecked, IsJudged, OrRefused, said_of};
+ghost use Rattle.pb_answer.specs.Answer.{IsRefused, IsFound, IsChecked, IsJudged, OrRefused, said_of};
 
 use crate::check::judge;
 use crate::input::{NoTask, input_task};
 use crate::journal::judge_journal;
-use crate::make::make_task;
 use crate::solve::solve_task;
 use crate::status::Status;
 use crate::texts::Texts;
 use pb_cert::Certificate;
-use pb_command::{
-    CheckCommand, CommandLine, CommandRefusal, JournalCommand, Message, SolveCommand, read_words,
-};
+use pb_command::{CheckCommand, JournalCommand, SolveCommand};
 use pb_lease::LeaseGraph;
 use pb_machine::{Event, Settings};
 use pb_outside::Gate;
@@ -59,8 +56,8 @@ pub struct Answer<'a> {
 }
 
 impl<'a> Answer<'a> {
-    // The answer that saves nothing.
-    pub(crate) fn without_files(status: Status, report: Report) -> Answer<'a>
+    /// The answer that saves nothing.
+    pub fn without_files(status: Status, report: Report) -> Answer<'a>
         ensures { said_of result
             ≡ record { status = number_of status; report = report; outputs = [] } }
     {
@@ -73,18 +70,6 @@ impl<'a> Answer<'a> {
     }
 }
 
-// The answer to words that are no command line.
-fn refuse_words<'a>(alloc: Global, message: &Message) -> Result<Answer<'a>, AllocError>
-    ensures { IfOk result (λ a. said_of a ≡ record {
-      status = 64;
-      report = message.now;
-      outputs = [];
-    }) }
-{
-    let report = Report::of_text(alloc, message.as_bytes())?;
-    Ok(Answer::without_files(Status::WordsRefused, report))
-}
-
 // The answer to input that is refused.
 fn refuse_input<'a>(report: Report) -> Answer<'a>
     ensures { IsRefused report (said_of result) }
@@ -92,8 +77,13 @@ fn refuse_input<'a>(report: Report) -> Answer<'a>
     Answer::without_files(Status::InputRefused, report)
 }
 
-// The answer to a search.
-fn answer_solve<'a, R: Threads + Wait + Sync, G: Gate>(
+/// The answer to a search, or to texts that spell no task. If a file was too long, its text and the
+/// later ones are left out. The graph that was searched is kept in `kept`: the certificate and the
+/// journal borrow it. An error is out of memory.
+///
+/// A search has as many workers as the command asks for: one waits for nobody, and more have a
+/// thread each.
+pub fn answer_solve<'a, R: Threads + Wait + Sync, G: Gate>(
     rt: &R,
     alloc: Global,
     solve: SolveCommand<'a>,
@@ -105,15 +95,16 @@ fn answer_solve<'a, R: Threads + Wait + Sync, G: Gate>(
     ensures { IfOk result (λ a. OrRefused (solve_task (solve_meant solve.entry) texts.now)
         (IsFound (solve_meant solve.entry)) (said_of a)) }
 {
-    match input_task(alloc, &solve.input, solve.row, solve.swamp, texts, 0) {
+    match input_task(alloc, &solve.input, solve.options, texts, 0) {
         Ok(task) => solve_task(rt, alloc, task, solve, gate, kept),
         Err(NoTask::Refused(report)) => Ok(refuse_input(report)),
         Err(NoTask::Memory) => Err(AllocError),
     }
 }
 
-// The answer to a check.
-fn answer_check<'a>(
+/// The answer to a check: the first text is that of the certificate, and those after it spell the
+/// task. An error is out of memory.
+pub fn answer_check<'a>(
     alloc: Global,
     check: CheckCommand<'_>,
     texts: &Texts,
@@ -124,15 +115,16 @@ fn answer_check<'a>(
     let Some(certificate) = texts.get(0) else {
         return Ok(refuse_input(Report::of_line(alloc, b"input TooLong")?));
     };
-    match input_task(alloc, &check.input, check.row, check.swamp, texts, 1) {
+    match input_task(alloc, &check.input, check.options, texts, 1) {
         Ok(task) => judge(alloc, &task, certificate),
         Err(NoTask::Refused(report)) => Ok(refuse_input(report)),
         Err(NoTask::Memory) => Err(AllocError),
     }
 }
 
-// The answer to a journal.
-fn answer_journal<'a>(
+/// The answer to a journal: the first text is that of the journal, and those after it spell the
+/// task. An error is out of memory.
+pub fn answer_journal<'a>(
     alloc: Global,
     journal: JournalCommand<'_>,
     texts: &Texts,
@@ -143,35 +135,9 @@ fn answer_journal<'a>(
     let Some(text) = texts.get(0) else {
         return Ok(refuse_input(Report::of_line(alloc, b"input TooLong")?));
     };
-    match input_task(alloc, &journal.input, journal.row, false, texts, 1) {
+    match input_task(alloc, &journal.input, journal.options, texts, 1) {
         Ok(task) => judge_journal(alloc, &task, text),
         Err(NoTask::Refused(report)) => Ok(refuse_input(report)),
         Err(NoTask::Memory) => Err(AllocError),
-    }
-}
-
-/// What is answered of the words and of the texts that were loaded of the files that they name. If
-/// a file was too long, its text and the later ones are left out. The graph that was searched is
-/// kept in `kept`: the certificate and the journal borrow it. An error is out of memory.
-///
-/// This is the whole program but its reading, saving and printing. A search has as many workers as
-/// the words ask for: one waits for nobody, and more have a thread each.
-pub fn answer_words<'a, R: Threads + Wait + Sync, G: Gate>(
-    rt: &R,
-    alloc: Global,
-    words: &'a [String],
-    texts: &Texts,
-    gate: &G,
-    kept: &'a mut Option<LeaseGraph>,
-) -> Result<Answer<'a>, AllocError>
-    ensures { IfOk result (λ a. Answers (map string_bytes words.entry.now) texts.now (said_of a)) }
-{
-    match read_words(alloc, words) {
-        Ok(CommandLine::Solve(solve)) => answer_solve(rt, alloc, solve, texts, gate, kept),
-        Ok(CommandLine::Check(check)) => answer_check(alloc, check, texts),
-        Ok(CommandLine::Journal(journal)) => answer_journal(alloc, journal, texts),
-        Ok(CommandLine::Make(make)) => make_task(rt, alloc, make, gate),
-        Err(CommandRefusal::Words(_, message)) => refuse_words(alloc, &message),
-        Err(CommandRefusal::Memory) => Err(AllocError),
     }
 }

@@ -9,7 +9,7 @@ ghost use Rattle.pb_answer.specs.Named.{NamesTell};
 ghost use Rattle.pb_answer.specs.Tasks.{GivesTask, IsRefusal};
 
 use crate::texts::Texts;
-use pb_command::Input;
+use pb_command::{Input, InputOptions};
 use pb_grid::{GridError, read_grid};
 use pb_lifted::File;
 use pb_pddl::{Domain, SyntaxError};
@@ -65,18 +65,19 @@ fn grid(
     alloc: Global,
     map: Option<&[u8]>,
     scenario: Option<&[u8]>,
-    row: u64,
-    swamp: bool,
+    options: InputOptions,
 ) -> Result<Task, NoTask>
     ensures { GivesTask result (grid_task (option_map (λ t. t.now) map.entry)
-        (option_map (λ t. t.now) scenario.entry) row swamp) }
+        (option_map (λ t. t.now) scenario.entry) options) }
 {
     match (map, scenario) {
-        (Some(map), Some(scenario)) => match read_grid(alloc, map, scenario, row, swamp) {
-            Ok(task) => Ok(task),
-            Err(GridError::Memory) => Err(NoTask::Memory),
-            Err(error) => Err(refuse_grid(alloc, error)),
-        },
+        (Some(map), Some(scenario)) => {
+            match read_grid(alloc, map, scenario, options.row, options.swamp) {
+                Ok(task) => Ok(task),
+                Err(GridError::Memory) => Err(NoTask::Memory),
+                Err(error) => Err(refuse_grid(alloc, error)),
+            }
+        }
         _ => Err(refuse_long_text(alloc)),
     }
 }
@@ -166,22 +167,21 @@ fn strips(alloc: Global, domain: Option<&[u8]>, problem: Option<&[u8]>) -> Resul
     }
 }
 
-/// The task that the texts from a place on spell. The row of the scenario and `swamp` are looked at
-/// for a grid alone.
+/// The task that the texts from a place on spell, read as the words ask. The row of the scenario and
+/// `swamp` are looked at for a grid alone.
 pub fn input_task(
     alloc: Global,
     input: &Input<'_>,
-    row: u64,
-    swamp: bool,
+    options: InputOptions,
     texts: &Texts,
     first: usize,
 ) -> Result<Task, NoTask>
     requires { first ≤ 1 }
-    ensures task { GivesTask result (input_task (input_meant input.now) row swamp first texts.now) }
+    ensures task { GivesTask result (input_task (input_meant input.now) options first texts.now) }
     ensures names { IfOk result NamesTell }
 {
     match input {
-        Input::Grid(_) => grid(alloc, texts.get(first), texts.get(first + 1), row, swamp),
+        Input::Grid(_) => grid(alloc, texts.get(first), texts.get(first + 1), options),
         Input::Tiles(_) => tiles(alloc, texts.get(first)),
         Input::Strips(_) => strips(alloc, texts.get(first), texts.get(first + 1)),
     }

@@ -1,17 +1,20 @@
-//! What is answered of a command line and of the texts that were loaded of its files. The input is
-//! read, the task is searched or its certificate or journal judged, and report, certificate and
-//! journal are made. It reads no file and prints nothing.
+//! What is answered of a command and of the texts that were loaded of its files: of `solve`, `check`
+//! and `journal`. The input is read, the task is searched or its certificate or journal judged, and
+//! report, certificate and journal are made. It reads no file and prints nothing.
 #![tactic(auto)]
 
 mod answer;
 mod check;
 mod input;
 mod journal;
-mod make;
+mod laws;
 mod solve;
 mod status;
 mod texts;
 
-pub use answer::{Answer, SavedCertificate, SavedJournal, answer_words};
+pub use answer::{
+    Answer, SavedCertificate, SavedJournal, answer_check, answer_journal, answer_solve,
+};
+pub use laws::long_files_are_refused;
 pub use status::Status;
 pub use texts::Texts;

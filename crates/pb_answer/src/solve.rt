@@ -1,9 +1,9 @@
 ghost use Rattle.std.specs.Prelude.{◌≡◌, ◌≤◌, ◌++◌, ◌⊎◌, ℕ, IfOk, Some, None, length};
 ghost use Rattle.pb_model.specs.Plan.{IsBound};
-ghost use Rattle.pb_machine.specs.Settings.{AreInRange};
-ghost use Rattle.pb_check.specs.Kinds.{kind_of, kind_name};
-ghost use Rattle.pb_made.specs.Searches.{LeavesQuiet, LeavesStopped};
-ghost use Rattle.pb_made.specs.Found.{IsPlanOf};
+ghost use Rattle.pb_workers.specs.Ends.{home_store};
+ghost use Rattle.pb_search.specs.Ends.{searched_guide};
+ghost use Rattle.pb_search.specs.Searches.{LeavesQuiet, LeavesStopped};
+ghost use Rattle.pb_cert.specs.Found.{IsPlanOf};
 ghost use Rattle.pb_command.specs.Meaning.{IsInRange, Solve};
 ghost use Rattle.pb_command.specs.Causes.{solve_meant};
 ghost use Rattle.pb_answer.specs.Searches.{settings_of};
@@ -14,10 +14,10 @@ ghost use Rattle.pb_answer.specs.Answer.{IsFound, IsSolved, IsUnsolvable, IsStop
 use crate::answer::{Answer, SavedCertificate, SavedJournal};
 use crate::status::Status;
 use pb_cert::{Certificate, Plan, trace};
-use pb_check::{TaskKind, kind_of};
 use pb_command::SolveCommand;
+use pb_estimate::Spelling;
 use pb_lease::LeaseGraph;
-use pb_machine::{End, Settings};
+use pb_machine::End;
 use pb_outside::Gate;
 use pb_report::Report;
 use pb_search::search;
@@ -25,23 +25,6 @@ use pb_task::Task;
 use std::alloc::{AllocError, Global};
 use std::sync::{Arc, Wait};
 use std::thread::Threads;
-
-// What the words ask the search to be run with.
-fn settings_of(solve: &SolveCommand<'_>) -> Settings
-    requires { IsInRange (Solve (solve_meant solve.now)) }
-    ensures settings { result ≡ settings_of (solve_meant solve.now) }
-    ensures range { AreInRange result }
-{
-    Settings {
-        workers: solve.workers as u32,
-        num: solve.num,
-        den: solve.den,
-        budget: solve.budget,
-        lot: solve.lot,
-        wish: solve.blocks as u32,
-        plain: solve.plain,
-    }
-}
 
 /// Searches a task as the words ask. It makes the report and, for each that has a name, the
 /// certificate and the journal. The graph is kept in `kept`: certificate and journal borrow it. An
@@ -58,7 +41,7 @@ pub fn solve_task<'a, R: Threads + Wait + Sync, G: Gate>(
     requires names { NamesTell task }
     ensures { IfOk result (λ a. IsFound (solve_meant solve.entry) task (said_of a)) }
 {
-    let settings = settings_of(&solve);
+    let settings = solve.settings;
     let task = Arc::new(alloc, task)?;
     let graph = search(rt, alloc, &task, settings, gate)?;
     let kept_graph = kept.insert(graph);
@@ -82,7 +65,7 @@ fn report_stop<'a>(
     let journal = save_journal(&solve, graph);
     Ok(Answer {
         status: Status::Stopped,
-        report: Report::of_stop(alloc, solve.budget)?,
+        report: Report::of_stop(alloc, solve.settings.budget)?,
         certificate: None,
         journal,
     })
@@ -122,7 +105,7 @@ fn report_plan<'a>(
 {
     let _lawful = task.max_degree();
     let plan = trace(alloc, task, graph)?;
-    let bound = bound_of(solve.num, solve.den, plan.cost());
+    let bound = bound_of(solve.settings.num, solve.settings.den, plan.cost());
     let report = Report::of_plan(alloc, task, &plan, bound)?;
     let certificate = certify(alloc, task, &solve, Some(plan), graph)?;
     let journal = save_journal(&solve, graph);
@@ -167,7 +150,9 @@ fn certify<'a>(
 ) -> Result<Option<SavedCertificate<'a>>, AllocError>
     requires range { IsInRange (Solve (solve_meant solve.now)) }
     requires quiet { LeavesQuiet task.now (settings_of (solve_meant solve.now)) graph.now }
-    ensures { IfOk result (λ saved. IsPlanOf task.now graph.now plan
+    ensures { IfOk result (λ saved. IsPlanOf task.now
+        (searched_guide task.now graph.now.table.graph (settings_of (solve_meant solve.now)))
+        (home_store graph.now) plan
         → Certifies (λ outputs. certificates_of saved ++ journal_outputs
         (solve_meant solve.now).journal
         (settings_of (solve_meant solve.now)) graph.now.table.journal ≡ outputs)
@@ -176,8 +161,8 @@ fn certify<'a>(
     let _lawful = task.max_degree();
     match solve.certificate {
         Some(name) => {
-            let (num, den) = (solve.num, solve.den);
-            let certificate = Certificate::of(alloc, kind(task), num, den, plan, graph)?;
+            let spelling = Spelling::of(task, graph.choice().clone()?);
+            let certificate = Certificate::of(alloc, spelling, plan, graph)?;
             Ok(Some(SavedCertificate { name, certificate }))
         }
         None => Ok(None),
@@ -209,16 +194,4 @@ fn bound_of(num: u64, den: u64, cost: u64) -> u64
 {
     let least = (u128::from(den) * u128::from(cost) + (u128::from(num) - 1)) / u128::from(num);
     least as u64
-}
-
-// The kind that the certificate of a task states.
-fn kind(task: &Task) -> &'static str
-    ensures kind { result.now ≡ kind_name (kind_of task.now) }
-    ensures short { length result.now ≤ 64 }
-{
-    match kind_of(task) {
-        TaskKind::Grid => "grid",
-        TaskKind::Tiles => "tiles",
-        TaskKind::Strips => "strips",
-    }
 }

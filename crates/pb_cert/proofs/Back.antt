@@ -10,7 +10,7 @@ use Rattle.pb_model.specs.Store.{Rows, Store, row_at}
 use Rattle.pb_model.specs.Sound.{HasParent}
 use Rattle.pb_model.specs.Trace.{TracesBack}
 use Rattle.pb_model.proofs.Callers.{by_cases, equal, equal_self, not_both, not_false, not_true, some_number}
-use Rattle.pb_cert.specs.Store.{IsSoundAt, IsPlaced, rows_at_home, guide_with, store_with}
+use Rattle.pb_lists.specs.Store.{IsSoundAt, IsPlaced, rows_at_home, guide_with, store_with}
 use Rattle.pb_cert.specs.Traced.{IsFirstGoal, IsTrace, IsLastStep, g_at}
 
 pub at_start : (at start first : ℕ) → false ≡ not (at == start) → start ≡ first → at ≡ first

@@ -12,7 +12,7 @@ use Rattle.pb_model.specs.Store.{Part, Rows}
 use Rattle.pb_model.proofs.Callers.{equal}
 use Rattle.pb_lists.specs.Bundle.{row_in}
 use Rattle.pb_cert.specs.declared.goal.Goal.{Goal}
-use Rattle.pb_cert.specs.Store.{HasNoneFrom}
+use Rattle.pb_lists.specs.Store.{HasNoneFrom}
 use Rattle.pb_cert.proofs.Parts.{found_below}
 use Rattle.pb_cert.specs.Traced.{HasGoal, IsFirstGoal, IsFirstIn, HasRowIn, HasNoLater}
 

@@ -1,12 +1,11 @@
 pub mod Callers
-mod AtHome
+mod Shown
 mod Back
 mod Distinct
-mod Files
 mod Goals
 mod LineTexts
 mod Parts
-mod SavedCalls
 mod Sorted
 mod Places
+mod QuietEnds
 mod Unique

@@ -6,31 +6,15 @@ use Rattle.std.specs.Fmt.{decimal}
 use Rattle.pb_model.specs.Plan.{Plan}
 use Rattle.pb_model.specs.Certificate.{Line, Certificate}
 use Rattle.pb_model.specs.Texts.{line, lines, spaced, line_text, plan_text, weight_text, rows_text}
-use Rattle.pb_print.proofs.Callers.{lines-append, lines-last}
-use Rattle.pb_cert.specs.Stated.{Stated, text_of, head_lines, plan_lines, rows_lines, weight_line, lines_of, PutsLine}
-
--- ---- a line by its number
-
-pub get_left : (texts others : List (List ℕ)) (at : ℕ) (text : List ℕ) → slice_get texts at ≡ Some text → slice_get (texts ++ others) at ≡ Some text
-get_left [] others at text is = absurd (none_some text is)
-  where
-    none_some : (text : List ℕ) → ◌≡◌ {A = Option (List ℕ)} None (Some text) → ⊥
-    none_some text e = cc
-get_left (first ∷ texts) others zero text is = is
-get_left (first ∷ texts) others (suc at) text is = get_left texts others at text is
-
-pub get_right : (texts others : List (List ℕ)) (at : ℕ) (text : List ℕ) → length texts ≤ at → slice_get others (at - length texts) ≡ Some text → slice_get (texts ++ others) at ≡ Some text
-get_right [] others at text past is = let same : at - 0 ≡ at = omega arith in subst (λ n. slice_get others n ≡ Some text) same is
-get_right (first ∷ texts) others zero text past is = absurd (omega (arith, past))
-get_right (first ∷ texts) others (suc at) text past is =
-    let same : suc at - suc (length texts) ≡ at - length texts = omega arith in
-    get_right texts others at text (omega (arith, past)) (subst (λ n. slice_get others n ≡ Some text) same is)
-
-pub puts_left : (old new : List ℕ) (texts others : List (List ℕ)) (at : ℕ) → PutsLine old new texts at → PutsLine old new (texts ++ others) at
-puts_left old new texts others at puts = (puts.0, get_left texts others at puts.0 puts.1, puts.2, puts.3)
-
-pub puts_right : (old new : List ℕ) (texts others : List (List ℕ)) (at past : ℕ) → length texts ≤ at → at - length texts ≡ past → PutsLine old new others past → PutsLine old new (texts ++ others) at
-puts_right old new texts others at past le e puts = (puts.0, get_right texts others at puts.0 le (subst (λ n. slice_get others n ≡ Some puts.0) (sym e) puts.1), puts.2, puts.3)
+use Rattle.pb_print.specs.Saved.{PutsLine}
+use Rattle.pb_print.proofs.Callers.{lines-append, lines-last, puts_left, puts_right, short_enough}
+use Rattle.pb_estimate.specs.declared.choice.Choice.{Choice}
+use Rattle.pb_estimate.specs.declared.choice.Choice.TheVariants.{Plain}
+use Rattle.pb_estimate.specs.declared.spelling.Spelling.{Spelling}
+use Rattle.pb_estimate.specs.declared.spelling.Version.{Version}
+use Rattle.pb_estimate.specs.declared.spelling.Version.TheVariants.{One}
+use Rattle.pb_estimate.specs.Spelling.{IsWidthOf, IsSpelling, version_line, kind_line, choice_text, stated_text, head_of, head_lines}
+use Rattle.pb_cert.specs.Stated.{SpelledCertificate, text_of, first_lines, plan_lines, rows_lines, weight_line, lines_of}
 
 -- ---- a first line, a line for each element of a list, and a last line
 
@@ -67,40 +51,58 @@ plan_is_text (Some plan) =
     ap (λ t. line (spaced (codes "plan") (decimal (length plan.actions))) ++ t) (lines-last (map decimal plan.actions) (spaced (codes "cost") (decimal plan.cost)))
     ∙ sym (append_assoc (line (spaced (codes "plan") (decimal (length plan.actions)))) (lines (map decimal plan.actions)) (line (spaced (codes "cost") (decimal plan.cost))))
 
-rows_are_text : (certificate : Certificate) → lines (rows_lines certificate) ≡ rows_text 64 certificate.lines ++ line (codes "end")
-rows_are_text certificate =
-    ap (λ t. line (spaced (codes "rows") (decimal (length certificate.lines))) ++ t) (lines-last (map (line_text 64) certificate.lines) (codes "end"))
-    ∙ sym (append_assoc (line (spaced (codes "rows") (decimal (length certificate.lines)))) (lines (map (line_text 64) certificate.lines)) (line (codes "end")))
+rows_are_text : (digits : ℕ) (certificate : Certificate) → lines (rows_lines digits certificate) ≡ rows_text digits certificate.lines ++ line (codes "end")
+rows_are_text digits certificate =
+    ap (λ t. line (spaced (codes "rows") (decimal (length certificate.lines))) ++ t) (lines-last (map (line_text digits) certificate.lines) (codes "end"))
+    ∙ sym (append_assoc (line (spaced (codes "rows") (decimal (length certificate.lines)))) (lines (map (line_text digits) certificate.lines)) (line (codes "end")))
 
-joined : (a b weight plan rows end : List ℕ) → a ++ (b ++ (weight ++ [])) ++ plan ++ (rows ++ end) ≡ a ++ (b ++ []) ++ weight ++ plan ++ rows ++ end
-joined a b weight plan rows end = simp (append_assoc, append-nil) refl
+joined : (head weight plan rows end : List ℕ) → (head ++ (weight ++ [])) ++ plan ++ (rows ++ end) ≡ head ++ weight ++ plan ++ rows ++ end
+joined head weight plan rows end = simp (append_assoc, append-nil) refl
 
-pub lines_are_text : (stated : Stated) → lines (lines_of stated) ≡ text_of stated
+pub lines_are_text : (spelled : SpelledCertificate) → lines (lines_of spelled) ≡ text_of spelled
 unfolding lines_of
-lines_are_text stated =
-    let head : List (List ℕ) = head_lines stated in
-    let plan : List (List ℕ) = plan_lines stated.certificate.plan in
-    let rows : List (List ℕ) = rows_lines stated.certificate in
-    lines-append (head ++ plan) rows ∙ ap (λ t. t ++ lines rows) (lines-append head plan)
-    ∙ ap (λ t. lines head ++ t ++ lines rows) (plan_is_text stated.certificate.plan) ∙ ap (λ t. lines head ++ plan_text stated.certificate.plan ++ t) (rows_are_text stated.certificate)
-    ∙ joined (line (codes "pbnf-certificate 1")) (line (spaced (codes "kind") stated.kind)) (weight_text stated.certificate.weight) (plan_text stated.certificate.plan) (rows_text 64 stated.certificate.lines) (line (codes "end"))
+lines_are_text spelled =
+    let c : Certificate = spelled.certificate in
+    let width : ℕ = spelled.spelling.width in
+    let head : List (List ℕ) = head_of spelled.spelling in
+    let first : List (List ℕ) = first_lines spelled in
+    let plan : List (List ℕ) = plan_lines c.plan in
+    let rows : List (List ℕ) = rows_lines width c in
+    lines-append (first ++ plan) rows ∙ ap (λ t. t ++ lines rows) (lines-append first plan)
+    ∙ ap (λ t. t ++ lines plan ++ lines rows) (lines-append head (weight_line c.weight ∷ []))
+    ∙ ap (λ t. (lines head ++ (weight_text c.weight ++ [])) ++ t ++ lines rows) (plan_is_text c.plan)
+    ∙ ap (λ t. (lines head ++ (weight_text c.weight ++ [])) ++ plan_text c.plan ++ t) (rows_are_text width c)
+    ∙ joined (lines head) (weight_text c.weight) (plan_text c.plan) (rows_text width c.lines) (line (codes "end"))
 
 -- ---- a line that was put
 
-pub short_enough : (old new text : List ℕ) → new ≡ old ++ text → length text ≤ 128 → length new ≤ length old + 128
-short_enough old new text e le = rw (e, length-append old text) (omega (arith, le))
+module _ (old new : List ℕ) (spelling : Spelling) (at : ℕ) where
+  pub version_put : at ≡ 0 → new ≡ old ++ line (version_line spelling.version) → length new ≤ length old + 128 → PutsLine old new (head_of spelling) at
+  version_put zeroth e short =
+      (version_line spelling.version, subst (λ n. slice_get (head_of spelling) n ≡ Some (version_line spelling.version)) (sym zeroth) refl, e, short)
 
-pub version_put : (old new : List ℕ) (stated : Stated) (at : ℕ) → at ≡ 0 → new ≡ old ++ line (codes "pbnf-certificate 1") → PutsLine old new (head_lines stated) at
-version_put old new stated at zeroth e =
-    (codes "pbnf-certificate 1", subst (λ n. slice_get (head_lines stated) n ≡ Some (codes "pbnf-certificate 1")) (sym zeroth) refl, e, short_enough old new (line (codes "pbnf-certificate 1")) e (omega arith))
+  pub kind_put : at ≡ 1 → new ≡ old ++ line (kind_line spelling.kind) → length new ≤ length old + 128 → PutsLine old new (head_of spelling) at
+  kind_put first e short =
+      (kind_line spelling.kind, subst (λ n. slice_get (head_of spelling) n ≡ Some (kind_line spelling.kind)) (sym first) refl, e, short)
 
-pub kind_put : (old new : List ℕ) (stated : Stated) (at : ℕ) → at ≡ 1 → new ≡ old ++ line (spaced (codes "kind") stated.kind) → length new ≤ length old + 128 → PutsLine old new (head_lines stated) at
-kind_put old new stated at first e short =
-    (spaced (codes "kind") stated.kind, subst (λ n. slice_get (head_lines stated) n ≡ Some (spaced (codes "kind") stated.kind)) (sym first) refl, e, short)
+  pub stated_put : 2 ≤ at → PutsLine old new (stated_text spelling.stated) (at - 2) → PutsLine old new (head_of spelling) at
+  stated_put past puts =
+      puts_right old new (version_line spelling.version ∷ kind_line spelling.kind ∷ []) (stated_text spelling.stated) at (at - 2) past refl puts
 
-pub weight_put : (old new : List ℕ) (stated : Stated) (at : ℕ) → at ≡ 2 → new ≡ old ++ line (weight_line stated.certificate.weight) → length new ≤ length old + 128 → PutsLine old new (head_lines stated) at
-weight_put old new stated at second e short =
-    (weight_line stated.certificate.weight, subst (λ n. slice_get (head_lines stated) n ≡ Some (weight_line stated.certificate.weight)) (sym second) refl, e, short)
+module _ (old new : List ℕ) (spelled : SpelledCertificate) (at : ℕ) where
+  first_counted : length (first_lines spelled) ≡ head_lines spelled.spelling + 1
+  first_counted = length-append (head_of spelled.spelling) (weight_line spelled.certificate.weight ∷ [])
+
+  pub head_put : PutsLine old new (head_of spelled.spelling) at → PutsLine old new (first_lines spelled) at
+  head_put puts = puts_left old new (head_of spelled.spelling) (weight_line spelled.certificate.weight ∷ []) at puts
+
+  pub weight_put : head_lines spelled.spelling ≤ at → at < length (first_lines spelled) → new ≡ old ++ line (weight_line spelled.certificate.weight) → length new ≤ length old + 128
+      → PutsLine old new (first_lines spelled) at
+  weight_put past within e short =
+      puts_right old new (head_of spelled.spelling) (weight_line spelled.certificate.weight ∷ []) at 0 past (omega (arith, past, within, first_counted)) (weight_line spelled.certificate.weight, refl, e, short)
+
+pub first_is_counted : (spelled : SpelledCertificate) → length (first_lines spelled) ≡ head_lines spelled.spelling + 1
+first_is_counted spelled = first_counted [] [] spelled 0
 
 pub none_put : (old new : List ℕ) (plan : Option Plan) (at : ℕ) → plan ≡ None → at < length (plan_lines plan) → new ≡ old ++ line (codes "none") → PutsLine old new (plan_lines plan) at
 none_put old new (Some plan) at none within e = absurd (some_none plan none)
@@ -143,65 +145,70 @@ module _ (old new : List ℕ) (plan : Plan) (at : ℕ) where
         short,
       )
 
-module _ (old new : List ℕ) (certificate : Certificate) (at : ℕ) where
-  pub count_put : (rows : ℕ) → rows ≡ length certificate.lines → at ≡ 0 → new ≡ old ++ line (spaced (codes "rows") (decimal rows)) → length new ≤ length old + 128 → PutsLine old new (rows_lines certificate) at
+module _ (old new : List ℕ) (digits : ℕ) (certificate : Certificate) (at : ℕ) where
+  pub count_put : (rows : ℕ) → rows ≡ length certificate.lines → at ≡ 0 → new ≡ old ++ line (spaced (codes "rows") (decimal rows)) → length new ≤ length old + 128 → PutsLine old new (rows_lines digits certificate) at
   count_put rows same zeroth e short =
       let first : List ℕ = spaced (codes "rows") (decimal (length certificate.lines)) in
-      (first, get_first (line_text 64) first (codes "end") certificate.lines at zeroth, subst (λ n. new ≡ old ++ line (spaced (codes "rows") (decimal n))) same e, short)
+      (first, get_first (line_text digits) first (codes "end") certificate.lines at zeroth, subst (λ n. new ≡ old ++ line (spaced (codes "rows") (decimal n))) same e, short)
 
-  pub row_put : (row : Line) → (at ≡ 0 → ⊥) → slice_get certificate.lines (at - 1) ≡ Some row → new ≡ old ++ line (line_text 64 row) → length new ≤ length old + 128 → PutsLine old new (rows_lines certificate) at
-  row_put row positive found e short = (
-    line_text 64 row,
-    get_middle (line_text 64) (spaced (codes "rows") (decimal (length certificate.lines))) (codes "end") certificate.lines at row (grind (arith, positive)) found,
-    e,
+  pub row_put : (row : Line) → 64 ≡ digits → (at ≡ 0 → ⊥) → slice_get certificate.lines (at - 1) ≡ Some row → new ≡ old ++ line (line_text 64 row) → length new ≤ length old + 128 → PutsLine old new (rows_lines digits certificate) at
+  row_put row width positive found e short = (
+    line_text digits row,
+    get_middle (line_text digits) (spaced (codes "rows") (decimal (length certificate.lines))) (codes "end") certificate.lines at row (grind (arith, positive)) found,
+    e ∙ ap (λ n. old ++ line (line_text n row)) width,
     short,
   )
 
-  pub end_put : length certificate.lines < at → at < length (rows_lines certificate) → new ≡ old ++ line (codes "end") → PutsLine old new (rows_lines certificate) at
+  pub end_put : length certificate.lines < at → at < length (rows_lines digits certificate) → new ≡ old ++ line (codes "end") → PutsLine old new (rows_lines digits certificate) at
   end_put past within e =
-      let all : length (rows_lines certificate) ≡ length certificate.lines + 2 = counted certificate.lines (spaced (codes "rows") (decimal (length certificate.lines))) in (
+      let all : length (rows_lines digits certificate) ≡ length certificate.lines + 2 = counted certificate.lines (spaced (codes "rows") (decimal (length certificate.lines))) in (
         codes "end",
-        get_last (line_text 64) (spaced (codes "rows") (decimal (length certificate.lines))) (codes "end") certificate.lines at past (omega (arith, all, within)),
+        get_last (line_text digits) (spaced (codes "rows") (decimal (length certificate.lines))) (codes "end") certificate.lines at past (omega (arith, all, within)),
         e,
         short_enough old new (line (codes "end")) e (omega arith),
       )
     where
-      counted : (rows : List Line) (first : List ℕ) → length (first ∷ (map (line_text 64) rows ++ codes "end" ∷ [])) ≡ length rows + 2
+      counted : (rows : List Line) (first : List ℕ) → length (first ∷ (map (line_text digits) rows ++ codes "end" ∷ [])) ≡ length rows + 2
       counted rows first = simp (length-append, length-map) (omega arith)
 
-module _ (old new : List ℕ) (stated : Stated) (at : ℕ) where
-  three : length (head_lines stated) ≡ 3
-  three = refl
+-- each version that is written has 64 digits
+sixty_four_of : (version : Version) (width : ℕ) → IsWidthOf version width → 64 ≡ width
+sixty_four_of One width is = sym is
 
-  pub head_line_put : PutsLine old new (head_lines stated) at → PutsLine old new (lines_of stated) at
+pub sixty_four : (spelling : Spelling) → IsSpelling spelling → 64 ≡ spelling.width
+sixty_four spelling is = sixty_four_of spelling.version spelling.width is
+
+module _ (old new : List ℕ) (spelled : SpelledCertificate) (at first : ℕ) (counted : first ≡ length (first_lines spelled)) where
+  pub first_line_put : PutsLine old new (first_lines spelled) at → PutsLine old new (lines_of spelled) at
   unfolding lines_of
-  head_line_put puts =
-      puts_left old new (head_lines stated ++ plan_lines stated.certificate.plan) (rows_lines stated.certificate) at
-      (puts_left old new (head_lines stated) (plan_lines stated.certificate.plan) at puts)
+  first_line_put puts =
+      puts_left old new (first_lines spelled ++ plan_lines spelled.certificate.plan) (rows_lines spelled.spelling.width spelled.certificate) at
+      (puts_left old new (first_lines spelled) (plan_lines spelled.certificate.plan) at puts)
 
-  pub plan_line_put : 3 ≤ at → PutsLine old new (plan_lines stated.certificate.plan) (at - 3) → PutsLine old new (lines_of stated) at
+  pub plan_line_put : first ≤ at → PutsLine old new (plan_lines spelled.certificate.plan) (at - first) → PutsLine old new (lines_of spelled) at
   unfolding lines_of
   plan_line_put le puts =
-      puts_left old new (head_lines stated ++ plan_lines stated.certificate.plan) (rows_lines stated.certificate) at
-      (puts_right old new (head_lines stated) (plan_lines stated.certificate.plan) at (at - 3) (omega (arith, three, le)) (omega (arith, three)) puts)
+      puts_left old new (first_lines spelled ++ plan_lines spelled.certificate.plan) (rows_lines spelled.spelling.width spelled.certificate) at
+      (puts_right old new (first_lines spelled) (plan_lines spelled.certificate.plan) at (at - first) (omega (arith, counted, le)) (omega (arith, counted)) puts)
 
-  pub rows_line_put : (plan : ℕ) → plan ≡ length (plan_lines stated.certificate.plan) → 3 + plan ≤ at → PutsLine old new (rows_lines stated.certificate) (at - 3 - plan) → PutsLine old new (lines_of stated) at
+  pub rows_line_put : (plan : ℕ) → plan ≡ length (plan_lines spelled.certificate.plan) → first + plan ≤ at → PutsLine old new (rows_lines spelled.spelling.width spelled.certificate) (at - first - plan) → PutsLine old new (lines_of spelled) at
   unfolding lines_of
   rows_line_put plan count le puts =
-      let all : length (head_lines stated ++ plan_lines stated.certificate.plan) ≡ 3 + plan = length-append (head_lines stated) (plan_lines stated.certificate.plan) ∙ omega (arith, count, three) in
-      puts_right old new (head_lines stated ++ plan_lines stated.certificate.plan) (rows_lines stated.certificate) at (at - 3 - plan) (omega (arith, all, le)) (omega (arith, all)) puts
+      let all : length (first_lines spelled ++ plan_lines spelled.certificate.plan) ≡ first + plan = length-append (first_lines spelled) (plan_lines spelled.certificate.plan) ∙ omega (arith, count, counted) in
+      puts_right old new (first_lines spelled ++ plan_lines spelled.certificate.plan) (rows_lines spelled.spelling.width spelled.certificate) at (at - first - plan) (omega (arith, all, le)) (omega (arith, all)) puts
 
 -- ---- how many lines there are
 
-rows_counted : (certificate : Certificate) → length (rows_lines certificate) ≡ length certificate.lines + 2
-rows_counted certificate = simp (length-append, length-map) (omega arith)
+rows_counted : (digits : ℕ) (certificate : Certificate) → length (rows_lines digits certificate) ≡ length certificate.lines + 2
+rows_counted digits certificate = simp (length-append, length-map) (omega arith)
 
-pub lines_counted : (stated : Stated) (plan : ℕ) → plan ≡ length (plan_lines stated.certificate.plan) → length (lines_of stated) ≡ 3 + plan + length stated.certificate.lines + 2
+pub lines_counted : (spelled : SpelledCertificate) (first plan : ℕ) → first ≡ length (first_lines spelled) → plan ≡ length (plan_lines spelled.certificate.plan) → length (lines_of spelled) ≡ first + plan + length spelled.certificate.lines + 2
 unfolding lines_of
-lines_counted stated plan e =
-    length-append (head_lines stated ++ plan_lines stated.certificate.plan) (rows_lines stated.certificate)
-    ∙ ap (λ n. n + length (rows_lines stated.certificate)) (length-append (head_lines stated) (plan_lines stated.certificate.plan))
-    ∙ omega (arith, e, rows_counted stated.certificate)
+lines_counted spelled first plan counted e =
+    length-append (first_lines spelled ++ plan_lines spelled.certificate.plan) (rows_lines spelled.spelling.width spelled.certificate)
+    ∙ ap (λ n. n + length (rows_lines spelled.spelling.width spelled.certificate)) (length-append (first_lines spelled) (plan_lines spelled.certificate.plan))
+    ∙ omega (arith, counted, e, rows_counted spelled.spelling.width spelled.certificate)
 
-pub rest_within : (stated : Stated) (at plan : ℕ) → plan ≡ length (plan_lines stated.certificate.plan) → at < length (lines_of stated) → 3 + plan ≤ at → at - 3 - plan < length (rows_lines stated.certificate)
-rest_within stated at plan e within past = omega (arith, lines_counted stated plan e, rows_counted stated.certificate, within, past)
+pub rest_within : (spelled : SpelledCertificate) (at first plan : ℕ) → first ≡ length (first_lines spelled) → plan ≡ length (plan_lines spelled.certificate.plan) → at < length (lines_of spelled) → first + plan ≤ at
+    → at - first - plan < length (rows_lines spelled.spelling.width spelled.certificate)
+rest_within spelled at first plan counted e within past = omega (arith, lines_counted spelled first plan counted e, rows_counted spelled.spelling.width spelled.certificate, within, past)

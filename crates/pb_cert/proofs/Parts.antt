@@ -3,7 +3,7 @@ use Rattle.std.proofs.Common.{◌≡◌, ℕ, ◌<◌, ◌≤◌, Some, sym, ◌
 use Rattle.std.proofs.lemmas.Option.{none-some}
 use Rattle.pb_model.specs.declared.row.Row.{Row}
 use Rattle.pb_model.specs.Store.{Rows}
-use Rattle.pb_cert.specs.Store.{HasNoneFrom}
+use Rattle.pb_lists.specs.Store.{HasNoneFrom}
 
 -- a row stands in one of the parts
 pub found_below : (rows : Rows) (parts i : ℕ) → HasNoneFrom rows parts → parts ≤ i → (home state : ℕ) (row : Row) → rows home state ≡ Some row → home < i

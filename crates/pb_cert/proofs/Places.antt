@@ -11,7 +11,7 @@ use Rattle.pb_model.specs.Store.{Rows}
 use Rattle.pb_model.specs.Guide.{Guide}
 use Rattle.pb_model.specs.Certificate.{Line, AreLinesOf}
 use Rattle.pb_lists.specs.Bundle.{Content, row_of}
-use Rattle.pb_cert.specs.Store.{IsPlaced, HasNoneFrom}
+use Rattle.pb_lists.specs.Store.{IsPlaced, HasNoneFrom}
 use Rattle.pb_cert.specs.Listed.{entry_line, line_in, line_or, line_at, line_in_part, ArePartsOf}
 use Rattle.pb_cert.specs.declared.rows.Place.{Place}
 use Rattle.pb_cert.proofs.Sorted.{AreLinesBelow, next_part, in_any_order, none_below, are_lines}

@@ -22,7 +22,7 @@ use Rattle.pb_model.specs.Sound.{IsSound}
 use Rattle.pb_model.specs.Certificate.{Line, Ascends, AreLinesOf, IsPlanIfAny, IsBackedBy, IsValid, line_of}
 use Rattle.pb_model.proofs.Callers.{by_cases, equal, equal_swap, quiet_stores_certify}
 use Rattle.pb_lists.specs.Bundle.{row_in}
-use Rattle.pb_cert.specs.Store.{IsPlaced, HasNoneFrom, store_with}
+use Rattle.pb_lists.specs.Store.{IsPlaced, HasNoneFrom, store_with}
 use Rattle.pb_cert.specs.Listed.{entry_line}
 use Rattle.pb_cert.proofs.Distinct.{IsDistinct-append}
 use Rattle.pb_cert.proofs.Parts.{found_below}

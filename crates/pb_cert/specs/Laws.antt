@@ -1,27 +1,13 @@
 -- The laws of this crate. Each is proved, as the contract of the public function that has its name.
-use Rattle.std.specs.Prelude.{◌≡◌, ℕ, IsFalse, Option, Some, List}
+use Rattle.std.specs.Prelude.{◌≡◌, ℕ, Option, Some, List}
 use Rattle.pb_model.specs.Space.{Space}
 use Rattle.pb_model.specs.Weight.{Weight}
 use Rattle.pb_model.specs.Guide.{Guide}
 use Rattle.pb_model.specs.Store.{Rows, Store, IsShown}
 use Rattle.pb_model.specs.Sound.{IsSound}
 use Rattle.pb_model.specs.Certificate.{Line, AreLinesOf}
-use Rattle.pb_machine.specs.Settings.{weight_of}
-use Rattle.pb_machine.specs.Machine.{Machine}
-use Rattle.pb_bundles.specs.Homes.{home_rows}
-use Rattle.pb_lease.specs.GraphValue.{GraphValue, IsLeaseGraph}
-use Rattle.pb_lease.specs.Choices.{is_out_in}
-use Rattle.pb_lease.specs.Moments.{IsMoment}
-use Rattle.pb_cert.specs.Store.{store_with, IsPlaced, IsSoundAt}
+use Rattle.pb_lists.specs.Store.{store_with, IsPlaced, IsSoundAt}
 use Rattle.pb_cert.specs.Traced.{HasGoal}
-
--- With no lease out, the rows at home are the store of each moment of the search that the graph is.
--- The store has the graph's incumbent and the weight of the search.
-abbrev pub HomeRowsAreWhole : Type 0
-HomeRowsAreWhole =
-    (g : GraphValue) (recorded : (worker : ℕ) → Rows) (machine : Machine) → IsLeaseGraph g
-    → IsFalse (is_out_in g) → IsMoment g recorded machine
-    → machine.store ≡ store_with (home_rows g.homes) (weight_of g.table.settings) g.incumbent
 
 -- If a sound store has an incumbent that is shown, a goal has a row. The rows are those of a sound
 -- store: what a trace asks for.

@@ -1,4 +1,8 @@
+pub use Rattle.pb_check.specs.Judging
+pub use Rattle.pb_check.specs.Spelling as CheckSpelling
+pub use Rattle.pb_estimate.specs.Spelling
 pub use Rattle.pb_lists.specs.Bundle
+pub use Rattle.pb_lists.specs.Store
 pub use Rattle.pb_model.specs.Certificate
 pub use Rattle.pb_model.specs.Guide
 pub use Rattle.pb_model.specs.Plan
@@ -9,9 +13,8 @@ pub use Rattle.pb_outside.specs.Calls
 pub use Rattle.pb_outside.specs.Outside
 pub use Rattle.pb_outside.specs.Saves
 pub use Rattle.pb_task.specs.Parts
-pub mod Store
 pub mod Traced
+pub mod Found
 pub mod Listed
 pub mod Stated
-pub mod Saved
 pub mod Laws

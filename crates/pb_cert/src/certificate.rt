@@ -4,11 +4,13 @@ ghost use Rattle.pb_model.specs.Guide.{Guide};
 ghost use Rattle.pb_model.specs.Store.{IsQuiet};
 ghost use Rattle.pb_model.specs.Sound.{IsSound};
 ghost use Rattle.pb_model.specs.Certificate.{AreLinesOf, IsPlanIfAny, IsBackedBy, IsValid};
-ghost use Rattle.pb_cert.specs.Store.{IsPlaced, store_with};
+ghost use Rattle.pb_estimate.specs.Spelling.{IsSpelling};
+ghost use Rattle.pb_lists.specs.Store.{IsPlaced, store_with};
 
+use crate::Plan;
 use crate::rows::{Place, parts_of, places_for};
-use crate::{Plan, Store};
-use pb_lists::Bundle;
+use pb_estimate::Spelling;
+use pb_lists::{Bundle, Store};
 use pb_packed::Packed;
 use std::alloc::{AllocError, Global};
 use std::marker::Model;
@@ -29,11 +31,11 @@ impl Model for Line {
     ghost view = { λ l. record { state = l.state; g = l.g; is_closed = l.is_closed } };
 }
 
-/// A certificate of optimality, with the kind of its task. It borrows the rows of the store that it
-/// is of. Contracts see that kind and the model's certificate.
+/// A certificate of optimality, and how it is spelled. It borrows the rows of the store that it is
+/// of. Contracts see its spelling and the model's certificate.
 #[derive(Drop)]
 pub struct Certificate<'a> {
-    pub(crate) kind: &'static str,
+    pub(crate) spelling: Spelling,
     pub(crate) num: u64,
     pub(crate) den: u64,
     pub(crate) plan: Option<Plan>,
@@ -42,14 +44,15 @@ pub struct Certificate<'a> {
 }
 
 impl<'a> Model for Certificate<'a> {
-    ghost use Rattle.std.specs.Prelude.{◌≤◌, length, map};
-    ghost use Rattle.pb_cert.specs.Stated.{Stated};
+    ghost use Rattle.std.specs.Prelude.{map};
+    ghost use Rattle.pb_estimate.specs.Spelling.{IsSpelling};
+    ghost use Rattle.pb_cert.specs.Stated.{SpelledCertificate};
     ghost use Rattle.pb_cert.specs.Listed.{line_at};
 
-    ghost Value = { Stated };
+    ghost Value = { SpelledCertificate };
 
     ghost view = { λ c. record {
-      kind = c.kind.now;
+      spelling = c.spelling;
       certificate = record {
         weight = record { num = c.num; den = c.den };
         plan = c.plan;
@@ -57,25 +60,21 @@ impl<'a> Model for Certificate<'a> {
       };
     } };
 
-    ghost invariant = { λ c. length c.kind.now ≤ 64 };
+    ghost invariant = { λ c. IsSpelling c.spelling };
 }
 
 impl<'a> Certificate<'a> {
-    /// The certificate of a store's rows, for a search at the weight num / den, with a plan or with
-    /// the claim that none exists. `kind` is what a task of its kind is called on a command line.
-    /// An error is out of memory.
+    /// The certificate of a store's rows, at the store's weight, with a plan or with the claim that
+    /// none exists, spelled so. An error is out of memory.
     pub fn of<S: Store>(
         alloc: Global,
-        kind: &'static str,
-        num: u64,
-        den: u64,
+        spelling: Spelling,
         plan: Option<Plan>,
         store: &'a S,
     ) -> Result<Certificate<'a>, AllocError>
-        requires kind { length kind.now ≤ 64 }
+        requires spelling { IsSpelling spelling }
         requires whole { S.is_whole store.now }
-        requires weight { S.weight store.now ≡ record { num = num; den = den } }
-        ensures kind { IfOk result (λ c. c.kind ≡ kind.now) }
+        ensures spelling { IfOk result (λ c. c.spelling ≡ spelling) }
         ensures weight { IfOk result (λ c. c.certificate.weight ≡ S.weight store.now) }
         ensures plan { IfOk result (λ c. c.certificate.plan ≡ plan) }
         ensures count { IfOk result (λ c. length c.certificate.lines < 2 ^ 63) }
@@ -93,10 +92,11 @@ impl<'a> Certificate<'a> {
             → IsPlanIfAny space plan → IsBackedBy incumbent plan
             → IsValid space guide.estimate c.certificate) }
     {
+        let (num, den) = store.weight();
         let parts = parts_of(alloc, store)?;
         let places = places_for(alloc, &parts)?;
         Ok(Certificate {
-            kind,
+            spelling,
             num,
             den,
             plan,

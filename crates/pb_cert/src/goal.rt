@@ -3,8 +3,7 @@ ghost use Rattle.pb_lists.specs.Bundle.{row_of};
 ghost use Rattle.pb_task.specs.Parts.{space_of};
 ghost use Rattle.pb_cert.specs.Traced.{HasGoal, IsFirstGoal, IsFirstIn, HasRowIn, IsNoLater, HasNoLater};
 
-use crate::Store;
-use pb_lists::Bundle;
+use pb_lists::{Bundle, Store};
 use pb_model::Row;
 use pb_packed::Packed;
 use pb_task::Task;

@@ -1,12 +1,6 @@
-//! What the rows of a search by leases are once all of them are at home. Each law is the contract
-//! of a function without a body.
-ghost use Rattle.pb_cert.specs.Laws.{HomeRowsAreWhole, ShownRowsCanBeTraced, SoundRowsArePlaced, LinesAreUnique};
-
-/// With no lease out, the store of the rows at home is that of each moment of the search that the
-/// graph is.
-pub fn home_rows_are_whole()
-    ensures { HomeRowsAreWhole }
-{}
+//! Laws of the rows of a store, and of the lines of their certificate. Each is the contract of a
+//! function without a body.
+ghost use Rattle.pb_cert.specs.Laws.{ShownRowsCanBeTraced, SoundRowsArePlaced, LinesAreUnique};
 
 /// A plan can be traced in the rows of a sound store whose incumbent is shown by a goal's row.
 pub fn shown_rows_can_be_traced()

@@ -1,7 +1,6 @@
 //! The plan and the certificate of a search that came to its end.
 #![tactic(auto)]
 
-mod blocks;
 mod certificate;
 mod goal;
 mod laws;
@@ -9,13 +8,9 @@ mod lines;
 mod plan;
 mod rows;
 mod saving;
-mod store;
 mod tracing;
 
 pub use certificate::Certificate;
-pub use laws::{
-    home_rows_are_whole, lines_are_unique, shown_rows_can_be_traced, sound_rows_are_placed,
-};
+pub use laws::{lines_are_unique, shown_rows_can_be_traced, sound_rows_are_placed};
 pub use plan::Plan;
-pub use store::Store;
 pub use tracing::trace;

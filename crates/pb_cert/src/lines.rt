@@ -1,12 +1,16 @@
-ghost use Rattle.std.specs.Prelude.{◌≡◌, ◌+◌, ◌<◌, ◌≤◌, ◌^◌, ◌++◌, Some, length, slice_get, codes};
+ghost use Rattle.std.specs.Prelude.{◌≡◌, ◌+◌, ◌<◌, ◌≤◌, ◌^◌, ◌++◌, Some, length, slice_get};
 ghost use Rattle.std.specs.Fmt.{decimal};
 ghost use Rattle.pb_model.specs.Texts.{line, spaced, line_text};
-ghost use Rattle.pb_cert.specs.Stated.{lines_of, head_lines, plan_lines, rows_lines, weight_line, PutsLine};
+ghost use Rattle.pb_estimate.specs.Spelling.{version_line, kind_line, stated_text, head_of, head_lines};
+ghost use Rattle.pb_print.specs.Saved.{PutsLine};
+ghost use Rattle.pb_cert.specs.Stated.{text_of, lines_of, first_lines, plan_lines, rows_lines, weight_line};
 
 use crate::Plan;
 use crate::certificate::{Certificate, Line};
 use crate::rows::line_at;
-use pb_print::Piece;
+use pb_estimate::{Choice, Spelling, Stated, Version};
+use pb_print::{NumberedLines, Piece};
+use pb_task::Kind;
 
 // Puts a line of a word and a number at the piece's end.
 fn put_numbered(word: &[u8], n: u64, out: &mut Piece)
@@ -64,6 +68,55 @@ fn put_plan_line(plan: &Plan, at: u128, out: &mut Piece)
     }
 }
 
+// Puts the line of a version at the piece's end.
+fn put_version(version: Version, out: &mut Piece)
+    requires room { length out.old + 128 ≤ 4096 }
+    ensures line { out.new ≡ out.old ++ line (version_line version) }
+    ensures short { length out.new ≤ length out.old + 128 }
+{
+    match version {
+        Version::One => out.push(b"pbnf-certificate 1\n"),
+    }
+}
+
+// Puts the line of a kind at the piece's end.
+fn put_kind(kind: Kind, out: &mut Piece)
+    requires room { length out.old + 128 ≤ 4096 }
+    ensures line { out.new ≡ out.old ++ line (kind_line kind) }
+    ensures short { length out.new ≤ length out.old + 128 }
+{
+    out.push(b"kind ");
+    out.push(kind.name().as_bytes());
+    out.push(b"\n");
+}
+
+// Puts a line of what is stated besides at the piece's end, if it is one of them. The plain choice
+// is said in no line.
+fn put_stated(stated: &Stated, _at: u128, _out: &mut Piece)
+    requires room { length _out.old + 128 ≤ 4096 }
+    ensures { _at < length (stated_text stated.now)
+        → PutsLine _out.old _out.new (stated_text stated.now) _at }
+{
+    match &stated.choice {
+        Choice::Plain => {}
+    }
+}
+
+// Puts a line that comes before the weight at the piece's end.
+fn put_head(spelling: &Spelling, at: u128, out: &mut Piece)
+    requires within { at < head_lines spelling.now }
+    requires room { length out.old + 128 ≤ 4096 }
+    ensures { PutsLine out.old out.new (head_of spelling.now) at }
+{
+    if at == 0 {
+        put_version(spelling.version, out);
+    } else if at == 1 {
+        put_kind(spelling.kind, out);
+    } else {
+        put_stated(&spelling.stated, at - 2, out);
+    }
+}
+
 impl Certificate<'_> {
     // How many rows there are.
     fn rows(&self) -> usize
@@ -80,6 +133,14 @@ impl Certificate<'_> {
         line_at(&self.parts, &self.places[i])
     }
 
+    // How many digits a state has: there is one version, which has 64.
+    fn digits(&self) -> u32
+        ensures digits { result ≡ self.now.spelling.width }
+        ensures all { result ≡ 64 }
+    {
+        self.spelling.width
+    }
+
     // How many lines state the plan, or that there is none.
     fn plan_count(&self) -> u128
         ensures count { result ≡ length (plan_lines self.now.certificate.plan) }
@@ -91,52 +152,24 @@ impl Certificate<'_> {
         }
     }
 
-    // How many lines the text has.
-    pub(crate) fn count(&self) -> u128
-        ensures count { result ≡ length (lines_of self.now) }
-        ensures most { result < 2 ^ 66 }
+    // How many lines come before the plan.
+    fn first_count(&self) -> u128
+        ensures count { result ≡ length (first_lines self.now) }
+        ensures most { result ≤ 32 }
     {
-        3 + self.plan_count() + self.rows() as u128 + 2
+        u128::from(self.spelling.head_lines()) + 1
     }
 
-    // Puts the line of this number, counted from 0, at the piece's end.
-    pub(crate) fn put_line(&self, at: u128, out: &mut Piece)
-        requires within { at < length (lines_of self.now) }
+    fn put_first(&self, at: u128, out: &mut Piece)
+        requires within { at < length (first_lines self.now) }
         requires room { length out.old + 128 ≤ 4096 }
-        ensures { PutsLine out.old out.new (lines_of self.now) at }
+        ensures { PutsLine out.old out.new (first_lines self.now) at }
     {
-        let plan = self.plan_count();
-        if at < 3 {
-            self.put_head(at, out);
-        } else if at < 3 + plan {
-            self.put_plan(at - 3, out);
-        } else {
-            self.put_rows(at - 3 - plan, out);
-        }
-    }
-
-    fn put_head(&self, at: u128, out: &mut Piece)
-        requires within { at < 3 }
-        requires room { length out.old + 128 ≤ 4096 }
-        ensures { PutsLine out.old out.new (head_lines self.now) at }
-    {
-        if at == 0 {
-            out.push(b"pbnf-certificate 1\n");
-        } else if at == 1 {
-            self.put_kind(out);
+        if at < u128::from(self.spelling.head_lines()) {
+            put_head(&self.spelling, at, out);
         } else {
             self.put_weight(out);
         }
-    }
-
-    fn put_kind(&self, out: &mut Piece)
-        requires room { length out.old + 128 ≤ 4096 }
-        ensures line { out.new ≡ out.old ++ line (spaced (codes "kind") self.now.kind) }
-        ensures short { length out.new ≤ length out.old + 128 }
-    {
-        out.push(b"kind ");
-        out.push(self.kind.as_bytes());
-        out.push(b"\n");
     }
 
     fn put_weight(&self, out: &mut Piece)
@@ -163,17 +196,42 @@ impl Certificate<'_> {
     }
 
     fn put_rows(&self, at: u128, out: &mut Piece)
-        requires within { at < length (rows_lines self.now.certificate) }
+        requires within { at < length (rows_lines self.now.spelling.width self.now.certificate) }
         requires room { length out.old + 128 ≤ 4096 }
-        ensures { PutsLine out.old out.new (rows_lines self.now.certificate) at }
+        ensures { PutsLine out.old out.new
+            (rows_lines self.now.spelling.width self.now.certificate) at }
     {
         let rows = self.rows();
+        let _digits = self.digits();
         if at == 0 {
             put_numbered(b"rows", rows as u64, out);
         } else if at <= rows as u128 {
             put_row(&self.row((at - 1) as usize), out);
         } else {
             out.push(b"end\n");
+        }
+    }
+}
+
+/// The lines of a certificate's text.
+impl NumberedLines for Certificate<'_> {
+    ghost text = { text_of };
+
+    ghost lines_of = { lines_of };
+
+    fn count(&self) -> u128 {
+        self.first_count() + self.plan_count() + self.rows() as u128 + 2
+    }
+
+    fn put_line(&self, at: u128, out: &mut Piece) {
+        let first = self.first_count();
+        let plan = self.plan_count();
+        if at < first {
+            self.put_first(at, out);
+        } else if at < first + plan {
+            self.put_plan(at - first, out);
+        } else {
+            self.put_rows(at - first - plan, out);
         }
     }
 }

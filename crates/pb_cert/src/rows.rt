@@ -8,12 +8,11 @@ ghost use Rattle.pb_model.specs.Guide.{Guide};
 ghost use Rattle.pb_model.specs.Store.{Rows};
 ghost use Rattle.pb_model.specs.Certificate.{AreLinesOf, line_of};
 ghost use Rattle.pb_lists.specs.Bundle.{Content};
-ghost use Rattle.pb_cert.specs.Store.{IsPlaced, HasNoneFrom};
+ghost use Rattle.pb_lists.specs.Store.{IsPlaced, HasNoneFrom};
 ghost use Rattle.pb_cert.specs.Listed.{entry_line, line_in, line_at, ArePartsOf};
 
-use crate::Store;
 use crate::certificate::Line;
-use pb_lists::Bundle;
+use pb_lists::{Bundle, Store};
 use pb_model::{Row, Status};
 use pb_packed::Packed;
 use std::alloc::{AllocError, Global};

@@ -2,11 +2,12 @@ ghost use Rattle.std.specs.Prelude.{◌≡◌, ◌≢◌, ◌≤◌, ℕ, IsTrue
 ghost use Rattle.pb_model.specs.declared.row.Row.{Row};
 ghost use Rattle.pb_model.specs.Plan.{IsPlan};
 ghost use Rattle.pb_task.specs.Parts.{space_of, IsTask};
-ghost use Rattle.pb_cert.specs.Store.{IsSoundAt, rows_at_home, guide_to, store_with};
+ghost use Rattle.pb_lists.specs.Store.{IsSoundAt, rows_at_home, guide_to, store_with};
 ghost use Rattle.pb_cert.specs.Traced.{HasGoal, IsTrace, IsLastStep};
 
+use crate::Plan;
 use crate::goal::first_goal;
-use crate::{Plan, Store};
+use pb_lists::Store;
 use pb_model::Row;
 use pb_packed::Packed;
 use pb_task::Task;
@@ -23,11 +24,11 @@ struct Step {
 // The row of a state in the part that is its home, or None if it has none.
 fn row_at_home<S: Store>(task: &Task, store: &S, state: &Packed) -> Option<Row>
     requires whole { S.is_whole store.now }
-    requires of_task { S.is_of store.now task.now }
+    requires of_task { S.is_of store.now (space_of task.now) }
     requires is_state { IsTrue ((space_of task.now).is_state state.now) }
-    ensures { result ≡ rows_at_home (S.home store.now task.now) (S.rows store.now) state.now }
+    ensures { result ≡ rows_at_home (S.home store.now) (S.rows store.now) state.now }
 {
-    let home = store.home(task, state);
+    let home = store.home(state);
     store.part(home).row(state)
 }
 
@@ -35,14 +36,14 @@ fn row_at_home<S: Store>(task: &Task, store: &S, state: &Packed) -> Option<Row>
 fn last_step<S: Store>(task: &Task, store: &S, state: &Packed) -> Step
     requires lawful { IsTask task.now }
     requires whole { S.is_whole store.now }
-    requires of_task { S.is_of store.now task.now }
-    requires sound { IsSoundAt (space_of task.now) (S.home store.now task.now) (S.rows store.now)
+    requires of_task { S.is_of store.now (space_of task.now) }
+    requires sound { IsSoundAt (space_of task.now) (S.home store.now) (S.rows store.now)
         (S.weight store.now) }
     requires found { (row : Row)
-        × (rows_at_home (S.home store.now task.now) (S.rows store.now) state.now ≡ Some row) }
+        × (rows_at_home (S.home store.now) (S.rows store.now) state.now ≡ Some row) }
     requires not_start { state.now ≢ (space_of task.now).start }
     ensures { IsLastStep (space_of task.now)
-        (rows_at_home (S.home store.now task.now) (S.rows store.now)) state.now result.action
+        (rows_at_home (S.home store.now) (S.rows store.now)) state.now result.action
         result.parent result.cost }
 {
     let Some(row) = row_at_home(task, store, state) else {
@@ -66,8 +67,8 @@ fn last_step<S: Store>(task: &Task, store: &S, state: &Packed) -> Step
 /// g, and at one g the least state. An error is out of memory.
 pub fn trace<S: Store>(alloc: Global, task: &Task, store: &S) -> Result<Plan, AllocError>
     requires whole { S.is_whole store.now }
-    requires of_task { S.is_of store.now task.now }
-    requires sound { IsSoundAt (space_of task.now) (S.home store.now task.now) (S.rows store.now)
+    requires of_task { S.is_of store.now (space_of task.now) }
+    requires sound { IsSoundAt (space_of task.now) (S.home store.now) (S.rows store.now)
         (S.weight store.now) }
     requires goal { HasGoal (space_of task.now) (S.rows store.now) }
     ensures plan { IfOk result (λ plan. IsPlan (space_of task.now) plan) }
@@ -75,7 +76,7 @@ pub fn trace<S: Store>(alloc: Global, task: &Task, store: &S) -> Result<Plan, Al
         → S.rows store.now home goal ≡ Some row → IsTrue ((space_of task.now).is_goal goal)
         → plan.cost ≤ row.g) }
     ensures traced { IfOk result (λ plan. IsTrace (space_of task.now)
-        (guide_to (S.home store.now task.now))
+        (guide_to (S.home store.now))
         (store_with (S.rows store.now) (S.weight store.now) None) plan.actions) }
 {
     let start = task.initial();

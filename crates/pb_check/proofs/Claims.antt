@@ -1,18 +1,21 @@
 -- What a verdict on a valid certificate says of the space.
-use Rattle.std.proofs.Common.{mul_comm, ◌≡◌, ℕ, ◌+◌, ◌-◌, ◌*◌, ◌/◌, ◌<◌, ◌≤◌, Option, None, Some, List, Result, Ok, Err, refl, sym, subst, arith}
+use Rattle.std.proofs.Common.{mul_comm, ◌≡◌, ℕ, ◌+◌, ◌-◌, ◌*◌, ◌/◌, ◌<◌, ◌≤◌, true, Option, None, Some, List, Result, Ok, Err, refl, sym, subst, arith}
 use Rattle.std.specs.Prelude.{IfOk}
 use Rattle.std.proofs.Math.Nat.{div-lt_iff_lt-mul, lt-div-mul-add}
-use Rattle.pb_model.specs.declared.row.Estimate.{Estimate}
 use Rattle.pb_model.specs.Space.{Space}
-use Rattle.pb_model.specs.Guide.{IsAdmissible}
 use Rattle.pb_model.specs.Weight.{Weight, IsWeight}
 use Rattle.pb_model.specs.Plan.{Plan}
 use Rattle.pb_model.specs.Certificate.{ClaimHolds}
 use Rattle.pb_model.proofs.Callers.{valid_certificates_hold}
-use Rattle.pb_check.specs.declared.kind.TaskKind.{TaskKind}
+use Rattle.pb_task.specs.declared.parts.TaskParts.{TaskParts}
+use Rattle.pb_task.specs.Parts.{space_of, IsTask}
+use Rattle.pb_estimate.specs.declared.choice.Choice.{Choice}
+use Rattle.pb_estimate.specs.declared.choice.Choice.TheVariants.{Plain}
+use Rattle.pb_estimate.specs.Estimates.{estimate_by, suits}
+use Rattle.pb_estimate.proofs.Callers.{estimates_are_admissible}
 use Rattle.pb_check.specs.declared.fault.Verdict.{Verdict}
 use Rattle.pb_check.specs.declared.fault.CheckError.{CheckError}
-use Rattle.pb_check.specs.Judging.{verdict_of, bound_of}
+use Rattle.pb_check.specs.Judging.{choice_fault, StatedChoicesSuit, verdict_of, bound_of}
 use Rattle.pb_check.specs.Shown.{IsAccepted, ShowsClaim, VerdictHolds, BoundsAreLeast}
 
 bounded : (weight : Weight) (cost other : ℕ) → IsWeight weight → weight.den * cost ≤ weight.num * other → bound_of weight cost ≤ other
@@ -27,23 +30,35 @@ holds : (space : Space) (weight : Weight) (plan : Option Plan) → IsWeight weig
 holds space weight None is claim = claim
 holds space weight (Some plan) is claim = ((plan, claim.0, refl), λ other also. bounded weight plan.cost other.cost is (claim.1 other also))
 
-shown : (space : Space) (estimate : ℕ → Estimate) (kind : TaskKind) (bytes : List ℕ) (verdict : Verdict) → IsAdmissible space estimate → IsAccepted space estimate kind bytes verdict → ShowsClaim space kind bytes verdict
-shown space estimate kind bytes verdict admissible is = record {
-  certificate = is.certificate;
-  spelled = is.spelled;
-  weight = is.valid.weight;
-  claim = valid_certificates_hold space estimate is.certificate admissible is.valid;
-  verdict_is = is.verdict_is;
-}
+-- what is stated without a fault suits the task
+pub stated_choices_suit : StatedChoicesSuit
+stated_choices_suit parts stated none = go stated.choice none
+  where
+    go : (choice : Choice) → choice_fault parts choice ≡ None → suits parts choice ≡ true
+    go Plain none = refl
 
-pub claims : (space : Space) (estimate : ℕ → Estimate) (kind : TaskKind) (bytes : List ℕ) (r : Result Verdict CheckError) → IsAdmissible space estimate → IfOk r (λ verdict. IsAccepted space estimate kind bytes verdict)
-    → IfOk r (λ verdict. ShowsClaim space kind bytes verdict)
-claims space estimate kind bytes (Ok verdict) admissible is = shown space estimate kind bytes verdict admissible is
-claims space estimate kind bytes (Err e) admissible is = tt
+shown : (parts : TaskParts) (bytes : List ℕ) (verdict : Verdict) → IsTask parts → IsAccepted parts bytes verdict → ShowsClaim parts bytes verdict
+shown parts bytes verdict lawful is =
+    let choice = is.spelling.stated.choice in
+    let admissible = estimates_are_admissible parts choice lawful (stated_choices_suit parts is.spelling.stated is.stated) in
+    record {
+      spelling = is.spelling;
+      certificate = is.certificate;
+      spelled = is.spelled;
+      kind = is.kind;
+      weight = is.valid.weight;
+      claim = valid_certificates_hold (space_of parts) (estimate_by parts choice) is.certificate admissible is.valid;
+      verdict_is = is.verdict_is;
+    }
 
-pub verdicts : (space : Space) (kind : TaskKind) (bytes : List ℕ) (r : Result Verdict CheckError) → IfOk r (λ verdict. ShowsClaim space kind bytes verdict) → IfOk r (λ verdict. VerdictHolds space verdict)
-verdicts space kind bytes (Ok verdict) is = subst (VerdictHolds space) (sym is.verdict_is) (holds space is.certificate.weight is.certificate.plan is.weight is.claim)
-verdicts space kind bytes (Err e) is = tt
+pub claims : (parts : TaskParts) (bytes : List ℕ) (r : Result Verdict CheckError) → IfOk r (λ verdict. IsTask parts) → IfOk r (λ verdict. IsAccepted parts bytes verdict)
+    → IfOk r (λ verdict. ShowsClaim parts bytes verdict)
+claims parts bytes (Ok verdict) lawful is = shown parts bytes verdict lawful is
+claims parts bytes (Err e) lawful is = tt
+
+pub verdicts : (parts : TaskParts) (bytes : List ℕ) (r : Result Verdict CheckError) → IfOk r (λ verdict. ShowsClaim parts bytes verdict) → IfOk r (λ verdict. VerdictHolds (space_of parts) verdict)
+verdicts parts bytes (Ok verdict) is = subst (VerdictHolds (space_of parts)) (sym is.verdict_is) (holds (space_of parts) is.certificate.weight is.certificate.plan is.weight is.claim)
+verdicts parts bytes (Err e) is = tt
 
 pub bounds_are_least : BoundsAreLeast
 bounds_are_least weight cost is = record {

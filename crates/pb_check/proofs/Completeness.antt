@@ -13,21 +13,24 @@ use Rattle.pb_model.specs.Weight.{Weight, IsWeight}
 use Rattle.pb_model.specs.Plan.{Plan, Walk, IsPlan}
 use Rattle.pb_model.specs.Store.{MayBeCut}
 use Rattle.pb_model.specs.Certificate.{Line, Ascends, HasLineWithin, IsPlanIfAny, IsClosedLine, IsValid, cost_of}
-use Rattle.pb_check.specs.declared.kind.TaskKind.{TaskKind}
-use Rattle.pb_check.specs.declared.kind.TaskKind.TheVariants.{Grid, Tiles, Strips}
+use Rattle.pb_task.specs.declared.kind.Kind.{Kind}
+use Rattle.pb_task.specs.declared.kind.Kind.TheVariants.{Grid, Tiles, Strips}
+use Rattle.pb_task.specs.declared.parts.TaskParts.{TaskParts}
+use Rattle.pb_task.specs.Parts.{space_of}
+use Rattle.pb_task.specs.Kinds.{kind_of}
+use Rattle.pb_estimate.specs.Estimates.{estimate_by}
 use Rattle.pb_check.specs.declared.fault.CertificateFault.{CertificateFault}
 use Rattle.pb_check.specs.declared.fault.CertificateFault.TheVariants as faults
 use Rattle.pb_check.specs.declared.fault.Verdict.{Verdict}
 use Rattle.pb_check.specs.declared.fault.CheckError.{CheckError}
 use Rattle.pb_check.specs.Shown.{IsAccepted}
 use Rattle.pb_check.specs.Faults.{◌>>=◌, Gives}
-use Rattle.pb_check.specs.Reading.{Text, plan_lines}
-use Rattle.pb_check.specs.Judging.{or_then, unless, same_kind, is_weight, after_step, walk, plan_fault, plan_fault_if_any, AreAbove, Rise, order_fault, rows_order_fault, first_fault_by, state_fault, g_of, is_zero, target_fault, step_fault, steps_fault, may_be_cut, row_fault, verdict_of, judged, checked}
+use Rattle.pb_check.specs.Reading.{Text, first_line}
+use Rattle.pb_check.specs.Judging.{passes, or_then, unless, same_kind, stated_fault, is_weight, after_step, walk, plan_fault, plan_fault_if_any, AreAbove, Rise, order_fault, rows_order_fault, first_fault_by, state_fault, g_of, is_zero, target_fault, step_fault, steps_fault, may_be_cut, row_fault, verdict_of, judged, checked}
 use Rattle.pb_check.proofs.Finding.{equal_at}
-use Rattle.pb_check.proofs.Readable.{readable}
-use Rattle.pb_check.proofs.Written.{spells}
+use Rattle.pb_check.proofs.Written.{read_of}
 
-kind_same : (a : TaskKind) → same_kind a a ≡ true
+kind_same : (a : Kind) → same_kind a a ≡ true
 kind_same Grid = refl
 kind_same Tiles = refl
 kind_same Strips = refl
@@ -131,29 +134,33 @@ module _ (space : Space) (estimate : ℕ → Estimate) (weight : Weight) (best :
 
 -- ---- all together
 
-judged_ok : (space : Space) (estimate : ℕ → Estimate) (kind : TaskKind) (text : Text) → text.kind ≡ kind → IsValid space estimate text.certificate → judged space estimate kind text ≡ Ok (verdict_of text.certificate.weight text.certificate.plan)
+judged_ok : (parts : TaskParts) (text : Text) → text.spelling.kind ≡ kind_of parts → stated_fault parts text.spelling.stated ≡ None → IsValid (space_of parts) (estimate_by parts text.spelling.stated.choice) text.certificate
+    → judged parts text ≡ Ok (verdict_of text.certificate.weight text.certificate.plan)
 unfolding judged
-judged_ok space estimate kind text is valid =
+judged_ok parts text is stated valid =
+    let space = space_of parts in
+    let estimate = estimate_by parts text.spelling.stated.choice in
     let lines = text.certificate.lines in
     let weight = text.certificate.weight in
     let best = cost_of text.certificate.plan in
     let rise : Rise lines = rises lines valid.ascending in
     let s = found lines rise space.start 0 valid.start in
-    let e1 : same_kind kind text.kind ≡ true = ap (same_kind kind) is ∙ kind_same kind in
+    let e1 : same_kind (kind_of parts) text.spelling.kind ≡ true = ap (same_kind (kind_of parts)) is ∙ kind_same (kind_of parts) in
+    let e0 : passes (stated_fault parts text.spelling.stated) ≡ Ok true = ap passes stated in
     let e2 : is_weight weight ≡ true = weight_ok weight valid.weight in
     let e3 : plan_fault_if_any space text.certificate.plan ≡ Ok true = plan_ok_if_any space text.certificate.plan valid.plan in
     let e4 : rows_order_fault text.first lines ≡ None = rows_order_ok text.first lines rise in
     let e5 : first_fault_by (state_fault space) text.first lines ≡ None = each_ok (state_fault space) (λ line. IsTrue (space.is_state line.state)) text.first lines (λ k row h. ap (λ b. unless b (faults.BadState k)) h) valid.states in
     let e6 : is_zero (g_of lines space.start) ≡ true = zero_ok (g_of lines space.start) s.0 s.1 s.2 in
     let e7 : first_fault_by (row_fault space estimate weight best lines) text.first lines ≡ None = rows_ok space estimate weight best lines rise text.first lines valid.closed valid.cut in
-    rw (e1, e2, e3, e4, e5, e6, e7) refl
+    rw (e1, e0, e2, e3, e4, e5, e6, e7) refl
 
-accepts : (space : Space) (estimate : ℕ → Estimate) (kind : TaskKind) (bytes : List ℕ) (verdict : Verdict) → IsAccepted space estimate kind bytes verdict → checked space estimate kind bytes ≡ Ok verdict
+accepts : (parts : TaskParts) (bytes : List ℕ) (verdict : Verdict) → IsAccepted parts bytes verdict → checked parts bytes ≡ Ok verdict
 unfolding checked
-accepts space estimate kind bytes verdict is =
-    let text : Text = record { kind = kind; certificate = is.certificate; first = 5 + plan_lines is.certificate.plan } in
-    ap (λ r. r >>= λ text. judged space estimate kind text) (readable bytes text (spells bytes text is.spelled refl)) ∙ judged_ok space estimate kind text refl is.valid ∙ ap (λ (v : Verdict). Ok v) (sym is.verdict_is)
+accepts parts bytes verdict is =
+    let text : Text = record { spelling = is.spelling; certificate = is.certificate; first = first_line is.spelling is.certificate.plan } in
+    ap (λ r. r >>= λ text. judged parts text) (read_of bytes is.spelling is.certificate is.spelled) ∙ judged_ok parts text is.kind is.stated is.valid ∙ ap (λ (v : Verdict). Ok v) (sym is.verdict_is)
 
-pub gives_accepted : (space : Space) (estimate : ℕ → Estimate) (kind : TaskKind) (bytes : List ℕ) (r : Result Verdict CheckError) → Gives (λ x. x) r (checked space estimate kind bytes)
-    → (verdict : Verdict) → IsAccepted space estimate kind bytes verdict → Gives (λ x. x) r (Ok verdict)
-gives_accepted space estimate kind bytes r e verdict is = subst (Gives (λ x. x) r) (accepts space estimate kind bytes verdict is) e
+pub gives_accepted : (parts : TaskParts) (bytes : List ℕ) (r : Result Verdict CheckError) → Gives (λ x. x) r (checked parts bytes)
+    → (verdict : Verdict) → IsAccepted parts bytes verdict → Gives (λ x. x) r (Ok verdict)
+gives_accepted parts bytes r e verdict is = subst (Gives (λ x. x) r) (accepts parts bytes verdict is) e

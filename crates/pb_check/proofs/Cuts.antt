@@ -3,19 +3,23 @@ use Rattle.std.proofs.Common.{◌≡◌, ◌≢◌, ◌⊎◌, inl, inr, ℕ, ze
 use Rattle.std.specs.Prelude.{codes}
 use Rattle.std.proofs.lemmas.Bool.{eqb-true}
 use Rattle.std.proofs.lemmas.List.{nil_from_length}
-use Rattle.pb_model.specs.declared.row.Estimate.{Estimate}
-use Rattle.pb_model.specs.Space.{Space}
 use Rattle.pb_model.specs.Weight.{Weight}
 use Rattle.pb_model.specs.Plan.{Plan}
 use Rattle.pb_model.specs.Certificate.{Line}
-use Rattle.pb_check.specs.declared.kind.TaskKind.{TaskKind}
+use Rattle.pb_task.specs.declared.kind.Kind.{Kind}
+use Rattle.pb_task.specs.declared.parts.TaskParts.{TaskParts}
+use Rattle.pb_estimate.specs.declared.choice.Choice.TheVariants.{Plain}
+use Rattle.pb_estimate.specs.declared.spelling.Stated.{Stated}
+use Rattle.pb_estimate.specs.declared.spelling.Spelling.{Spelling}
+use Rattle.pb_estimate.specs.declared.spelling.Version.TheVariants.{One}
+use Rattle.pb_estimate.specs.Spelling.{version_line, stated_text, head_lines}
 use Rattle.pb_check.specs.declared.fault.CertificateFault.{CertificateFault}
 use Rattle.pb_check.specs.declared.fault.CertificateFault.TheVariants.{Syntax}
 use Rattle.pb_check.specs.declared.fault.CheckError.{CheckError}
 use Rattle.pb_check.specs.declared.fault.Verdict.{Verdict}
 use Rattle.pb_lines.specs.Words.{part, is_text, has_none, line_feeds}
 use Rattle.pb_check.specs.Faults.{◌>>=◌, wanted, Gives}
-use Rattle.pb_check.specs.Reading.{line_at, number_behind, kind_in, weight_in, row_in, fixed_at, number_at, kind_at, weight_at, row_at, actions_at, rows_at, steps_at, plan_at, plan_lines, Text, end_at, body_at, text_of}
+use Rattle.pb_check.specs.Reading.{line_at, number_behind, kind_in, weight_in, row_in, fixed_at, number_at, kind_at, stated_at, head_at, weight_at, row_at, actions_at, rows_at, steps_at, plan_at, plan_lines, weight_line, first_line, Text, end_at, body_at, text_of}
 use Rattle.pb_check.specs.Judging.{judged, checked}
 use Rattle.pb_check.specs.Shown.{IsCutOff, CutCertificatesAreRefused}
 use Rattle.pb_lines.proofs.Callers.{part_is, part_none, part_again, one_feed, no_feed}
@@ -249,6 +253,41 @@ fixed_last {A} line piece next last start rest y e some = go (first_cases line s
         ∙ ap (λ t. cond t (Ok h.left) (Err (Syntax line)) >>= next) g.0
         ∙ last h.left rest y (ap next g.1 ∙ a.2) some ∙ ap (λ (l : ℕ). Err (Syntax l)) same
 
+-- a line that is given, and what is read after it
+fixed_step : {A : Type 0} (n m : A → ℕ) (line : ℕ) (piece : List ℕ)
+    (next : List ℕ → Result (A × List ℕ) CertificateFault) → ((x : A) → n x ≡ 1 + m x)
+    → IsStep m (line + 1) next → IsStep n line (λ text. fixed_at line piece text >>= next)
+unfolding fixed_at
+fixed_step {A} n m line piece next count step start rest x after e = go (first_cases line start rest)
+  where
+    go : HasFirst line start rest ⊎ (line_at line start ≡ cut line start)
+        → Goes (n x) line (after_fixed line piece next (line_at line start)) start rest x after
+    go (inr fails) = inr (ap (after_fixed line piece next) fails)
+    go (inl h) =
+        let a = bind_ok (cond (is_text piece h.first) (Ok (h.left ++ rest))
+        (Err (Syntax line))) next (x, after) (sym (ap (after_fixed line piece next) h.there) ∙ e) in
+        let g = guard_ok (is_text piece h.first) (Syntax line) (h.left ++ rest) a.0 a.1 in
+        more g.0 (step h.left rest x after (ap next g.1 ∙ a.2))
+      where
+        either : after_fixed line piece next (line_at line start) ≡ next h.left
+            → Goes (m x) (line + 1) (next h.left) h.left rest x after
+            → Goes (n x) line (after_fixed line piece next (line_at line start)) start rest x after
+        either here (inl k) = let c = count x in let one = h.one in let f = k.3 in
+            inl (k.0, here ∙ k.1, k.2, omega (arith, c, one, f))
+        either here (inr k) =
+            let same : line + 1 + line_feeds h.left ≡ line + line_feeds start =
+            (let one = h.one in omega (arith, one)) in
+            inr (here ∙ k ∙ ap (λ (l : ℕ). Err (Syntax l)) same)
+
+        more : is_text piece h.first ≡ true
+            → Goes (m x) (line + 1) (next h.left) h.left rest x after
+            → Goes (n x) line (after_fixed line piece next (line_at line start)) start rest x after
+        more is k =
+            let here : after_fixed line piece next (line_at line start) ≡ next h.left =
+            ap (after_fixed line piece next) h.here
+            ∙ ap (λ t. cond t (Ok h.left) (Err (Syntax line)) >>= next) is in
+            either here k
+
 -- the end, with nothing behind it
 end_last : (line : ℕ) → IsLast line (end_at line)
 unfolding end_at
@@ -283,6 +322,28 @@ unfolding kind_at
 kind_step line = line_step (λ kind. 1) (λ kind. 0) line
     (λ first. kind_in line first.0 >>= λ kind. Ok (kind, first.1)) (λ kind. refl)
     (λ first. word_step (line + 1) (kind_in line first))
+
+-- what is stated is read in as many lines as it is said in
+stated_step : (line : ℕ)
+    → IsStep (λ (stated : Stated). length (stated_text stated)) line (stated_at line)
+unfolding stated_at
+stated_step line = given_step (λ (stated : Stated). length (stated_text stated)) line
+    (record { choice = Plain }) refl
+
+abbrev spelling_with : Kind → Stated → Spelling
+spelling_with kind stated = record { kind = kind; version = One; width = 64; stated = stated }
+
+head_step : IsStep head_lines 1 head_at
+unfolding head_at
+head_step =
+    fixed_step head_lines (λ (spelling : Spelling). 1 + length (stated_text spelling.stated)) 1
+    (version_line One)
+    (λ rest. kind_at 2 rest >>= λ kind. stated_at 3 kind.1
+    >>= λ stated. Ok (spelling_with kind.0 stated.0, stated.1)) (λ spelling. omega arith)
+    (then_step (λ kind. 1) (λ (stated : Stated). length (stated_text stated))
+    (λ (spelling : Spelling). 1 + length (stated_text spelling.stated)) spelling_with
+    (λ kind stated. refl) 2 (kind_at 2) (λ kind text. stated_at 3 text) (kind_step 2)
+    (λ kind. stated_step 3))
 
 weight_step : (line : ℕ) → IsStep (λ weight. 1) line (weight_at line)
 unfolding weight_at
@@ -377,52 +438,49 @@ body_last line =
     (λ rows. named_last (line + 1 + length rows) (end_at (line + 1 + length rows)) (λ ended. rows)
     (end_last (line + 1 + length rows))))
 
-abbrev text_with : TaskKind → Weight → Option Plan → List Line → Text
-text_with kind weight plan rows =
+abbrev text_with : Spelling → Weight → Option Plan → List Line → Text
+text_with spelling weight plan rows =
     record {
-      kind = kind;
+      spelling = spelling;
       certificate =
           record { weight = weight; plan = plan; lines = rows };
-      first = 5 + plan_lines plan;
+      first = first_line spelling plan;
     }
 
 text_last : IsLast 1 text_of
 unfolding text_of
 text_last =
-    fixed_last 1 (codes "pbnf-certificate 1")
-    (λ rest. kind_at 2 rest >>= λ kind. weight_at 3 kind.1 >>= λ weight. plan_at 4 weight.1
-    >>= λ plan. body_at (4 + plan_lines plan.0) plan.1
-    >>= λ rows. Ok (text_with kind.0 weight.0 plan.0 rows))
-    (then_last (λ kind. 1) 2 (kind_at 2)
-    (λ kind rest. weight_at 3 rest >>= λ weight. plan_at 4 weight.1
-    >>= λ plan. body_at (4 + plan_lines plan.0) plan.1
-    >>= λ rows. Ok (text_with kind weight.0 plan.0 rows)) (kind_step 2)
-    (λ kind. then_last (λ weight. 1) 3 (weight_at 3)
-    (λ weight rest. plan_at 4 rest >>= λ plan. body_at (4 + plan_lines plan.0) plan.1
-    >>= λ rows. Ok (text_with kind weight plan.0 rows)) (weight_step 3)
-    (λ weight. then_last plan_lines 4 (plan_at 4)
-    (λ plan rest. body_at (4 + plan_lines plan) rest
-    >>= λ rows. Ok (text_with kind weight plan rows)) (plan_step 4)
-    (λ plan. named_last (4 + plan_lines plan) (body_at (4 + plan_lines plan))
-    (text_with kind weight plan) (body_last (4 + plan_lines plan))))))
+    then_last head_lines 1 head_at
+    (λ head rest. weight_at (weight_line head) rest
+    >>= λ weight. plan_at (weight_line head + 1) weight.1
+    >>= λ plan. body_at (weight_line head + 1 + plan_lines plan.0) plan.1
+    >>= λ rows. Ok (text_with head weight.0 plan.0 rows)) head_step
+    (λ head. then_last (λ weight. 1) (weight_line head) (weight_at (weight_line head))
+    (λ weight rest. plan_at (weight_line head + 1) rest
+    >>= λ plan. body_at (weight_line head + 1 + plan_lines plan.0) plan.1
+    >>= λ rows. Ok (text_with head weight plan.0 rows)) (weight_step (weight_line head))
+    (λ weight. then_last plan_lines (weight_line head + 1) (plan_at (weight_line head + 1))
+    (λ plan rest. body_at (weight_line head + 1 + plan_lines plan) rest
+    >>= λ rows. Ok (text_with head weight plan rows)) (plan_step (weight_line head + 1))
+    (λ plan. named_last (weight_line head + 1 + plan_lines plan)
+    (body_at (weight_line head + 1 + plan_lines plan)) (text_with head weight plan)
+    (body_last (weight_line head + 1 + plan_lines plan)))))
 
 pub cut_certificates_are_refused : CutCertificatesAreRefused
 unfolding checked
-cut_certificates_are_refused space estimate kind bytes is =
+cut_certificates_are_refused parts bytes is =
     let text : Text = record {
-      kind = is.0;
+      spelling = is.0;
       certificate = is.1;
-      first =
-          5 + plan_lines is.1.plan;
+      first = first_line is.0 is.1.plan;
     } in
-    ap (λ r. r >>= λ text. judged space estimate kind text)
+    ap (λ r. r >>= λ text. judged parts text)
     (text_last bytes is.2 text ((read_as_spelled (bytes ++ is.2) text).1 is.3 refl) is.4)
 
 -- so the call refuses it
-pub gives_cut : (space : Space) (estimate : ℕ → Estimate) (kind : TaskKind) (bytes : List ℕ)
-    (r : Result Verdict CheckError) → Gives (λ x. x) r (checked space estimate kind bytes)
-    → IsCutOff bytes
+pub gives_cut : (parts : TaskParts) (bytes : List ℕ) (r : Result Verdict CheckError)
+    → Gives (λ x. x) r (checked parts bytes) → IsCutOff bytes
     → Gives {Y = Verdict} (λ x. x) r (Err (Syntax (1 + line_feeds bytes)))
-gives_cut space estimate kind bytes r exact is =
+gives_cut parts bytes r exact is =
     subst (λ (given : Result Verdict CertificateFault). Gives (λ x. x) r given)
-    (cut_certificates_are_refused space estimate kind bytes is) exact
+    (cut_certificates_are_refused parts bytes is) exact

@@ -4,13 +4,10 @@ use Rattle.std.specs.Prelude.{IfOk}
 use Rattle.pb_task.specs.Parts.{space_of, IsTask, greatest_cost}
 use Rattle.pb_task.specs.declared.parts.TaskParts.{TaskParts}
 use Rattle.pb_task.proofs.Callers.{tasks_are_proper}
-use Rattle.pb_estimate.specs.Estimates.{estimate_of}
-use Rattle.pb_estimate.proofs.Callers.{estimates_are_admissible}
 use Rattle.pb_model.specs.Space.{IsProper}
 use Rattle.pb_check.specs.declared.fault.Verdict.{Verdict}
 use Rattle.pb_check.specs.declared.fault.CheckError.{CheckError}
 use Rattle.pb_check.specs.Faults.{Gives}
-use Rattle.pb_check.specs.Kinds.{kind_of}
 use Rattle.pb_check.specs.Judging.{checked}
 use Rattle.pb_check.specs.Shown.{IsAccepted, ShowsClaim}
 use Rattle.pb_check.proofs.Validity.{if_accepted}
@@ -20,12 +17,10 @@ if_proper : (task : TaskParts) (r : Result Verdict CheckError) → IfOk r (λ ve
 if_proper task (Ok verdict) lawful = (tasks_are_proper task lawful).0
 if_proper task (Err e) lawful = tt
 
-pub accepted : (task : TaskParts) (bytes : List ℕ) (r : Result Verdict CheckError) → IfOk r (λ verdict. IsTask task) → Gives (λ x. x) r (checked (space_of task) (estimate_of task) (kind_of task) bytes)
-    → IfOk r (λ verdict. IsAccepted (space_of task) (estimate_of task) (kind_of task) bytes verdict)
-accepted task bytes r lawful exact = if_accepted (space_of task) greatest_cost (estimate_of task) (kind_of task) bytes r (if_proper task r lawful) exact
+pub accepted : (task : TaskParts) (bytes : List ℕ) (r : Result Verdict CheckError) → IfOk r (λ verdict. IsTask task) → Gives (λ x. x) r (checked task bytes)
+    → IfOk r (λ verdict. IsAccepted task bytes verdict)
+accepted task bytes r lawful exact = if_accepted task greatest_cost bytes r (if_proper task r lawful) exact
 
-pub claimed : (task : TaskParts) (bytes : List ℕ) (r : Result Verdict CheckError) → IfOk r (λ verdict. IsTask task) → Gives (λ x. x) r (checked (space_of task) (estimate_of task) (kind_of task) bytes)
-    → IfOk r (λ verdict. ShowsClaim (space_of task) (kind_of task) bytes verdict)
-claimed task bytes (Ok verdict) lawful exact =
-    claims (space_of task) (estimate_of task) (kind_of task) bytes (Ok verdict) (estimates_are_admissible task lawful) (accepted task bytes (Ok verdict) lawful exact)
-claimed task bytes (Err e) lawful exact = tt
+pub claimed : (task : TaskParts) (bytes : List ℕ) (r : Result Verdict CheckError) → IfOk r (λ verdict. IsTask task) → Gives (λ x. x) r (checked task bytes)
+    → IfOk r (λ verdict. ShowsClaim task bytes verdict)
+claimed task bytes r lawful exact = claims task bytes r lawful (accepted task bytes r lawful exact)

@@ -15,4 +15,3 @@ mod Validity
 mod Completeness
 mod Claims
 mod Known
-mod Judged

@@ -4,11 +4,11 @@ use Rattle.std.specs.List.{list_all}
 use Rattle.pb_model.specs.Weight.{Weight}
 use Rattle.pb_model.specs.Plan.{Plan}
 use Rattle.pb_model.specs.Certificate.{Line}
-use Rattle.pb_check.specs.declared.kind.TaskKind.{TaskKind}
-use Rattle.pb_check.specs.declared.kind.TaskKind.TheVariants.{Grid, Tiles, Strips}
+use Rattle.pb_model.specs.Texts.{lines}
+use Rattle.pb_estimate.specs.Spelling.{IsSpelling, head_of}
 use Rattle.pb_lines.proofs.Callers.{IsNumberWord}
 use Rattle.pb_check.specs.Words.{hex_value}
-use Rattle.pb_check.specs.Reading.{Text, plan_lines}
+use Rattle.pb_check.specs.Reading.{Text, first_line}
 
 -- the value of hexadecimal digits behind a number
 abbrev pub hex_value_after : ℕ → List ℕ → ℕ
@@ -28,11 +28,6 @@ BeginsWith text line rest = text ≡ line ++ 10 ∷ rest
 -- a line that is these words and a number
 abbrev pub BeginsWithNumber : (text piece : List ℕ) (n : ℕ) (rest : List ℕ) → Type 0
 BeginsWithNumber text piece n rest = (word : List ℕ) × IsNumberWord word n × BeginsWith text (piece ++ word) rest
-
-abbrev pub kind_text : TaskKind → List ℕ
-kind_text Grid = codes "kind grid"
-kind_text Tiles = codes "kind tiles"
-kind_text Strips = codes "kind strips"
 
 abbrev pub closed_text : Bool → List ℕ
 closed_text true = codes "closed"
@@ -69,18 +64,17 @@ ArePlanLines text (Some plan) rest =
     × AreActionLines actions plan.actions cost × BeginsWithNumber cost (codes "cost ") plan.cost rest
 
 pub record Spells (bytes : List ℕ) (text : Text) : Type 0 where
-  pub kind_line : List ℕ
   pub weight_line : List ℕ
   pub plan_part : List ℕ
   pub count_line : List ℕ
   pub row_part : List ℕ
   pub end_line : List ℕ
   pub weight_words : List ℕ
-  pub head : BeginsWith bytes (codes "pbnf-certificate 1") kind_line
-  pub kind : BeginsWith kind_line (kind_text text.kind) weight_line
+  pub known : IsSpelling text.spelling
+  pub head : bytes ≡ lines (head_of text.spelling) ++ weight_line
   pub weight : BeginsWith weight_line weight_words plan_part × IsWeightLine weight_words text.certificate.weight
   pub plan : ArePlanLines plan_part text.certificate.plan count_line
   pub count : BeginsWithNumber count_line (codes "rows ") (length text.certificate.lines) row_part
   pub rows : AreRowLines row_part text.certificate.lines end_line
   pub end : BeginsWith end_line (codes "end") []
-  pub first : text.first ≡ 5 + plan_lines text.certificate.plan
+  pub first : text.first ≡ first_line text.spelling text.certificate.plan

@@ -7,16 +7,25 @@ use Rattle.std.proofs.lemmas.Bool.Decides.{nat_tests}
 use Rattle.pb_model.specs.Weight.{Weight}
 use Rattle.pb_model.specs.Plan.{Plan}
 use Rattle.pb_model.specs.Certificate.{Line}
-use Rattle.pb_check.specs.declared.kind.TaskKind.{TaskKind}
-use Rattle.pb_check.specs.declared.kind.TaskKind.TheVariants.{Grid, Tiles, Strips}
+use Rattle.pb_model.specs.Texts as texts
+use Rattle.pb_task.specs.declared.kind.Kind.{Kind}
+use Rattle.pb_task.specs.declared.kind.Kind.TheVariants.{Grid, Tiles, Strips}
+use Rattle.pb_estimate.specs.declared.choice.Choice.{Choice}
+use Rattle.pb_estimate.specs.declared.choice.Choice.TheVariants.{Plain}
+use Rattle.pb_estimate.specs.declared.spelling.Stated.{Stated}
+use Rattle.pb_estimate.specs.declared.spelling.Spelling.{Spelling}
+use Rattle.pb_estimate.specs.declared.spelling.Version.{Version}
+use Rattle.pb_estimate.specs.declared.spelling.Version.TheVariants.{One}
+use Rattle.pb_estimate.specs.Spelling.{IsWidthOf, IsSpelling, version_line, kind_line, choice_text, stated_text, head_of}
 use Rattle.pb_check.specs.declared.fault.CertificateFault.{CertificateFault}
 use Rattle.pb_check.specs.declared.fault.CertificateFault.TheVariants.{Syntax}
 use Rattle.pb_lines.specs.Words.{part, behind, is_text, number_of, has_none}
 use Rattle.pb_lines.proofs.Callers.{IsNumberWord, number_word_read, number_has_none, none_both, part_again, behind_again, text_again}
 use Rattle.pb_check.specs.Words.{hex_value, hex_after, state_of}
 use Rattle.pb_check.specs.Faults.{◌>>=◌, wanted}
-use Rattle.pb_check.specs.Reading.{line_at, number_behind, kind_in, weight_in, closed_in, row_in, fixed_at, number_at, kind_at, weight_at, row_at, actions_at, rows_at, steps_at, plan_at, plan_lines, Text, end_at, body_at, text_of}
-use Rattle.pb_check.proofs.Lines.{hex_value_after, IsStateWord, BeginsWith, BeginsWithNumber, kind_text, closed_text, IsWeightLine, IsRowLine, AreActionLines, AreRowLines, ArePlanLines, Spells}
+use Rattle.pb_check.specs.Reading.{line_at, number_behind, kind_in, weight_in, closed_in, row_in, fixed_at, number_at, kind_at, stated_at, head_at, weight_at, row_at, actions_at, rows_at, steps_at, plan_at, plan_lines, weight_line, first_line, Text, end_at, body_at, text_of}
+use Rattle.pb_check.proofs.Lines.{hex_value_after, IsStateWord, BeginsWith, BeginsWithNumber, closed_text, IsWeightLine, IsRowLine, AreActionLines, AreRowLines, ArePlanLines, Spells}
+use Rattle.pb_check.proofs.Spelled.{head_then}
 
 -- ---- states
 
@@ -72,13 +81,13 @@ fine_weight num den = Ok (record { num = num; den = den })
 abbrev fine_row : (state g : ℕ) → Bool → Result Line CertificateFault
 fine_row state g is_closed = Ok (record { state = state; g = g; is_closed = is_closed })
 
-kind_again : (line : ℕ) (k : TaskKind) → kind_in line (kind_text k) ≡ Ok k
+kind_again : (line : ℕ) (k : Kind) → kind_in line (kind_line k) ≡ Ok k
 unfolding kind_in behind
 kind_again line Grid = refl
 kind_again line Tiles = refl
 kind_again line Strips = refl
 
-kind_none : (k : TaskKind) → has_none 10 (kind_text k) ≡ true
+kind_none : (k : Kind) → has_none 10 (kind_line k) ≡ true
 kind_none Grid = refl
 kind_none Tiles = refl
 kind_none Strips = refl
@@ -177,23 +186,62 @@ body_again line text row_part end_line rows count are end =
     ∙ ap (λ r. r >>= λ rows. end_at (line + 1 + length rows.0) rows.1 >>= λ ended. fine rows.0) (rows_again (line + 1) row_part rows end_line are)
     ∙ ap (λ r. (r >>= λ rest. cond (eqb (length rest) 0) (Ok true) (Err (Syntax (line + 1 + length rows + 1)))) >>= λ ended. fine rows) (fixed_again (line + 1 + length rows) (codes "end") end_line [] end refl)
 
+-- ---- the head
+
+stated_again : (line : ℕ) (text : List ℕ) (stated : Stated) (rest : List ℕ) → text ≡ texts.lines (stated_text stated) ++ rest → stated_at line text ≡ Ok (stated, rest)
+unfolding stated_at
+stated_again line text stated rest is = go stated.choice is
+  where
+    go : (choice : Choice) → text ≡ texts.lines (choice_text choice) ++ rest → ◌≡◌ {A = Result (Stated × List ℕ) CertificateFault} (Ok (record { choice = Plain }, text)) (Ok (record { choice = choice }, rest))
+    go Plain is = ap (λ (t : List ℕ). fine (record { choice = Plain }, t)) is
+
+pub head_again : (text : List ℕ) (spelling : Spelling) (rest : List ℕ) → IsSpelling spelling → text ≡ texts.lines (head_of spelling) ++ rest → head_at text ≡ Ok (spelling, rest)
+unfolding head_at kind_at
+head_again text spelling rest known is = go spelling.version spelling.width known is
+  where
+    kind : Kind
+    kind = spelling.kind
+
+    stated : Stated
+    stated = spelling.stated
+
+    behind_kind : List ℕ
+    behind_kind = texts.lines (stated_text stated) ++ rest
+
+    behind_version : List ℕ
+    behind_version = kind_line kind ++ 10 ∷ behind_kind
+
+    made : (width : ℕ) → Stated → Spelling
+    made width stated = record { kind = kind; version = One; width = width; stated = stated }
+
+    go : (version : Version) (width : ℕ) → IsWidthOf version width
+        → text ≡ texts.lines (version_line version ∷ kind_line kind ∷ stated_text stated) ++ rest
+        → head_at text ≡ Ok (record { kind = kind; version = version; width = width; stated = stated }, rest)
+    go One width known is =
+        let first : fixed_at 1 (version_line One) text ≡ Ok behind_version =
+        fixed_again 1 (version_line One) text behind_version (is ∙ head_then (version_line One) (kind_line kind) (texts.lines (stated_text stated)) rest) refl in
+        let second : kind_at 2 behind_version ≡ Ok (kind, behind_kind) =
+        ap (λ r. r >>= λ first. kind_in 2 first.0 >>= λ kind. fine (kind, first.1)) (line_again 2 behind_version (kind_line kind) behind_kind refl (kind_none kind))
+        ∙ ap (λ r. r >>= λ kind. fine (kind, behind_kind)) (kind_again 2 kind) in
+        ap (λ r. r >>= λ rest. kind_at 2 rest >>= λ kind. stated_at 3 kind.1 >>= λ stated. fine (record { kind = kind.0; version = One; width = 64; stated = stated.0 }, stated.1)) first
+        ∙ ap (λ r. r >>= λ kind. stated_at 3 kind.1 >>= λ stated. fine (record { kind = kind.0; version = One; width = 64; stated = stated.0 }, stated.1)) second
+        ∙ ap (λ r. r >>= λ stated. fine (made 64 stated.0, stated.1)) (stated_again 3 behind_kind stated rest refl)
+        ∙ ap (λ (w : ℕ). fine (made w stated, rest)) (sym known)
+
 pub readable : (bytes : List ℕ) (text : Text) → Spells bytes text → text_of bytes ≡ Ok text
-unfolding text_of kind_at weight_at
+unfolding text_of weight_at
 readable bytes text is =
     let c = text.certificate in
     let n = plan_lines c.plan in
-    let first : fixed_at 1 (codes "pbnf-certificate 1") bytes ≡ Ok is.kind_line = fixed_again 1 (codes "pbnf-certificate 1") bytes is.kind_line is.head refl in
-    let kind : kind_at 2 is.kind_line ≡ Ok (text.kind, is.weight_line) =
-    ap (λ r. r >>= λ first. kind_in 2 first.0 >>= λ kind. fine (kind, first.1)) (line_again 2 is.kind_line (kind_text text.kind) is.weight_line is.kind (kind_none text.kind))
-    ∙ ap (λ r. r >>= λ kind. fine (kind, is.weight_line)) (kind_again 2 text.kind) in
-    let weight : weight_at 3 is.weight_line ≡ Ok (c.weight, is.plan_part) =
-    ap (λ r. r >>= λ first. weight_in 3 first.0 >>= λ weight. fine (weight, first.1)) (line_again 3 is.weight_line is.weight_words is.plan_part is.weight.0 (weight_none is.weight_words c.weight is.weight.1))
-    ∙ ap (λ r. r >>= λ weight. fine (weight, is.plan_part)) (weight_again 3 is.weight_words c.weight is.weight.1) in
-    let plan : plan_at 4 is.plan_part ≡ Ok (c.plan, is.count_line) = plan_again 4 is.plan_part c.plan is.count_line is.plan in
-    let body : body_at (4 + n) is.count_line ≡ Ok c.lines = body_again (4 + n) is.count_line is.row_part is.end_line c.lines is.count is.rows is.end in
-    ap (λ r. r >>= λ rest. kind_at 2 rest >>= λ kind. weight_at 3 kind.1 >>= λ weight. plan_at 4 weight.1 >>= λ plan. body_at (4 + plan_lines plan.0) plan.1 >>= λ rows. fine (record { kind = kind.0; certificate = record { weight = weight.0; plan = plan.0; lines = rows }; first = 5 + plan_lines plan.0 })) first
-    ∙ ap (λ r. r >>= λ kind. weight_at 3 kind.1 >>= λ weight. plan_at 4 weight.1 >>= λ plan. body_at (4 + plan_lines plan.0) plan.1 >>= λ rows. fine (record { kind = kind.0; certificate = record { weight = weight.0; plan = plan.0; lines = rows }; first = 5 + plan_lines plan.0 })) kind
-    ∙ ap (λ r. r >>= λ weight. plan_at 4 weight.1 >>= λ plan. body_at (4 + plan_lines plan.0) plan.1 >>= λ rows. fine (record { kind = text.kind; certificate = record { weight = weight.0; plan = plan.0; lines = rows }; first = 5 + plan_lines plan.0 })) weight
-    ∙ ap (λ r. r >>= λ plan. body_at (4 + plan_lines plan.0) plan.1 >>= λ rows. fine (record { kind = text.kind; certificate = record { weight = c.weight; plan = plan.0; lines = rows }; first = 5 + plan_lines plan.0 })) plan
-    ∙ ap (λ r. r >>= λ rows. fine (record { kind = text.kind; certificate = record { weight = c.weight; plan = c.plan; lines = rows }; first = 5 + n })) body
-    ∙ ap (λ (k : ℕ). fine (record { kind = text.kind; certificate = c; first = k })) (sym is.first)
+    let line = weight_line text.spelling in
+    let head : head_at bytes ≡ Ok (text.spelling, is.weight_line) = head_again bytes text.spelling is.weight_line is.known is.head in
+    let weight : weight_at line is.weight_line ≡ Ok (c.weight, is.plan_part) =
+    ap (λ r. r >>= λ first. weight_in line first.0 >>= λ weight. fine (weight, first.1)) (line_again line is.weight_line is.weight_words is.plan_part is.weight.0 (weight_none is.weight_words c.weight is.weight.1))
+    ∙ ap (λ r. r >>= λ weight. fine (weight, is.plan_part)) (weight_again line is.weight_words c.weight is.weight.1) in
+    let plan : plan_at (line + 1) is.plan_part ≡ Ok (c.plan, is.count_line) = plan_again (line + 1) is.plan_part c.plan is.count_line is.plan in
+    let body : body_at (line + 1 + n) is.count_line ≡ Ok c.lines = body_again (line + 1 + n) is.count_line is.row_part is.end_line c.lines is.count is.rows is.end in
+    ap (λ r. r >>= λ head. weight_at (weight_line head.0) head.1 >>= λ weight. plan_at (weight_line head.0 + 1) weight.1 >>= λ plan. body_at (weight_line head.0 + 1 + plan_lines plan.0) plan.1 >>= λ rows. fine (record { spelling = head.0; certificate = record { weight = weight.0; plan = plan.0; lines = rows }; first = first_line head.0 plan.0 })) head
+    ∙ ap (λ r. r >>= λ weight. plan_at (line + 1) weight.1 >>= λ plan. body_at (line + 1 + plan_lines plan.0) plan.1 >>= λ rows. fine (record { spelling = text.spelling; certificate = record { weight = weight.0; plan = plan.0; lines = rows }; first = first_line text.spelling plan.0 })) weight
+    ∙ ap (λ r. r >>= λ plan. body_at (line + 1 + plan_lines plan.0) plan.1 >>= λ rows. fine (record { spelling = text.spelling; certificate = record { weight = c.weight; plan = plan.0; lines = rows }; first = first_line text.spelling plan.0 })) plan
+    ∙ ap (λ r. r >>= λ rows. fine (record { spelling = text.spelling; certificate = record { weight = c.weight; plan = c.plan; lines = rows }; first = first_line text.spelling c.plan })) body
+    ∙ ap (λ (k : ℕ). fine (record { spelling = text.spelling; certificate = c; first = k })) (sym is.first)

@@ -1,5 +1,5 @@
 -- What is read is spelled so.
-use Rattle.std.proofs.Common.{◌≡◌, ℕ, zero, suc, ◌+◌, ◌*◌, Bool, true, false, cond, eqb, ltb, Option, None, Some, List, [], ◌∷◌, ◌++◌, length, Result, Ok, Err, refl, sym, ap, ◌∙◌, subst}
+use Rattle.std.proofs.Common.{◌≡◌, ℕ, zero, suc, ◌+◌, ◌*◌, Bool, true, false, cond, eqb, ltb, Option, None, Some, List, [], ◌∷◌, ◌++◌, length, Result, Ok, Err, refl, sym, ap, ◌∙◌, subst, append_assoc}
 use Rattle.std.proofs.lemmas.Option.{same_Some}
 use Rattle.std.specs.Prelude.{codes}
 use Rattle.std.specs.List.{list_all}
@@ -8,16 +8,22 @@ use Rattle.std.proofs.lemmas.Bool.{eqb-true, and_from}
 use Rattle.pb_model.specs.Weight.{Weight}
 use Rattle.pb_model.specs.Plan.{Plan}
 use Rattle.pb_model.specs.Certificate.{Line}
-use Rattle.pb_check.specs.declared.kind.TaskKind.{TaskKind}
-use Rattle.pb_check.specs.declared.kind.TaskKind.TheVariants.{Grid, Tiles, Strips}
+use Rattle.pb_model.specs.Texts as texts
+use Rattle.pb_task.specs.declared.kind.Kind.{Kind}
+use Rattle.pb_task.specs.declared.kind.Kind.TheVariants.{Grid, Tiles, Strips}
+use Rattle.pb_estimate.specs.declared.choice.Choice.TheVariants.{Plain}
+use Rattle.pb_estimate.specs.declared.spelling.Stated.{Stated}
+use Rattle.pb_estimate.specs.declared.spelling.Spelling.{Spelling}
+use Rattle.pb_estimate.specs.declared.spelling.Version.TheVariants.{One}
+use Rattle.pb_estimate.specs.Spelling.{IsSpelling, version_line, kind_line, stated_text, head_of}
 use Rattle.pb_check.specs.declared.fault.CertificateFault.{CertificateFault}
 use Rattle.pb_check.specs.declared.fault.CertificateFault.TheVariants.{Syntax}
 use Rattle.pb_lines.specs.Words.{part, behind, is_text, number_of}
 use Rattle.pb_lines.proofs.Callers.{IsNumberWord, number_word_of, if_some, part_is, behind_is, text_is}
 use Rattle.pb_check.specs.Words.{hex_value, hex_after, state_of}
 use Rattle.pb_check.specs.Faults.{◌>>=◌, wanted}
-use Rattle.pb_check.specs.Reading.{line_at, number_behind, kind_in, weight_in, closed_in, row_in, fixed_at, number_at, kind_at, weight_at, row_at, actions_at, rows_at, steps_at, plan_at, plan_lines, Text, end_at, body_at, text_of}
-use Rattle.pb_check.proofs.Lines.{hex_value_after, IsStateWord, BeginsWith, BeginsWithNumber, kind_text, closed_text, IsWeightLine, IsRowLine, AreActionLines, AreRowLines, ArePlanLines, Spells}
+use Rattle.pb_check.specs.Reading.{line_at, number_behind, kind_in, weight_in, closed_in, row_in, fixed_at, number_at, kind_at, stated_at, head_at, weight_at, row_at, actions_at, rows_at, steps_at, plan_at, plan_lines, weight_line, first_line, Text, end_at, body_at, stated_choice, choice_in, text_of}
+use Rattle.pb_check.proofs.Lines.{hex_value_after, IsStateWord, BeginsWith, BeginsWithNumber, closed_text, IsWeightLine, IsRowLine, AreActionLines, AreRowLines, ArePlanLines, Spells}
 
 pub bind_ok : {A B : Type 0} (r : Result A CertificateFault) (f : A → Result B CertificateFault) (y : B) → (r >>= f) ≡ Ok y → (x : A) × (r ≡ Ok x) × (f x ≡ Ok y)
 bind_ok (Ok x) f y e = (x, refl, e)
@@ -88,14 +94,14 @@ closed_is line text c e = go (is_text (codes "closed") text) (is_text (codes "cu
     go false true x y e = text_is (codes "cut") text y ∙ ap closed_text (ok_is false c e)
     go false false x y e = absurd cc
 
-kind_is : (line : ℕ) (text : List ℕ) (k : TaskKind) → kind_in line text ≡ Ok k → text ≡ kind_text k
+kind_is : (line : ℕ) (text : List ℕ) (k : Kind) → kind_in line text ≡ Ok k → text ≡ kind_line k
 unfolding kind_in
-kind_is line text k e = go (is_text (codes "kind grid") text) (is_text (codes "kind tiles") text) (is_text (codes "kind strips") text) refl refl refl e
+kind_is line text k e = go (is_text (kind_line Grid) text) (is_text (kind_line Tiles) text) (is_text (kind_line Strips) text) refl refl refl e
   where
-    go : (a b c : Bool) → is_text (codes "kind grid") text ≡ a → is_text (codes "kind tiles") text ≡ b → is_text (codes "kind strips") text ≡ c → cond a (Ok Grid) (cond b (Ok Tiles) (cond c (Ok Strips) (Err (Syntax line)))) ≡ Ok k → text ≡ kind_text k
-    go true b c x y z e = text_is (codes "kind grid") text x ∙ ap kind_text (ok_is Grid k e)
-    go false true c x y z e = text_is (codes "kind tiles") text y ∙ ap kind_text (ok_is Tiles k e)
-    go false false true x y z e = text_is (codes "kind strips") text z ∙ ap kind_text (ok_is Strips k e)
+    go : (a b c : Bool) → is_text (kind_line Grid) text ≡ a → is_text (kind_line Tiles) text ≡ b → is_text (kind_line Strips) text ≡ c → cond a (Ok Grid) (cond b (Ok Tiles) (cond c (Ok Strips) (Err (Syntax line)))) ≡ Ok k → text ≡ kind_line k
+    go true b c x y z e = text_is (kind_line Grid) text x ∙ ap kind_line (ok_is Grid k e)
+    go false true c x y z e = text_is (kind_line Tiles) text y ∙ ap kind_line (ok_is Tiles k e)
+    go false false true x y z e = text_is (kind_line Strips) text z ∙ ap kind_line (ok_is Strips k e)
     go false false false x y z e = absurd cc
 
 weight_is : (line : ℕ) (text : List ℕ) (w : Weight) → weight_in line text ≡ Ok w → IsWeightLine text w
@@ -132,12 +138,37 @@ row_is line text row e =
       g_is = number_word_of b.0.0 d.0 (wanted_ok line (number_of b.0.0) d.0 d.1);
     })
 
-kind_line_is : (line : ℕ) (text : List ℕ) (x : TaskKind × List ℕ) → kind_at line text ≡ Ok x → BeginsWith text (kind_text x.0) x.1
+kind_line_is : (line : ℕ) (text : List ℕ) (x : Kind × List ℕ) → kind_at line text ≡ Ok x → BeginsWith text (kind_line x.0) x.1
 unfolding kind_at
 kind_line_is line text x e =
     let b = bind_ok (line_at line text) _ x e in
     let c = bind_ok (kind_in line b.0.0) _ x b.2 in
-    subst (λ (y : TaskKind × List ℕ). BeginsWith text (kind_text y.0) y.1) (ok_is (c.0, b.0.1) x c.2) (line_is line text b.0 b.1 ∙ ap (λ (t : List ℕ). t ++ 10 ∷ b.0.1) (kind_is line b.0.0 c.0 c.1))
+    subst (λ (y : Kind × List ℕ). BeginsWith text (kind_line y.0) y.1) (ok_is (c.0, b.0.1) x c.2) (line_is line text b.0 b.1 ∙ ap (λ (t : List ℕ). t ++ 10 ∷ b.0.1) (kind_is line b.0.0 c.0 c.1))
+
+-- two lines, other lines, and what follows
+pub head_then : (first second others rest : List ℕ) → (texts.line first ++ (texts.line second ++ others)) ++ rest ≡ first ++ 10 ∷ (second ++ 10 ∷ (others ++ rest))
+head_then first second others rest =
+    append_assoc (texts.line first) (texts.line second ++ others) rest
+    ∙ ap (λ (t : List ℕ). texts.line first ++ t) (append_assoc (texts.line second) others rest ∙ append_assoc second (10 ∷ []) (others ++ rest))
+    ∙ append_assoc first (10 ∷ []) (second ++ 10 ∷ (others ++ rest))
+
+stated_is : (line : ℕ) (text : List ℕ) (x : Stated × List ℕ) → stated_at line text ≡ Ok x → text ≡ texts.lines (stated_text x.0) ++ x.1
+unfolding stated_at
+stated_is line text x e = subst (λ (y : Stated × List ℕ). text ≡ texts.lines (stated_text y.0) ++ y.1) (ok_is (record { choice = Plain }, text) x e) refl
+
+pub head_is : (text : List ℕ) (x : Spelling × List ℕ) → head_at text ≡ Ok x → (text ≡ texts.lines (head_of x.0) ++ x.1) × IsSpelling x.0
+unfolding head_at
+head_is text x e =
+    let a = bind_ok (fixed_at 1 (version_line One) text) _ x e in
+    let b = bind_ok (kind_at 2 a.0) _ x a.2 in
+    let c = bind_ok (stated_at 3 b.0.1) _ x b.2 in
+    let made : Spelling = record { kind = b.0.0; version = One; width = 64; stated = c.0.0 } in
+    let others : List ℕ = texts.lines (stated_text c.0.0) in
+    let is : text ≡ texts.lines (head_of made) ++ c.0.1 =
+    fixed_is 1 (version_line One) text a.0 a.1
+    ∙ ap (λ (t : List ℕ). version_line One ++ 10 ∷ t) (kind_line_is 2 a.0 b.0 b.1 ∙ ap (λ (t : List ℕ). kind_line b.0.0 ++ 10 ∷ t) (stated_is 3 b.0.1 c.0 c.1))
+    ∙ sym (head_then (version_line One) (kind_line b.0.0) others c.0.1) in
+    subst (λ (y : Spelling × List ℕ). (text ≡ texts.lines (head_of y.0) ++ y.1) × IsSpelling y.0) (ok_is (made, c.0.1) x c.2) (is, refl)
 
 weight_line_is : (line : ℕ) (text : List ℕ) (x : Weight × List ℕ) → weight_at line text ≡ Ok x → (words : List ℕ) × BeginsWith text words x.1 × IsWeightLine words x.0
 unfolding weight_at
@@ -231,27 +262,39 @@ body_is line text rows e =
 pub spelled : (bytes : List ℕ) (text : Text) → text_of bytes ≡ Ok text → Spells bytes text
 unfolding text_of
 spelled bytes text e =
-    let a = bind_ok (fixed_at 1 (codes "pbnf-certificate 1") bytes) _ text e in
-    let b = bind_ok (kind_at 2 a.0) _ text a.2 in
-    let c = bind_ok (weight_at 3 b.0.1) _ text b.2 in
-    let d = bind_ok (plan_at 4 c.0.1) _ text c.2 in
-    let f = bind_ok (body_at (4 + plan_lines d.0.0) d.0.1) _ text d.2 in
-    let w = weight_line_is 3 b.0.1 c.0 c.1 in
-    let body : IsBody d.0.1 f.0 = body_is (4 + plan_lines d.0.0) d.0.1 f.0 f.1 in
-    subst (Spells bytes) (ok_is (record { kind = b.0.0; certificate = record { weight = c.0.0; plan = d.0.0; lines = f.0 }; first = 5 + plan_lines d.0.0 }) text f.2) (record {
-      kind_line = a.0;
-      weight_line = b.0.1;
-      plan_part = c.0.1;
-      count_line = d.0.1;
+    let a = bind_ok (head_at bytes) _ text e in
+    let line = weight_line a.0.0 in
+    let b = bind_ok (weight_at line a.0.1) _ text a.2 in
+    let c = bind_ok (plan_at (line + 1) b.0.1) _ text b.2 in
+    let d = bind_ok (body_at (line + 1 + plan_lines c.0.0) c.0.1) _ text c.2 in
+    let h = head_is bytes a.0 a.1 in
+    let w = weight_line_is line a.0.1 b.0 b.1 in
+    let body : IsBody c.0.1 d.0 = body_is (line + 1 + plan_lines c.0.0) c.0.1 d.0 d.1 in
+    subst (Spells bytes) (ok_is (record { spelling = a.0.0; certificate = record { weight = b.0.0; plan = c.0.0; lines = d.0 }; first = first_line a.0.0 c.0.0 }) text d.2) (record {
+      weight_line = a.0.1;
+      plan_part = b.0.1;
+      count_line = c.0.1;
       row_part = body.row_part;
       end_line = body.end_line;
       weight_words = w.0;
-      head = fixed_is 1 (codes "pbnf-certificate 1") bytes a.0 a.1;
-      kind = kind_line_is 2 a.0 b.0 b.1;
+      known = h.1;
+      head = h.0;
       weight = (w.1, w.2);
-      plan = plan_is 4 c.0.1 d.0 d.1;
+      plan = plan_is (line + 1) b.0.1 c.0 c.1;
       count = body.count;
       rows = body.rows_are;
       end = body.end;
       first = refl;
     })
+
+-- the choice of an estimate that is read of a text is the one that its first lines state
+pub choice_is : (bytes : List ℕ) (text : Text) → text_of bytes ≡ Ok text → stated_choice bytes ≡ text.spelling.stated.choice
+unfolding text_of
+choice_is bytes text e =
+    let a = bind_ok (head_at bytes) _ text e in
+    let line = weight_line a.0.0 in
+    let b = bind_ok (weight_at line a.0.1) _ text a.2 in
+    let c = bind_ok (plan_at (line + 1) b.0.1) _ text b.2 in
+    let d = bind_ok (body_at (line + 1 + plan_lines c.0.0) c.0.1) _ text c.2 in
+    ap choice_in a.1
+    ∙ ap (λ (t : Text). t.spelling.stated.choice) (ok_is (record { spelling = a.0.0; certificate = record { weight = b.0.0; plan = c.0.0; lines = d.0 }; first = first_line a.0.0 c.0.0 }) text d.2)

@@ -47,7 +47,7 @@ digits_are_values (suc count) n =
     ap are_values (one_more count n) ∙ list_all-append (λ b. ltb (hex_value b) 16) (hex_digits count (n / 16)) (hex_digit (n % 16) ∷ [])
     ∙ and_from (are_values (hex_digits count (n / 16))) (ltb (hex_value (hex_digit (n % 16))) 16 && true) (digits_are_values count (n / 16)) (and_from (ltb (hex_value (hex_digit (n % 16))) 16) true last refl)
 
-pub state_word : (word : List ℕ) (state : ℕ) → word ≡ hex_digits 64 state → state < 2 ^ 256 → IsStateWord word state
+pub state_word : (word : List ℕ) (state : ℕ) → word ≡ hex_digits 64 state → state < 16 ^ 64 → IsStateWord word state
 state_word word state is small = subst (λ w. IsStateWord w state) (sym is) (record {
   sixty_four = (digits_are_hex 64 state).0;
   digits = digits_are_values 64 state;
@@ -78,7 +78,7 @@ value_is_small n (b ∷ bs) e =
     let more : (n * 16 + hex_value b + 1) * 16 ^ length bs ≤ ((n + 1) * 16) * 16 ^ length bs = mul-le-mul_right (16 ^ length bs) le in
     omega (arith, rest, power, more)
 
-pub state_word_is : (word : List ℕ) (state : ℕ) → IsStateWord word state → (word ≡ hex_digits 64 state) × (state < 2 ^ 256)
+pub state_word_is : (word : List ℕ) (state : ℕ) → IsStateWord word state → (word ≡ hex_digits 64 state) × (state < 16 ^ 64)
 state_word_is word state is =
     let long : 0 + length word ≡ 64 = (let l = is.sixty_four in omega (arith, l)) in
     let digits : hex_digits (0 + length word) (hex_value_after 0 word) ≡ hex_digits 0 0 ++ word = digits_of_value 0 0 word is.digits in

@@ -15,8 +15,12 @@ use Rattle.pb_model.specs.Weight.{Weight, IsWeight}
 use Rattle.pb_model.specs.Plan.{Plan, Walk, IsPlan}
 use Rattle.pb_model.specs.Store.{MayBeCut}
 use Rattle.pb_model.specs.Certificate.{Line, Ascends, HasLineWithin, IsPlanIfAny, IsClosedLine, IsValid, cost_of}
-use Rattle.pb_check.specs.declared.kind.TaskKind.{TaskKind}
-use Rattle.pb_check.specs.declared.kind.TaskKind.TheVariants.{Grid, Tiles, Strips}
+use Rattle.pb_task.specs.declared.kind.Kind.{Kind}
+use Rattle.pb_task.specs.declared.kind.Kind.TheVariants.{Grid, Tiles, Strips}
+use Rattle.pb_task.specs.declared.parts.TaskParts.{TaskParts}
+use Rattle.pb_task.specs.Parts.{space_of}
+use Rattle.pb_task.specs.Kinds.{kind_of}
+use Rattle.pb_estimate.specs.Estimates.{estimate_by}
 use Rattle.pb_check.specs.declared.fault.CertificateFault.{CertificateFault}
 use Rattle.pb_check.specs.declared.fault.CertificateFault.TheVariants as faults
 use Rattle.pb_check.specs.declared.fault.Verdict.{Verdict}
@@ -25,9 +29,8 @@ use Rattle.pb_check.specs.declared.fault.CheckError.{CheckError}
 use Rattle.pb_check.specs.Shown.{IsAccepted}
 use Rattle.pb_check.specs.Faults.{◌>>=◌, Gives}
 use Rattle.pb_check.specs.Reading.{Text, text_of}
-use Rattle.pb_check.specs.Judging.{passes, or_then, unless, same_kind, is_weight, after_step, walk, plan_fault, plan_fault_if_any, AreAbove, Rise, rows_order_fault, first_fault_by, state_fault, g_of, is_zero, target_fault, step_fault, steps_fault, may_be_cut, row_fault, verdict_of, judged, checked}
+use Rattle.pb_check.specs.Judging.{passes, or_then, unless, same_kind, stated_fault, is_weight, after_step, walk, plan_fault, plan_fault_if_any, AreAbove, Rise, rows_order_fault, first_fault_by, state_fault, g_of, is_zero, target_fault, step_fault, steps_fault, may_be_cut, row_fault, verdict_of, judged, checked}
 use Rattle.pb_check.proofs.Finding.{order_rises}
-use Rattle.pb_check.specs.Spelling.{IsSpelled}
 use Rattle.pb_check.proofs.Spelled.{bind_ok, ok_is, spelled}
 use Rattle.pb_check.proofs.Written.{is_spelled}
 
@@ -47,7 +50,7 @@ first_none (Some f) b e = absurd cc
 
 -- ---- kind and weight
 
-kinds_same : (a b : TaskKind) → same_kind a b ≡ true → b ≡ a
+kinds_same : (a b : Kind) → same_kind a b ≡ true → b ≡ a
 kinds_same Grid Grid e = refl
 kinds_same Tiles Tiles e = refl
 kinds_same Strips Strips e = refl
@@ -199,22 +202,35 @@ module _ (space : Space) (greatest : ℕ) (estimate : ℕ → Estimate) (weight 
 
 -- ---- all together
 
-pub judged_valid : (space : Space) (greatest : ℕ) (estimate : ℕ → Estimate) (kind : TaskKind) (text : Text) (verdict : Verdict) → IsProper space greatest → judged space estimate kind text ≡ Ok verdict
-    → (text.kind ≡ kind) × IsValid space estimate text.certificate × (verdict ≡ verdict_of text.certificate.weight text.certificate.plan)
+abbrev stated_estimate : TaskParts → Text → ℕ → Estimate
+stated_estimate parts text = estimate_by parts text.spelling.stated.choice
+
+pub record IsJudged (parts : TaskParts) (text : Text) (verdict : Verdict) : Type 0 where
+  pub kind : text.spelling.kind ≡ kind_of parts
+  pub stated : stated_fault parts text.spelling.stated ≡ None
+  pub valid : IsValid (space_of parts) (stated_estimate parts text) text.certificate
+  pub verdict_is : verdict ≡ verdict_of text.certificate.weight text.certificate.plan
+
+pub judged_valid : (parts : TaskParts) (greatest : ℕ) (text : Text) (verdict : Verdict) → IsProper (space_of parts) greatest → judged parts text ≡ Ok verdict → IsJudged parts text verdict
 unfolding judged
-judged_valid space greatest estimate kind text verdict proper e =
+judged_valid parts greatest text verdict proper e =
+    let space = space_of parts in
+    let estimate = stated_estimate parts text in
+    let kind = kind_of parts in
     let lines = text.certificate.lines in
     let weight = text.certificate.weight in
     let best = cost_of text.certificate.plan in
-    let b1 = bind_ok (passes (unless (same_kind kind text.kind) faults.Kind)) _ verdict e in
-    let b2 = bind_ok (passes (unless (is_weight weight) faults.Weight)) _ verdict b1.2 in
+    let b1 = bind_ok (passes (unless (same_kind kind text.spelling.kind) faults.Kind)) _ verdict e in
+    let b0 = bind_ok (passes (stated_fault parts text.spelling.stated)) _ verdict b1.2 in
+    let b2 = bind_ok (passes (unless (is_weight weight) faults.Weight)) _ verdict b0.2 in
     let b3 = bind_ok (plan_fault_if_any space text.certificate.plan) _ verdict b2.2 in
     let b4 = bind_ok (passes (rows_order_fault text.first lines)) _ verdict b3.2 in
     let b5 = bind_ok (passes (first_fault_by (state_fault space) text.first lines)) _ verdict b4.2 in
     let b6 = bind_ok (passes (unless (is_zero (g_of lines space.start)) faults.NoStart)) _ verdict b5.2 in
-    let b7 = bind_ok (passes (first_fault_by (row_fault space estimate weight best lines) text.first lines)) _ verdict b6.2 in (
-      kinds_same kind text.kind (holds (same_kind kind text.kind) faults.Kind (passed (unless (same_kind kind text.kind) faults.Kind) b1.0 b1.1)),
-      record {
+    let b7 = bind_ok (passes (first_fault_by (row_fault space estimate weight best lines) text.first lines)) _ verdict b6.2 in record {
+      kind = kinds_same kind text.spelling.kind (holds (same_kind kind text.spelling.kind) faults.Kind (passed (unless (same_kind kind text.spelling.kind) faults.Kind) b1.0 b1.1));
+      stated = passed (stated_fault parts text.spelling.stated) b0.0 b0.1;
+      valid = record {
         weight = weighs weight (holds (is_weight weight) faults.Weight (passed (unless (is_weight weight) faults.Weight) b2.0 b2.1));
         plan = planned_if_any space text.certificate.plan b3.0 b3.1;
         ascending = ascends lines (order_rises text.first lines (passed (rows_order_fault text.first lines) b4.0 b4.1));
@@ -222,23 +238,26 @@ judged_valid space greatest estimate kind text verdict proper e =
         start = starts lines space.start (holds (is_zero (g_of lines space.start)) faults.NoStart (passed (unless (is_zero (g_of lines space.start)) faults.NoStart) b6.0 b6.1));
         closed = each (row_fault space estimate weight best lines) (λ line. IsTrue line.is_closed → IsClosedLine space lines line) text.first lines (closed_row space greatest estimate weight best lines proper) (passed (first_fault_by (row_fault space estimate weight best lines) text.first lines) b7.0 b7.1);
         cut = each (row_fault space estimate weight best lines) (λ line. IsFalse line.is_closed → MayBeCut weight best line.g (estimate line.state)) text.first lines (cut_row space greatest estimate weight best lines proper) (passed (first_fault_by (row_fault space estimate weight best lines) text.first lines) b7.0 b7.1);
-      },
-      sym (ok_is (verdict_of weight text.certificate.plan) verdict b7.2),
-    )
-
-pub accepted : (space : Space) (greatest : ℕ) (estimate : ℕ → Estimate) (kind : TaskKind) (bytes : List ℕ) (verdict : Verdict) → IsProper space greatest → checked space estimate kind bytes ≡ Ok verdict → IsAccepted space estimate kind bytes verdict
-unfolding checked
-accepted space greatest estimate kind bytes verdict proper e =
-    let b = bind_ok (text_of bytes) (λ text. judged space estimate kind text) verdict e in
-    let v = judged_valid space greatest estimate kind b.0 verdict proper b.2 in
-    record {
-      certificate = b.0.certificate;
-      spelled = subst (λ k. IsSpelled bytes k b.0.certificate) v.0 (is_spelled bytes b.0 (spelled bytes b.0 b.1));
-      valid = v.1;
-      verdict_is = v.2;
+      };
+      verdict_is = sym (ok_is (verdict_of weight text.certificate.plan) verdict b7.2);
     }
 
-pub if_accepted : (space : Space) (greatest : ℕ) (estimate : ℕ → Estimate) (kind : TaskKind) (bytes : List ℕ) (r : Result Verdict CheckError) → IfOk r (λ verdict. IsProper space greatest) → Gives (λ x. x) r (checked space estimate kind bytes)
-    → IfOk r (λ verdict. IsAccepted space estimate kind bytes verdict)
-if_accepted space greatest estimate kind bytes (Ok verdict) proper e = accepted space greatest estimate kind bytes verdict proper e
-if_accepted space greatest estimate kind bytes (Err fault) proper e = tt
+pub accepted : (parts : TaskParts) (greatest : ℕ) (bytes : List ℕ) (verdict : Verdict) → IsProper (space_of parts) greatest → checked parts bytes ≡ Ok verdict → IsAccepted parts bytes verdict
+unfolding checked
+accepted parts greatest bytes verdict proper e =
+    let b = bind_ok (text_of bytes) (λ text. judged parts text) verdict e in
+    let v = judged_valid parts greatest b.0 verdict proper b.2 in
+    record {
+      spelling = b.0.spelling;
+      certificate = b.0.certificate;
+      spelled = is_spelled bytes b.0 (spelled bytes b.0 b.1);
+      kind = v.kind;
+      stated = v.stated;
+      valid = v.valid;
+      verdict_is = v.verdict_is;
+    }
+
+pub if_accepted : (parts : TaskParts) (greatest : ℕ) (bytes : List ℕ) (r : Result Verdict CheckError) → IfOk r (λ verdict. IsProper (space_of parts) greatest) → Gives (λ x. x) r (checked parts bytes)
+    → IfOk r (λ verdict. IsAccepted parts bytes verdict)
+if_accepted parts greatest bytes (Ok verdict) proper e = accepted parts greatest bytes verdict proper e
+if_accepted parts greatest bytes (Err fault) proper e = tt

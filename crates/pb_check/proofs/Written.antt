@@ -1,5 +1,5 @@
 -- What is spelled line by line is the text of a certificate, and the other way round.
-use Rattle.std.proofs.Common.{◌≡◌, ℕ, ◌+◌, ◌^◌, ◌<◌, Bool, true, false, if◌then◌else◌, Option, None, Some, List, [], ◌∷◌, ◌++◌, length, map, All, refl, sym, ap, ◌∙◌, append_assoc, append-nil}
+use Rattle.std.proofs.Common.{◌≡◌, ℕ, ◌^◌, ◌<◌, Bool, true, false, if◌then◌else◌, Option, None, Some, List, [], ◌∷◌, ◌++◌, length, map, All, Ok, refl, sym, ap, ◌∙◌, subst, append_assoc}
 use Rattle.std.specs.Prelude.{codes}
 use Rattle.std.specs.Fmt.{decimal}
 use Rattle.std.proofs.lemmas.List.Elements.{All-nil, All-cons, All-head, All-tail}
@@ -8,13 +8,14 @@ use Rattle.pb_model.specs.Weight.{Weight}
 use Rattle.pb_model.specs.Plan.{Plan}
 use Rattle.pb_model.specs.Certificate.{Line, Certificate}
 use Rattle.pb_model.specs.Texts as texts
-use Rattle.pb_check.specs.declared.kind.TaskKind.{TaskKind}
-use Rattle.pb_check.specs.declared.kind.TaskKind.TheVariants.{Grid, Tiles, Strips}
-use Rattle.pb_check.specs.Kinds.{kind_name}
-use Rattle.pb_check.specs.Reading.{Text, plan_lines}
-use Rattle.pb_check.specs.Spelling.{PlanFitsIfAny, IsSpelled, ReadAsSpelled}
-use Rattle.pb_check.proofs.Lines.{BeginsWithNumber, kind_text, closed_text, IsWeightLine, IsRowLine, AreActionLines, AreRowLines, ArePlanLines, Spells}
-use Rattle.pb_check.proofs.Spelled.{spelled}
+use Rattle.pb_estimate.specs.declared.spelling.Spelling.{Spelling}
+use Rattle.pb_estimate.specs.declared.spelling.Version.{Version}
+use Rattle.pb_estimate.specs.declared.spelling.Version.TheVariants.{One}
+use Rattle.pb_estimate.specs.Spelling.{IsWidthOf, head_of}
+use Rattle.pb_check.specs.Reading.{Text, first_line, text_of}
+use Rattle.pb_check.specs.Spelling.{PlanFitsIfAny, Fits, IsSpelled, ReadAsSpelled, TextsHaveOneSpelling}
+use Rattle.pb_check.proofs.Lines.{BeginsWithNumber, closed_text, IsWeightLine, IsRowLine, AreActionLines, AreRowLines, ArePlanLines, Spells}
+use Rattle.pb_check.proofs.Spelled.{ok_is, spelled}
 use Rattle.pb_check.proofs.Readable.{readable}
 use Rattle.pb_lines.proofs.Callers.{number_word, number_word_is}
 use Rattle.pb_check.proofs.States.{state_word, state_word_is}
@@ -54,7 +55,7 @@ lines_of_actions text (action ∷ actions) rest is small =
 -- ---- rows
 
 abbrev IsSmall : Line → Type 0
-IsSmall row = (row.state < 2 ^ 256) × (row.g < 2 ^ 63)
+IsSmall row = (row.state < 16 ^ 64) × (row.g < 2 ^ 63)
 
 end_of_row : (is_closed : Bool) → closed_text is_closed ≡ (if is_closed then codes "closed" else codes "cut")
 end_of_row true = refl
@@ -150,25 +151,16 @@ line_of_weight weight small = record {
 
 -- ---- all together
 
-kind_is : (kind : TaskKind) → kind_text kind ≡ codes "kind " ++ kind_name kind
-kind_is Grid = refl
-kind_is Tiles = refl
-kind_is Strips = refl
-
 -- the parts of a text, one after another and each with the rest behind it
-cat : (head kind weight plan count rows end : List ℕ)
-    → ((((texts.line head ++ (texts.line kind ++ [])) ++ texts.line weight) ++ plan) ++ (texts.line count ++ rows)) ++ end
-    ≡ head ++ 10 ∷ (kind ++ 10 ∷ (weight ++ 10 ∷ (plan ++ (texts.line count ++ (rows ++ end)))))
-cat head kind weight plan count rows end =
-    append_assoc (((texts.line head ++ (texts.line kind ++ [])) ++ texts.line weight) ++ plan) (texts.line count ++ rows) end
-    ∙ append_assoc ((texts.line head ++ (texts.line kind ++ [])) ++ texts.line weight) plan ((texts.line count ++ rows) ++ end)
-    ∙ append_assoc (texts.line head ++ (texts.line kind ++ [])) (texts.line weight) (plan ++ ((texts.line count ++ rows) ++ end))
-    ∙ append_assoc (texts.line head) (texts.line kind ++ []) (texts.line weight ++ (plan ++ ((texts.line count ++ rows) ++ end)))
-    ∙ ap (λ (t : List ℕ). texts.line head ++ (t ++ (texts.line weight ++ (plan ++ ((texts.line count ++ rows) ++ end))))) (append-nil (texts.line kind))
-    ∙ ap (λ (t : List ℕ). texts.line head ++ (texts.line kind ++ (texts.line weight ++ (plan ++ t)))) (append_assoc (texts.line count) rows end)
-    ∙ ap (λ (t : List ℕ). texts.line head ++ (texts.line kind ++ t)) (line_then weight (plan ++ (texts.line count ++ (rows ++ end))))
-    ∙ ap (λ (t : List ℕ). texts.line head ++ t) (line_then kind (weight ++ 10 ∷ (plan ++ (texts.line count ++ (rows ++ end)))))
-    ∙ line_then head (kind ++ 10 ∷ (weight ++ 10 ∷ (plan ++ (texts.line count ++ (rows ++ end)))))
+cat : (head weight plan count rows end : List ℕ)
+    → (((head ++ texts.line weight) ++ plan) ++ (texts.line count ++ rows)) ++ end
+    ≡ head ++ (weight ++ 10 ∷ (plan ++ (texts.line count ++ (rows ++ end))))
+cat head weight plan count rows end =
+    append_assoc ((head ++ texts.line weight) ++ plan) (texts.line count ++ rows) end
+    ∙ append_assoc (head ++ texts.line weight) plan ((texts.line count ++ rows) ++ end)
+    ∙ append_assoc head (texts.line weight) (plan ++ ((texts.line count ++ rows) ++ end))
+    ∙ ap (λ (t : List ℕ). head ++ (texts.line weight ++ (plan ++ t))) (append_assoc (texts.line count) rows end)
+    ∙ ap (λ (t : List ℕ). head ++ t) (line_then weight (plan ++ (texts.line count ++ (rows ++ end))))
 
 abbrev weight_words : Certificate → List ℕ
 weight_words c = codes "weight " ++ (decimal c.weight.num ++ 32 ∷ decimal c.weight.den)
@@ -194,15 +186,18 @@ from_plan c = texts.plan_text c.plan ++ from_count c
 abbrev from_weight : Certificate → List ℕ
 from_weight c = weight_words c ++ 10 ∷ from_plan c
 
-abbrev from_kind : TaskKind → Certificate → List ℕ
-from_kind kind c = (codes "kind " ++ kind_name kind) ++ 10 ∷ from_weight c
+whole : (head : List (List ℕ)) (c : Certificate) → texts.certificate_text head 64 c ≡ texts.lines head ++ from_weight c
+whole head c = cat (texts.lines head) (weight_words c) (texts.plan_text c.plan) (count_words c) (row_lines c) end_line
 
-whole : (kind : TaskKind) (c : Certificate) → texts.certificate_text (texts.head_1 (kind_name kind)) 64 c ≡ codes "pbnf-certificate 1" ++ 10 ∷ from_kind kind c
-whole kind c = cat (codes "pbnf-certificate 1") (codes "kind " ++ kind_name kind) (weight_words c) (texts.plan_text c.plan) (count_words c) (row_lines c) end_line
+-- each version that is read has 64 digits
+sixty_four : (version : Version) (width : ℕ) → IsWidthOf version width → width ≡ 64
+sixty_four One width is = is
 
-pub is_spelled : (bytes : List ℕ) (text : Text) → Spells bytes text → IsSpelled bytes text.kind text.certificate
+pub is_spelled : (bytes : List ℕ) (text : Text) → Spells bytes text → IsSpelled bytes text.spelling text.certificate
 is_spelled bytes text is =
     let c = text.certificate in
+    let head = head_of text.spelling in
+    let width : 64 ≡ text.spelling.width = sym (sixty_four text.spelling.version text.spelling.width is.known) in
     let weight = weight_is is.weight_words c.weight is.weight.1 in
     let plan = plan_is is.plan_part c.plan is.count_line is.plan in
     let count = number_line is.count_line (codes "rows ") (length c.lines) is.row_part is.count in
@@ -211,32 +206,48 @@ is_spelled bytes text is =
     let of_count : is.count_line ≡ from_count c = count.0 ∙ ap (λ (t : List ℕ). texts.line (count_words c) ++ t) of_rows in
     let of_plan : is.plan_part ≡ from_plan c = plan.0 ∙ ap (λ (t : List ℕ). texts.plan_text c.plan ++ t) of_count in
     let of_weight : is.weight_line ≡ from_weight c = is.weight.0 ∙ ap (λ (t : List ℕ). t ++ 10 ∷ is.plan_part) weight ∙ ap (λ (t : List ℕ). weight_words c ++ 10 ∷ t) of_plan in
-    let of_kind : is.kind_line ≡ from_kind text.kind c =
-    is.kind ∙ ap (λ (t : List ℕ). t ++ 10 ∷ is.weight_line) (kind_is text.kind) ∙ ap (λ (t : List ℕ). (codes "kind " ++ kind_name text.kind) ++ 10 ∷ t) of_weight in
+    let fits : Fits 64 c = record { weight = (is.weight.1.num_is.small, is.weight.1.den_is.small); plan = plan.1; count = count.1; lines = rows.1 } in
     record {
-      text = is.head ∙ ap (λ (t : List ℕ). codes "pbnf-certificate 1" ++ 10 ∷ t) of_kind ∙ sym (whole text.kind c);
-      fits = record { weight = (is.weight.1.num_is.small, is.weight.1.den_is.small); plan = plan.1; count = count.1; lines = rows.1 };
+      known = is.known;
+      text = is.head ∙ ap (λ (t : List ℕ). texts.lines head ++ t) of_weight ∙ sym (whole head c) ∙ ap (λ w. texts.certificate_text head w c) width;
+      fits = subst (λ w. Fits w c) width fits;
     }
 
-pub spells : (bytes : List ℕ) (text : Text) → IsSpelled bytes text.kind text.certificate → text.first ≡ 5 + plan_lines text.certificate.plan → Spells bytes text
+pub spells : (bytes : List ℕ) (text : Text) → IsSpelled bytes text.spelling text.certificate → text.first ≡ first_line text.spelling text.certificate.plan → Spells bytes text
 spells bytes text is first =
-    let c = text.certificate in record {
-      kind_line = from_kind text.kind c;
+    let c = text.certificate in
+    let head = head_of text.spelling in
+    let width : text.spelling.width ≡ 64 = sixty_four text.spelling.version text.spelling.width is.known in
+    let fits : Fits 64 c = subst (λ w. Fits w c) width is.fits in
+    record {
       weight_line = from_weight c;
       plan_part = from_plan c;
       count_line = from_count c;
       row_part = from_rows c;
       end_line = end_line;
       weight_words = weight_words c;
-      head = is.text ∙ whole text.kind c;
-      kind = ap (λ (t : List ℕ). t ++ 10 ∷ from_weight c) (sym (kind_is text.kind));
-      weight = (refl, line_of_weight c.weight is.fits.weight);
-      plan = lines_of_plan (from_plan c) c.plan (from_count c) refl is.fits.plan;
-      count = line_of_number (from_count c) (codes "rows ") (length c.lines) (from_rows c) refl is.fits.count;
-      rows = lines_of_rows (from_rows c) c.lines end_line refl is.fits.lines;
+      known = is.known;
+      head = is.text ∙ ap (λ w. texts.certificate_text head w c) width ∙ whole head c;
+      weight = (refl, line_of_weight c.weight fits.weight);
+      plan = lines_of_plan (from_plan c) c.plan (from_count c) refl fits.plan;
+      count = line_of_number (from_count c) (codes "rows ") (length c.lines) (from_rows c) refl fits.count;
+      rows = lines_of_rows (from_rows c) c.lines end_line refl fits.lines;
       end = refl;
       first = first;
     }
 
 pub read_as_spelled : ReadAsSpelled
 read_as_spelled bytes text = (λ read. (is_spelled bytes text (spelled bytes text read), (spelled bytes text read).first), λ is first. readable bytes text (spells bytes text is first))
+
+-- what is spelled so is read
+pub read_of : (bytes : List ℕ) (spelling : Spelling) (c : Certificate) → IsSpelled bytes spelling c → text_of bytes ≡ Ok (record { spelling = spelling; certificate = c; first = first_line spelling c.plan })
+read_of bytes spelling c is =
+    let text : Text = record { spelling = spelling; certificate = c; first = first_line spelling c.plan } in
+    readable bytes text (spells bytes text is refl)
+
+pub texts_have_one_spelling : TextsHaveOneSpelling
+texts_have_one_spelling bytes spelling other c d is are =
+    let one : Text = record { spelling = spelling; certificate = c; first = first_line spelling c.plan } in
+    let two : Text = record { spelling = other; certificate = d; first = first_line other d.plan } in
+    let same : one ≡ two = ok_is one two (sym (read_of bytes spelling c is) ∙ read_of bytes other d are) in
+    (ap (λ (t : Text). t.spelling) same, ap (λ (t : Text). t.certificate) same)

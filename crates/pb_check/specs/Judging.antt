@@ -1,18 +1,25 @@
 -- The first fault of a certificate that is spelled, in the stated order. Each row is judged by
 -- itself against all rows.
-use Rattle.std.specs.Prelude.{ℕ, zero, suc, ◌+◌, ◌-◌, ◌*◌, ◌/◌, Bool, true, false, Option, None, Some, List, [], ◌∷◌, Result, Ok, Err, if◌then◌else◌, nat_lt, nat_le, ◌==◌, ◌&&◌, ◌<◌, ⊤}
+use Rattle.std.specs.Prelude.{◌≡◌, ℕ, zero, suc, ◌+◌, ◌-◌, ◌*◌, ◌/◌, Bool, true, false, Option, None, Some, List, [], ◌∷◌, Result, Ok, Err, if◌then◌else◌, nat_lt, nat_le, ◌==◌, ◌&&◌, ◌<◌, ⊤}
 use Rattle.pb_model.specs.declared.row.Estimate.{Estimate}
 use Rattle.pb_model.specs.declared.row.Estimate.TheVariants.{Cost, Dead}
 use Rattle.pb_model.specs.Space.{Space}
 use Rattle.pb_model.specs.Weight.{Weight}
 use Rattle.pb_model.specs.Plan.{Plan}
 use Rattle.pb_model.specs.Certificate.{Line, cost_of}
-use Rattle.pb_check.specs.declared.kind.TaskKind.{TaskKind}
-use Rattle.pb_check.specs.declared.kind.TaskKind.TheVariants.{Grid, Tiles, Strips}
+use Rattle.pb_task.specs.declared.kind.Kind.{Kind}
+use Rattle.pb_task.specs.declared.kind.Kind.TheVariants.{Grid, Tiles, Strips}
+use Rattle.pb_task.specs.declared.parts.TaskParts.{TaskParts}
+use Rattle.pb_task.specs.Parts.{space_of}
+use Rattle.pb_task.specs.Kinds.{kind_of}
+use Rattle.pb_estimate.specs.declared.choice.Choice.{Choice}
+use Rattle.pb_estimate.specs.declared.choice.Choice.TheVariants.{Plain}
+use Rattle.pb_estimate.specs.declared.spelling.Stated.{Stated}
+use Rattle.pb_estimate.specs.Estimates.{estimate_by, suits}
 use Rattle.pb_check.specs.declared.fault.CertificateFault.{CertificateFault}
 use Rattle.pb_check.specs.declared.fault.CertificateFault.TheVariants as faults
 use Rattle.pb_check.specs.declared.fault.Verdict.{Verdict}
-use Rattle.pb_check.specs.declared.fault.Verdict.TheVariants.{Bounded, Unsolvable}
+use Rattle.pb_check.specs.declared.fault.Claim.TheVariants.{Bounded, Unsolvable}
 use Rattle.pb_check.specs.Faults.{◌>>=◌}
 use Rattle.pb_check.specs.Reading.{Text, text_of}
 
@@ -30,7 +37,7 @@ abbrev pub unless : Bool → CertificateFault → Option CertificateFault
 unless true fault = None
 unless false fault = Some fault
 
-abbrev pub same_kind : TaskKind → TaskKind → Bool
+abbrev pub same_kind : Kind → Kind → Bool
 same_kind Grid Grid = true
 same_kind Tiles Tiles = true
 same_kind Strips Strips = true
@@ -40,6 +47,21 @@ same_kind Tiles Grid = false
 same_kind Tiles Strips = false
 same_kind Strips Grid = false
 same_kind Strips Tiles = false
+
+-- the fault of a choice of an estimate that a text states
+abbrev pub choice_fault : TaskParts → Choice → Option CertificateFault
+choice_fault parts Plain = None
+
+-- The first fault of what a text states besides, for this task. If there is none, the stated choice
+-- suits the task.
+abbrev pub stated_fault : TaskParts → Stated → Option CertificateFault
+stated_fault parts stated = choice_fault parts stated.choice
+
+-- What a text states without a fault suits the task, so its estimates are admissible.
+abbrev pub StatedChoicesSuit : Type 0
+StatedChoicesSuit =
+    (parts : TaskParts) (stated : Stated) → stated_fault parts stated ≡ None
+    → suits parts stated.choice ≡ true
 
 abbrev pub is_weight : Weight → Bool
 is_weight weight = nat_le 1 weight.den && (nat_le weight.den weight.num && nat_le weight.num 1000)
@@ -153,20 +175,23 @@ abbrev pub verdict_of : Weight → Option Plan → Verdict
 verdict_of weight None = Unsolvable
 verdict_of weight (Some plan) = Bounded plan.cost (bound_of weight plan.cost)
 
-unfoldable pub judged : Space → (estimate : ℕ → Estimate) → (kind : TaskKind) → Text
-    → Result Verdict CertificateFault
-judged space estimate kind text = do
-  kinds ← passes (unless (same_kind kind text.kind) faults.Kind)
+-- the verdict on what a text says, for this task: its cut rows are judged by the choice of an
+-- estimate that the text states
+unfoldable pub judged : TaskParts → Text → Result Verdict CertificateFault
+judged parts text = do
+  kinds ← passes (unless (same_kind (kind_of parts) text.spelling.kind) faults.Kind)
+  stated ← passes (stated_fault parts text.spelling.stated)
   weights ← passes (unless (is_weight text.certificate.weight) faults.Weight)
-  plans ← plan_fault_if_any space text.certificate.plan
+  plans ← plan_fault_if_any (space_of parts) text.certificate.plan
   orders ← passes (rows_order_fault text.first text.certificate.lines)
-  states ← passes (first_fault_by (state_fault space) text.first text.certificate.lines)
-  starts ← passes (unless (is_zero (g_of text.certificate.lines space.start)) faults.NoStart)
-  rows ← passes (first_fault_by (row_fault space estimate text.certificate.weight
+  states ← passes (first_fault_by (state_fault (space_of parts)) text.first text.certificate.lines)
+  starts ← passes (unless (is_zero (g_of text.certificate.lines (space_of parts).start))
+      faults.NoStart)
+  rows ← passes (first_fault_by (row_fault (space_of parts)
+      (estimate_by parts text.spelling.stated.choice) text.certificate.weight
       (cost_of text.certificate.plan) text.certificate.lines) text.first text.certificate.lines)
   Ok (verdict_of text.certificate.weight text.certificate.plan)
 
--- the verdict on the bytes, or their first fault
-unfoldable pub checked : Space → (estimate : ℕ → Estimate) → (kind : TaskKind) → (bytes : List ℕ)
-    → Result Verdict CertificateFault
-checked space estimate kind bytes = text_of bytes >>= λ text. judged space estimate kind text
+-- the verdict on the bytes as a certificate of this task, or their first fault
+unfoldable pub checked : TaskParts → (bytes : List ℕ) → Result Verdict CertificateFault
+checked parts bytes = text_of bytes >>= λ text. judged parts text

@@ -4,8 +4,14 @@ use Rattle.std.specs.Prelude.{ℕ, zero, suc, ◌+◌, Bool, true, false, Option
 use Rattle.pb_model.specs.Weight.{Weight}
 use Rattle.pb_model.specs.Plan.{Plan}
 use Rattle.pb_model.specs.Certificate.{Line, Certificate}
-use Rattle.pb_check.specs.declared.kind.TaskKind.{TaskKind}
-use Rattle.pb_check.specs.declared.kind.TaskKind.TheVariants.{Grid, Tiles, Strips}
+use Rattle.pb_task.specs.declared.kind.Kind.{Kind}
+use Rattle.pb_task.specs.declared.kind.Kind.TheVariants.{Grid, Tiles, Strips}
+use Rattle.pb_estimate.specs.declared.choice.Choice.{Choice}
+use Rattle.pb_estimate.specs.declared.choice.Choice.TheVariants.{Plain}
+use Rattle.pb_estimate.specs.declared.spelling.Stated.{Stated}
+use Rattle.pb_estimate.specs.declared.spelling.Spelling.{Spelling}
+use Rattle.pb_estimate.specs.declared.spelling.Version.TheVariants.{One}
+use Rattle.pb_estimate.specs.Spelling.{version_line, kind_line, head_lines}
 use Rattle.pb_check.specs.declared.fault.CertificateFault.{CertificateFault}
 use Rattle.pb_check.specs.declared.fault.CertificateFault.TheVariants.{Syntax}
 use Rattle.pb_check.specs.Faults.{◌>>=◌, wanted}
@@ -23,11 +29,11 @@ abbrev pub number_behind : (line : ℕ) → (piece text : List ℕ) → Result �
 number_behind line piece text =
     wanted line (behind piece text) >>= λ word. wanted line (number_of word)
 
-unfoldable pub kind_in : (line : ℕ) → List ℕ → Result TaskKind CertificateFault
+unfoldable pub kind_in : (line : ℕ) → List ℕ → Result Kind CertificateFault
 kind_in line text =
-    if is_text (codes "kind grid") text then Ok Grid
-    else (if is_text (codes "kind tiles") text then Ok Tiles
-    else (if is_text (codes "kind strips") text then Ok Strips else Err (Syntax line)))
+    if is_text (kind_line Grid) text then Ok Grid
+    else (if is_text (kind_line Tiles) text then Ok Tiles
+    else (if is_text (kind_line Strips) text then Ok Strips else Err (Syntax line)))
 
 unfoldable pub weight_in : (line : ℕ) → List ℕ → Result Weight CertificateFault
 weight_in line text = do
@@ -64,11 +70,23 @@ number_at line piece text = do
   n ← number_behind line piece first.0
   Ok (n, first.1)
 
-unfoldable pub kind_at : (line : ℕ) → List ℕ → Result (TaskKind × List ℕ) CertificateFault
+unfoldable pub kind_at : (line : ℕ) → List ℕ → Result (Kind × List ℕ) CertificateFault
 kind_at line text = do
   first ← line_at line text
   kind ← kind_in line first.0
   Ok (kind, first.1)
+
+-- what is stated besides, if it is the version that this program reads: the plain choice, in no line
+unfoldable pub stated_at : (line : ℕ) → List ℕ → Result (Stated × List ℕ) CertificateFault
+stated_at line text = Ok (record { choice = Plain }, text)
+
+-- the lines before the weight: version 1 has states of 64 digits
+unfoldable pub head_at : List ℕ → Result (Spelling × List ℕ) CertificateFault
+head_at text = do
+  rest ← fixed_at 1 (version_line One) text
+  kind ← kind_at 2 rest
+  stated ← stated_at 3 kind.1
+  Ok (record { kind = kind.0; version = One; width = 64; stated = stated.0 }, stated.1)
 
 unfoldable pub weight_at : (line : ℕ) → List ℕ → Result (Weight × List ℕ) CertificateFault
 weight_at line text = do
@@ -119,9 +137,9 @@ abbrev pub plan_lines : Option Plan → ℕ
 plan_lines None = 1
 plan_lines (Some plan) = length plan.actions + 2
 
--- what a text says: the kind of its task, the certificate, and the number of its first row's line
+-- what a text says: how it is spelled, the certificate, and the number of its first row's line
 pub record Text : Type 0 where
-  pub kind : TaskKind
+  pub spelling : Spelling
   pub certificate : Certificate
   pub first : ℕ
 
@@ -139,20 +157,37 @@ body_at line text = do
   ended ← end_at (line + 1 + length rows.0) rows.1
   Ok rows.0
 
+-- the line of the weight, behind those before it
+abbrev pub weight_line : Spelling → ℕ
+weight_line spelling = 1 + head_lines spelling
+
+-- the line of the first row, behind those of the weight, the plan and the number of rows
+abbrev pub first_line : Spelling → Option Plan → ℕ
+first_line spelling plan = weight_line spelling + 2 + plan_lines plan
+
 -- all of the bytes
 unfoldable pub text_of : List ℕ → Result Text CertificateFault
 text_of bytes = do
-  rest ← fixed_at 1 (codes "pbnf-certificate 1") bytes
-  kind ← kind_at 2 rest
-  weight ← weight_at 3 kind.1
-  plan ← plan_at 4 weight.1
-  rows ← body_at (4 + plan_lines plan.0) plan.1
+  head ← head_at bytes
+  weight ← weight_at (weight_line head.0) head.1
+  plan ← plan_at (weight_line head.0 + 1) weight.1
+  rows ← body_at (weight_line head.0 + 1 + plan_lines plan.0) plan.1
   Ok (record {
-    kind = kind.0;
+    spelling = head.0;
     certificate = record {
       weight = weight.0;
       plan = plan.0;
       lines = rows;
     };
-    first = 5 + plan_lines plan.0;
+    first = first_line head.0 plan.0;
   })
+
+-- ---- what is stated, before all else is read
+
+abbrev pub choice_in : Result (Spelling × List ℕ) CertificateFault → Choice
+choice_in (Ok head) = head.0.stated.choice
+choice_in (Err fault) = Plain
+
+-- the choice of an estimate that a text states; the plain one, if its head can't be read
+abbrev pub stated_choice : List ℕ → Choice
+stated_choice bytes = choice_in (head_at bytes)

@@ -1,35 +1,42 @@
 -- What the checker's answer means: that the certificate is valid, and what it shows of the task.
-use Rattle.std.specs.Prelude.{◌≡◌, ◌≢◌, ℕ, ◌+◌, ◌≤◌, List, [], ◌++◌, Err}
-use Rattle.pb_model.specs.declared.row.Estimate.{Estimate}
+use Rattle.std.specs.Prelude.{◌≡◌, ◌≢◌, ℕ, ◌+◌, ◌≤◌, None, List, [], ◌++◌, Err}
 use Rattle.pb_model.specs.Space.{Space}
 use Rattle.pb_model.specs.Weight.{Weight, IsWeight}
 use Rattle.pb_model.specs.Plan.{Plan, IsPlan, HasNoPlan, IsBound}
 use Rattle.pb_model.specs.Certificate.{Certificate, IsValid, ClaimHolds}
+use Rattle.pb_task.specs.declared.parts.TaskParts.{TaskParts}
+use Rattle.pb_task.specs.Parts.{space_of}
+use Rattle.pb_task.specs.Kinds.{kind_of}
+use Rattle.pb_estimate.specs.declared.spelling.Spelling.{Spelling}
+use Rattle.pb_estimate.specs.Estimates.{estimate_by}
 use Rattle.pb_lines.specs.Words.{line_feeds}
-use Rattle.pb_check.specs.declared.kind.TaskKind.{TaskKind}
 use Rattle.pb_check.specs.declared.fault.Verdict.{Verdict}
-use Rattle.pb_check.specs.declared.fault.Verdict.TheVariants.{Bounded, Unsolvable}
+use Rattle.pb_check.specs.declared.fault.Claim.TheVariants.{Bounded, Unsolvable}
 use Rattle.pb_check.specs.declared.fault.CertificateFault.TheVariants.{Syntax}
 use Rattle.pb_check.specs.Spelling.{IsSpelled}
-use Rattle.pb_check.specs.Judging.{verdict_of, bound_of, checked}
+use Rattle.pb_check.specs.Judging.{stated_fault, verdict_of, bound_of, checked}
 
--- the bytes spell a certificate of this kind that is valid, and this is its verdict
-pub record IsAccepted (space : Space) (estimate : ℕ → Estimate) (kind : TaskKind) (bytes : List ℕ)
-    (verdict : Verdict) : Type 0 where
+-- The bytes spell a valid certificate of this task, and this is its verdict. The estimate by which
+-- it is valid is the one that the bytes state.
+pub record IsAccepted (parts : TaskParts) (bytes : List ℕ) (verdict : Verdict) : Type 0 where
+  pub spelling : Spelling
   pub certificate : Certificate
-  pub spelled : IsSpelled bytes kind certificate
-  pub valid : IsValid space estimate certificate
+  pub spelled : IsSpelled bytes spelling certificate
+  pub kind : spelling.kind ≡ kind_of parts
+  pub stated : stated_fault parts spelling.stated ≡ None
+  pub valid : IsValid (space_of parts) (estimate_by parts spelling.stated.choice) certificate
   pub verdict_is : verdict ≡ verdict_of certificate.weight certificate.plan
 
--- The bytes spell a certificate with this verdict whose claim is true of the space. Every plan of a
--- cost f has num * f >= den * C, for the cost C of the certificate's plan and its weight num / den;
--- or there is no plan.
-pub record ShowsClaim (space : Space) (kind : TaskKind) (bytes : List ℕ) (verdict : Verdict)
-    : Type 0 where
+-- The bytes spell a certificate with this verdict, for a task of the kind of this one, whose claim
+-- is true of the task. Every plan of a cost f has num * f >= den * C, for the cost C of the
+-- certificate's plan and its weight num / den; or there is no plan.
+pub record ShowsClaim (parts : TaskParts) (bytes : List ℕ) (verdict : Verdict) : Type 0 where
+  pub spelling : Spelling
   pub certificate : Certificate
-  pub spelled : IsSpelled bytes kind certificate
+  pub spelled : IsSpelled bytes spelling certificate
+  pub kind : spelling.kind ≡ kind_of parts
   pub weight : IsWeight certificate.weight
-  pub claim : ClaimHolds space certificate.weight certificate.plan
+  pub claim : ClaimHolds (space_of parts) certificate.weight certificate.plan
   pub verdict_is : verdict ≡ verdict_of certificate.weight certificate.plan
 
 -- what a verdict says of a space: a plan has the cost, and each plan costs at least the bound; or
@@ -49,12 +56,12 @@ BoundsAreLeast =
 -- the bytes are a beginning of a certificate's text, and not the whole
 abbrev pub IsCutOff : List ℕ → Type 0
 IsCutOff bytes =
-    (stated : TaskKind) × (certificate : Certificate) × (rest : List ℕ)
-    × IsSpelled (bytes ++ rest) stated certificate × (rest ≢ [])
+    (spelling : Spelling) × (certificate : Certificate) × (rest : List ℕ)
+    × IsSpelled (bytes ++ rest) spelling certificate × (rest ≢ [])
 
 -- A certificate that is cut off is refused as misspelled, in the line that it ends in, whatever the
 -- task is. The line is 1 plus the number of line feeds in what is left.
 abbrev pub CutCertificatesAreRefused : Type 0
 CutCertificatesAreRefused =
-    (space : Space) (estimate : ℕ → Estimate) (kind : TaskKind) (bytes : List ℕ) → IsCutOff bytes
-    → checked space estimate kind bytes ≡ Err (Syntax (1 + line_feeds bytes))
+    (parts : TaskParts) (bytes : List ℕ) → IsCutOff bytes
+    → checked parts bytes ≡ Err (Syntax (1 + line_feeds bytes))

@@ -1,11 +1,10 @@
 -- How bytes spell a certificate.
-use Rattle.std.specs.Prelude.{◌≡◌, ℕ, ◌+◌, ◌^◌, ◌<◌, List, length, All, Option, None, Some, Ok, ⊤}
+use Rattle.std.specs.Prelude.{◌≡◌, ℕ, ◌^◌, ◌<◌, List, length, All, Option, None, Some, Ok, ⊤}
 use Rattle.pb_model.specs.Plan.{Plan}
 use Rattle.pb_model.specs.Certificate.{Certificate}
-use Rattle.pb_model.specs.Texts.{certificate_text, head_1}
-use Rattle.pb_check.specs.declared.kind.TaskKind.{TaskKind}
-use Rattle.pb_check.specs.Kinds.{kind_name}
-use Rattle.pb_check.specs.Reading.{Text, plan_lines, text_of}
+use Rattle.pb_estimate.specs.declared.spelling.Spelling.{Spelling}
+use Rattle.pb_estimate.specs.Spelling.{IsSpelling, spelled_text}
+use Rattle.pb_check.specs.Reading.{Text, first_line, text_of}
 
 -- a number that a certificate can state
 abbrev pub IsNumber : ℕ → Type 0
@@ -21,23 +20,32 @@ abbrev pub PlanFitsIfAny : Option Plan → Type 0
 PlanFitsIfAny None = ⊤
 PlanFitsIfAny (Some plan) = PlanFits plan
 
--- a certificate whose numbers can be stated, and whose states have 256 bits
-pub record Fits (certificate : Certificate) : Type 0 where
+-- a certificate whose numbers can be stated, and whose states have so many hexadecimal digits
+pub record Fits (width : ℕ) (certificate : Certificate) : Type 0 where
   pub weight : IsNumber certificate.weight.num × IsNumber certificate.weight.den
   pub plan : PlanFitsIfAny certificate.plan
   pub count : IsNumber (length certificate.lines)
-  pub lines : All (λ line. (line.state < 2 ^ 256) × IsNumber line.g) certificate.lines
+  pub lines : All (λ line. (line.state < 16 ^ width) × IsNumber line.g) certificate.lines
 
--- the bytes are the text of the certificate, for a task of this kind
-pub record IsSpelled (bytes : List ℕ) (kind : TaskKind) (certificate : Certificate) : Type 0 where
-  pub text : bytes ≡ certificate_text (head_1 (kind_name kind)) 64 certificate
-  pub fits : Fits certificate
+-- the bytes are the text of the certificate, spelled so
+pub record IsSpelled (bytes : List ℕ) (spelling : Spelling) (certificate : Certificate) : Type 0
+  where
+    pub known : IsSpelling spelling
+    pub text : bytes ≡ spelled_text spelling certificate
+    pub fits : Fits spelling.width certificate
 
 -- What is read is spelled so, and what is spelled so is read, with the line of the first row.
 abbrev pub ReadAsSpelled : Type 0
 ReadAsSpelled =
     (bytes : List ℕ) (text : Text)
-    → (text_of bytes ≡ Ok text → IsSpelled bytes text.kind text.certificate
-    × (text.first ≡ 5 + plan_lines text.certificate.plan))
-    × (IsSpelled bytes text.kind text.certificate → text.first
-    ≡ 5 + plan_lines text.certificate.plan → text_of bytes ≡ Ok text)
+    → (text_of bytes ≡ Ok text → IsSpelled bytes text.spelling text.certificate
+    × (text.first ≡ first_line text.spelling text.certificate.plan))
+    × (IsSpelled bytes text.spelling text.certificate → text.first
+    ≡ first_line text.spelling text.certificate.plan → text_of bytes ≡ Ok text)
+
+-- A text has one spelling, and spells one certificate.
+abbrev pub TextsHaveOneSpelling : Type 0
+TextsHaveOneSpelling =
+    (bytes : List ℕ) (spelling other : Spelling) (certificate another : Certificate)
+    → IsSpelled bytes spelling certificate → IsSpelled bytes other another
+    → (spelling ≡ other) × (certificate ≡ another)

@@ -1,11 +1,10 @@
 ghost use Rattle.std.specs.Prelude.{◌≡◌, ◌+◌, ◌<◌, ◌^◌, length, IfOk, Ok, Err};
 ghost use Rattle.pb_task.specs.Parts.{space_of, IsTask};
-ghost use Rattle.pb_estimate.specs.Estimates.{estimate_of};
 ghost use Rattle.pb_estimate.specs.Tables.{IsOfTask};
 ghost use Rattle.pb_check.specs.declared.fault.Verdict.{Verdict};
 ghost use Rattle.pb_check.specs.Faults.{Gives};
 ghost use Rattle.pb_check.specs.Judging.{checked};
-ghost use Rattle.pb_check.specs.Kinds.{kind_of};
+ghost use Rattle.pb_check.specs.Reading.{stated_choice};
 ghost use Rattle.pb_check.specs.Shown.{IsAccepted, IsCutOff, ShowsClaim, VerdictHolds};
 ghost use Rattle.pb_check.specs.declared.fault.CertificateFault.TheVariants.{Syntax};
 ghost use Rattle.pb_lines.specs.Words.{line_feeds};
@@ -24,28 +23,18 @@ fn first_fault(
     estimator: &mut Estimator,
     bytes: &[u8],
 ) -> Result<Verdict, CheckError>
-    requires task { IsOfTask estimator.old task.now }
+    requires task { IsOfTask estimator.old task.now (stated_choice bytes.now) }
     requires bytes { length bytes.now < 2 ^ 63 }
-    ensures exact { Gives (λ x. x) result
-        (checked (space_of task.now) (estimate_of task.now) (kind_of task.now) bytes.now) }
+    ensures exact { Gives (λ x. x) result (checked task.now bytes.now) }
     ensures lawful { IfOk result (λ verdict. IsTask task.now) }
-    ensures task { IsOfTask estimator.new task.now }
+    ensures task { IsOfTask estimator.new task.now (stated_choice bytes.now) }
 {
     let text = text_of(alloc, bytes)?;
-    judge(
-        alloc,
-        task,
-        estimator,
-        text.kind,
-        &text.weight,
-        &text.plan,
-        &text.rows,
-        text.first,
-    )
+    judge(alloc, task, estimator, &text)
 }
 
-/// The verdict on a certificate for the task, or its first fault. The estimator is one of this
-/// task.
+/// The verdict on a certificate for the task, or its first fault. The estimator is one of this task,
+/// by the choice that the certificate states (`stated_choice`).
 ///
 /// The memory that it takes grows with the lines read so far, and not with a number that they
 /// state.
@@ -55,27 +44,24 @@ pub fn check(
     estimator: &mut Estimator,
     bytes: &[u8],
 ) -> Result<Verdict, CheckError>
-    requires task { IsOfTask estimator.old task.now }
+    requires task { IsOfTask estimator.old task.now (stated_choice bytes.now) }
     requires bytes { length bytes.now < 2 ^ 63 }
     // Which verdict or fault it is, unless memory ran out.
-    ensures exact { Gives (λ x. x) result
-        (checked (space_of task.now) (estimate_of task.now) (kind_of task.now) bytes.now) }
-    // What is accepted spells a valid certificate of the task's kind.
-    ensures valid { IfOk result (λ verdict. IsAccepted (space_of task.now) (estimate_of task.now)
-        (kind_of task.now) bytes.now verdict) }
-    // What spells a valid certificate of the task's kind is accepted, unless memory ran out.
-    ensures only { (verdict : Verdict) → IsAccepted (space_of task.now) (estimate_of task.now)
-        (kind_of task.now) bytes.now verdict → Gives (λ x. x) result (Ok verdict) }
+    ensures exact { Gives (λ x. x) result (checked task.now bytes.now) }
+    // What is accepted spells a valid certificate of the task.
+    ensures valid { IfOk result (λ verdict. IsAccepted task.now bytes.now verdict) }
+    // What spells a valid certificate of the task is accepted, unless memory ran out.
+    ensures only { (verdict : Verdict) → IsAccepted task.now bytes.now verdict
+        → Gives (λ x. x) result (Ok verdict) }
     // What is accepted shows that no plan costs less than the plan's cost divided by the weight, or
     // that there is none.
-    ensures claim { IfOk result (λ verdict. ShowsClaim (space_of task.now) (kind_of task.now)
-        bytes.now verdict) }
+    ensures claim { IfOk result (λ verdict. ShowsClaim task.now bytes.now verdict) }
     // So what the verdict says is true of the task.
     ensures holds { IfOk result (λ verdict. VerdictHolds (space_of task.now) verdict) }
     // A certificate that is cut off is refused in the line that it ends in, unless memory ran out.
     ensures cut { IsCutOff bytes.now → Gives (λ x. x) result
         (Err (Syntax (1 + line_feeds bytes.now))) }
-    ensures task { IsOfTask estimator.new task.now }
+    ensures task { IsOfTask estimator.new task.now (stated_choice bytes.now) }
 {
     first_fault(alloc, task, estimator, bytes)
 }

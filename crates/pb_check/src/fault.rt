@@ -2,6 +2,7 @@ ghost use Rattle.std.specs.Prelude.{◌≡◌};
 ghost use Rattle.pb_check.specs.declared.fault.CheckError.TheVariants.{Memory};
 
 use std::alloc::{AllocError, AllocFailed};
+use std::marker::Model;
 
 /// Why a certificate is refused. If it has several faults, the first in the order of these names is
 /// reported, and of one name the first row or action. Lines are counted from 1.
@@ -48,15 +49,46 @@ pub enum CheckError {
     Memory,
 }
 
-/// What a valid certificate shows of its task.
+/// What a certificate claims of its task.
 #[derive(Clone, Copy)]
-pub enum Verdict {
+pub enum Claim {
     /// Some plan has this cost, and no plan costs less than the bound: the least whole number that
     /// is no less than the cost divided by the weight. Both are in the unit of the task's action
     /// costs.
     Bounded { cost: u64, bound: u64 },
     /// No plan exists.
     Unsolvable,
+}
+
+/// The verdict that a certificate is valid for its task, so that what it claims is true. The
+/// checker alone makes one: whoever has a verdict has asked it. Contracts see what is claimed.
+#[derive(Drop)]
+pub struct Verdict {
+    claim: Claim,
+}
+
+impl Model for Verdict {
+    ghost use Rattle.pb_check.specs.declared.fault.Claim.{Claim};
+
+    ghost Value = { Claim };
+
+    ghost view = { λ v. v.claim };
+}
+
+impl Verdict {
+    // The verdict on a certificate that has no fault.
+    pub(crate) fn on(claim: Claim) -> Verdict
+        ensures { result ≡ claim }
+    {
+        Verdict { claim }
+    }
+
+    /// What the certificate claims.
+    pub fn claim(&self) -> Claim
+        ensures { result ≡ self.now }
+    {
+        self.claim
+    }
 }
 
 impl From<AllocError> for CheckError {

@@ -3,21 +3,18 @@ ghost use Rattle.pb_model.specs.Weight.{Weight};
 ghost use Rattle.pb_model.specs.Plan.{Plan};
 ghost use Rattle.pb_model.specs.Certificate.{Line, Certificate, cost_of};
 ghost use Rattle.pb_task.specs.Parts.{space_of, IsTask, greatest_cost};
-ghost use Rattle.pb_estimate.specs.Estimates.{estimate_of};
+ghost use Rattle.pb_estimate.specs.Estimates.{estimate_by};
 ghost use Rattle.pb_estimate.specs.Tables.{IsOfTask};
 ghost use Rattle.pb_check.specs.Faults.{Gives};
-ghost use Rattle.pb_check.specs.Reading.{Text};
-ghost use Rattle.pb_check.specs.Kinds.{kind_of};
-ghost use Rattle.pb_check.specs.Judging.{passes, unless, same_kind, is_weight, walk, plan_fault, plan_fault_if_any, order_fault, rows_order_fault, first_fault_by, state_fault, g_of, is_zero, target_fault, step_fault, steps_fault, may_be_cut, row_fault, bound_of, verdict_of, judged, Rise};
+ghost use Rattle.pb_check.specs.Judging.{passes, unless, same_kind, stated_fault, is_weight, walk, plan_fault, plan_fault_if_any, order_fault, rows_order_fault, first_fault_by, state_fault, g_of, is_zero, target_fault, step_fault, steps_fault, may_be_cut, row_fault, bound_of, verdict_of, judged, Rise};
 
-use crate::fault::{CertificateFault, CheckError, Verdict};
-use crate::kind::{TaskKind, kind_of};
+use crate::fault::{CertificateFault, CheckError, Claim, Verdict};
 use crate::rows::{StatedRow, StatedRows};
-use crate::stated::{StatedPlan, StatedWeight};
-use pb_estimate::Estimator;
+use crate::stated::{StatedPlan, StatedText, StatedWeight};
+use pb_estimate::{Choice, Estimator, Stated};
 use pb_model::Estimate;
 use pb_packed::Packed;
-use pb_task::Task;
+use pb_task::{Kind, Task};
 use std::alloc::Global;
 use std::cmp::Ordering;
 
@@ -49,14 +46,22 @@ fn need(holds: bool, fault: CertificateFault) -> Result<bool, CheckError>
     }
 }
 
-fn same_kind(one: TaskKind, two: TaskKind) -> bool
+fn same_kind(one: Kind, two: Kind) -> bool
     ensures { result ≡ same_kind one two }
 {
     match (one, two) {
-        (TaskKind::Grid, TaskKind::Grid)
-        | (TaskKind::Tiles, TaskKind::Tiles)
-        | (TaskKind::Strips, TaskKind::Strips) => true,
+        (Kind::Grid, Kind::Grid) | (Kind::Tiles, Kind::Tiles) | (Kind::Strips, Kind::Strips) =>
+            true,
         _ => false,
+    }
+}
+
+// The first fault of what a text states besides.
+fn stated_fault(_task: &Task, stated: &Stated) -> Option<CertificateFault>
+    ensures { result ≡ stated_fault _task.now stated.now }
+{
+    match &stated.choice {
+        Choice::Plain => None,
     }
 }
 
@@ -285,6 +290,7 @@ fn may_be_cut(weight: &StatedWeight, best: Option<u64>, g: u64, estimate: Estima
 fn row_fault(
     task: &Task,
     estimator: &mut Estimator,
+    _choice: &Choice,
     weight: &StatedWeight,
     best: Option<u64>,
     rows: &StatedRows,
@@ -292,13 +298,13 @@ fn row_fault(
     row: &StatedRow,
     places: &mut [usize],
 ) -> Option<CertificateFault>
-    requires task { IsOfTask estimator.old task.now }
+    requires task { IsOfTask estimator.old task.now _choice.now }
     requires weight { is_weight (record { num = weight.now.num; den = weight.now.den }) ≡ true }
     requires rise { Rise rows.now }
     requires state { IsTrue ((space_of task.now).is_state row.now.state) }
-    ensures fault { result ≡ row_fault (space_of task.now) (estimate_of task.now)
+    ensures fault { result ≡ row_fault (space_of task.now) (estimate_by task.now _choice.now)
         (record { num = weight.now.num; den = weight.now.den }) best rows.now line row.now }
-    ensures task { IsOfTask estimator.new task.now }
+    ensures task { IsOfTask estimator.new task.now _choice.now }
 {
     if row.is_closed {
         if task.is_goal(&row.state) {
@@ -319,26 +325,29 @@ fn row_fault(
 fn rows_fault(
     task: &Task,
     estimator: &mut Estimator,
+    choice: &Choice,
     weight: &StatedWeight,
     best: Option<u64>,
     rows: &StatedRows,
     line: u64,
     places: &mut [usize],
 ) -> Option<CertificateFault>
-    requires task { IsOfTask estimator.old task.now }
+    requires task { IsOfTask estimator.old task.now choice.now }
     requires weight { is_weight (record { num = weight.now.num; den = weight.now.den }) ≡ true }
     requires rise { Rise rows.now }
     requires states { first_fault_by (state_fault (space_of task.now)) line rows.now ≡ None }
     requires lines { line + length rows.now < 2 ^ 64 }
     ensures fault { result ≡ first_fault_by
-        (row_fault (space_of task.now) (estimate_of task.now)
+        (row_fault (space_of task.now) (estimate_by task.now choice.now)
         (record { num = weight.now.num; den = weight.now.den }) best rows.now) line rows.now }
-    ensures task { IsOfTask estimator.new task.now }
+    ensures task { IsOfTask estimator.new task.now choice.now }
 {
     for i in 0..rows.len() {
         let row = rows.at(i);
         let at = line + i as u64;
-        let fault = row_fault(task, estimator, weight, best, rows, at, &row, places);
+        let fault = row_fault(
+            task, estimator, choice, weight, best, rows, at, &row, places,
+        );
         if fault.is_some() {
             return fault;
         }
@@ -366,13 +375,13 @@ fn bound_of(weight: &StatedWeight, cost: u64) -> u64
     least as u64
 }
 
-fn verdict_of(weight: &StatedWeight, plan: &Option<StatedPlan>) -> Verdict
+fn verdict_of(weight: &StatedWeight, plan: &Option<StatedPlan>) -> Claim
     requires { is_weight (record { num = weight.now.num; den = weight.now.den }) ≡ true }
     ensures { result ≡ verdict_of (record { num = weight.now.num; den = weight.now.den }) plan.now }
 {
     match plan {
-        None => Verdict::Unsolvable,
-        Some(plan) => Verdict::Bounded {
+        None => Claim::Unsolvable,
+        Some(plan) => Claim::Bounded {
             cost: plan.cost,
             bound: bound_of(weight, plan.cost),
         },
@@ -393,66 +402,80 @@ fn need_rows(
     alloc: Global,
     task: &Task,
     estimator: &mut Estimator,
+    choice: &Choice,
     weight: &StatedWeight,
     plan: &Option<StatedPlan>,
     rows: &StatedRows,
     line: u64,
 ) -> Result<bool, CheckError>
-    requires task { IsOfTask estimator.old task.now }
+    requires task { IsOfTask estimator.old task.now choice.now }
     requires weight { is_weight (record { num = weight.now.num; den = weight.now.den }) ≡ true }
     requires rise { Rise rows.now }
     requires states { first_fault_by (state_fault (space_of task.now)) line rows.now ≡ None }
     requires lines { line + length rows.now < 2 ^ 64 }
     ensures gives { Gives (λ x. x) result
-        (passes (first_fault_by (row_fault (space_of task.now) (estimate_of task.now)
+        (passes (first_fault_by (row_fault (space_of task.now) (estimate_by task.now choice.now)
         (record { num = weight.now.num; den = weight.now.den }) (cost_of plan.now) rows.now)
         line rows.now)) }
-    ensures task { IsOfTask estimator.new task.now }
+    ensures task { IsOfTask estimator.new task.now choice.now }
 {
     let mut places = Vec::from_elem(alloc, 0usize, task.actions() as usize)?;
     let best = cost_of(plan);
-    let fault = rows_fault(task, estimator, weight, best, rows, line, &mut places);
+    let fault = rows_fault(
+        task,
+        estimator,
+        choice,
+        weight,
+        best,
+        rows,
+        line,
+        &mut places,
+    );
     pass(fault)
 }
 
-/// The verdict on what a text says, or its first fault.
+/// The verdict on what a text says, or its first fault. The estimator is of the choice that the text
+/// states.
 #[tactic(auto, unfolding(crate::specs::Judging::judged))]
 pub fn judge(
     alloc: Global,
     task: &Task,
     estimator: &mut Estimator,
-    kind: TaskKind,
-    weight: &StatedWeight,
-    plan: &Option<StatedPlan>,
-    rows: &StatedRows,
-    first: u64,
+    text: &StatedText,
 ) -> Result<Verdict, CheckError>
-    requires task { IsOfTask estimator.old task.now }
-    requires lines { first + length rows.now < 2 ^ 64 }
-    ensures verdict { Gives (λ x. x) result
-        (judged (space_of task.now) (estimate_of task.now) (kind_of task.now)
-        (record {
-          kind = kind;
-          certificate = record {
-            weight = record { num = weight.now.num; den = weight.now.den };
-            plan = plan.now;
-            lines = rows.now;
-          };
-          first = first;
-        })) }
+    requires task { IsOfTask estimator.old task.now text.now.spelling.stated.choice }
+    requires lines { text.now.first + length text.now.certificate.lines < 2 ^ 64 }
+    ensures verdict { Gives (λ x. x) result (judged task.now text.now) }
     ensures lawful { IsTask task.now }
-    ensures task { IsOfTask estimator.new task.now }
+    ensures task { IsOfTask estimator.new task.now text.now.spelling.stated.choice }
 {
     let start = task.initial();
-    need(same_kind(kind_of(task), kind), CertificateFault::Kind)?;
+    let stated = &text.spelling.stated;
+    let weight = &text.weight;
+    let rows = &text.rows;
+    let first = text.first;
+    need(
+        same_kind(task.kind(), text.spelling.kind),
+        CertificateFault::Kind,
+    )?;
+    pass(stated_fault(task, stated))?;
     need(is_weight(weight), CertificateFault::Weight)?;
-    judge_plan_if_any(task, plan)?;
+    judge_plan_if_any(task, &text.plan)?;
     pass(rows_order_fault(first, rows))?;
     pass(states_fault(task, first, rows))?;
     need(
         is_zero(rows.g_of(&start, &mut 0)),
         CertificateFault::NoStart,
     )?;
-    need_rows(alloc, task, estimator, weight, plan, rows, first)?;
-    Ok(verdict_of(weight, plan))
+    need_rows(
+        alloc,
+        task,
+        estimator,
+        &stated.choice,
+        weight,
+        &text.plan,
+        rows,
+        first,
+    )?;
+    Ok(Verdict::on(verdict_of(weight, &text.plan)))
 }

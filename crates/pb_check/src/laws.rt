@@ -1,10 +1,22 @@
 ghost use Rattle.pb_check.specs.Shown.{BoundsAreLeast, CutCertificatesAreRefused};
-ghost use Rattle.pb_check.specs.Spelling.{ReadAsSpelled};
+ghost use Rattle.pb_check.specs.Judging.{StatedChoicesSuit};
+ghost use Rattle.pb_check.specs.Spelling.{ReadAsSpelled, TextsHaveOneSpelling};
 
 /// What is read of a text without a fault is the certificate that it spells, and what spells a
 /// certificate is read.
 pub fn read_as_spelled()
     ensures { ReadAsSpelled }
+{}
+
+/// A text has one spelling, and spells one certificate.
+pub fn texts_have_one_spelling()
+    ensures { TextsHaveOneSpelling }
+{}
+
+/// The choice of an estimate that a text states suits the task, if it isn't refused. So its
+/// estimates are admissible.
+pub fn stated_choices_suit()
+    ensures { StatedChoicesSuit }
 {}
 
 /// The bound of a verdict is the least number that is no less than the cost divided by the weight.

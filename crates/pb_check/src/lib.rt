@@ -8,7 +8,6 @@
 mod checker;
 mod fault;
 mod judging;
-mod kind;
 mod laws;
 mod reading;
 mod rows;
@@ -16,6 +15,9 @@ mod stated;
 mod words;
 
 pub use checker::check;
-pub use fault::{CertificateFault, CheckError, Verdict};
-pub use kind::{TaskKind, kind_of};
-pub use laws::{bounds_are_least, cut_certificates_are_refused, read_as_spelled};
+pub use fault::{CertificateFault, CheckError, Claim, Verdict};
+pub use laws::{
+    bounds_are_least, cut_certificates_are_refused, read_as_spelled, stated_choices_suit,
+    texts_have_one_spelling,
+};
+pub use reading::stated_choice;

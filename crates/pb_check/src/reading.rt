@@ -4,16 +4,18 @@ ghost use Rattle.pb_model.specs.Plan.{Plan};
 ghost use Rattle.pb_model.specs.Certificate.{Certificate};
 ghost use Rattle.pb_lines.specs.Words.{number_of, behind, part};
 ghost use Rattle.pb_check.specs.Words.{state_of};
+ghost use Rattle.pb_estimate.specs.Spelling.{stated_text, head_lines};
 ghost use Rattle.pb_check.specs.Faults.{Gives, wanted};
-ghost use Rattle.pb_check.specs.Reading.{Text, plan_lines, line_at, number_behind, kind_in, weight_in, closed_in, row_in, fixed_at, number_at, kind_at, weight_at, row_at, actions_at, rows_at, steps_at, plan_at, end_at, body_at, text_of};
+ghost use Rattle.pb_check.specs.Reading.{Text, plan_lines, line_at, number_behind, kind_in, weight_in, closed_in, row_in, fixed_at, number_at, kind_at, weight_at, row_at, actions_at, rows_at, steps_at, plan_at, end_at, body_at, stated_at, head_at, stated_choice, text_of};
 
 use crate::fault::{CertificateFault, CheckError};
-use crate::kind::TaskKind;
 use crate::rows::{StatedRow, StatedRows};
 use crate::stated::{StatedPlan, StatedText, StatedWeight};
 use crate::words::state_of;
+use pb_estimate::{Choice, Spelling, Stated, Version};
 use pb_lines::{behind, is_text, number_of, part};
 use pb_packed::Packed;
+use pb_task::Kind;
 use std::alloc::Global;
 
 // A line, and the text after it.
@@ -48,15 +50,15 @@ fn number_behind(line: u64, text: &[u8], piece: &[u8]) -> Result<u64, CheckError
 }
 
 #[tactic(auto, unfolding(crate::specs::Reading::kind_in))]
-fn kind_in(line: u64, text: &[u8]) -> Result<TaskKind, CheckError>
+fn kind_in(line: u64, text: &[u8]) -> Result<Kind, CheckError>
     ensures { Gives (λ x. x) result (kind_in line text.now) }
 {
     if is_text(text, b"kind grid") {
-        Ok(TaskKind::Grid)
+        Ok(Kind::Grid)
     } else if is_text(text, b"kind tiles") {
-        Ok(TaskKind::Tiles)
+        Ok(Kind::Tiles)
     } else if is_text(text, b"kind strips") {
-        Ok(TaskKind::Strips)
+        Ok(Kind::Strips)
     } else {
         Err(CheckError::Fault(CertificateFault::Syntax { line }))
     }
@@ -156,13 +158,55 @@ fn number_at<'a>(line: u64, text: &'a [u8], piece: &[u8]) -> Result<(u64, &'a [u
 }
 
 #[tactic(auto, unfolding(crate::specs::Reading::kind_at))]
-fn kind_at(line: u64, text: &[u8]) -> Result<(TaskKind, &[u8]), CheckError>
+fn kind_at(line: u64, text: &[u8]) -> Result<(Kind, &[u8]), CheckError>
     ensures gives { Gives (λ x. (x.0, x.1.now)) result (kind_at line text.now) }
     ensures shorter { IfOk result (λ x. length x.1.now + 1 ≤ length text.now) }
 {
     let (first, rest) = line_at(line, text)?;
     let kind = kind_in(line, first)?;
     Ok((kind, rest))
+}
+
+// What is stated besides: the plain choice, in no line.
+#[tactic(auto, unfolding(crate::specs::Reading::stated_at))]
+fn stated_at(_line: u64, text: &[u8]) -> Result<(Stated, &[u8]), CheckError>
+    ensures gives { Gives (λ x. (x.0, x.1.now)) result (stated_at _line text.now) }
+    ensures shorter { IfOk result (λ x. length x.1.now + length (stated_text x.0)
+        ≤ length text.now) }
+{
+    let stated = Stated {
+        choice: Choice::Plain,
+    };
+    Ok((stated, text))
+}
+
+// The lines before the weight.
+#[tactic(auto, unfolding(crate::specs::Reading::head_at))]
+fn head_at(text: &[u8]) -> Result<(Spelling, &[u8]), CheckError>
+    ensures gives { Gives (λ x. (x.0, x.1.now)) result (head_at text.now) }
+    ensures shorter { IfOk result (λ x. length x.1.now + head_lines x.0 ≤ length text.now) }
+{
+    let rest = fixed_at(1, text, b"pbnf-certificate 1")?;
+    let (kind, rest) = kind_at(2, rest)?;
+    let (stated, rest) = stated_at(3, rest)?;
+    let spelling = Spelling {
+        kind,
+        version: Version::One,
+        width: 64,
+        stated,
+    };
+    Ok((spelling, rest))
+}
+
+/// The choice of an estimate that a text states, by which its cut rows are judged. It is the plain
+/// one if the lines before the weight can't be read: then no row is judged.
+pub fn stated_choice(bytes: &[u8]) -> Choice
+    ensures { result ≡ stated_choice bytes.now }
+{
+    match head_at(bytes) {
+        Ok((spelling, _)) => spelling.stated.choice,
+        Err(_) => Choice::Plain,
+    }
 }
 
 #[tactic(auto, unfolding(crate::specs::Reading::weight_at))]
@@ -314,17 +358,17 @@ pub fn text_of(alloc: Global, bytes: &[u8]) -> Result<StatedText, CheckError>
     ensures gives { Gives (λ x. x) result (text_of bytes.now) }
     ensures few { IfOk result (λ x. x.first + length x.certificate.lines < 2 ^ 64) }
 {
-    let rest = fixed_at(1, bytes, b"pbnf-certificate 1")?;
-    let (kind, rest) = kind_at(2, rest)?;
-    let (weight, rest) = weight_at(3, rest)?;
-    let (plan, rest) = plan_at(alloc, 4, rest)?;
+    let (spelling, rest) = head_at(bytes)?;
+    let line = 1 + u64::from(spelling.head_lines());
+    let (weight, rest) = weight_at(line, rest)?;
+    let (plan, rest) = plan_at(alloc, line + 1, rest)?;
     let lines = plan_lines(&plan);
-    let rows = body_at(alloc, 4 + lines, rest)?;
+    let rows = body_at(alloc, line + 1 + lines, rest)?;
     Ok(StatedText {
-        kind,
+        spelling,
         weight,
         plan,
         rows,
-        first: 5 + lines,
+        first: line + 2 + lines,
     })
 }

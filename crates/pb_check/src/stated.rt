@@ -1,7 +1,7 @@
 ghost use Rattle.std.specs.Prelude.{◌≡◌};
 
-use crate::kind::TaskKind;
 use crate::rows::StatedRows;
+use pb_estimate::Spelling;
 use std::marker::Model;
 
 /// The weight that a certificate states, in range or not.
@@ -29,7 +29,7 @@ impl Model for StatedPlan {
 /// All that a certificate says: contracts see what a text says.
 #[derive(Drop)]
 pub struct StatedText {
-    pub kind: TaskKind,
+    pub spelling: Spelling,
     pub weight: StatedWeight,
     pub plan: Option<StatedPlan>,
     pub rows: StatedRows,
@@ -42,7 +42,7 @@ impl Model for StatedText {
     ghost Value = { Text };
 
     ghost view = { λ p. record {
-      kind = p.kind;
+      spelling = p.spelling;
       certificate = record {
         weight = record { num = p.weight.num; den = p.weight.den };
         plan = p.plan;

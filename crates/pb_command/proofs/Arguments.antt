@@ -11,9 +11,11 @@ use Rattle.clap.specs.ValueTests.{accepts}
 use Rattle.clap.specs.Faults.{settle_fault, walk_fault, level_fault, check_fault, defaults_fault}
 use Rattle.clap.specs.declared.builder.value_parser.Reading.TheVariants.{AsWritten}
 use Rattle.clap.specs.declared.parser.matches.ValueSource.TheVariants.{CommandLine}
-use Rattle.pb_command.specs.Options.{ValuedOption, Row, Workers, Num, Den, Budget, Lot, Blocks, Certificate, Journal, is_same, Argument, Placed, Valued, Flag, FlagOption, Plain, Swamp, is_same_flag, words_of, placed_words, value_given, flag_given, AreDistinct, IsArgumentOf}
+use Rattle.pb_command.specs.declared.table.ValuedOption.{ValuedOption}
+use Rattle.pb_command.specs.declared.table.FlagOption.{FlagOption}
+use Rattle.pb_command.specs.Options.{is_same, Argument, Placed, Valued, Flag, is_same_flag, words_of, placed_words, value_given, flag_given, AreDistinct, IsArgumentOf}
 use Rattle.pb_command.proofs.Walking.{Place, Kind, FirstFile, SecondFile, CertificateFile, JournalFile, Seed, Size, place_id, place_parser, HasOption, HasFlag, HasPlace, at, option_id, flag_id, match_row, held_with, held_flag}
-use Rattle.pb_command.proofs.Walking.{same_option, same_itself, ids_apart, ids_same, place_no_option, option_no_place, place_no_flag, flag_no_place, option_no_flag, flag_no_option, same_flag, same_flag_itself, flag_ids_apart, flag_ids_same, put_last, still_none}
+use Rattle.pb_command.proofs.Walking.{same_option, same_itself, place_no_option, option_no_place, nowhere, place_no_flag, flag_no_place, flag_nowhere, option_no_flag, flag_no_option, same_flag, same_flag_itself, put_last, still_none}
 use Rattle.pb_command.proofs.Walking.{valued_step, placed_step, flag_step, valued_fault, placed_fault, flag_fault, valued_rows, placed_rows, flag_rows, valued_faultless, placed_faultless}
 
 -- the row of an identifier
@@ -41,20 +43,11 @@ same_place : (p q : Place) → bytes_eq (place_id p) (place_id q) ≡ true → p
 same_place p q e = (bytes_eq-Decides (place_id p) (place_id q)).0 e
 
 first_no_option : (places : List Place) (o : ValuedOption) → bytes_eq (first_id places) (option_id o) ≡ false
-first_no_option [] Row = refl
-first_no_option [] Workers = refl
-first_no_option [] Num = refl
-first_no_option [] Den = refl
-first_no_option [] Budget = refl
-first_no_option [] Lot = refl
-first_no_option [] Blocks = refl
-first_no_option [] Certificate = refl
-first_no_option [] Journal = refl
+first_no_option [] o = nowhere o
 first_no_option (p ∷ ps) o = place_no_option p o
 
 first_no_flag : (places : List Place) (f : FlagOption) → bytes_eq (first_id places) (flag_id f) ≡ false
-first_no_flag [] Plain = refl
-first_no_flag [] Swamp = refl
+first_no_flag [] f = flag_nowhere f
 first_no_flag (p ∷ ps) f = place_no_flag p f
 
 -- the value that is found for an option is the one that it was given
@@ -68,11 +61,8 @@ found_option places option (Valued other value ∷ rest) = by (is_same option ot
       → row_of (option_id option) (rows_for places rest) ≡ option_map (match_row (option_id option)) (value_given option rest)
       → (if bytes_eq (option_id other) (option_id option) then Some (match_row (option_id other) value) else row_of (option_id option) (rows_for places rest))
       ≡ option_map (match_row (option_id option)) (if is_same option other then Some value else value_given option rest)
-  by true is found =
-      let same : option ≡ other = same_option option other is in
-      rw is (subst (λ o. (if bytes_eq (option_id o) (option_id option) then Some (match_row (option_id o) value)
-      else row_of (option_id option) (rows_for places rest)) ≡ Some (match_row (option_id option) value)) same (rw (ids_same option) refl))
-  by false is found = rw (is, ids_apart option other is) found
+  by true is found = rw is (ap (λ id. Some (match_row id value)) ((bytes_eq-Decides (option_id other) (option_id option)).0 is))
+  by false is found = rw is found
 
 -- the word that is found for a place is the one that stands there
 pub found_place : (p : Place) (places : List Place) (arguments : List Argument)
@@ -109,11 +99,8 @@ found_flag places flag (Flag other ∷ rest) = by (is_same_flag flag other) refl
       → row_of (flag_id flag) (rows_for places rest) ≡ (if flag_given flag rest then Some (match_row (flag_id flag) (codes "true")) else None)
       → (if bytes_eq (flag_id other) (flag_id flag) then Some (match_row (flag_id other) (codes "true")) else row_of (flag_id flag) (rows_for places rest))
       ≡ (if is_same_flag flag other || flag_given flag rest then Some (match_row (flag_id flag) (codes "true")) else None)
-  by true is found =
-      let same : flag ≡ other = same_flag flag other is in
-      rw is (subst (λ f. (if bytes_eq (flag_id f) (flag_id flag) then Some (match_row (flag_id f) (codes "true"))
-      else row_of (flag_id flag) (rows_for places rest)) ≡ Some (match_row (flag_id flag) (codes "true"))) same (rw (flag_ids_same flag) refl))
-  by false is found = rw (is, flag_ids_apart flag other is) found
+  by true is found = rw is (ap (λ id. Some (match_row id (codes "true"))) ((bytes_eq-Decides (flag_id other) (flag_id flag)).0 is))
+  by false is found = rw is found
 
 -- there is a row where one is found
 pub has_row_is : (id : Text) (rows : List MatchRow) → has_row id rows ≡ is_some (row_of id rows)
@@ -207,7 +194,7 @@ module _ (s : Shape) (has_option : ValuedOption → Bool) (has_flag : FlagOption
     by : (other : FlagOption) → flag_given other rest ≡ true → (b : Bool) → is_same_flag other flag ≡ b → has_row (flag_id other) (rows ++ match_row (flag_id flag) (codes "true") ∷ []) ≡ false
     by other given true is =
         let same : flag_given flag rest ≡ true = subst (λ f. flag_given f rest ≡ true) (same_flag other flag is) given in absurd (never (sym none ∙ same))
-    by other given false is = still_none (flag_id other) rows (flag_id flag) (codes "true") (new.flags other (rw is given)) (flag_ids_apart other flag is)
+    by other given false is = still_none (flag_id other) rows (flag_id flag) (codes "true") (new.flags other (rw is given)) is
 
   new_after_valued : (places : List Place) (option : ValuedOption) (value : Text) (rest : List Argument) (rows : List MatchRow) → value_given option rest ≡ None
       → AreNew places (Valued option value ∷ rest) rows → AreNew places rest (rows ++ match_row (option_id option) value ∷ [])
@@ -221,7 +208,7 @@ module _ (s : Shape) (has_option : ValuedOption → Bool) (has_flag : FlagOption
     by other given_value given true is =
         let same : value_given option rest ≡ Some given_value = subst (λ o. value_given o rest ≡ Some given_value) (same_option other option is) given in cc
     by other given_value given false is =
-        still_none (option_id other) rows (option_id option) value (new.options other given_value (rw is given)) (ids_apart other option is)
+        still_none (option_id other) rows (option_id option) value (new.options other given_value (rw is given)) is
 
   pub walks : (arguments : List Argument) (places : List Place) (i : ℕ) (h : Held) (rows : List MatchRow) → HasPlaces s i places → AreApart places
       → (settled s.rules h).rows ≡ rows → settle_fault s.rules false h ≡ []

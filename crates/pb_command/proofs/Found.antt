@@ -1,18 +1,17 @@
 -- What is found for the options and the words of a command, also after the defaults of flags.
-use Rattle.std.proofs.Common.{◌≡◌, ◌∙◌, ◌||◌, ℕ, Bool, true, false, List, [], ◌∷◌, Option, None, Some, refl, sym, ap, codes}
+use Rattle.std.proofs.Common.{◌≡◌, ◌∙◌, ◌||◌, ◌&&◌, Bool, true, false, List, [], ◌∷◌, Option, None, Some, refl, sym, ap, codes}
 use Rattle.std.specs.Prelude.{is_some, option_map, if◌then◌else◌}
 use Rattle.std.specs.List.{AllByRecursion}
-use Rattle.std.specs.Option.{option_map_or}
 use Rattle.std.specs.Str.{bytes_eq}
-use Rattle.clap.specs.Walk.{Row as MatchRow, Text, with_default, with_values, has_row, first_of}
-use Rattle.clap.specs.ValueTests.{is_unsigned_in}
+use Rattle.clap.specs.Walk.{Row as MatchRow, Text, with_default, with_values, has_row, first_of, one_of}
 use Rattle.clap.specs.declared.builder.value_parser.Reading.TheVariants.{AsWritten}
 use Rattle.clap.specs.declared.parser.matches.ValueSource.TheVariants.{DefaultValue}
-use Rattle.pb_command.specs.Parser.{NumberOption, row_option, workers_option, num_option, den_option, budget_option, lot_option, blocks_option}
-use Rattle.pb_command.specs.Values.{InputNames, Grid, Tiles, Strips, option_of, flag_of}
-use Rattle.pb_command.specs.Meaning.{SolveNumbers, numbers_of}
-use Rattle.pb_command.specs.Options.{ValuedOption, Row, Workers, Num, Den, Budget, Lot, Blocks, is_same, Argument, Placed, Valued, Flag, FlagOption, placed_words, value_given, flag_given, number_given, number_of, IsArgumentOf, is_value_of}
-use Rattle.pb_command.proofs.Walking.{Place, place_id, option_id, flag_id, match_row, flag_rule, same_option, flag_no_option, flag_no_place, flag_ids_same}
+use Rattle.pb_command.specs.declared.table.ValuedOption.{ValuedOption}
+use Rattle.pb_command.specs.declared.table.FlagOption.{FlagOption}
+use Rattle.pb_command.specs.Table.{Form, Number, FileName, OneOf, option_name, option_form}
+use Rattle.pb_command.specs.Values.{InputNames, Grid, Tiles, Strips, flag_of, fits, values_fit, number_read, number_at}
+use Rattle.pb_command.specs.Options.{is_same, Argument, Placed, Valued, Flag, placed_words, value_given, flag_given, number_given, number_by, IsArgumentOf, is_value_of}
+use Rattle.pb_command.proofs.Walking.{Place, place_id, option_id, flag_id, match_row, flag_rule, same_option, flag_no_option, flag_no_place, same_flag_itself}
 use Rattle.pb_command.proofs.Arguments.{row_of, rows_for, word_at, found_option, found_place, has_row_is}
 
 -- the first file of an input
@@ -76,7 +75,7 @@ FindsFlag f arguments rows = row_of (flag_id f) rows ≡ (if flag_given f argume
 pub flag_read : (f : FlagOption) (arguments : List Argument) (rows : List MatchRow) → FindsFlag f arguments rows → flag_of (flag_id f) (with_default rows (flag_rule f)) ≡ flag_given f arguments
 flag_read f arguments rows found =
     by (has_row (flag_id f) rows) (flag_given f arguments) refl (has_row_is (flag_id f) rows ∙ (ap is_some found ∙ some (flag_given f arguments))) found
-    (λ e. row_new (flag_id f) (codes "false" ∷ []) rows (flag_ids_same f) e) where
+    (λ e. row_new (flag_id f) (codes "false" ∷ []) rows (same_flag_itself f) e) where
       some : (b : Bool) → is_some (if b then Some (match_row (flag_id f) (codes "true")) else None) ≡ b
       some true = refl
       some false = refl
@@ -111,44 +110,40 @@ value_fits has_option has_flag option value (Valued other given_value ∷ rest) 
           ap (λ o. is_value_of o value) same ∙ (ap (is_value_of other) (sym value_is) ∙ all.0.2)
       by false is e later = later e
 
--- a number that is found lies in its range, and is the one that was given
-pub number_read : (o : NumberOption) (rows : List MatchRow) (given : Option Text)
-    → row_of o.name rows ≡ option_map (match_row o.name) given
-    → ((value : Text) → given ≡ Some value → is_unsigned_in o.least o.most value ≡ true)
-    → option_of o rows ≡ Some (option_map_or number_of given o.default)
-number_read o rows None found fits = rw found refl
-number_read o rows (Some value) found fits = rw (found, fits value refl) refl
-
 -- the text that is given with an option, or in a place, is what is found for it
 pub text_read : (rows : List MatchRow) (id : Text) (given : Option Text) → row_of id rows ≡ option_map (match_row id) given → first_of id rows ≡ given
 text_read rows id None found = rw found refl
 text_read rows id (Some value) found = rw found refl
 
--- the numbers of the options of `solve`
-abbrev pub numbers_given : List Argument → SolveNumbers
-numbers_given arguments = record {
-  row = number_given Row 0 arguments;
-  workers = number_given Workers 1 arguments;
-  num = number_given Num 1 arguments;
-  den = number_given Den 1 arguments;
-  budget = number_given Budget 16777216 arguments;
-  lot = number_given Lot 256 arguments;
-  blocks = number_given Blocks 256 arguments;
-}
+one_read : (rows : List MatchRow) (id : Text) (given : Option Text) → row_of id rows ≡ option_map (match_row id) given → one_of id rows ≡ given
+one_read rows id None found = rw found refl
+one_read rows id (Some value) found = rw found refl
 
-numbers_are : (rows : List MatchRow) (row workers num den budget lot blocks : ℕ)
-    → option_of row_option rows ≡ Some row → option_of workers_option rows ≡ Some workers → option_of num_option rows ≡ Some num → option_of den_option rows ≡ Some den
-    → option_of budget_option rows ≡ Some budget → option_of lot_option rows ≡ Some lot → option_of blocks_option rows ≡ Some blocks
-    → numbers_of rows ≡ Some (record { row = row; workers = workers; num = num; den = den; budget = budget; lot = lot; blocks = blocks })
-numbers_are rows row workers num den budget lot blocks a b c d e f g = rw (a, b, c, d, e, f, g) refl
+-- ---- the options of a command
 
-pub numbers_read : (has_option : ValuedOption → Bool) (has_flag : FlagOption → Bool) (places : List Place) (arguments : List Argument) (rows : List MatchRow)
-    → AllByRecursion (IsArgumentOf has_option has_flag) arguments → Finds places arguments rows → numbers_of rows ≡ Some (numbers_given arguments)
-numbers_read has_option has_flag places arguments rows all found = numbers_are rows _ _ _ _ _ _ _
-    (number_read row_option rows (value_given Row arguments) (found.option Row) (λ value given. value_fits has_option has_flag Row value arguments all given))
-    (number_read workers_option rows (value_given Workers arguments) (found.option Workers) (λ value given. value_fits has_option has_flag Workers value arguments all given))
-    (number_read num_option rows (value_given Num arguments) (found.option Num) (λ value given. value_fits has_option has_flag Num value arguments all given))
-    (number_read den_option rows (value_given Den arguments) (found.option Den) (λ value given. value_fits has_option has_flag Den value arguments all given))
-    (number_read budget_option rows (value_given Budget arguments) (found.option Budget) (λ value given. value_fits has_option has_flag Budget value arguments all given))
-    (number_read lot_option rows (value_given Lot arguments) (found.option Lot) (λ value given. value_fits has_option has_flag Lot value arguments all given))
-    (number_read blocks_option rows (value_given Blocks arguments) (found.option Blocks) (λ value given. value_fits has_option has_flag Blocks value arguments all given))
+-- a value of its form is read as the number that it writes
+read_by : (f : Form) (given : Option Text) → fits f given ≡ true → number_read f given ≡ number_by f given
+read_by (Number range) None fit = refl
+read_by (Number range) (Some value) fit = rw fit refl
+read_by FileName given fit = refl
+read_by (OneOf words) given fit = refl
+
+module _ (takes : ValuedOption → Bool) (takes_flag : FlagOption → Bool) (places : List Place) (arguments : List Argument) (rows : List MatchRow)
+    (all : AllByRecursion (IsArgumentOf takes takes_flag) arguments) (found : Finds places arguments rows) where
+  given_fits : (o : ValuedOption) → fits (option_form o) (value_given o arguments) ≡ true
+  given_fits o = by (value_given o arguments) refl where
+    by : (given : Option Text) → value_given o arguments ≡ given → fits (option_form o) given ≡ true
+    by None is = refl
+    by (Some value) is = value_fits takes takes_flag o value arguments all is
+
+  read_as_given : (o : ValuedOption) → one_of (option_name o) rows ≡ value_given o arguments
+  read_as_given o = one_read rows (option_name o) (value_given o arguments) (found.option o)
+
+  -- the number of each option is the one that was given, or its default
+  pub numbers_read : (o : ValuedOption) → number_at rows o ≡ number_given o arguments
+  numbers_read o = ap (number_read (option_form o)) (read_as_given o) ∙ read_by (option_form o) (value_given o arguments) (given_fits o)
+
+  -- and all are of their forms
+  pub all_fit : (options : List ValuedOption) → values_fit options rows ≡ true
+  all_fit [] = refl
+  all_fit (o ∷ os) = ap (λ given. fits (option_form o) given && values_fit os rows) (read_as_given o) ∙ (ap (λ b. b && values_fit os rows) (given_fits o) ∙ all_fit os)

@@ -1,16 +1,18 @@
 -- What `journal` reads of its arguments.
-use Rattle.std.proofs.Common.{◌≡◌, ◌∙◌, ℕ, false, List, [], ◌∷◌, Option, Some, refl, sym, ap, ap₂, subst, codes}
+use Rattle.std.proofs.Common.{◌≡◌, ◌∙◌, ℕ, true, false, List, [], ◌∷◌, Option, Some, refl, sym, ap, ap₂, subst, codes}
 use Rattle.std.specs.Prelude.{fold}
 use Rattle.std.specs.List.{AllByRecursion}
 use Rattle.clap.specs.Walk.{Row as MatchRow, Text, rows_after, with_default, first_of}
 use Rattle.clap.specs.Faults.{check_fault}
-use Rattle.pb_command.specs.Parser.{row_option}
-use Rattle.pb_command.specs.Values.{InputNames, Grid, Tiles, Strips, kind_of_text, option_of}
-use Rattle.pb_command.specs.Meaning.{Read, Journal, reading_of_words, unless_faulty, journal_of, with_kind, journal_with}
-use Rattle.pb_command.specs.Options.{Row, Argument, words_of, placed_words, value_given, number_given, AreDistinct, IsArgumentOf, is_of_check, no_flag, kind_word, file_words}
+use Rattle.pb_command.specs.declared.command.InputOptions.{InputOptions}
+use Rattle.pb_command.specs.declared.table.ValuedOption.TheVariants.{Row}
+use Rattle.pb_command.specs.Table.{journal_options}
+use Rattle.pb_command.specs.Values.{InputNames, Grid, Tiles, Strips, kind_of_text, values_fit, number_at}
+use Rattle.pb_command.specs.Meaning.{Read, Journal, reading_of_words, unless_faulty, journal_of, with_kind, if_fit, journal_with}
+use Rattle.pb_command.specs.Options.{number_given, Argument, words_of, placed_words, AreDistinct, IsArgumentOf, is_of_journal, no_flag, kind_word, file_words}
 use Rattle.pb_command.proofs.Walking.{Place, Kind, FirstFile, SecondFile, JournalFile, match_row, no_defaults, no_default_fault}
 use Rattle.pb_command.proofs.Arguments.{row_of, rows_for, word_at, FitPlaces, walks_all, rows_are, no_fault_at_all}
-use Rattle.pb_command.proofs.Found.{first_file, finds, text_read, number_read, value_fits}
+use Rattle.pb_command.proofs.Found.{first_file, finds, text_read, numbers_read, all_fit}
 use Rattle.pb_command.proofs.Shapes.{journal_shape, journal_takes, by_words, ToJournal, no_default_in_journal}
 
 abbrev pub journal_places : List Place
@@ -23,19 +25,23 @@ nothing_missing : (rows : List MatchRow) (kind journal first : Text) → row_of 
 unfolding journal_shape
 nothing_missing rows kind journal first has_kind has_journal has_first = rw (has_kind, has_journal, has_first) refl
 
-journal_values : (rows : List MatchRow) (kind journal first second : Option Text) (row : Option ℕ)
+-- what is given to `journal` says of how files are read
+abbrev pub journal_options_given : List Argument → InputOptions
+journal_options_given arguments = record { row = number_given Row arguments; swamp = false }
+
+journal_values : (rows : List MatchRow) (kind journal first second : Option Text) (row : ℕ) → values_fit journal_options rows ≡ true
     → first_of (codes "KIND") rows ≡ kind → first_of (codes "JOURNAL") rows ≡ journal → first_of (codes "FIRST_FILE") rows ≡ first → first_of (codes "SECOND_FILE") rows ≡ second
-    → option_of row_option rows ≡ row → journal_of rows ≡ with_kind (kind_of_text kind) (journal_with journal first second row)
-journal_values rows kind journal first second row a b d e f = ap₂ with_kind (ap kind_of_text a) (rw (b, d, e, f) refl)
+    → number_at rows Row ≡ row → journal_of rows ≡ with_kind (kind_of_text kind) (journal_with journal first second (record { row = row; swamp = false }))
+journal_values rows kind journal first second row fit a b d e f = λ i. if_fit (fit i) (with_kind (kind_of_text (a i)) (journal_with (b i) (d i) (e i) (record { row = f i; swamp = false })))
 
 -- what the arguments of `journal` ask for, whatever its kind and the number of its files
-pub journal_is : (arguments : List Argument) → AllByRecursion (IsArgumentOf is_of_check no_flag) arguments → AreDistinct arguments → FitPlaces journal_places (placed_words arguments)
+pub journal_is : (arguments : List Argument) → AllByRecursion (IsArgumentOf is_of_journal no_flag) arguments → AreDistinct arguments → FitPlaces journal_places (placed_words arguments)
     → (kind journal first : Text) → word_at Kind journal_places (placed_words arguments) ≡ Some kind → word_at JournalFile journal_places (placed_words arguments) ≡ Some journal
     → word_at FirstFile journal_places (placed_words arguments) ≡ Some first
     → reading_of_words (codes "journal" ∷ words_of arguments) ≡ with_kind (kind_of_text (Some kind))
-    (journal_with (Some journal) (Some first) (word_at SecondFile journal_places (placed_words arguments)) (Some (number_given Row 0 arguments)))
+    (journal_with (Some journal) (Some first) (word_at SecondFile journal_places (placed_words arguments)) (journal_options_given arguments))
 journal_is arguments all distinct fit kind journal first kind_is journal_here first_is =
-    let w = walks_all journal_shape is_of_check no_flag journal_places journal_takes arguments all distinct fit in
+    let w = walks_all journal_shape is_of_journal no_flag journal_places journal_takes arguments all distinct fit in
     let rows = rows_for journal_places arguments in
     let found = finds journal_places arguments in
     let kind_row : row_of (codes "KIND") rows ≡ Some (match_row (codes "KIND") kind) = found.place Kind ∙ rw kind_is refl in
@@ -46,10 +52,11 @@ journal_is arguments all distinct fit kind journal first kind_is journal_here fi
     (ap (λ x. check_fault journal_shape x false) same ∙ nothing_missing rows kind journal first kind_row journal_row first_row) in
     let are : rows_after journal_shape.rules [] (words_of arguments) ≡ rows = rows_are journal_shape journal_places arguments w ∙ same in
     by_words ToJournal (words_of arguments) ∙ (ap₂ unless_faulty none (ap journal_of are)
-    ∙ journal_values rows (Some kind) (Some journal) (Some first) (word_at SecondFile journal_places (placed_words arguments)) (Some (number_given Row 0 arguments))
+    ∙ journal_values rows (Some kind) (Some journal) (Some first) (word_at SecondFile journal_places (placed_words arguments)) (number_given Row arguments)
+    (all_fit is_of_journal no_flag journal_places arguments rows all found journal_options)
     (text_read rows (codes "KIND") (Some kind) kind_row) (text_read rows (codes "JOURNAL") (Some journal) journal_row) (text_read rows (codes "FIRST_FILE") (Some first) first_row)
     (text_read rows (codes "SECOND_FILE") (word_at SecondFile journal_places (placed_words arguments)) (found.place SecondFile))
-    (number_read row_option rows (value_given Row arguments) (found.option Row) (λ value given. value_fits is_of_check no_flag Row value arguments all given)))
+    (numbers_read is_of_journal no_flag journal_places arguments rows all found Row))
 
 files_fit : (input : InputNames) (journal : Text) → FitPlaces journal_places (kind_word input ∷ journal ∷ file_words input)
 files_fit (Grid names) journal = (refl, (refl, (refl, (refl, tt))))
@@ -71,22 +78,22 @@ first_at (Grid names) journal = refl
 first_at (Tiles board) journal = refl
 first_at (Strips names) journal = refl
 
-asked : (input : InputNames) (journal : Text) (row : ℕ)
+asked : (input : InputNames) (journal : Text) (options : InputOptions)
     → with_kind (kind_of_text (Some (kind_word input)))
-    (journal_with (Some journal) (Some (first_file input)) (word_at SecondFile journal_places (kind_word input ∷ journal ∷ file_words input)) (Some row))
-    ≡ Read (Journal (record { input = input; journal = journal; row = row }))
-asked (Grid names) journal row = refl
-asked (Tiles board) journal row = refl
-asked (Strips names) journal row = refl
+    (journal_with (Some journal) (Some (first_file input)) (word_at SecondFile journal_places (kind_word input ∷ journal ∷ file_words input)) options)
+    ≡ Read (Journal (record { input = input; journal = journal; options = options }))
+asked (Grid names) journal options = refl
+asked (Tiles board) journal options = refl
+asked (Strips names) journal options = refl
 
 -- the law
-pub journal_reads : (input : InputNames) (journal : Text) (arguments : List Argument) → AllByRecursion (IsArgumentOf is_of_check no_flag) arguments → AreDistinct arguments
+pub journal_reads : (input : InputNames) (journal : Text) (arguments : List Argument) → AllByRecursion (IsArgumentOf is_of_journal no_flag) arguments → AreDistinct arguments
     → placed_words arguments ≡ kind_word input ∷ journal ∷ file_words input
-    → reading_of_words (codes "journal" ∷ words_of arguments) ≡ Read (Journal (record { input = input; journal = journal; row = number_given Row 0 arguments }))
+    → reading_of_words (codes "journal" ∷ words_of arguments) ≡ Read (Journal (record { input = input; journal = journal; options = journal_options_given arguments }))
 journal_reads input journal arguments all distinct placed =
     journal_is arguments all distinct (subst (FitPlaces journal_places) (sym placed) (files_fit input journal)) (kind_word input) journal (first_file input)
     (ap (word_at Kind journal_places) placed ∙ kind_at input journal) (ap (word_at JournalFile journal_places) placed ∙ journal_at input journal)
     (ap (word_at FirstFile journal_places) placed ∙ first_at input journal)
     ∙ (ap (λ ws. with_kind (kind_of_text (Some (kind_word input)))
-    (journal_with (Some journal) (Some (first_file input)) (word_at SecondFile journal_places ws) (Some (number_given Row 0 arguments)))) placed
-    ∙ asked input journal (number_given Row 0 arguments))
+    (journal_with (Some journal) (Some (first_file input)) (word_at SecondFile journal_places ws) (journal_options_given arguments))) placed
+    ∙ asked input journal (journal_options_given arguments))

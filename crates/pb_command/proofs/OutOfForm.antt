@@ -9,12 +9,14 @@ use Rattle.clap.specs.Kinds.{Kinds, or_else}
 use Rattle.pb_command.specs.Names.{IsName}
 use Rattle.pb_command.specs.Values.{InputNames}
 use Rattle.pb_command.specs.Meaning.{Reading, Refused, reading_of_words, unless_faulty}
-use Rattle.pb_command.specs.Options.{ValuedOption, Argument, option_word, words_of, value_given, FlagOption, flag_word, flag_given, is_value_of, AreOfSolve}
+use Rattle.pb_command.specs.declared.table.ValuedOption.{ValuedOption}
+use Rattle.pb_command.specs.declared.table.FlagOption.{FlagOption}
+use Rattle.pb_command.specs.Options.{Argument, option_word, words_of, value_given, flag_word, flag_given, is_value_of, AreOfSolve}
 use Rattle.pb_command.specs.declared.refusal.CommandFault.TheVariants as fault
 use Rattle.pb_command.proofs.Walking.{FailsHere as IsFaulty, HasOption, at, option_id, flag_id, match_row, held_with, valued_step, flag_again, option_accepts}
 use Rattle.pb_command.proofs.Arguments.{row_of, rows_for, found_option, has_flag_row, IsWalkedWhole}
 use Rattle.clap.proofs.OnLiterals.{clap_on_literals}
-use Rattle.pb_command.proofs.Shapes.{solve_shape, make_shape, plainless_rules, solve_takes, by_words, ToSolve, ToMake}
+use Rattle.pb_command.proofs.Shapes.{solve_shape, make_shape, plainless_rules, solve_takes, all_of_solve, all_flags_of_solve, by_words, ToSolve, ToMake}
 use Rattle.pb_command.proofs.SolveReading.{solve_places, solve_walk, solve_fits}
 
 first_fails : (a b : Kinds) → IsFaulty a → IsFaulty (or_else a b)
@@ -93,7 +95,7 @@ pub out_of_range : (input : InputNames) (arguments : List Argument) → AreOfSol
     → reading_of_words (codes "solve" ∷ words_of arguments ++ option_word o ∷ value ∷ []) ≡ Refused fault.Form
 out_of_range input arguments are o value is wrong =
     let w = solve_walk arguments are.each are.distinct (solve_fits input arguments are) in
-    let has = solve_takes.option o refl in
+    let has = solve_takes.option o (all_of_solve o) in
     fails_at_end arguments w (option_word o ∷ value ∷ []) (at (held_with solve_shape (option_id o) value w.last) w.end) (valued_step solve_shape o value w.last w.end has is)
     (strict_settle (held_with solve_shape (option_id o) value w.last) (wrong_value solve_shape o value w.last has wrong))
 
@@ -102,7 +104,7 @@ pub given_twice : (input : InputNames) (arguments : List Argument) → AreOfSolv
     → reading_of_words (codes "solve" ∷ words_of arguments ++ option_word o ∷ second ∷ []) ≡ Refused fault.Form
 given_twice input arguments are o first second given is =
     let w = solve_walk arguments are.each are.distinct (solve_fits input arguments are) in
-    let has = solve_takes.option o refl in
+    let has = solve_takes.option o (all_of_solve o) in
     let found : row_of (option_id o) (rows_for solve_places arguments) ≡ Some (match_row (option_id o) first) = found_option solve_places o arguments ∙ rw given refl in
     fails_at_end arguments w (option_word o ∷ second ∷ []) (at (held_with solve_shape (option_id o) second w.last) w.end) (valued_step solve_shape o second w.last w.end has is)
     (strict_settle (held_with solve_shape (option_id o) second w.last) (second_value solve_shape o second w.last has (ap (has_row (option_id o)) w.found ∙ has_found (option_id o) (rows_for solve_places arguments) (match_row (option_id o) first) found)))
@@ -116,7 +118,7 @@ pub flag_twice : (input : InputNames) (arguments : List Argument) → AreOfSolve
 flag_twice input arguments are flag given =
     let w = solve_walk arguments are.each are.distinct (solve_fits input arguments are) in
     fails_after arguments w (flag_word flag ∷ []) (one_word solve_shape (at w.last w.end) (flag_word flag)
-    (flag_again solve_shape flag w.last w.end solve_takes.strict (solve_takes.flag flag refl) w.faultless
+    (flag_again solve_shape flag w.last w.end solve_takes.strict (solve_takes.flag flag (all_flags_of_solve flag)) w.faultless
     (ap (has_row (flag_id flag)) w.found ∙ (has_flag_row solve_places flag arguments ∙ given))))
 
 no_help : arg_by_long solve_shape.rules (codes "help") ≡ None

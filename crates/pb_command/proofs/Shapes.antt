@@ -8,7 +8,12 @@ use Rattle.clap.specs.Faults.{built_fault, level_fault, walk_fault, defaults_fau
 use Rattle.clap.specs.Kinds.{Kinds, or_else}
 use Rattle.pb_command.specs.Parser.{the_program}
 use Rattle.pb_command.specs.Meaning.{Reading, reading_of_words, unless_faulty, command_met, solve_of, check_of, journal_of, make_of}
-use Rattle.pb_command.specs.Options.{ValuedOption, Row, Workers, Num, Den, Budget, Lot, Blocks, Certificate, Journal, is_of_solve, is_of_check, is_of_make, FlagOption, Plain, Swamp, every_flag, no_flag, is_flag_of_check}
+use Rattle.pb_command.specs.declared.table.ValuedOption.{ValuedOption}
+use Rattle.pb_command.specs.declared.table.ValuedOption.TheVariants.{Row, Workers}
+use Rattle.pb_command.specs.declared.table.FlagOption.{FlagOption}
+use Rattle.pb_command.specs.declared.table.FlagOption.TheVariants.{Plain, Swamp}
+use Rattle.pb_command.specs.Table.{solve_options, solve_flags, check_options, check_flags, journal_options, make_options}
+use Rattle.pb_command.specs.Options.{is_of_solve, is_of_check, is_of_journal, is_of_make, is_flag_of_solve, is_flag_of_check, no_flag}
 use Rattle.pb_command.proofs.Declared.{program_on_literals}
 use Rattle.pb_command.proofs.Walking.{Kind, FirstFile, SecondFile, CertificateFile, JournalFile, Seed, Size, HasOption, HasFlag, HasNoDefault, placed_rule, valued_rule, flag_rule}
 use Rattle.pb_command.proofs.Arguments.{Takes, HasPlaces}
@@ -26,26 +31,25 @@ shape_with name rules = record (new_shape name) {
 
 -- the rules of `solve` that have no default
 unfoldable pub plainless_rules : List Rule
-plainless_rules = placed_rule 1 Kind ∷ placed_rule 2 FirstFile ∷ placed_rule 3 SecondFile ∷ valued_rule Row ∷ valued_rule Workers ∷ valued_rule Num ∷ valued_rule Den
-    ∷ valued_rule Budget ∷ valued_rule Lot ∷ valued_rule Blocks ∷ valued_rule Certificate ∷ valued_rule Journal ∷ []
+plainless_rules = placed_rule 1 Kind ∷ placed_rule 2 FirstFile ∷ placed_rule 3 SecondFile ∷ map valued_rule solve_options
 
 unfoldable pub solve_shape : Shape
 unfolding plainless_rules
-solve_shape = shape_with (codes "solve") (plainless_rules ++ map flag_rule (Plain ∷ Swamp ∷ []))
+solve_shape = shape_with (codes "solve") (plainless_rules ++ map flag_rule solve_flags)
 
 -- the rules of `check` that have no default
 unfoldable pub flagless_rules : List Rule
-flagless_rules = placed_rule 1 Kind ∷ placed_rule 2 CertificateFile ∷ placed_rule 3 FirstFile ∷ placed_rule 4 SecondFile ∷ valued_rule Row ∷ []
+flagless_rules = placed_rule 1 Kind ∷ placed_rule 2 CertificateFile ∷ placed_rule 3 FirstFile ∷ placed_rule 4 SecondFile ∷ map valued_rule check_options
 
 unfoldable pub check_shape : Shape
 unfolding flagless_rules
-check_shape = shape_with (codes "check") (flagless_rules ++ map flag_rule (Swamp ∷ []))
+check_shape = shape_with (codes "check") (flagless_rules ++ map flag_rule check_flags)
 
 unfoldable pub journal_shape : Shape
-journal_shape = shape_with (codes "journal") (placed_rule 1 Kind ∷ placed_rule 2 JournalFile ∷ placed_rule 3 FirstFile ∷ placed_rule 4 SecondFile ∷ valued_rule Row ∷ [])
+journal_shape = shape_with (codes "journal") (placed_rule 1 Kind ∷ placed_rule 2 JournalFile ∷ placed_rule 3 FirstFile ∷ placed_rule 4 SecondFile ∷ map valued_rule journal_options)
 
 unfoldable pub make_shape : Shape
-make_shape = shape_with (codes "make") (placed_rule 1 Kind ∷ placed_rule 2 Seed ∷ placed_rule 3 Size ∷ valued_rule Workers ∷ [])
+make_shape = shape_with (codes "make") (placed_rule 1 Kind ∷ placed_rule 2 Seed ∷ placed_rule 3 Size ∷ map valued_rule make_options)
 
 unfoldable pub top_shape : Shape
 top_shape = record (new_shape (codes "pbnf")) {
@@ -148,25 +152,27 @@ places_of_solve = (record { by_index = refl; by_id = refl; next = refl }, (recor
 options_of_solve : (o : ValuedOption) → is_of_solve o ≡ true → HasOption solve_shape o
 unfolding solve_shape plainless_rules
 options_of_solve Row is = record { by_long = refl; by_id = refl }
-options_of_solve Workers is = record { by_long = refl; by_id = refl }
-options_of_solve Num is = record { by_long = refl; by_id = refl }
-options_of_solve Den is = record { by_long = refl; by_id = refl }
-options_of_solve Budget is = record { by_long = refl; by_id = refl }
-options_of_solve Lot is = record { by_long = refl; by_id = refl }
-options_of_solve Blocks is = record { by_long = refl; by_id = refl }
-options_of_solve Certificate is = record { by_long = refl; by_id = refl }
-options_of_solve Journal is = record { by_long = refl; by_id = refl }
+options_of_solve _ is = record { by_long = refl; by_id = refl }
 
-flags_of_solve : (f : FlagOption) → every_flag f ≡ true → HasFlag solve_shape f
+-- `solve` has every option and every flag
+pub all_of_solve : (o : ValuedOption) → is_of_solve o ≡ true
+all_of_solve Row = refl
+all_of_solve _ = refl
+
+pub all_flags_of_solve : (f : FlagOption) → is_flag_of_solve f ≡ true
+all_flags_of_solve Plain = refl
+all_flags_of_solve _ = refl
+
+flags_of_solve : (f : FlagOption) → is_flag_of_solve f ≡ true → HasFlag solve_shape f
 unfolding solve_shape plainless_rules
 flags_of_solve Plain is = refl
-flags_of_solve Swamp is = refl
+flags_of_solve _ is = refl
 
 solve_is_strict : solve_shape.args_override_self ≡ false
 unfolding solve_shape plainless_rules
 solve_is_strict = refl
 
-pub solve_takes : Takes solve_shape is_of_solve every_flag (Kind ∷ FirstFile ∷ SecondFile ∷ [])
+pub solve_takes : Takes solve_shape is_of_solve is_flag_of_solve (Kind ∷ FirstFile ∷ SecondFile ∷ [])
 solve_takes = record {
   strict = solve_is_strict;
   option = options_of_solve;
@@ -212,7 +218,7 @@ places_of_journal = (
   (record { by_index = refl; by_id = refl; next = refl }, (record { by_index = refl; by_id = refl; next = refl }, (record { by_index = refl; by_id = refl; next = refl }, tt))),
 )
 
-options_of_journal : (o : ValuedOption) → is_of_check o ≡ true → HasOption journal_shape o
+options_of_journal : (o : ValuedOption) → is_of_journal o ≡ true → HasOption journal_shape o
 unfolding journal_shape
 options_of_journal Row is = record { by_long = refl; by_id = refl }
 options_of_journal _ is = cc
@@ -221,7 +227,7 @@ journal_is_strict : journal_shape.args_override_self ≡ false
 unfolding journal_shape
 journal_is_strict = refl
 
-pub journal_takes : Takes journal_shape is_of_check no_flag (Kind ∷ JournalFile ∷ FirstFile ∷ SecondFile ∷ [])
+pub journal_takes : Takes journal_shape is_of_journal no_flag (Kind ∷ JournalFile ∷ FirstFile ∷ SecondFile ∷ [])
 journal_takes = record {
   strict = journal_is_strict;
   option = options_of_journal;
@@ -254,26 +260,30 @@ make_takes = record {
 
 -- ---- defaults
 
+no_default_in_valued : (options : List ValuedOption) → AllByRecursion HasNoDefault (map valued_rule options)
+no_default_in_valued [] = tt
+no_default_in_valued (o ∷ os) = (refl, no_default_in_valued os)
+
 pub no_default_in_solve : AllByRecursion HasNoDefault plainless_rules
 unfolding plainless_rules
-no_default_in_solve = (refl, (refl, (refl, (refl, (refl, (refl, (refl, (refl, (refl, (refl, (refl, (refl, tt))))))))))))
+no_default_in_solve = (refl, (refl, (refl, no_default_in_valued solve_options)))
 
-pub rules_of_solve : solve_shape.rules ≡ plainless_rules ++ map flag_rule (Plain ∷ Swamp ∷ [])
+pub rules_of_solve : solve_shape.rules ≡ plainless_rules ++ map flag_rule solve_flags
 unfolding solve_shape
 rules_of_solve = refl
 
-pub rules_of_check : check_shape.rules ≡ flagless_rules ++ map flag_rule (Swamp ∷ [])
+pub rules_of_check : check_shape.rules ≡ flagless_rules ++ map flag_rule check_flags
 unfolding check_shape
 rules_of_check = refl
 
 pub no_default_in_check : AllByRecursion HasNoDefault flagless_rules
 unfolding flagless_rules
-no_default_in_check = (refl, (refl, (refl, (refl, (refl, tt)))))
+no_default_in_check = (refl, (refl, (refl, (refl, no_default_in_valued check_options))))
 
 pub no_default_in_journal : AllByRecursion HasNoDefault journal_shape.rules
 unfolding journal_shape
-no_default_in_journal = (refl, (refl, (refl, (refl, (refl, tt)))))
+no_default_in_journal = (refl, (refl, (refl, (refl, no_default_in_valued journal_options))))
 
 pub no_default_in_make : AllByRecursion HasNoDefault make_shape.rules
 unfolding make_shape
-no_default_in_make = (refl, (refl, (refl, (refl, tt))))
+no_default_in_make = (refl, (refl, (refl, no_default_in_valued make_options)))

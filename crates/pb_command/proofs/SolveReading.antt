@@ -1,5 +1,6 @@
 -- What `solve` reads of its arguments.
 use Rattle.std.proofs.Common.{◌≡◌, ◌∙◌, ◌≤◌, ◌<◌, Bool, true, false, List, [], ◌∷◌, Option, None, Some, refl, sym, ap, ap₂, subst, codes}
+use mathlib.Core.Path.{fun_ext}
 use Rattle.std.specs.Prelude.{fold, map}
 use Rattle.std.specs.List.{AllByRecursion}
 use Rattle.std.specs.Str.{bytes_eq}
@@ -7,13 +8,19 @@ use Rattle.std.proofs.lemmas.Bool.{le-ltb, lt-ltb}
 use Rattle.std.proofs.lemmas.Slice.Eq.{bytes_eq-Decides}
 use Rattle.clap.specs.Walk.{Row as MatchRow, Text, rows_after, with_default, first_of}
 use Rattle.clap.specs.Faults.{check_fault, defaults_fault}
-use Rattle.pb_command.specs.Values.{InputNames, Grid, Tiles, Strips, kind_of_text, are_one_name, flag_of}
-use Rattle.pb_command.specs.Meaning.{Read, Refused, Solve, SolveMeaning, reading_of_words, unless_faulty, solve_of, with_kind, solve_with, solve_meaning, solve_tested, numbers_of}
-use Rattle.pb_command.specs.Options.{Num, Den, Certificate, Journal, number_given, Argument, words_of, placed_words, value_given, Plain, Swamp, flag_given, AreDistinct, IsArgumentOf, is_of_solve, every_flag, kind_word, file_words, AreOfSolve, HaveTwoNames}
+use Rattle.pb_machine.specs.declared.settings.Settings.{Settings}
+use Rattle.pb_command.specs.declared.command.InputOptions.{InputOptions}
+use Rattle.pb_command.specs.declared.table.ValuedOption.TheVariants.{Num, Den, Certificate, Journal}
+use Rattle.pb_command.specs.declared.table.FlagOption.{FlagOption}
+use Rattle.pb_command.specs.declared.table.FlagOption.TheVariants.{Plain, Swamp}
+use Rattle.pb_command.specs.Table.{solve_options, solve_flags}
+use Rattle.pb_command.specs.Values.{InputNames, Grid, Tiles, Strips, kind_of_text, are_one_name, flag_of, values_fit, number_at, flag_at, text_at}
+use Rattle.pb_command.specs.Meaning.{Read, Refused, Solve, SolveMeaning, reading_of_words, unless_faulty, solve_of, with_kind, if_fit, options_by, settings_by, solve_with, solve_tested}
+use Rattle.pb_command.specs.Options.{number_given, options_given, settings_given, Argument, words_of, placed_words, value_given, flag_given, AreDistinct, IsArgumentOf, is_of_solve, is_flag_of_solve, kind_word, file_words, AreOfSolve, HaveTwoNames}
 use Rattle.pb_command.specs.declared.refusal.CommandFault.TheVariants as fault
 use Rattle.pb_command.proofs.Walking.{Place, Kind, FirstFile, SecondFile, flag_id, match_row, flag_rule, defaults_last, last_default_fault, flags_default_fault}
 use Rattle.pb_command.proofs.Arguments.{row_of, rows_for, word_at, FitPlaces, IsWalkedWhole, found_flag, walks_all, rows_are, no_fault_at_all}
-use Rattle.pb_command.proofs.Found.{first_file, Finds, finds, finds_with, row_beside_flag, flag_read, flag_read_beside, text_read, numbers_given, numbers_read}
+use Rattle.pb_command.proofs.Found.{first_file, Finds, finds, finds_with, row_beside_flag, flag_read, flag_read_beside, text_read, numbers_read, all_fit}
 use Rattle.pb_command.proofs.Shapes.{solve_shape, plainless_rules, solve_takes, by_words, ToSolve, no_default_in_solve, rules_of_solve}
 
 abbrev pub solve_places : List Place
@@ -34,12 +41,12 @@ rows_with_flags arguments = with_default (rows_with_plain arguments) (flag_rule 
 
 with_flags : (arguments : List Argument) → fold with_default (rows_for solve_places arguments) solve_shape.rules ≡ rows_with_flags arguments
 with_flags arguments =
-    ap (fold with_default (rows_for solve_places arguments)) rules_of_solve ∙ defaults_last (rows_for solve_places arguments) plainless_rules (map flag_rule (Plain ∷ Swamp ∷ [])) no_default_in_solve
+    ap (fold with_default (rows_for solve_places arguments)) rules_of_solve ∙ defaults_last (rows_for solve_places arguments) plainless_rules (map flag_rule solve_flags) no_default_in_solve
 
 no_default_fails : (arguments : List Argument) → defaults_fault (rows_for solve_places arguments) solve_shape.rules ≡ []
 no_default_fails arguments =
     ap (defaults_fault (rows_for solve_places arguments)) rules_of_solve
-    ∙ (last_default_fault (rows_for solve_places arguments) plainless_rules (map flag_rule (Plain ∷ Swamp ∷ [])) no_default_in_solve ∙ flags_default_fault (rows_for solve_places arguments) (Plain ∷ Swamp ∷ []))
+    ∙ (last_default_fault (rows_for solve_places arguments) plainless_rules (map flag_rule solve_flags) no_default_in_solve ∙ flags_default_fault (rows_for solve_places arguments) (Plain ∷ Swamp ∷ []))
 
 finds_with_flags : (arguments : List Argument) → Finds solve_places arguments (rows_with_flags arguments)
 finds_with_flags arguments =
@@ -53,23 +60,27 @@ swamp_read : (arguments : List Argument) → flag_of (codes "swamp") (rows_with_
 swamp_read arguments =
     flag_read Swamp arguments (rows_with_plain arguments) (row_beside_flag Plain (flag_id Swamp) (rows_for solve_places arguments) refl ∙ found_flag solve_places Swamp arguments)
 
-pub solve_walk : (arguments : List Argument) → AllByRecursion (IsArgumentOf is_of_solve every_flag) arguments → AreDistinct arguments → FitPlaces solve_places (placed_words arguments)
+pub solve_walk : (arguments : List Argument) → AllByRecursion (IsArgumentOf is_of_solve is_flag_of_solve) arguments → AreDistinct arguments → FitPlaces solve_places (placed_words arguments)
     → IsWalkedWhole solve_shape solve_places arguments
-solve_walk arguments all distinct fit = walks_all solve_shape is_of_solve every_flag solve_places solve_takes arguments all distinct fit
+solve_walk arguments all distinct fit = walks_all solve_shape is_of_solve is_flag_of_solve solve_places solve_takes arguments all distinct fit
 
-solve_values : (rows : List MatchRow) (kind first second certificate journal : Option Text) (plain swamp : Bool) (arguments : List Argument)
+flags_read : (arguments : List Argument) (f : FlagOption) → flag_at (rows_with_flags arguments) f ≡ flag_given f arguments
+flags_read arguments Plain = plain_read arguments
+flags_read arguments Swamp = swamp_read arguments
+
+solve_values : (rows : List MatchRow) (kind first second certificate journal : Option Text) (options : InputOptions) (settings : Settings)
+    → values_fit solve_options rows ≡ true
     → first_of (codes "KIND") rows ≡ kind → first_of (codes "FIRST_FILE") rows ≡ first → first_of (codes "SECOND_FILE") rows ≡ second
-    → numbers_of rows ≡ Some (numbers_given arguments) → flag_of (codes "plain") rows ≡ plain → flag_of (codes "swamp") rows ≡ swamp → first_of (codes "cert") rows ≡ certificate → first_of (codes "trace") rows ≡ journal
-    → solve_of rows ≡ with_kind (kind_of_text kind) (solve_with first second (Some (numbers_given arguments)) plain swamp certificate journal)
-solve_values rows kind first second certificate journal plain swamp arguments a b c d e f g h =
-    ap₂ with_kind (ap kind_of_text a) (rw (b, c, d, e, f, g, h) refl)
+    → options_by (number_at rows) (flag_at rows) ≡ options → settings_by (number_at rows) (flag_at rows) ≡ settings → text_at rows Certificate ≡ certificate → text_at rows Journal ≡ journal
+    → solve_of rows ≡ with_kind (kind_of_text kind) (solve_with first second options settings certificate journal)
+solve_values rows kind first second certificate journal options settings fit a b c d e f g =
+    λ i. if_fit (fit i) (with_kind (kind_of_text (a i)) (solve_with (b i) (c i) (d i) (e i) (f i) (g i)))
 
 -- what the arguments of `solve` ask for, whatever its kind and the number of its files
-pub solve_is : (arguments : List Argument) → AllByRecursion (IsArgumentOf is_of_solve every_flag) arguments → AreDistinct arguments → FitPlaces solve_places (placed_words arguments)
+pub solve_is : (arguments : List Argument) → AllByRecursion (IsArgumentOf is_of_solve is_flag_of_solve) arguments → AreDistinct arguments → FitPlaces solve_places (placed_words arguments)
     → (kind first : Text) → word_at Kind solve_places (placed_words arguments) ≡ Some kind → word_at FirstFile solve_places (placed_words arguments) ≡ Some first
     → reading_of_words (codes "solve" ∷ words_of arguments) ≡ with_kind (kind_of_text (Some kind))
-    (solve_with (Some first) (word_at SecondFile solve_places (placed_words arguments)) (Some (numbers_given arguments)) (flag_given Plain arguments) (flag_given Swamp arguments)
-    (value_given Certificate arguments) (value_given Journal arguments))
+    (solve_with (Some first) (word_at SecondFile solve_places (placed_words arguments)) (options_given arguments) (settings_given arguments) (value_given Certificate arguments) (value_given Journal arguments))
 solve_is arguments all distinct fit kind first kind_is first_is =
     let w = solve_walk arguments all distinct fit in
     let rows = rows_with_flags arguments in
@@ -79,11 +90,14 @@ solve_is arguments all distinct fit kind first kind_is first_is =
     let none = no_fault_at_all solve_shape solve_places arguments solve_takes.strict w (no_default_fails arguments)
     (ap (λ x. check_fault solve_shape x false) (with_flags arguments) ∙ nothing_missing rows kind first kind_row first_row) in
     let are : rows_after solve_shape.rules [] (words_of arguments) ≡ rows = rows_are solve_shape solve_places arguments w ∙ with_flags arguments in
+    let numbers : number_at rows ≡ (λ o. number_given o arguments) = fun_ext (numbers_read is_of_solve is_flag_of_solve solve_places arguments rows all found) in
+    let flags : flag_at rows ≡ (λ f. flag_given f arguments) = fun_ext (flags_read arguments) in
     by_words ToSolve (words_of arguments) ∙ (ap₂ unless_faulty none (ap solve_of are)
-    ∙ solve_values rows (Some kind) (Some first) (word_at SecondFile solve_places (placed_words arguments)) (value_given Certificate arguments) (value_given Journal arguments) (flag_given Plain arguments) (flag_given Swamp arguments) arguments
+    ∙ solve_values rows (Some kind) (Some first) (word_at SecondFile solve_places (placed_words arguments)) (value_given Certificate arguments) (value_given Journal arguments) (options_given arguments) (settings_given arguments)
+    (all_fit is_of_solve is_flag_of_solve solve_places arguments rows all found solve_options)
     (text_read rows (codes "KIND") (Some kind) kind_row) (text_read rows (codes "FIRST_FILE") (Some first) first_row)
     (text_read rows (codes "SECOND_FILE") (word_at SecondFile solve_places (placed_words arguments)) (found.place SecondFile))
-    (numbers_read is_of_solve every_flag solve_places arguments rows all found) (plain_read arguments) (swamp_read arguments)
+    (ap₂ options_by numbers flags) (ap₂ settings_by numbers flags)
     (text_read rows (codes "cert") (value_given Certificate arguments) (found.option Certificate))
     (text_read rows (codes "trace") (value_given Journal arguments) (found.option Journal)))
 
@@ -105,11 +119,17 @@ first_at (Strips names) = refl
 
 -- what `solve` asks for before its tests
 abbrev pub meant_by : InputNames → List Argument → SolveMeaning
-meant_by input arguments = solve_meaning (numbers_given arguments) (flag_given Plain arguments) (flag_given Swamp arguments) (value_given Certificate arguments) (value_given Journal arguments) input
+meant_by input arguments = record {
+  input = input;
+  options = options_given arguments;
+  settings = settings_given arguments;
+  certificate = value_given Certificate arguments;
+  journal = value_given Journal arguments;
+}
 
 tested : (input : InputNames) (arguments : List Argument)
     → with_kind (kind_of_text (Some (kind_word input)))
-    (solve_with (Some (first_file input)) (word_at SecondFile solve_places (kind_word input ∷ file_words input)) (Some (numbers_given arguments)) (flag_given Plain arguments) (flag_given Swamp arguments)
+    (solve_with (Some (first_file input)) (word_at SecondFile solve_places (kind_word input ∷ file_words input)) (options_given arguments) (settings_given arguments)
     (value_given Certificate arguments) (value_given Journal arguments)) ≡ solve_tested (meant_by input arguments)
 tested (Grid names) arguments = refl
 tested (Tiles board) arguments = refl
@@ -125,19 +145,19 @@ solve_is_tested input arguments are =
     solve_is arguments are.each are.distinct (solve_fits input arguments are) (kind_word input) (first_file input)
     (ap (word_at Kind solve_places) are.placed ∙ kind_at input) (ap (word_at FirstFile solve_places) are.placed ∙ first_at input)
     ∙ (ap (λ ws. with_kind (kind_of_text (Some (kind_word input)))
-    (solve_with (Some (first_file input)) (word_at SecondFile solve_places ws) (Some (numbers_given arguments)) (flag_given Plain arguments) (flag_given Swamp arguments)
+    (solve_with (Some (first_file input)) (word_at SecondFile solve_places ws) (options_given arguments) (settings_given arguments)
     (value_given Certificate arguments) (value_given Journal arguments))) are.placed ∙ tested input arguments)
 
 -- ---- the tests
 
-pub passes : (m : SolveMeaning) → m.den ≤ m.num → are_one_name m.certificate m.journal ≡ false → solve_tested m ≡ Read (Solve m)
-passes m weight names = rw (le-ltb m.num m.den weight, names) refl
+pub passes : (m : SolveMeaning) → m.settings.den ≤ m.settings.num → are_one_name m.certificate m.journal ≡ false → solve_tested m ≡ Read (Solve m)
+passes m weight names = rw (le-ltb m.settings.num m.settings.den weight, names) refl
 
-pub low_weight : (m : SolveMeaning) → m.num < m.den → solve_tested m ≡ Refused fault.Weight
-low_weight m weight = rw (lt-ltb m.num m.den weight) refl
+pub low_weight : (m : SolveMeaning) → m.settings.num < m.settings.den → solve_tested m ≡ Refused fault.Weight
+low_weight m weight = rw (lt-ltb m.settings.num m.settings.den weight) refl
 
-pub one_name : (m : SolveMeaning) → m.den ≤ m.num → are_one_name m.certificate m.journal ≡ true → solve_tested m ≡ Refused fault.Names
-one_name m weight names = rw (le-ltb m.num m.den weight, names) refl
+pub one_name : (m : SolveMeaning) → m.settings.den ≤ m.settings.num → are_one_name m.certificate m.journal ≡ true → solve_tested m ≡ Refused fault.Names
+one_name m weight names = rw (le-ltb m.settings.num m.settings.den weight, names) refl
 
 pub two_names : (a b : Option Text) → ((name : Text) → a ≡ Some name → b ≡ Some name → ⊥) → are_one_name a b ≡ false
 two_names None b apart = refl
@@ -151,7 +171,7 @@ pub same_names : (a b : Option Text) (name : Text) → a ≡ Some name → b ≡
 same_names a b name e f = rw (e, f) ((bytes_eq-Decides name name).1 refl)
 
 -- the law
-pub solve_reads : (input : InputNames) (arguments : List Argument) → AreOfSolve input arguments → number_given Den 1 arguments ≤ number_given Num 1 arguments → HaveTwoNames arguments
+pub solve_reads : (input : InputNames) (arguments : List Argument) → AreOfSolve input arguments → number_given Den arguments ≤ number_given Num arguments → HaveTwoNames arguments
     → reading_of_words (codes "solve" ∷ words_of arguments) ≡ Read (Solve (meant_by input arguments))
 solve_reads input arguments are weight names =
     solve_is_tested input arguments are ∙ passes (meant_by input arguments) weight (two_names (value_given Certificate arguments) (value_given Journal arguments) names)

@@ -1,9 +1,10 @@
 -- The walk of clap over the arguments of a subcommand: words in their places, options with one value each, and flags.
-use Rattle.std.proofs.Common.{◌≡◌, ◌∙◌, ◌+◌, ◌++◌, ◌||◌, ℕ, Bool, true, false, List, [], ◌∷◌, None, Some, refl, ap, ap₂, codes}
-use Rattle.std.specs.Prelude.{if◌then◌else◌, fold, map, min}
+use Rattle.std.proofs.Common.{◌≡◌, ◌∙◌, ◌+◌, ◌++◌, ◌||◌, ℕ, Bool, true, false, List, [], ◌∷◌, Option, None, Some, refl, sym, ap, ap₂, codes}
+use Rattle.std.specs.Prelude.{if◌then◌else◌, find, fold, map, min}
 use Rattle.std.specs.List.{AllByRecursion}
 use Rattle.std.specs.Str.{bytes_eq}
 use Rattle.std.proofs.lemmas.List.Folds.{list_any-append}
+use Rattle.std.proofs.lemmas.Slice.Eq.{bytes_eq-Decides}
 use Rattle.std.proofs.Math.Bool.{and-false}
 use Rattle.clap.specs.Lexer.{usize_max, long_of}
 use Rattle.clap.specs.Walk.{Held, Rule, Row as MatchRow, Text, Walk, idle, walked, with_values, without, settled, reacted, has_row, with_default, default_rows, reading_by, is_empty}
@@ -20,7 +21,12 @@ use Rattle.clap.specs.declared.builder.value_parser.Reading.TheVariants.{AsWritt
 use Rattle.clap.specs.declared.parser.matches.ValueSource.TheVariants.{CommandLine}
 use Rattle.pb_command.specs.Parser.{seed_most, size_word_most}
 use Rattle.pb_command.specs.Names.{IsName}
-use Rattle.pb_command.specs.Options.{ValuedOption, Row, Workers, Num, Den, Budget, Lot, Blocks, Certificate, Journal, option_word, is_same, is_value_of, FlagOption, Plain, Swamp, flag_word, is_same_flag}
+use Rattle.pb_command.specs.declared.table.ValuedOption.{ValuedOption}
+use Rattle.pb_command.specs.declared.table.ValuedOption.TheVariants.{Row}
+use Rattle.pb_command.specs.declared.table.FlagOption.{FlagOption}
+use Rattle.pb_command.specs.declared.table.FlagOption.TheVariants.{Plain, Swamp}
+use Rattle.pb_command.specs.Table.{Form, Number, FileName, OneOf, option_name, option_form, flag_name, solve_options, solve_flags, check_options, check_flags, journal_options, make_options}
+use Rattle.pb_command.specs.Options.{option_word, is_same, is_value_of, flag_word, is_same_flag}
 
 -- ---- the words that their place tells
 
@@ -53,240 +59,130 @@ is_required _ = true
 
 -- ---- the options
 
--- the identifier of an option
+-- the identifier of an option is its name
 abbrev pub option_id : ValuedOption → Text
-option_id Row = codes "row"
-option_id Workers = codes "workers"
-option_id Num = codes "num"
-option_id Den = codes "den"
-option_id Budget = codes "budget"
-option_id Lot = codes "lot"
-option_id Blocks = codes "blocks"
-option_id Certificate = codes "cert"
-option_id Journal = codes "trace"
+option_id o = option_name o
+
+abbrev pub parser_by : Form → ValueParser
+parser_by (Number range) = vp.Unsigned range.least range.most
+parser_by FileName = vp.String
+parser_by (OneOf words) = vp.String
 
 abbrev pub option_parser : ValuedOption → ValueParser
-option_parser Row = vp.Unsigned 0 1000000
-option_parser Workers = vp.Unsigned 1 64
-option_parser Num = vp.Unsigned 1 1000
-option_parser Den = vp.Unsigned 1 1000
-option_parser Budget = vp.Unsigned 1 1099511627776
-option_parser Lot = vp.Unsigned 1 1048576
-option_parser Blocks = vp.Unsigned 16 4096
-option_parser Certificate = vp.String
-option_parser Journal = vp.String
+option_parser o = parser_by (option_form o)
+
+-- a text that isn't another one
+apart_back : (a b : Text) → bytes_eq a b ≡ false → bytes_eq b a ≡ false
+apart_back a b e = by (bytes_eq b a) refl where
+  by : (c : Bool) → bytes_eq b a ≡ c → c ≡ false
+  by true is = sym ((bytes_eq-Decides a b).1 (sym ((bytes_eq-Decides b a).0 is))) ∙ e
+  by false is = refl
+
+-- In what follows the first case makes the others be looked at one by one.
+
+abbrev named : Text → Option ValuedOption
+named name = find (λ (o : ValuedOption). bytes_eq (option_name o) name) (solve_options ++ (check_options ++ (journal_options ++ make_options)))
+
+named_itself : (o : ValuedOption) → named (option_name o) ≡ Some o
+named_itself Row = refl
+named_itself _ = refl
+
+some_is : {A : Type 0} (a b : A) → Some a ≡ Some b → a ≡ b
+some_is a b e = cc
 
 pub same_option : (a b : ValuedOption) → is_same a b ≡ true → a ≡ b
-same_option Row Row e = refl
-same_option Workers Workers e = refl
-same_option Num Num e = refl
-same_option Den Den e = refl
-same_option Budget Budget e = refl
-same_option Lot Lot e = refl
-same_option Blocks Blocks e = refl
-same_option Certificate Certificate e = refl
-same_option Journal Journal e = refl
-same_option _ _ e = cc
+same_option a b e = some_is a b (sym (named_itself a) ∙ (ap named (sym ((bytes_eq-Decides (option_name b) (option_name a)).0 e)) ∙ named_itself b))
 
 pub same_itself : (a : ValuedOption) → is_same a a ≡ true
-same_itself Row = refl
-same_itself Workers = refl
-same_itself Num = refl
-same_itself Den = refl
-same_itself Budget = refl
-same_itself Lot = refl
-same_itself Blocks = refl
-same_itself Certificate = refl
-same_itself Journal = refl
-
-pub ids_apart : (a b : ValuedOption) → is_same a b ≡ false → bytes_eq (option_id b) (option_id a) ≡ false
-ids_apart Row Row e = cc
-ids_apart Workers Workers e = cc
-ids_apart Num Num e = cc
-ids_apart Den Den e = cc
-ids_apart Budget Budget e = cc
-ids_apart Lot Lot e = cc
-ids_apart Blocks Blocks e = cc
-ids_apart Certificate Certificate e = cc
-ids_apart Journal Journal e = cc
-ids_apart _ _ e = refl
-
-pub ids_same : (a : ValuedOption) → bytes_eq (option_id a) (option_id a) ≡ true
-ids_same Row = refl
-ids_same Workers = refl
-ids_same Num = refl
-ids_same Den = refl
-ids_same Budget = refl
-ids_same Lot = refl
-ids_same Blocks = refl
-ids_same Certificate = refl
-ids_same Journal = refl
+same_itself a = (bytes_eq-Decides (option_name a) (option_name a)).1 refl
 
 pub place_no_option : (p : Place) (o : ValuedOption) → bytes_eq (place_id p) (option_id o) ≡ false
 place_no_option Kind Row = refl
-place_no_option FirstFile Workers = refl
-place_no_option SecondFile Num = refl
-place_no_option CertificateFile Den = refl
-place_no_option JournalFile Budget = refl
-place_no_option Seed Lot = refl
-place_no_option Size Blocks = refl
-place_no_option Kind Certificate = refl
-place_no_option Kind Journal = refl
+place_no_option FirstFile Row = refl
+place_no_option SecondFile Row = refl
+place_no_option CertificateFile Row = refl
+place_no_option JournalFile Row = refl
+place_no_option Seed Row = refl
+place_no_option Size Row = refl
 place_no_option _ _ = refl
 
 pub option_no_place : (o : ValuedOption) (p : Place) → bytes_eq (option_id o) (place_id p) ≡ false
-option_no_place Row Kind = refl
-option_no_place Workers FirstFile = refl
-option_no_place Num SecondFile = refl
-option_no_place Den CertificateFile = refl
-option_no_place Budget JournalFile = refl
-option_no_place Lot Seed = refl
-option_no_place Blocks Size = refl
-option_no_place Certificate Kind = refl
-option_no_place Journal Kind = refl
-option_no_place _ _ = refl
+option_no_place o p = apart_back (place_id p) (option_id o) (place_no_option p o)
+
+-- the place of no word
+pub nowhere : (o : ValuedOption) → bytes_eq [] (option_id o) ≡ false
+nowhere Row = refl
+nowhere _ = refl
 
 -- ---- the flags
 
--- the identifier of a flag
+-- the identifier of a flag is its name
 abbrev pub flag_id : FlagOption → Text
-flag_id Plain = codes "plain"
-flag_id Swamp = codes "swamp"
+flag_id f = flag_name f
+
+abbrev flag_named : Text → Option FlagOption
+flag_named name = find (λ (f : FlagOption). bytes_eq (flag_name f) name) (solve_flags ++ check_flags)
+
+flag_named_itself : (f : FlagOption) → flag_named (flag_name f) ≡ Some f
+flag_named_itself Plain = refl
+flag_named_itself _ = refl
 
 pub same_flag : (a b : FlagOption) → is_same_flag a b ≡ true → a ≡ b
-same_flag Plain Plain e = refl
-same_flag Swamp Swamp e = refl
-same_flag Plain Swamp e = cc
-same_flag Swamp Plain e = cc
+same_flag a b e = some_is a b (sym (flag_named_itself a) ∙ (ap flag_named (sym ((bytes_eq-Decides (flag_name b) (flag_name a)).0 e)) ∙ flag_named_itself b))
 
 pub same_flag_itself : (a : FlagOption) → is_same_flag a a ≡ true
-same_flag_itself Plain = refl
-same_flag_itself Swamp = refl
-
-pub flag_ids_apart : (a b : FlagOption) → is_same_flag a b ≡ false → bytes_eq (flag_id b) (flag_id a) ≡ false
-flag_ids_apart Plain Plain e = cc
-flag_ids_apart Swamp Swamp e = cc
-flag_ids_apart Plain Swamp e = refl
-flag_ids_apart Swamp Plain e = refl
-
-pub flag_ids_same : (a : FlagOption) → bytes_eq (flag_id a) (flag_id a) ≡ true
-flag_ids_same Plain = refl
-flag_ids_same Swamp = refl
+same_flag_itself a = (bytes_eq-Decides (flag_name a) (flag_name a)).1 refl
 
 pub place_no_flag : (p : Place) (f : FlagOption) → bytes_eq (place_id p) (flag_id f) ≡ false
 place_no_flag Kind Plain = refl
-place_no_flag Kind Swamp = refl
 place_no_flag FirstFile Plain = refl
-place_no_flag FirstFile Swamp = refl
 place_no_flag SecondFile Plain = refl
-place_no_flag SecondFile Swamp = refl
 place_no_flag CertificateFile Plain = refl
-place_no_flag CertificateFile Swamp = refl
 place_no_flag JournalFile Plain = refl
-place_no_flag JournalFile Swamp = refl
 place_no_flag Seed Plain = refl
-place_no_flag Seed Swamp = refl
 place_no_flag Size Plain = refl
-place_no_flag Size Swamp = refl
+place_no_flag _ _ = refl
 
 pub flag_no_place : (f : FlagOption) (p : Place) → bytes_eq (flag_id f) (place_id p) ≡ false
-flag_no_place Plain Kind = refl
-flag_no_place Plain FirstFile = refl
-flag_no_place Plain SecondFile = refl
-flag_no_place Plain CertificateFile = refl
-flag_no_place Plain JournalFile = refl
-flag_no_place Plain Seed = refl
-flag_no_place Plain Size = refl
-flag_no_place Swamp Kind = refl
-flag_no_place Swamp FirstFile = refl
-flag_no_place Swamp SecondFile = refl
-flag_no_place Swamp CertificateFile = refl
-flag_no_place Swamp JournalFile = refl
-flag_no_place Swamp Seed = refl
-flag_no_place Swamp Size = refl
+flag_no_place f p = apart_back (place_id p) (flag_id f) (place_no_flag p f)
 
-pub option_no_flag : (o : ValuedOption) (f : FlagOption) → bytes_eq (option_id o) (flag_id f) ≡ false
-option_no_flag Row Plain = refl
-option_no_flag Row Swamp = refl
-option_no_flag Workers Plain = refl
-option_no_flag Workers Swamp = refl
-option_no_flag Num Plain = refl
-option_no_flag Num Swamp = refl
-option_no_flag Den Plain = refl
-option_no_flag Den Swamp = refl
-option_no_flag Budget Plain = refl
-option_no_flag Budget Swamp = refl
-option_no_flag Lot Plain = refl
-option_no_flag Lot Swamp = refl
-option_no_flag Blocks Plain = refl
-option_no_flag Blocks Swamp = refl
-option_no_flag Certificate Plain = refl
-option_no_flag Certificate Swamp = refl
-option_no_flag Journal Plain = refl
-option_no_flag Journal Swamp = refl
+pub flag_nowhere : (f : FlagOption) → bytes_eq [] (flag_id f) ≡ false
+flag_nowhere Plain = refl
+flag_nowhere _ = refl
 
 pub flag_no_option : (f : FlagOption) (o : ValuedOption) → bytes_eq (flag_id f) (option_id o) ≡ false
 flag_no_option Plain Row = refl
-flag_no_option Plain Workers = refl
-flag_no_option Plain Num = refl
-flag_no_option Plain Den = refl
-flag_no_option Plain Budget = refl
-flag_no_option Plain Lot = refl
-flag_no_option Plain Blocks = refl
-flag_no_option Plain Certificate = refl
-flag_no_option Plain Journal = refl
 flag_no_option Swamp Row = refl
-flag_no_option Swamp Workers = refl
-flag_no_option Swamp Num = refl
-flag_no_option Swamp Den = refl
-flag_no_option Swamp Budget = refl
-flag_no_option Swamp Lot = refl
-flag_no_option Swamp Blocks = refl
-flag_no_option Swamp Certificate = refl
-flag_no_option Swamp Journal = refl
+flag_no_option _ _ = refl
+
+pub option_no_flag : (o : ValuedOption) (f : FlagOption) → bytes_eq (option_id o) (flag_id f) ≡ false
+option_no_flag o f = apart_back (flag_id f) (option_id o) (flag_no_option f o)
 
 flag_no_dashes : (f : FlagOption) → bytes_eq (flag_word f) (45 ∷ 45 ∷ []) ≡ false
 flag_no_dashes Plain = refl
-flag_no_dashes Swamp = refl
+flag_no_dashes _ = refl
 
 flag_long_word : (f : FlagOption) → long_of (flag_word f) ≡ Some (flag_id f, None)
 flag_long_word Plain = refl
-flag_long_word Swamp = refl
+flag_long_word _ = refl
 
 -- ---- words, values and what they are read as
 
 no_dashes : (o : ValuedOption) → bytes_eq (option_word o) (45 ∷ 45 ∷ []) ≡ false
 no_dashes Row = refl
-no_dashes Workers = refl
-no_dashes Num = refl
-no_dashes Den = refl
-no_dashes Budget = refl
-no_dashes Lot = refl
-no_dashes Blocks = refl
-no_dashes Certificate = refl
-no_dashes Journal = refl
+no_dashes _ = refl
 
 long_word : (o : ValuedOption) → long_of (option_word o) ≡ Some (option_id o, None)
 long_word Row = refl
-long_word Workers = refl
-long_word Num = refl
-long_word Den = refl
-long_word Budget = refl
-long_word Lot = refl
-long_word Blocks = refl
-long_word Certificate = refl
-long_word Journal = refl
+long_word _ = refl
+
+reading_by_form : (f : Form) → reading_of (parser_by f) ≡ AsWritten
+reading_by_form (Number range) = refl
+reading_by_form FileName = refl
+reading_by_form (OneOf words) = refl
 
 option_reading : (o : ValuedOption) → reading_of (option_parser o) ≡ AsWritten
-option_reading Row = refl
-option_reading Workers = refl
-option_reading Num = refl
-option_reading Den = refl
-option_reading Budget = refl
-option_reading Lot = refl
-option_reading Blocks = refl
-option_reading Certificate = refl
-option_reading Journal = refl
+option_reading o = reading_by_form (option_form o)
 
 place_reading : (p : Place) → reading_of (place_parser p) ≡ AsWritten
 place_reading Kind = refl
@@ -299,14 +195,7 @@ place_reading Size = refl
 
 pub option_accepts : (o : ValuedOption) (value : Text) → accepts false (option_parser o) value ≡ is_value_of o value
 option_accepts Row value = refl
-option_accepts Workers value = refl
-option_accepts Num value = refl
-option_accepts Den value = refl
-option_accepts Budget value = refl
-option_accepts Lot value = refl
-option_accepts Blocks value = refl
-option_accepts Certificate value = refl
-option_accepts Journal value = refl
+option_accepts _ value = refl
 
 -- ---- the rules as clap has built them
 
@@ -379,7 +268,7 @@ module _ (s : Shape) where
   pub valued_step : (o : ValuedOption) (value : Text) (h : Held) (i : ℕ) → HasOption s o → IsName value
       → walked s.rules [] (walked s.rules [] (at h i) (option_word o)) value ≡ at (held_with s (option_id o) value h) i
   unfolding walked
-  valued_step o value h i has is = rw (no_dashes o, long_word o, has.by_long, is.no_dashes, is.no_long, is.no_short, has.by_id, ids_same o) refl
+  valued_step o value h i has is = rw (no_dashes o, long_word o, has.by_long, is.no_dashes, is.no_long, is.no_short, has.by_id, same_itself o) refl
 
   pub placed_step : (p : Place) (word : Text) (h : Held) (i : ℕ) → HasPlace s i p → IsName word
       → walked s.rules [] (at h i) word ≡ at (held_with s (place_id p) word h) (i + 1)

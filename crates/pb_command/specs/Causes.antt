@@ -1,9 +1,7 @@
 -- What the answers of the reader mean.
 use Rattle.std.specs.Prelude.{◌≡◌, ◌≤◌, ◌++◌, ◌∷◌, ◌-◌, ℕ, List, [], Some, Result, MatchResult, codes, length, option_map, slice_get}
 use Rattle.pb_command.specs.Values.{InputNames, GridNames, StripsNames, Grid, Tiles, Strips}
-use Rattle.pb_command.specs.Parser.{row_option, workers_option, num_option, den_option, budget_option, lot_option, blocks_option}
-use Rattle.pb_command.specs.Meaning.{Meaning, Solve, Check, Journal, Make, SolveMeaning, SolveNumbers, CheckMeaning, JournalMeaning, MakeMeaning, Reading, Read, Refused, IsInRangeOf}
-use Rattle.pb_command.specs.declared.reader.GivenNumbers.{GivenNumbers}
+use Rattle.pb_command.specs.Meaning.{Meaning, Solve, Check, Journal, Make, SolveMeaning, CheckMeaning, JournalMeaning, MakeMeaning, Reading, Read, Refused}
 use Rattle.pb_command.specs.declared.command.GridFiles.{GridFiles}
 use Rattle.pb_command.specs.declared.command.StripsFiles.{StripsFiles}
 use Rattle.pb_command.specs.declared.command.Input.{Input}
@@ -30,38 +28,11 @@ input_meant (kinds.Grid g) = Grid (grid_meant g)
 input_meant (kinds.Tiles board) = Tiles board.now
 input_meant (kinds.Strips s) = Strips (strips_meant s)
 
-abbrev pub numbers_meant : GivenNumbers → SolveNumbers
-numbers_meant n =
-    record {
-      row = n.row;
-      workers = n.workers;
-      num = n.num;
-      den = n.den;
-      budget = n.budget;
-      lot = n.lot;
-      blocks = n.blocks;
-    }
-
--- each number lies in the range of its option
-abbrev pub AreInRange : GivenNumbers → Type 0
-AreInRange n =
-    IsInRangeOf row_option n.row × IsInRangeOf workers_option n.workers
-    × IsInRangeOf num_option n.num × IsInRangeOf den_option n.den
-    × IsInRangeOf budget_option n.budget × IsInRangeOf lot_option n.lot
-    × IsInRangeOf blocks_option n.blocks
-
 abbrev pub solve_meant : SolveCommand → SolveMeaning
 solve_meant s = record {
   input = input_meant s.input;
-  row = s.row;
-  workers = s.workers;
-  num = s.num;
-  den = s.den;
-  budget = s.budget;
-  lot = s.lot;
-  blocks = s.blocks;
-  plain = s.plain;
-  swamp = s.swamp;
+  options = s.options;
+  settings = s.settings;
   certificate = option_map (λ t. t.now) s.certificate;
   journal = option_map (λ t. t.now) s.journal;
 }
@@ -71,12 +42,12 @@ check_meant s =
     record {
       input = input_meant s.input;
       certificate = s.certificate.now;
-      row = s.row;
-      swamp = s.swamp;
+      options = s.options;
     }
 
 abbrev pub journal_meant : JournalCommand → JournalMeaning
-journal_meant s = record { input = input_meant s.input; journal = s.journal.now; row = s.row }
+journal_meant s =
+    record { input = input_meant s.input; journal = s.journal.now; options = s.options }
 
 abbrev pub make_meant : MakeCommand → MakeMeaning
 make_meant s = record { kind = s.kind; seed = s.seed; size = s.size; workers = s.workers }

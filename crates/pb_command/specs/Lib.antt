@@ -1,3 +1,6 @@
+pub use Rattle.pb_machine.specs.Settings
+pub use Rattle.pb_task.specs.Kinds
+pub mod Table
 pub mod Parser
 pub mod Values
 pub mod Meaning
@@ -5,3 +8,4 @@ pub mod Causes
 pub mod Names
 pub mod Laws
 pub mod Options
+pub mod Files

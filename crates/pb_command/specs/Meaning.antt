@@ -1,48 +1,45 @@
 -- What words mean: the command that they are, or the first test that they fail.
-use Rattle.std.specs.Prelude.{ℕ, ◌≡◌, ◌≤◌, Bool, false, List, [], ◌∷◌, Option, None, Some, if◌then◌else◌, nat_lt, option_map, option_and_then, codes}
+use Rattle.std.specs.Prelude.{ℕ, ◌≡◌, ◌≤◌, Bool, false, List, [], ◌∷◌, Option, None, Some, if◌then◌else◌, nat_lt, codes}
 use Rattle.std.specs.Str.{bytes_eq}
 use Rattle.clap.specs.Words.{Kinds, Row, Text, fault_of, first_of, subcommand_of}
-use Rattle.pb_command.specs.Parser.{NumberOption, the_program, seed_most, row_option, workers_option, num_option, den_option, budget_option, lot_option, blocks_option}
-use Rattle.pb_command.specs.Values.{InputNames, kind_of_text, input_of, option_of, seed_of, size_of, flag_of, least_size, most_size, is_size, are_one_name}
-use Rattle.pb_command.specs.declared.command.KindWord.{KindWord}
+use Rattle.pb_machine.specs.declared.settings.Settings.{Settings}
+use Rattle.pb_machine.specs.Settings.{AreInRange}
+use Rattle.pb_task.specs.declared.kind.Kind.{Kind}
+use Rattle.pb_command.specs.declared.command.InputOptions.{InputOptions}
+use Rattle.pb_command.specs.declared.table.ValuedOption.{ValuedOption}
+use Rattle.pb_command.specs.declared.table.ValuedOption.TheVariants.{Row as ScenarioRow, Workers, Num, Den, Budget, Lot, Blocks, Certificate, Journal as JournalName}
+use Rattle.pb_command.specs.declared.table.FlagOption.{FlagOption}
+use Rattle.pb_command.specs.declared.table.FlagOption.TheVariants.{Plain, Swamp}
+use Rattle.pb_command.specs.Parser.{the_program, seed_most}
+use Rattle.pb_command.specs.Table.{IsInRangeOf, solve_options, check_options, journal_options, make_options}
+use Rattle.pb_command.specs.Values.{InputNames, kind_of_text, input_of, values_fit, number_at, text_at, flag_at, seed_of, size_of, least_size, most_size, is_size, are_one_name}
 use Rattle.pb_command.specs.declared.refusal.CommandFault.{CommandFault}
 use Rattle.pb_command.specs.declared.refusal.CommandFault.TheVariants as fault
 
--- `solve`: the task, the row of its scenario, the number of workers, the weight as a fraction, and
--- the budget of expansions.
--- How many expansions a lease gets at most, and how many blocks the abstract graph has at most.
--- Whether no block is marked hot, and whether swamp costs 2. The names of the certificate and of
--- the journal, if they are given.
+-- `solve`: the task and how its files are read, and what the search is run with. The names of the
+-- certificate and of the journal, if they are given.
 pub record SolveMeaning : Type 0 where
   pub input : InputNames
-  pub row : ℕ
-  pub workers : ℕ
-  pub num : ℕ
-  pub den : ℕ
-  pub budget : ℕ
-  pub lot : ℕ
-  pub blocks : ℕ
-  pub plain : Bool
-  pub swamp : Bool
+  pub options : InputOptions
+  pub settings : Settings
   pub certificate : Option Text
   pub journal : Option Text
 
--- `check`: the task, the certificate's name, the row of the scenario, and whether swamp costs 2
+-- `check`: the task and how its files are read, and the certificate's name
 pub record CheckMeaning : Type 0 where
   pub input : InputNames
   pub certificate : Text
-  pub row : ℕ
-  pub swamp : Bool
+  pub options : InputOptions
 
--- `journal`: the task, the journal's name and the row of the scenario
+-- `journal`: the task and how its files are read, and the journal's name
 pub record JournalMeaning : Type 0 where
   pub input : InputNames
   pub journal : Text
-  pub row : ℕ
+  pub options : InputOptions
 
 -- `make`: the kind of the made task, its seed and its size, and the number of workers
 pub record MakeMeaning : Type 0 where
-  pub kind : KindWord
+  pub kind : Kind
   pub seed : ℕ
   pub size : ℕ
   pub workers : ℕ
@@ -58,7 +55,7 @@ pub data Reading : Type 0 where
   Read : Meaning → Reading
 
 -- a word that names no kind is a fault
-abbrev pub with_kind : Option KindWord → (KindWord → Reading) → Reading
+abbrev pub with_kind : Option Kind → (Kind → Reading) → Reading
 with_kind None next = Refused fault.Kind
 with_kind (Some kind) next = next kind
 
@@ -67,99 +64,90 @@ abbrev pub with_input : Option InputNames → (InputNames → Reading) → Readi
 with_input None next = Refused fault.Files
 with_input (Some input) next = next input
 
+-- a value of another form than its option's is a fault, before all others
+abbrev pub if_fit : Bool → Reading → Reading
+if_fit fit reading = if fit then reading else Refused fault.Form
+
+-- ---- what options ask for
+
+-- how files are read: the row of the scenario, and whether swamp costs 2
+abbrev pub options_by : (number : ValuedOption → ℕ) → (flag : FlagOption → Bool) → InputOptions
+options_by number flag = record { row = number ScenarioRow; swamp = flag Swamp }
+
+-- what a search is run with: the number of workers, the weight as a fraction, the budget of
+-- expansions, how many of them a lease gets at most, and how many blocks there are at most. And
+-- whether no block is marked hot.
+abbrev pub settings_by : (number : ValuedOption → ℕ) → (flag : FlagOption → Bool) → Settings
+settings_by number flag = record {
+  workers = number Workers;
+  num = number Num;
+  den = number Den;
+  budget = number Budget;
+  lot = number Lot;
+  wish = number Blocks;
+  plain = flag Plain;
+}
+
 -- ---- `solve`
-
--- the numbers of the options of `solve`
-pub record SolveNumbers : Type 0 where
-  pub row : ℕ
-  pub workers : ℕ
-  pub num : ℕ
-  pub den : ℕ
-  pub budget : ℕ
-  pub lot : ℕ
-  pub blocks : ℕ
-
-abbrev pub numbers_of : List Row → Option SolveNumbers
-numbers_of rows =
-    option_and_then (λ row. option_and_then
-    (λ workers. option_and_then (λ num. option_and_then
-    (λ den. option_and_then (λ budget. option_and_then (λ lot.
-    option_map (λ blocks. record {
-      row = row;
-      workers = workers;
-      num = num;
-      den = den;
-      budget = budget;
-      lot = lot;
-      blocks = blocks;
-    })
-    (option_of blocks_option rows)) (option_of lot_option rows)) (option_of budget_option rows))
-    (option_of den_option rows)) (option_of num_option rows))
-    (option_of workers_option rows)) (option_of row_option rows)
 
 -- a weight below 1 is a fault, and then one name for the certificate and the journal
 abbrev pub solve_tested : SolveMeaning → Reading
-solve_tested solve = if nat_lt solve.num solve.den then Refused fault.Weight
+solve_tested solve = if nat_lt solve.settings.num solve.settings.den then Refused fault.Weight
     else (if are_one_name solve.certificate solve.journal then Refused fault.Names
     else Read (Solve solve))
 
-abbrev pub solve_meaning : SolveNumbers → (plain swamp : Bool) → Option Text → Option Text
-    → InputNames → SolveMeaning
-solve_meaning n plain swamp certificate journal input = record {
-  input = input;
-  row = n.row;
-  workers = n.workers;
-  num = n.num;
-  den = n.den;
-  budget = n.budget;
-  lot = n.lot;
-  blocks = n.blocks;
-  plain = plain;
-  swamp = swamp;
-  certificate = certificate;
-  journal = journal;
-}
-
--- clap sees to it that a required word is there, and that a number lies in its range
-abbrev pub solve_with : Option Text → Option Text → Option SolveNumbers → (plain swamp : Bool)
-    → Option Text → Option Text → KindWord → Reading
-solve_with (Some first) second (Some numbers) plain swamp certificate journal kind =
+-- clap sees to it that a required word is there
+abbrev pub solve_with : Option Text → Option Text → InputOptions → Settings
+    → (certificate journal : Option Text) → Kind → Reading
+solve_with None second options settings certificate journal kind = Refused fault.Form
+solve_with (Some first) second options settings certificate journal kind =
     with_input (input_of kind first second)
-    (λ input. solve_tested (solve_meaning numbers plain swamp certificate journal input))
-solve_with _ _ _ _ _ _ _ kind = Refused fault.Form
+    (λ input. solve_tested (record {
+      input = input;
+      options = options;
+      settings = settings;
+      certificate = certificate;
+      journal = journal;
+    }))
 
 abbrev pub solve_of : List Row → Reading
-solve_of rows = with_kind (kind_of_text (first_of (codes "KIND") rows))
+solve_of rows = if_fit (values_fit solve_options rows)
+    (with_kind (kind_of_text (first_of (codes "KIND") rows))
     (solve_with (first_of (codes "FIRST_FILE") rows) (first_of (codes "SECOND_FILE") rows)
-    (numbers_of rows) (flag_of (codes "plain") rows) (flag_of (codes "swamp") rows)
-    (first_of (codes "cert") rows) (first_of (codes "trace") rows))
+    (options_by (number_at rows) (flag_at rows)) (settings_by (number_at rows) (flag_at rows))
+    (text_at rows Certificate) (text_at rows JournalName)))
 
 -- ---- `check` and `journal`
 
-abbrev pub check_with : Option Text → Option Text → Option Text → Option ℕ → (swamp : Bool)
-    → KindWord → Reading
-check_with (Some certificate) (Some first) second (Some row) swamp kind =
+-- `check` has no test of its own yet
+abbrev pub check_tested : CheckMeaning → Reading
+check_tested check = Read (Check check)
+
+abbrev pub check_with : Option Text → Option Text → Option Text → InputOptions → Kind → Reading
+check_with (Some certificate) (Some first) second options kind =
     with_input (input_of kind first second)
-    (λ input. Read
-    (Check (record { input = input; certificate = certificate; row = row; swamp = swamp })))
-check_with _ _ _ _ _ kind = Refused fault.Form
+    (λ input. check_tested
+    (record { input = input; certificate = certificate; options = options }))
+check_with _ _ _ _ kind = Refused fault.Form
 
 abbrev pub check_of : List Row → Reading
-check_of rows = with_kind (kind_of_text (first_of (codes "KIND") rows))
+check_of rows = if_fit (values_fit check_options rows)
+    (with_kind (kind_of_text (first_of (codes "KIND") rows))
     (check_with (first_of (codes "CERTIFICATE") rows) (first_of (codes "FIRST_FILE") rows)
-    (first_of (codes "SECOND_FILE") rows) (option_of row_option rows)
-    (flag_of (codes "swamp") rows))
+    (first_of (codes "SECOND_FILE") rows) (options_by (number_at rows) (flag_at rows))))
 
-abbrev pub journal_with : Option Text → Option Text → Option Text → Option ℕ → KindWord → Reading
-journal_with (Some journal) (Some first) second (Some row) kind =
+abbrev pub journal_with : Option Text → Option Text → Option Text → InputOptions → Kind → Reading
+journal_with (Some journal) (Some first) second options kind =
     with_input (input_of kind first second)
-    (λ input. Read (Journal (record { input = input; journal = journal; row = row })))
+    (λ input. Read (Journal (record { input = input; journal = journal; options = options })))
 journal_with _ _ _ _ kind = Refused fault.Form
 
+-- `journal` has no flag for swamp
 abbrev pub journal_of : List Row → Reading
-journal_of rows = with_kind (kind_of_text (first_of (codes "KIND") rows))
+journal_of rows = if_fit (values_fit journal_options rows)
+    (with_kind (kind_of_text (first_of (codes "KIND") rows))
     (journal_with (first_of (codes "JOURNAL") rows) (first_of (codes "FIRST_FILE") rows)
-    (first_of (codes "SECOND_FILE") rows) (option_of row_option rows))
+    (first_of (codes "SECOND_FILE") rows) (options_by (number_at rows) (λ flag. false))))
 
 -- ---- `make`
 
@@ -167,15 +155,15 @@ journal_of rows = with_kind (kind_of_text (first_of (codes "KIND") rows))
 abbrev pub make_tested : MakeMeaning → Reading
 make_tested make = if is_size make.kind make.size then Read (Make make) else Refused fault.Size
 
-abbrev pub make_with : Option ℕ → Option ℕ → Option ℕ → KindWord → Reading
-make_with (Some seed) (Some size) (Some workers) kind =
+abbrev pub make_with : Option ℕ → Option ℕ → ℕ → Kind → Reading
+make_with (Some seed) (Some size) workers kind =
     make_tested (record { kind = kind; seed = seed; size = size; workers = workers })
 make_with _ _ _ kind = Refused fault.Form
 
 abbrev pub make_of : List Row → Reading
-make_of rows =
-    with_kind (kind_of_text (first_of (codes "KIND") rows))
-    (make_with (seed_of rows) (size_of rows) (option_of workers_option rows))
+make_of rows = if_fit (values_fit make_options rows)
+    (with_kind (kind_of_text (first_of (codes "KIND") rows))
+    (make_with (seed_of rows) (size_of rows) (number_at rows Workers)))
 
 -- ---- all commands
 
@@ -201,32 +189,31 @@ reading_of_words words =
 
 -- ---- ranges
 
--- a number lies in the range of its option
-abbrev pub IsInRangeOf : NumberOption → ℕ → Type 0
-IsInRangeOf o n = (o.least ≤ n) × (n ≤ o.most)
+-- each number of the settings lies in the range of its option; the weight may be below 1
+pub record AreEachInRange (settings : Settings) : Type 0 where
+  pub workers : IsInRangeOf Workers settings.workers
+  pub num : IsInRangeOf Num settings.num
+  pub den : IsInRangeOf Den settings.den
+  pub budget : IsInRangeOf Budget settings.budget
+  pub lot : IsInRangeOf Lot settings.lot
+  pub wish : IsInRangeOf Blocks settings.wish
 
--- the numbers of `solve` lie in their ranges, its weight is at least 1, and certificate and journal
--- have two names
+-- The row and the settings lie in their ranges, the weight is at least 1, and certificate and
+-- journal have two names.
 pub record IsSolveInRange (solve : SolveMeaning) : Type 0 where
-  pub row : IsInRangeOf row_option solve.row
-  pub workers : IsInRangeOf workers_option solve.workers
-  pub num : IsInRangeOf num_option solve.num
-  pub den : IsInRangeOf den_option solve.den
-  pub weight : solve.den ≤ solve.num
-  pub budget : IsInRangeOf budget_option solve.budget
-  pub lot : IsInRangeOf lot_option solve.lot
-  pub blocks : IsInRangeOf blocks_option solve.blocks
+  pub row : IsInRangeOf ScenarioRow solve.options.row
+  pub settings : AreInRange solve.settings
   pub names : are_one_name solve.certificate solve.journal ≡ false
 
 -- the numbers of `make` lie in their ranges, the size in that of its kind
 pub record IsMakeInRange (make : MakeMeaning) : Type 0 where
   pub seed : make.seed ≤ seed_most
   pub size : (least_size make.kind ≤ make.size) × (make.size ≤ most_size make.kind)
-  pub workers : IsInRangeOf workers_option make.workers
+  pub workers : IsInRangeOf Workers make.workers
 
 -- the values of a command lie in their ranges
 abbrev pub IsInRange : Meaning → Type 0
 IsInRange (Solve solve) = IsSolveInRange solve
-IsInRange (Check check) = IsInRangeOf row_option check.row
-IsInRange (Journal journal) = IsInRangeOf row_option journal.row
+IsInRange (Check check) = IsInRangeOf ScenarioRow check.options.row
+IsInRange (Journal journal) = IsInRangeOf ScenarioRow journal.options.row
 IsInRange (Make make) = IsMakeInRange make

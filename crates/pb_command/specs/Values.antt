@@ -1,13 +1,20 @@
 -- What the values of words are.
-use Rattle.std.specs.Prelude.{ℕ, ◌&&◌, Bool, false, List, Option, None, Some, if◌then◌else◌, nat_le, codes}
+use Rattle.std.specs.Prelude.{ℕ, ◌≤◌, ◌&&◌, ⊤, Bool, true, false, List, [], ◌∷◌, Option, None, Some, if◌then◌else◌, nat_le, codes}
 use Rattle.std.specs.Option.{option_map_or}
 use Rattle.std.specs.Str.{bytes_eq}
 use Rattle.std.specs.Str.Parse.{digits_value, without_leading_plus}
 use Rattle.clap.specs.Words.{Row, Text, first_of, one_of}
 use Rattle.clap.specs.ValueTests.{is_unsigned_in}
-use Rattle.pb_command.specs.Parser.{NumberOption, seed_most, size_word_most}
-use Rattle.pb_command.specs.declared.command.KindWord.{KindWord}
-use Rattle.pb_command.specs.declared.command.KindWord.TheVariants as kind
+use Rattle.pb_task.specs.declared.kind.Kind.{Kind}
+use Rattle.pb_task.specs.declared.kind.Kind.TheVariants as kind
+use Rattle.pb_task.specs.Kinds.{kind_name}
+use Rattle.pb_command.specs.declared.table.ValuedOption.{ValuedOption}
+use Rattle.pb_command.specs.declared.table.FlagOption.{FlagOption}
+use Rattle.pb_command.specs.declared.table.ValueForm.{ValueForm}
+use Rattle.pb_command.specs.declared.table.ValueForm.TheVariants as forms
+use Rattle.pb_command.specs.declared.table.TableEntry.{TableEntry}
+use Rattle.pb_command.specs.Parser.{seed_most, size_word_most}
+use Rattle.pb_command.specs.Table.{Form, Number, FileName, OneOf, Entry, option_name, option_form, flag_name, is_value}
 
 -- the names of the files of a grid
 pub record GridNames : Type 0 where
@@ -27,14 +34,14 @@ pub data InputNames : Type 0 where
   Strips : StripsNames → InputNames
 
 -- the kind that a word names
-abbrev pub kind_of_text : Option Text → Option KindWord
+abbrev pub kind_of_text : Option Text → Option Kind
 kind_of_text None = None
-kind_of_text (Some word) = if bytes_eq word (codes "grid") then Some kind.Grid
-    else (if bytes_eq word (codes "tiles") then Some kind.Tiles
-    else (if bytes_eq word (codes "strips") then Some kind.Strips else None))
+kind_of_text (Some word) = if bytes_eq word (kind_name kind.Grid) then Some kind.Grid
+    else (if bytes_eq word (kind_name kind.Tiles) then Some kind.Tiles
+    else (if bytes_eq word (kind_name kind.Strips) then Some kind.Strips else None))
 
 -- a grid and a STRIPS problem have two files, tiles have one
-abbrev pub input_of : KindWord → Text → Option Text → Option InputNames
+abbrev pub input_of : Kind → Text → Option Text → Option InputNames
 input_of kind.Grid first (Some second) = Some (Grid (record { map = first; scenario = second }))
 input_of kind.Grid first None = None
 input_of kind.Tiles first None = Some (Tiles first)
@@ -50,8 +57,49 @@ number_in least most default (Some text) =
     if is_unsigned_in least most text then Some (digits_value 10 (without_leading_plus text))
     else None
 
-abbrev pub option_of : NumberOption → List Row → Option ℕ
-option_of o rows = number_in o.least o.most (Some o.default) (one_of o.name rows)
+-- what the code knows of a row of the table
+abbrev pub form_meant : ValueForm → Form
+form_meant (forms.Number least most default) =
+    Number (record { least = least; most = most; default = default })
+form_meant forms.FileName = FileName
+
+abbrev pub entry_meant : TableEntry → Entry
+entry_meant e = record { name = e.name.now; form = form_meant e.form }
+
+-- the default lies in the range
+abbrev pub HasDefault : ValueForm → Type 0
+HasDefault (forms.Number least most default) = (least ≤ default) × (default ≤ most)
+HasDefault forms.FileName = ⊤
+
+-- whether the value of an option, if it is given, is one of this form
+abbrev pub fits : Form → Option Text → Bool
+fits f given = option_map_or (λ text. is_value f text) given true
+
+-- whether the values of these options are of their forms
+abbrev pub values_fit : List ValuedOption → List Row → Bool
+values_fit [] rows = true
+values_fit (option ∷ options) rows =
+    fits (option_form option) (one_of (option_name option) rows) && values_fit options rows
+
+-- the number that a value writes, or else this one
+abbrev pub number_or : (default : ℕ) → Option ℕ → ℕ
+number_or default None = default
+number_or default (Some n) = n
+
+-- The number of an option: the one that its value writes, or the default if it isn't given. A value
+-- out of the range is refused, and the default stands for it here.
+abbrev pub number_read : Form → Option Text → ℕ
+number_read (Number range) given =
+    number_or range.default (number_in range.least range.most (Some range.default) given)
+number_read FileName given = 0
+number_read (OneOf words) given = 0
+
+abbrev pub number_at : List Row → ValuedOption → ℕ
+number_at rows option = number_read (option_form option) (one_of (option_name option) rows)
+
+-- the text of an option, if it is given
+abbrev pub text_at : List Row → ValuedOption → Option Text
+text_at rows option = first_of (option_name option) rows
 
 -- a seed from 0 to 2^32 - 1
 abbrev pub seed_of : List Row → Option ℕ
@@ -65,19 +113,22 @@ size_of rows = number_in 0 size_word_most None (one_of (codes "SIZE") rows)
 abbrev pub flag_of : Text → List Row → Bool
 flag_of name rows = option_map_or (λ text. bytes_eq text (codes "true")) (first_of name rows) false
 
+abbrev pub flag_at : List Row → FlagOption → Bool
+flag_at rows flag = flag_of (flag_name flag) rows
+
 -- the least and the greatest size of a made task: the side of a grid, the moves of a 3 by 3 board,
 -- and the blocks of a STRIPS problem
-abbrev pub least_size : KindWord → ℕ
+abbrev pub least_size : Kind → ℕ
 least_size kind.Grid = 1
 least_size kind.Tiles = 0
 least_size kind.Strips = 1
 
-abbrev pub most_size : KindWord → ℕ
+abbrev pub most_size : Kind → ℕ
 most_size kind.Grid = 2048
 most_size kind.Tiles = 1000000
 most_size kind.Strips = 14
 
-abbrev pub is_size : KindWord → ℕ → Bool
+abbrev pub is_size : Kind → ℕ → Bool
 is_size k n = nat_le (least_size k) n && nat_le n (most_size k)
 
 -- both names are given, and they are one

@@ -1,13 +1,5 @@
-/// What kind of task a command is about.
-#[derive(Clone, Copy)]
-pub enum KindWord {
-    /// A grid of a map and a scenario.
-    Grid,
-    /// A board of a sliding-tile puzzle.
-    Tiles,
-    /// A STRIPS problem of a domain and a problem in PDDL.
-    Strips,
-}
+use pb_machine::Settings;
+use pb_task::Kind;
 
 /// The names of the files of a grid.
 #[derive(Clone, Copy)]
@@ -40,31 +32,24 @@ pub enum Input<'a> {
     Strips(StripsFiles<'a>),
 }
 
+/// What the command line says of how the files of a task are read.
+#[derive(Clone, Copy)]
+pub struct InputOptions {
+    /// The row of the scenario, counted from 0: 0 to 1,000,000. Only a grid has a scenario.
+    pub row: u64,
+    /// `--swamp`: entering an `S` cell of a map costs 2. Only a grid has a map.
+    pub swamp: bool,
+}
+
 /// `solve KIND FILE [FILE]` and its options.
 #[derive(Clone, Copy)]
 pub struct SolveCommand<'a> {
     /// The task.
     pub input: Input<'a>,
-    /// The row of the scenario, counted from 0: 0 to 1,000,000, and 0 if none is given. Only a grid
-    /// has a scenario.
-    pub row: u64,
-    /// How many workers search: 1 to 64, and 1 if none is given.
-    pub workers: u64,
-    /// The numerator of the weight: 1 to 1,000, and 1 if none is given. It isn't below the
-    /// denominator.
-    pub num: u64,
-    /// The denominator of the weight: 1 to 1,000, and 1 if none is given.
-    pub den: u64,
-    /// How many expansions the search may do: 1 to 2^40, and 16,777,216 if none is given.
-    pub budget: u64,
-    /// How many expansions a lease gets at most: 1 to 2^20, and 256 if none is given.
-    pub lot: u64,
-    /// How many blocks the abstract graph has at most: 16 to 4,096, and 256 if none is given.
-    pub blocks: u64,
-    /// `--plain`: no block is marked hot.
-    pub plain: bool,
-    /// `--swamp`: entering an `S` cell of a map costs 2. Only a grid has a map.
-    pub swamp: bool,
+    /// How its files are read.
+    pub options: InputOptions,
+    /// What the search is run with. Its weight is at least 1.
+    pub settings: Settings,
     /// `--cert NAME`: the name under which the certificate is to be saved, if one is given.
     pub certificate: Option<&'a str>,
     /// `--trace NAME`: the name under which the journal is to be saved, if one is given. It isn't
@@ -72,43 +57,39 @@ pub struct SolveCommand<'a> {
     pub journal: Option<&'a str>,
 }
 
-/// `check KIND CERT FILE [FILE] [--row K] [--swamp]`.
+/// `check KIND CERT FILE [FILE]` and its options.
 #[derive(Clone, Copy)]
 pub struct CheckCommand<'a> {
     /// The task.
     pub input: Input<'a>,
     /// The certificate's file.
     pub certificate: &'a str,
-    /// The row of the scenario, counted from 0: 0 to 1,000,000, and 0 if none is given. Only a grid
-    /// has a scenario.
-    pub row: u64,
-    /// `--swamp`: entering an `S` cell of a map costs 2. Only a grid has a map.
-    pub swamp: bool,
+    /// How the files of the task are read.
+    pub options: InputOptions,
 }
 
-/// `journal KIND JOURNAL FILE [FILE] [--row K]`.
+/// `journal KIND JOURNAL FILE [FILE]` and its options.
 #[derive(Clone, Copy)]
 pub struct JournalCommand<'a> {
     /// The task.
     pub input: Input<'a>,
     /// The journal's file.
     pub journal: &'a str,
-    /// The row of the scenario, counted from 0: 0 to 1,000,000, and 0 if none is given. Only a grid
-    /// has a scenario.
-    pub row: u64,
+    /// How the files of the task are read: without swamp, since the blocks are the same with it.
+    pub options: InputOptions,
 }
 
 /// `make KIND SEED SIZE [--workers W]`.
 #[derive(Clone, Copy)]
 pub struct MakeCommand {
     /// The kind of the task that is made.
-    pub kind: KindWord,
+    pub kind: Kind,
     /// What its numbers are drawn from: 0 to 2^32 - 1.
     pub seed: u64,
     /// Its size: the side of a grid, 1 to 2,048; the moves of a 3 by 3 board, 0 to 1,000,000; the
     /// blocks of a STRIPS problem, 1 to 14.
     pub size: u64,
-    /// How many workers search: 1 to 64, and 1 if none is given.
+    /// How many workers search: 1 to 64.
     pub workers: u64,
 }
 

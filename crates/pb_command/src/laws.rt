@@ -1,71 +1,21 @@
-ghost use Rattle.pb_command.specs.Laws.{SolveWithTwoNamesIsRead, CheckWithThreeNamesIsRead};
-ghost use Rattle.pb_command.specs.Laws.{SolveWithOneBoardIsRead, CheckWithOneBoardIsRead};
-ghost use Rattle.pb_command.specs.Laws.{SolveWithDomainAndProblemIsRead};
-ghost use Rattle.pb_command.specs.Laws.{CheckWithDomainAndProblemIsRead};
-ghost use Rattle.pb_command.specs.Laws.{JournalWithThreeNamesIsRead, JournalWithOneBoardIsRead};
-ghost use Rattle.pb_command.specs.Laws.{JournalWithDomainAndProblemIsRead};
-ghost use Rattle.pb_command.specs.Laws.{MakeGridIsRead, MakeTilesIsRead, MakeStripsIsRead};
 ghost use Rattle.pb_command.specs.Options.{SolveReadsOptions, LowWeightIsRefused, OneNameIsRefused};
 ghost use Rattle.pb_command.specs.Options.{CheckReadsOptions, JournalReadsOptions};
 ghost use Rattle.pb_command.specs.Options.{MakeReadsOptions, OtherSizeIsRefused};
 ghost use Rattle.pb_command.specs.Options.{OutOfRangeIsRefused, GivenTwiceIsRefused};
 ghost use Rattle.pb_command.specs.Options.{FlagTwiceIsRefused, HelpIsRefused};
+ghost use Rattle.pb_command.specs.Options.{DefaultsAreStandard};
 ghost use Rattle.pb_command.specs.Laws.{OneFileIsRefused, TwoBoardsAreRefused};
 ghost use Rattle.pb_command.specs.Laws.{DomainAloneIsRefused, OtherKindIsRefused};
 ghost use Rattle.pb_command.specs.Laws.{FilesComeBeforeWeight, WeightComesBeforeNames};
 ghost use Rattle.pb_command.specs.Laws.{WeightOfOneHalfIsRefused};
 ghost use Rattle.pb_command.specs.Laws.{SideOfZeroIsRefused, SeedOutOfRangeIsRefused};
+ghost use Rattle.pb_command.specs.Laws.{WordsAreCompared};
 
-/// `solve grid MAP SCEN`, with names that don't begin with a hyphen, asks for a search with the
-/// defaults.
-pub fn solve_with_two_names_is_read()
-    ensures { SolveWithTwoNamesIsRead }
-{}
-
-/// `check grid CERT MAP SCEN`, with names that don't begin with a hyphen, asks for a check with the
-/// default.
-pub fn check_with_three_names_is_read()
-    ensures { CheckWithThreeNamesIsRead }
-{}
-
-/// `solve tiles BOARD`, with a name that doesn't begin with a hyphen, asks for a search with the
-/// defaults.
-pub fn solve_with_one_board_is_read()
-    ensures { SolveWithOneBoardIsRead }
-{}
-
-/// `check tiles CERT BOARD`, with names that don't begin with a hyphen, asks for a check with the
-/// default.
-pub fn check_with_one_board_is_read()
-    ensures { CheckWithOneBoardIsRead }
-{}
-
-/// `solve strips DOMAIN PROBLEM`, with names that don't begin with a hyphen, asks for a search with
-/// the defaults.
-pub fn solve_with_domain_and_problem_is_read()
-    ensures { SolveWithDomainAndProblemIsRead }
-{}
-
-/// `check strips CERT DOMAIN PROBLEM`, with names that don't begin with a hyphen, asks for a check
-/// with the default.
-pub fn check_with_domain_and_problem_is_read()
-    ensures { CheckWithDomainAndProblemIsRead }
-{}
-
-/// `journal KIND JOURNAL` with the files of the kind, all names that don't begin with a hyphen,
-/// asks for a check with the default.
-pub fn journal_with_names_is_read()
-    ensures grid { JournalWithThreeNamesIsRead }
-    ensures tiles { JournalWithOneBoardIsRead }
-    ensures strips { JournalWithDomainAndProblemIsRead }
-{}
-
-/// `make KIND 4294967295 SIZE`, with the greatest size of the kind, asks for that task and for one
-/// worker.
-pub fn make_is_read()
-    ensures grid { MakeGridIsRead }
-    ensures tiles { MakeTilesIsRead }
-    ensures strips { MakeStripsIsRead }
+/// The defaults of the table are the standard settings of a search. Of words, which no option has
+/// yet, a value is one of them.
+pub fn options_have_forms()
+    ensures defaults { DefaultsAreStandard }
+    ensures words { WordsAreCompared }
 {}
 
 /// The options and the flags give `solve` their values, anywhere among the kind and its files. An

@@ -5,22 +5,24 @@
 #![tactic(auto)]
 
 mod command;
+mod files;
 mod laws;
 mod parser;
 mod reader;
 mod refusal;
+mod table;
 mod values;
 
 pub use command::{
-    CheckCommand, CommandLine, GridFiles, Input, JournalCommand, KindWord, MakeCommand,
+    CheckCommand, CommandLine, GridFiles, Input, InputOptions, JournalCommand, MakeCommand,
     SolveCommand, StripsFiles,
 };
+pub use files::{LoadedFile, loaded_files};
 pub use laws::{
-    check_reads_options, check_with_domain_and_problem_is_read, check_with_one_board_is_read,
-    check_with_three_names_is_read, faults_are_found, journal_reads_options,
-    journal_with_names_is_read, make_is_read, make_reads_options, options_out_of_form_are_refused,
-    solve_reads_options, solve_tests_options, solve_with_domain_and_problem_is_read,
-    solve_with_one_board_is_read, solve_with_two_names_is_read, tests_come_in_order,
+    check_reads_options, faults_are_found, journal_reads_options, make_reads_options,
+    options_have_forms, options_out_of_form_are_refused, solve_reads_options, solve_tests_options,
+    tests_come_in_order,
 };
 pub use reader::read_words;
 pub use refusal::{CommandFault, CommandRefusal, Message};
+pub use table::{FlagOption, ValuedOption};

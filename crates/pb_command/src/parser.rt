@@ -1,16 +1,18 @@
 //! The command as it is declared to clap.
-ghost use Rattle.std.specs.Prelude.{◌≡◌, false, IfOk};
+ghost use Rattle.std.specs.Prelude.{◌≡◌, false, map, IfOk};
 ghost use Rattle.clap.specs.Words.{App, app_of, rule_of, new_rule, with_rule, with_subcommand};
 ghost use Rattle.clap.specs.declared.builder.command.Command.TheViews.{out-Command as fields_of};
 ghost use Rattle.pb_command.specs.Parser.{the_program, the_solve, the_check, the_journal, the_make};
-ghost use Rattle.pb_command.specs.Parser.{with_rules, number_rules, bare_program};
+ghost use Rattle.pb_command.specs.Parser.{with_rules, option_rule, bare_program};
 ghost use Rattle.pb_command.specs.Parser.{number_rule, text_rule, flag_rule};
+ghost use Rattle.pb_command.specs.Table.{flag_name};
 ghost use Rattle.pb_command.specs.Parser.{required_rule, required_number_rule};
 
-use crate::values::{
-    BLOCKS_LEAST, BLOCKS_MOST, BUDGET_MOST, LOT_MOST, ROW_MOST, SEED_MOST, SIZE_WORD_MOST,
-    WEIGHT_MOST, WORKERS_MOST,
+use crate::table::{
+    CHECK_FLAGS, CHECK_OPTIONS, FlagOption, JOURNAL_OPTIONS, MAKE_OPTIONS, SOLVE_FLAGS,
+    SOLVE_OPTIONS, ValueForm, ValuedOption,
 };
+use crate::values::{SEED_MOST, SIZE_WORD_MOST};
 use clap::builder::ValueParser;
 use clap::{Arg, ArgAction, Command};
 use std::alloc::{AllocError, Global};
@@ -85,26 +87,56 @@ fn add<'a>(
     }
 }
 
-// Adds the options of `solve` that have a number.
-fn add_numbers<'a>(
+// An option of the table.
+fn option_arg<'a>(alloc: Global, option: ValuedOption) -> Arg<'a>
+    ensures rule { rule_of result ≡ option_rule option }
+    ensures local { result.global ≡ false }
+{
+    match option.form() {
+        ValueForm::Number { least, most, .. } => number_option(alloc, option.name(), least, most),
+        ValueForm::FileName => text_option(alloc, option.name()),
+    }
+}
+
+// Adds these options.
+fn add_options<'a>(
     alloc: Global,
     command: Result<Command<'a>, AllocError>,
+    options: &[ValuedOption],
 ) -> Result<Command<'a>, AllocError>
     requires command { IfOk command (λ c. (fields_of c).has_globals ≡ false) }
     ensures app { (a : App) → IfOk command.entry (λ c. app_of c ≡ a)
-        → IfOk result (λ c. app_of c ≡ with_rules a number_rules) }
+        → IfOk result (λ c. app_of c ≡ with_rules a (map option_rule options.now)) }
     ensures local { IfOk result (λ c. (fields_of c).has_globals ≡ false) }
 {
-    let with_row = add(command, number_option(alloc, "row", 0, ROW_MOST));
-    let with_workers = add(with_row, number_option(alloc, "workers", 1, WORKERS_MOST));
-    let with_num = add(with_workers, number_option(alloc, "num", 1, WEIGHT_MOST));
-    let with_den = add(with_num, number_option(alloc, "den", 1, WEIGHT_MOST));
-    let with_budget = add(with_den, number_option(alloc, "budget", 1, BUDGET_MOST));
-    let with_lot = add(with_budget, number_option(alloc, "lot", 1, LOT_MOST));
-    add(
-        with_lot,
-        number_option(alloc, "blocks", BLOCKS_LEAST, BLOCKS_MOST),
-    )
+    match options.split_first() {
+        None => command,
+        Some((first, rest)) => {
+            let with_first = add(command, option_arg(alloc, *first));
+            add_options(alloc, with_first, rest)
+        }
+    }
+}
+
+// Adds these flags.
+fn add_flags<'a>(
+    alloc: Global,
+    command: Result<Command<'a>, AllocError>,
+    flags: &[FlagOption],
+) -> Result<Command<'a>, AllocError>
+    requires command { IfOk command (λ c. (fields_of c).has_globals ≡ false) }
+    ensures app { (a : App) → IfOk command.entry (λ c. app_of c ≡ a)
+        → IfOk result (λ c. app_of c
+        ≡ with_rules a (map (λ f. flag_rule (flag_name f)) flags.now)) }
+    ensures local { IfOk result (λ c. (fields_of c).has_globals ≡ false) }
+{
+    match flags.split_first() {
+        None => command,
+        Some((first, rest)) => {
+            let with_first = add(command, flag(alloc, first.name()));
+            add_flags(alloc, with_first, rest)
+        }
+    }
 }
 
 // `solve KIND FILE [FILE]` and its options.
@@ -118,11 +150,8 @@ pub(crate) fn solve<'a>(alloc: Global) -> Result<Command<'a>, AllocError>
     );
     let with_first = add(with_kind, required_word(alloc, "FIRST_FILE"));
     let with_second = add(with_first, optional_word(alloc, "SECOND_FILE"));
-    let with_numbers = add_numbers(alloc, with_second);
-    let with_certificate = add(with_numbers, text_option(alloc, "cert"));
-    let with_journal = add(with_certificate, text_option(alloc, "trace"));
-    let with_plain = add(with_journal, flag(alloc, "plain"));
-    add(with_plain, flag(alloc, "swamp"))
+    let with_options = add_options(alloc, with_second, &SOLVE_OPTIONS);
+    add_flags(alloc, with_options, &SOLVE_FLAGS)
 }
 
 // `check KIND CERT FILE [FILE]` and its options.
@@ -137,11 +166,11 @@ pub(crate) fn check<'a>(alloc: Global) -> Result<Command<'a>, AllocError>
     let with_certificate = add(with_kind, required_word(alloc, "CERTIFICATE"));
     let with_first = add(with_certificate, required_word(alloc, "FIRST_FILE"));
     let with_second = add(with_first, optional_word(alloc, "SECOND_FILE"));
-    let with_row = add(with_second, number_option(alloc, "row", 0, ROW_MOST));
-    add(with_row, flag(alloc, "swamp"))
+    let with_options = add_options(alloc, with_second, &CHECK_OPTIONS);
+    add_flags(alloc, with_options, &CHECK_FLAGS)
 }
 
-// `journal KIND JOURNAL FILE [FILE]` and its option.
+// `journal KIND JOURNAL FILE [FILE]` and its options.
 pub(crate) fn journal<'a>(alloc: Global) -> Result<Command<'a>, AllocError>
     ensures app { IfOk result (λ c. app_of c ≡ the_journal) }
     ensures local { IfOk result (λ c. (fields_of c).has_globals ≡ false) }
@@ -153,10 +182,10 @@ pub(crate) fn journal<'a>(alloc: Global) -> Result<Command<'a>, AllocError>
     let with_journal = add(with_kind, required_word(alloc, "JOURNAL"));
     let with_first = add(with_journal, required_word(alloc, "FIRST_FILE"));
     let with_second = add(with_first, optional_word(alloc, "SECOND_FILE"));
-    add(with_second, number_option(alloc, "row", 0, ROW_MOST))
+    add_options(alloc, with_second, &JOURNAL_OPTIONS)
 }
 
-// `make KIND SEED SIZE` and its option.
+// `make KIND SEED SIZE` and its options.
 pub(crate) fn make<'a>(alloc: Global) -> Result<Command<'a>, AllocError>
     ensures app { IfOk result (λ c. app_of c ≡ the_make) }
     ensures local { IfOk result (λ c. (fields_of c).has_globals ≡ false) }
@@ -167,7 +196,7 @@ pub(crate) fn make<'a>(alloc: Global) -> Result<Command<'a>, AllocError>
     );
     let with_seed = add(with_kind, required_number(alloc, "SEED", 0, SEED_MOST));
     let with_size = add(with_seed, required_number(alloc, "SIZE", 0, SIZE_WORD_MOST));
-    add(with_size, number_option(alloc, "workers", 1, WORKERS_MOST))
+    add_options(alloc, with_size, &MAKE_OPTIONS)
 }
 
 // The program before it has subcommands, without words for help or the version.

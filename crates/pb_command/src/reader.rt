@@ -1,85 +1,70 @@
 //! The words of the command line, read.
-ghost use Rattle.std.specs.Prelude.{◌≡◌, ◌≢◌, ◌≤◌, true, false, map, option_map};
-ghost use Rattle.std.specs.Prelude.{IfOk, IfErr, OnOk, IfSome};
+ghost use Rattle.std.specs.Prelude.{◌≡◌, ◌≢◌, true, map, IfOk, IfErr};
 ghost use Rattle.std.specs.String.{string_bytes};
 ghost use Rattle.clap.specs.Words.{found_of, rows_of, kind_of, has_subcommand, subcommand_rows_of};
 ghost use Rattle.clap.specs.declared.error.kind.ErrorKind.TheVariants.{OutOfMemory};
+ghost use Rattle.pb_command.specs.declared.table.ValuedOption.TheVariants.{Row};
+ghost use Rattle.pb_command.specs.Table.{IsInRangeOf};
+ghost use Rattle.pb_command.specs.Values.{number_at, flag_at};
 ghost use Rattle.pb_command.specs.Meaning.{reading_of_words, command_met, command_of, solve_of};
-ghost use Rattle.pb_command.specs.Meaning.{check_of, journal_of, make_of, numbers_of, solve_tested};
+ghost use Rattle.pb_command.specs.Meaning.{check_of, journal_of, make_of, solve_tested};
+ghost use Rattle.pb_command.specs.Meaning.{check_tested, options_by, settings_by, AreEachInRange};
 ghost use Rattle.pb_command.specs.Meaning.{Read, Refused, Solve, IsInRange};
-ghost use Rattle.pb_command.specs.Values.{are_one_name};
-ghost use Rattle.pb_command.specs.Causes.{IsCause, Answers, AreInRange, numbers_meant, meaning_of};
-ghost use Rattle.pb_command.specs.Causes.{solve_meant};
+ghost use Rattle.pb_command.specs.Causes.{IsCause, Answers, meaning_of, solve_meant, check_meant};
 
 use crate::command::{
-    CheckCommand, CommandLine, Input, JournalCommand, KindWord, MakeCommand, SolveCommand,
+    CheckCommand, CommandLine, InputOptions, JournalCommand, MakeCommand, SolveCommand,
 };
 use crate::parser::program;
 use crate::refusal::{CommandFault, CommandRefusal, form_refusal, refuse};
+use crate::table::{
+    CHECK_OPTIONS, FlagOption, JOURNAL_OPTIONS, MAKE_OPTIONS, SOLVE_OPTIONS, ValuedOption,
+};
 use crate::values::{
-    BLOCKS_DEFAULT, BLOCKS_LEAST, BLOCKS_MOST, BUDGET_DEFAULT, BUDGET_MOST, LOT_DEFAULT, LOT_MOST,
-    ROW_MOST, SEED_MOST, SIZE_WORD_MOST, WEIGHT_DEFAULT, WEIGHT_MOST, WORKERS_DEFAULT,
-    WORKERS_MOST, input_of, is_given, is_one_name, is_size, known_kind, number, text,
+    SEED_MOST, SIZE_WORD_MOST, flag_at, input_of, is_one_name, is_size, known_kind, number,
+    number_at, text, text_at, values_fit,
 };
 use clap::{ArgMatches, Error};
+use pb_machine::Settings;
 use std::alloc::Global;
 
-// The numbers of the options of `solve`.
-#[derive(Clone, Copy)]
-struct GivenNumbers {
-    row: u64,
-    workers: u64,
-    num: u64,
-    den: u64,
-    budget: u64,
-    lot: u64,
-    blocks: u64,
+// How the files of a task are read.
+fn input_options(matches: &ArgMatches<'_>) -> InputOptions
+    ensures options { result ≡ options_by (number_at (rows_of (found_of matches.now)))
+        (flag_at (rows_of (found_of matches.now))) }
+    ensures row { IsInRangeOf Row result.row }
+{
+    InputOptions {
+        row: number_at(matches, ValuedOption::Row),
+        swamp: flag_at(matches, FlagOption::Swamp),
+    }
 }
 
-// The numbers of the options of `solve`, each as it is given or its default.
-fn solve_numbers(matches: &ArgMatches<'_>) -> Option<GivenNumbers>
-    ensures numbers { option_map numbers_meant result
-        ≡ numbers_of (rows_of (found_of matches.now)) }
-    ensures ranges { IfSome result AreInRange }
+// What a search is run with. Whether the weight is at least 1 is tested later.
+fn settings(matches: &ArgMatches<'_>) -> Settings
+    ensures settings { result ≡ settings_by (number_at (rows_of (found_of matches.now)))
+        (flag_at (rows_of (found_of matches.now))) }
+    ensures range { AreEachInRange result }
 {
-    match (
-        number(matches, "row", 0, ROW_MOST, Some(0)),
-        number(matches, "workers", 1, WORKERS_MOST, Some(WORKERS_DEFAULT)),
-        number(matches, "num", 1, WEIGHT_MOST, Some(WEIGHT_DEFAULT)),
-        number(matches, "den", 1, WEIGHT_MOST, Some(WEIGHT_DEFAULT)),
-        number(matches, "budget", 1, BUDGET_MOST, Some(BUDGET_DEFAULT)),
-        number(matches, "lot", 1, LOT_MOST, Some(LOT_DEFAULT)),
-        number(
-            matches,
-            "blocks",
-            BLOCKS_LEAST,
-            BLOCKS_MOST,
-            Some(BLOCKS_DEFAULT),
-        ),
-    ) {
-        (Some(row), Some(workers), Some(num), Some(den), Some(budget), Some(lot), Some(blocks)) =>
-            Some(GivenNumbers {
-                row,
-                workers,
-                num,
-                den,
-                budget,
-                lot,
-                blocks,
-            }),
-        _ => None,
+    Settings {
+        workers: number_at(matches, ValuedOption::Workers) as u32,
+        num: number_at(matches, ValuedOption::Num),
+        den: number_at(matches, ValuedOption::Den),
+        budget: number_at(matches, ValuedOption::Budget),
+        lot: number_at(matches, ValuedOption::Lot),
+        wish: number_at(matches, ValuedOption::Blocks) as u32,
+        plain: flag_at(matches, FlagOption::Plain),
     }
 }
 
 // The command, if its weight is at least 1 and its two files have two names.
 fn tested_solve<'a>(command: SolveCommand<'a>) -> Result<CommandLine<'a>, CommandFault>
+    requires row { IsInRangeOf Row command.options.row }
+    requires range { AreEachInRange command.settings }
     ensures read { Answers meaning_of (solve_tested (solve_meant command.entry)) result }
-    ensures same { IfOk result (λ c. meaning_of c ≡ Solve (solve_meant command.entry)) }
-    ensures weight { OnOk result (command.entry.den ≤ command.entry.num) }
-    ensures names { OnOk result (are_one_name (solve_meant command.entry).certificate
-        (solve_meant command.entry).journal ≡ false) }
+    ensures ranges { IfOk result (λ c. IsInRange (meaning_of c)) }
 {
-    if command.num < command.den {
+    if command.settings.num < command.settings.den {
         return Err(CommandFault::Weight);
     }
     if is_one_name(command.certificate, command.journal) {
@@ -96,34 +81,38 @@ fn read_solve<'a>(matches: &ArgMatches<'a>) -> Result<CommandLine<'a>, CommandFa
     let kind = known_kind(text(matches, "KIND"));
     let first = text(matches, "FIRST_FILE");
     let second = text(matches, "SECOND_FILE");
-    let numbers = solve_numbers(matches);
-    let plain = is_given(matches, "plain");
-    let swamp = is_given(matches, "swamp");
-    let certificate = text(matches, "cert");
-    let journal = text(matches, "trace");
+    let options = input_options(matches);
+    let settings = settings(matches);
+    let certificate = text_at(matches, ValuedOption::Certificate);
+    let journal = text_at(matches, ValuedOption::Journal);
+    if !values_fit(matches, &SOLVE_OPTIONS) {
+        return Err(CommandFault::Form);
+    }
     let Some(kind) = kind else {
         return Err(CommandFault::Kind);
     };
-    match (first, numbers) {
-        (Some(first), Some(numbers)) => match input_of(kind, first, second) {
+    match first {
+        Some(first) => match input_of(kind, first, second) {
             Some(input) => tested_solve(SolveCommand {
                 input,
-                row: numbers.row,
-                workers: numbers.workers,
-                num: numbers.num,
-                den: numbers.den,
-                budget: numbers.budget,
-                lot: numbers.lot,
-                blocks: numbers.blocks,
-                plain,
-                swamp,
+                options,
+                settings,
                 certificate,
                 journal,
             }),
             None => Err(CommandFault::Files),
         },
-        _ => Err(CommandFault::Form),
+        None => Err(CommandFault::Form),
     }
+}
+
+// The command: what `check` alone is given has no test yet.
+fn tested_check<'a>(command: CheckCommand<'a>) -> Result<CommandLine<'a>, CommandFault>
+    requires row { IsInRangeOf Row command.options.row }
+    ensures read { Answers meaning_of (check_tested (check_meant command.entry)) result }
+    ensures ranges { IfOk result (λ c. IsInRange (meaning_of c)) }
+{
+    Ok(CommandLine::Check(command))
 }
 
 // What the values of `check` ask for.
@@ -135,19 +124,20 @@ fn read_check<'a>(matches: &ArgMatches<'a>) -> Result<CommandLine<'a>, CommandFa
     let certificate = text(matches, "CERTIFICATE");
     let first = text(matches, "FIRST_FILE");
     let second = text(matches, "SECOND_FILE");
-    let row = number(matches, "row", 0, ROW_MOST, Some(0));
-    let swamp = is_given(matches, "swamp");
+    let options = input_options(matches);
+    if !values_fit(matches, &CHECK_OPTIONS) {
+        return Err(CommandFault::Form);
+    }
     let Some(kind) = kind else {
         return Err(CommandFault::Kind);
     };
-    match (certificate, first, row) {
-        (Some(certificate), Some(first), Some(row)) => match input_of(kind, first, second) {
-            Some(input) => Ok(CommandLine::Check(CheckCommand {
+    match (certificate, first) {
+        (Some(certificate), Some(first)) => match input_of(kind, first, second) {
+            Some(input) => tested_check(CheckCommand {
                 input,
                 certificate,
-                row,
-                swamp,
-            })),
+                options,
+            }),
             None => Err(CommandFault::Files),
         },
         _ => Err(CommandFault::Form),
@@ -163,16 +153,19 @@ fn read_journal<'a>(matches: &ArgMatches<'a>) -> Result<CommandLine<'a>, Command
     let journal = text(matches, "JOURNAL");
     let first = text(matches, "FIRST_FILE");
     let second = text(matches, "SECOND_FILE");
-    let row = number(matches, "row", 0, ROW_MOST, Some(0));
+    let row = number_at(matches, ValuedOption::Row);
+    if !values_fit(matches, &JOURNAL_OPTIONS) {
+        return Err(CommandFault::Form);
+    }
     let Some(kind) = kind else {
         return Err(CommandFault::Kind);
     };
-    match (journal, first, row) {
-        (Some(journal), Some(first), Some(row)) => match input_of(kind, first, second) {
+    match (journal, first) {
+        (Some(journal), Some(first)) => match input_of(kind, first, second) {
             Some(input) => Ok(CommandLine::Journal(JournalCommand {
                 input,
                 journal,
-                row,
+                options: InputOptions { row, swamp: false },
             })),
             None => Err(CommandFault::Files),
         },
@@ -188,12 +181,15 @@ fn read_make<'a>(matches: &ArgMatches<'a>) -> Result<CommandLine<'a>, CommandFau
     let kind = known_kind(text(matches, "KIND"));
     let seed = number(matches, "SEED", 0, SEED_MOST, None);
     let size = number(matches, "SIZE", 0, SIZE_WORD_MOST, None);
-    let workers = number(matches, "workers", 1, WORKERS_MOST, Some(WORKERS_DEFAULT));
+    let workers = number_at(matches, ValuedOption::Workers);
+    if !values_fit(matches, &MAKE_OPTIONS) {
+        return Err(CommandFault::Form);
+    }
     let Some(kind) = kind else {
         return Err(CommandFault::Kind);
     };
-    match (seed, size, workers) {
-        (Some(seed), Some(size), Some(workers)) => {
+    match (seed, size) {
+        (Some(seed), Some(size)) => {
             if is_size(kind, size) {
                 Ok(CommandLine::Make(MakeCommand {
                     kind,

@@ -2,47 +2,15 @@
 ghost use Rattle.std.specs.Prelude.{◌≡◌, ◌≤◌, IfSome, option_map};
 ghost use Rattle.clap.specs.Words.{first_of, found_of, one_of, rows_of};
 ghost use Rattle.pb_command.specs.Values.{number_in, flag_of, kind_of_text, input_of, is_size};
-ghost use Rattle.pb_command.specs.Values.{are_one_name};
+ghost use Rattle.pb_command.specs.Values.{are_one_name, fits, values_fit, number_at};
+ghost use Rattle.pb_command.specs.Values.{text_at, flag_at};
+ghost use Rattle.pb_command.specs.Table.{option_form, option_name, IsInRangeOf};
 ghost use Rattle.pb_command.specs.Causes.{input_meant};
 
-use crate::command::{GridFiles, Input, KindWord, StripsFiles};
+use crate::command::{GridFiles, Input, StripsFiles};
+use crate::table::{FlagOption, ValueForm, ValuedOption};
 use clap::ArgMatches;
-
-// The greatest row of a scenario that may be asked for.
-pub(crate) const ROW_MOST: u64 = 1_000_000;
-
-// The greatest number of workers that may be asked for.
-pub(crate) const WORKERS_MOST: u64 = 64;
-
-// The number of workers if none is given.
-pub(crate) const WORKERS_DEFAULT: u64 = 1;
-
-// The greatest numerator and denominator of the weight.
-pub(crate) const WEIGHT_MOST: u64 = 1_000;
-
-// The numerator and the denominator of the weight if none is given.
-pub(crate) const WEIGHT_DEFAULT: u64 = 1;
-
-// The greatest budget, 2^40 expansions.
-pub(crate) const BUDGET_MOST: u64 = 1_099_511_627_776;
-
-// The budget if none is given.
-pub(crate) const BUDGET_DEFAULT: u64 = 16_777_216;
-
-// The greatest lot of a lease, 2^20 expansions.
-pub(crate) const LOT_MOST: u64 = 1_048_576;
-
-// The lot if none is given.
-pub(crate) const LOT_DEFAULT: u64 = 256;
-
-// The least number of blocks that may be asked for.
-pub(crate) const BLOCKS_LEAST: u64 = 16;
-
-// The greatest number of blocks that may be asked for.
-pub(crate) const BLOCKS_MOST: u64 = 4_096;
-
-// The number of blocks if none is given.
-pub(crate) const BLOCKS_DEFAULT: u64 = 256;
+use pb_task::Kind;
 
 // The greatest seed of a made task, 2^32 - 1.
 pub(crate) const SEED_MOST: u64 = 4_294_967_295;
@@ -84,13 +52,73 @@ pub(crate) fn number(
 }
 
 // Whether a flag is given.
-pub(crate) fn is_given(matches: &ArgMatches<'_>, id: &str) -> bool
+fn is_given(matches: &ArgMatches<'_>, id: &str) -> bool
     ensures { result ≡ flag_of id.now (rows_of (found_of matches.now)) }
 {
     match text(matches, id) {
         Some("true") => true,
         _ => false,
     }
+}
+
+// Whether the value of an option, if it is given, is one of the option's form.
+fn fits(matches: &ArgMatches<'_>, option: ValuedOption) -> bool
+    ensures { result ≡ fits (option_form option)
+        (one_of (option_name option) (rows_of (found_of matches.now))) }
+{
+    match option.form() {
+        ValueForm::Number {
+            least,
+            most,
+            default,
+        } => match number(matches, option.name(), least, most, Some(default)) {
+            Some(_) => true,
+            None => false,
+        },
+        ValueForm::FileName => true,
+    }
+}
+
+// Whether the values of these options are of their forms.
+pub(crate) fn values_fit(matches: &ArgMatches<'_>, options: &[ValuedOption]) -> bool
+    ensures { result ≡ values_fit options.now (rows_of (found_of matches.now)) }
+{
+    match options.split_first() {
+        None => true,
+        Some((first, rest)) => fits(matches, *first) && values_fit(matches, rest),
+    }
+}
+
+// The number of an option, or its default.
+pub(crate) fn number_at(matches: &ArgMatches<'_>, option: ValuedOption) -> u64
+    ensures number { result ≡ number_at (rows_of (found_of matches.now)) option }
+    ensures range { IsInRangeOf option result }
+{
+    match option.form() {
+        ValueForm::Number {
+            least,
+            most,
+            default,
+        } => match number(matches, option.name(), least, most, Some(default)) {
+            Some(n) => n,
+            None => default,
+        },
+        ValueForm::FileName => 0,
+    }
+}
+
+// The text of an option, if it is given.
+pub(crate) fn text_at<'a>(matches: &ArgMatches<'a>, option: ValuedOption) -> Option<&'a str>
+    ensures { option_map (λ t. t.now) result ≡ text_at (rows_of (found_of matches.now)) option }
+{
+    text(matches, option.name())
+}
+
+// Whether a flag is given.
+pub(crate) fn flag_at(matches: &ArgMatches<'_>, flag: FlagOption) -> bool
+    ensures { result ≡ flag_at (rows_of (found_of matches.now)) flag }
+{
+    is_given(matches, flag.name())
 }
 
 // Whether both names are given and are one.
@@ -105,49 +133,45 @@ pub(crate) fn is_one_name(first: Option<&str>, second: Option<&str>) -> bool
 }
 
 // Whether a made task of this kind may have this size.
-pub(crate) fn is_size(kind: KindWord, size: u64) -> bool
+pub(crate) fn is_size(kind: Kind, size: u64) -> bool
     ensures { result ≡ is_size kind size }
 {
     match kind {
-        KindWord::Grid => 1 <= size && size <= 2_048,
-        KindWord::Tiles => size <= 1_000_000,
-        KindWord::Strips => 1 <= size && size <= 14,
+        Kind::Grid => 1 <= size && size <= 2_048,
+        Kind::Tiles => size <= 1_000_000,
+        Kind::Strips => 1 <= size && size <= 14,
     }
 }
 
 // The kind that a word names.
-pub(crate) fn known_kind(word: Option<&str>) -> Option<KindWord>
+pub(crate) fn known_kind(word: Option<&str>) -> Option<Kind>
     ensures { result ≡ kind_of_text (option_map (λ t. t.now) word.entry) }
 {
     match word {
-        Some("grid") => Some(KindWord::Grid),
-        Some("tiles") => Some(KindWord::Tiles),
-        Some("strips") => Some(KindWord::Strips),
+        Some("grid") => Some(Kind::Grid),
+        Some("tiles") => Some(Kind::Tiles),
+        Some("strips") => Some(Kind::Strips),
         _ => None,
     }
 }
 
 // The files of a kind, if their number is right.
-pub(crate) fn input_of<'a>(
-    kind: KindWord,
-    first: &'a str,
-    second: Option<&'a str>,
-) -> Option<Input<'a>>
+pub(crate) fn input_of<'a>(kind: Kind, first: &'a str, second: Option<&'a str>) -> Option<Input<'a>>
     ensures { option_map input_meant result
         ≡ input_of kind first.entry.now (option_map (λ t. t.now) second.entry) }
 {
     match (kind, second) {
-        (KindWord::Grid, Some(scenario)) => Some(Input::Grid(GridFiles {
+        (Kind::Grid, Some(scenario)) => Some(Input::Grid(GridFiles {
             map: first,
             scenario,
         })),
-        (KindWord::Grid, None) => None,
-        (KindWord::Tiles, None) => Some(Input::Tiles(first)),
-        (KindWord::Tiles, Some(_)) => None,
-        (KindWord::Strips, Some(problem)) => Some(Input::Strips(StripsFiles {
+        (Kind::Grid, None) => None,
+        (Kind::Tiles, None) => Some(Input::Tiles(first)),
+        (Kind::Tiles, Some(_)) => None,
+        (Kind::Strips, Some(problem)) => Some(Input::Strips(StripsFiles {
             domain: first,
             problem,
         })),
-        (KindWord::Strips, None) => None,
+        (Kind::Strips, None) => None,
     }
 }

@@ -4,6 +4,7 @@ mod Grids
 mod Homes
 mod Ways
 mod Estimates
+mod Choices
 mod Totals
 mod Costs
 mod Rounds

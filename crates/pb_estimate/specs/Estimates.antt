@@ -1,12 +1,15 @@
 -- Estimates of the cost of a way to a goal. A further kind of task is one case more of
--- `estimate_of`.
-use Rattle.std.specs.Prelude.{ℕ, zero, suc, ◌+◌, ◌-◌, ◌/◌, ◌%◌, ◌==◌, List, if◌then◌else◌, position, unwrap_or, slice_index}
+-- `estimate_of`, and a further choice of an estimate one case of `estimate_by`, `suits` and
+-- `pattern_of`.
+use Rattle.std.specs.Prelude.{ℕ, Bool, true, zero, suc, ◌+◌, ◌-◌, ◌/◌, ◌%◌, ◌==◌, List, if◌then◌else◌, position, unwrap_or, slice_index}
 use Rattle.pb_packed.specs.Bits.{bits_of}
 use Rattle.pb_model.specs.declared.row.Estimate.{Estimate}
 use Rattle.pb_model.specs.declared.row.Estimate.TheVariants.{Cost}
 use Rattle.pb_task.specs.Tiles.{cell_count, board_of}
 use Rattle.pb_task.specs.declared.parts.TaskParts.{TaskParts}
 use Rattle.pb_task.specs.declared.parts.TaskParts.TheVariants.{Grid, Tiles, Strips}
+use Rattle.pb_estimate.specs.declared.choice.Choice.{Choice}
+use Rattle.pb_estimate.specs.declared.choice.Choice.TheVariants.{Plain}
 use Rattle.pb_estimate.specs.Hmax.{hmax}
 
 -- how far two numbers are apart
@@ -55,9 +58,23 @@ tile_ways cols goal board zero = 0
 tile_ways cols goal board (suc number) =
     tile_ways cols goal board number + tile_way cols goal board (suc number)
 
--- the estimate of a state of a task
+-- the estimate of a state of a task, by the task's kind alone
 abbrev pub estimate_of : TaskParts → (state : ℕ) → Estimate
 estimate_of (Grid grid) state = Cost (manhattan (cell_of state) grid.goal)
 estimate_of (Tiles tiles) state =
     Cost (ways_home tiles.cols tiles.goal (board_of (cell_count tiles) state) (cell_count tiles))
 estimate_of (Strips strips) state = hmax strips state
+
+-- ---- the choice of an estimate
+
+-- the estimate of a state of a task by this choice
+abbrev pub estimate_by : TaskParts → Choice → (state : ℕ) → Estimate
+estimate_by parts Plain state = estimate_of parts state
+
+-- whether a task may be searched and judged by this choice: its estimates are admissible
+abbrev pub suits : TaskParts → Choice → Bool
+suits parts Plain = true
+
+-- the number of the pattern that the estimate looks up, and 0 if it looks up none
+abbrev pub pattern_of : Choice → ℕ
+pattern_of Plain = 0

@@ -1,5 +1,5 @@
 -- The laws of this crate. Each is proved, as the contract of the public function that has its name.
-use Rattle.std.specs.Prelude.{◌≡◌, ℕ, ◌-◌, ◌<◌, ◌≤◌, IsTrue, Option}
+use Rattle.std.specs.Prelude.{◌≡◌, ℕ, ◌-◌, ◌<◌, ◌≤◌, true, IsTrue, Option}
 use Rattle.pb_model.specs.Guide.{IsAdmissible}
 use Rattle.pb_model.specs.declared.row.Estimate.TheVariants.{Cost}
 use Rattle.pb_task.specs.declared.parts.TaskParts.{TaskParts}
@@ -9,14 +9,16 @@ use Rattle.pb_task.specs.Parts.{space_of, IsTask}
 use Rattle.pb_task.specs.Tiles.{cell_count, board_of, is_board_state, IsTiles}
 use Rattle.pb_task.specs.declared.parts.StripsParts.{StripsParts}
 use Rattle.pb_task.specs.Strips.{IsStrips}
+use Rattle.pb_estimate.specs.declared.choice.Choice.{Choice}
 use Rattle.pb_estimate.specs.Hmax.{atom_cost, SatisfyHmax}
-use Rattle.pb_estimate.specs.Estimates.{tile_ways, estimate_of}
+use Rattle.pb_estimate.specs.Estimates.{tile_ways, estimate_of, estimate_by, suits}
 
--- No walk from a state of a task to a goal costs less than the state's estimate (Hart, Nilsson,
--- Raphael 1968).
+-- No walk from a state of a task to a goal costs less than the state's estimate, by each choice that
+-- suits the task (Hart, Nilsson, Raphael 1968).
 abbrev pub EstimatesAreAdmissible : Type 0
 EstimatesAreAdmissible =
-    (parts : TaskParts) → IsTask parts → IsAdmissible (space_of parts) (estimate_of parts)
+    (parts : TaskParts) (choice : Choice) → IsTask parts → suits parts choice ≡ true
+    → IsAdmissible (space_of parts) (estimate_by parts choice)
 
 -- The estimate of a board is a sum over all tiles, from 1 to the last: the distance between the
 -- tile's cells on the board and on the goal board.

@@ -5,4 +5,5 @@ pub mod Hmax
 pub mod Estimates
 pub mod Exploring
 pub mod Tables
+pub mod Spelling
 pub mod Laws

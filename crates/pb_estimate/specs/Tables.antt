@@ -1,4 +1,5 @@
--- What the estimator of a task keeps. A further kind of task is one case more.
+-- What the estimator of a task keeps. A further kind of task is one case more, and so is a further
+-- choice of an estimate.
 use Rattle.std.specs.Prelude.{◌≡◌, ℕ, zero, suc, ◌+◌, ◌*◌, ◌<◌, ◌≤◌, ◌^◌, Bool, true, false, not, List, [], ◌∷◌, ◌++◌, map, length, All, Contains, slice_index, slice_index_or, if◌then◌else◌}
 use Rattle.std.specs.List.{filter, list_any}
 use Rattle.pb_task.specs.declared.parts.GroundAction.{GroundAction}
@@ -6,6 +7,8 @@ use Rattle.pb_task.specs.declared.parts.StripsParts.{StripsParts}
 use Rattle.pb_task.specs.declared.parts.TaskParts.{TaskParts}
 use Rattle.pb_task.specs.declared.parts.TaskParts.TheVariants as parts
 use Rattle.pb_task.specs.Strips.{has_atom}
+use Rattle.pb_estimate.specs.declared.choice.Choice.{Choice}
+use Rattle.pb_estimate.specs.declared.choice.Choice.TheVariants.{Plain}
 use Rattle.pb_estimate.specs.Estimates.{way_home}
 use Rattle.pb_estimate.specs.Hmax.{IsAtMost}
 use Rattle.pb_estimate.specs.Exploring.{count, cost_in, IsExploration}
@@ -121,10 +124,14 @@ pub record AreCounters (strips : StripsParts) (counters : Counters) : Type 0 whe
   pub costs : length counters.exploration.costs.items ≡ strips.atoms
   pub exploration : IsExploration counters.exploration
 
--- An estimator is of this task: it keeps what the task's estimates need. What it keeps beside that
--- is its own matter.
-unfoldable pub IsOfTask : Tables → TaskParts → Type 0
-IsOfTask tables.Grid (parts.Grid grid) = Unit {0}
-IsOfTask (tables.Tiles ways) (parts.Tiles tiles) = AreWaysHome tiles.cols tiles.goal ways
-IsOfTask (tables.Strips counters) (parts.Strips strips) = AreCounters strips counters
-IsOfTask estimator task = ⊥
+-- An estimator is of this task and this choice: it keeps what these estimates need. What it keeps
+-- beside that is its own matter.
+unfoldable pub IsOfTask : Tables → TaskParts → Choice → Type 0
+IsOfTask tables.Grid (parts.Grid grid) Plain = Unit {0}
+IsOfTask (tables.Tiles ways) (parts.Tiles tiles) Plain = AreWaysHome tiles.cols tiles.goal ways
+IsOfTask (tables.Strips counters) (parts.Strips strips) Plain = AreCounters strips counters
+IsOfTask estimator task choice = ⊥
+
+-- an estimator is of this task, by some choice
+abbrev pub IsOfSomeChoice : Tables → TaskParts → Type 0
+IsOfSomeChoice tables task = (choice : Choice) × IsOfTask tables task choice

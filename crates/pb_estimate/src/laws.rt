@@ -1,6 +1,7 @@
 ghost use Rattle.pb_estimate.specs.Laws.{EstimatesAreAdmissible, EstimatesCountTiles, HmaxIsFixed};
 
-/// No walk from a state to a goal costs less than the state's estimate.
+/// No walk from a state to a goal costs less than the state's estimate by a choice that suits the
+/// task.
 pub fn estimates_are_admissible()
     ensures { EstimatesAreAdmissible }
 {}

@@ -1,5 +1,5 @@
 -- What is known of a lease at work.
-use Rattle.std.proofs.Common.{◌≡◌, ℕ, ◌+◌, ◌-◌, ◌<◌, ◌≤◌, ◌^◌, ◌++◌, Some, IsSome, IsTrue, sym, ap, ◌∙◌, subst, arith, true≢false}
+use Rattle.std.proofs.Common.{◌≡◌, ℕ, ◌+◌, ◌-◌, ◌<◌, ◌≤◌, ◌^◌, ◌++◌, Bool, Option, Some, IsSome, IsTrue, sym, ap, ◌∙◌, subst, arith, true≢false}
 use Rattle.pb_model.specs.declared.row.Row.{Row}
 use Rattle.pb_model.specs.Sound.{IsSound}
 use Rattle.pb_model.specs.Store.{Store}
@@ -10,11 +10,12 @@ use Rattle.pb_machine.specs.Turns.{AreLeaseTurns}
 use Rattle.pb_machine.proofs.Callers.{merged, works_there, row_there, lease_work_goes_on, lease_work_stays, lease_turns_go_on, lease_costs_fit}
 use Rattle.pb_task.specs.declared.parts.TaskParts.{TaskParts}
 use Rattle.pb_task.specs.Parts.{space_of, greatest_cost}
+use Rattle.pb_estimate.specs.declared.choice.Choice.{Choice}
 use Rattle.pb_abstract.specs.Graph.{AbstractGraph, blocks_of}
 use Rattle.pb_bundles.specs.Parts.{content_in}
 use Rattle.pb_lease.specs.LeaseValue.{LeaseValue, leased_store, HasWeights, IsSameLease}
 use Rattle.pb_lease.specs.Leased.{guide_of, setup_of, grant_of, HasScope, IsOut, IsInTurns}
-use Rattle.pb_expand.specs.Turned.{own_rows, IsAtWork, reads_none, HasTurned}
+use Rattle.pb_expand.specs.Turned.{own_rows, IsAtWork, reads_none, HasTurned, HasTurnedOnce}
 use Rattle.pb_lease.specs.Rows.{LeadsInto}
 use Rattle.pb_lease.proofs.Callers.{same_places}
 use Rattle.pb_expand.proofs.Turned.{turned_on}
@@ -34,9 +35,9 @@ greater_costs setup is = record {
   weight = is.weight;
 }
 
-module _ (task : TaskParts) (graph : AbstractGraph) (lease : LeaseValue) (at : IsAtWork task graph lease) where
+module _ (task : TaskParts) (graph : AbstractGraph) (choice : Choice) (lease : LeaseValue) (at : IsAtWork task graph choice lease) where
   abbrev setup : Setup
-  setup = setup_of task graph at.settings at.reopenings
+  setup = setup_of task graph choice at.settings at.reopenings
 
   -- the block is one that there is
   block_is_known : lease.block < (blocks_of graph).count
@@ -47,25 +48,25 @@ module _ (task : TaskParts) (graph : AbstractGraph) (lease : LeaseValue) (at : I
   own_there = at.scope.blocks lease.block ∙ at.is_setup.blocks.own lease.block block_is_known
 
   -- successors of a row of the block have their bundles
-  pub leads_into : (state : ℕ) → (guide_of task graph).home state ≡ lease.block → LeadsInto (space_of task) (guide_of task graph) state lease.parts
+  pub leads_into : (state : ℕ) → (guide_of task graph choice).home state ≡ lease.block → LeadsInto (space_of task) (guide_of task graph choice) state lease.parts
   leads_into state home action to cost step =
-      at.scope.blocks ((guide_of task graph).home to)
-      ∙ ap (λ k. (blocks_of graph).scope k ((guide_of task graph).home to)) (sym home) ∙ at.is_setup.blocks.steps state action to cost step
+      at.scope.blocks ((guide_of task graph choice).home to)
+      ∙ ap (λ k. (blocks_of graph).scope k ((guide_of task graph choice).home to)) (sym home) ∙ at.is_setup.blocks.steps state action to cost step
 
-  whole_sound : IsSound (space_of task) (guide_of task graph) (merged setup greatest_cost at.is_setup at.machine (grant_of lease) (leased_store lease))
+  whole_sound : IsSound (space_of task) (guide_of task graph choice) (merged setup greatest_cost at.is_setup at.machine (grant_of lease) (leased_store lease))
   whole_sound =
       let there = works_there setup greatest_cost at.is_setup at.machine lease.worker (grant_of lease) lease.used 0 (leased_store lease) at.lawful at.leased at.work in
-      (work_keeps_sound (space_of task) greatest_cost (guide_of task graph) at.lawful.reached.first_weight (at.lawful.reached.works ++ at.work.works)
+      (work_keeps_sound (space_of task) greatest_cost (guide_of task graph choice) at.lawful.reached.first_weight (at.lawful.reached.works ++ at.work.works)
       (merged setup greatest_cost at.is_setup at.machine (grant_of lease) (leased_store lease)) at.is_setup.space at.lawful.reached.is_weight
-      (comes_append (space_of task) (guide_of task graph) at.lawful.reached.works at.work.works _ at.machine.store _ at.lawful.reached.comes there)).0
+      (comes_append (space_of task) (guide_of task graph choice) at.lawful.reached.works at.work.works _ at.machine.store _ at.lawful.reached.comes there)).0
 
   module _ (state : ℕ) (row : Row) (found : own_rows lease state ≡ Some row) where
-    place : (lease.block ≡ (guide_of task graph).home state) × IsTrue ((space_of task).is_state state) × (row.estimate ≡ (guide_of task graph).estimate state)
+    place : (lease.block ≡ (guide_of task graph choice).home state) × IsTrue ((space_of task).is_state state) × (row.estimate ≡ (guide_of task graph choice).estimate state)
     place = whole_sound.place lease.block state row
         (row_there setup greatest_cost at.is_setup at.machine lease.worker (grant_of lease) lease.used 0 (leased_store lease) at.lawful at.leased at.work lease.block state row found)
 
     -- a row of the block is that of a state at home there
-    pub row_is_home : (guide_of task graph).home state ≡ lease.block
+    pub row_is_home : (guide_of task graph choice).home state ≡ lease.block
     row_is_home = sym place.0
 
     pub row_is_state : IsTrue ((space_of task).is_state state)
@@ -78,31 +79,31 @@ module _ (task : TaskParts) (graph : AbstractGraph) (lease : LeaseValue) (at : I
         omega (arith, low)
 
 -- a lease that is out still is after turns, and is in turns where it was
-module _ (task : TaskParts) (graph : AbstractGraph) (settings : Settings) (reopenings : ℕ) (machine : Machine) (old new : LeaseValue) (more broken : ℕ) where
+module _ (task : TaskParts) (graph : AbstractGraph) (choice : Choice) (settings : Settings) (reopenings : ℕ) (machine : Machine) (old new : LeaseValue) (more broken : ℕ) where
   abbrev out_setup : Setup
-  out_setup = setup_of task graph settings reopenings
+  out_setup = setup_of task graph choice settings reopenings
 
   module _ (before : IsOut out_setup machine 0 old) where
     -- what the worker did in all, had it this number and this block
     abbrev Done : (worker block used : ℕ) → Type 0
     Done worker block used =
-        (work : IsWorked (space_of task) (guide_of task graph) block used broken (machine.known worker) (lent_store out_setup block machine.store (machine.given worker)) (leased_store new))
-        × (IsInTurns out_setup machine 0 old before → AreLeaseTurns (space_of task) (guide_of task graph) work.works (lent_store out_setup block machine.store (machine.given worker)))
+        (work : IsWorked (space_of task) (guide_of task graph choice) block used broken (machine.known worker) (lent_store out_setup block machine.store (machine.given worker)) (leased_store new))
+        × (IsInTurns out_setup machine 0 old before → AreLeaseTurns (space_of task) (guide_of task graph choice) work.works (lent_store out_setup block machine.store (machine.given worker)))
 
-    done : HasTurned (space_of task) (guide_of task graph) reads_none old.block more broken (leased_store old) (leased_store new) → Done old.worker old.block (old.used + more)
+    done : HasTurned (space_of task) (guide_of task graph choice) reads_none old.block more broken (leased_store old) (leased_store new) → Done old.worker old.block (old.used + more)
     done turned =
         let lent : Store = lent_store out_setup old.block machine.store (machine.given old.worker) in
-        let second = lease_work_stays (space_of task) (guide_of task graph) old.block more broken broken reads_none (machine.known old.worker) (leased_store old) (leased_store new) turned.work (omega arith)
+        let second = lease_work_stays (space_of task) (guide_of task graph choice) old.block more broken broken reads_none (machine.known old.worker) (leased_store old) (leased_store new) turned.work (omega arith)
         (λ incumbent known. absurd (true≢false (sym known))) in
-        let both = lease_work_goes_on (space_of task) (guide_of task graph) old.block old.used more broken (machine.known old.worker) (machine.known old.worker) lent (leased_store old) (leased_store new)
+        let both = lease_work_goes_on (space_of task) (guide_of task graph choice) old.block old.used more broken (machine.known old.worker) (machine.known old.worker) lent (leased_store old) (leased_store new)
         before.work second.0 (λ incumbent known. known) in
         let works : both.0.works ≡ before.work.works ++ turned.work.works = both.1 ∙ ap (λ works. before.work.works ++ works) second.1 in (
           both.0,
-          λ turns. subst (λ works. AreLeaseTurns (space_of task) (guide_of task graph) works lent) (sym works)
-              (lease_turns_go_on (space_of task) (guide_of task graph) before.work.works turned.work.works lent (leased_store old) before.work.comes turns turned.turns),
+          λ turns. subst (λ works. AreLeaseTurns (space_of task) (guide_of task graph choice) works lent) (sym works)
+              (lease_turns_go_on (space_of task) (guide_of task graph choice) before.work.works turned.work.works lent (leased_store old) before.work.comes turns turned.turns),
         )
 
-    pub out_on : HasTurned (space_of task) (guide_of task graph) reads_none old.block more broken (leased_store old) (leased_store new) → IsSameLease old new → new.used ≡ old.used + more
+    pub out_on : HasTurned (space_of task) (guide_of task graph choice) reads_none old.block more broken (leased_store old) (leased_store new) → IsSameLease old new → new.used ≡ old.used + more
         → (after : IsOut out_setup machine broken new) × (IsInTurns out_setup machine 0 old before → IsInTurns out_setup machine broken new after)
     out_on turned same used =
         let here : Done old.worker old.block new.used = subst (λ n. Done old.worker old.block n) (sym used) (done turned) in
@@ -115,22 +116,34 @@ module _ (task : TaskParts) (graph : AbstractGraph) (settings : Settings) (reope
           now.1,
         )
 
+-- turns by the one choice are turns by the other, which is the same
+module _ (task : TaskParts) (graph : AbstractGraph) (choice own : Choice) (is : own ≡ choice) {known : Option ℕ → Bool} {block used broken : ℕ} {old new : Store} where
+  pub turned_by : HasTurned (space_of task) (guide_of task graph own) known block used broken old new → HasTurned (space_of task) (guide_of task graph choice) known block used broken old new
+  turned_by turned = subst (λ h. HasTurned (space_of task) (guide_of task graph h) known block used broken old new) is turned
+
+  pub turned_once_by : HasTurnedOnce (space_of task) (guide_of task graph own) known block used broken old new → HasTurnedOnce (space_of task) (guide_of task graph choice) known block used broken old new
+  turned_once_by turned = subst (λ h. HasTurnedOnce (space_of task) (guide_of task graph h) known block used broken old new) is turned
+
+-- a lease at work is that by its own choice
+pub at_work_by_own : (task : TaskParts) (graph : AbstractGraph) (choice : Choice) (lease : LeaseValue) → IsAtWork task graph choice lease → IsAtWork task graph lease.choice lease
+at_work_by_own task graph choice lease at = subst (λ h. IsAtWork task graph h lease) (sym at.choice_is) at
+
 -- a lease is at work after turns of which none was broken off
-module _ (task : TaskParts) (graph : AbstractGraph) (old new : LeaseValue) (more : ℕ) (at : IsAtWork task graph old) where
+module _ (task : TaskParts) (graph : AbstractGraph) (choice : Choice) (old new : LeaseValue) (more : ℕ) (at : IsAtWork task graph choice old) where
   pub scope_on : IsSameLease old new → HasWeights new → HasScope graph new
   scope_on same weights = record {
     blocks = λ block. same_places old.parts new.parts block same.places ∙ at.scope.blocks block ∙ ap (λ own. (blocks_of graph).scope own block) (sym same.block);
     weights = weights;
   }
 
-  pub at_work_on : HasTurned (space_of task) (guide_of task graph) reads_none old.block more 0 (leased_store old) (leased_store new) → IsSameLease old new → new.used ≡ old.used + more → HasWeights new
-      → IsAtWork task graph new
+  pub at_work_on : HasTurned (space_of task) (guide_of task graph choice) reads_none old.block more 0 (leased_store old) (leased_store new) → IsSameLease old new → new.used ≡ old.used + more → HasWeights new
+      → IsAtWork task graph choice new
   at_work_on turned same used weights =
-      let given : ℕ → ℕ → Store = λ block worker. lent_store (setup_of task graph at.settings at.reopenings) block at.machine.store (at.machine.given worker) in
-      let second = lease_work_stays (space_of task) (guide_of task graph) old.block more 0 0 reads_none at.known (leased_store old) (leased_store new) turned.work (omega arith)
+      let given : ℕ → ℕ → Store = λ block worker. lent_store (setup_of task graph choice at.settings at.reopenings) block at.machine.store (at.machine.given worker) in
+      let second = lease_work_stays (space_of task) (guide_of task graph choice) old.block more 0 0 reads_none at.known (leased_store old) (leased_store new) turned.work (omega arith)
       (λ incumbent known. absurd (true≢false (sym known))) in
-      let both : IsWorked (space_of task) (guide_of task graph) old.block (old.used + more) 0 at.known (given old.block old.worker) (leased_store new) =
-      (lease_work_goes_on (space_of task) (guide_of task graph) old.block old.used more 0 at.known at.known (given old.block old.worker) (leased_store old) (leased_store new)
+      let both : IsWorked (space_of task) (guide_of task graph choice) old.block (old.used + more) 0 at.known (given old.block old.worker) (leased_store new) =
+      (lease_work_goes_on (space_of task) (guide_of task graph choice) old.block old.used more 0 at.known at.known (given old.block old.worker) (leased_store old) (leased_store new)
       at.work second.0 (λ incumbent known. known)).0 in
       record {
         settings = at.settings;
@@ -141,26 +154,27 @@ module _ (task : TaskParts) (graph : AbstractGraph) (old new : LeaseValue) (more
         lawful = at.lawful;
         leased = ap at.machine.counts.leases same.worker ∙ at.leased ∙ λ i. Some (record { block = sym same.block i; quota = sym same.quota i });
         known = at.known;
-        work = subst (λ n. IsWorked (space_of task) (guide_of task graph) new.block n 0 at.known (given new.block new.worker) (leased_store new)) (sym used)
-            (subst (λ b. IsWorked (space_of task) (guide_of task graph) b (old.used + more) 0 at.known (given b new.worker) (leased_store new)) (sym same.block)
-            (subst (λ w. IsWorked (space_of task) (guide_of task graph) old.block (old.used + more) 0 at.known (given old.block w) (leased_store new)) (sym same.worker) both));
+        work = subst (λ n. IsWorked (space_of task) (guide_of task graph choice) new.block n 0 at.known (given new.block new.worker) (leased_store new)) (sym used)
+            (subst (λ b. IsWorked (space_of task) (guide_of task graph choice) b (old.used + more) 0 at.known (given b new.worker) (leased_store new)) (sym same.block)
+            (subst (λ w. IsWorked (space_of task) (guide_of task graph choice) old.block (old.used + more) 0 at.known (given old.block w) (leased_store new)) (sym same.worker) both));
         scope = scope_on same weights;
+        choice_is = same.choice ∙ at.choice_is;
       }
 
 -- turns of a lease go on
-module _ (task : TaskParts) (graph : AbstractGraph) (first old new : LeaseValue) (same : IsSameLease first old) where
-  pub turned_then : (used more broken : ℕ) → HasTurned (space_of task) (guide_of task graph) reads_none first.block used 0 (leased_store first) (leased_store old)
-      → HasTurned (space_of task) (guide_of task graph) reads_none old.block more broken (leased_store old) (leased_store new)
-      → HasTurned (space_of task) (guide_of task graph) reads_none first.block (used + more) broken (leased_store first) (leased_store new)
+module _ (task : TaskParts) (graph : AbstractGraph) (choice : Choice) (first old new : LeaseValue) (same : IsSameLease first old) where
+  pub turned_then : (used more broken : ℕ) → HasTurned (space_of task) (guide_of task graph choice) reads_none first.block used 0 (leased_store first) (leased_store old)
+      → HasTurned (space_of task) (guide_of task graph choice) reads_none old.block more broken (leased_store old) (leased_store new)
+      → HasTurned (space_of task) (guide_of task graph choice) reads_none first.block (used + more) broken (leased_store first) (leased_store new)
   turned_then used more broken before turned =
-      turned_on (space_of task) (guide_of task graph) first.block used more broken (leased_store first) (leased_store old) (leased_store new) before
-      (subst (λ block. HasTurned (space_of task) (guide_of task graph) reads_none block more broken (leased_store old) (leased_store new)) same.block turned)
+      turned_on (space_of task) (guide_of task graph choice) first.block used more broken (leased_store first) (leased_store old) (leased_store new) before
+      (subst (λ block. HasTurned (space_of task) (guide_of task graph choice) reads_none block more broken (leased_store old) (leased_store new)) same.block turned)
 
   -- so the count of expansions tells how many there were
-  pub worked_on : (more broken : ℕ) → HasTurned (space_of task) (guide_of task graph) reads_none first.block (old.used - first.used) 0 (leased_store first) (leased_store old) → first.used ≤ old.used
-      → HasTurned (space_of task) (guide_of task graph) reads_none old.block more broken (leased_store old) (leased_store new) → new.used ≡ old.used + more
-      → HasTurned (space_of task) (guide_of task graph) reads_none first.block (new.used - first.used) broken (leased_store first) (leased_store new)
+  pub worked_on : (more broken : ℕ) → HasTurned (space_of task) (guide_of task graph choice) reads_none first.block (old.used - first.used) 0 (leased_store first) (leased_store old) → first.used ≤ old.used
+      → HasTurned (space_of task) (guide_of task graph choice) reads_none old.block more broken (leased_store old) (leased_store new) → new.used ≡ old.used + more
+      → HasTurned (space_of task) (guide_of task graph choice) reads_none first.block (new.used - first.used) broken (leased_store first) (leased_store new)
   worked_on more broken before counted turned used =
       let sum : (old.used - first.used) + more ≡ new.used - first.used = omega (arith, used, counted) in
-      subst (λ n. HasTurned (space_of task) (guide_of task graph) reads_none first.block n broken (leased_store first) (leased_store new)) sum
+      subst (λ n. HasTurned (space_of task) (guide_of task graph choice) reads_none first.block n broken (leased_store first) (leased_store new)) sum
       (turned_then (old.used - first.used) more broken before turned)

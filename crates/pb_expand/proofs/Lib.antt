@@ -1,4 +1,3 @@
-mod Examples
 mod Turned
 mod Known
 mod Listed

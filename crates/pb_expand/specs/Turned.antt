@@ -13,6 +13,7 @@ use Rattle.pb_machine.specs.Turns.{AreLeaseTurns}
 use Rattle.pb_machine.specs.Lawful.{IsLawful}
 use Rattle.pb_task.specs.declared.parts.TaskParts.{TaskParts}
 use Rattle.pb_task.specs.Parts.{space_of, greatest_cost}
+use Rattle.pb_estimate.specs.declared.choice.Choice.{Choice}
 use Rattle.pb_abstract.specs.Graph.{AbstractGraph}
 use Rattle.pb_lease.specs.LeaseValue.{LeaseValue, leased_store}
 use Rattle.pb_lease.specs.Leased.{setup_of, guide_of, grant_of, HasScope}
@@ -22,21 +23,23 @@ abbrev pub own_rows : LeaseValue → Part
 own_rows lease = (leased_store lease).rows lease.block
 
 -- The lease is out in the machine of a lawful moment of a search for this task by the blocks of
--- this graph. Its rows come from those that it was given or last renewed with, and no expansion was
+-- this graph, with estimates by this choice. Its rows come from those that it was given or last renewed with, and no expansion was
 -- broken off. Its worker may have read the incumbent after that moment.
-pub record IsAtWork (task : TaskParts) (graph : AbstractGraph) (lease : LeaseValue) : Type 0 where
+pub record IsAtWork (task : TaskParts) (graph : AbstractGraph) (choice : Choice)
+    (lease : LeaseValue) : Type 0 where
   pub settings : Settings
   pub reopenings : ℕ
   pub machine : Machine
-  pub is_setup : IsSetup (setup_of task graph settings reopenings) greatest_cost
+  pub is_setup : IsSetup (setup_of task graph choice settings reopenings) greatest_cost
   pub in_range : AreInRange settings
-  pub lawful : IsLawful (setup_of task graph settings reopenings) machine
+  pub lawful : IsLawful (setup_of task graph choice settings reopenings) machine
   pub leased : machine.counts.leases lease.worker ≡ Some (grant_of lease)
   pub known : Option ℕ → Bool
-  pub work : IsWorked (space_of task) (guide_of task graph) lease.block lease.used 0 known
-      (lent_store (setup_of task graph settings reopenings) lease.block machine.store
+  pub work : IsWorked (space_of task) (guide_of task graph choice) lease.block lease.used 0 known
+      (lent_store (setup_of task graph choice settings reopenings) lease.block machine.store
       (machine.given lease.worker)) (leased_store lease)
   pub scope : HasScope graph lease
+  pub choice_is : lease.choice ≡ choice
 
 -- a worker that reads no incumbent
 abbrev pub reads_none : Option ℕ → Bool

@@ -7,13 +7,14 @@ use Rattle.pb_machine.specs.Machine.{IsWorked}
 use Rattle.pb_machine.specs.Turns.{AreLeaseTurns}
 use Rattle.pb_task.specs.declared.parts.TaskParts.{TaskParts}
 use Rattle.pb_task.specs.Parts.{space_of}
+use Rattle.pb_estimate.specs.declared.choice.Choice.{Choice}
 use Rattle.pb_abstract.specs.Graph.{AbstractGraph}
 use Rattle.pb_lease.specs.LeaseValue.{LeaseValue, leased_store, HasWeights, IsSameLease}
 use Rattle.pb_lease.specs.Leased.{guide_of}
 use Rattle.pb_expand.specs.Turned.{IsAtWork, HasTurned, copies_of}
 
 -- What a watch knows:
--- - what is searched and by which blocks,
+-- - what is searched, by which blocks and by which estimate,
 -- - the lease as it was given or last renewed,
 -- - what it has read as the incumbent, and what each of its reads has found, the last one first,
 -- - the least cost that it has read or told,
@@ -21,6 +22,7 @@ use Rattle.pb_expand.specs.Turned.{IsAtWork, HasTurned, copies_of}
 pub record WatchView : Type 0 where
   pub task : TaskParts
   pub graph : AbstractGraph
+  pub choice : Choice
   pub lent : Option LeaseValue
   pub read : Option ℕ → Bool
   pub answers : List (Option ℕ)
@@ -52,8 +54,8 @@ pub record IsWatched (space : Space) (guide : Guide) (view : WatchView) (most_br
 -- cost as its incumbent before the cost is told. The greatest number stands for an unknown cost.
 pub record MayTell (view : WatchView) (lease : LeaseValue) (cost : ℕ) : Type 0 where
   pub below : cost < 2 ^ 64 - 1
-  pub watched : IsWatched (space_of view.task) (guide_of view.task view.graph) view 0 lease
-  pub goal : HasGoalWithin (space_of view.task) (guide_of view.task view.graph) (leased_store lease)
+  pub watched : IsWatched (space_of view.task) (guide_of view.task view.graph view.choice) view 0 lease
+  pub goal : HasGoalWithin (space_of view.task) (guide_of view.task view.graph view.choice) (leased_store lease)
       cost
 
 -- It is the same search and the same lent lease, what was read stays read, and the least cost
@@ -85,12 +87,13 @@ pub record HasTold (old : WatchView) (cost : ℕ) (new : WatchView) : Type 0 whe
   pub answers : new.answers ≡ old.answers
 
 -- The lease may be worked on under this watch.
-pub record IsAtWatch (task : TaskParts) (graph : AbstractGraph) (view : WatchView)
-    (lease : LeaseValue) : Type 0 where
+pub record IsAtWatch (task : TaskParts) (graph : AbstractGraph) (choice : Choice)
+    (view : WatchView) (lease : LeaseValue) : Type 0 where
   pub task_is : view.task ≡ task
   pub graph_is : view.graph ≡ graph
-  pub at_work : IsAtWork task graph lease
-  pub watched : IsWatched (space_of task) (guide_of task graph) view 0 lease
+  pub choice_is : view.choice ≡ choice
+  pub at_work : IsAtWork task graph choice lease
+  pub watched : IsWatched (space_of task) (guide_of task graph choice) view 0 lease
   pub within : lease.used ≤ lease.quota
 
 -- ---- a read before each turn

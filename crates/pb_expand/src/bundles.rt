@@ -4,7 +4,7 @@ ghost use Rattle.pb_model.specs.Store.{HasOpened};
 ghost use Rattle.pb_model.specs.Key.{IsFirstRow};
 ghost use Rattle.pb_model.specs.declared.row.Status.TheVariants.{Closed, Cut};
 ghost use Rattle.pb_task.specs.Parts.{space_of};
-ghost use Rattle.pb_estimate.specs.Estimates.{estimate_of};
+ghost use Rattle.pb_estimate.specs.Estimates.{estimate_by};
 ghost use Rattle.pb_estimate.specs.Tables.{IsOfTask};
 ghost use Rattle.pb_lists.specs.Bundle.{IsOpened};
 ghost use Rattle.pb_bundles.specs.Parts.{content_in};
@@ -57,8 +57,8 @@ pub fn close(lease: &mut Lease, state: &Packed)
 }
 
 /// Offers a successor to the bundle of a block, with this g: that of the walk to it by its parent.
-/// A state that has a row there keeps that row's estimate; any other state gets the task's
-/// estimate. If memory runs out, the lease is as it was.
+/// A state that has a row there keeps that row's estimate; any other state gets the estimate
+/// of the lease's choice. If memory runs out, the lease is as it was.
 pub fn offer(
     task: &Task,
     estimator: &mut Estimator,
@@ -68,14 +68,14 @@ pub fn offer(
     parent: &Packed,
     g: u64,
 ) -> Result<(), AllocError>
-    requires tables { IsOfTask estimator.old task.now }
+    requires tables { IsOfTask estimator.old task.now lease.old.choice }
     requires state { IsTrue ((space_of task.now).is_state succ.now.state) }
     requires there { IsSome (content_in lease.old.parts block) }
     ensures rows { OnOk result (OffersAt lease.old lease.new block succ.now.state g
-        (estimate_of task.now succ.now.state) (Some parent.now) succ.now.action) }
+        (estimate_by task.now lease.old.choice succ.now.state) (Some parent.now) succ.now.action) }
     ensures changes { ChangesRows lease.old lease.new }
     ensures err { OnErr result (lease.new ≡ lease.old) }
-    ensures tables { IsOfTask estimator.new task.now }
+    ensures tables { IsOfTask estimator.new task.now lease.old.choice }
 {
     let bundle = lease.bundle_mut(block);
     match bundle.place_of(&succ.state) {

@@ -8,7 +8,6 @@
 
 mod bundles;
 mod offers;
-mod rules;
 mod turns;
 mod watch;
 mod watching;

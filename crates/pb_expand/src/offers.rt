@@ -27,19 +27,19 @@ pub fn offer_all(
     parent: &Packed,
     g: u64,
 ) -> Result<(), AllocError>
-    requires tables { IsOfTask estimator.old task.now }
+    requires tables { IsOfTask estimator.old task.now lease.old.choice }
     requires graph { IsGraphOf task.now graph.now }
     requires proper { IsProper (space_of task.now) greatest_cost }
     requires succs { succs.now ≡ steps (space_of task.now) parent.now }
-    requires there { LeadsInto (space_of task.now) (guide_of task.now graph.now) parent.now
+    requires there { LeadsInto (space_of task.now) (guide_of task.now graph.now lease.old.choice) parent.now
         lease.old.parts }
     requires cheap { g < 2 ^ 61 }
-    ensures offers { OnOk result (HasOffers (guide_of task.now graph.now) parent.now g succs.now
+    ensures offers { OnOk result (HasOffers (guide_of task.now graph.now lease.old.choice) parent.now g succs.now
         lease.old lease.new) }
-    ensures broken { OnErr result (IsBrokenOff (guide_of task.now graph.now) parent.now g succs.now
+    ensures broken { OnErr result (IsBrokenOff (guide_of task.now graph.now lease.old.choice) parent.now g succs.now
         lease.old lease.new) }
     ensures changes { ChangesRows lease.old lease.new }
-    ensures tables { IsOfTask estimator.new task.now }
+    ensures tables { IsOfTask estimator.new task.now lease.old.choice }
 {
     for succ in succs {
         let cost = g + succ.cost;

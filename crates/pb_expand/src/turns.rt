@@ -3,6 +3,7 @@ ghost use Rattle.std.specs.Prelude.{◌≡◌, ◌+◌, ◌<◌, ◌≤◌, true
 ghost use Rattle.pb_model.specs.Store.{HasOpened};
 ghost use Rattle.pb_model.specs.Key.{IsFirstRow};
 ghost use Rattle.pb_task.specs.Parts.{space_of, max_degree_of};
+ghost use Rattle.pb_estimate.specs.declared.choice.Choice.{Choice};
 ghost use Rattle.pb_estimate.specs.Tables.{IsOfTask};
 ghost use Rattle.pb_abstract.specs.Graph.{AbstractGraph, IsGraphOf};
 ghost use Rattle.pb_bundles.specs.Parts.{content_in};
@@ -13,10 +14,10 @@ ghost use Rattle.pb_lease.specs.Rows.{own_opened};
 
 use crate::bundles::{close, cut, first};
 use crate::offers::offer_all;
-use crate::rules::may_be_cut;
 use pb_abstract::AbsGraph;
 use pb_estimate::Estimator;
 use pb_lease::Lease;
+use pb_lists::may_be_cut;
 use pb_model::{Row, Succ};
 use pb_packed::Packed;
 use pb_task::Task;
@@ -26,8 +27,8 @@ use std::alloc::AllocError;
 // either.
 fn settle_row(task: &Task, lease: &mut Lease, state: &Packed, row: &Row) -> bool
     requires first { IsFirstRow lease.old.weight (own_rows lease.old) state.now row.now }
-    ensures turned { (graph : AbstractGraph) → IsAtWork task.now graph lease.old
-        → HasTurned (space_of task.now) (guide_of task.now graph) reads_none lease.old.block 0 0
+    ensures turned { (graph : AbstractGraph) (choice : Choice) → IsAtWork task.now graph choice lease.old
+        → HasTurned (space_of task.now) (guide_of task.now graph choice) reads_none lease.old.block 0 0
         (leased_store lease.old) (leased_store lease.new) }
     ensures same { IsSameLease lease.old lease.new }
     ensures used { lease.new.used ≡ lease.old.used }
@@ -52,8 +53,8 @@ fn settle_row(task: &Task, lease: &mut Lease, state: &Packed, row: &Row) -> bool
 pub fn settle(task: &Task, lease: &mut Lease) -> Option<(Packed, Row)>
     requires own { IsSome (content_in lease.old.parts lease.old.block) }
     requires weights { HasWeights lease.old }
-    ensures turned { (graph : AbstractGraph) → IsAtWork task.now graph lease.old
-        → HasTurned (space_of task.now) (guide_of task.now graph) reads_none lease.old.block 0 0
+    ensures turned { (graph : AbstractGraph) (choice : Choice) → IsAtWork task.now graph choice lease.old
+        → HasTurned (space_of task.now) (guide_of task.now graph choice) reads_none lease.old.block 0 0
         (leased_store lease.old) (leased_store lease.new) }
     ensures same { IsSameLease lease.old lease.new }
     ensures used { lease.new.used ≡ lease.old.used }
@@ -81,23 +82,23 @@ pub fn expand(
     state: &Packed,
     row: &Row,
 ) -> Result<(), AllocError>
-    requires tables { IsOfTask estimator.old task.now }
+    requires tables { IsOfTask estimator.old task.now lease.old.choice }
     requires graph { IsGraphOf task.now graph.now }
     requires room { max_degree_of task.now ≤ vec_capacity succs.old }
-    requires at_work { IsAtWork task.now graph.now lease.old }
+    requires at_work { IsAtWork task.now graph.now lease.old.choice lease.old }
     requires next { IsNext (space_of task.now) lease.old state.now row.now }
     requires left { lease.old.used < lease.old.quota }
-    ensures turned { OnOk result (HasTurnedOnce (space_of task.now) (guide_of task.now graph.now)
+    ensures turned { OnOk result (HasTurnedOnce (space_of task.now) (guide_of task.now graph.now lease.old.choice)
         reads_none lease.old.block 1 0 (leased_store lease.old) (leased_store lease.new)) }
     ensures used { OnOk result (lease.new.used ≡ lease.old.used + 1) }
-    ensures broken { OnErr result (HasTurnedOnce (space_of task.now) (guide_of task.now graph.now)
+    ensures broken { OnErr result (HasTurnedOnce (space_of task.now) (guide_of task.now graph.now lease.old.choice)
         reads_none lease.old.block 0 1 (leased_store lease.old) (leased_store lease.new)) }
     ensures unused { OnErr result (lease.new.used ≡ lease.old.used) }
     ensures opened { OnErr result (HasOpened (own_rows lease.new)) }
     ensures incumbent { lease.new.incumbent ≡ lease.old.incumbent }
     ensures same { IsSameLease lease.old lease.new }
     ensures weights { HasWeights lease.new }
-    ensures tables { IsOfTask estimator.new task.now }
+    ensures tables { IsOfTask estimator.new task.now lease.old.choice }
     ensures room { vec_capacity succs.old ≤ vec_capacity succs.new }
 {
     task.successors(state, succs);

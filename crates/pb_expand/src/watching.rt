@@ -7,6 +7,7 @@ ghost use Rattle.pb_model.specs.Store.{HasOpened, lesser};
 ghost use Rattle.pb_model.specs.Key.{IsFirstRow};
 ghost use Rattle.pb_model.specs.declared.row.Row.{Row};
 ghost use Rattle.pb_task.specs.Parts.{space_of, max_degree_of};
+ghost use Rattle.pb_estimate.specs.declared.choice.Choice.{Choice};
 ghost use Rattle.pb_estimate.specs.Tables.{IsOfTask};
 ghost use Rattle.pb_abstract.specs.Graph.{AbstractGraph, IsGraphOf};
 ghost use Rattle.pb_bundles.specs.Parts.{content_in};
@@ -19,13 +20,13 @@ ghost use Rattle.pb_expand.specs.Watching.{IsWatched, KeepsWatch, IsAtWatch, Has
 ghost use Rattle.pb_expand.specs.declared.working.Worked.TheVariants.{Spent, Empty, Memory};
 
 use crate::bundles::{cut, first};
-use crate::rules::may_be_cut;
 use crate::turns::expand;
 use crate::watch::Watch;
 use crate::working::Worked;
 use pb_abstract::AbsGraph;
 use pb_estimate::Estimator;
 use pb_lease::Lease;
+use pb_lists::may_be_cut;
 use pb_model::{Row, Succ};
 use pb_packed::Packed;
 use pb_task::Task;
@@ -77,12 +78,12 @@ fn settle_row_watched<W: Watch>(
     row: &Row,
 ) -> bool
     requires can { W.can watch.old }
-    requires at { (graph : AbstractGraph) × IsAtWatch task.now graph (W.seen watch.old) lease.old }
+    requires at { (graph : AbstractGraph) × (choice : Choice) × IsAtWatch task.now graph choice (W.seen watch.old) lease.old }
     requires first { IsFirstRow lease.old.weight (own_rows lease.old) state.now row.now }
     ensures can { W.can watch.new }
     ensures stays { W.stays watch.old watch.new }
-    ensures turned { (graph : AbstractGraph) → IsAtWatch task.now graph (W.seen watch.old) lease.old
-        → HasTurnedWatched (space_of task.now) (guide_of task.now graph) 0 0 true (not result)
+    ensures turned { (graph : AbstractGraph) (choice : Choice) → IsAtWatch task.now graph choice (W.seen watch.old) lease.old
+        → HasTurnedWatched (space_of task.now) (guide_of task.now graph choice) 0 0 true (not result)
         lease.old (W.seen watch.old) lease.new (W.seen watch.new) }
     ensures none { (W.seen watch.new).answers ≡ (W.seen watch.old).answers }
     ensures fewer { result ≡ true → own_opened lease.new < own_opened lease.old }
@@ -105,11 +106,11 @@ fn settle_row_watched<W: Watch>(
 // answers that row and its state.
 fn settle_watched<W: Watch>(task: &Task, lease: &mut Lease, watch: &mut W) -> Option<(Packed, Row)>
     requires can { W.can watch.old }
-    requires at { (graph : AbstractGraph) × IsAtWatch task.now graph (W.seen watch.old) lease.old }
+    requires at { (graph : AbstractGraph) × (choice : Choice) × IsAtWatch task.now graph choice (W.seen watch.old) lease.old }
     ensures can { W.can watch.new }
     ensures stays { W.stays watch.old watch.new }
-    ensures turned { (graph : AbstractGraph) → IsAtWatch task.now graph (W.seen watch.old) lease.old
-        → HasTurnedWatched (space_of task.now) (guide_of task.now graph) 0 0 false true lease.old
+    ensures turned { (graph : AbstractGraph) (choice : Choice) → IsAtWatch task.now graph choice (W.seen watch.old) lease.old
+        → HasTurnedWatched (space_of task.now) (guide_of task.now graph choice) 0 0 false true lease.old
         (W.seen watch.old) lease.new (W.seen watch.new) }
     ensures same { IsSameLease lease.old lease.new }
     ensures used { lease.new.used ≡ lease.old.used }
@@ -136,19 +137,20 @@ pub fn work_watched<W: Watch>(
     succs: &mut Vec<Succ>,
     watch: &mut W,
 ) -> Worked
-    requires tables { IsOfTask estimator.old task.now }
+    requires tables { IsOfTask estimator.old task.now lease.old.choice }
     requires graph { IsGraphOf task.now graph.now }
     requires room { max_degree_of task.now ≤ vec_capacity succs.old }
-    requires at_work { IsAtWork task.now graph.now lease.old }
+    requires at_work { IsAtWork task.now graph.now lease.old.choice lease.old }
     requires can { W.can watch.old }
     requires task_is { (W.seen watch.old).task ≡ task.now }
     requires graph_is { (W.seen watch.old).graph ≡ graph.now }
-    requires watched { IsWatched (space_of task.now) (guide_of task.now graph.now)
+    requires choice_is { (W.seen watch.old).choice ≡ lease.old.choice }
+    requires watched { IsWatched (space_of task.now) (guide_of task.now graph.now lease.old.choice)
         (W.seen watch.old) 0 lease.old }
 
     // What was done: the counted expansions, one that was broken off if memory ran out, and a read
     // before each turn.
-    ensures turned { HasTurnedReading (space_of task.now) (guide_of task.now graph.now)
+    ensures turned { HasTurnedReading (space_of task.now) (guide_of task.now graph.now lease.old.choice)
         (W.seen watch.new).read lease.old.block (lease.new.used - lease.old.used) (broken_by result)
         (ends_with_read result) (leased_store lease.old) (leased_store lease.new)
         (W.seen watch.old).answers (W.seen watch.new).answers }
@@ -157,7 +159,7 @@ pub fn work_watched<W: Watch>(
 
     // The lease has the least cost that was read or told, and shows what was told.
     ensures copy { lease.new.incumbent ≡ (W.seen watch.new).least }
-    ensures watched { IsWatched (space_of task.now) (guide_of task.now graph.now) (W.seen watch.new)
+    ensures watched { IsWatched (space_of task.now) (guide_of task.now graph.now lease.old.choice) (W.seen watch.new)
         (broken_by result) lease.new }
     ensures kept { KeepsWatch (W.seen watch.old) (W.seen watch.new) }
 
@@ -175,7 +177,7 @@ pub fn work_watched<W: Watch>(
     ensures scope { HasScope graph.now lease.new }
     ensures can { W.can watch.new }
     ensures stays { W.stays watch.old watch.new }
-    ensures tables { IsOfTask estimator.new task.now }
+    ensures tables { IsOfTask estimator.new task.now lease.old.choice }
     ensures room { vec_capacity succs.old ≤ vec_capacity succs.new }
 {
     let quota = lease.quota();

@@ -43,13 +43,13 @@ pub fn work(
     lease: &mut Lease,
     succs: &mut Vec<Succ>,
 ) -> Worked
-    requires tables { IsOfTask estimator.old task.now }
+    requires tables { IsOfTask estimator.old task.now lease.old.choice }
     requires graph { IsGraphOf task.now graph.now }
     requires room { max_degree_of task.now ≤ vec_capacity succs.old }
-    requires at_work { IsAtWork task.now graph.now lease.old }
+    requires at_work { IsAtWork task.now graph.now lease.old.choice lease.old }
 
     // What was done: the counted expansions, and one that was broken off if memory ran out.
-    ensures turned { HasTurned (space_of task.now) (guide_of task.now graph.now) reads_none
+    ensures turned { HasTurned (space_of task.now) (guide_of task.now graph.now lease.old.choice) reads_none
         lease.old.block (lease.new.used - lease.old.used) (broken_by result)
         (leased_store lease.old) (leased_store lease.new) }
     ensures counted { lease.old.used ≤ lease.new.used }
@@ -57,11 +57,11 @@ pub fn work(
 
     // So a lease that was out in a machine still is. Its work there is in turns, if it was before.
     ensures out { (settings : Settings) (reopenings : ℕ) (machine : Machine)
-        → (before : IsOut (setup_of task.now graph.now settings reopenings) machine 0 lease.old)
-        → (after : IsOut (setup_of task.now graph.now settings reopenings) machine
+        → (before : IsOut (setup_of task.now graph.now lease.old.choice settings reopenings) machine 0 lease.old)
+        → (after : IsOut (setup_of task.now graph.now lease.old.choice settings reopenings) machine
         (broken_by result) lease.new)
-        × (IsInTurns (setup_of task.now graph.now settings reopenings) machine 0 lease.old before
-        → IsInTurns (setup_of task.now graph.now settings reopenings) machine (broken_by result)
+        × (IsInTurns (setup_of task.now graph.now lease.old.choice settings reopenings) machine 0 lease.old before
+        → IsInTurns (setup_of task.now graph.now lease.old.choice settings reopenings) machine (broken_by result)
         lease.new after) }
 
     // Why it stopped.
@@ -76,7 +76,7 @@ pub fn work(
     // What stays.
     ensures same { IsSameLease lease.old lease.new }
     ensures scope { HasScope graph.now lease.new }
-    ensures tables { IsOfTask estimator.new task.now }
+    ensures tables { IsOfTask estimator.new task.now lease.old.choice }
     ensures room { vec_capacity succs.old ≤ vec_capacity succs.new }
 {
     let quota = lease.quota();

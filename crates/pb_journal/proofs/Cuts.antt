@@ -7,6 +7,7 @@ use Rattle.std.proofs.lemmas.List.Sums.{sum_by-cons}
 use Rattle.std.proofs.lemmas.Bool.Decides.{nat_tests}
 use Rattle.pb_model.specs.Texts.{lines}
 use Rattle.pb_model.proofs.Callers.{or_false, not_both}
+use Rattle.pb_machine.specs.Settings.{standard}
 use Rattle.pb_machine.specs.declared.event.Event.{Event}
 use Rattle.pb_machine.specs.declared.event.Event.TheVariants.{Lease, Renew, Hot, Cold, Release, Off, Ended}
 use Rattle.pb_machine.specs.declared.event.End.TheVariants.{Quiet, Budget, Memory}
@@ -296,15 +297,12 @@ plain_step {B} line made start rest y after e = go (first_cases line start rest)
 
 abbrev settings_with : (workers budget lot wish : ℕ) → Bool → Settings
 settings_with workers budget lot wish plain =
-    record {
+    record standard {
       workers = workers;
-      num = 1;
-      den = 1;
       budget = budget;
       lot = lot;
       wish = wish;
-      plain =
-          plain;
+      plain = plain;
     }
 
 header_step : IsStep 6 1 header_of

@@ -5,7 +5,7 @@ use Rattle.std.specs.Fmt.{decimal}
 use Rattle.std.proofs.lemmas.Bool.{leb-true, le-leb}
 use Rattle.pb_model.specs.Texts.{line}
 use Rattle.pb_machine.specs.declared.settings.Settings.{Settings}
-use Rattle.pb_machine.specs.Settings.{AreInRange, weight_of, settings_with_weight}
+use Rattle.pb_machine.specs.Settings.{standard, AreInRange, weight_of, settings_with_weight}
 use Rattle.pb_journal.specs.declared.error.Fault.{Fault}
 use Rattle.pb_journal.specs.declared.error.Why.TheVariants.{Spelling, Settings as OutOfRange}
 use Rattle.pb_journal.specs.Faults.{◌>>=◌, fault_at, wanted}
@@ -111,16 +111,7 @@ header_is bytes x is =
     let lot = number_line_is 5 (codes "lot ") 1 (2 ^ 20) d.0.1 e.0 e.1 in
     let plain = plain_line_is 6 e.0.1 f.0 f.1 in
     let settings : Settings =
-    record {
-      workers = c.0.0;
-      num = 1;
-      den = 1;
-      budget = d.0.0;
-      lot = e.0.0;
-      wish =
-          b.0.0;
-      plain = f.0.0;
-    } in
+    record standard { workers = c.0.0; budget = d.0.0; lot = e.0.0; wish = b.0.0; plain = f.0.0 } in
     subst (IsHeader bytes) (ok_is (settings, f.0.1) x f.2) (record {
       text = fixed_is 1 (codes "pbnf-journal 1") bytes a.0 a.1
           ∙ ap (λ (t : List ℕ). codes "pbnf-journal 1" ++ 10 ∷ t) (wish.text_is
@@ -147,14 +138,11 @@ abbrev read_settings : (workers budget lot wish : ℕ) → (plain : Bool × List
     → Result (Settings × List ℕ) Fault
 read_settings workers budget lot wish plain =
     Ok (
-      record {
+      record standard {
         workers = workers;
-        num = 1;
-        den = 1;
         budget = budget;
         lot = lot;
-        wish =
-            wish;
+        wish = wish;
         plain = plain.0;
       },
       plain.1,

@@ -5,7 +5,7 @@ mod Allowed
 mod Releases
 mod Splits
 mod Loops
-mod Files
+mod Numbered
 mod Chains
 mod EventLines
 mod HeaderLines

@@ -14,7 +14,6 @@ pub mod Reading
 pub mod Stated
 pub mod Judging
 pub mod Replaying
-pub mod Saved
 pub mod Shown
 pub mod Searched
 pub mod Lengths

@@ -5,6 +5,7 @@ use Rattle.pb_machine.specs.declared.event.End.TheVariants.{Quiet, Budget, Memor
 use Rattle.pb_machine.specs.declared.event.Event.{Event}
 use Rattle.pb_machine.specs.declared.event.Event.TheVariants.{Lease, Renew, Hot, Cold, Release, Off, Ended}
 use Rattle.pb_machine.specs.declared.settings.Settings.{Settings}
+use Rattle.pb_machine.specs.Settings.{standard}
 use Rattle.pb_journal.specs.declared.error.Why.{Why}
 use Rattle.pb_journal.specs.declared.error.Why.TheVariants.{Spelling, Settings as OutOfRange, Short}
 use Rattle.pb_journal.specs.declared.error.Fault.{Fault}
@@ -77,14 +78,11 @@ header_of bytes = do
   lot ← number_at 5 (codes "lot ") 1 (2 ^ 20) budget.1
   plain ← plain_at 6 lot.1
   Ok (
-    record {
+    record standard {
       workers = workers.0;
-      num = 1;
-      den = 1;
       budget = budget.0;
       lot = lot.0;
-      wish =
-          wish.0;
+      wish = wish.0;
       plain = plain.0;
     },
     plain.1,

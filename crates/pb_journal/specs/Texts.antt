@@ -60,6 +60,10 @@ events_text journal = lines (map event_line journal)
 abbrev pub journal_text : Settings → List Event → List ℕ
 journal_text settings journal = header_text settings ++ events_text journal
 
+-- the same text, line by line
+abbrev pub lines_of : Settings → List Event → List (List ℕ)
+lines_of settings journal = header_lines settings ++ map event_line journal
+
 -- a number that a journal can state
 abbrev pub IsNumber : ℕ → Type 0
 IsNumber n = n < 2 ^ 63

@@ -8,7 +8,7 @@ ghost use Rattle.pb_journal.specs.Shown.{one, HasHeader};
 
 use crate::error::{Fault, JournalError};
 use crate::reading::{fixed_at, number_at, plain_at};
-use pb_machine::Settings;
+use pb_machine::{STANDARD, Settings};
 
 /// The settings, whose weight is 1, and the text after the header.
 #[tactic(auto, unfolding(crate::specs::Reading::header_of))]
@@ -25,12 +25,11 @@ pub(crate) fn header(bytes: &[u8]) -> Result<(Settings, &[u8]), Fault>
     let (plain, rest) = plain_at(6, rest)?;
     let settings = Settings {
         workers: workers as u32,
-        num: 1,
-        den: 1,
         budget,
         lot,
         wish: wish as u32,
         plain,
+        ..STANDARD
     };
     Ok((settings, rest))
 }

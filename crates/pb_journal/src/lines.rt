@@ -1,14 +1,12 @@
 //! The lines of a journal, in a piece of its text.
-ghost use Rattle.std.specs.Prelude.{◌≡◌, ◌+◌, ◌≤◌, [], ◌++◌, length, codes};
+ghost use Rattle.std.specs.Prelude.{◌≡◌, ◌+◌, ◌<◌, ◌≤◌, ◌^◌, [], ◌++◌, map, length, codes};
 ghost use Rattle.std.specs.Fmt.{decimal};
 ghost use Rattle.pb_model.specs.Texts.{line, spaced};
-ghost use Rattle.pb_journal.specs.Texts.{numbered, plain_line, report_word, header_text, event_line};
+ghost use Rattle.pb_print.specs.Saved.{PutsLine};
+ghost use Rattle.pb_journal.specs.Texts.{numbered, plain_line, report_word, header_lines, event_line, journal_text, lines_of};
 
 use pb_machine::{End, Event, Settings};
-use pb_print::Piece;
-
-// No line has more bytes, its line feed included.
-pub const LONGEST: usize = 128;
+use pb_print::{NumberedLines, Piece};
 
 // Puts a line of a word and a number at the piece's end.
 fn put_numbered(word: &[u8], n: u64, out: &mut Piece)
@@ -33,17 +31,20 @@ fn put_plain(plain: bool, out: &mut Piece)
     out.push(text);
 }
 
-/// Puts the lines of the settings into the piece.
-pub fn put_header(settings: &Settings, out: &mut Piece)
-    requires { length out.old ≡ 0 }
-    ensures text { out.new ≡ header_text settings.now }
+// Puts the line of this number of the settings at the piece's end.
+fn put_setting(settings: &Settings, at: u128, out: &mut Piece)
+    requires within { at < 6 }
+    requires room { length out.old + 128 ≤ 4096 }
+    ensures { PutsLine out.old out.new (header_lines settings.now) at }
 {
-    out.push(b"pbnf-journal 1\n");
-    put_numbered(b"blocks", u64::from(settings.wish), out);
-    put_numbered(b"workers", u64::from(settings.workers), out);
-    put_numbered(b"budget", settings.budget, out);
-    put_numbered(b"lot", settings.lot, out);
-    put_plain(settings.plain, out);
+    match at {
+        0 => out.push(b"pbnf-journal 1\n"),
+        1 => put_numbered(b"blocks", u64::from(settings.wish), out),
+        2 => put_numbered(b"workers", u64::from(settings.workers), out),
+        3 => put_numbered(b"budget", settings.budget, out),
+        4 => put_numbered(b"lot", settings.lot, out),
+        _ => put_plain(settings.plain, out),
+    }
 }
 
 // Puts a word and the number of a worker at the piece's end, with a space after each.
@@ -102,10 +103,11 @@ fn put_reported(n: u64, memory: bool, out: &mut Piece)
     put_report(memory, out);
 }
 
-/// Puts the line of an event at the piece's end.
-pub fn put_event(event: &Event, out: &mut Piece)
+// Puts the line of an event at the piece's end.
+fn put_event(event: &Event, out: &mut Piece)
     requires room { length out.old + 128 ≤ 4096 }
     ensures line { out.new ≡ out.old ++ line (event_line event.now) }
+    ensures short { length out.new ≤ length out.old + 128 }
 {
     match *event {
         Event::Lease {
@@ -147,5 +149,31 @@ pub fn put_event(event: &Event, out: &mut Piece)
         Event::Ended(End::Quiet) => out.push(b"end quiet\n"),
         Event::Ended(End::Budget) => out.push(b"end budget\n"),
         Event::Ended(End::Memory) => out.push(b"end memory\n"),
+    }
+}
+
+/// The text of a journal: the settings of its search, without the weight, and the events.
+#[derive(Drop)]
+pub struct JournalText<'a> {
+    pub settings: &'a Settings,
+    pub events: &'a [Event],
+}
+
+/// The lines of a journal's text.
+impl NumberedLines for JournalText<'_> {
+    ghost text = { λ j. journal_text j.settings.now j.events.now };
+
+    ghost lines_of = { λ j. lines_of j.settings.now j.events.now };
+
+    fn count(&self) -> u128 {
+        6 + self.events.len() as u128
+    }
+
+    fn put_line(&self, at: u128, out: &mut Piece) {
+        if at < 6 {
+            put_setting(self.settings, at, out);
+        } else {
+            put_event(&self.events[(at - 6) as usize], out);
+        }
     }
 }

@@ -21,10 +21,10 @@ use Rattle.pb_lease.specs.Steps.{IsLeased}
 use Rattle.pb_lease.proofs.GraphBasics.{scope_home}
 
 module _ (old : GraphValue) (k : IsLeaseGraph old) (lease : LeaseValue) (table : Table) (homes : HomeTable) (scope : List ℕ) (each : (c : ℕ) → has scope c ≡ (blocks old.table).scope lease.block c)
-    (first : IsChoice old (Some lease.block)) (weight : lease.weight ≡ weight_of old.table.settings) (adds : Adds old.table table (Lease lease.worker lease.block lease.quota ∷ []))
+    (first : IsChoice old (Some lease.block)) (weight : lease.weight ≡ weight_of old.table.settings) (choice : lease.choice ≡ old.choice) (adds : Adds old.table table (Lease lease.worker lease.block lease.quota ∷ []))
     (taken : (c : ℕ) → content_in lease.parts c ≡ cond (has scope c) (content_at old.homes c) None) where
   abbrev New : GraphValue
-  New = record { task = old.task; table = table; homes = homes; incumbent = old.incumbent }
+  New = record { task = old.task; choice = old.choice; table = table; homes = homes; incumbent = old.incumbent }
 
   moved : (c : ℕ) → content_in lease.parts c ≡ cond ((blocks old.table).scope lease.block c) (content_at old.homes c) None
   moved c = taken c ∙ ap (λ r. cond r (content_at old.homes c) None) (each c)
@@ -43,6 +43,7 @@ module _ (old : GraphValue) (k : IsLeaseGraph old) (lease : LeaseValue) (table :
   of_graph = record {
     leased = ap (λ (c : Counts). c.leases lease.worker) adds.counts ∙ entry_here (counts_in old).leases lease.worker lease.worker (Some (grant_of lease)) (equal_self lease.worker);
     weight = weight ∙ ap weight_of (sym adds.settings);
+    choice = choice;
     scope = record { blocks = λ c. has_scope c ∙ ap (λ (g : AbstractGraph). (blocks_of g).scope lease.block c) (sym adds.graph); weights = own_weight };
   }
 
@@ -61,5 +62,6 @@ module _ (old : GraphValue) (k : IsLeaseGraph old) (lease : LeaseValue) (table :
     events = adds;
     room = room;
     task = refl;
+    choice = refl;
     incumbent = refl;
   }

@@ -65,7 +65,7 @@ away_in old new events leases adds are block =
 
 module _ (old : GraphValue) (k : IsLeaseGraph old) (table : Table) (homes : HomeTable) (incumbent : Option ℕ) (events : List Event) (adds : Adds old.table table events) where
   abbrev New : GraphValue
-  New = record { task = old.task; table = table; homes = homes; incumbent = incumbent }
+  New = record { task = old.task; choice = old.choice; table = table; homes = homes; incumbent = incumbent }
 
   count_same : (blocks table).count ≡ (blocks old.table).count
   count_same = ap (λ (g : AbstractGraph). (blocks_of g).count) adds.graph
@@ -76,6 +76,7 @@ module _ (old : GraphValue) (k : IsLeaseGraph old) (table : Table) (homes : Home
       → ((block : ℕ) (content : Content) → content_at homes block ≡ Some content → content.weight ≡ weight_of old.table.settings) → IsLeaseGraph New
   graph_kept legal places keys home weights = record {
     is_task = k.is_task;
+    suits = k.suits;
     graph_of = subst (IsGraphOf old.task) (sym adds.graph) k.graph_of;
     legal = legal;
     places = places ∙ k.places ∙ sym count_same;
@@ -98,7 +99,7 @@ module _ (old : GraphValue) (k : IsLeaseGraph old) (worker block quota : ℕ) (t
   pub leased_kept : refusal (blocks old.table) old.table.settings (counts_in old) (Lease worker block quota) ≡ None → worker < old.table.settings.workers → (counts_in old).leases worker ≡ None
       → (scope : List ℕ) → ((c : ℕ) → has scope c ≡ (blocks old.table).scope block c) → homes ≡ record { bundles = vacated scope old.homes.bundles; keys = old.homes.keys }
       → ((c : ℕ) → content_at homes c ≡ cond (has scope c) None (content_at old.homes c))
-      → IsLeaseGraph (record { task = old.task; table = table; homes = homes; incumbent = old.incumbent })
+      → IsLeaseGraph (record { task = old.task; choice = old.choice; table = table; homes = homes; incumbent = old.incumbent })
   leased_kept may inside vacant scope each left out =
       graph_kept old k table homes old.incumbent (Lease worker block quota ∷ []) adds (one_more old.table table (Lease worker block quota) adds k.legal may)
       (ap (λ (h : HomeTable). length h.bundles) left ∙ vacated_length scope old.homes.bundles) (ap (λ (h : HomeTable). length h.keys) left)
@@ -113,7 +114,7 @@ module _ (old : GraphValue) (k : IsLeaseGraph old) (worker block quota : ℕ) (t
       was c = away (blocks old.table) old.table.settings.workers (counts_in old).leases c
 
       gone : (c : ℕ) → away (blocks table) table.settings.workers (counts_of table).leases c ≡ ((blocks old.table).scope block c || was c)
-      gone c = away_in old (record { task = old.task; table = table; homes = homes; incumbent = old.incumbent }) (Lease worker block quota ∷ []) (with_entry (counts_in old).leases worker (Some (record { block = block; quota = quota }))) adds refl c
+      gone c = away_in old (record { task = old.task; choice = old.choice; table = table; homes = homes; incumbent = old.incumbent }) (Lease worker block quota ∷ []) (with_entry (counts_in old).leases worker (Some (record { block = block; quota = quota }))) adds refl c
           ∙ more_away (blocks old.table) old.table.settings.workers (counts_in old).leases worker (record { block = block; quota = quota }) c inside vacant
 
 -- ---- events that change no lease
@@ -121,15 +122,15 @@ module _ (old : GraphValue) (k : IsLeaseGraph old) (worker block quota : ℕ) (t
 module _ (old : GraphValue) (k : IsLeaseGraph old) (table : Table) where
   pub event_kept : (event : Event) → Adds old.table table (event ∷ []) → refusal (blocks old.table) old.table.settings (counts_in old) event ≡ None
       → (counts_after (blocks old.table) old.table.settings (counts_in old) event).leases ≡ (counts_in old).leases
-      → IsLeaseGraph (record { task = old.task; table = table; homes = old.homes; incumbent = old.incumbent })
+      → IsLeaseGraph (record { task = old.task; choice = old.choice; table = table; homes = old.homes; incumbent = old.incumbent })
   event_kept event adds may stays = numbers_kept old k table old.homes old.incumbent (event ∷ []) adds (one_more old.table table event adds k.legal may) refl refl
-      (away_in old (record { task = old.task; table = table; homes = old.homes; incumbent = old.incumbent }) (event ∷ []) (counts_in old).leases adds stays)
+      (away_in old (record { task = old.task; choice = old.choice; table = table; homes = old.homes; incumbent = old.incumbent }) (event ∷ []) (counts_in old).leases adds stays)
 
   pub sign_off_kept : (worker : ℕ) (memory : Bool) → Adds old.table table (Off worker memory ∷ ending memory old.table.end) → refusal (blocks old.table) old.table.settings (counts_in old) (Off worker memory) ≡ None
-      → IsLeaseGraph (record { task = old.task; table = table; homes = old.homes; incumbent = old.incumbent })
+      → IsLeaseGraph (record { task = old.task; choice = old.choice; table = table; homes = old.homes; incumbent = old.incumbent })
   sign_off_kept worker memory adds may = numbers_kept old k table old.homes old.incumbent (Off worker memory ∷ ending memory old.table.end) adds
       (with_ending old.table table (Off worker memory) memory adds k.legal may refl) refl refl
-      (away_in old (record { task = old.task; table = table; homes = old.homes; incumbent = old.incumbent }) (Off worker memory ∷ ending memory old.table.end) (counts_in old).leases adds
+      (away_in old (record { task = old.task; choice = old.choice; table = table; homes = old.homes; incumbent = old.incumbent }) (Off worker memory ∷ ending memory old.table.end) (counts_in old).leases adds
       (ending_leases (blocks old.table) old.table.settings (counts_after (blocks old.table) old.table.settings (counts_in old) (Off worker memory)) memory old.table.end))
 
 -- ---- a lease that comes back
@@ -147,7 +148,7 @@ module _ (old : GraphValue) (k : IsLeaseGraph old) (lease : LeaseValue) (of : Is
     (adds : Adds old.table table (Release lease.worker lease.used trouble ∷ ending trouble old.table.end)) where
   pub released_kept : refusal (blocks old.table) old.table.settings (counts_in old) (Release lease.worker lease.used trouble) ≡ None → length homes.bundles ≡ length old.homes.bundles → length homes.keys ≡ length old.homes.keys
       → ((block : ℕ) → content_at homes block ≡ option_or (content_in lease.parts block) (content_at old.homes block))
-      → IsLeaseGraph (record { task = old.task; table = table; homes = homes; incumbent = incumbent })
+      → IsLeaseGraph (record { task = old.task; choice = old.choice; table = table; homes = homes; incumbent = incumbent })
   released_kept may places keys back =
       graph_kept old k table homes incumbent (Release lease.worker lease.used trouble ∷ ending trouble old.table.end) adds
       (with_ending old.table table (Release lease.worker lease.used trouble) trouble adds k.legal may refl) places keys
@@ -162,26 +163,27 @@ module _ (old : GraphValue) (k : IsLeaseGraph old) (lease : LeaseValue) (of : Is
       (λ e. k.weights block content (sym (or_none (content_in lease.parts block) (content_at old.homes block) (of.scope.blocks block ∙ e)) ∙ sym (back block) ∙ is)))
     where
       gone : (block : ℕ) → away (blocks table) table.settings.workers (counts_of table).leases block ≡ away (blocks old.table) old.table.settings.workers (with_entry (counts_in old).leases lease.worker None) block
-      gone = away_in old (record { task = old.task; table = table; homes = homes; incumbent = incumbent }) (Release lease.worker lease.used trouble ∷ ending trouble old.table.end) (with_entry (counts_in old).leases lease.worker None) adds
+      gone = away_in old (record { task = old.task; choice = old.choice; table = table; homes = homes; incumbent = incumbent }) (Release lease.worker lease.used trouble ∷ ending trouble old.table.end) (with_entry (counts_in old).leases lease.worker None) adds
           (ending_leases (blocks old.table) old.table.settings (counts_after (blocks old.table) old.table.settings (counts_in old) (Release lease.worker lease.used trouble)) trouble old.table.end)
 
 -- ---- a lease that goes on
 
 module _ (old : GraphValue) (k : IsLeaseGraph old) (lease : LeaseValue) (of : IsOfGraph old lease) (quota : ℕ) (table : Table) (adds : Adds old.table table (Renew lease.worker lease.used quota ∷ [])) where
   pub renewed_kept : refusal (blocks old.table) old.table.settings (counts_in old) (Renew lease.worker lease.used quota) ≡ None → (incumbent : Option ℕ)
-      → IsLeaseGraph (record { task = old.task; table = table; homes = old.homes; incumbent = incumbent })
+      → IsLeaseGraph (record { task = old.task; choice = old.choice; table = table; homes = old.homes; incumbent = incumbent })
   renewed_kept may incumbent = numbers_kept old k table old.homes incumbent (Renew lease.worker lease.used quota ∷ []) adds (one_more old.table table (Renew lease.worker lease.used quota) adds k.legal may) refl refl
-      (λ block. away_in old (record { task = old.task; table = table; homes = old.homes; incumbent = incumbent }) (Renew lease.worker lease.used quota ∷ []) (with_entry (counts_in old).leases lease.worker (with_quota quota ((counts_in old).leases lease.worker))) adds refl block
+      (λ block. away_in old (record { task = old.task; choice = old.choice; table = table; homes = old.homes; incumbent = incumbent }) (Renew lease.worker lease.used quota ∷ []) (with_entry (counts_in old).leases lease.worker (with_quota quota ((counts_in old).leases lease.worker))) adds refl block
       ∙ same_away (blocks old.table) old.table.settings.workers (counts_in old).leases lease.worker quota block)
 
   -- the lease is of the graph still, with its new quota
-  pub still_of_graph : (kept : LeaseValue) → kept.worker ≡ lease.worker → grant_of kept ≡ record { block = lease.block; quota = quota } → kept.weight ≡ lease.weight → kept.parts ≡ lease.parts → kept.block ≡ lease.block
-      → (homes : HomeTable) (incumbent : Option ℕ) → IsOfGraph (record { task = old.task; table = table; homes = homes; incumbent = incumbent }) kept
-  still_of_graph kept worker grant weight parts block homes incumbent = record {
+  pub still_of_graph : (kept : LeaseValue) → kept.worker ≡ lease.worker → grant_of kept ≡ record { block = lease.block; quota = quota } → kept.weight ≡ lease.weight → kept.choice ≡ lease.choice → kept.parts ≡ lease.parts → kept.block ≡ lease.block
+      → (homes : HomeTable) (incumbent : Option ℕ) → IsOfGraph (record { task = old.task; choice = old.choice; table = table; homes = homes; incumbent = incumbent }) kept
+  still_of_graph kept worker grant weight choice parts block homes incumbent = record {
     leased = ap (counts_of table).leases worker ∙ ap (λ (c : Counts). c.leases lease.worker) adds.counts
         ∙ entry_here (counts_in old).leases lease.worker lease.worker (with_quota quota ((counts_in old).leases lease.worker)) (equal_self lease.worker)
         ∙ ap (with_quota quota) of.leased ∙ ap (λ (g : Grant). Some g) (sym grant);
     weight = weight ∙ of.weight ∙ ap weight_of (sym adds.settings);
+    choice = choice ∙ of.choice;
     scope = record {
       blocks = λ b. ap (λ (ps : List (ℕ × Content)). is_some (content_in ps b)) parts ∙ of.scope.blocks b ∙ ap (λ n. (blocks old.table).scope n b) (sym block)
           ∙ ap (λ (g : AbstractGraph). (blocks_of g).scope kept.block b) (sym adds.graph);

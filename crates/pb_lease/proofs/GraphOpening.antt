@@ -1,5 +1,5 @@
 -- A graph of a search that begins.
-use Rattle.std.proofs.Common.{◌≡◌, ℕ, ◌<◌, false, not, is_some, List, [], Option, Some, None, refl, sym, ap, ◌∙◌, arith, subst, length, get_or, replicate, slice_set, length-set, cond}
+use Rattle.std.proofs.Common.{◌≡◌, ℕ, ◌<◌, true, false, not, is_some, List, [], Option, Some, None, refl, sym, ap, ◌∙◌, arith, subst, length, get_or, replicate, slice_set, length-set, cond}
 use Rattle.std.proofs.lemmas.List.{get_or-replicate}
 use Rattle.std.proofs.lemmas.Option.{same_Some}
 use Rattle.std.proofs.Math.ListN.{length-replicate}
@@ -9,7 +9,8 @@ use Rattle.pb_model.specs.Store.{Rows, Store}
 use Rattle.pb_model.specs.Work.{opening_store}
 use Rattle.pb_task.specs.declared.parts.TaskParts.{TaskParts}
 use Rattle.pb_task.specs.Parts.{space_of, IsTask, greatest_cost}
-use Rattle.pb_estimate.specs.Estimates.{estimate_of}
+use Rattle.pb_estimate.specs.declared.choice.Choice.{Choice}
+use Rattle.pb_estimate.specs.Estimates.{estimate_by, suits}
 use Rattle.pb_machine.specs.declared.event.Event.{Event}
 use Rattle.pb_machine.specs.declared.settings.Settings.{Settings}
 use Rattle.pb_machine.specs.Settings.{weight_of, AreInRange}
@@ -33,22 +34,23 @@ use Rattle.pb_lease.proofs.Away.{none_away}
 use Rattle.pb_lease.proofs.GraphBasics.{setup_is}
 
 -- what the parts of such a graph are
-pub record IsOpening (task : TaskParts) (table : Table) (homes : HomeTable) : Type 0 where
+pub record IsOpening (task : TaskParts) (choice : Choice) (table : Table) (homes : HomeTable) : Type 0 where
   pub is_task : IsTask task
+  pub suits : suits task choice ≡ true
   pub graph_of : IsGraphOf task table.graph
   pub range : AreInRange table.settings
   pub counts : counts_of table ≡ opening_counts table.settings 0
   pub journal : table.journal ≡ []
   pub there : home_of task table.graph (space_of task).start < (blocks table).count
   pub bundles : homes.bundles ≡ slice_set (empty_homes (blocks table).count (weight_of table.settings)).bundles (home_of task table.graph (space_of task).start)
-      (Some (with_start (record { entries = []; weight = weight_of table.settings }) (space_of task).start (estimate_of task (space_of task).start)))
+      (Some (with_start (record { entries = []; weight = weight_of table.settings }) (space_of task).start (estimate_by task choice (space_of task).start)))
   pub keys : length homes.keys ≡ (blocks table).count
   pub noted : AreNoted homes
 
-module _ (task : TaskParts) (is_task : IsTask task) (graph : AbstractGraph) (graph_of : IsGraphOf task graph) (settings : Settings) (range : AreInRange settings) (table : Table) (same_graph : table.graph ≡ graph)
+module _ (task : TaskParts) (is_task : IsTask task) (choice : Choice) (suited : suits task choice ≡ true) (graph : AbstractGraph) (graph_of : IsGraphOf task graph) (settings : Settings) (range : AreInRange settings) (table : Table) (same_graph : table.graph ≡ graph)
     (same_settings : table.settings ≡ settings) (counts : counts_of table ≡ opening_counts settings 0) (journal : table.journal ≡ []) (start : ℕ) (start_is : start ≡ (space_of task).start)
     (block : ℕ) (block_is : block ≡ home_of task graph start) (below : block < (blocks_of graph).count) (count : ℕ) (count_is : count ≡ (blocks_of graph).count)
-    (estimate : Estimate) (estimate_is : estimate ≡ estimate_of task (space_of task).start) (first homes : HomeTable) (first_is : first ≡ empty_homes count (weight_of settings))
+    (estimate : Estimate) (estimate_is : estimate ≡ estimate_by task choice (space_of task).start) (first homes : HomeTable) (first_is : first ≡ empty_homes count (weight_of settings))
     (put : (content : Content) → content_at first block ≡ Some content → homes.bundles ≡ slice_set first.bundles block (Some (with_start content start estimate)))
     (key_noted : (content : Content) → content_at homes block ≡ Some content → NotesKey content first.keys homes.keys block) (noted : AreNoted homes) where
   abbrev empty : Content
@@ -79,9 +81,10 @@ module _ (task : TaskParts) (is_task : IsTask task) (graph : AbstractGraph) (gra
       let n = key_noted there_now.0 there_now.1 in
       ap (λ (ks : List (Option Key)). length ks) n.set ∙ length-set first.keys block n.key ∙ ap (λ (h : HomeTable). length h.keys) first_is ∙ length-replicate count None
 
-  pub opening_of : IsOpening task table homes
+  pub opening_of : IsOpening task choice table homes
   opening_of = record {
     is_task = is_task;
+    suits = suited;
     graph_of = subst (IsGraphOf task) (sym same_graph) graph_of;
     range = subst AreInRange (sym same_settings) range;
     counts = counts ∙ ap (λ (s : Settings). opening_counts s 0) (sym same_settings);
@@ -91,29 +94,29 @@ module _ (task : TaskParts) (is_task : IsTask task) (graph : AbstractGraph) (gra
         ∙ ap (λ n. slice_set (replicate count (Some empty)) n (Some (with_start empty start estimate))) home_is
         ∙ ap (λ n. slice_set (replicate count (Some empty)) (home_of task table.graph (space_of task).start) (Some (with_start empty n estimate))) start_is
         ∙ ap (λ (e : Estimate). slice_set (replicate count (Some empty)) (home_of task table.graph (space_of task).start) (Some (with_start empty (space_of task).start e))) estimate_is
-        ∙ ap (λ n. slice_set (replicate n (Some empty)) (home_of task table.graph (space_of task).start) (Some (with_start empty (space_of task).start (estimate_of task (space_of task).start))))
+        ∙ ap (λ n. slice_set (replicate n (Some empty)) (home_of task table.graph (space_of task).start) (Some (with_start empty (space_of task).start (estimate_by task choice (space_of task).start))))
         (count_is ∙ ap (λ (g : AbstractGraph). (blocks_of g).count) (sym same_graph))
         ∙ ap (λ (s : Settings). slice_set (empty_homes (blocks table).count (weight_of s)).bundles (home_of task table.graph (space_of task).start)
-        (Some (with_start (record { entries = []; weight = weight_of s }) (space_of task).start (estimate_of task (space_of task).start)))) (sym same_settings);
+        (Some (with_start (record { entries = []; weight = weight_of s }) (space_of task).start (estimate_by task choice (space_of task).start)))) (sym same_settings);
     keys = key_count ∙ count_is ∙ ap (λ (g : AbstractGraph). (blocks_of g).count) (sym same_graph);
     noted = noted;
   }
 
-module _ (task : TaskParts) (table : Table) (homes : HomeTable) (o : IsOpening task table homes) where
+module _ (task : TaskParts) (choice : Choice) (table : Table) (homes : HomeTable) (o : IsOpening task choice table homes) where
   abbrev New : GraphValue
-  New = record { task = task; table = table; homes = homes; incumbent = None }
+  New = record { task = task; choice = choice; table = table; homes = homes; incumbent = None }
 
-  opened : ((home state : ℕ) → home_rows homes home state ≡ (opening_store (space_of task) (guide_of task table.graph) (weight_of table.settings)).rows home state)
+  opened : ((home state : ℕ) → home_rows homes home state ≡ (opening_store (space_of task) (guide_of task table.graph choice) (weight_of table.settings)).rows home state)
       × ((block : ℕ) → block < (blocks table).count → (content : Content) × (content_at homes block ≡ Some content) × (content.weight ≡ weight_of table.settings))
-  opened = opening_rows_are_home (space_of task) (guide_of task table.graph) (weight_of table.settings) (blocks table).count homes o.there o.bundles
+  opened = opening_rows_are_home (space_of task) (guide_of task table.graph choice) (weight_of table.settings) (blocks table).count homes o.there o.bundles
 
-  pub opening_rows : (home state : ℕ) → home_rows homes home state ≡ (opening_store (space_of task) (guide_of task table.graph) (weight_of table.settings)).rows home state
+  pub opening_rows : (home state : ℕ) → home_rows homes home state ≡ (opening_store (space_of task) (guide_of task table.graph choice) (weight_of table.settings)).rows home state
   opening_rows = opened.0
 
   places : length homes.bundles ≡ (blocks table).count
   places = ap (λ (bs : List (Option Content)). length bs) o.bundles
       ∙ length-set (replicate (blocks table).count (Some (record { entries = []; weight = weight_of table.settings }))) (home_of task table.graph (space_of task).start)
-      (Some (with_start (record { entries = []; weight = weight_of table.settings }) (space_of task).start (estimate_of task (space_of task).start)))
+      (Some (with_start (record { entries = []; weight = weight_of table.settings }) (space_of task).start (estimate_by task choice (space_of task).start)))
       ∙ length-replicate (blocks table).count (Some (record { entries = []; weight = weight_of table.settings }))
 
   none_out : is_any_out table.settings.workers (counts_of table).leases ≡ false
@@ -126,6 +129,7 @@ module _ (task : TaskParts) (table : Table) (homes : HomeTable) (o : IsOpening t
   pub opening_kept : IsLeaseGraph New
   opening_kept = record {
     is_task = o.is_task;
+    suits = o.suits;
     graph_of = o.graph_of;
     legal = legal;
     places = places;
@@ -144,7 +148,7 @@ module _ (task : TaskParts) (table : Table) (homes : HomeTable) (o : IsOpening t
   opening_at recorded = record {
     lawful = lawful;
     counts = sym o.counts;
-    whole = (all_is_home (setup_in New) (opening_counts table.settings 0) (opening_store (space_of task) (guide_of task table.graph) (weight_of table.settings)) (home_rows homes) recorded lawful.counts
+    whole = (all_is_home (setup_in New) (opening_counts table.settings 0) (opening_store (space_of task) (guide_of task table.graph choice) (weight_of table.settings)) (home_rows homes) recorded lawful.counts
         (any_false table.settings.workers (λ worker. false) (λ worker. refl))).1 (λ block state. sym (opened.0 block state));
     incumbent = λ worker. refl;
     keys = subst (λ (s : Store). HasKeys s (key_at homes)) (λ i. record { rows = λ home state. opened.0 home state i; incumbent = None; weight = weight_of table.settings })

@@ -32,3 +32,4 @@ mod Same
 mod Fewer
 mod Changed
 mod AfterWork
+mod AtHome

@@ -54,6 +54,7 @@ known_lesser known (Some incumbent) cost first second = by_cases (nat_lt cost in
 pub bounded_kept : (g : GraphValue) → IsLeaseGraph g → (incumbent : Option ℕ) → IsLeaseGraph (record g { incumbent = incumbent })
 bounded_kept g k incumbent = record {
   is_task = k.is_task;
+  suits = k.suits;
   graph_of = k.graph_of;
   legal = k.legal;
   places = k.places;

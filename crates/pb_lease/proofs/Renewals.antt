@@ -35,7 +35,7 @@ notes_both parts old mid new first second = record {
 
 module _ (old : GraphValue) (lease : LeaseValue) (homes : HomeTable) (bundles : homes.bundles ≡ old.homes.bundles) (noted : NotesKeys lease.parts old.homes.keys homes.keys) where
   abbrev Noted : GraphValue
-  Noted = record { task = old.task; table = old.table; homes = homes; incumbent = old.incumbent }
+  Noted = record { task = old.task; choice = old.choice; table = old.table; homes = homes; incumbent = old.incumbent }
 
   -- ---- it goes on
 
@@ -56,6 +56,7 @@ module _ (old : GraphValue) (lease : LeaseValue) (homes : HomeTable) (bundles : 
       events = adds;
       room = room;
       task = ap (λ (g : GraphValue). g.task) rest;
+      choice = ap (λ (g : GraphValue). g.choice) rest;
       incumbent = ap (λ (g : GraphValue). g.incumbent) rest;
     }
 
@@ -76,5 +77,6 @@ module _ (old : GraphValue) (lease : LeaseValue) (homes : HomeTable) (bundles : 
       events = released.events;
       room = released.room;
       task = released.task;
+      choice = released.choice;
       incumbent = released.incumbent;
     }

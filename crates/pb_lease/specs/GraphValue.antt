@@ -1,6 +1,6 @@
--- What a contract sees of a graph that gives out leases: the task, the numbers of the lease
--- machine, the rows at home, and the incumbent.
-use Rattle.std.specs.Prelude.{◌≡◌, ℕ, ◌<◌, not, Option, Some, is_some, length}
+-- What a contract sees of a graph that gives out leases: the task, the choice of an estimate, the
+-- numbers of the lease machine, the rows at home, and the incumbent.
+use Rattle.std.specs.Prelude.{◌≡◌, ℕ, ◌<◌, true, not, Option, Some, is_some, length}
 use Rattle.pb_machine.specs.Settings.{weight_of}
 use Rattle.pb_machine.specs.Counts.{Counts}
 use Rattle.pb_machine.specs.History.{IsHistory}
@@ -8,6 +8,8 @@ use Rattle.pb_machine.specs.Machine.{Setup}
 use Rattle.pb_machine.specs.Whole.{is_away}
 use Rattle.pb_task.specs.declared.parts.TaskParts.{TaskParts}
 use Rattle.pb_task.specs.Parts.{IsTask}
+use Rattle.pb_estimate.specs.declared.choice.Choice.{Choice}
+use Rattle.pb_estimate.specs.Estimates.{suits}
 use Rattle.pb_lists.specs.Bundle.{Content}
 use Rattle.pb_abstract.specs.Graph.{IsGraphOf}
 use Rattle.pb_bundles.specs.Homes.{HomeTable, content_at}
@@ -17,23 +19,26 @@ use Rattle.pb_lease.specs.Leased.{setup_of, grant_of, HasScope}
 
 pub record GraphValue : Type 0 where
   pub task : TaskParts
+  pub choice : Choice  -- of the estimate
   pub table : Table  -- the numbers, with the abstract graph, the settings and the journal
   pub homes : HomeTable  -- the bundles at home and the keys that were noted
   pub incumbent : Option ℕ
 
--- what the graph's search is: its task, by its blocks, with its settings, and never opened again
+-- what the graph's search is: its task, by its blocks, with its estimate and its settings, and never
+-- opened again
 abbrev pub setup_in : GraphValue → Setup
-setup_in g = setup_of g.task g.table.graph g.table.settings 0
+setup_in g = setup_of g.task g.table.graph g.choice g.table.settings 0
 
 -- who has which lease, what is left, which blocks are hot, and who has signed off
 abbrev pub counts_in : GraphValue → Counts
 counts_in g = counts_of g.table
 
--- What is true of every graph. The blocks are those of its task, and the journal is a legal
--- history. Each block has a place and a key that is noted or not. Its bundle is at its place
+-- What is true of every graph. The estimate suits its task, so it is admissible. The blocks are
+-- those of its task, and the journal is a legal history. Each block has a place and a key that is noted or not. Its bundle is at its place
 -- exactly if the block is in no leased scope. All bundles at home have the weight of the settings.
 pub record IsLeaseGraph (g : GraphValue) : Type 0 where
   pub is_task : IsTask g.task
+  pub suits : suits g.task g.choice ≡ true
   pub graph_of : IsGraphOf g.task g.table.graph
   pub legal : IsHistory (blocks g.table) g.table.settings 0 g.table.journal (counts_in g)
   pub places : length g.homes.bundles ≡ (blocks g.table).count
@@ -44,8 +49,9 @@ pub record IsLeaseGraph (g : GraphValue) : Type 0 where
       → content.weight ≡ weight_of g.table.settings
 
 -- The lease is the one that the graph gave to this worker. The graph's grant is the lease's, at the
--- weight of the search, and the lease has the bundles of its block's scope.
+-- weight of the search and with its estimate, and the lease has the bundles of its block's scope.
 pub record IsOfGraph (g : GraphValue) (lease : LeaseValue) : Type 0 where
   pub leased : (counts_in g).leases lease.worker ≡ Some (grant_of lease)
   pub weight : lease.weight ≡ weight_of g.table.settings
+  pub choice : lease.choice ≡ g.choice
   pub scope : HasScope g.table.graph lease

@@ -3,12 +3,13 @@ use Rattle.std.specs.Prelude.{◌≡◌, ◌^◌, ◌≤◌, ℕ, List, Option, 
 use Rattle.std.specs.Map.{keys_of}
 use Rattle.pb_model.specs.Weight.{Weight, IsWeight}
 use Rattle.pb_model.specs.Store.{Store, AtMost}
+use Rattle.pb_estimate.specs.declared.choice.Choice.{Choice}
 use Rattle.pb_lists.specs.Bundle.{Content}
 use Rattle.pb_bundles.specs.Parts.{content_in, with_content, away_rows}
 
 -- The worker that has the lease, its block, and how many expansions it may make and has made. Then
 -- the least cost at which a goal is known to be reached, or none. Then the weight of the search,
--- and the bundles of the block's scope.
+-- the choice of its estimate, and the bundles of the block's scope.
 pub record LeaseValue : Type 0 where
   pub worker : ℕ
   pub block : ℕ
@@ -16,6 +17,7 @@ pub record LeaseValue : Type 0 where
   pub used : ℕ
   pub incumbent : Option ℕ
   pub weight : Weight
+  pub choice : Choice
   pub parts : List (ℕ × Content)
 
 -- the lease's rows with its incumbent, as a store
@@ -39,12 +41,13 @@ pub record IsLease (lease : LeaseValue) : Type 0 where
   pub within : lease.used ≤ lease.quota
   pub few : lease.quota ≤ 2 ^ 20
 
--- It is a lease of the same block for the same worker, with the same quota and weight and with
--- bundles of the same blocks. The incumbent is no greater.
+-- It is a lease of the same block for the same worker, with the same quota, weight and estimate and
+-- with bundles of the same blocks. The incumbent is no greater.
 pub record IsSameLease (old new : LeaseValue) : Type 0 where
   pub worker : new.worker ≡ old.worker
   pub block : new.block ≡ old.block
   pub quota : new.quota ≡ old.quota
   pub weight : new.weight ≡ old.weight
+  pub choice : new.choice ≡ old.choice
   pub places : keys_of new.parts ≡ keys_of old.parts
   pub incumbent : AtMost new.incumbent old.incumbent

@@ -7,22 +7,24 @@ use Rattle.pb_machine.specs.Machine.{Setup, Machine, HasWorked, lent_store}
 use Rattle.pb_machine.specs.Turns.{AreLeaseTurns}
 use Rattle.pb_task.specs.declared.parts.TaskParts.{TaskParts}
 use Rattle.pb_task.specs.Parts.{space_of}
-use Rattle.pb_estimate.specs.Estimates.{estimate_of}
+use Rattle.pb_estimate.specs.declared.choice.Choice.{Choice}
+use Rattle.pb_estimate.specs.Estimates.{estimate_by}
 use Rattle.pb_abstract.specs.Graph.{AbstractGraph, blocks_of, home_of}
 use Rattle.pb_bundles.specs.Parts.{content_in}
 use Rattle.pb_lease.specs.LeaseValue.{LeaseValue, leased_store, HasWeights}
 
--- the guide of a search by blocks: the task's own estimate of each state, and the block that is its
--- home
-abbrev pub guide_of : TaskParts → AbstractGraph → Guide
-guide_of task graph = record { estimate = estimate_of task; home = home_of task graph }
+-- the guide of a search by blocks: the estimate of each state by the choice, and the block that is
+-- its home
+abbrev pub guide_of : TaskParts → AbstractGraph → Choice → Guide
+guide_of task graph choice =
+    record { estimate = estimate_by task choice; home = home_of task graph }
 
--- what is searched, and by what: the task, by the blocks of the graph
-abbrev pub setup_of : TaskParts → AbstractGraph → Settings → (reopenings : ℕ) → Setup
-setup_of task graph settings reopenings =
+-- what is searched, and by what: the task, by the blocks of the graph, with estimates by the choice
+abbrev pub setup_of : TaskParts → AbstractGraph → Choice → Settings → (reopenings : ℕ) → Setup
+setup_of task graph choice settings reopenings =
     record {
       space = space_of task;
-      guide = guide_of task graph;
+      guide = guide_of task graph choice;
       blocks = blocks_of graph;
       settings = settings;
       reopenings = reopenings;

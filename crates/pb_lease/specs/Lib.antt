@@ -4,6 +4,7 @@ pub use Rattle.pb_bundles.specs.Homes
 pub use Rattle.pb_bundles.specs.Parts as BundlesParts
 pub use Rattle.pb_estimate.specs.Estimates
 pub use Rattle.pb_lists.specs.Bundle
+pub use Rattle.pb_lists.specs.Store as ListsStore
 pub use Rattle.pb_machine.specs.Blocks
 pub use Rattle.pb_machine.specs.Choice
 pub use Rattle.pb_machine.specs.Counters
@@ -31,3 +32,4 @@ pub mod Moments
 pub mod Choices
 pub mod Steps
 pub mod Rows
+pub mod AtHome

@@ -43,6 +43,7 @@ pub record IsLeased (old : GraphValue) (worker : ℕ) (lease : LeaseValue) (new 
     pub events : Adds old.table new.table (Lease worker lease.block lease.quota ∷ [])
     pub room : rooms new.table ≡ with_entry (rooms old.table) worker 63
     pub task : new.task ≡ old.task
+    pub choice : new.choice ≡ old.choice
     pub incumbent : new.incumbent ≡ old.incumbent
 
 -- From each moment of the old graph the lease leads to one of the new graph. What the lease has is
@@ -114,6 +115,7 @@ pub record IsReleased (old : GraphValue) (lease : LeaseValue) (trouble : Bool) (
       ∷ ending trouble old.table.end)
   pub room : rooms new.table ≡ with_entry (rooms old.table) lease.worker 0
   pub task : new.task ≡ old.task
+  pub choice : new.choice ≡ old.choice
   pub incumbent : new.incumbent ≡ lesser old.incumbent lease.incumbent
 
 -- Take any moment of the old graph at which the lease is out, with at most so many expansions
@@ -155,6 +157,7 @@ pub record IsRenewed (old : GraphValue) (lease kept : LeaseValue) (new : GraphVa
   pub room : rooms new.table ≡ with_entry (rooms old.table) lease.worker
       (rooms old.table lease.worker - 1)
   pub task : new.task ≡ old.task
+  pub choice : new.choice ≡ old.choice
   pub incumbent : new.incumbent ≡ lesser old.incumbent lease.incumbent
 
 -- From each such moment of the old graph the renewal leads to one of the new graph. What the lease

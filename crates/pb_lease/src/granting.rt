@@ -49,7 +49,7 @@ impl LeaseGraph {
         if let Some(end) = self.tables.end() {
             return LeaseReply::Over(end);
         }
-        match self.choice() {
+        match self.first_choice() {
             Some(block) => match self.lease_block(worker, block) {
                 Ok(lease) => LeaseReply::Leased(lease),
                 Err(_) => LeaseReply::Memory,
@@ -65,7 +65,7 @@ impl LeaseGraph {
     }
 
     // The first choice, or None if no block may be leased.
-    pub(crate) fn choice(&self) -> Option<u32>
+    pub(crate) fn first_choice(&self) -> Option<u32>
         ensures { IsChoice self.now result }
     {
         self.homes
@@ -84,6 +84,7 @@ impl LeaseGraph {
     {
         let bundles = self.tables.graph().scope(block).len();
         let room = self.rooms.take(self.alloc, bundles)?;
+        let choice = self.choice.clone()?;
         let quota = self.tables.lease(worker, block)?;
         let parts = self.homes.take_out(self.tables.graph().scope(block), room);
         let settings = self.tables.settings();
@@ -95,6 +96,7 @@ impl LeaseGraph {
             incumbent: self.incumbent,
             num: settings.num,
             den: settings.den,
+            choice,
             parts,
         })
     }

@@ -1,5 +1,5 @@
 //! The graph of a search by leases.
-ghost use Rattle.std.specs.Prelude.{◌≡◌, ◌<◌, ℕ, [], None, Some, IsFalse, IsSome, IfOk, List};
+ghost use Rattle.std.specs.Prelude.{◌≡◌, ◌<◌, ℕ, true, [], None, Some, IsFalse, IsSome, IfOk, List};
 ghost use Rattle.std.specs.Arc.{arc_value};
 ghost use Rattle.pb_model.specs.Store.{Rows};
 ghost use Rattle.pb_model.specs.Work.{opening_store};
@@ -8,7 +8,7 @@ ghost use Rattle.pb_machine.specs.Counts.{opening_counts};
 ghost use Rattle.pb_machine.specs.History.{IsHistory};
 ghost use Rattle.pb_machine.specs.Machine.{Machine, opening_machine};
 ghost use Rattle.pb_task.specs.Parts.{space_of};
-ghost use Rattle.pb_estimate.specs.Estimates.{estimate_of};
+ghost use Rattle.pb_estimate.specs.Estimates.{estimate_by, suits};
 ghost use Rattle.pb_abstract.specs.Graph.{IsGraphOf};
 ghost use Rattle.pb_lists.specs.Bundle.{row_of};
 ghost use Rattle.pb_bundles.specs.Homes.{content_at, home_rows};
@@ -21,6 +21,7 @@ ghost use Rattle.pb_lease.specs.Moments.{IsMomentAt, IsMoment};
 use crate::tables::MachineTables;
 use pb_abstract::AbsGraph;
 use pb_bundles::{Homes, KeptRooms};
+use pb_estimate::Choice;
 use pb_lists::Bundle;
 use pb_machine::{End, Event, Settings};
 use pb_model::Estimate;
@@ -29,13 +30,14 @@ use std::alloc::{AllocError, Global};
 use std::marker::Model;
 use std::sync::Arc;
 
-/// A search that gives out leases of its blocks. It has the task and its blocks, the rows at home,
-/// and the least cost at which a goal is known to be reached. It also has the numbers and the
+/// A search that gives out leases of its blocks. It has the task and its blocks, the choice of an
+/// estimate, the rows at home, and the least cost at which a goal is known to be reached. It also has the numbers and the
 /// journal of the lease machine. Each call that changes it is one event of the machine, maybe
 /// followed by the end.
 #[derive(Drop)]
 pub struct LeaseGraph {
     pub(crate) task: Arc<Task>,
+    pub(crate) choice: Choice,
     pub(crate) tables: MachineTables,
     pub(crate) homes: Homes,
     pub(crate) incumbent: Option<u64>,
@@ -53,6 +55,7 @@ impl Model for LeaseGraph {
 
     ghost view = { λ g. record {
       task = arc_value g.task;
+      choice = g.choice;
       table = g.tables;
       homes = g.homes;
       incumbent = g.incumbent;
@@ -61,6 +64,7 @@ impl Model for LeaseGraph {
     ghost invariant = { λ g. IsLeaseGraph
         (record {
           task = arc_value g.task;
+          choice = g.choice;
           table = g.tables;
           homes = g.homes;
           incumbent = g.incumbent;
@@ -71,19 +75,22 @@ impl LeaseGraph {
     /// The graph of a search that begins. The start alone has a row, which is Opened. Nothing is
     /// leased, all of the budget is left, no cost is known, and the journal is empty. The call
     /// takes room for all blocks and workers, for every worker's signing off and for one end. The
-    /// estimate is the start's. An error means out of memory.
+    /// estimate is the start's, by the choice, which suits the task. An error means out of memory.
     pub fn new(
         alloc: Global,
         task: Arc<Task>,
         graph: Arc<AbsGraph>,
+        choice: Choice,
         estimate: Estimate,
         settings: Settings,
     ) -> Result<LeaseGraph, AllocError>
         requires graph { IsGraphOf (arc_value task) (arc_value graph) }
-        requires estimate { estimate ≡ estimate_of (arc_value task)
+        requires suits { suits (arc_value task) choice ≡ true }
+        requires estimate { estimate ≡ estimate_by (arc_value task) choice
             (space_of (arc_value task)).start }
         requires settings { AreInRange settings }
         ensures task { IfOk result (λ g. g.task ≡ arc_value task) }
+        ensures choice { IfOk result (λ g. g.choice ≡ choice) }
         ensures graph { IfOk result (λ g. g.table.graph ≡ arc_value graph) }
         ensures settings { IfOk result (λ g. g.table.settings ≡ settings) }
         ensures counts { IfOk result (λ g. counts_in g ≡ opening_counts settings 0) }
@@ -105,6 +112,7 @@ impl LeaseGraph {
         let tables = MachineTables::new(alloc, graph, settings)?;
         Ok(LeaseGraph {
             task,
+            choice,
             tables,
             homes,
             incumbent: None,
@@ -144,6 +152,14 @@ impl LeaseGraph {
         ensures range { AreInRange self.now.table.settings }
     {
         self.tables.settings()
+    }
+
+    /// The choice of the estimate that the search goes by. It suits the task.
+    pub fn choice(&self) -> &Choice
+        ensures choice { result.now ≡ self.now.choice }
+        ensures suits { suits self.now.task self.now.choice ≡ true }
+    {
+        &self.choice
     }
 
     /// The abstract graph: the blocks that are leased.

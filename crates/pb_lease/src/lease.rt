@@ -6,6 +6,7 @@ ghost use Rattle.pb_bundles.specs.Parts.{content_in};
 ghost use Rattle.pb_lease.specs.Lending.{LendsBundle};
 
 use pb_bundles::LentBundles;
+use pb_estimate::Choice;
 use pb_lists::Bundle;
 use std::marker::Model;
 
@@ -20,6 +21,7 @@ pub struct Lease {
     pub(crate) incumbent: Option<u64>,
     pub(crate) num: u64,
     pub(crate) den: u64,
+    pub(crate) choice: Choice,
     pub(crate) parts: LentBundles,
 }
 
@@ -35,6 +37,7 @@ impl Model for Lease {
       used = l.used;
       incumbent = l.incumbent;
       weight = record { num = l.num; den = l.den };
+      choice = l.choice;
       parts = l.parts;
     } };
 
@@ -45,6 +48,7 @@ impl Model for Lease {
       used = l.used;
       incumbent = l.incumbent;
       weight = record { num = l.num; den = l.den };
+      choice = l.choice;
       parts = l.parts;
     }) };
 }
@@ -96,6 +100,13 @@ impl Lease {
         ensures is_weight { IsWeight self.now.weight }
     {
         (self.num, self.den)
+    }
+
+    /// The choice of the estimate that the search goes by.
+    pub fn choice(&self) -> &Choice
+        ensures { result.now ≡ self.now.choice }
+    {
+        &self.choice
     }
 
     /// The bundle of a block of the scope.

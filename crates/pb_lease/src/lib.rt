@@ -19,6 +19,7 @@ mod marks;
 mod returning;
 mod seat;
 mod seats;
+mod store;
 mod switching;
 mod tables;
 
@@ -31,4 +32,5 @@ pub use laws::{
 pub use lease::Lease;
 pub use leasing::ROOM;
 pub use seat::Seat;
+pub use store::home_rows_are_whole;
 pub use tables::MachineTables;

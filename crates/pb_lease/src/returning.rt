@@ -32,6 +32,7 @@ impl LeaseGraph {
             incumbent,
             num: _,
             den: _,
+            choice: _,
             parts,
         } = lease;
         self.tables.release(worker, used, trouble);
@@ -114,6 +115,7 @@ impl LeaseGraph {
             incumbent: _,
             num,
             den,
+            choice,
             parts,
         } = lease;
         Lease {
@@ -124,6 +126,7 @@ impl LeaseGraph {
             incumbent,
             num,
             den,
+            choice,
             parts,
         }
     }

@@ -59,7 +59,7 @@ impl LeaseGraph {
         ensures given { result ≡ Given → IsChoice self.old None × (self.new ≡ self.old) }
         ensures memory { result ≡ Memory → (IsChoice self.old None → ⊥) × (self.new ≡ self.old) }
     {
-        match self.choice() {
+        match self.first_choice() {
             Some(block) => match self.lease_block(worker, block) {
                 Ok(lease) => SwitchReply::Switched(lease),
                 Err(_) => SwitchReply::Memory,

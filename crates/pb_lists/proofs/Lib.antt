@@ -4,3 +4,4 @@ mod Filing
 mod First
 mod Entries
 mod Tables
+mod Examples

@@ -1,5 +1,7 @@
 pub use Rattle.pb_model.specs.Key
-pub use Rattle.pb_model.specs.Store
+pub use Rattle.pb_model.specs.Space
+pub use Rattle.pb_model.specs.Store as ModelStore
+pub use Rattle.pb_model.specs.Weight
 pub use Rattle.pb_model.specs.Work
 pub mod Bundle
 pub mod Offers
@@ -8,3 +10,4 @@ pub mod Buckets
 pub mod Fields
 pub mod SmallRow
 pub mod Rows
+pub mod Store

@@ -25,8 +25,8 @@ pub struct Bundle {
     rows: Rows,
     // each Opened row in the bucket of its key's sum
     opened: Buckets,
-    num: u64,
-    den: u64,
+    pub(crate) num: u64,
+    pub(crate) den: u64,
     alloc: Global,
 }
 

@@ -7,8 +7,12 @@ mod buckets;
 mod bundle;
 mod laws;
 mod rows;
+mod rules;
 mod small_row;
+mod store;
 mod word;
 
 pub use bundle::{Bundle, Offer};
 pub use laws::{entries_are_rows, keys_are_ordered};
+pub use rules::may_be_cut;
+pub use store::Store;

@@ -10,6 +10,7 @@ use Rattle.pb_model.specs.Store.{Store, HasOpened, IsQuiet}
 use Rattle.pb_model.specs.Key.{IsFirstRow}
 use Rattle.pb_model.specs.Work.{Work, expand, take_goal, store_after}
 use Rattle.pb_model.specs.Local.{merged_store}
+use Rattle.pb_machine.specs.Settings.{standard}
 use Rattle.pb_machine.specs.declared.event.End.TheVariants.{Quiet}
 use Rattle.pb_machine.specs.declared.event.Event.{Event}
 use Rattle.pb_machine.specs.declared.event.Event.TheVariants.{Lease, Release, Off, Ended}
@@ -32,7 +33,7 @@ setup = record {
   space = record { start = 0; is_state = λ state. nat_lt state 2; is_goal = λ state. state == 1; actions = 1; step = step };
   guide = record { estimate = λ state. Cost 0; home = λ state. state };
   blocks = record { count = 2; scope = λ block other. nat_lt other 2 };
-  settings = record { workers = 1; num = 1; den = 1; budget = 10; lot = 5; wish = 16; plain = false };
+  settings = record standard { budget = 10; lot = 5; wish = 16 };
   reopenings = 0;
 }
 

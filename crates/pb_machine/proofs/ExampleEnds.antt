@@ -10,6 +10,7 @@ use Rattle.pb_model.specs.Weight.{Weight}
 use Rattle.pb_model.specs.Store.{Store, HasOpened, CostsAtMost}
 use Rattle.pb_model.specs.Work.{Work, expand, break_off, store_after, Comes, expansions, opening_store}
 use Rattle.pb_model.specs.Local.{merged_store}
+use Rattle.pb_machine.specs.Settings.{standard}
 use Rattle.pb_machine.specs.declared.event.End.TheVariants.{Budget, Memory}
 use Rattle.pb_machine.specs.declared.event.Event.TheVariants.{Lease, Renew, Release, Off, Ended}
 use Rattle.pb_machine.specs.Tables.{with_entry}
@@ -31,7 +32,7 @@ setup = record {
   space = record { start = 0; is_state = λ state. nat_lt state 3; is_goal = λ state. state == 2; actions = 1; step = step };
   guide = record { estimate = λ state. Cost 0; home = λ state. 0 };
   blocks = record { count = 1; scope = λ block other. nat_lt other 1 };
-  settings = record { workers = 1; num = 1; den = 1; budget = 2; lot = 1; wish = 16; plain = false };
+  settings = record standard { budget = 2; lot = 1; wish = 16 };
   reopenings = 0;
 }
 

@@ -10,6 +10,7 @@ use Rattle.pb_model.specs.Store.{Store, IsQuiet}
 use Rattle.pb_model.specs.Work.{expand, cut, take_goal, lower, store_after}
 use Rattle.pb_model.specs.Local.{merged_store}
 use Rattle.pb_model.proofs.Callers.{some_row, below}
+use Rattle.pb_machine.specs.Settings.{standard}
 use Rattle.pb_machine.specs.declared.event.End.TheVariants.{Quiet}
 use Rattle.pb_machine.specs.declared.event.Event.TheVariants.{Lease, Hot, Cold, Release, Off, Ended}
 use Rattle.pb_machine.specs.Tables.{with_entry}
@@ -30,7 +31,7 @@ setup = record {
   space = record { start = 0; is_state = λ state. nat_lt state 3; is_goal = λ state. state == 1; actions = 2; step = step };
   guide = record { estimate = λ state. Cost 0; home = λ state. state };
   blocks = record { count = 3; scope = λ block other. nat_lt other 3 && ((block == 0) || (block == other)) };
-  settings = record { workers = 2; num = 1; den = 1; budget = 10; lot = 3; wish = 16; plain = false };
+  settings = record standard { workers = 2; budget = 10; lot = 3; wish = 16 };
   reopenings = 0;
 }
 

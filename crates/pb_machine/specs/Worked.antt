@@ -11,6 +11,7 @@ use Rattle.pb_machine.specs.declared.event.Event.TheVariants.{Lease, Renew, Hot,
 use Rattle.pb_machine.specs.declared.event.EventRefusal.{EventRefusal}
 use Rattle.pb_machine.specs.declared.event.EventRefusal.TheVariants.{Worker, Holds, Block, Scope, Quota, NoEnd, Trouble, Ended as HasEnded, Hot as IsHot}
 use Rattle.pb_machine.specs.declared.settings.Settings.{Settings}
+use Rattle.pb_machine.specs.Settings.{standard}
 use Rattle.pb_machine.specs.Blocks.{Blocks}
 use Rattle.pb_machine.specs.Counts.{Counts, opening_counts}
 use Rattle.pb_machine.specs.History.{IsHistory, AreFinished, first_refused}
@@ -31,16 +32,7 @@ nine_cells =
     }
 
 abbrev pub one_worker : Settings
-one_worker =
-    record {
-      workers = 1;
-      num = 1;
-      den = 1;
-      budget = 16777216;
-      lot = 256;
-      wish = 256;
-      plain = false;
-    }
+one_worker = standard
 
 -- a block that is leased and comes back after so many expansions
 abbrev pub visit : (block used : ℕ) → List Event

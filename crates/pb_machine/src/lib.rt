@@ -40,4 +40,4 @@ pub use laws::{
     reopening_is_lawful, returns_leave_incumbents, returns_show_work, runs_are_lawful, runs_go_on,
     scopes_are_apart, turns_carry_over, waiting_reports_are_one,
 };
-pub use settings::Settings;
+pub use settings::{STANDARD, Settings};

@@ -16,3 +16,14 @@ pub struct Settings {
     /// Whether no block is ever marked hot.
     pub plain: bool,
 }
+
+/// The settings of a search of which nothing is asked: one worker and the weight 1.
+pub const STANDARD: Settings = Settings {
+    workers: 1,
+    num: 1,
+    den: 1,
+    budget: 16_777_216,
+    lot: 256,
+    wish: 256,
+    plain: false,
+};

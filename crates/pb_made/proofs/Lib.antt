@@ -1,7 +1,3 @@
-pub mod Callers
-mod QuietEnds
 mod Answered
-mod Searched
 mod Clauses
-mod Lines
 mod Spelled

@@ -20,7 +20,7 @@ use Rattle.pb_pddl.specs.Readings.{domain_reading, problem_reading}
 use Rattle.pb_strips.specs.declared.error.StripsError.{StripsError}
 use Rattle.pb_strips.specs.declared.error.StripsError.TheVariants as strips_errors
 use Rattle.pb_strips.specs.Refusals.{first_fault, Tells}
-use Rattle.pb_check.specs.declared.kind.TaskKind.TheVariants.{Grid, Tiles, Strips}
+use Rattle.pb_task.specs.declared.kind.Kind.TheVariants.{Grid, Tiles, Strips}
 use Rattle.pb_make.specs.Boards.{tiles_text}
 use Rattle.pb_make.specs.Domain.{domain_text}
 use Rattle.pb_make.specs.Maps.{map_text, scenario_text}

@@ -11,8 +11,8 @@ use Rattle.pb_pddl.specs.declared.tree.Problem.{Problem}
 use Rattle.pb_pddl.specs.Readings.{domain_reading, problem_reading}
 use Rattle.pb_strips.specs.Grounding.{strips_of}
 use Rattle.pb_strips.specs.Refusals.{first_fault}
-use Rattle.pb_check.specs.declared.kind.TaskKind.{TaskKind}
-use Rattle.pb_check.specs.declared.kind.TaskKind.TheVariants.{Grid, Tiles, Strips}
+use Rattle.pb_task.specs.declared.kind.Kind.{Kind}
+use Rattle.pb_task.specs.declared.kind.Kind.TheVariants.{Grid, Tiles, Strips}
 use Rattle.pb_make.specs.Boards.{tiles_text}
 use Rattle.pb_make.specs.Domain.{domain_text}
 use Rattle.pb_make.specs.Maps.{map_text, scenario_text}
@@ -20,7 +20,7 @@ use Rattle.pb_make.specs.Problems.{problem_text}
 use Rattle.pb_make_laws.specs.Made.{made_grid, made_tiles}
 
 -- the sizes of a kind: cells on each side, moves, or blocks
-abbrev pub IsSize : TaskKind → (size : ℕ) → Type 0
+abbrev pub IsSize : Kind → (size : ℕ) → Type 0
 IsSize Grid side = (1 ≤ side) × (side ≤ 2048)
 IsSize Tiles moves = moves ≤ 1000000
 IsSize Strips blocks = (1 ≤ blocks) × (blocks ≤ 14)
@@ -28,7 +28,7 @@ IsSize Strips blocks = (1 ≤ blocks) × (blocks ≤ 14)
 -- The texts of this kind, seed and size are read as this task, without swamp. The texts of a map
 -- and its scenario, and of a board, spell the made task. Those of the domain of the blocks world
 -- and of a problem are trees that are a task.
-abbrev pub IsMadeTask : TaskKind → (seed size : ℕ) → TaskParts → Type 0
+abbrev pub IsMadeTask : Kind → (seed size : ℕ) → TaskParts → Type 0
 IsMadeTask Grid seed side task =
     (task_of (grid_reading (map_text seed side) (scenario_text side) 0 false) ≡ Ok task)
     × SpellsGrid (map_text seed side) (scenario_text side) 0 false (made_grid seed side)
@@ -43,5 +43,5 @@ IsMadeTask Strips seed blocks task =
     × (first_fault domain problem ≡ None) × (task ≡ parts.Strips (strips_of domain problem))
 
 -- P holds of the made task
-abbrev pub OfMade : TaskKind → (seed size : ℕ) → (P : TaskParts → Type 0) → Type 0
+abbrev pub OfMade : Kind → (seed size : ℕ) → (P : TaskParts → Type 0) → Type 0
 OfMade kind seed size P = (task : TaskParts) × IsMadeTask kind seed size task × P task

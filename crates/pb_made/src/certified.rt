@@ -5,7 +5,7 @@ ghost use Rattle.pb_cert.specs.Stated.{text_of};
 ghost use Rattle.pb_made.specs.Answers.{IsJudged};
 
 use pb_cert::Certificate;
-use pb_check::{CheckError, Verdict, check};
+use pb_check::{CheckError, Verdict, check, stated_choice};
 use pb_estimate::Estimator;
 use pb_outside::{Failed, Load, MemShelf, Shelf};
 use pb_task::Task;
@@ -58,7 +58,7 @@ pub(crate) fn verdict_of(
 ) -> Result<Option<Verdict>, AllocError>
     ensures { IfOk result (IsJudged task.now text.now) }
 {
-    let mut estimator = Estimator::of(alloc, task)?;
+    let mut estimator = Estimator::of(alloc, task, &stated_choice(text))?;
     match check(alloc, task, &mut estimator, text) {
         Ok(verdict) => Ok(Some(verdict)),
         Err(CheckError::Fault(_)) => Ok(None),

@@ -3,15 +3,14 @@ ghost use Rattle.std.specs.Prelude.{◌≡◌, IfOk};
 ghost use Rattle.pb_pddl.specs.Readings.{domain_reading, problem_reading};
 ghost use Rattle.pb_make.specs.Domain.{domain_text};
 ghost use Rattle.pb_make.specs.Problems.{problem_text};
+ghost use Rattle.pb_task.specs.declared.kind.Kind.TheVariants.{Grid, Tiles, Strips};
 ghost use Rattle.pb_made.specs.Made.{IsMadeTask, IsSize};
-ghost use Rattle.pb_check.specs.declared.kind.TaskKind.TheVariants.{Grid, Tiles, Strips};
 
-use pb_check::TaskKind;
 use pb_grid::{GridError, read_grid};
 use pb_make::{blocks_domain, make_map, make_problem, make_scen, make_tiles};
 use pb_strips::{StripsError, ground};
 use pb_syntax::{Domain, Problem, SyntaxError, read_domain, read_problem};
-use pb_task::Task;
+use pb_task::{Kind, Task};
 use pb_tiles::{TilesError, read_tiles};
 use std::alloc::{AllocError, Global};
 
@@ -43,19 +42,14 @@ fn strips_memory(_error: &StripsError) -> AllocError
 }
 
 /// The task of this kind, seed and size. An error is out of memory.
-pub(crate) fn made_task(
-    alloc: Global,
-    kind: TaskKind,
-    seed: u32,
-    size: u32,
-) -> Result<Task, AllocError>
+pub(crate) fn made_task(alloc: Global, kind: Kind, seed: u32, size: u32) -> Result<Task, AllocError>
     requires { IsSize kind size }
     ensures { IfOk result (IsMadeTask kind seed size) }
 {
     match kind {
-        TaskKind::Grid => made_grid(alloc, seed, size),
-        TaskKind::Tiles => made_tiles(alloc, seed, size),
-        TaskKind::Strips => made_blocks(alloc, seed, size),
+        Kind::Grid => made_grid(alloc, seed, size),
+        Kind::Tiles => made_tiles(alloc, seed, size),
+        Kind::Strips => made_blocks(alloc, seed, size),
     }
 }
 

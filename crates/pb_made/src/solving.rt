@@ -4,28 +4,26 @@ ghost use Rattle.std.specs.Arc.{arc_value};
 ghost use Rattle.pb_machine.specs.Settings.{AreInRange, weight_of};
 ghost use Rattle.pb_model.specs.Plan.{IsBound, HasNoPlan, NoneCheaper};
 ghost use Rattle.pb_task.specs.Parts.{space_of};
-ghost use Rattle.pb_lease.specs.Leased.{guide_of};
 ghost use Rattle.pb_workers.specs.Ends.{home_store};
-ghost use Rattle.pb_check.specs.Kinds.{kind_of, kind_name};
-ghost use Rattle.pb_check.specs.declared.fault.Verdict.TheVariants.{Bounded, Unsolvable};
+ghost use Rattle.pb_check.specs.declared.fault.Claim.TheVariants.{Bounded, Unsolvable};
 ghost use Rattle.pb_made.specs.Made.{IsSize, OfMade};
 ghost use Rattle.pb_made.specs.Answers.{IfAccepted, IfNoneAccepted, IfStopped, IsAnswered};
 ghost use Rattle.pb_made.specs.Answers.{HasPlan, IsCertified, IsStopped, unweighted};
 ghost use Rattle.pb_made.specs.Answers.{made_settings};
-ghost use Rattle.pb_made.specs.Searches.{LeavesQuiet};
-ghost use Rattle.pb_made.specs.Found.{IsPlanOf, IsCertificateOf};
+ghost use Rattle.pb_search.specs.Ends.{searched_guide};
+ghost use Rattle.pb_search.specs.Searches.{LeavesQuiet};
+ghost use Rattle.pb_cert.specs.Found.{IsPlanOf, IsCertificateOf};
 
 use crate::MadeAnswer;
-use crate::answer::answer_of;
 use crate::certified::{verdict_of, written_text};
 use crate::made_task::made_task;
 use pb_cert::{Certificate, Plan, trace};
-use pb_check::{TaskKind, kind_of};
+use pb_estimate::Spelling;
 use pb_lease::LeaseGraph;
-use pb_machine::{End, Settings};
+use pb_machine::{End, STANDARD, Settings};
 use pb_outside::Gate;
 use pb_search::search;
-use pb_task::Task;
+use pb_task::{Kind, Task};
 use std::alloc::{AllocError, Global};
 use std::sync::{Arc, Wait};
 use std::thread::Threads;
@@ -39,12 +37,7 @@ fn made_settings(workers: u32) -> Settings
 {
     Settings {
         workers,
-        num: 1,
-        den: 1,
-        budget: 16_777_216,
-        lot: 256,
-        wish: 256,
-        plain: false,
+        ..STANDARD
     }
 }
 
@@ -55,7 +48,7 @@ fn made_settings(workers: u32) -> Settings
 pub fn solve_made<R: Threads + Wait + Sync, G: Gate>(
     rt: &R,
     alloc: Global,
-    kind: TaskKind,
+    kind: Kind,
     seed: u64,
     size: u64,
     workers: u32,
@@ -131,7 +124,7 @@ fn answer_end(
     let text = certificate_text(alloc, task, plan, graph)?;
     let judgement = verdict_of(alloc, task, text.as_slice())?;
     match judgement {
-        Some(verdict) => Ok(answer_of(&verdict)),
+        Some(verdict) => Ok(MadeAnswer::Accepted { verdict }),
         None => unreachable!(),
     }
 }
@@ -139,7 +132,9 @@ fn answer_end(
 // The plan that the rows lead to, if there is one.
 fn best_plan(alloc: Global, task: &Task, graph: &LeaseGraph) -> Result<Option<Plan>, AllocError>
     requires { LeavesQuiet task.now graph.now.table.settings graph.now }
-    ensures { IfOk result (IsPlanOf task.now graph.now) }
+    ensures { IfOk result (IsPlanOf task.now
+        (searched_guide task.now graph.now.table.graph graph.now.table.settings)
+        (home_store graph.now)) }
 {
     match graph.incumbent() {
         Some(_) => traced_plan(alloc, task, graph),
@@ -151,7 +146,9 @@ fn best_plan(alloc: Global, task: &Task, graph: &LeaseGraph) -> Result<Option<Pl
 fn traced_plan(alloc: Global, task: &Task, graph: &LeaseGraph) -> Result<Option<Plan>, AllocError>
     requires quiet { LeavesQuiet task.now graph.now.table.settings graph.now }
     requires known { (cost : ℕ) × (graph.now.incumbent ≡ Some cost) }
-    ensures { IfOk result (IsPlanOf task.now graph.now) }
+    ensures { IfOk result (IsPlanOf task.now
+        (searched_guide task.now graph.now.table.graph graph.now.table.settings)
+        (home_store graph.now)) }
 {
     let _lawful = task.max_degree();
     let plan = trace(alloc, task, graph)?;
@@ -167,24 +164,16 @@ fn certificate_text(
 ) -> Result<Vec<u8>, AllocError>
     requires quiet { LeavesQuiet task.now graph.now.table.settings graph.now }
     requires weight { weight_of graph.now.table.settings ≡ unweighted }
-    requires plan { IsPlanOf task.now graph.now plan }
+    requires plan { IsPlanOf task.now
+        (searched_guide task.now graph.now.table.graph graph.now.table.settings)
+        (home_store graph.now) plan }
     ensures { IfOk result (λ text. IsCertificateOf task.now unweighted
-        (guide_of task.now graph.now.table.graph) (home_store graph.now) plan text.items) }
+        (searched_guide task.now graph.now.table.graph graph.now.table.settings)
+        (home_store graph.now) plan text.items) }
 {
     let _lawful = task.max_degree();
-    let certificate = Certificate::of(alloc, kind_word(task), 1, 1, plan, graph)?;
+    let spelling = Spelling::of(task, graph.choice().clone()?);
+    let certificate = Certificate::of(alloc, spelling, plan, graph)?;
     let text = written_text(alloc, &certificate)?;
     Ok(text)
-}
-
-// The kind that the certificate of a task states.
-fn kind_word(task: &Task) -> &'static str
-    ensures kind { result.now ≡ kind_name (kind_of task.now) }
-    ensures short { length result.now ≤ 64 }
-{
-    match kind_of(task) {
-        TaskKind::Grid => "grid",
-        TaskKind::Tiles => "tiles",
-        TaskKind::Strips => "strips",
-    }
 }

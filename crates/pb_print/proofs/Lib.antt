@@ -1,2 +1,5 @@
 pub mod Callers
 mod Lines
+mod Files
+mod SavedCalls
+mod Numbered

@@ -1,2 +1,6 @@
 pub use Rattle.pb_model.specs.Texts
+pub use Rattle.pb_outside.specs.Calls
+pub use Rattle.pb_outside.specs.Outside
+pub use Rattle.pb_outside.specs.Saves
 pub use Rattle.pb_packed.specs.Digits
+pub mod Saved

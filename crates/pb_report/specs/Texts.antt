@@ -28,7 +28,7 @@ use Rattle.pb_strips.specs.declared.error.StripsError.TheVariants as strips
 use Rattle.pb_journal.specs.declared.error.Why.{Why}
 use Rattle.pb_journal.specs.declared.error.Why.TheVariants as why
 use Rattle.pb_check.specs.declared.fault.Verdict.{Verdict}
-use Rattle.pb_check.specs.declared.fault.Verdict.TheVariants.{Bounded, Unsolvable}
+use Rattle.pb_check.specs.declared.fault.Claim.TheVariants.{Bounded, Unsolvable}
 use Rattle.pb_check.specs.declared.fault.CertificateFault.{CertificateFault}
 use Rattle.pb_check.specs.declared.fault.CertificateFault.TheVariants.{Syntax, Kind, Weight, PlanStep, NotGoal, Cost, RowOrder, BadState, NoStart, GoalClosed, Missing, TooDear, Low}
 
@@ -57,12 +57,19 @@ plan_text parts plan bound = plan_report (map (action_name parts) plan.actions) 
 
 -- ---- a checked certificate
 
--- what an accepted certificate shows
+-- what an accepted certificate claims
 abbrev pub verdict_text : Verdict → List ℕ
 verdict_text (Bounded cost bound) =
     line (spaced (codes "accepted cost") (spaced (decimal cost)
     (spaced (codes "bound") (decimal bound))))
 verdict_text Unsolvable = line (codes "accepted none")
+
+-- what came out of a made task, by what its accepted certificate claims
+abbrev pub made_text : Verdict → List ℕ
+made_text (Bounded cost bound) =
+    line (spaced (codes "cost") (spaced (decimal cost)
+    (spaced (codes "bound") (spaced (decimal bound) (codes "accepted")))))
+made_text Unsolvable = line (codes "none accepted")
 
 -- why a certificate is refused: the fault's name and its numbers
 abbrev pub fault_text : CertificateFault → List ℕ

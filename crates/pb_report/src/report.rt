@@ -3,14 +3,14 @@ ghost use Rattle.std.specs.Fmt.{decimal};
 ghost use Rattle.pb_model.specs.Texts.{line, spaced, none_report, stopped_report};
 ghost use Rattle.pb_task.specs.Parts.{space_of};
 ghost use Rattle.pb_lifted.specs.declared.refusal.TypingRefusal.TheVariants.{Named};
-ghost use Rattle.pb_report.specs.Texts.{AreActions, plan_text, verdict_text, fault_text, input_text, tiles_text, file_number, syntax_text, refusal_text, strips_text, journal_report, journal_fault_text};
+ghost use Rattle.pb_report.specs.Texts.{AreActions, plan_text, verdict_text, made_text, fault_text, input_text, tiles_text, file_number, syntax_text, refusal_text, strips_text, journal_report, journal_fault_text};
 
 use crate::pieces::{
     push_steps, push_with_number, push_with_numbers, push_with_numbers_and_word, push_with_wide,
 };
 use crate::words::{cause_word, file_number, left_out_word, want_word, why_word};
 use pb_cert::Plan;
-use pb_check::{CertificateFault, Verdict};
+use pb_check::{CertificateFault, Claim};
 use pb_grid::GridError;
 use pb_journal::Why;
 use pb_lifted::{Cause, File, Place, TypingRefusal};
@@ -85,15 +85,25 @@ impl Report {
         Report::of_steps(alloc, task, plan.actions(), plan.cost(), bound)
     }
 
-    /// That a certificate is accepted, and what it shows.
-    pub fn of_verdict(alloc: Global, verdict: &Verdict) -> Result<Report, AllocError>
-        ensures { IfOk result (λ report. report ≡ verdict_text verdict.now) }
+    /// That a certificate is accepted, and what it claims.
+    pub fn of_verdict(alloc: Global, claim: &Claim) -> Result<Report, AllocError>
+        ensures { IfOk result (λ report. report ≡ verdict_text claim.now) }
     {
-        match *verdict {
-            Verdict::Bounded { cost, bound } => {
+        match *claim {
+            Claim::Bounded { cost, bound } => {
                 Report::with_numbers(alloc, b"accepted cost ", cost, b" bound ", bound)
             }
-            Verdict::Unsolvable => Report::of_line(alloc, b"accepted none"),
+            Claim::Unsolvable => Report::of_line(alloc, b"accepted none"),
+        }
+    }
+
+    /// What came out of a made task, by what its accepted certificate claims.
+    pub fn of_made(alloc: Global, claim: &Claim) -> Result<Report, AllocError>
+        ensures { IfOk result (λ report. report ≡ made_text claim.now) }
+    {
+        match *claim {
+            Claim::Bounded { cost, bound } => Report::of_made_plan(alloc, cost, bound),
+            Claim::Unsolvable => Report::of_line(alloc, b"none accepted"),
         }
     }
 
@@ -283,6 +293,14 @@ impl Report {
         push_steps(alloc, &mut bytes, task, actions)?;
         push_with_number(&mut bytes, b"bound ", bound)?;
         Ok(Report { bytes })
+    }
+
+    // The line of a made task with a plan.
+    fn of_made_plan(alloc: Global, cost: u64, bound: u64) -> Result<Report, AllocError>
+        ensures { IfOk result (λ report. report ≡ made_text (Claim.Bounded cost bound)) }
+    {
+        let text = format!(in alloc; "cost {cost} bound {bound} accepted\n")?;
+        Report::of_text(alloc, text.as_bytes())
     }
 
     // One line of a text and a number.

@@ -1,36 +1,48 @@
 -- What one call of the program saves, another one accepts.
-use Rattle.std.proofs.Common.{◌≡◌, ◌⊎◌, inl, inr, ℕ, Bool, false, ◌<◌, Option, None, Some, List, [], ◌∷◌, ◌++◌, length, Ok, refl, sym, ap, subst, ◌∙◌, arith}
+use Rattle.std.proofs.Common.{◌≡◌, ◌⊎◌, inl, inr, ℕ, Bool, false, ◌<◌, Option, None, Some, List, [], ◌∷◌, ◌++◌, length, Ok, refl, sym, ap, ap₂, subst, ◌∙◌, arith}
 use Rattle.pb_model.specs.Plan.{Plan}
+use Rattle.pb_model.specs.Texts.{stopped_report}
 use Rattle.pb_task.specs.declared.parts.TaskParts.{TaskParts}
-use Rattle.pb_task.specs.Parts.{space_of}
-use Rattle.pb_estimate.specs.Estimates.{estimate_of}
-use Rattle.pb_lease.specs.Leased.{guide_of}
 use Rattle.pb_check.specs.Judging.{checked}
-use Rattle.pb_check.specs.Kinds.{kind_of}
 use Rattle.pb_grid.specs.Laws.{SwampChangesMarksAlone}
 use Rattle.pb_abstract.specs.Laws.{BlocksAskForNoCosts}
 use Rattle.pb_journal.specs.Texts.{journal_text}
 use Rattle.pb_journal.specs.Shown.{WrittenJournalsAreAccepted}
+use Rattle.pb_command.specs.declared.command.InputOptions.{InputOptions}
 use Rattle.pb_command.specs.Values.{InputNames, Grid, Tiles, Strips}
 use Rattle.pb_command.specs.Meaning.{Reading, Read, Solve, Check, Journal, SolveMeaning, CheckMeaning, JournalMeaning, reading_of_words}
 use Rattle.pb_command.specs.Options.{SolveReadsOptions, CheckReadsOptions, JournalReadsOptions}
 use Rattle.pb_answer.specs.Outputs.{Output, output}
-use Rattle.pb_answer.specs.Loaded.{input_task, solve_task, check_task, journal_task, with_text}
+use Rattle.pb_answer.specs.Loaded.{input_task, solve_task, check_task, journal_task, with_text, OfTexts}
 use Rattle.pb_answer.specs.Searches.{settings_of, weight_asked}
-use Rattle.pb_answer.specs.Claims.{IsCertificate, journal_outputs, Certifies}
+use Rattle.pb_answer.specs.Claims.{IsCertificate, journal_outputs, journal_outputs_if_any, Certifies, Stops}
 use Rattle.pb_answer.specs.Journals.{IsJournalOf}
-use Rattle.pb_answer.specs.Answer.{Saves}
+use Rattle.pb_answer.specs.Answer.{Says, Saves}
 use Rattle.pb_answer.proofs.Callers.{SavesJournal, of_quiet, of_stopped, without_swamp}
-use Rattle.pb_run.specs.Course.{Ran}
-use Rattle.pb_run.specs.Headline.{IsAnswer, IsBroken, IsOfVerdict, AllOfOnePlan, CertificateOfNone, StopHasCause, CheckIsDecided, JournalIsDecided}
+use Rattle.pb_run.specs.Outcome.{Outcome, IfSolve, IfCheck, IfJournal, IsAnswer, IsBroken}
+use Rattle.pb_run.specs.Headline.{CertificateHolds, StopHasCause}
+use Rattle.pb_run.specs.Commands.{IsOfVerdict, SolveHolds, CheckHolds, JournalHolds}
 use Rattle.pb_run.specs.Laws.{IsSavedFirst, IsSavedLast, SavedCertificatesAreAccepted, SavedJournalsAreAccepted, Keeps, AcceptsIt, CertificatesAreAcceptedByWords, JournalsAreAcceptedByWords}
 
 -- the texts behind another one spell the task that they spell alone
-input_behind : (input : InputNames) (row : ℕ) (swamp : Bool) (text : List ℕ) (texts : List (List ℕ))
-    → input_task input row swamp 1 (text ∷ texts) ≡ input_task input row swamp 0 texts
-input_behind (Grid names) row swamp text texts = refl
-input_behind (Tiles board) row swamp text texts = refl
-input_behind (Strips names) row swamp text texts = refl
+input_behind : (input : InputNames) (options : InputOptions) (text : List ℕ) (texts : List (List ℕ))
+    → input_task input options 1 (text ∷ texts) ≡ input_task input options 0 texts
+input_behind (Grid names) options text texts = refl
+input_behind (Tiles board) options text texts = refl
+input_behind (Strips names) options text texts = refl
+
+-- ---- what is promised of a search
+
+-- the certificate of none, or the cause of a stop, if the arguments are this command
+none_of : (solve : SolveMeaning) (it : Outcome) → it.asked ≡ Read (Solve solve) → CertificateHolds it → it.said.status ≡ 1
+    → OfTexts solve it.texts (λ task. Certifies (Saves it.said) solve task None)
+none_of solve it is holds =
+    subst (λ (r : Reading). IfSolve r (λ s. it.said.status ≡ 1 → OfTexts s it.texts (λ task. Certifies (Saves it.said) s task None))) is holds.none
+
+stop_of : (solve : SolveMeaning) (it : Outcome) → it.asked ≡ Read (Solve solve) → StopHasCause it → it.said.status ≡ 2
+    → OfTexts solve it.texts (Stops (Saves it.said) solve)
+stop_of solve it is holds two =
+    (subst (λ (r : Reading). IfSolve r (λ s. it.said.status ≡ 2 → Says it.said (stopped_report s.settings.budget) × OfTexts s it.texts (Stops (Saves it.said) s))) is holds two).1
 
 -- ---- certificates
 
@@ -38,39 +50,36 @@ abbrev pub first_text : List Output → List ℕ
 first_text [] = []
 first_text (first ∷ rest) = first.text
 
-module _ (solve : SolveMeaning) (check : CheckMeaning) (ran checked_ran : Ran) (name text : List ℕ) (same_input : check.input ≡ solve.input) (same_row : check.row ≡ solve.row)
-    (same_swamp : check.swamp ≡ solve.swamp) (named : solve.certificate ≡ Some name) (saved : IsSavedFirst ran.said name text) (texts : checked_ran.texts ≡ text ∷ ran.texts) (decided : CheckIsDecided (Read (Check check)) checked_ran) where
+module _ (solve : SolveMeaning) (check : CheckMeaning) (ran checked_ran : Outcome) (name text : List ℕ) (same_input : check.input ≡ solve.input) (same_options : check.options ≡ solve.options)
+    (named : solve.certificate ≡ Some name) (saved : IsSavedFirst ran.said name text) (texts : checked_ran.texts ≡ text ∷ ran.texts) (decided : CheckHolds check checked_ran) where
   task_is : (parts : TaskParts) → solve_task solve ran.texts ≡ Ok parts → check_task check checked_ran.texts ≡ Ok (parts, text)
   task_is parts is =
-      let input : input_task check.input check.row check.swamp 1 (text ∷ ran.texts) ≡ Ok parts =
-      (λ i. input_task (same_input i) (same_row i) (same_swamp i) 1 (text ∷ ran.texts)) ∙ input_behind solve.input solve.row solve.swamp text ran.texts ∙ is in
+      let input : input_task check.input check.options 1 (text ∷ ran.texts) ≡ Ok parts =
+      (λ i. input_task (same_input i) (same_options i) 1 (text ∷ ran.texts)) ∙ input_behind solve.input solve.options text ran.texts ∙ is in
       ap (check_task check) texts ∙ ap (with_text (Some text)) input
 
   -- the text of the certificate is accepted
   accepted : (parts : TaskParts) (plan : Option Plan) → solve_task solve ran.texts ≡ Ok parts → Certifies (Saves ran.said) solve parts plan
       → (checked_ran.said.status ≡ 0) ⊎ IsBroken checked_ran.said.status
-  accepted parts plan is (journal, found, outputs, certificate, saves) =
-      let mine = subst (λ (n : Option (List ℕ)). IsCertificate n parts (weight_asked solve)
-      (guide_of parts found.run.ends.graph) found.run.ends.machine.store plan outputs) named
-      certificate in
-      let all : output name text ∷ saved.0
-      ≡ (output name mine.0 ∷ []) ++ journal_outputs solve.journal (settings_of solve) journal =
-      sym saved.1 ∙ saves
-      ∙ ap (λ (os : List Output). os ++ journal_outputs solve.journal (settings_of solve) journal)
-      mine.2 in
+  accepted parts plan is (left, searched, found, outputs, certificate, saves) =
+      let mine = subst (λ (n : Option (List ℕ)). IsCertificate n parts (weight_asked solve) left.guide
+      left.store plan outputs) named certificate in
+      let journals = journal_outputs_if_any solve.journal (settings_of solve) left.journal in
+      let all : output name text ∷ saved.0 ≡ (output name mine.0 ∷ []) ++ journals =
+      sym saved.1 ∙ saves ∙ ap (λ (os : List Output). os ++ journals) mine.2 in
       let same : text ≡ mine.0 = ap first_text all in
       subst (λ v. IsOfVerdict v checked_ran.said.status)
-      (ap (checked (space_of parts) (estimate_of parts) (kind_of parts)) same ∙ mine.1.accepted)
-      (decided parts text (task_is parts is))
+      (ap (checked parts) same ∙ mine.1.accepted)
+      (decided.exact parts text (task_is parts is))
 
-  pub either : (ran.said.status ≡ 0) ⊎ (ran.said.status ≡ 1) → AllOfOnePlan (Read (Solve solve)) ran → CertificateOfNone (Read (Solve solve)) ran
+  pub either : (ran.said.status ≡ 0) ⊎ (ran.said.status ≡ 1) → ran.asked ≡ Read (Solve solve) → SolveHolds solve ran → CertificateHolds ran
       → (checked_ran.said.status ≡ 0) ⊎ IsBroken checked_ran.said.status
-  either (inl zero) all none = let found = all zero in accepted found.0 (Some found.2.0) found.1 found.2.6
-  either (inr one) all none = let found = none one in accepted found.0 None found.1 found.2
+  either (inl zero) is all certified = let found = all.one_plan zero in accepted found.0 (Some found.2.0) found.1 found.2.6
+  either (inr one) is all certified = let found = none_of solve ran is certified one in accepted found.0 None found.1 found.2
 
 pub saved_certificates_are_accepted : SavedCertificatesAreAccepted
-saved_certificates_are_accepted solve check ran checked_ran name text same_input same_row same_swamp named answered saved texts all none decided =
-    either solve check ran checked_ran name text same_input same_row same_swamp named saved texts decided answered all none
+saved_certificates_are_accepted solve check ran checked_ran name text is same_input same_options named answered saved texts all certified decided =
+    either solve check ran checked_ran name text same_input same_options named saved texts decided answered is all certified
 
 -- ---- journals
 
@@ -93,16 +102,16 @@ same_last first others name text other e =
 
 module _ (law : WrittenJournalsAreAccepted) (marks : SwampChangesMarksAlone)
     (blocks : BlocksAskForNoCosts) (solve : SolveMeaning) (journal : JournalMeaning)
-    (ran judged_ran : Ran) (name text : List ℕ) (same_input : journal.input ≡ solve.input)
-    (same_row : journal.row ≡ solve.row) (named : solve.journal ≡ Some name)
+    (ran judged_ran : Outcome) (name text : List ℕ) (same_input : journal.input ≡ solve.input)
+    (same_options : journal.options ≡ record solve.options { swamp = false }) (named : solve.journal ≡ Some name)
     (saved : IsSavedLast ran.said name text) (texts : judged_ran.texts ≡ text ∷ ran.texts)
-    (decided : JournalIsDecided (Read (Journal journal)) judged_ran) where
-  judged_task : (parts : TaskParts) → input_task solve.input solve.row false 0 ran.texts ≡ Ok parts
+    (decided : JournalHolds journal judged_ran) where
+  judged_task : (parts : TaskParts) → input_task solve.input (record solve.options { swamp = false }) 0 ran.texts ≡ Ok parts
       → journal_task journal judged_ran.texts ≡ Ok (parts, text)
   judged_task parts is =
-      let input : input_task journal.input journal.row false 1 (text ∷ ran.texts) ≡ Ok parts =
-      (λ i. input_task (same_input i) (same_row i) false 1 (text ∷ ran.texts))
-      ∙ input_behind solve.input solve.row false text ran.texts ∙ is in
+      let input : input_task journal.input journal.options 1 (text ∷ ran.texts) ≡ Ok parts =
+      (λ i. input_task (same_input i) (same_options i) 1 (text ∷ ran.texts))
+      ∙ input_behind solve.input (record solve.options { swamp = false }) text ran.texts ∙ is in
       ap (journal_task journal) texts ∙ ap (with_text (Some text)) input
 
   -- the saved text is accepted, whatever was saved before it
@@ -116,31 +125,31 @@ module _ (law : WrittenJournalsAreAccepted) (marks : SwampChangesMarksAlone)
       ∙ ap (λ (n : Option (List ℕ)). mine.first ++ journal_outputs n (settings_of solve) mine.events)
       named in
       let same : text ≡ written = same_last saved.0 mine.first name text written all in
-      let there = without_swamp marks blocks solve.input solve.row solve.swamp 0 ran.texts parts is in
-      decided there.other text (length mine.events) (judged_task there.other there.is)
+      let there = without_swamp marks blocks solve.input solve.options 0 ran.texts parts is in
+      decided.exact there.other text (length mine.events) (judged_task there.other there.is)
       (there.journals text (length mine.events)
       (subst (λ (t : List ℕ). IsJournalOf parts t (length mine.events)) (sym same) mine.legal))
 
   pub any_journal : (ran.said.status ≡ 0) ⊎ ((ran.said.status ≡ 1) ⊎ (ran.said.status ≡ 2))
-      → AllOfOnePlan (Read (Solve solve)) ran → CertificateOfNone (Read (Solve solve)) ran
-      → StopHasCause (Read (Solve solve)) ran
+      → ran.asked ≡ Read (Solve solve) → SolveHolds solve ran → CertificateHolds ran
+      → StopHasCause ran
       → (judged_ran.said.status ≡ 0) ⊎ IsBroken judged_ran.said.status
-  any_journal (inl zero) all none stop =
-      let found = all zero in
+  any_journal (inl zero) is all certified stop =
+      let found = all.one_plan zero in
       journal_accepted found.0 found.1
       (of_quiet law solve found.0 (Saves ran.said) (Some found.2.0) found.2.6)
-  any_journal (inr (inl one)) all none stop =
-      let found = none one in
+  any_journal (inr (inl one)) is all certified stop =
+      let found = none_of solve ran is certified one in
       journal_accepted found.0 found.1 (of_quiet law solve found.0 (Saves ran.said) None found.2)
-  any_journal (inr (inr two)) all none stop =
-      let found = (stop two).1 in
+  any_journal (inr (inr two)) is all certified stop =
+      let found = stop_of solve ran is stop two in
       journal_accepted found.0 found.1 (of_stopped law solve found.0 (Saves ran.said) found.2)
 
 pub saved_journals_are_accepted : WrittenJournalsAreAccepted → SwampChangesMarksAlone
     → BlocksAskForNoCosts → SavedJournalsAreAccepted
-saved_journals_are_accepted law marks blocks solve journal ran judged name text same_input same_row named answered saved texts all none stop decided =
-    any_journal law marks blocks solve journal ran judged name text same_input same_row named saved
-    texts decided answered all none stop
+saved_journals_are_accepted law marks blocks solve journal ran judged name text is same_input same_options named answered saved texts all certified stop decided =
+    any_journal law marks blocks solve journal ran judged name text same_input same_options named saved
+    texts decided answered is all certified stop
 
 -- ---- by the words
 
@@ -162,41 +171,40 @@ accepts_it status (inr (inr (inl shelf))) = (inr (inr (inl shelf)), served_is st
 accepts_it status (inr (inr (inr sink))) = (inr (inr (inr sink)), served_is status (omega (arith, sink)))
 
 -- what is kept of words is kept of what they ask for
-module _ (words others : List (List ℕ)) (solve : SolveMeaning) (solved other : Ran)
+module _ (words others : List (List ℕ)) (solve : SolveMeaning) (solved other : Outcome)
     (reads : reading_of_words words ≡ Read (Solve solve)) (kept : Keeps words solved)
     (kept_too : Keeps others other) where
-  all_there : AllOfOnePlan (Read (Solve solve)) solved
-  all_there = subst (λ (r : Reading). AllOfOnePlan r solved) reads kept.solved
+  asked_is : solved.asked ≡ Read (Solve solve)
+  asked_is = kept.asked ∙ reads
 
-  none_there : CertificateOfNone (Read (Solve solve)) solved
-  none_there = subst (λ (r : Reading). CertificateOfNone r solved) reads kept.certified_none
-
-  stop_there : StopHasCause (Read (Solve solve)) solved
-  stop_there = subst (λ (r : Reading). StopHasCause r solved) reads kept.stopped
+  all_there : SolveHolds solve solved
+  all_there = subst (λ (r : Reading). IfSolve r (λ s. SolveHolds s solved)) asked_is kept.solve
 
   pub certificate_by_words : (check : CheckMeaning) (name text : List ℕ)
       → reading_of_words others ≡ Read (Check check) → check.input ≡ solve.input
-      → check.row ≡ solve.row → check.swamp ≡ solve.swamp → solve.certificate ≡ Some name
+      → check.options ≡ solve.options → solve.certificate ≡ Some name
       → (solved.said.status ≡ 0) ⊎ (solved.said.status ≡ 1)
       → IsSavedFirst solved.said name text → other.texts ≡ text ∷ solved.texts
       → AcceptsIt other.said.status
-  certificate_by_words check name text also same_input same_row same_swamp named answered saved texts =
+  certificate_by_words check name text also same_input same_options named answered saved texts =
       accepts_it other.said.status
-      (saved_certificates_are_accepted solve check solved other name text same_input same_row
-      same_swamp named answered saved texts all_there none_there
-      (subst (λ (r : Reading). CheckIsDecided r other) also kept_too.check_exact))
+      (saved_certificates_are_accepted solve check solved other name text asked_is same_input
+      same_options named answered saved texts all_there kept.certified
+      (subst (λ (r : Reading). IfCheck r (λ c. CheckHolds c other)) (kept_too.asked ∙ also)
+      kept_too.check))
 
   pub journal_by_words : SavedJournalsAreAccepted → (journal : JournalMeaning) (name text : List ℕ)
       → reading_of_words others ≡ Read (Journal journal) → journal.input ≡ solve.input
-      → journal.row ≡ solve.row → solve.journal ≡ Some name
+      → journal.options ≡ record solve.options { swamp = false } → solve.journal ≡ Some name
       → (solved.said.status ≡ 0) ⊎ ((solved.said.status ≡ 1) ⊎ (solved.said.status ≡ 2))
       → IsSavedLast solved.said name text → other.texts ≡ text ∷ solved.texts
       → AcceptsIt other.said.status
-  journal_by_words law journal name text also same_input same_row named answered saved texts =
+  journal_by_words law journal name text also same_input same_options named answered saved texts =
       accepts_it other.said.status
-      (law solve journal solved other name text same_input same_row named answered saved texts
-      all_there none_there stop_there
-      (subst (λ (r : Reading). JournalIsDecided r other) also kept_too.journal_exact))
+      (law solve journal solved other name text asked_is same_input same_options named answered saved
+      texts all_there kept.certified kept.stopped
+      (subst (λ (r : Reading). IfJournal r (λ j. JournalHolds j other)) (kept_too.asked ∙ also)
+      kept_too.journal))
 
 pub certificates_are_accepted_by_words : SolveReadsOptions → CheckReadsOptions
     → CertificatesAreAcceptedByWords
@@ -204,7 +212,7 @@ certificates_are_accepted_by_words solve_reads check_reads input name file text 
     certificate_by_words _ _ _ solved checked
     (solve_reads input arguments matching.solve matching.weight matching.names) kept kept_too _ name
     text (check_reads input file others matching.each matching.distinct matching.placed) refl
-    matching.row same_swamp named answered saved texts
+    (ap₂ (λ row swamp. record { row = row; swamp = swamp }) matching.row same_swamp) named answered saved texts
 
 pub journals_are_accepted_by_words : SavedJournalsAreAccepted → SolveReadsOptions
     → JournalReadsOptions → JournalsAreAcceptedByWords
@@ -212,4 +220,4 @@ journals_are_accepted_by_words law solve_reads journal_reads input name file tex
     journal_by_words _ _ _ solved judged
     (solve_reads input arguments matching.solve matching.weight matching.names) kept kept_too law _
     name text (journal_reads input file others matching.each matching.distinct matching.placed) refl
-    matching.row named answered saved texts
+    (ap (λ row. record { row = row; swamp = false }) matching.row) named answered saved texts

@@ -1,27 +1,33 @@
 -- From how a call of the program goes to its promises.
-use Rattle.std.proofs.Common.{◌≡◌, ◌≢◌, ◌⊎◌, ◌↔◌, inl, inr, ℕ, ◌<◌, ◌≤◌, IsTrue, false, true≢false, Option, None, Some, List, [], ◌∷◌, ◌++◌, map, Result, Ok, Err, refl, sym, ap, subst, ◌∙◌, arith, append-nil}
+use Rattle.std.proofs.Common.{◌≡◌, ◌≢◌, ◌⊎◌, ◌↔◌, inl, inr, ℕ, ◌<◌, IsTrue, false, true≢false, Option, None, Some, List, [], ◌∷◌, ◌++◌, map, Result, Ok, Err, refl, sym, ap, subst, ◌∙◌, arith, append-nil}
 use Rattle.pb_outside.specs.Outside.{Files, IfTold, Appends, KeepsAll}
 use Rattle.pb_outside.specs.Calls.{Call}
 use Rattle.pb_outside.specs.declared.shelf.Load.TheVariants.{Failed}
 use Rattle.pb_outside.proofs.Callers.{told_as}
-use Rattle.pb_task.specs.Parts.{space_of}
-use Rattle.pb_estimate.specs.Estimates.{estimate_of}
 use Rattle.pb_check.specs.declared.fault.CertificateFault.{CertificateFault}
 use Rattle.pb_check.specs.declared.fault.Verdict.{Verdict}
 use Rattle.pb_check.specs.Judging.{checked}
-use Rattle.pb_check.specs.Kinds.{kind_of}
-use Rattle.pb_command.specs.declared.refusal.CommandFault.{CommandFault}
-use Rattle.pb_command.specs.Meaning.{Reading, Refused, Read, Solve, Check, Journal, Make, SolveMeaning, CheckMeaning, JournalMeaning, MakeMeaning}
+use Rattle.pb_grid.specs.Laws.{ReadAsSpelled}
+use Rattle.pb_tiles.specs.Laws.{ReadingsAreSpelled}
+use Rattle.pb_command.specs.Causes.{IsPrinted}
+use Rattle.pb_command.specs.Meaning.{Reading, Refused, Read}
 use Rattle.pb_run.specs.Asked.{files_of, saved_names}
 use Rattle.pb_answer.specs.Outputs.{Output}
 use Rattle.pb_run.specs.Calls.{calls_since, loaded_texts, outputs_in, put_bytes, have_failed, load_calls, SaveAll, FailToSaveAll}
 use Rattle.pb_run.specs.Loads.{loads_of, AreLoaded}
-use Rattle.pb_answer.specs.Answer.{Said, AnswersReading}
-use Rattle.pb_run.specs.Course.{RunsOut, FailsToLoad, HandsOut, FailsToSave, FailsToPut, HasAnswered, Does, DoesSince, Ran, ran_by, ran}
-use Rattle.pb_run.specs.Headline.{IsAnswer, IsBroken, AllOfOnePlan, PlanIsPlan, NoneIsCheaper, CertificateHolds, NoneMeansNone, CertificateOfNone, StopHasCause, AcceptedIsValid, RejectedIsFaulty, IsOfVerdict, CheckIsDecided, JournalIsLegal, JournalIsDecided, MadeIsLeast, NamedPlanIsPlan, NamedNoneMeansNone, NamedVerdictHolds, WordsAreRefused, InputIsRefused, SpelledIsNotRefused, AreSomeOf, OutputsAreNamed, IsAnswered, IsComplete}
+use Rattle.pb_answer.specs.Answer.{Said, Saves}
+use Rattle.pb_run.specs.Answers.{AnswersReading}
+use Rattle.pb_run.specs.Handing.{HandsOutAll, HandsOutParts}
+use Rattle.pb_run.specs.Course.{RunsOut, FailsToLoad, HasAnswered, Does, DoesSince}
+use Rattle.pb_run.specs.Outcome.{Outcome, outcome_by, IfRefused, IsAnswer, IsBroken}
+use Rattle.pb_run.specs.Headline.{PlanIsPlan, NoneIsCheaper, CertificateHolds, NoneMeansNone, StopHasCause}
+use Rattle.pb_run.specs.Commands.{IsOfVerdict, SolvesHold, ChecksHold, JournalsHold, MakesHold, RefusalHolds}
+use Rattle.pb_run.specs.Served.{AreSomeOf, IsAnswered, IsComplete}
 use Rattle.pb_run.specs.Contents.{IsNoneOf, SavesIn, SavesPartIn, LeavesPart, KeepsUnnamed, TellsHands, GoesBy, Goes, WritesPut}
 use Rattle.pb_run.proofs.CallLists.{since_is, loads_tell, loads_save_none, loads_fail_none, loads_fail, ended_few, ended_no_fault, saves_tell, failures_tell}
 use Rattle.pb_run.proofs.Some.{first_are_some, none_of_some}
+use Rattle.pb_run.proofs.Handed.{all_handed, not_saved, not_put, only_loads}
+use Rattle.pb_run.proofs.ByCommand.{if_solve, if_check, if_journal, if_make}
 use Rattle.pb_run.proofs.Told as told
 
 -- ---- statuses
@@ -47,20 +53,13 @@ saved_not n (inl k) (inr e) = answer_not n k (inr (inl e))
 saved_not n (inr k) (inl e) = omega (arith, k, e)
 saved_not n (inr k) (inr e) = omega (arith, k, e)
 
--- the statuses at which nothing is saved
-unsaved_range : (n : ℕ) → (n ≡ 3) ⊎ (n ≡ 64) ⊎ (n ≡ 65) ⊎ (n ≡ 71) → (3 ≤ n) × (n ≤ 71)
-unsaved_range n (inl e) = (omega (arith, e), omega (arith, e))
-unsaved_range n (inr (inl e)) = (omega (arith, e), omega (arith, e))
-unsaved_range n (inr (inr (inl e))) = (omega (arith, e), omega (arith, e))
-unsaved_range n (inr (inr (inr e))) = (omega (arith, e), omega (arith, e))
-
 module _ (reading : Reading) (n : ℕ) (shelf sink : List Call) where
-  abbrev pub Made : Ran
-  Made = ran_by n shelf sink
+  abbrev pub Made : Outcome
+  Made = outcome_by reading n shelf sink
 
   -- how far an answer was handed out
   abbrev pub Handed : HasAnswered reading n shelf sink → Type 0
-  Handed a = HandsOut a.said n a.saves sink ⊎ (FailsToSave a.said n a.saves sink ⊎ FailsToPut a.said n a.saves sink)
+  Handed a = HandsOutParts a.said a.parts n a.saves sink
 
   -- ---- which way it went
 
@@ -75,20 +74,20 @@ module _ (reading : Reading) (n : ℕ) (shelf sink : List Call) where
   answered_failed a = ap have_failed a.shelf_is ∙ loads_fail_none (files_of reading) a.texts a.unloaded a.saves (ended_no_fault (files_of reading) a.texts a.unloaded a.ends)
 
   -- the report was put
-  made_is : (a : HasAnswered reading n shelf sink) → HandsOut a.said n a.saves sink → (loaded_texts shelf ≡ a.texts) × (Made.said ≡ a.said)
-  made_is a h =
-      let tell = saves_tell a.saves a.said.outputs h.saves_are in (
+  made_is : (a : HasAnswered reading n shelf sink) → n ≡ a.said.status → HandsOutAll a.parts a.saves sink → (loaded_texts shelf ≡ a.texts) × (Made.said ≡ a.said)
+  made_is a is all =
+      let tell = saves_tell a.saves a.said.outputs (all_handed a all).0 in (
         answered_texts a tell.none_loaded,
-        λ i. record { status = h.status_is i; report = (ap put_bytes h.sink_is ∙ append-nil a.said.report) i; outputs = (answered_outputs a ∙ tell.saved) i },
+        λ i. record { status = is i; report = (ap put_bytes (all_handed a all).1 ∙ append-nil a.said.report) i; outputs = (answered_outputs a ∙ tell.saved) i },
       )
 
-  answer_is : (a : HasAnswered reading n shelf sink) → HandsOut a.said n a.saves sink → IsAnswer n
-  answer_is a h = subst IsAnswer (sym h.status_is) (told.known a.texts a.said reading a.answers)
+  answer_is : (a : HasAnswered reading n shelf sink) → n ≡ a.said.status → IsAnswer n
+  answer_is a is = subst IsAnswer (sym is) (told.known a.texts a.said reading a.answers)
 
-  made_answers : (a : HasAnswered reading n shelf sink) → HandsOut a.said n a.saves sink → AnswersReading reading Made.texts Made.said
-  made_answers a h =
-      let is = made_is a h in
-      subst (λ (s : Said). AnswersReading reading Made.texts s) (sym is.1) (subst (λ (ts : List (List ℕ)). AnswersReading reading ts a.said) (sym is.0) a.answers)
+  made_answers : (a : HasAnswered reading n shelf sink) → n ≡ a.said.status → HandsOutAll a.parts a.saves sink → AnswersReading reading Made.texts Made.said
+  made_answers a is all =
+      let made = made_is a is all in
+      subst (λ (s : Said). AnswersReading reading Made.texts s) (sym made.1) (subst (λ (ts : List (List ℕ)). AnswersReading reading ts a.said) (sym made.0) a.answers)
 
   -- an answer was handed out, or memory ran out, or the shelf or the sink failed
   pub way : Does reading n shelf sink → AnswersReading reading Made.texts Made.said ⊎ (IsBroken n)
@@ -97,9 +96,9 @@ module _ (reading : Reading) (n : ℕ) (shelf sink : List Call) where
   way (inr (inr a)) = go a.hands
     where
       go : Handed a → AnswersReading reading Made.texts Made.said ⊎ (IsBroken n)
-      go (inl h) = inl (made_answers a h)
-      go (inr (inl f)) = inr (inr (inl f.status_is))
-      go (inr (inr f)) = inr (inr (inr f.status_is))
+      go (inl h) = inl (made_answers a h.0 h.1)
+      go (inr (inl f)) = inr (inr (inl f.0))
+      go (inr (inr f)) = inr (inr (inr f.0))
 
   -- ---- failures
 
@@ -108,29 +107,29 @@ module _ (reading : Reading) (n : ℕ) (shelf sink : List Call) where
 
   pub shelf_fails : Does reading n shelf sink → n ≡ 73 ↔ IsTrue (have_failed shelf)
   shelf_fails (inl out) = no_fault
-      (ap have_failed (out.shelf_is ∙ sym (append-nil (load_calls (files_of reading) out.texts out.unloaded))) ∙ loads_fail_none (files_of reading) out.texts out.unloaded [] out.no_fault)
+      (ap have_failed ((only_loads out).0 ∙ sym (append-nil (load_calls (files_of reading) out.texts out.unloaded))) ∙ loads_fail_none (files_of reading) out.texts out.unloaded [] out.no_fault)
       (λ e. omega (arith, e, out.status_is))
   shelf_fails (inr (inl failed)) = (λ e. ap have_failed failed.shelf_is ∙ loads_fail (files_of reading) failed.texts failed.few, λ h. failed.status_is)
   shelf_fails (inr (inr a)) = go a.hands
     where
       go : Handed a → n ≡ 73 ↔ IsTrue (have_failed shelf)
-      go (inl h) = no_fault (answered_failed a ∙ (saves_tell a.saves a.said.outputs h.saves_are).none_failed)
-          (λ e. answer_not n (answer_is a h) (inr (inl e)))
-      go (inr (inl f)) = (λ e. answered_failed a ∙ (failures_tell a.saves a.said.outputs f.saves_are).failed, λ h. f.status_is)
-      go (inr (inr f)) = no_fault (answered_failed a ∙ (saves_tell a.saves a.said.outputs f.saves_are).none_failed) (λ e. omega (arith, e, f.status_is))
+      go (inl h) = no_fault (answered_failed a ∙ (saves_tell a.saves a.said.outputs (all_handed a h.1).0).none_failed)
+          (λ e. answer_not n (answer_is a h.0) (inr (inl e)))
+      go (inr (inl f)) = (λ e. answered_failed a ∙ (failures_tell a.saves a.said.outputs (not_saved a f.1).0).failed, λ h. f.0)
+      go (inr (inr f)) = no_fault (answered_failed a ∙ (saves_tell a.saves a.said.outputs (not_put a f.1).0).none_failed) (λ e. omega (arith, e, f.0))
 
   none_put : sink ≡ [] → (n ≡ 74 → ⊥) → n ≡ 74 ↔ IsTrue (have_failed sink)
   none_put none other = (λ e. absurd (other e), λ failed. absurd (true≢false (sym failed ∙ ap have_failed none)))
 
   pub sink_fails : Does reading n shelf sink → n ≡ 74 ↔ IsTrue (have_failed sink)
-  sink_fails (inl out) = none_put out.sink_is (λ e. omega (arith, e, out.status_is))
+  sink_fails (inl out) = none_put (only_loads out).1 (λ e. omega (arith, e, out.status_is))
   sink_fails (inr (inl failed)) = none_put failed.sink_is (λ e. omega (arith, e, failed.status_is))
   sink_fails (inr (inr a)) = go a.hands
     where
       go : Handed a → n ≡ 74 ↔ IsTrue (have_failed sink)
-      go (inl h) = (λ e. absurd (answer_not n (answer_is a h) (inr (inr e))), λ failed. absurd (true≢false (sym failed ∙ ap have_failed h.sink_is)))
-      go (inr (inl f)) = none_put f.sink_is (λ e. omega (arith, e, f.status_is))
-      go (inr (inr f)) = (λ e. ap have_failed f.sink_is, λ h. f.status_is)
+      go (inl h) = (λ e. absurd (answer_not n (answer_is a h.0) (inr (inr e))), λ failed. absurd (true≢false (sym failed ∙ ap have_failed (all_handed a h.1).1)))
+      go (inr (inl f)) = none_put (not_saved a f.1).1 (λ e. omega (arith, e, f.0))
+      go (inr (inr f)) = (λ e. ap have_failed (not_put a f.1).1.sink_is, λ h. f.0)
 
   -- ---- the promises
 
@@ -147,25 +146,9 @@ module _ (reading : Reading) (n : ℕ) (shelf sink : List Call) where
   pub statuses : Does reading n shelf sink → IsAnswer n ⊎ IsBroken n
   statuses does = by_way (IsAnswer n ⊎ IsBroken n) does (λ answers. inl (told.known Made.texts Made.said reading answers)) (λ e. inr (inl e)) (λ e. inr (inr (inl e))) (λ e. inr (inr (inr e)))
 
-  abbrev pub IsIdle : (Reading → Ran → Type 0) → Reading → Type 0
-  IsIdle P r = IsBroken n → P r Made
-
-  promise : (P : Reading → Ran → Type 0) → ((texts : List (List ℕ)) (said : Said) (r : Reading) → AnswersReading r texts said → P r (told.Done texts said))
-      → IsIdle P reading → Does reading n shelf sink → P reading Made
-  promise P answered idle does = by_way (P reading Made) does (answered Made.texts Made.said reading) (λ e. idle (inl e)) (λ e. idle (inr (inl e))) (λ e. idle (inr (inr e)))
-
-  -- what is left of a promise where nothing is answered, by what the words ask
-  idle : (P : Reading → Ran → Type 0) → ((fault : CommandFault) → IsIdle P (Refused fault)) → ((solve : SolveMeaning) → IsIdle P (Read (Solve solve)))
-      → ((check : CheckMeaning) → IsIdle P (Read (Check check))) → ((journal : JournalMeaning) → IsIdle P (Read (Journal journal)))
-      → ((make : MakeMeaning) → IsIdle P (Read (Make make))) → IsIdle P reading
-  idle P refused solve check journal make = go reading
-    where
-      go : (r : Reading) → IsIdle P r
-      go (Refused fault) = refused fault
-      go (Read (Solve meaning)) = solve meaning
-      go (Read (Check meaning)) = check meaning
-      go (Read (Journal meaning)) = journal meaning
-      go (Read (Make meaning)) = make meaning
+  promise : (P : Outcome → Type 0) → ((texts : List (List ℕ)) (said : Said) (r : Reading) → AnswersReading r texts said → P (told.Done texts said r)) → (IsBroken n → P Made)
+      → Does reading n shelf sink → P Made
+  promise P answered idle does = by_way (P Made) does (answered Made.texts Made.said reading) (λ e. idle (inl e)) (λ e. idle (inr (inl e))) (λ e. idle (inr (inr e)))
 
   not_zero : IsBroken n → n ≢ 0
   not_zero = broken_is_other n 0 (omega arith)
@@ -179,108 +162,92 @@ module _ (reading : Reading) (n : ℕ) (shelf sink : List Call) where
   not_three : IsBroken n → n ≢ 3
   not_three = broken_is_other n 3 (omega arith)
 
-  pub all_of_one : Does reading n shelf sink → AllOfOnePlan reading Made
-  all_of_one = promise AllOfOnePlan told.all_of_one
-      (idle AllOfOnePlan (λ f b. tt) (λ s b e. absurd (not_zero b e)) (λ c b. tt) (λ j b. tt) (λ m b. tt))
+  pub plan : Does reading n shelf sink → PlanIsPlan Made
+  plan = promise PlanIsPlan told.plan (λ b. if_solve reading _ (λ s e. absurd (not_zero b e)))
 
-  pub plan_is_plan : Does reading n shelf sink → PlanIsPlan reading Made
-  plan_is_plan = promise PlanIsPlan told.plan_is_plan
-      (idle PlanIsPlan (λ f b. tt) (λ s b e. absurd (not_zero b e)) (λ c b. tt) (λ j b. tt) (λ m b. tt))
+  pub cheapest : Does reading n shelf sink → NoneIsCheaper Made
+  cheapest = promise NoneIsCheaper told.cheapest (λ b. if_solve reading _ (λ s e. absurd (not_zero b e)))
 
-  pub none_is_cheaper : Does reading n shelf sink → NoneIsCheaper reading Made
-  none_is_cheaper = promise NoneIsCheaper told.none_is_cheaper
-      (idle NoneIsCheaper (λ f b. tt) (λ s b e. absurd (not_zero b e)) (λ c b. tt) (λ j b. tt) (λ m b. tt))
+  pub certified : Does reading n shelf sink → CertificateHolds Made
+  certified = promise CertificateHolds told.certified
+      (λ b. record { plan = if_solve reading _ (λ s e. absurd (not_zero b e)); none = if_solve reading _ (λ s e. absurd (not_one b e)) })
 
-  pub certificate_holds : Does reading n shelf sink → CertificateHolds reading Made
-  certificate_holds = promise CertificateHolds told.certificate_holds
-      (idle CertificateHolds (λ f b. tt) (λ s b e. absurd (not_zero b e)) (λ c b. tt) (λ j b. tt) (λ m b. tt))
+  pub none : Does reading n shelf sink → NoneMeansNone Made
+  none = promise NoneMeansNone told.none (λ b. if_solve reading _ (λ s e. absurd (not_one b e)))
 
-  pub none_means_none : Does reading n shelf sink → NoneMeansNone reading Made
-  none_means_none = promise NoneMeansNone told.none_means_none
-      (idle NoneMeansNone (λ f b. not_one b) (λ s b e. absurd (not_one b e)) (λ c b. not_one b) (λ j b. not_one b) (λ m b e. absurd (not_one b e)))
+  pub stopped : Does reading n shelf sink → StopHasCause Made
+  stopped = promise StopHasCause told.stopped (λ b. if_solve reading _ (λ s e. absurd (not_two b e)))
 
-  pub certificate_of_none : Does reading n shelf sink → CertificateOfNone reading Made
-  certificate_of_none = promise CertificateOfNone told.certificate_of_none
-      (idle CertificateOfNone (λ f b. tt) (λ s b e. absurd (not_one b e)) (λ c b. tt) (λ j b. tt) (λ m b. tt))
+  pub solved : Does reading n shelf sink → SolvesHold Made
+  solved = promise SolvesHold told.solved (λ b. if_solve reading _ (λ s. record { one_plan = λ e. absurd (not_zero b e); statuses = inr b }))
 
-  pub stop_has_cause : Does reading n shelf sink → StopHasCause reading Made
-  stop_has_cause = promise StopHasCause told.stop_has_cause
-      (idle StopHasCause (λ f b. not_two b) (λ s b e. absurd (not_two b e)) (λ c b. not_two b) (λ j b. not_two b) (λ m b e. absurd (not_two b e)))
-
-  pub accepted_is_valid : Does reading n shelf sink → AcceptedIsValid reading Made
-  accepted_is_valid = promise AcceptedIsValid told.accepted_is_valid
-      (idle AcceptedIsValid (λ f b. not_zero b) (λ s b. tt) (λ c b e. absurd (not_zero b e)) (λ j b. tt) (λ m b. tt))
-
-  pub rejected_is_faulty : Does reading n shelf sink → RejectedIsFaulty reading Made
-  rejected_is_faulty = promise RejectedIsFaulty told.rejected_is_faulty
-      (idle RejectedIsFaulty (λ f b. not_three b) (λ s b. not_three b) (λ c b e. absurd (not_three b e)) (λ j b e. absurd (not_three b e)) (λ m b. not_three b))
-
-  pub named_plan_is_plan : Does reading n shelf sink → NamedPlanIsPlan reading Made
-  named_plan_is_plan = promise NamedPlanIsPlan told.named_plan_is_plan
-      (idle NamedPlanIsPlan (λ f b. tt) (λ s b e. absurd (not_zero b e)) (λ c b. tt) (λ j b. tt) (λ m b. tt))
-
-  pub named_none_means_none : Does reading n shelf sink → NamedNoneMeansNone reading Made
-  named_none_means_none = promise NamedNoneMeansNone told.named_none_means_none
-      (idle NamedNoneMeansNone (λ f b. tt) (λ s b e. absurd (not_one b e)) (λ c b. tt) (λ j b. tt) (λ m b. tt))
-
-  pub named_verdict_holds : Does reading n shelf sink → NamedVerdictHolds reading Made
-  named_verdict_holds = promise NamedVerdictHolds told.named_verdict_holds
-      (idle NamedVerdictHolds (λ f b. tt) (λ s b. tt) (λ c b e. absurd (not_zero b e)) (λ j b. tt) (λ m b. tt))
-
-  pub journal_is_legal : Does reading n shelf sink → JournalIsLegal reading Made
-  journal_is_legal = promise JournalIsLegal told.journal_is_legal
-      (idle JournalIsLegal (λ f b. tt) (λ s b. tt) (λ c b. tt) (λ j b e. absurd (not_zero b e)) (λ m b. tt))
-
-  pub made_is_least : Does reading n shelf sink → MadeIsLeast reading Made
-  made_is_least = promise MadeIsLeast told.made_is_least
-      (idle MadeIsLeast (λ f b. tt) (λ s b. tt) (λ c b. tt) (λ j b. tt) (λ m b e. absurd (not_zero b e)))
-
-  pub check_is_decided : Does reading n shelf sink → CheckIsDecided reading Made
-  check_is_decided = promise CheckIsDecided told.check_is_decided
-      (idle CheckIsDecided (λ f b. tt) (λ s b. tt) (λ c b parts certificate is. either (checked (space_of parts) (estimate_of parts) (kind_of parts) certificate) b) (λ j b. tt) (λ m b. tt))
+  pub checked_text : Does reading n shelf sink → ChecksHold Made
+  checked_text = promise ChecksHold told.checked_text (λ b. if_check reading _ (λ c. record {
+    accepted = λ e. absurd (not_zero b e);
+    rejected = λ e. absurd (not_three b e);
+    exact = λ parts certificate is. either (checked parts certificate) b;
+    rewritten = λ parts certificate is e. absurd (not_zero b e);
+    statuses = inr b;
+  }))
     where
       either : (v : Result Verdict CertificateFault) → IsBroken n → IsOfVerdict v n
       either (Ok verdict) broken = inr broken
       either (Err fault) broken = inr broken
 
-  pub journal_is_decided : Does reading n shelf sink → JournalIsDecided reading Made
-  journal_is_decided = promise JournalIsDecided told.journal_is_decided
-      (idle JournalIsDecided (λ f b. tt) (λ s b. tt) (λ c b. tt) (λ j b parts text events is legal. inr b) (λ m b. tt))
+  pub judged_text : Does reading n shelf sink → JournalsHold Made
+  judged_text = promise JournalsHold told.judged_text (λ b. if_journal reading _ (λ j. record {
+    accepted = λ e. absurd (not_zero b e);
+    rejected = λ e. absurd (not_three b e);
+    exact = λ parts text events is legal. inr b;
+    statuses = inr b;
+  }))
 
-  pub input_is_refused : Does reading n shelf sink → InputIsRefused reading Made
-  input_is_refused = promise InputIsRefused told.input_is_refused (λ broken. (λ e. absurd (broken_is_other n 65 (omega arith) broken e), λ report refuses. inr broken))
-
-  pub spelled_is_not_refused : Does reading n shelf sink → SpelledIsNotRefused reading Made
-  spelled_is_not_refused = promise SpelledIsNotRefused told.spelled_is_not_refused (λ broken spelled. broken_is_other n 65 (omega arith) broken)
+  pub made : Does reading n shelf sink → MakesHold Made
+  made = promise MakesHold told.made (λ b. if_make reading _ (λ m. record {
+    plan = λ e. absurd (not_zero b e);
+    none = λ e. absurd (not_one b e);
+    stop = λ e. absurd (not_two b e);
+    statuses = inr b;
+  }))
 
 -- if no call failed, there is an answer to the texts that were loaded, or want of memory
 pub done_is_answered : (reading : Reading) (n : ℕ) (shelf sink : List Call) → Does reading n shelf sink → have_failed shelf ≡ false → have_failed sink ≡ false
     → IsAnswered reading (loaded_texts shelf) n
 done_is_answered reading n shelf sink does shelf_done sink_done =
-    by_way reading n shelf sink (IsAnswered reading (loaded_texts shelf) n) does (told.answered (loaded_texts shelf) (ran_by n shelf sink).said reading)
+    by_way reading n shelf sink (IsAnswered reading (loaded_texts shelf) n) does (told.answered (loaded_texts shelf) (outcome_by reading n shelf sink).said reading)
     (told.memory_answers reading (loaded_texts shelf) n)
     (λ e. absurd (true≢false (sym ((shelf_fails reading n shelf sink does).0 e) ∙ shelf_done)))
     (λ e. absurd (true≢false (sym ((sink_fails reading n shelf sink does).0 e) ∙ sink_done)))
 
 -- words that are no command line name no files and ask for nothing to be saved, so the shelf doesn't fail
-pub words_are_refused : (reading : Reading) (n : ℕ) (shelf sink : List Call) → Does reading n shelf sink → WordsAreRefused reading (ran_by n shelf sink)
-words_are_refused reading n shelf sink does = promise reading n shelf sink WordsAreRefused told.words_are_refused (left reading does) does
-  where
-    left : (r : Reading) → Does r n shelf sink → IsBroken n → WordsAreRefused r (ran_by n shelf sink)
-    left (Refused fault) went (inl e) = inr (inl e)
-    left (Refused fault) went (inr (inr e)) = inr (inr e)
-    left (Refused fault) (inl out) (inr (inl e)) = absurd (omega (arith, e, out.status_is))
-    left (Refused fault) (inr (inl failed)) (inr (inl e)) = absurd (omega (arith, failed.few))
-    left (Refused fault) (inr (inr a)) (inr (inl e)) = go a.hands
-      where
-        none : FailToSaveAll a.saves a.said.outputs → ⊥
-        none fails = subst (λ (os : List Output). FailToSaveAll a.saves os) a.answers.2 fails
+abbrev IfNoCommand : Reading → (n : ℕ) → (shelf sink : List Call) → Type 0
+IfNoCommand r n shelf sink =
+    IfRefused r (λ fault. ((n ≡ 64) × IsPrinted fault (put_bytes sink) × Saves (outcome_by r n shelf sink).said []) ⊎ ((n ≡ 71) ⊎ (n ≡ 74)))
 
-        go : Handed (Refused fault) n shelf sink a → WordsAreRefused (Refused fault) (ran_by n shelf sink)
-        go (inl h) = absurd (omega (arith, e, h.status_is, a.answers.0))
-        go (inr (inl f)) = absurd (none f.saves_are)
-        go (inr (inr f)) = absurd (omega (arith, e, f.status_is))
-    left (Read meaning) went broken = broken_is_other n 64 (omega arith) broken
+no_command : (r : Reading) (n : ℕ) (shelf sink : List Call) → Does r n shelf sink → IsBroken n → IfNoCommand r n shelf sink
+no_command (Refused fault) n shelf sink went (inl e) = inr (inl e)
+no_command (Refused fault) n shelf sink went (inr (inr e)) = inr (inr e)
+no_command (Refused fault) n shelf sink (inl out) (inr (inl e)) = absurd (omega (arith, e, out.status_is))
+no_command (Refused fault) n shelf sink (inr (inl failed)) (inr (inl e)) = absurd (omega (arith, failed.few))
+no_command (Refused fault) n shelf sink (inr (inr a)) (inr (inl e)) = go a.hands
+  where
+    none : FailToSaveAll a.saves a.said.outputs → ⊥
+    none fails = subst (λ (os : List Output). FailToSaveAll a.saves os) a.answers.2 fails
+
+    go : Handed (Refused fault) n shelf sink a → IfNoCommand (Refused fault) n shelf sink
+    go (inl h) = absurd (omega (arith, e, h.0, a.answers.0))
+    go (inr (inl f)) = absurd (none (not_saved a f.1).0)
+    go (inr (inr f)) = absurd (omega (arith, e, f.0))
+no_command (Read meaning) n shelf sink went broken = tt
+
+pub refused : ReadAsSpelled → ReadingsAreSpelled → (reading : Reading) (n : ℕ) (shelf sink : List Call) → Does reading n shelf sink → RefusalHolds (outcome_by reading n shelf sink)
+refused maps boards reading n shelf sink does = promise reading n shelf sink RefusalHolds (λ texts said. told.refused texts said maps boards) (λ b. record {
+  words = no_command reading n shelf sink does b;
+  input = λ e. absurd (broken_is_other n 65 (omega arith) b e);
+  input_exact = λ report refuses. inr b;
+  spelled = λ spelled. broken_is_other n 65 (omega arith) b;
+  unsaved = λ e. absurd (broken_is_other n 65 (omega arith) b e);
+}) does
 
 -- ---- what is saved and printed
 
@@ -292,12 +259,15 @@ none_begun reading outputs none = subst (λ (os : List Output). AreSomeOf (names
 
 module _ (reading : Reading) (n : ℕ) (shelf sink : List Call) where
   no_outputs_out : (out : RunsOut reading n shelf sink) → outputs_in shelf ≡ []
-  no_outputs_out out = ap outputs_in (out.shelf_is ∙ sym (append-nil (load_calls (files_of reading) out.texts out.unloaded))) ∙ loads_save_none (files_of reading) out.texts out.unloaded []
+  no_outputs_out out = ap outputs_in ((only_loads out).0 ∙ sym (append-nil (load_calls (files_of reading) out.texts out.unloaded))) ∙ loads_save_none (files_of reading) out.texts out.unloaded []
 
   no_outputs_failed : (failed : FailsToLoad reading n shelf sink) → outputs_in shelf ≡ []
   no_outputs_failed failed = ap outputs_in (failed.shelf_is ∙ sym (append-nil (load_calls (files_of reading) failed.texts (Some Failed)))) ∙ loads_save_none (files_of reading) failed.texts (Some Failed) []
 
-  pub outputs_are_named : Does reading n shelf sink → OutputsAreNamed reading (ran_by n shelf sink)
+  abbrev pub AreNamed : Type 0
+  AreNamed = AreSomeOf (names_of (outputs_in shelf)) (saved_names reading)
+
+  pub outputs_are_named : Does reading n shelf sink → AreNamed
   outputs_are_named (inl out) = none_begun reading (outputs_in shelf) (no_outputs_out out)
   outputs_are_named (inr (inl failed)) = none_begun reading (outputs_in shelf) (no_outputs_failed failed)
   outputs_are_named (inr (inr a)) = go a.hands
@@ -305,39 +275,32 @@ module _ (reading : Reading) (n : ℕ) (shelf sink : List Call) where
       due : AreSomeOf (names_of a.said.outputs) (saved_names reading)
       due = told.outputs_are_named a.texts a.said reading a.answers
 
-      named_as : (outputs : List Output) → outputs_in shelf ≡ outputs → AreSomeOf (names_of outputs) (saved_names reading) → OutputsAreNamed reading (ran_by n shelf sink)
+      named_as : (outputs : List Output) → outputs_in shelf ≡ outputs → AreSomeOf (names_of outputs) (saved_names reading) → AreNamed
       named_as outputs is some = subst (λ (os : List Output). AreSomeOf (names_of os) (saved_names reading)) (sym is) some
 
-      whole : SaveAll a.saves a.said.outputs → OutputsAreNamed reading (ran_by n shelf sink)
+      whole : SaveAll a.saves a.said.outputs → AreNamed
       whole saves = named_as a.said.outputs (answered_outputs reading n shelf sink a ∙ (saves_tell a.saves a.said.outputs saves).saved) due
 
-      go : Handed reading n shelf sink a → OutputsAreNamed reading (ran_by n shelf sink)
-      go (inl h) = whole h.saves_are
+      go : Handed reading n shelf sink a → AreNamed
+      go (inl h) = whole (all_handed a h.1).0
       go (inr (inl f)) =
-          let tell = failures_tell a.saves a.said.outputs f.saves_are in
+          let tell = failures_tell a.saves a.said.outputs (not_saved a f.1).0 in
           named_as (outputs_in a.saves) (answered_outputs reading n shelf sink a)
           (first_are_some (names_of (outputs_in a.saves)) tell.rest (saved_names reading) (subst (λ (ns : List (List ℕ)). AreSomeOf ns (saved_names reading)) tell.named due))
-      go (inr (inr f)) = whole f.saves_are
+      go (inr (inr f)) = whole (not_put a f.1).0
 
-  pub nothing_saved : Does reading n shelf sink → (n ≡ 3) ⊎ (n ≡ 64) ⊎ (n ≡ 65) ⊎ (n ≡ 71) → outputs_in shelf ≡ []
+  pub nothing_saved : Does reading n shelf sink → n ≡ 71 → outputs_in shelf ≡ []
   nothing_saved (inl out) e = no_outputs_out out
   nothing_saved (inr (inl failed)) e = no_outputs_failed failed
   nothing_saved (inr (inr a)) e = go a.hands
     where
-      other : (k : ℕ) → k < 3 → n ≡ k → ⊥
-      other k less f = omega (arith, (unsaved_range n e).0, f, less)
-
-      neither : (k : ℕ) → 72 < k → n ≡ k → ⊥
-      neither k more f = omega (arith, (unsaved_range n e).1, f, more)
-
       go : Handed reading n shelf sink a → outputs_in shelf ≡ []
-      go (inl h) = answered_outputs reading n shelf sink a ∙ (saves_tell a.saves a.said.outputs h.saves_are).saved
-          ∙ told.nothing_to_save a.texts a.said reading a.answers (λ zero. other 0 (omega arith) (h.status_is ∙ zero)) (λ one. other 1 (omega arith) (h.status_is ∙ one)) (λ two. other 2 (omega arith) (h.status_is ∙ two))
-      go (inr (inl f)) = absurd (neither 73 (omega arith) f.status_is)
-      go (inr (inr f)) = absurd (neither 74 (omega arith) f.status_is)
+      go (inl h) = absurd (answer_not n (answer_is reading n shelf sink a h.0) (inl e))
+      go (inr (inl f)) = absurd (omega (arith, e, f.0))
+      go (inr (inr f)) = absurd (omega (arith, e, f.0))
 
   pub silent : Does reading n shelf sink → (n ≡ 71) ⊎ (n ≡ 73) → put_bytes sink ≡ []
-  silent (inl out) e = ap put_bytes out.sink_is
+  silent (inl out) e = ap put_bytes (only_loads out).1
   silent (inr (inl failed)) e = ap put_bytes failed.sink_is
   silent (inr (inr a)) e = go a.hands
     where
@@ -350,9 +313,9 @@ module _ (reading : Reading) (n : ℕ) (shelf sink : List Call) where
       not_printed (inr h) f = omega (arith, h, f)
 
       go : Handed reading n shelf sink a → put_bytes sink ≡ []
-      go (inl h) = absurd (answer_not n (answer_is reading n shelf sink a h) (broken e))
-      go (inr (inl f)) = ap put_bytes f.sink_is
-      go (inr (inr f)) = absurd (not_printed e f.status_is)
+      go (inl h) = absurd (answer_not n (answer_is reading n shelf sink a h.0) (broken e))
+      go (inr (inl f)) = ap put_bytes (not_saved a f.1).1
+      go (inr (inr f)) = absurd (not_printed e f.0)
 
   -- ---- where the shelf tells its files
 
@@ -368,9 +331,9 @@ module _ (reading : Reading) (n : ℕ) (shelf sink : List Call) where
     texts_loaded (inr (inr (a, loaded, hands))) is = go a.hands
       where
         go : Handed reading n shelf sink a → AreLoaded files (files_of reading) (loaded_texts shelf)
-        go (inl h) = subst (AreLoaded files (files_of reading)) (sym (made_is reading n shelf sink a h).0) loaded
-        go (inr (inl f)) = absurd (answer_not n is (inr (inl f.status_is)))
-        go (inr (inr f)) = absurd (answer_not n is (inr (inr f.status_is)))
+        go (inl h) = subst (AreLoaded files (files_of reading)) (sym (made_is reading n shelf sink a h.0 h.1).0) loaded
+        go (inr (inl f)) = absurd (answer_not n is (inr (inl f.0)))
+        go (inr (inr f)) = absurd (answer_not n is (inr (inr f.0)))
 
     saved_by : (a : HasAnswered reading n shelf sink) → SaveAll a.saves a.said.outputs → IfTold files files' (SavesIn a.said.outputs) → IfTold files files' (SavesIn (outputs_in shelf))
     saved_by a saves told_it = subst (λ (os : List Output). IfTold files files' (SavesIn os)) (sym (answered_outputs reading n shelf sink a ∙ (saves_tell a.saves a.said.outputs saves).saved)) told_it
@@ -380,10 +343,10 @@ module _ (reading : Reading) (n : ℕ) (shelf sink : List Call) where
     files_saved (inr (inl (failed, kept))) is = absurd (saved_not n is (inr failed.status_is))
     files_saved (inr (inr (a, loaded, hands))) is = go a.hands hands
       where
-        go : (h : Handed reading n shelf sink a) → TellsHands a.said files files' h → IfTold files files' (SavesIn (outputs_in shelf))
-        go (inl h) told_it = saved_by a h.saves_are told_it
-        go (inr (inl f)) told_it = absurd (saved_not n is (inr f.status_is))
-        go (inr (inr f)) told_it = saved_by a f.saves_are told_it
+        go : (h : Handed reading n shelf sink a) → TellsHands a.said a.parts n a.saves sink files files' h → IfTold files files' (SavesIn (outputs_in shelf))
+        go (inl h) told_it = saved_by a (all_handed a h.1).0 told_it
+        go (inr (inl f)) told_it = absurd (saved_not n is (inr f.0))
+        go (inr (inr f)) told_it = saved_by a (not_put a f.1).0 told_it
 
     pub files_kept : GoesBy reading n files files' shelf sink → n ≡ 71 → IfTold files files' KeepsAll
     files_kept (inl (out, kept)) e = kept
@@ -391,23 +354,23 @@ module _ (reading : Reading) (n : ℕ) (shelf sink : List Call) where
     files_kept (inr (inr (a, loaded, hands))) e = go a.hands
       where
         go : Handed reading n shelf sink a → IfTold files files' KeepsAll
-        go (inl h) = absurd (answer_not n (answer_is reading n shelf sink a h) (inl e))
-        go (inr (inl f)) = absurd (omega (arith, e, f.status_is))
-        go (inr (inr f)) = absurd (omega (arith, e, f.status_is))
+        go (inl h) = absurd (answer_not n (answer_is reading n shelf sink a h.0) (inl e))
+        go (inr (inl f)) = absurd (omega (arith, e, f.0))
+        go (inr (inr f)) = absurd (omega (arith, e, f.0))
 
     pub files_left : GoesBy reading n files files' shelf sink → n ≡ 73 → IfTold files files' (λ before after. KeepsAll before after ⊎ LeavesPart reading (loaded_texts shelf) before after)
     files_left (inl (out, kept)) e = absurd (omega (arith, e, out.status_is))
     files_left (inr (inl (failed, kept))) e = told_as files files' KeepsAll _ kept (λ x y h. inl h)
     files_left (inr (inr (a, loaded, hands))) e = go a.hands hands
       where
-        go : (h : Handed reading n shelf sink a) → TellsHands a.said files files' h
+        go : (h : Handed reading n shelf sink a) → TellsHands a.said a.parts n a.saves sink files files' h
             → IfTold files files' (λ before after. KeepsAll before after ⊎ LeavesPart reading (loaded_texts shelf) before after)
-        go (inl h) told_it = absurd (answer_not n (answer_is reading n shelf sink a h) (inr (inl e)))
+        go (inl h) told_it = absurd (answer_not n (answer_is reading n shelf sink a h.0) (inr (inl e)))
         go (inr (inl f)) told_it =
-            let none = (failures_tell a.saves a.said.outputs f.saves_are).none_loaded in
+            let none = (failures_tell a.saves a.said.outputs (not_saved a f.1).0).none_loaded in
             let answers = subst (λ (ts : List (List ℕ)). AnswersReading reading ts a.said) (sym (answered_texts reading n shelf sink a none)) a.answers in
             told_as files files' (SavesPartIn a.said.outputs) _ told_it (λ x y part. inr (a.said, answers, part))
-        go (inr (inr f)) told_it = absurd (omega (arith, e, f.status_is))
+        go (inr (inr f)) told_it = absurd (omega (arith, e, f.0))
 
     -- ---- files under other names
 
@@ -428,7 +391,7 @@ module _ (reading : Reading) (n : ℕ) (shelf sink : List Call) where
         none_due : (other : List ℕ) → IsNoneOf (saved_names reading) other → IsNoneOf (names_of a.said.outputs) other
         none_due other none = none_of_some (names_of a.said.outputs) (saved_names reading) other (told.outputs_are_named a.texts a.said reading a.answers) none
 
-        go : (h : Handed reading n shelf sink a) → TellsHands a.said files files' h → IfTold files files' (KeepsUnnamed reading)
+        go : (h : Handed reading n shelf sink a) → TellsHands a.said a.parts n a.saves sink files files' h → IfTold files files' (KeepsUnnamed reading)
         go (inl h) told_it = told_as files files' (SavesIn a.said.outputs) (KeepsUnnamed reading) told_it (λ x y saves other none. stay_in a.said.outputs x y other (none_due other none) saves)
         go (inr (inl f)) told_it = told_as files files' (SavesPartIn a.said.outputs) (KeepsUnnamed reading) told_it (λ x y part other none. stay_in_part a.said.outputs x y other (none_due other none) part)
         go (inr (inr f)) told_it = told_as files files' (SavesIn a.said.outputs) (KeepsUnnamed reading) told_it (λ x y saves other none. stay_in a.said.outputs x y other (none_due other none) saves)
@@ -447,8 +410,8 @@ module _ (reading : Reading) (n : ℕ) (shelf sink : List Call) where
             let same = same_texts (loads_of shelf_files (files_of reading)) (loaded_texts shelf) texts mine loads in
             subst (λ (ts : List (List ℕ)). IsAnswered reading ts n) same (by_answer (way reading n shelf sink (does by)))
           where
-            by_answer : AnswersReading reading (loaded_texts shelf) (ran_by n shelf sink).said ⊎ (IsBroken n) → IsAnswered reading (loaded_texts shelf) n
-            by_answer (inl answers) = told.answered (loaded_texts shelf) (ran_by n shelf sink).said reading answers
+            by_answer : AnswersReading reading (loaded_texts shelf) (outcome_by reading n shelf sink).said ⊎ (IsBroken n) → IsAnswered reading (loaded_texts shelf) n
+            by_answer (inl answers) = told.answered (loaded_texts shelf) (outcome_by reading n shelf sink).said reading answers
             by_answer (inr broken) = absurd (answer_not n k broken)
 
         go : (f : Option Files) → files ≡ f → IsComplete reading f n
@@ -468,8 +431,9 @@ module _ (reading : Reading) (n : ℕ) (files files' : Option Files) (shelf shel
   since P k is f = subst (λ m. P m (calls_since shelf shelf') (calls_since sink sink')) (sym is)
       (subst (λ (calls : List Call). P n calls (calls_since sink sink')) (sym own_calls) (subst (λ (calls : List Call). P n goes.0 calls) (sym own_puts) (f goes.4)))
 
-  pub promised : (P : Reading → Ran → Type 0) → ((m : ℕ) (own out : List Call) → Does reading m own out → P reading (ran_by m own out)) → (k : ℕ) → k ≡ n → P reading (ran k shelf shelf' sink sink')
-  promised P f k is = since (λ m own out. P reading (ran_by m own out)) k is (λ by. f n goes.0 goes.1 (does reading n goes.0 goes.1 files files' by))
+  pub promised : (P : Outcome → Type 0) → ((m : ℕ) (own out : List Call) → Does reading m own out → P (outcome_by reading m own out)) → (k : ℕ) → k ≡ n
+      → P (outcome_by reading k (calls_since shelf shelf') (calls_since sink sink'))
+  promised P f k is = since (λ m own out. P (outcome_by reading m own out)) k is (λ by. f n goes.0 goes.1 (does reading n goes.0 goes.1 files files' by))
 
   pub does_since : (k : ℕ) → k ≡ n → DoesSince reading k shelf shelf' sink sink'
   does_since k is = record {

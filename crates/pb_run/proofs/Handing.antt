@@ -11,15 +11,19 @@ use Rattle.pb_answer.specs.Statuses.{number_of}
 use Rattle.pb_answer.specs.Outputs.{Output, output}
 use Rattle.pb_run.specs.Calls.{load_calls, CanHold}
 use Rattle.pb_run.specs.Loads.{AreLoaded}
-use Rattle.pb_answer.specs.Answer.{Said, AnswersReading}
-use Rattle.pb_run.specs.Course.{HandsOut, FailsToSave, FailsToPut, HasAnswered}
-use Rattle.pb_run.specs.Headline.{IsAnswer, CanServe}
+use Rattle.pb_answer.specs.Answer.{Said}
+use Rattle.pb_run.specs.Answers.{AnswersReading}
+use Rattle.pb_run.specs.Handing.{HandsOutParts}
+use Rattle.pb_run.specs.Course.{HasAnswered}
+use Rattle.pb_run.specs.Outcome.{IsAnswer}
+use Rattle.pb_run.specs.Served.{CanServe}
 use Rattle.pb_run.specs.Fit.{IfShelf, status_of}
 use Rattle.pb_run.specs.Contents.{SavesIn, SavesPartIn, LoadsAll, LoadsUpTo, Hands, HandsTold, Goes, WritesPut}
 use Rattle.pb_run.specs.declared.load.Fault.{Fault}
 use Rattle.pb_run.specs.declared.load.Fault.TheVariants.{OutOfMemory, ShelfFailed}
 use Rattle.pb_run.specs.declared.output.Ending.TheVariants.{Done, NotSaved, NotPrinted}
 use Rattle.pb_run.proofs.CallLists.{ended_few, ended_no_fault}
+use Rattle.pb_run.proofs.Handed.{whole, hands_all, fails_to_save, fails_to_put}
 use Rattle.pb_run.proofs.Saving.{after_kept, part_kept}
 use Rattle.pb_run.proofs.Told as told
 
@@ -47,7 +51,7 @@ writes_none written sink = ([], sym (append-nil sink), same written)
 module _ (reading : Reading) (files files' : Option Files) (shelf shelf' sink : List Call) where
   pub goes_failed : (fault : Fault) (n : ℕ) → n ≡ number_of (status_of fault) → LoadsUpTo shelf shelf' (files_of reading) fault → IfTold files files' KeepsAll → Goes reading n files files' shelf shelf' sink sink
   goes_failed OutOfMemory n is (texts, unloaded, few, none, are) kept =
-      (load_calls (files_of reading) texts unloaded, [], are, sym (append-nil sink), inl (record { texts = texts; unloaded = unloaded; few = few; no_fault = none; status_is = is; shelf_is = refl; sink_is = refl }, kept))
+      (load_calls (files_of reading) texts unloaded, [], are, sym (append-nil sink), inl (record { texts = texts; unloaded = unloaded; few = few; no_fault = none; status_is = is; parts = []; parts_are = refl; saves = []; shelf_is = sym (append-nil (load_calls (files_of reading) texts unloaded)); hands = (refl, refl) }, kept))
   goes_failed ShelfFailed n is (texts, few, are) kept =
       (load_calls (files_of reading) texts (Some Failed), [], are, sym (append-nil sink), inr (inl (record { texts = texts; few = few; status_is = is; shelf_is = refl; sink_is = refl }, kept)))
 
@@ -57,7 +61,7 @@ module _ (reading : Reading) (files files' : Option Files) (shelf shelf' sink : 
     [],
     are,
     sym (append-nil sink),
-    inl (record { texts = texts; unloaded = unloaded; few = ended_few (files_of reading) texts unloaded ends; no_fault = ended_no_fault (files_of reading) texts unloaded ends; status_is = is; shelf_is = refl; sink_is = refl }, kept),
+    inl (record { texts = texts; unloaded = unloaded; few = ended_few (files_of reading) texts unloaded ends; no_fault = ended_no_fault (files_of reading) texts unloaded ends; status_is = is; parts = []; parts_are = refl; saves = []; shelf_is = sym (append-nil (load_calls (files_of reading) texts unloaded)); hands = (refl, refl) }, kept),
   )
 
 pub sure_failed : (reading : Reading) (files : Option Files) (can_load : List ℕ → Type 0) (can_hold : List ℕ → ℕ → Type 0) (can_take : ℕ → Type 0) (fault : Fault) (n : ℕ) → n ≡ number_of (status_of fault)
@@ -72,10 +76,10 @@ module _ (reading : Reading) (files between files' : Option Files) (shelf mid sh
   all_calls saves is = is ∙ ap (λ (calls : List Call). calls ++ saves) loads.2 ∙ append_assoc shelf (load_calls (files_of reading) texts loads.0) saves
 
   -- the answer was handed out as far as these calls go
-  abbrev answered : (n : ℕ) (saves puts : List Call) → HandsOut said n saves puts ⊎ (FailsToSave said n saves puts ⊎ FailsToPut said n saves puts)
+  abbrev answered : (n : ℕ) (saves puts : List Call) → HandsOutParts said (whole said ∷ []) n saves puts
       → HasAnswered reading n (load_calls (files_of reading) texts loads.0 ++ saves) puts
   answered n saves puts hands =
-      record { texts = texts; unloaded = loads.0; ends = loads.1; said = said; answers = answers; saves = saves; shelf_is = refl; hands = hands }
+      record { texts = texts; unloaded = loads.0; ends = loads.1; said = said; answers = answers; parts = whole said ∷ []; parts_are = refl; saves = saves; shelf_is = refl; hands = hands }
 
   kept_then : (P : Files → Files → Type 0) → ((x y z : Files) → KeepsAll x y → P y z → P x z) → IfTold between files' P → IfTold files files' P
   kept_then P f h = told_then files between files' KeepsAll P P kept h f
@@ -87,7 +91,7 @@ module _ (reading : Reading) (files between files' : Option Files) (shelf mid sh
     all_calls saves saved,
     noted,
     inr (inr (
-      answered n saves (Put said.report ∷ []) (inl (record { status_is = is; saves_are = save; sink_is = refl })),
+      answered n saves (Put said.report ∷ []) (hands_all said n saves is save),
       are,
       kept_then (SavesIn said.outputs) (after_kept said.outputs) tells,
     )),
@@ -100,7 +104,7 @@ module _ (reading : Reading) (files between files' : Option Files) (shelf mid sh
     all_calls saves saved,
     same ∙ sym (append-nil sink),
     inr (inr (
-      answered n saves [] (inr (inl (record { status_is = is; saves_are = save; sink_is = refl }))),
+      answered n saves [] (fails_to_save said n saves is save),
       are,
       kept_then (SavesPartIn said.outputs) (part_kept said.outputs) tells,
     )),
@@ -113,7 +117,7 @@ module _ (reading : Reading) (files between files' : Option Files) (shelf mid sh
     all_calls saves saved,
     failed.noted,
     inr (inr (
-      answered n saves (PutFailed said.report failed.kept ∷ []) (inr (inr (record { kept = failed.kept; within = failed.within; status_is = is; saves_are = save; sink_is = refl }))),
+      answered n saves (PutFailed said.report failed.kept ∷ []) (fails_to_put said n saves is failed.kept failed.within save),
       are,
       kept_then (SavesIn said.outputs) (after_kept said.outputs) tells,
     )),

@@ -1,9 +1,14 @@
 mod Some
+mod MadeTasks
+mod ByCommand
 mod Saving
 mod Loads
 mod Told
 mod CallLists
 mod Loading
+mod Handed
 mod Doing
 mod Handing
+mod ByKind
+mod Clauses
 mod Accepted

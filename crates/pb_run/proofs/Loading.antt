@@ -11,7 +11,7 @@ use Rattle.pb_run.specs.Calls.{load_calls}
 use Rattle.pb_run.specs.Files.{wanted_of, LoadsText}
 use Rattle.pb_run.specs.Fit.{IfShelf, reason_of, NotesLoad}
 use Rattle.pb_run.specs.Contents.{LoadsAll, LoadsUpTo}
-use Rattle.pb_run.specs.declared.files.Wanted.{Wanted as WantedFile}
+use Rattle.pb_command.specs.declared.files.LoadedFile.{LoadedFile as WantedFile}
 use Rattle.pb_run.specs.declared.load.Fault.{Fault}
 use Rattle.pb_run.specs.declared.load.Fault.TheVariants.{OutOfMemory, ShelfFailed}
 use Rattle.pb_run.proofs.CallLists.{no_loads, load_more, load_fails}

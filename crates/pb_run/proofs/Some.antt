@@ -1,6 +1,6 @@
 -- Some of the names of a list, in their order.
 use Rattle.std.proofs.Common.{inl, inr, ℕ, List, [], ◌∷◌, ◌++◌, refl, ◌∙◌}
-use Rattle.pb_run.specs.Headline.{AreSomeOf}
+use Rattle.pb_run.specs.Served.{AreSomeOf}
 use Rattle.pb_run.specs.Contents.{IsNoneOf}
 
 pub all_are_some : (names : List (List ℕ)) → AreSomeOf names names
@@ -14,6 +14,11 @@ some_after first (name ∷ begun) names some = inr some
 pub some_behind : (before begun names : List (List ℕ)) → AreSomeOf begun names → AreSomeOf begun (before ++ names)
 some_behind [] begun names some = some
 some_behind (first ∷ before) begun names some = some_after first begun (before ++ names) (some_behind before begun names some)
+
+-- with the same names before both
+pub some_with : (before begun names : List (List ℕ)) → AreSomeOf begun names → AreSomeOf (before ++ begun) (before ++ names)
+some_with [] begun names some = some
+some_with (first ∷ before) begun names some = inl (refl, some_with before begun names some)
 
 -- the first of them are some too
 pub first_are_some : (begun rest names : List (List ℕ)) → AreSomeOf (begun ++ rest) names → AreSomeOf begun names

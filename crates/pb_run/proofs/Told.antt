@@ -1,41 +1,53 @@
 -- What is answered of the words and of the texts that were loaded, promise by promise.
 use Rattle.std.proofs.Common.{◌≡◌, ◌≢◌, ◌⊎◌, inl, inr, ℕ, Option, None, Some, List, [], ◌∷◌, ◌++◌, map, Result, Ok, Err, refl, sym, ap, subst, ◌∙◌, arith}
-use Rattle.pb_model.specs.Plan.{Plan}
+use Rattle.pb_model.specs.Plan.{Plan, HasNoPlan}
 use Rattle.pb_model.specs.Texts.{none_report, stopped_report}
 use Rattle.pb_task.specs.declared.parts.TaskParts.{TaskParts}
 use Rattle.pb_task.specs.Parts.{space_of}
-use Rattle.pb_estimate.specs.Estimates.{estimate_of}
 use Rattle.pb_check.specs.Judging.{checked}
-use Rattle.pb_check.specs.Kinds.{kind_of}
-use Rattle.pb_command.specs.Meaning.{Reading, Refused, Read, Solve, Check, Journal, Make, SolveMeaning, MakeMeaning}
+use Rattle.pb_grid.specs.Laws.{ReadAsSpelled}
+use Rattle.pb_tiles.specs.Laws.{ReadingsAreSpelled}
+use Rattle.pb_command.specs.declared.refusal.CommandFault.{CommandFault}
+use Rattle.pb_command.specs.Causes.{IsPrinted}
+use Rattle.pb_command.specs.Meaning.{Reading, Refused, Read, Solve, Check, Journal, Make, SolveMeaning, CheckMeaning, JournalMeaning, MakeMeaning}
 use Rattle.pb_run.specs.Asked.{listed, saved_names}
 use Rattle.pb_answer.specs.Outputs.{Output}
-use Rattle.pb_answer.specs.Loaded.{solve_task, check_task, journal_task, OfTexts}
+use Rattle.pb_answer.specs.Loaded.{solve_task, check_task, journal_task, OfTexts, RefusesTexts}
 use Rattle.pb_machine.specs.declared.event.Event.{Event}
 use Rattle.pb_machine.specs.declared.settings.Settings.{Settings}
 use Rattle.pb_model.specs.Guide.{Guide}
 use Rattle.pb_model.specs.Store.{Store}
 use Rattle.pb_model.specs.Weight.{Weight}
-use Rattle.pb_answer.specs.Searches.{settings_of}
-use Rattle.pb_answer.specs.Claims.{IsCertificate, journal_outputs, Certifies, Stops, Solves, Accepts, Rejects}
+use Rattle.pb_answer.specs.Searches.{settings_of, weight_asked}
+use Rattle.pb_answer.specs.Claims.{IsCertificate, journal_outputs, journal_outputs_if_any, Certifies, Stops, Solves, PrintsPlan, PrintsLeastCost, SavesPlan, Accepts, Rejects}
 use Rattle.pb_answer.specs.Journals.{AcceptsJournal, RejectsJournal}
-use Rattle.pb_answer.specs.Makes.{MakesPlan, MakesNone, MakesStop}
-use Rattle.pb_answer.specs.Answer.{Said, Says, Saves, IsSolved, IsUnsolvable, IsStopped, IsFound, IsChecked, IsJudged, IsMade, IsRefused, OrRefused, AnswersReading}
-use Rattle.pb_run.specs.Course.{Ran}
-use Rattle.pb_run.specs.Headline.{IsAnswer, AllOfOnePlan, PlanIsPlan, NoneIsCheaper, CertificateHolds, NoneMeansNone, CertificateOfNone, StopHasCause, AcceptedIsValid, RejectedIsFaulty, IsOfVerdict, CheckIsDecided, JournalIsLegal, JournalIsDecided, MadeIsLeast, NamedPlanIsPlan, NamedNoneMeansNone, NamedVerdictHolds, WordsAreRefused, InputIsRefused, SpelledIsNotRefused, AreSomeOf, OutputsAreNamed, IsAnswered}
-use Rattle.pb_run.proofs.Some.{all_are_some, some_behind}
-use Rattle.pb_answer.proofs.Callers.{never_refused, solved_by_names, none_by_names, accepted_by_names}
+use Rattle.pb_answer.specs.Answer.{Said, Says, Saves, IsSolved, IsUnsolvable, IsStopped, IsFound, IsChecked, IsJudged, IsRefused, OrRefused}
+use Rattle.pb_run.specs.Makes.{MakesPlan, MakesNone, MakesStop}
+use Rattle.pb_run.specs.Answers.{IsMade, AnswersReading}
+use Rattle.pb_run.specs.Outcome.{Outcome, IsAnswer, AnswersOneOf}
+use Rattle.pb_run.specs.Headline.{PlanIsPlan, NoneIsCheaper, CertificateHolds, NoneMeansNone, StopHasCause}
+use Rattle.pb_run.specs.Commands.{IsOfVerdict, SolveHolds, CheckHolds, JournalHolds, MakeHolds, SolvesHold, ChecksHold, JournalsHold, MakesHold, RefusalHolds}
+use Rattle.pb_run.specs.Served.{AreSomeOf, IsAnswered}
+use Rattle.pb_run.proofs.ByCommand.{of_refused, of_solve, of_check, of_journal, of_make}
+use Rattle.pb_run.proofs.Some.{all_are_some, some_behind, some_with}
+use Rattle.pb_answer.proofs.Callers.{never_refused}
 
 module _ (texts : List (List ℕ)) (said : Said) where
-  abbrev pub Done : Ran
-  Done = record { texts = texts; said = said }
+  abbrev pub Done : Reading → Outcome
+  Done reading = record { asked = reading; texts = texts; said = said }
+
+  abbrev pub Answered : Reading → Type 0
+  Answered reading = AnswersReading reading texts said
 
   -- ---- the names of what is saved
 
   abbrev pub names_of : List Output → List (List ℕ)
   names_of outputs = map (λ (o : Output). o.name) outputs
 
-  none_named : (reading : Reading) → said.outputs ≡ [] → OutputsAreNamed reading Done
+  abbrev pub AreNamed : Reading → Type 0
+  AreNamed reading = AreSomeOf (names_of said.outputs) (saved_names reading)
+
+  none_named : (reading : Reading) → said.outputs ≡ [] → AreNamed reading
   none_named reading none = subst (λ (os : List Output). AreSomeOf (names_of os) (saved_names reading)) (sym none) tt
 
   -- ---- texts that are refused, and others
@@ -85,9 +97,9 @@ module _ (texts : List (List ℕ)) (said : Said) where
     of_two P f two = by_end (OfTexts solve texts P) (λ parts is h. absurd (omega (arith, two, h.0)))
         (λ parts is h. absurd (omega (arith, two, h.0))) (λ parts is h. (parts, is, f parts h)) (λ is h. absurd (omega (arith, two, h.0)))
 
-    search_other : (n : ℕ) → n ≢ 0 → n ≢ 1 → n ≢ 2 → n ≢ 65 → said.status ≢ n
-    search_other n not_zero not_one not_two not_refused e = by_end ⊥ (λ parts is h. not_zero (sym e ∙ h.0))
-        (λ parts is h. not_one (sym e ∙ h.0)) (λ parts is h. not_two (sym e ∙ h.0)) (λ is h. not_refused (sym e ∙ h.0))
+    search_statuses : AnswersOneOf (0 ∷ 1 ∷ 2 ∷ 65 ∷ []) (Done (Read (Solve solve)))
+    search_statuses = by_end (AnswersOneOf (0 ∷ 1 ∷ 2 ∷ 65 ∷ []) (Done (Read (Solve solve)))) (λ parts is h. inl (inl h.0)) (λ parts is h. inl (inr (inl h.0)))
+        (λ parts is h. inl (inr (inr (inl h.0)))) (λ is h. inl (inr (inr (inr (inl h.0)))))
 
     solve_refused : said.status ≡ 65 → solve_task solve texts ≡ Err said.report
     solve_refused e = by_end (solve_task solve texts ≡ Err said.report) (λ parts is h. absurd (omega (arith, e, h.0)))
@@ -104,25 +116,32 @@ module _ (texts : List (List ℕ)) (said : Said) where
     journal_names None settings journal = refl
     journal_names (Some name) settings journal = refl
 
+    -- an engine that keeps no journal saves none
+    kept_names : (given : Option (List ℕ)) (settings : Settings) (journal : Option (List Event)) → AreSomeOf (names_of (journal_outputs_if_any given settings journal)) (listed given)
+    kept_names given settings None = tt
+    kept_names given settings (Some journal) = subst (λ (ns : List (List ℕ)). AreSomeOf ns (listed given)) (sym (journal_names given settings journal)) (all_are_some (listed given))
+
     names_joined : (a b : List Output) → names_of (a ++ b) ≡ names_of a ++ names_of b
     names_joined [] b = refl
     names_joined (o ∷ a) b = ap (λ (ns : List (List ℕ)). o.name ∷ ns) (names_joined a b)
 
-    certified_named : (parts : TaskParts) (plan : Option Plan) → Certifies (Saves said) solve parts plan → OutputsAreNamed (Read (Solve solve)) Done
-    certified_named parts plan (journal, found, outputs, is_certificate, saves) =
-        let names : names_of said.outputs ≡ listed solve.certificate ++ listed solve.journal =
-        ap names_of saves ∙ names_joined outputs (journal_outputs solve.journal (settings_of solve) journal)
-        ∙ (λ i. certificate_names parts solve.certificate _ _ _ plan outputs is_certificate i ++ journal_names solve.journal (settings_of solve) journal i) in
-        subst (λ (ns : List (List ℕ)). AreSomeOf ns (listed solve.certificate ++ listed solve.journal)) (sym names) (all_are_some (listed solve.certificate ++ listed solve.journal))
-
-    stopped_named : (parts : TaskParts) → Stops (Saves said) solve parts → OutputsAreNamed (Read (Solve solve)) Done
-    stopped_named parts (journal, run, saves) =
-        let names : names_of said.outputs ≡ listed solve.journal = ap names_of saves ∙ journal_names solve.journal (settings_of solve) journal in
+    certified_named : (parts : TaskParts) (plan : Option Plan) → Certifies (Saves said) solve parts plan → AreNamed (Read (Solve solve))
+    certified_named parts plan (left, searched, found, outputs, is_certificate, saves) =
+        let journals = journal_outputs_if_any solve.journal (settings_of solve) left.journal in
+        let names : names_of said.outputs ≡ listed solve.certificate ++ names_of journals =
+        ap names_of saves ∙ names_joined outputs journals
+        ∙ ap (λ (ns : List (List ℕ)). ns ++ names_of journals) (certificate_names parts solve.certificate _ _ _ plan outputs is_certificate) in
         subst (λ (ns : List (List ℕ)). AreSomeOf ns (listed solve.certificate ++ listed solve.journal)) (sym names)
-        (some_behind (listed solve.certificate) (listed solve.journal) (listed solve.journal) (all_are_some (listed solve.journal)))
+        (some_with (listed solve.certificate) (names_of journals) (listed solve.journal) (kept_names solve.journal (settings_of solve) left.journal))
 
-    solve_named : OutputsAreNamed (Read (Solve solve)) Done
-    solve_named = by_end (OutputsAreNamed (Read (Solve solve)) Done) (λ parts is h. certified_named parts (Some h.1.0) h.1.6)
+    stopped_named : (parts : TaskParts) → Stops (Saves said) solve parts → AreNamed (Read (Solve solve))
+    stopped_named parts (left, searched, saves) =
+        let journals = journal_outputs_if_any solve.journal (settings_of solve) left.journal in
+        subst (λ (os : List Output). AreSomeOf (names_of os) (listed solve.certificate ++ listed solve.journal)) (sym saves)
+        (some_behind (listed solve.certificate) (names_of journals) (listed solve.journal) (kept_names solve.journal (settings_of solve) left.journal))
+
+    solve_named : AreNamed (Read (Solve solve))
+    solve_named = by_end (AreNamed (Read (Solve solve))) (λ parts is h. certified_named parts (Some h.1.0) h.1.6)
         (λ parts is h. certified_named parts None h.3) (λ parts is h. stopped_named parts h.2) (λ is h. none_named (Read (Solve solve)) h.2)
 
     solve_saves_none : (said.status ≡ 0 → ⊥) → (said.status ≡ 1 → ⊥) → (said.status ≡ 2 → ⊥) → said.outputs ≡ []
@@ -172,9 +191,9 @@ module _ (texts : List (List ℕ)) (said : Said) where
       rejected three = by_verdict (Holds (Bad (Says said))) (λ parts text is h. absurd (omega (arith, three, h.0))) (λ parts text is h. (parts, text, is, h.2))
           (λ is h. absurd (omega (arith, three, h.0)))
 
-      verdict_other : (n : ℕ) → n ≢ 0 → n ≢ 3 → n ≢ 65 → said.status ≢ n
-      verdict_other n not_zero not_three not_refused e = by_verdict ⊥ (λ parts text is h. not_zero (sym e ∙ h.0)) (λ parts text is h. not_three (sym e ∙ h.0))
-          (λ is h. not_refused (sym e ∙ h.0))
+      verdict_statuses : (reading : Reading) → AnswersOneOf (0 ∷ 3 ∷ 65 ∷ []) (Done reading)
+      verdict_statuses reading = by_verdict (AnswersOneOf (0 ∷ 3 ∷ 65 ∷ []) (Done reading)) (λ parts text is h. inl (inl h.0)) (λ parts text is h. inl (inr (inl h.0)))
+          (λ is h. inl (inr (inr (inl h.0))))
 
       verdict_refused : said.status ≡ 65 → task ≡ Err said.report
       verdict_refused e = by_verdict (task ≡ Err said.report) (λ parts text is h. absurd (omega (arith, e, h.0))) (λ parts text is h. absurd (omega (arith, e, h.0))) (λ is h. is)
@@ -214,8 +233,11 @@ module _ (texts : List (List ℕ)) (said : Said) where
     made_two : said.status ≡ 2 → MakesStop (Says said) make
     made_two two = by_made (MakesStop (Says said) make) (λ h. absurd (omega (arith, two, h.0))) (λ h. absurd (omega (arith, two, h.0))) (λ h. h.2)
 
-    made_other : (n : ℕ) → n ≢ 0 → n ≢ 1 → n ≢ 2 → said.status ≢ n
-    made_other n not_zero not_one not_two e = by_made ⊥ (λ h. not_zero (sym e ∙ h.0)) (λ h. not_one (sym e ∙ h.0)) (λ h. not_two (sym e ∙ h.0))
+    made_statuses : AnswersOneOf (0 ∷ 1 ∷ 2 ∷ []) (Done (Read (Make make)))
+    made_statuses = by_made (AnswersOneOf (0 ∷ 1 ∷ 2 ∷ []) (Done (Read (Make make)))) (λ h. inl (inl h.0)) (λ h. inl (inr (inl h.0))) (λ h. inl (inr (inr (inl h.0))))
+
+    made_is_read : said.status ≢ 65
+    made_is_read e = by_made ⊥ (λ h. omega (arith, e, h.0)) (λ h. omega (arith, e, h.0)) (λ h. omega (arith, e, h.0))
 
     made_saves_none : said.outputs ≡ []
     made_saves_none = by_made (said.outputs ≡ []) (λ h. h.1) (λ h. h.1) (λ h. h.1)
@@ -232,173 +254,135 @@ module _ (texts : List (List ℕ)) (said : Said) where
   known (Read (Journal journal)) answers = verdict_known (journal_task journal texts) AcceptsJournal RejectsJournal answers
   known (Read (Make make)) answers = made_known make answers
 
-  -- ---- the promises
+  -- ---- the promises to whoever solves
 
-  pub all_of_one : (reading : Reading) → AnswersReading reading texts said → AllOfOnePlan reading Done
-  all_of_one (Refused fault) answers = tt
-  all_of_one (Read (Solve solve)) answers = of_zero solve answers (Solves (Says said) (Saves said) solve) (λ parts is. is.1)
-  all_of_one (Read (Check check)) answers = tt
-  all_of_one (Read (Journal journal)) answers = tt
-  all_of_one (Read (Make make)) answers = tt
-
-  pub plan_is_plan : (reading : Reading) → AnswersReading reading texts said → PlanIsPlan reading Done
-  plan_is_plan (Refused fault) answers = tt
-  plan_is_plan (Read (Solve solve)) answers = of_zero solve answers _ (λ parts is. (is.1.0, is.1.1, is.1.2, is.1.3, is.1.4))
-  plan_is_plan (Read (Check check)) answers = tt
-  plan_is_plan (Read (Journal journal)) answers = tt
-  plan_is_plan (Read (Make make)) answers = tt
-
-  pub none_is_cheaper : (reading : Reading) → AnswersReading reading texts said → NoneIsCheaper reading Done
-  none_is_cheaper (Refused fault) answers = tt
-  none_is_cheaper (Read (Solve solve)) answers = of_zero solve answers _ (λ parts is. is.2)
-  none_is_cheaper (Read (Check check)) answers = tt
-  none_is_cheaper (Read (Journal journal)) answers = tt
-  none_is_cheaper (Read (Make make)) answers = tt
-
-  pub certificate_holds : (reading : Reading) → AnswersReading reading texts said → CertificateHolds reading Done
-  certificate_holds (Refused fault) answers = tt
-  certificate_holds (Read (Solve solve)) answers = of_zero solve answers _ (λ parts is. is.3)
-  certificate_holds (Read (Check check)) answers = tt
-  certificate_holds (Read (Journal journal)) answers = tt
-  certificate_holds (Read (Make make)) answers = tt
-
-  report_of_none : (solve : SolveMeaning) → OfTexts solve texts (λ parts. Says said none_report) → Says said none_report
-  report_of_none solve h = h.2
-
-  pub none_means_none : (reading : Reading) → AnswersReading reading texts said → NoneMeansNone reading Done
-  none_means_none (Refused fault) answers = λ one. omega (arith, one, answers.0)
-  none_means_none (Read (Solve solve)) answers = λ one. (
-    report_of_none solve (of_one solve answers (λ parts. Says said none_report) (λ parts is. is.1) one),
-    of_one solve answers _ (λ parts is. is.2) one,
-  )
-  none_means_none (Read (Check check)) answers = verdict_other (check_task check texts) Accepts Rejects answers 1 (λ e. omega (arith, e)) (λ e. omega (arith, e)) (λ e. omega (arith, e))
-  none_means_none (Read (Journal journal)) answers = verdict_other (journal_task journal texts) AcceptsJournal RejectsJournal answers 1 (λ e. omega (arith, e)) (λ e. omega (arith, e)) (λ e. omega (arith, e))
-  none_means_none (Read (Make make)) answers = made_one make answers
-
-  pub certificate_of_none : (reading : Reading) → AnswersReading reading texts said → CertificateOfNone reading Done
-  certificate_of_none (Refused fault) answers = tt
-  certificate_of_none (Read (Solve solve)) answers = of_one solve answers _ (λ parts is. is.3)
-  certificate_of_none (Read (Check check)) answers = tt
-  certificate_of_none (Read (Journal journal)) answers = tt
-  certificate_of_none (Read (Make make)) answers = tt
-
-  pub stop_has_cause : (reading : Reading) → AnswersReading reading texts said → StopHasCause reading Done
-  stop_has_cause (Refused fault) answers = λ two. omega (arith, two, answers.0)
-  stop_has_cause (Read (Solve solve)) answers = λ two. (
-    (of_two solve answers (λ parts. Says said (stopped_report solve.budget)) (λ parts is. is.1) two).2,
-    of_two solve answers (Stops (Saves said) solve) (λ parts is. is.2) two,
-  )
-  stop_has_cause (Read (Check check)) answers = verdict_other (check_task check texts) Accepts Rejects answers 2 (λ e. omega (arith, e)) (λ e. omega (arith, e)) (λ e. omega (arith, e))
-  stop_has_cause (Read (Journal journal)) answers = verdict_other (journal_task journal texts) AcceptsJournal RejectsJournal answers 2 (λ e. omega (arith, e)) (λ e. omega (arith, e)) (λ e. omega (arith, e))
-  stop_has_cause (Read (Make make)) answers = made_two make answers
-
-  pub accepted_is_valid : (reading : Reading) → AnswersReading reading texts said → AcceptedIsValid reading Done
-  accepted_is_valid (Refused fault) answers = λ zero. omega (arith, zero, answers.0)
-  accepted_is_valid (Read (Solve solve)) answers = tt
-  accepted_is_valid (Read (Check check)) answers = accepted (check_task check texts) Accepts Rejects answers
-  accepted_is_valid (Read (Journal journal)) answers = tt
-  accepted_is_valid (Read (Make make)) answers = tt
-
-  pub rejected_is_faulty : (reading : Reading) → AnswersReading reading texts said → RejectedIsFaulty reading Done
-  rejected_is_faulty (Refused fault) answers = λ three. omega (arith, three, answers.0)
-  rejected_is_faulty (Read (Solve solve)) answers = search_other solve answers 3 (λ e. omega (arith, e)) (λ e. omega (arith, e)) (λ e. omega (arith, e)) (λ e. omega (arith, e))
-  rejected_is_faulty (Read (Check check)) answers = rejected (check_task check texts) Accepts Rejects answers
-  rejected_is_faulty (Read (Journal journal)) answers = rejected (journal_task journal texts) AcceptsJournal RejectsJournal answers
-  rejected_is_faulty (Read (Make make)) answers = made_other make answers 3 (λ e. omega (arith, e)) (λ e. omega (arith, e)) (λ e. omega (arith, e))
-
-  pub check_is_decided : (reading : Reading) → AnswersReading reading texts said → CheckIsDecided reading Done
-  check_is_decided (Refused fault) answers = tt
-  check_is_decided (Read (Solve solve)) answers = tt
-  check_is_decided (Read (Check check)) answers = λ parts certificate is. go parts certificate (of_task (check_task check texts) (λ t. IsChecked t.0 t.1) answers (parts, certificate) is)
+  pub plan : (reading : Reading) → Answered reading → PlanIsPlan (Done reading)
+  plan = of_solve Answered _ at
     where
-      go : (parts : TaskParts) (certificate : List ℕ) → IsChecked parts certificate said → IsOfVerdict (checked (space_of parts) (estimate_of parts) (kind_of parts) certificate) said.status
-      go parts certificate (inl valid) = subst (λ v. IsOfVerdict v said.status) (sym valid.2.2) (inl valid.0)
-      go parts certificate (inr faulty) = subst (λ v. IsOfVerdict v said.status) (sym faulty.2.2) (inl faulty.0)
-  check_is_decided (Read (Journal journal)) answers = tt
-  check_is_decided (Read (Make make)) answers = tt
+      at : (solve : SolveMeaning) → Answered (Read (Solve solve)) → said.status ≡ 0 → OfTexts solve texts (λ parts. PrintsPlan (Says said) parts (weight_asked solve))
+      at solve answers = of_zero solve answers _ (λ parts is. (is.1.0, is.1.1, is.1.2, is.1.3, is.1.4))
 
-  -- ---- of journals and of made tasks
+  pub cheapest : (reading : Reading) → Answered reading → NoneIsCheaper (Done reading)
+  cheapest = of_solve Answered _ at
+    where
+      at : (solve : SolveMeaning) → Answered (Read (Solve solve)) → said.status ≡ 0 → OfTexts solve texts (λ parts. PrintsLeastCost (Says said) parts (weight_asked solve))
+      at solve answers = of_zero solve answers _ (λ parts is. is.2)
 
-  pub journal_is_legal : (reading : Reading) → AnswersReading reading texts said → JournalIsLegal reading Done
-  journal_is_legal (Refused fault) answers = tt
-  journal_is_legal (Read (Solve solve)) answers = tt
-  journal_is_legal (Read (Check check)) answers = tt
-  journal_is_legal (Read (Journal journal)) answers = accepted (journal_task journal texts) AcceptsJournal RejectsJournal answers
-  journal_is_legal (Read (Make make)) answers = tt
+  pub certified : (reading : Reading) → Answered reading → CertificateHolds (Done reading)
+  certified reading answers = record { plan = of_solve Answered _ with_plan reading answers; none = of_solve Answered _ with_none reading answers }
+    where
+      with_plan : (solve : SolveMeaning) → Answered (Read (Solve solve)) → said.status ≡ 0 → OfTexts solve texts (SavesPlan (Says said) (Saves said) solve)
+      with_plan solve done = of_zero solve done _ (λ parts is. is.3)
 
-  pub journal_is_decided : (reading : Reading) → AnswersReading reading texts said → JournalIsDecided reading Done
-  journal_is_decided (Refused fault) answers = tt
-  journal_is_decided (Read (Solve solve)) answers = tt
-  journal_is_decided (Read (Check check)) answers = tt
-  journal_is_decided (Read (Journal journal)) answers = λ parts text events is legal.
-      inl (verdict_answered (journal_task journal texts) AcceptsJournal RejectsJournal answers parts text is (λ bad. bad.4 events legal))
-  journal_is_decided (Read (Make make)) answers = tt
+      with_none : (solve : SolveMeaning) → Answered (Read (Solve solve)) → said.status ≡ 1 → OfTexts solve texts (λ parts. Certifies (Saves said) solve parts None)
+      with_none solve done = of_one solve done _ (λ parts is. is.3)
 
-  pub made_is_least : (reading : Reading) → AnswersReading reading texts said → MadeIsLeast reading Done
-  made_is_least (Refused fault) answers = tt
-  made_is_least (Read (Solve solve)) answers = tt
-  made_is_least (Read (Check check)) answers = tt
-  made_is_least (Read (Journal journal)) answers = tt
-  made_is_least (Read (Make make)) answers = made_zero make answers
+  -- what is said of a task is said without it
+  said_alone : (solve : SolveMeaning) (text : List ℕ) → OfTexts solve texts (λ parts. Says said text) → Says said text
+  said_alone solve text h = h.2
 
-  -- ---- by names
+  pub none : (reading : Reading) → Answered reading → NoneMeansNone (Done reading)
+  none = of_solve Answered _ at
+    where
+      at : (solve : SolveMeaning) → Answered (Read (Solve solve)) → said.status ≡ 1 → Says said none_report × OfTexts solve texts (λ parts. HasNoPlan (space_of parts))
+      at solve answers one =
+          (said_alone solve none_report (of_one solve answers (λ parts. Says said none_report) (λ parts is. is.1) one), of_one solve answers _ (λ parts is. is.2) one)
 
-  pub named_plan_is_plan : (reading : Reading) → AnswersReading reading texts said → NamedPlanIsPlan reading Done
-  named_plan_is_plan (Refused fault) answers = tt
-  named_plan_is_plan (Read (Solve solve)) answers = λ zero.
-      solved_by_names texts (Says said) (Saves said) solve (all_of_one (Read (Solve solve)) answers zero)
-  named_plan_is_plan (Read (Check check)) answers = tt
-  named_plan_is_plan (Read (Journal journal)) answers = tt
-  named_plan_is_plan (Read (Make make)) answers = tt
+  pub stopped : (reading : Reading) → Answered reading → StopHasCause (Done reading)
+  stopped = of_solve Answered _ at
+    where
+      at : (solve : SolveMeaning) → Answered (Read (Solve solve)) → said.status ≡ 2 → Says said (stopped_report solve.settings.budget) × OfTexts solve texts (Stops (Saves said) solve)
+      at solve answers two = (
+        said_alone solve (stopped_report solve.settings.budget) (of_two solve answers (λ parts. Says said (stopped_report solve.settings.budget)) (λ parts is. is.1) two),
+        of_two solve answers (Stops (Saves said) solve) (λ parts is. is.2) two,
+      )
 
-  pub named_none_means_none : (reading : Reading) → AnswersReading reading texts said → NamedNoneMeansNone reading Done
-  named_none_means_none (Refused fault) answers = tt
-  named_none_means_none (Read (Solve solve)) answers = λ one. none_by_names texts solve (none_means_none (Read (Solve solve)) answers one).1
-  named_none_means_none (Read (Check check)) answers = tt
-  named_none_means_none (Read (Journal journal)) answers = tt
-  named_none_means_none (Read (Make make)) answers = tt
+  -- ---- command by command
 
-  pub named_verdict_holds : (reading : Reading) → AnswersReading reading texts said → NamedVerdictHolds reading Done
-  named_verdict_holds (Refused fault) answers = tt
-  named_verdict_holds (Read (Solve solve)) answers = tt
-  named_verdict_holds (Read (Check check)) answers = λ zero. accepted_by_names texts (Says said) check (accepted_is_valid (Read (Check check)) answers zero)
-  named_verdict_holds (Read (Journal journal)) answers = tt
-  named_verdict_holds (Read (Make make)) answers = tt
+  pub solved : (reading : Reading) → Answered reading → SolvesHold (Done reading)
+  solved reading given = of_solve Answered _ at reading given
+    where
+      at : (solve : SolveMeaning) → Answered (Read (Solve solve)) → SolveHolds solve (Done reading)
+      at solve answers = record { one_plan = of_zero solve answers (Solves (Says said) (Saves said) solve) (λ parts is. is.1); statuses = search_statuses solve answers }
+
+  pub checked_text : (reading : Reading) → Answered reading → ChecksHold (Done reading)
+  checked_text reading given = of_check Answered _ at reading given
+    where
+      decided : (parts : TaskParts) (certificate : List ℕ) → IsChecked parts certificate said → IsOfVerdict (checked parts certificate) said.status
+      decided parts certificate (inl valid) = subst (λ v. IsOfVerdict v said.status) (sym valid.2.2) (inl valid.0)
+      decided parts certificate (inr faulty) = subst (λ v. IsOfVerdict v said.status) (sym faulty.2.2) (inl faulty.0)
+
+      at : (check : CheckMeaning) → Answered (Read (Check check)) → CheckHolds check (Done reading)
+      at check answers = record {
+        accepted = accepted (check_task check texts) Accepts Rejects answers;
+        rejected = rejected (check_task check texts) Accepts Rejects answers;
+        exact = λ parts certificate is. decided parts certificate (of_task (check_task check texts) (λ t. IsChecked t.0 t.1) answers (parts, certificate) is);
+        rewritten = λ parts certificate is zero. verdict_saves_none (check_task check texts) Accepts Rejects answers;
+        statuses = verdict_statuses (check_task check texts) Accepts Rejects answers (Read (Check check));
+      }
+
+  pub judged_text : (reading : Reading) → Answered reading → JournalsHold (Done reading)
+  judged_text reading given = of_journal Answered _ at reading given
+    where
+      at : (journal : JournalMeaning) → Answered (Read (Journal journal)) → JournalHolds journal (Done reading)
+      at journal answers = record {
+        accepted = accepted (journal_task journal texts) AcceptsJournal RejectsJournal answers;
+        rejected = rejected (journal_task journal texts) AcceptsJournal RejectsJournal answers;
+        exact = λ parts text events is legal. inl (verdict_answered (journal_task journal texts) AcceptsJournal RejectsJournal answers parts text is (λ bad. bad.4 events legal));
+        statuses = verdict_statuses (journal_task journal texts) AcceptsJournal RejectsJournal answers (Read (Journal journal));
+      }
+
+  pub made : (reading : Reading) → Answered reading → MakesHold (Done reading)
+  made reading given = of_make Answered _ at reading given
+    where
+      at : (make : MakeMeaning) → Answered (Read (Make make)) → MakeHolds make (Done reading)
+      at make answers = record { plan = made_zero make answers; none = made_one make answers; stop = made_two make answers; statuses = made_statuses make answers }
 
   -- ---- refusals
 
-  pub words_are_refused : (reading : Reading) → AnswersReading reading texts said → WordsAreRefused reading Done
-  words_are_refused (Refused fault) answers = inl answers
-  words_are_refused (Read (Solve solve)) answers = search_other solve answers 64 (λ e. omega (arith, e)) (λ e. omega (arith, e)) (λ e. omega (arith, e)) (λ e. omega (arith, e))
-  words_are_refused (Read (Check check)) answers = verdict_other (check_task check texts) Accepts Rejects answers 64 (λ e. omega (arith, e)) (λ e. omega (arith, e)) (λ e. omega (arith, e))
-  words_are_refused (Read (Journal journal)) answers = verdict_other (journal_task journal texts) AcceptsJournal RejectsJournal answers 64 (λ e. omega (arith, e)) (λ e. omega (arith, e)) (λ e. omega (arith, e))
-  words_are_refused (Read (Make make)) answers = made_other make answers 64 (λ e. omega (arith, e)) (λ e. omega (arith, e)) (λ e. omega (arith, e))
+  -- texts are refused at 65, and at no other status
+  input_refused : (reading : Reading) → Answered reading → said.status ≡ 65 → RefusesTexts reading texts said.report
+  input_refused (Refused fault) answers = λ e. omega (arith, e, answers.0)
+  input_refused (Read (Solve solve)) answers = solve_refused solve answers
+  input_refused (Read (Check check)) answers = verdict_refused (check_task check texts) Accepts Rejects answers
+  input_refused (Read (Journal journal)) answers = verdict_refused (journal_task journal texts) AcceptsJournal RejectsJournal answers
+  input_refused (Read (Make make)) answers = λ e. absurd (made_is_read make answers e)
 
-  pub input_is_refused : (reading : Reading) → AnswersReading reading texts said → InputIsRefused reading Done
-  input_is_refused (Refused fault) answers = (λ e. omega (arith, e, answers.0), λ report refuses. absurd refuses)
-  input_is_refused (Read (Solve solve)) answers = (solve_refused solve answers, λ report is. inl (refuses (solve_task solve texts) (IsFound solve) answers report is))
-  input_is_refused (Read (Check check)) answers = (verdict_refused (check_task check texts) Accepts Rejects answers, λ report is. inl (refuses (check_task check texts) (λ t. IsChecked t.0 t.1) answers report is))
-  input_is_refused (Read (Journal journal)) answers = (verdict_refused (journal_task journal texts) AcceptsJournal RejectsJournal answers, λ report is. inl (refuses (journal_task journal texts) (λ t. IsJudged t.0 t.1) answers report is))
-  input_is_refused (Read (Make make)) answers = (λ e. absurd (made_other make answers 65 (λ e. omega (arith, e)) (λ e. omega (arith, e)) (λ e. omega (arith, e)) e), λ report refuses. absurd refuses)
-
-  pub spelled_is_not_refused : (reading : Reading) → AnswersReading reading texts said → SpelledIsNotRefused reading Done
-  spelled_is_not_refused reading answers = λ spelled e. never_refused reading texts spelled said.report ((input_is_refused reading answers).0 e)
+  always_refused : (reading : Reading) → Answered reading → (report : List ℕ) → RefusesTexts reading texts report → said.status ≡ 65
+  always_refused (Refused fault) answers report refused = absurd refused
+  always_refused (Read (Solve solve)) answers report is = refuses (solve_task solve texts) (IsFound solve) answers report is
+  always_refused (Read (Check check)) answers report is = refuses (check_task check texts) (λ t. IsChecked t.0 t.1) answers report is
+  always_refused (Read (Journal journal)) answers report is = refuses (journal_task journal texts) (λ t. IsJudged t.0 t.1) answers report is
+  always_refused (Read (Make make)) answers report refused = absurd refused
 
   -- ---- what is saved
 
-  pub outputs_are_named : (reading : Reading) → AnswersReading reading texts said → OutputsAreNamed reading Done
+  pub outputs_are_named : (reading : Reading) → Answered reading → AreNamed reading
   outputs_are_named (Refused fault) answers = none_named (Refused fault) answers.2
   outputs_are_named (Read (Solve solve)) answers = solve_named solve answers
   outputs_are_named (Read (Check check)) answers = none_named (Read (Check check)) (verdict_saves_none (check_task check texts) Accepts Rejects answers)
   outputs_are_named (Read (Journal journal)) answers = none_named (Read (Journal journal)) (verdict_saves_none (journal_task journal texts) AcceptsJournal RejectsJournal answers)
   outputs_are_named (Read (Make make)) answers = none_named (Read (Make make)) (made_saves_none make answers)
 
-  pub nothing_to_save : (reading : Reading) → AnswersReading reading texts said → (said.status ≡ 0 → ⊥) → (said.status ≡ 1 → ⊥) → (said.status ≡ 2 → ⊥) → said.outputs ≡ []
-  nothing_to_save (Refused fault) answers not_zero not_one not_two = answers.2
-  nothing_to_save (Read (Solve solve)) answers not_zero not_one not_two = solve_saves_none solve answers not_zero not_one not_two
-  nothing_to_save (Read (Check check)) answers not_zero not_one not_two = verdict_saves_none (check_task check texts) Accepts Rejects answers
-  nothing_to_save (Read (Journal journal)) answers not_zero not_one not_two = verdict_saves_none (journal_task journal texts) AcceptsJournal RejectsJournal answers
-  nothing_to_save (Read (Make make)) answers not_zero not_one not_two = made_saves_none make answers
+  refusal_saves_none : (reading : Reading) → Answered reading → said.status ≡ 65 → said.outputs ≡ []
+  refusal_saves_none (Refused fault) answers e = answers.2
+  refusal_saves_none (Read (Solve solve)) answers e = solve_saves_none solve answers (λ zero. omega (arith, e, zero)) (λ one. omega (arith, e, one)) (λ two. omega (arith, e, two))
+  refusal_saves_none (Read (Check check)) answers e = verdict_saves_none (check_task check texts) Accepts Rejects answers
+  refusal_saves_none (Read (Journal journal)) answers e = verdict_saves_none (journal_task journal texts) AcceptsJournal RejectsJournal answers
+  refusal_saves_none (Read (Make make)) answers e = made_saves_none make answers
+
+  pub refused : ReadAsSpelled → ReadingsAreSpelled → (reading : Reading) → Answered reading → RefusalHolds (Done reading)
+  refused maps boards reading answers = record {
+    words = of_refused Answered _ at reading answers;
+    input = input_refused reading answers;
+    input_exact = λ report is. inl (always_refused reading answers report is);
+    spelled = λ spelled e. never_refused maps boards reading texts spelled said.report (input_refused reading answers e);
+    unsaved = refusal_saves_none reading answers;
+  }
+    where
+      at : (fault : CommandFault) → Answered (Refused fault)
+          → ((said.status ≡ 64) × IsPrinted fault said.report × Saves said []) ⊎ ((said.status ≡ 71) ⊎ (said.status ≡ 74))
+      at fault done = inl done
 
   -- ---- completeness
 

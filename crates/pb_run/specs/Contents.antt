@@ -11,8 +11,11 @@ use Rattle.pb_run.specs.Asked.{Wanted, files_of, saved_names}
 use Rattle.pb_answer.specs.Outputs.{Output}
 use Rattle.pb_run.specs.Calls.{put_bytes, load_calls, EndLoads, SaveAll, FailToSaveAll}
 use Rattle.pb_run.specs.Loads.{AreLoaded}
-use Rattle.pb_answer.specs.Answer.{Said, AnswersReading}
-use Rattle.pb_run.specs.Course.{RunsOut, FailsToLoad, HandsOut, FailsToSave, FailsToPut, HasAnswered}
+use Rattle.pb_answer.specs.Answer.{Said}
+use Rattle.pb_run.specs.Answers.{AnswersReading}
+use Rattle.pb_answer.specs.Parts.{AnswerPart}
+use Rattle.pb_run.specs.Handing.{HandsOutParts}
+use Rattle.pb_run.specs.Course.{RunsOut, FailsToLoad, HasAnswered}
 use Rattle.pb_run.specs.declared.output.Ending.{Ending}
 use Rattle.pb_run.specs.declared.output.Ending.TheVariants.{Done, NotSaved, NotPrinted}
 use Rattle.pb_run.specs.declared.load.Fault.{Fault}
@@ -91,13 +94,15 @@ HandsTold said Done files files' = IfTold files files' (SavesIn said.outputs)
 HandsTold said NotSaved files files' = IfTold files files' (SavesPartIn said.outputs)
 HandsTold said NotPrinted files files' = IfTold files files' (SavesIn said.outputs)
 
-abbrev pub TellsHands : {status : ℕ} {saves sink : List Call} → (said : Said) → Option Files
-    → Option Files
-    → HandsOut said status saves sink ⊎ (FailsToSave said status saves sink
-    ⊎ FailsToPut said status saves sink) → Type 0
-TellsHands said files files' (inl done) = IfTold files files' (SavesIn said.outputs)
-TellsHands said files files' (inr (inl failed)) = IfTold files files' (SavesPartIn said.outputs)
-TellsHands said files files' (inr (inr failed)) = IfTold files files' (SavesIn said.outputs)
+abbrev pub TellsHands : (said : Said) (parts : List AnswerPart) (status : ℕ)
+    (saves sink : List Call) → Option Files → Option Files
+    → HandsOutParts said parts status saves sink → Type 0
+TellsHands said parts status saves sink files files' (inl done) =
+    IfTold files files' (SavesIn said.outputs)
+TellsHands said parts status saves sink files files' (inr (inl failed)) =
+    IfTold files files' (SavesPartIn said.outputs)
+TellsHands said parts status saves sink files files' (inr (inr failed)) =
+    IfTold files files' (SavesIn said.outputs)
 
 -- what was done, with what that means for the known files of the shelf
 abbrev pub GoesBy : Reading → (status : ℕ) → Option Files → Option Files → (shelf sink : List Call)
@@ -106,7 +111,7 @@ GoesBy reading status files files' shelf sink =
     (RunsOut reading status shelf sink × IfTold files files' KeepsAll)
     ⊎ ((FailsToLoad reading status shelf sink × IfTold files files' KeepsAll)
     ⊎ ((a : HasAnswered reading status shelf sink) × AreLoaded files (files_of reading) a.texts
-    × TellsHands a.said files files' a.hands))
+    × TellsHands a.said a.parts status a.saves sink files files' a.hands))
 
 abbrev pub Goes : Reading → (status : ℕ) → Option Files → Option Files
     → (shelf shelf' sink sink' : List Call) → Type 0

@@ -1,14 +1,23 @@
 pub use Rattle.pb_answer.specs.Answer
+pub use Rattle.pb_command.specs.Causes
 pub use Rattle.pb_command.specs.Meaning
 pub use Rattle.pb_model.specs.Texts
 pub use Rattle.pb_outside.specs.Calls as OutsideCalls
 pub use Rattle.pb_outside.specs.Outside
+pub mod Makes
+pub mod Answers
 pub mod Asked
 pub mod Loads
 pub mod Calls
+pub mod Handing
 pub mod Course
+pub mod Outcome
 pub mod Headline
+pub mod Kinds
+pub mod Commands
+pub mod Served
 pub mod Contents
+pub mod Whole
 pub mod Files
 pub mod Fit
 pub mod Laws

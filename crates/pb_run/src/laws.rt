@@ -8,15 +8,14 @@ use pb_grid::swamp_changes_marks_alone;
 use pb_journal::written_journals_are_accepted;
 
 /// A call saves the certificate of a plan, or of there being none. Another call that checks it for
-/// the same input, row and swamp accepts it. This follows from the clauses `solved`,
-/// `certified_none` and `check_exact` of both.
+/// the same input, row and swamp accepts it. This follows from the clauses `solve`, `certified` and
+/// `check` of both.
 pub fn saved_certificates_are_accepted()
     ensures { SavedCertificatesAreAccepted }
 {}
 
 /// The journal that one call saves of a search is accepted by another call that judges it for the
-/// same input. This follows from the clauses `solved`, `certified_none`, `stopped` and
-/// `journal_exact` of both.
+/// same input. This follows from the clauses `solve`, `certified`, `stopped` and `journal` of both.
 pub fn saved_journals_are_accepted()
     ensures { SavedJournalsAreAccepted }
 {

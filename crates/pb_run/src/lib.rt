@@ -1,12 +1,15 @@
 //! The whole program over any shelf, sink and gate: loads the files that the words name, has their
 //! task answered, saves what is to be saved, and prints.
 //!
-//! What is answered is decided in `pb_answer`. `run` carries the headline as its contract.
+//! What is answered of loaded texts is decided in `pb_answer`, and of `make` by `pb_made`. `run`
+//! carries the headline as its contract.
 #![tactic(auto)]
 
+mod answer;
 mod files;
 mod laws;
 mod load;
+mod make;
 mod output;
 mod start;
 mod top;

@@ -9,8 +9,9 @@ ghost use Rattle.pb_run.specs.Contents.{LoadsAll, LoadsUpTo};
 ghost use Rattle.pb_run.specs.Files.{wanted_of, LoadsText};
 ghost use Rattle.pb_run.specs.Fit.{FaultRose, IfShelf, NotesLoad, reason_of, status_of};
 
-use crate::files::{Wanted, files_of};
+use crate::files::files_of;
 use pb_answer::{Status, Texts};
+use pb_command::LoadedFile;
 use pb_outside::{Load, Shelf};
 use std::alloc::{AllocError, Global};
 
@@ -47,7 +48,11 @@ impl Fault {
 }
 
 // The bytes of a file, or None if it is too long.
-fn load<H: Shelf>(shelf: &mut H, alloc: Global, file: Wanted<'_>) -> Result<Option<Vec<u8>>, Fault>
+fn load<H: Shelf>(
+    shelf: &mut H,
+    alloc: Global,
+    file: LoadedFile<'_>,
+) -> Result<Option<Vec<u8>>, Fault>
     ensures text { IfOk result (λ loaded. LoadsText (H.files shelf.old) (wanted_of file.entry)
         (option_map (λ v. v.items) loaded)) }
     ensures calls { IfOk result (λ loaded. NotesLoad (H.calls shelf.old) (H.calls shelf.new)
@@ -70,7 +75,11 @@ fn load<H: Shelf>(shelf: &mut H, alloc: Global, file: Wanted<'_>) -> Result<Opti
 }
 
 // Loads the files one after another, up to the first that is too long.
-fn load_all<H: Shelf>(alloc: Global, files: &[Wanted<'_>], shelf: &mut H) -> Result<Texts, Fault>
+fn load_all<H: Shelf>(
+    alloc: Global,
+    files: &[LoadedFile<'_>],
+    shelf: &mut H,
+) -> Result<Texts, Fault>
     ensures texts { IfOk result (λ texts. AreLoaded (H.files shelf.old) (map wanted_of files.now)
         texts) }
     ensures calls { IfOk result (λ texts. LoadsAll (H.calls shelf.old) (H.calls shelf.new)

@@ -17,11 +17,12 @@ use Rattle.pb_machine.proofs.Callers.{none_counted, spent_is_used, used_fits_bud
 use Rattle.pb_task.specs.declared.parts.TaskParts.{TaskParts}
 use Rattle.pb_abstract.specs.Projection.{IsFinest}
 use Rattle.pb_abstract.specs.Graph.{AbstractGraph, blocks_of, IsGraph, IsGraphOf}
+use Rattle.pb_lease.specs.Leased.{setup_of}
 use Rattle.pb_lease.specs.GraphValue.{GraphValue, setup_in}
 use Rattle.pb_lease.proofs.Callers.{setup_is, all_rows}
 use Rattle.pb_yard.proofs.Callers.{runs_are_short}
 use Rattle.pb_workers.proofs.Callers.{store_is, best_end}
-use Rattle.pb_search.specs.Ends.{search_of, HasSmallCosts, IsBestOf, HasEndedSo, EndsBy, StopsWith, EndsQuietly, MarksNothing}
+use Rattle.pb_search.specs.Ends.{choice_of, search_of, HasSmallCosts, IsBestOf, HasEndedSo, EndsBy, StopsWith, EndsQuietly, MarksNothing}
 use Rattle.pb_search.specs.Searched.{HasSearched}
 use Rattle.pb_search.proofs.Marks.{marks_nothing}
 use Rattle.pb_search.proofs.Ending.{searched_so}
@@ -42,7 +43,7 @@ module _ (parts : TaskParts) (abstraction : AbstractGraph) (settings : Settings)
   setup = search_of parts abstraction settings
 
   setup_same : setup_in g ≡ setup
-  setup_same = λ i. search_of (h.task i) (h.graph_is i) (h.settings_are i)
+  setup_same = λ i. setup_of (h.task i) (h.graph_is i) (h.choice_is i) (h.settings_are i) 0
 
   lawful : IsLawful setup h.machine
   lawful = subst (λ (s : Setup). IsLawful s h.machine) setup_same h.moment.at.lawful
@@ -58,6 +59,7 @@ module _ (parts : TaskParts) (abstraction : AbstractGraph) (settings : Settings)
   is_best quiet = record {
     task = h.task;
     weight = ap weight_of h.settings_are;
+    choice = h.choice_is;
     home = h.home;
     best = best_end g h.lawful h.home h.recorded h.machine h.moment quiet;
     small = small_costs;
@@ -165,6 +167,10 @@ module _ {E : Type 0} (parts made_for task : TaskParts) (abstraction made counte
   pub stop_then : IfOk r (λ g. g.table.end ≡ Some Budget → StopsWith parts settings g.table.journal)
   stop_then = IfOk-weaker r (HasSearched task blocks own) (λ g. g.table.end ≡ Some Budget → StopsWith parts settings g.table.journal)
       (λ g h. budget_stop parts abstraction settings range its_graph its_finest few_blocks g (in_those_words g h)) found
+
+  pub choice_then : IfOk r (λ g. g.choice ≡ choice_of settings)
+  choice_then = IfOk-weaker r (HasSearched task blocks own) (λ g. g.choice ≡ choice_of settings)
+      (λ g h. (in_those_words g h).choice_is) found
 
   pub plain_then : IfOk r (λ g. settings.plain ≡ true → MarksNothing g.table.journal)
   plain_then = IfOk-weaker r (HasSearched task blocks own) (λ g. settings.plain ≡ true → MarksNothing g.table.journal)

@@ -11,6 +11,7 @@ use Rattle.pb_machine.specs.Machine.{Setup, journal_of, opening_machine}
 use Rattle.pb_machine.proofs.Callers.{any_false}
 use Rattle.pb_task.specs.declared.parts.TaskParts.{TaskParts}
 use Rattle.pb_abstract.specs.Graph.{AbstractGraph}
+use Rattle.pb_lease.specs.Leased.{setup_of}
 use Rattle.pb_lease.specs.GraphValue.{GraphValue, setup_in, counts_in, IsLeaseGraph}
 use Rattle.pb_lease.specs.Choices.{is_out_in}
 use Rattle.pb_workers.specs.Runs.{IsSameSearch, IsAnyMoment, RunsOn}
@@ -19,7 +20,7 @@ use Rattle.pb_yard.specs.declared.view.View.{View}
 use Rattle.pb_yard.specs.Views.{opening_view}
 use Rattle.pb_yard.specs.Calls.{IsClosed}
 use Rattle.pb_yard.proofs.Callers.{in_time_is_run}
-use Rattle.pb_search.specs.Ends.{search_of, LeadsInTime}
+use Rattle.pb_search.specs.Ends.{choice_of, search_of, LeadsInTime}
 use Rattle.pb_search.specs.Searched.{Opens, HasSearched}
 
 -- the search ended, quietly or by its budget
@@ -46,7 +47,7 @@ module _ (parts : TaskParts) (abstraction : AbstractGraph) (settings : Settings)
   none_signed_off = ap (λ (c : Counts). c.signed_off 0) opens.counts
 
   old_setup : setup_in old ≡ setup
-  old_setup = λ i. search_of (opens.task i) (opens.graph_is i) (opens.settings_are i)
+  old_setup = λ i. setup_of (opens.task i) (opens.graph_is i) (opens.choice_is i) (opens.settings_are i) 0
 
   -- a worker that searched alone
   module _ (new : GraphValue) (same : IsSameSearch old new) (alone : settings.workers ≡ 1) where
@@ -66,6 +67,7 @@ module _ (parts : TaskParts) (abstraction : AbstractGraph) (settings : Settings)
         record {
           task = same.task ∙ opens.task;
           graph_is = same.graph ∙ opens.graph_is;
+          choice_is = same.choice ∙ opens.choice_is;
           settings_are = same.settings ∙ opens.settings_are;
           lawful = lawful;
           home = home;
@@ -89,11 +91,14 @@ module _ (parts : TaskParts) (abstraction : AbstractGraph) (settings : Settings)
     graph : new.table.graph ≡ abstraction
     graph = sym closed.search.graph ∙ keeps.graph ∙ opens.graph_is
 
+    choice : new.choice ≡ choice_of settings
+    choice = sym closed.search.choice ∙ keeps.choice ∙ opens.choice_is
+
     are : new.table.settings ≡ settings
     are = sym closed.search.settings ∙ keeps.settings ∙ opens.settings_are
 
     new_setup : setup_in new ≡ setup
-    new_setup = λ i. search_of (task i) (graph i) (are i)
+    new_setup = λ i. setup_of (task i) (graph i) (choice i) (are i) 0
 
     pub yard_searched : IsLeaseGraph new → KeepsWithinRoom new.table.journal → HasEnded new → HasSearched parts abstraction settings new
     yard_searched lawful within ended =
@@ -102,6 +107,7 @@ module _ (parts : TaskParts) (abstraction : AbstractGraph) (settings : Settings)
         record {
           task = task;
           graph_is = graph;
+          choice_is = choice;
           settings_are = are;
           lawful = lawful;
           home = closed.home;

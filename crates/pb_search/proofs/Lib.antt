@@ -1,3 +1,5 @@
+pub mod Callers
 mod Marks
+mod Leaves
 mod Ending
 mod Clauses

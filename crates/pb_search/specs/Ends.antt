@@ -1,6 +1,7 @@
 -- How a search by leases ends, and what it has then.
 use Rattle.std.specs.Prelude.{◌≡◌, ℕ, ◌-◌, ◌^◌, ◌≤◌, Bool, true, false, IsFalse, List, length, Some}
 use Rattle.std.specs.List.{list_any}
+use Rattle.pb_model.specs.Guide.{Guide}
 use Rattle.pb_model.specs.Store.{Store, IsQuiet, HasOpened, CostsAtMost}
 use Rattle.pb_model.specs.Work.{Work, Comes, expansions, broken_expansions, reopenings, opening_store}
 use Rattle.pb_machine.specs.declared.event.End.{End}
@@ -15,6 +16,8 @@ use Rattle.pb_machine.specs.Machine.{Setup, Machine, Move, Runs, journal_of, ope
 use Rattle.pb_machine.specs.Lawful.{IsLawful}
 use Rattle.pb_task.specs.declared.parts.TaskParts.{TaskParts}
 use Rattle.pb_task.specs.Parts.{space_of}
+use Rattle.pb_estimate.specs.declared.choice.Choice.{Choice}
+use Rattle.pb_estimate.specs.declared.choice.Choice.TheVariants.{Plain}
 use Rattle.pb_abstract.specs.Projection.{IsFinest}
 use Rattle.pb_abstract.specs.Graph.{AbstractGraph, blocks_of, IsGraphOf}
 use Rattle.pb_lease.specs.Leased.{guide_of, setup_of}
@@ -24,19 +27,31 @@ use Rattle.pb_yard.specs.Order.{RunsInTime}
 use Rattle.pb_yard.specs.Length.{most_events}
 use Rattle.pb_workers.specs.Ends.{home_store, IsBestEnd}
 
+-- ---- the estimate
+
+-- the choice of the estimate that a search with these settings goes by; below this crate nothing
+-- looks at the settings for an estimate
+abbrev pub choice_of : Settings → Choice
+choice_of settings = Plain
+
+-- what a search with these settings is guided by: the estimate of each state, and its block
+abbrev pub searched_guide : TaskParts → AbstractGraph → Settings → Guide
+searched_guide parts graph settings = guide_of parts graph (choice_of settings)
+
 -- ---- the rows at a quiet end
 
 -- no g of a row at home leaves 61 bits
 abbrev pub HasSmallCosts : GraphValue → Type 0
 HasSmallCosts graph = CostsAtMost (home_store graph) (2 ^ 61 - 1)
 
--- A search of this task at the weight of these settings came to a quiet end with this graph. All
--- rows are at home: they are a sound store without an Opened row. The incumbent is shown by a
+-- A search of this task at the weight of these settings, by their estimate, came to a quiet end
+-- with this graph. All rows are at home: they are a sound store without an Opened row. The incumbent is shown by a
 -- goal's row, some plan costs no more, and no plan costs less than the incumbent divided by the
 -- weight. Without an incumbent there is no plan.
 pub record IsBestOf (parts : TaskParts) (settings : Settings) (graph : GraphValue) : Type 0 where
   pub task : graph.task ≡ parts
   pub weight : weight_of graph.table.settings ≡ weight_of settings
+  pub choice : graph.choice ≡ choice_of settings
   pub home : IsFalse (is_out_in graph)
   pub best : IsBestEnd graph
   pub small : HasSmallCosts graph
@@ -45,7 +60,7 @@ pub record IsBestOf (parts : TaskParts) (settings : Settings) (graph : GraphValu
 
 -- what is searched, and with what: the task, by these blocks, with these settings, from its start
 abbrev pub search_of : TaskParts → AbstractGraph → Settings → Setup
-search_of parts graph settings = setup_of parts graph settings 0
+search_of parts graph settings = setup_of parts graph (choice_of settings) settings 0
 
 -- these moves lead from the machine that has the start's row alone to this one
 abbrev pub Leads : Setup → List Move → Machine → Type 0
@@ -62,7 +77,7 @@ LeadsInTime setup moves machine = RunsInTime setup (opening_machine setup) moves
 abbrev pub ComesFromStart : TaskParts → AbstractGraph → Settings → List Work → Store → Type 0
 ComesFromStart parts graph settings works store =
     let space = space_of parts in
-    let guide = guide_of parts graph in
+    let guide = searched_guide parts graph settings in
     Comes space guide works (opening_store space guide (weight_of settings)) store
 
 -- What an end says of the rows and of the number of expansions that led to them. A quiet end: no

@@ -13,7 +13,7 @@ use Rattle.pb_lease.specs.GraphValue.{GraphValue, counts_in, IsLeaseGraph}
 use Rattle.pb_lease.specs.Choices.{is_out_in}
 use Rattle.pb_lease.specs.Moments.{IsMoment}
 use Rattle.pb_yard.specs.Calls.{IsOpening}
-use Rattle.pb_search.specs.Ends.{search_of, Leads, LeadsInTime}
+use Rattle.pb_search.specs.Ends.{choice_of, search_of, Leads, LeadsInTime}
 
 -- The graph is that of a search of this task by this abstract graph, with these settings. The
 -- search begins: the start alone has a row.
@@ -21,6 +21,7 @@ pub record Opens (parts : TaskParts) (abstraction : AbstractGraph) (settings : S
     (graph : GraphValue) : Type 0 where
   pub task : graph.task ≡ parts
   pub graph_is : graph.table.graph ≡ abstraction
+  pub choice_is : graph.choice ≡ choice_of settings
   pub settings_are : graph.table.settings ≡ settings
   pub counts : counts_in graph ≡ opening_counts settings 0
   pub opening : IsOpening graph
@@ -34,6 +35,7 @@ pub record HasSearched (parts : TaskParts) (abstraction : AbstractGraph) (settin
     (graph : GraphValue) : Type 0 where
   pub task : graph.task ≡ parts
   pub graph_is : graph.table.graph ≡ abstraction
+  pub choice_is : graph.choice ≡ choice_of settings
   pub settings_are : graph.table.settings ≡ settings
   pub lawful : IsLeaseGraph graph
   pub home : IsFalse (is_out_in graph)

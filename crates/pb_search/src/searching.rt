@@ -5,7 +5,7 @@ ghost use Rattle.pb_machine.specs.declared.event.End.TheVariants.{Quiet, Budget}
 ghost use Rattle.pb_machine.specs.Settings.{AreInRange};
 ghost use Rattle.pb_abstract.specs.Projection.{IsFinest};
 ghost use Rattle.pb_abstract.specs.Graph.{IsGraphOf};
-ghost use Rattle.pb_search.specs.Ends.{IsBestOf, EndsQuietly, StopsWith, MarksNothing};
+ghost use Rattle.pb_search.specs.Ends.{choice_of, IsBestOf, EndsQuietly, StopsWith, MarksNothing};
 
 use crate::alone::search_alone;
 use crate::opening::opening;
@@ -39,6 +39,7 @@ pub fn search<R: Threads + Wait + Sync, G: Gate>(
     ensures finest { IfOk result (λ graph.
         IsFinest (arc_value task.now) settings.wish graph.table.graph.projection) }
     ensures settings { IfOk result (λ graph. graph.table.settings ≡ settings) }
+    ensures choice { IfOk result (λ graph. graph.choice ≡ choice_of settings) }
 
     // How it ended, and what the rows are then.
     ensures ended { IfOk result (λ graph.

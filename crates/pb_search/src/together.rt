@@ -30,10 +30,21 @@ pub fn search_together<R: Threads + Wait + Sync, G: Gate>(
     ensures { IfOk result (HasSearched task.now abstraction.now opening.table.settings) }
 {
     let workers = opening.settings().workers;
+    let choice = opening.choice().clone()?;
     let Ok((yard, pass)) = Yard::new(alloc, opening) else {
         return Err(AllocError);
     };
-    let Ok(pass) = run_workers(rt, alloc, task, abstraction, &yard, gate, pass, workers) else {
+    let Ok(pass) = run_workers(
+        rt,
+        alloc,
+        task,
+        abstraction,
+        &choice,
+        &yard,
+        gate,
+        pass,
+        workers,
+    ) else {
         return Err(AllocError);
     };
     let graph = yard.close(pass);

@@ -5,5 +5,6 @@ pub mod Tiles
 pub mod Slides
 pub mod Strips
 pub mod Parts
+pub mod Kinds
 pub mod Faults
 pub mod Laws

@@ -5,6 +5,7 @@
 #![tactic(auto)]
 
 mod grid;
+mod kind;
 mod laws;
 mod parts;
 mod plan;
@@ -15,6 +16,7 @@ mod task;
 mod tiles;
 
 pub use grid::{are_connected, cell_beside};
+pub use kind::Kind;
 pub use laws::{
     boards_are_packed, degrees_are_bounded, faults_are_unique, faults_keep_from_plans,
     grids_are_proper, sets_are_of_atoms, strips_act, strips_are_proper, tasks_are_proper,

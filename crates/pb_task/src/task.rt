@@ -3,9 +3,11 @@ ghost use Rattle.pb_model.specs.Space.{steps};
 ghost use Rattle.pb_task.specs.Grid.{IsGrid};
 ghost use Rattle.pb_task.specs.Tiles.{IsTiles};
 ghost use Rattle.pb_task.specs.Strips.{IsStrips};
+ghost use Rattle.pb_task.specs.Kinds.{kind_of};
 ghost use Rattle.pb_task.specs.Parts.{space_of, IsTask, action_name, max_degree_of};
 ghost use Rattle.pb_task.specs.declared.parts.TaskParts.TheVariants.{Grid, Tiles, Strips};
 
+use crate::kind::Kind;
 use crate::parts::{GridParts, StripsParts, TaskParts, TilesParts};
 use crate::{grid, strips, tiles};
 use pb_model::Succ;
@@ -69,6 +71,17 @@ impl Task {
         ensures lawful { IsTask self.now }
     {
         &self.parts
+    }
+
+    /// The kind of the task.
+    pub fn kind(&self) -> Kind
+        ensures { result ≡ kind_of self.now }
+    {
+        match &self.parts {
+            TaskParts::Grid(_) => Kind::Grid,
+            TaskParts::Tiles(_) => Kind::Tiles,
+            TaskParts::Strips(_) => Kind::Strips,
+        }
     }
 
     /// The start.

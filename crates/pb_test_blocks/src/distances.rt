@@ -1,4 +1,4 @@
-use pb_estimate::Estimator;
+use pb_estimate::{Choice, Estimator};
 use pb_model::Estimate;
 use pb_packed::Packed;
 use pb_task::{Cells, Class, GridParts, Swamp, Task};
@@ -22,7 +22,7 @@ fn ask<R: Abort>(
     if !task.is_state(state) || !task.is_state(other) {
         panic!(rt; "no state");
     }
-    let mut estimator = Estimator::of(alloc, task).expect(rt, "memory");
+    let mut estimator = Estimator::of(alloc, task, &Choice::Plain).expect(rt, "memory");
     crosses_threads(&estimator);
     let first = estimator.estimate(task, state);
     let second = estimator.estimate(task, other);

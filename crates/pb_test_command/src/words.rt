@@ -1,6 +1,6 @@
 use pb_command::{
-    CheckCommand, CommandLine, CommandRefusal, Input, JournalCommand, KindWord, MakeCommand,
-    SolveCommand, read_words,
+    CheckCommand, CommandLine, CommandRefusal, Input, JournalCommand, MakeCommand, SolveCommand,
+    read_words,
 };
 use std::alloc::{AllocError, Global};
 use std::process::Abort;
@@ -25,39 +25,32 @@ fn input_text(alloc: Global, input: &Input<'_>) -> Result<String, AllocError> {
 
 fn solve_text(alloc: Global, command: &SolveCommand<'_>) -> Result<String, AllocError> {
     let input = input_text(alloc, &command.input)?;
-    let SolveCommand {
-        row,
-        workers,
-        num,
-        den,
-        budget,
-        lot,
-        blocks,
-        ..
-    } = command;
+    let (options, settings) = (command.options, command.settings);
+    let (row, workers, num, den) = (options.row, settings.workers, settings.num, settings.den);
+    let (budget, lot, blocks) = (settings.budget, settings.lot, settings.wish);
     let numbers = format!(in alloc; "{row} {workers} {num}/{den} {budget} {lot} {blocks}")?;
-    let (plain, swamp) = (command.plain, command.swamp);
+    let (plain, swamp) = (settings.plain, options.swamp);
     let (saved, noted) = (command.certificate, command.journal);
     format!(in alloc; "solve {input}: {numbers} {plain} {swamp} {saved:?} {noted:?}\n")
 }
 
 fn check_text(alloc: Global, command: &CheckCommand<'_>) -> Result<String, AllocError> {
     let input = input_text(alloc, &command.input)?;
-    let (name, row, swamp) = (command.certificate, command.row, command.swamp);
+    let (name, options) = (command.certificate, command.options);
+    let (row, swamp) = (options.row, options.swamp);
     format!(in alloc; "check {name} {input}: {row} {swamp}\n")
 }
 
 fn journal_text(alloc: Global, command: &JournalCommand<'_>) -> Result<String, AllocError> {
     let input = input_text(alloc, &command.input)?;
-    format!(in alloc; "journal {} {input}: {}\n", command.journal, command.row)
+    format!(in alloc;
+        "journal {} {input}: {}\n",
+        command.journal, command.options.row
+    )
 }
 
 fn make_text(alloc: Global, command: &MakeCommand) -> Result<String, AllocError> {
-    let kind = match command.kind {
-        KindWord::Grid => "grid",
-        KindWord::Tiles => "tiles",
-        KindWord::Strips => "strips",
-    };
+    let kind = command.kind.name();
     format!(in alloc;
         "make {kind}: {} {} {}\n",
         command.seed, command.size, command.workers

@@ -1,8 +1,9 @@
 //! The texts of made tasks, and the lines of what comes out of them.
 use crate::lines::Lines;
-use pb_made::MadeAnswer;
+use pb_check::Claim;
 use pb_make::{blocks_domain, make_map, make_problem, make_scen, make_tiles};
 use pb_outside::Memory;
+use pb_report::Report;
 use std::alloc::Global;
 
 // The number that a word spells.
@@ -31,12 +32,11 @@ fn long_number(words: &[String], i: usize) -> Option<u64> {
 /// The line of an accepted plan if there are a cost and a bound, of a stop if there is a budget, or
 /// else of no plan.
 pub(crate) fn made_line(alloc: Global, words: &[String]) -> Result<Option<Lines>, Memory> {
-    let answer = match (long_number(words, 1), long_number(words, 2)) {
-        (Some(cost), Some(bound)) => MadeAnswer::Accepted { cost, bound },
-        (Some(budget), None) => MadeAnswer::Stopped { budget },
-        (None, _) => MadeAnswer::NoneAccepted,
+    let line = match (long_number(words, 1), long_number(words, 2)) {
+        (Some(cost), Some(bound)) => Report::of_made(alloc, &Claim::Bounded { cost, bound })?,
+        (Some(budget), None) => Report::of_stop(alloc, budget)?,
+        (None, _) => Report::of_made(alloc, &Claim::Unsolvable)?,
     };
-    let line = answer.line(alloc)?;
     let mut lines = Lines::new(alloc);
     lines.bytes(line.as_slice())?;
     Ok(Some(lines))

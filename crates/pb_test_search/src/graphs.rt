@@ -15,10 +15,10 @@ ghost use Rattle.pb_test_search.specs.NewGraph.{IsNewGraph};
 
 use crate::tables::settings_of;
 use pb_abstract::AbsGraph;
-use pb_estimate::Estimator;
+use pb_estimate::{Choice, Estimator};
 use pb_expand::{Worked, work};
 use pb_lease::{Lease, LeaseGraph, LeaseReply, Renewed, SwitchReply};
-use pb_machine::{End, Event, Settings};
+use pb_machine::{End, Event, STANDARD, Settings};
 use pb_model::{Estimate, Succ};
 use pb_task::{Task, tasks_are_proper};
 use pb_test_examples::{corridor, open_square};
@@ -28,11 +28,11 @@ use std::sync::Arc;
 // Small functions make the calls, and tests see plain values. So a test's proof stays short.
 
 // The estimate of the start, which is a state since tasks are proper.
-fn start_estimate(alloc: Global, task: &Task) -> Result<Estimate, AllocError>
+pub(crate) fn start_estimate(alloc: Global, task: &Task) -> Result<Estimate, AllocError>
     ensures { IfOk result (λ e. e ≡ estimate_of task.now (space_of task.now).start) }
 {
     tasks_are_proper();
-    let mut estimator = Estimator::of(alloc, task)?;
+    let mut estimator = Estimator::of(alloc, task, &Choice::Plain)?;
     let start = task.initial();
     Ok(estimator.estimate(task, &start))
 }
@@ -56,7 +56,7 @@ fn open(alloc: Global, task: Arc<Task>, settings: Settings) -> Result<LeaseGraph
     ensures opening { IfOk result IsNewGraph }
 {
     let (estimate, blocks) = beginning(alloc, &task)?;
-    let graph = LeaseGraph::new(alloc, task, blocks, estimate, settings)?;
+    let graph = LeaseGraph::new(alloc, task, blocks, Choice::Plain, estimate, settings)?;
     Ok(graph)
 }
 
@@ -64,7 +64,8 @@ fn open(alloc: Global, task: Arc<Task>, settings: Settings) -> Result<LeaseGraph
 fn lease_first(graph: &mut LeaseGraph) -> Option<Lease>
     requires { IsNewGraph graph.old }
     ensures leased { IfSome result (λ lease. IsLeased graph.old 0 lease graph.new) }
-    ensures at_work { IfSome result (λ lease. IsAtWork graph.new.task graph.new.table.graph lease) }
+    ensures at_work { IfSome result (λ lease. IsAtWork graph.new.task graph.new.table.graph
+        lease.choice lease) }
 {
     let _ = graph.settings();
     match graph.lease(0) {
@@ -233,8 +234,9 @@ fn work_with(
 ) -> (Worked, u64)
     requires task { graph.now.task ≡ task.now }
     requires of_graph { IsOfGraph graph.now lease.old }
-    requires at_work { IsAtWork graph.now.task graph.now.table.graph lease.old }
-    requires tools { IsOfTask estimator.old task.now }
+    requires at_work { IsAtWork graph.now.task graph.now.table.graph lease.old.choice
+        lease.old }
+    requires tools { IsOfTask estimator.old task.now lease.old.choice }
     requires room { max_degree_of task.now ≤ vec_capacity succs.old }
     ensures { IsOfGraph graph.now lease.new }
 {
@@ -251,11 +253,12 @@ fn work_on(
 ) -> Result<(Worked, u64), AllocError>
     requires task { graph.now.task ≡ task.now }
     requires of_graph { IsOfGraph graph.now lease.old }
-    requires at_work { IsAtWork graph.now.task graph.now.table.graph lease.old }
+    requires at_work { IsAtWork graph.now.task graph.now.table.graph lease.old.choice
+        lease.old }
     ensures { IsOfGraph graph.now lease.new }
 {
     let mut succs = Vec::with_capacity(alloc, task.max_degree() as usize)?;
-    let mut estimator = Estimator::of(alloc, task)?;
+    let mut estimator = Estimator::of(alloc, task, lease.choice())?;
     Ok(work_with(graph, task, &mut estimator, lease, &mut succs))
 }
 
@@ -334,12 +337,8 @@ const GOING_OVER: [Event; 4] = [
 fn graphs_lease_mark_renew_and_switch(rt: HostRuntime) {
     let settings = Settings {
         workers: 2,
-        num: 1,
-        den: 1,
         budget: 1000,
-        lot: 256,
-        wish: 256,
-        plain: false,
+        ..STANDARD
     };
     assert!(rt; waiting(rt.alloc()) == Ok((Some((22, true, 1)), settings, 2)));
     let answers = [true, false, false, false, true, false];

@@ -1,7 +1,7 @@
 //! Whole searches of small tasks, and what the tests see of them.
 
 use pb_lease::LeaseGraph;
-use pb_machine::{End, Event, Settings};
+use pb_machine::{End, Event, STANDARD, Settings};
 use pb_outside::{Gate, OpenGate};
 use pb_search::search;
 use pb_task::{Board, Task, TilesParts};
@@ -11,15 +11,7 @@ use std::process::Abort;
 use std::sync::{Arc, Wait};
 use std::thread::Threads;
 
-pub(crate) const ONE_WORKER: Settings = Settings {
-    workers: 1,
-    num: 1,
-    den: 1,
-    budget: 16_777_216,
-    lot: 256,
-    wish: 256,
-    plain: false,
-};
+pub(crate) const ONE_WORKER: Settings = STANDARD;
 
 // The tasks that are searched.
 #[derive(Clone, Copy)]
@@ -65,7 +57,7 @@ fn searched<R: Threads + Wait + Sync + Abort, G: Gate>(
         budget,
         lot,
         wish,
-        plain: _,
+        ..
     } = settings;
     if workers == 0 || workers > 64 || den == 0 || num < den || num > 1000 {
         panic!(rt; "the workers or the weight are out of range")

@@ -4,7 +4,7 @@ ghost use Rattle.pb_machine.specs.Settings.{AreInRange};
 
 use pb_abstract::AbsGraph;
 use pb_lease::{MachineTables, ROOM};
-use pb_machine::{End, Settings};
+use pb_machine::{End, STANDARD, Settings};
 use pb_test_examples::{corridor, open_square};
 use std::alloc::{AllocError, Global};
 use std::sync::Arc;
@@ -17,12 +17,9 @@ pub(crate) fn settings_of(workers: u32, budget: u64, lot: u64) -> Settings
 {
     Settings {
         workers,
-        num: 1,
-        den: 1,
         budget: budget.max(1).min(1 << 40),
         lot: lot.max(1).min(1 << 20),
-        wish: 256,
-        plain: false,
+        ..STANDARD
     }
 }
 

@@ -8,12 +8,13 @@ ghost use Rattle.pb_yard.specs.Calls.{IsReady, KeepsWorkers};
 ghost use Rattle.pb_workers.specs.Shared.{IsIdle, IsLeased};
 ghost use Rattle.pb_workers.specs.Watching.{IsWatchOf};
 
+use crate::graphs::start_estimate;
 use crate::workers::is_told_to_wait;
 use pb_abstract::AbsGraph;
-use pb_estimate::Estimator;
+use pb_estimate::{Choice, Estimator};
 use pb_expand::{Worked, work_watched};
 use pb_lease::{Lease, LeaseGraph, LeaseReply};
-use pb_machine::Settings;
+use pb_machine::{STANDARD, Settings};
 use pb_model::Succ;
 use pb_task::Task;
 use pb_test_examples::two_cells;
@@ -48,14 +49,14 @@ fn work_beside<W: Wait>(
     requires other { IsOf watch.old.yard.now other.old }
     requires leased { IsLeased task.now graph.now (view_of watch.old.pass) lease }
     requires ready { IsReady (view_of other.old) }
-    requires tools { IsOfTask estimator.old task.now }
+    requires tools { IsOfTask estimator.old task.now (view_of watch.old.pass).choice }
     requires room { max_degree_of task.now ≤ vec_capacity succs.old }
     ensures yard { watch.new.yard.now ≡ watch.old.yard.now }
     ensures own { IsWatchOf watch.new }
     ensures other { IsOf watch.old.yard.now other.new }
     ensures ready { IsReady (view_of watch.new.pass) × IsReady (view_of other.new) }
     ensures workers { KeepsWorkers (view_of other.old) (view_of other.new) }
-    ensures tools { IsOfTask estimator.new task.now }
+    ensures tools { IsOfTask estimator.new task.now (view_of watch.old.pass).choice }
     ensures room { max_degree_of task.now ≤ vec_capacity succs.new }
 {
     let before = watch.yard.glance(other);
@@ -89,14 +90,14 @@ fn lease_beside<W: Wait>(
     requires other { IsOf watch.old.yard.now other.old }
     requires idle { IsIdle task.now graph.now (view_of watch.old.pass) }
     requires ready { IsReady (view_of other.old) }
-    requires tools { IsOfTask estimator.old task.now }
+    requires tools { IsOfTask estimator.old task.now (view_of watch.old.pass).choice }
     requires room { max_degree_of task.now ≤ vec_capacity succs.old }
     ensures yard { watch.new.yard.now ≡ watch.old.yard.now }
     ensures own { IsWatchOf watch.new }
     ensures other { IsOf watch.old.yard.now other.new }
     ensures ready { IsReady (view_of watch.new.pass) × IsReady (view_of other.new) }
     ensures workers { KeepsWorkers (view_of other.old) (view_of other.new) }
-    ensures tools { IsOfTask estimator.new task.now }
+    ensures tools { IsOfTask estimator.new task.now (view_of watch.old.pass).choice }
     ensures room { max_degree_of task.now ≤ vec_capacity succs.new }
 {
     match watch.yard.lease(rt, &mut watch.pass) {
@@ -114,23 +115,14 @@ fn both<W: Wait>(
     rt: &W,
     alloc: Global,
     task: Task,
-) -> Result<Option<(Option<Seen>, Option<Seen>)>, AllocError> {
-    let start = task.initial();
-    if !task.is_state(&start) {
-        return Ok(None);
-    }
+) -> Result<(Option<Seen>, Option<Seen>), AllocError> {
     let abstraction = AbsGraph::of(alloc, &task, 256)?;
-    let mut estimator = Estimator::of(alloc, &task)?;
-    let estimate = estimator.estimate(&task, &start);
+    let estimate = start_estimate(alloc, &task)?;
     let mut succs = Vec::with_capacity(alloc, task.max_degree() as usize)?;
     let settings = Settings {
         workers: 2,
-        num: 1,
-        den: 1,
         budget: 1000,
-        lot: 256,
-        wish: 256,
-        plain: false,
+        ..STANDARD
     };
     let task = Arc::new(alloc, task)?;
     let abstraction = Arc::new(alloc, abstraction)?;
@@ -138,6 +130,7 @@ fn both<W: Wait>(
         alloc,
         Arc::clone(&task)?,
         Arc::clone(&abstraction)?,
+        Choice::Plain,
         estimate,
         settings,
     )?;
@@ -145,6 +138,7 @@ fn both<W: Wait>(
         return Err(AllocError);
     };
     let mut second = yard.split(&mut first);
+    let mut estimator = Estimator::of(alloc, &task, &Choice::Plain)?;
     let mut watch = YardWatch {
         yard: &yard,
         pass: first,
@@ -175,7 +169,7 @@ fn both<W: Wait>(
         &mut watch,
         &mut first,
     );
-    Ok(Some((one, two)))
+    Ok((one, two))
 }
 
 #[test]
@@ -194,6 +188,6 @@ fn a_plan_is_known_before_its_lease_comes_back(rt: HostRuntime) -> Result<(), Fa
         waits: true,
         events: 3,
     };
-    assert_eq!(rt; seen, Some((Some(one), Some(two))));
+    assert_eq!(rt; seen, (Some(one), Some(two)));
     Ok(())
 }

@@ -1,17 +1,17 @@
 //! Workers of one yard: two passes on one thread, whose journal is known, and two threads that sign
 //! off.
-ghost use Rattle.std.specs.Prelude.{◌≡◌, ◌+◌, [], None, IsFalse, IfOk, ⊤};
-ghost use Rattle.std.specs.Option.{MatchOption};
+ghost use Rattle.std.specs.Prelude.{◌≡◌, ◌+◌, [], None, IsFalse, IfOk};
 ghost use Rattle.pb_machine.specs.History.{AreFinished};
 ghost use Rattle.pb_lease.specs.GraphValue.{counts_in};
 ghost use Rattle.pb_lease.specs.Choices.{is_out_in};
 ghost use Rattle.pb_yard.specs.Passes.{view_of, parts_of, all_parts, IsOf, IsFirstPass};
 ghost use Rattle.pb_yard.specs.Calls.{IsOpening, IsReady, IsAlone, HasSignedOff, KeepsWorkers};
 
+use crate::graphs::start_estimate;
 use pb_abstract::AbsGraph;
-use pb_estimate::Estimator;
+use pb_estimate::Choice;
 use pb_lease::{LeaseGraph, LeaseReply};
-use pb_machine::{End, Event, Settings};
+use pb_machine::{End, Event, STANDARD, Settings};
 use pb_task::{Board, Task, TilesParts};
 use pb_yard::{Pass, Yard};
 use std::alloc::{AllocError, Global};
@@ -20,11 +20,9 @@ use std::sync::{Arc, Wait};
 use std::test::Fail;
 use std::thread::{Threads, join, yield_now};
 
-// The graph of a search of a board of 2 by 2 cells by two workers, or None if its start is no
-// state.
-fn graph(alloc: Global) -> Result<Option<LeaseGraph>, AllocError>
-    ensures { IfOk result (λ found. MatchOption found ⊤
-        (λ g. IsOpening g × (g.table.settings.workers ≡ 2))) }
+// The graph of a search of a board of 2 by 2 cells by two workers.
+fn graph(alloc: Global) -> Result<LeaseGraph, AllocError>
+    ensures { IfOk result (λ g. IsOpening g × (g.table.settings.workers ≡ 2)) }
 {
     let task = Task::of_tiles(TilesParts {
         rows: 2,
@@ -32,25 +30,18 @@ fn graph(alloc: Global) -> Result<Option<LeaseGraph>, AllocError>
         start: Board::of(vec![in alloc; 1, 3, 2, 0]?),
         goal: Board::of(vec![in alloc; 0, 1, 2, 3]?),
     });
-    let start = task.initial();
-    if !task.is_state(&start) {
-        return Ok(None);
-    }
     let abstraction = AbsGraph::of(alloc, &task, 256)?;
-    let mut estimator = Estimator::of(alloc, &task)?;
-    let estimate = estimator.estimate(&task, &start);
+    let estimate = start_estimate(alloc, &task)?;
     let settings = Settings {
         workers: 2,
-        num: 1,
-        den: 1,
         budget: 1000,
-        lot: 256,
-        wish: 256,
-        plain: false,
+        ..STANDARD
     };
     let task = Arc::new(alloc, task)?;
     let abstraction = Arc::new(alloc, abstraction)?;
-    Ok(Some(LeaseGraph::new(alloc, task, abstraction, estimate, settings)?))
+    let choice = Choice::Plain;
+    let graph = LeaseGraph::new(alloc, task, abstraction, choice, estimate, settings)?;
+    Ok(graph)
 }
 
 // A yard over it, and its first pass.
@@ -59,11 +50,8 @@ fn open<R: Abort>(rt: &R, alloc: Global) -> (Yard, Pass)
     ensures ready { IsReady (view_of result.1) }
     ensures view { IsAlone (view_of result.1) 2 }
 {
-    let Ok(made) = graph(alloc) else {
+    let Ok(opening) = graph(alloc) else {
         panic!(rt; "no memory")
-    };
-    let Some(opening) = made else {
-        panic!(rt; "no state")
     };
     match Yard::new(alloc, opening) {
         Ok(made) => made,

@@ -12,7 +12,7 @@ use Rattle.pb_model.specs.Store.{Part, Rows}
 use Rattle.pb_model.specs.Sound.{HasParent}
 use Rattle.pb_model.proofs.Callers.{by_cases, equal, equal_self}
 use Rattle.pb_lists.specs.Bundle.{Content, row_of, SetsRow}
-use Rattle.pb_cert.specs.Store.{IsSoundAt, guide_with, store_with, rows_at_home, one_part_rows}
+use Rattle.pb_lists.specs.Store.{IsSoundAt, guide_with, store_with, rows_at_home, one_part_rows}
 
 same_row : (found : Option Row) (one two : Row) → found ≡ Some one → found ≡ Some two → one ≡ two
 same_row found one two x y = cc
@@ -191,7 +191,8 @@ pub two_parts_are_sound : (space : Space) (greatest_cost : ℕ) → IsProper spa
     → ((state : ℕ) → row_of empty_two state ≡ None) → one.weight ≡ record { num = 1; den = 1 } → Steps space start action next cost → false ≡ (next == start)
     → SetsRow (row_of empty) (row_of one) start (offered_row 0 (Cost 0) None 0 (row_of empty start))
     → SetsRow (row_of empty_two) (row_of two) next (offered_row cost (Cost 0) (Some start) action (row_of empty_two next))
-    → IsSoundAt space (home_by_start space.start) (two_part_rows one two) one.weight
+    → IsSoundAt space (home_by_start start) (two_part_rows one two) one.weight
 two_parts_are_sound space greatest_cost proper start action next cost empty one two empty_two same none none_two weight step other first second =
-    two_rows_are_sound space greatest_cost proper action next cost (subst (λ s. Steps space s action next cost) same step) (home_by_start space.start) (two_part_rows one two)
-    (subst (λ s. AreTwo s next cost action (home_by_start s) (two_part_rows one two)) same (two_in_two start next cost action (eqb-false next start (sym other)) empty one two empty_two none none_two first second)) one.weight weight
+    subst (λ s. IsSoundAt space (home_by_start s) (two_part_rows one two) one.weight) (sym same)
+    (two_rows_are_sound space greatest_cost proper action next cost (subst (λ s. Steps space s action next cost) same step) (home_by_start space.start) (two_part_rows one two)
+    (subst (λ s. AreTwo s next cost action (home_by_start s) (two_part_rows one two)) same (two_in_two start next cost action (eqb-false next start (sym other)) empty one two empty_two none none_two first second)) one.weight weight)

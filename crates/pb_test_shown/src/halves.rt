@@ -1,16 +1,14 @@
 //! A store of two parts, as the tests read it.
 ghost use Rattle.std.specs.Prelude.{◌==◌, None, if◌then◌else◌};
 ghost use Rattle.pb_lists.specs.Bundle.{row_of};
-ghost use Rattle.pb_task.specs.Parts.{space_of};
 
-use pb_cert::Store;
-use pb_lists::Bundle;
+use pb_lists::{Bundle, Store};
 use pb_packed::Packed;
-use pb_task::Task;
 
-// The start of a task is at home in the first part, and all other states in the second.
+// The start is at home in the first part, and all other states in the second.
 #[derive(Drop)]
 pub(crate) struct Halves {
+    pub(crate) start: Packed,
     pub(crate) first: Bundle,
     pub(crate) second: Bundle,
 }
@@ -21,7 +19,9 @@ impl Store for Halves {
     ghost rows = { λ s home state. if home == 0 then row_of s.first state else if home == 1
         then row_of s.second state else None };
 
-    ghost home = { λ _ parts state. if state == (space_of parts).start then 0 else 1 };
+    ghost home = { λ s state. if state == s.start then 0 else 1 };
+
+    ghost incumbent = { λ _. None };
 
     ghost weight = { λ s. s.first.weight };
 
@@ -36,7 +36,15 @@ impl Store for Halves {
         }
     }
 
-    fn home(&self, task: &Task, state: &Packed) -> u32 {
-        if *state == task.initial() { 0 } else { 1 }
+    fn home(&self, state: &Packed) -> u32 {
+        if *state == self.start { 0 } else { 1 }
+    }
+
+    fn incumbent(&self) -> Option<u64> {
+        None
+    }
+
+    fn weight(&self) -> (u64, u64) {
+        self.first.weight()
     }
 }

@@ -1,7 +1,7 @@
 //! What is written of events, and what is read of that. What is said of other texts is a row.
 use pb_abstract::AbsGraph;
 use pb_journal::{check_journal, read_header, write_journal};
-use pb_machine::{End, Event, Settings};
+use pb_machine::{End, Event, STANDARD, Settings};
 use pb_outside::{Failed, MemShelf};
 use pb_test_examples::solved_board;
 use std::test::Fail;
@@ -37,13 +37,9 @@ end budget
 #[test]
 fn what_is_written_is_accepted(rt: HostRuntime) -> Result<(), Fail> {
     let settings = Settings {
-        workers: 1,
         num: 3,
         den: 2,
-        budget: 16_777_216,
-        lot: 256,
-        wish: 256,
-        plain: false,
+        ..STANDARD
     };
     let journal = [
         Event::Lease {
@@ -86,12 +82,11 @@ fn what_is_written_is_accepted(rt: HostRuntime) -> Result<(), Fail> {
 fn a_fault_leaves_whole_lines(rt: HostRuntime) -> Result<(), Fail> {
     let settings = Settings {
         workers: 2,
-        num: 1,
-        den: 1,
         budget: 5,
         lot: 2,
         wish: 16,
         plain: true,
+        ..STANDARD
     };
     let journal = [
         Event::Renew {

@@ -1,6 +1,6 @@
 //! Each kind of report once, and the widest numbers. Each name that is printed is a row.
 use pb_cert::Plan;
-use pb_check::{CertificateFault, Verdict};
+use pb_check::{CertificateFault, Claim};
 use pb_grid::GridError;
 use pb_journal::Why;
 use pb_lifted::{Cause, File, Place, TypingRefusal};
@@ -75,7 +75,7 @@ fn are_typing_refusals_printed(alloc: Global) -> bool {
 
 // The reports of ends and of journals.
 fn are_ends_printed(alloc: Global) -> bool {
-    let bounded = Verdict::Bounded { cost: 4, bound: 2 };
+    let bounded = Claim::Bounded { cost: 4, bound: 2 };
     is(
         Report::of_verdict(alloc, &bounded),
         "accepted cost 4 bound 2\n",

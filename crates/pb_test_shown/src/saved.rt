@@ -1,12 +1,11 @@
-ghost use Rattle.std.specs.Prelude.{◌≡◌, IfOk};
-
 use crate::halves::Halves;
-use pb_cert::{Certificate, Plan, Store, trace};
-use pb_lists::Bundle;
+use pb_cert::{Certificate, Plan, trace};
+use pb_estimate::{Choice, Spelling, Stated, Version};
+use pb_lists::{Bundle, Store};
 use pb_model::{Estimate, Status};
 use pb_outside::{Failed, MemShelf, Memory};
 use pb_packed::Packed;
-use pb_task::Task;
+use pb_task::{Kind, Task};
 use pb_test_examples::two_cells;
 use std::alloc::{AllocError, Global};
 use std::test::Fail;
@@ -48,9 +47,7 @@ end
 ";
 
 // Gives a state a row with this g and status, if it has none yet.
-fn add(bundle: &mut Bundle, state: Packed, g: u64, status: Status) -> Result<(), AllocError>
-    ensures { bundle.new.weight ≡ bundle.old.weight }
-{
+fn add(bundle: &mut Bundle, state: Packed, g: u64, status: Status) -> Result<(), AllocError> {
     bundle.offer(state, g, Estimate::Cost(0), None, 0)?;
     let Some(row) = bundle.row(&state) else {
         return Ok(());
@@ -67,9 +64,7 @@ fn add(bundle: &mut Bundle, state: Packed, g: u64, status: Status) -> Result<(),
 }
 
 // A bundle with rows of these states, by their lowest 32 bits.
-fn bundle_of(alloc: Global, rows: &[(u32, u64, Status)]) -> Result<Bundle, AllocError>
-    ensures { IfOk result (λ bundle. bundle.weight ≡ record { num = 1; den = 1 }) }
-{
+fn bundle_of(alloc: Global, rows: &[(u32, u64, Status)]) -> Result<Bundle, AllocError> {
     let mut bundle = Bundle::new(alloc, 1, 1)?;
     'rows: for (state, g, status) in rows {
         let state = Packed::zero().with_bits(0, 32, u64::from(*state));
@@ -78,7 +73,7 @@ fn bundle_of(alloc: Global, rows: &[(u32, u64, Status)]) -> Result<Bundle, Alloc
     Ok(bundle)
 }
 
-// The certificate of a store at the weight 1. It has no clause that says what it is, so a caller's
+// The certificate of a store. It has no clause that says what it is, so a caller's
 // proof stays short.
 fn certificate_of<'a, S: Store>(
     alloc: Global,
@@ -86,9 +81,16 @@ fn certificate_of<'a, S: Store>(
     store: &'a S,
 ) -> Result<Certificate<'a>, AllocError>
     requires whole { S.is_whole store.now }
-    requires weight { S.weight store.now ≡ record { num = 1; den = 1 } }
 {
-    Certificate::of(alloc, "grid", 1, 1, plan, store)
+    let spelling = Spelling {
+        kind: Kind::Grid,
+        version: Version::One,
+        width: 64,
+        stated: Stated {
+            choice: Choice::Plain,
+        },
+    };
+    Certificate::of(alloc, spelling, plan, store)
 }
 
 // A shelf with room for so many bytes.
@@ -154,6 +156,7 @@ fn save_two(
     plan: Option<Plan>,
 ) -> Result<Saved, Memory> {
     let store = Halves {
+        start: Packed::zero(),
         first: bundle_of(alloc, first)?,
         second: bundle_of(alloc, second)?,
     };
@@ -265,7 +268,11 @@ fn plan_over_two_parts(
     let mut second = Bundle::new(alloc, 1, 1)?;
     first.offer(start, 0, Estimate::Cost(0), None, 0)?;
     second.offer(next, cost, Estimate::Cost(0), Some(start), action)?;
-    let store = Halves { first, second };
+    let store = Halves {
+        start,
+        first,
+        second,
+    };
     let plan = trace(alloc, task, &store)?;
     Ok(Some(plan))
 }

@@ -35,11 +35,11 @@ module _ (g : GraphValue) (k : IsLeaseGraph g) (home : is_out_in g ≡ false) (r
   best_end quiet =
       let end = ap (λ (c : Counts). c.end) m.at.counts ∙ quiet in
       record {
-        sound = subst (λ (s : Store). IsSound (space_of g.task) (guide_of g.task g.table.graph) s) store_is (lawful_stores_are_sound (setup_in g) greatest_cost machine (setup_is g k) m.at.lawful);
+        sound = subst (λ (s : Store). IsSound (space_of g.task) (guide_of g.task g.table.graph g.choice) s) store_is (lawful_stores_are_sound (setup_in g) greatest_cost machine (setup_is g k) m.at.lawful);
         quiet = subst (λ (s : Store). IsQuiet s) store_is (m.at.lawful.quiet end);
-        shown = subst (λ (s : Store). IsShown (space_of g.task) (guide_of g.task g.table.graph) s) store_is (none_out_is_shown (setup_in g) greatest_cost machine (setup_is g k) m.at.lawful out);
+        shown = subst (λ (s : Store). IsShown (space_of g.task) (guide_of g.task g.table.graph g.choice) s) store_is (none_out_is_shown (setup_in g) greatest_cost machine (setup_is g k) m.at.lawful out);
         holds = subst (λ o. IncumbentHolds (space_of g.task) (weight_of g.table.settings) o) m.incumbent
-            (quiet_ends_are_best (setup_in g) greatest_cost machine (setup_is g k) m.at.lawful end (estimates_are_admissible g.task k.is_task));
+            (quiet_ends_are_best (setup_in g) greatest_cost machine (setup_is g k) m.at.lawful end (estimates_are_admissible g.task g.choice k.is_task k.suits));
       }
 
   pub spent_end : g.table.end ≡ Some Budget → IsSpentEnd g
@@ -47,8 +47,8 @@ module _ (g : GraphValue) (k : IsLeaseGraph g) (home : is_out_in g ≡ false) (r
       let all = budget_ends_are_spent (setup_in g) greatest_cost machine (setup_is g k) m.at.lawful (ap (λ (c : Counts). c.end) m.at.counts ∙ budget) in
       record {
         works = all.1;
-        comes = subst (λ (s : Store). Comes (space_of g.task) (guide_of g.task g.table.graph) all.1 (opening_store (space_of g.task) (guide_of g.task g.table.graph) (weight_of g.table.settings)) s) store_is
-            (subst (λ (w : Weight). Comes (space_of g.task) (guide_of g.task g.table.graph) all.1 (opening_store (space_of g.task) (guide_of g.task g.table.graph) w) machine.store) (all.8 refl) all.3);
+        comes = subst (λ (s : Store). Comes (space_of g.task) (guide_of g.task g.table.graph g.choice) all.1 (opening_store (space_of g.task) (guide_of g.task g.table.graph g.choice) (weight_of g.table.settings)) s) store_is
+            (subst (λ (w : Weight). Comes (space_of g.task) (guide_of g.task g.table.graph g.choice) all.1 (opening_store (space_of g.task) (guide_of g.task g.table.graph g.choice) w) machine.store) (all.8 refl) all.3);
         all = all.4;
         none_broken = all.5;
         one_run = all.6;

@@ -28,8 +28,8 @@ use Rattle.pb_workers.proofs.Marked.{marked_same, marked_homes, marked_leases, m
 use Rattle.pb_workers.proofs.Returned.{returned_vacant, returned_left, returned_end, none_opened_then, fewer_opened}
 
 module _ (g : GraphValue) (lease : LeaseValue) (held : IsHeld g lease) (task : TaskParts) (graph : AbstractGraph) (task_is : g.task ≡ task) (graph_is : g.table.graph ≡ graph) where
-  pub at_work : IsLeaseGraph g → IsAtWork task graph lease
-  at_work k = subst (λ (a : AbstractGraph). IsAtWork task a lease) graph_is (subst (λ (p : TaskParts). IsAtWork p g.table.graph lease) task_is (record {
+  pub at_work : IsLeaseGraph g → IsAtWork task graph lease.choice lease
+  at_work k = subst (λ (a : AbstractGraph). IsAtWork task a lease.choice lease) graph_is (subst (λ (p : TaskParts). IsAtWork p g.table.graph lease.choice lease) task_is (subst (λ h. IsAtWork g.task g.table.graph h lease) (sym held.of_graph.choice) (record {
     settings = g.table.settings;
     reopenings = 0;
     machine = held.machine;
@@ -40,7 +40,8 @@ module _ (g : GraphValue) (lease : LeaseValue) (held : IsHeld g lease) (task : T
     known = held.machine.known lease.worker;
     work = held.out.0.work;
     scope = held.of_graph.scope;
-  }))
+    choice_is = held.of_graph.choice;
+  })))
 
   some_quota : 0 < lease.quota
   some_quota = (held.moment.at.lawful.counts.quota lease.worker (grant_of lease) held.out.0.leased).0
@@ -50,20 +51,22 @@ module _ (g : GraphValue) (lease : LeaseValue) (held : IsHeld g lease) (task : T
     worked_of_graph = record {
       leased = ap (counts_in g).leases same.worker ∙ held.of_graph.leased ∙ (λ i. Some (record { block = sym same.block i; quota = sym same.quota i }));
       weight = same.weight ∙ held.of_graph.weight;
+      choice = same.choice ∙ held.of_graph.choice;
       scope = subst (λ (a : AbstractGraph). HasScope a worked) (sym graph_is) scope;
     }
 
-    worked_out : (broken : ℕ) → Works task graph lease worked broken → (machine : Machine) → IsOutInTurns (setup_in g) machine 0 lease → IsOutInTurns (setup_in g) machine broken worked
+    worked_out : (broken : ℕ) → Works task graph lease.choice lease worked broken → (machine : Machine) → IsOutInTurns (setup_in g) machine 0 lease → IsOutInTurns (setup_in g) machine broken worked
     worked_out broken works machine out =
-        let here : Works g.task g.table.graph lease worked broken =
-        subst (λ (p : TaskParts). Works p g.table.graph lease worked broken) (sym task_is) (subst (λ (a : AbstractGraph). Works task a lease worked broken) (sym graph_is) works) in
+        let here : Works g.task g.table.graph g.choice lease worked broken =
+        subst (λ h. Works g.task g.table.graph h lease worked broken) held.of_graph.choice
+        (subst (λ (p : TaskParts). Works p g.table.graph lease.choice lease worked broken) (sym task_is) (subst (λ (a : AbstractGraph). Works task a lease.choice lease worked broken) (sym graph_is) works)) in
         let after = here g.table.settings 0 machine out.0 in
         (after.0, after.1 out.1)
 
     -- ---- a lease that comes back
 
     -- for want of memory
-    pub broken_home : Works task graph lease worked 1 → (new : GraphValue) → IsReleased g worked true new → ReleasesNext g worked true new → RunsHome g lease new
+    pub broken_home : Works task graph lease.choice lease worked 1 → (new : GraphValue) → IsReleased g worked true new → ReleasesNext g worked true new → RunsHome g lease new
     broken_home works new r next recorded machine m out =
         let step = releases_in_order g worked new r.incumbent recorded machine m true next (worked_out 1 works machine out) in (
           recorded,
@@ -73,7 +76,7 @@ module _ (g : GraphValue) (lease : LeaseValue) (held : IsHeld g lease) (task : T
         )
 
     -- since no row of its block is Opened
-    pub empty_home : IsLeaseGraph g → Works task graph lease worked 0 → (HasOpened ((leased_store worked).rows worked.block) → ⊥) → (new : GraphValue)
+    pub empty_home : IsLeaseGraph g → Works task graph lease.choice lease worked 0 → (HasOpened ((leased_store worked).rows worked.block) → ⊥) → (new : GraphValue)
         → IsReleased g worked false new → ReleasesNext g worked false new → RunsHome g lease new
     empty_home k works none new r next recorded machine m out =
         let after = worked_out 0 works machine out in
@@ -89,7 +92,7 @@ module _ (g : GraphValue) (lease : LeaseValue) (held : IsHeld g lease) (task : T
     vacant_then old trouble new r = ap (counts_in new).leases (sym same.worker) ∙ returned_vacant old worked trouble new r
 
     -- it came back since no row of its block is Opened
-    pub nearer_empty : IsLeaseGraph g → Works task graph lease worked 0 → worked.used ≤ worked.quota → (HasOpened ((leased_store worked).rows worked.block) → ⊥)
+    pub nearer_empty : IsLeaseGraph g → Works task graph lease.choice lease worked 0 → worked.used ≤ worked.quota → (HasOpened ((leased_store worked).rows worked.block) → ⊥)
         → (new : GraphValue) → IsReleased g worked false new → IsNearer g lease new
     nearer_empty k works within none new r = by_cases (nat_lt 0 worked.used)
         (λ e. inr (inl (let some = below 0 worked.used e in omega (arith, some, left, within, same.quota))))
@@ -114,10 +117,11 @@ module _ (g : GraphValue) (lease : LeaseValue) (held : IsHeld g lease) (task : T
       marked_of_graph = record {
         leased = (λ i. marked_leases g worked.worker marked mark i worked.worker) ∙ worked_of_graph.leased;
         weight = worked_of_graph.weight ∙ (λ i. record { num = (sym (marked_same g worked.worker marked mark).settings i).num; den = (sym (marked_same g worked.worker marked mark).settings i).den });
+        choice = worked_of_graph.choice ∙ sym (marked_same g worked.worker marked mark).choice;
         scope = subst (λ (a : AbstractGraph). HasScope a worked) (sym (marked_same g worked.worker marked mark).graph) worked_of_graph.scope;
       }
 
-      pub given_home : Works task graph lease worked 0 → worked.used ≡ worked.quota → (new : GraphValue) → IsReleased marked worked false new → ReleasesNext marked worked false new
+      pub given_home : Works task graph lease.choice lease worked 0 → worked.used ≡ worked.quota → (new : GraphValue) → IsReleased marked worked false new → ReleasesNext marked worked false new
           → RunsHome g lease new
       given_home works spent new r next recorded machine m out =
           let along = marked_runs g worked.worker marked mark recorded machine m in
@@ -138,7 +142,7 @@ module _ (g : GraphValue) (lease : LeaseValue) (held : IsHeld g lease) (task : T
 
       module _ (new : GraphValue) (kept : LeaseValue) (n : IsRenewed marked worked kept new) (goes : GoesOn marked worked new) where
         pub kept_same : IsSameSearch g new
-        kept_same = same_then g marked new (marked_same g worked.worker marked mark) (record { task = n.task; graph = n.events.graph; settings = n.events.settings })
+        kept_same = same_then g marked new (marked_same g worked.worker marked mark) (record { task = n.task; graph = n.events.graph; choice = n.choice; settings = n.events.settings })
 
         pub kept_signed : (counts_in new).signed_off ≡ (counts_in g).signed_off
         kept_signed = ap (λ (c : Counts). c.signed_off) n.events.counts ∙ marked_signed g worked.worker marked mark
@@ -178,7 +182,7 @@ module _ (g : GraphValue) (lease : LeaseValue) (held : IsHeld g lease) (task : T
         places k = ap (λ (h : HomeTable). length h.keys) (marked_homes g worked.worker marked mark) ∙ k.key_places
             ∙ ap (λ (a : AbstractGraph). (blocks_of a).count) (sym (marked_same g worked.worker marked mark).graph)
 
-        pub kept_out : IsLeaseGraph g → Works task graph lease worked 0 → worked.used ≡ worked.quota → RenewsNext marked worked kept new → RunsOut g lease new kept
+        pub kept_out : IsLeaseGraph g → Works task graph lease.choice lease worked 0 → worked.used ≡ worked.quota → RenewsNext marked worked kept new → RunsOut g lease new kept
         kept_out k works spent next recorded machine m out =
             let along = marked_runs g worked.worker marked mark recorded machine m in
             let before = along.2 worked 0 (worked_out 0 works machine out) in
@@ -194,7 +198,7 @@ module _ (g : GraphValue) (lease : LeaseValue) (held : IsHeld g lease) (task : T
               step.3,
             )
 
-        pub kept_held : IsLeaseGraph g → Works task graph lease worked 0 → worked.used ≡ worked.quota → RenewsNext marked worked kept new → IsHeld new kept
+        pub kept_held : IsLeaseGraph g → Works task graph lease.choice lease worked 0 → worked.used ≡ worked.quota → RenewsNext marked worked kept new → IsHeld new kept
         kept_held k works spent next =
             let runs = kept_out k works spent next held.recorded held.machine held.moment held.out in
             record {

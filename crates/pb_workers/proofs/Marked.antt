@@ -28,6 +28,7 @@ module _ (old : GraphValue) (worker : ℕ) (new : GraphValue) where
   marked_same m = record {
     task = by_mark (λ v. v.task) (λ block is. ap (λ (v : GraphValue). v.task) is.rest) m;
     graph = by_mark (λ v. v.table.graph) (λ block is. is.events.graph) m;
+    choice = by_mark (λ v. v.choice) (λ block is. ap (λ (v : GraphValue). v.choice) is.rest) m;
     settings = by_mark (λ v. v.table.settings) (λ block is. is.events.settings) m;
   }
 

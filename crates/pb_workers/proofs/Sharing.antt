@@ -45,7 +45,7 @@ HasNoOff events = list_any is_off events ≡ false
 -- ---- the same holder
 
 pub holder_self : (v : View) → IsSameHolder v v
-holder_self v = record { worker = refl; taken_in = refl; made = refl; task = refl; graph = refl; settings = refl }
+holder_self v = record { worker = refl; taken_in = refl; made = refl; task = refl; graph = refl; choice = refl; settings = refl }
 
 pub holder_then : (old mid new : View) → IsSameHolder old mid → IsSameHolder mid new → IsSameHolder old new
 holder_then old mid new one two = record {
@@ -54,6 +54,7 @@ holder_then old mid new one two = record {
   made = two.made ∙ one.made;
   task = two.task ∙ one.task;
   graph = two.graph ∙ one.graph;
+  choice = two.choice ∙ one.choice;
   settings = two.settings ∙ one.settings;
 }
 
@@ -61,7 +62,7 @@ holder_then old mid new one two = record {
 
 module _ (step : GraphValue → GraphValue → Type 0) (list : GraphValue → List Event) (old : View) (lent : Option LeaseValue) (told : Option ℕ) (new : View) (h : Holds step list old lent told new) where
   pub holder : IsSameHolder old new
-  holder = subst (λ (v : View). IsSameHolder old v) (sym h.view) record { worker = refl; taken_in = refl; made = refl; task = refl; graph = refl; settings = refl }
+  holder = subst (λ (v : View). IsSameHolder old v) (sym h.view) record { worker = refl; taken_in = refl; made = refl; task = refl; graph = refl; choice = refl; settings = refl }
 
   lent_is : new.lent ≡ lent
   lent_is = ap (λ (v : View). v.lent) h.view
@@ -82,7 +83,7 @@ module _ (step : GraphValue → GraphValue → Type 0) (list : GraphValue → Li
 
 module _ (old between : View) (r : HasRead old between) where
   pub read_holder : IsSameHolder old between
-  read_holder = subst (λ (v : View). IsSameHolder old v) (sym r.view) record { worker = refl; taken_in = refl; made = refl; task = refl; graph = refl; settings = refl }
+  read_holder = subst (λ (v : View). IsSameHolder old v) (sym r.view) record { worker = refl; taken_in = refl; made = refl; task = refl; graph = refl; choice = refl; settings = refl }
 
   read_active : IsActive old → IsActive between
   read_active stays = subst (λ (v : View). IsActive v) (sym r.view) stays
@@ -138,11 +139,16 @@ module _ (task : TaskParts) (graph : AbstractGraph) (view : View) (live : view.j
   unused : lease.used ≡ 0
   unused = (l.at.yard.lent_is view.journal.own.worker lease lent_to).unused
 
-  pub at_work : IsAtWork task graph lease
+  -- the search goes by the lease's choice
+  pub choice_is : view.choice ≡ lease.choice
+  choice_is = of_view.search.choice ∙ sym (l.at.yard.lent_is view.journal.own.worker lease lent_to).of_graph.choice
+
+  pub at_work : IsAtWork task graph lease.choice lease
   at_work =
       let y = l.at.yard in
       let is = y.lent_is view.journal.own.worker lease lent_to in
-      subst (λ (a : AbstractGraph). IsAtWork task a lease) (sym of_view.search.graph ∙ l.graph_is) (subst (λ (p : TaskParts). IsAtWork p l.yard.table.graph lease) (sym of_view.search.task ∙ l.task_is) (record {
+      subst (λ (a : AbstractGraph). IsAtWork task a lease.choice lease) (sym of_view.search.graph ∙ l.graph_is) (subst (λ (p : TaskParts). IsAtWork p l.yard.table.graph lease.choice lease) (sym of_view.search.task ∙ l.task_is)
+      (subst (λ h. IsAtWork l.yard.task l.yard.table.graph h lease) (sym is.of_graph.choice) (record {
         settings = l.yard.table.settings;
         reopenings = 0;
         machine = y.machine;
@@ -160,18 +166,19 @@ module _ (task : TaskParts) (graph : AbstractGraph) (view : View) (live : view.j
           stops = tt;
         };
         scope = is.of_graph.scope;
-      }))
+        choice_is = is.of_graph.choice;
+      })))
 
   told_none : (cost : ℕ) → view.told ≡ Some cost → {A : Type 0} → A
   told_none cost is = let bad : ◌≡◌ {A = Option ℕ} None (Some cost) = sym l.untold ∙ is in absurd cc
 
   -- nothing has been done
-  pub watched : IsWatched (space_of task) (guide_of task graph) (watch_view view) 0 lease
+  pub watched : IsWatched (space_of task) (guide_of task graph lease.choice) (watch_view view) 0 lease
   watched = record {
     from = record {
       lent = lease;
       lent_is = l.lent;
-      same = record { worker = refl; block = refl; quota = refl; weight = refl; places = refl; incumbent = at_most_self lease.incumbent };
+      same = record { worker = refl; block = refl; quota = refl; weight = refl; choice = refl; places = refl; incumbent = at_most_self lease.incumbent };
       work = record { works = []; on = tt; comes = refl; used_is = sym unused; few_broken = omega arith; stops = tt };
       turns = tt;
     };
@@ -188,6 +195,7 @@ module _ (task : TaskParts) (graph : AbstractGraph) (view : View) (live : view.j
       made = ap (λ (j : of_machine.View). j.made) still.journal;
       task = still.task;
       graph = still.graph;
+      choice = still.choice;
       settings = still.settings;
     }
 
@@ -200,16 +208,20 @@ module _ (task : TaskParts) (graph : AbstractGraph) (view : View) (live : view.j
     pub work_graph : new.graph ≡ graph
     work_graph = still.graph ∙ l.graph_is
 
+    work_choice : new.choice ≡ lease.choice
+    work_choice = still.choice ∙ choice_is
+
     pub lease_of : IsLeaseOf new worked
     lease_of = (
       same.worker ∙ worker_is ∙ sym (ap (λ (j : of_machine.View). j.own.worker) still.journal),
       ap grant_in (still.lent ∙ l.lent) ∙ (λ i. Some (record { block = sym same.block i; quota = sym same.quota i })),
     )
 
-    module _ (broken : ℕ) (w : IsWatched (space_of task) (guide_of task graph) (watch_view new) broken worked) (scope : HasScope graph worked) where
-      of_new : IsWatched (space_of new.task) (guide_of new.task new.graph) (watch_view new) broken worked
-      of_new = subst (λ (p : TaskParts). IsWatched (space_of p) (guide_of p new.graph) (watch_view new) broken worked) (sym work_task)
-          (subst (λ (a : AbstractGraph). IsWatched (space_of task) (guide_of task a) (watch_view new) broken worked) (sym work_graph) w)
+    module _ (broken : ℕ) (w : IsWatched (space_of task) (guide_of task graph lease.choice) (watch_view new) broken worked) (scope : HasScope graph worked) where
+      of_new : IsWatched (space_of new.task) (guide_of new.task new.graph new.choice) (watch_view new) broken worked
+      of_new = subst (λ (p : TaskParts). IsWatched (space_of p) (guide_of p new.graph new.choice) (watch_view new) broken worked) (sym work_task)
+          (subst (λ (a : AbstractGraph). IsWatched (space_of task) (guide_of task a new.choice) (watch_view new) broken worked) (sym work_graph)
+          (subst (λ h. IsWatched (space_of task) (guide_of task graph h) (watch_view new) broken worked) (sym work_choice) w))
 
       pub brought : IsBrought new broken worked
       brought = record {
@@ -233,7 +245,7 @@ module _ (old : View) (most_broken : ℕ) (lease : LeaseValue) (b : IsBrought ol
 
   pub still_brought : (step : GraphValue → GraphValue → Type 0) (list : GraphValue → List Event) (new : View) → Looks step list old new → IsBrought new most_broken lease
   still_brought step list new h =
-      let stays = lease_work_stays (space_of old.task) (guide_of old.task old.graph) b.lent.block lease.used most_broken most_broken (was_read old)
+      let stays = lease_work_stays (space_of old.task) (guide_of old.task old.graph old.choice) b.lent.block lease.used most_broken most_broken (was_read old)
       (was_read (view_then h.found.table.journal (list h.found) old.lent old.told old)) (leased_store b.lent) (leased_store lease) b.work (omega arith)
       (read_too h.found.table.journal (list h.found)) in
       subst (λ (v : View). IsBrought v most_broken lease) (sym h.view) record {
@@ -242,7 +254,7 @@ module _ (old : View) (most_broken : ℕ) (lease : LeaseValue) (b : IsBrought ol
         same = b.same;
         weights = b.weights;
         work = stays.0;
-        turns = subst (λ (works : List Work). AreLeaseTurns (space_of old.task) (guide_of old.task old.graph) works (leased_store b.lent)) (sym stays.1) b.turns;
+        turns = subst (λ (works : List Work). AreLeaseTurns (space_of old.task) (guide_of old.task old.graph old.choice) works (leased_store b.lent)) (sym stays.1) b.turns;
         copy = b.copy;
         told = b.told;
       }

@@ -19,17 +19,17 @@ home_store g = store_of (home_rows g.homes) g.incumbent (weight_of g.table.setti
 -- some plan costs no more, and no plan costs less than the incumbent divided by the weight. Without
 -- an incumbent there is no plan.
 pub record IsBestEnd (g : GraphValue) : Type 0 where
-  pub sound : IsSound (space_of g.task) (guide_of g.task g.table.graph) (home_store g)
+  pub sound : IsSound (space_of g.task) (guide_of g.task g.table.graph g.choice) (home_store g)
   pub quiet : IsQuiet (home_store g)
-  pub shown : IsShown (space_of g.task) (guide_of g.task g.table.graph) (home_store g)
+  pub shown : IsShown (space_of g.task) (guide_of g.task g.table.graph g.choice) (home_store g)
   pub holds : IncumbentHolds (space_of g.task) (weight_of g.table.settings) g.incumbent
 
 -- Exactly as many expansions as the budget allows, none of them broken off, lead from the start's
 -- row alone to the rows at home. One of these is Opened.
 pub record IsSpentEnd (g : GraphValue) : Type 0 where
   pub works : List Work
-  pub comes : Comes (space_of g.task) (guide_of g.task g.table.graph) works
-      (opening_store (space_of g.task) (guide_of g.task g.table.graph) (weight_of g.table.settings))
+  pub comes : Comes (space_of g.task) (guide_of g.task g.table.graph g.choice) works
+      (opening_store (space_of g.task) (guide_of g.task g.table.graph g.choice) (weight_of g.table.settings))
       (home_store g)
   pub all : expansions works ≡ g.table.settings.budget
   pub none_broken : broken_expansions works ≡ 0

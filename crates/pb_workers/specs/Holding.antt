@@ -7,6 +7,7 @@ use Rattle.pb_machine.specs.Tables.{count_below}
 use Rattle.pb_machine.specs.Blocks.{interferes}
 use Rattle.pb_machine.specs.Machine.{Machine}
 use Rattle.pb_task.specs.declared.parts.TaskParts.{TaskParts}
+use Rattle.pb_estimate.specs.declared.choice.Choice.{Choice}
 use Rattle.pb_abstract.specs.Graph.{AbstractGraph}
 use Rattle.pb_bundles.specs.Homes.{key_at}
 use Rattle.pb_bundles.specs.Choosing.{IsRivalBy}
@@ -20,13 +21,14 @@ use Rattle.pb_lease.specs.Steps.{IsMarked, KeepsLeases}
 use Rattle.pb_workers.specs.Runs.{RunsTo}
 
 -- what work makes of a lease that is out
-abbrev pub Works : TaskParts → AbstractGraph → LeaseValue → LeaseValue → (broken : ℕ) → Type 0
-Works task graph old new broken =
+abbrev pub Works : TaskParts → AbstractGraph → Choice → LeaseValue → LeaseValue → (broken : ℕ)
+    → Type 0
+Works task graph choice old new broken =
     (settings : Settings) (reopenings : ℕ) (machine : Machine)
-    → (before : IsOut (setup_of task graph settings reopenings) machine 0 old)
-    → (after : IsOut (setup_of task graph settings reopenings) machine broken new)
-    × (IsInTurns (setup_of task graph settings reopenings) machine 0 old before
-    → IsInTurns (setup_of task graph settings reopenings) machine broken new after)
+    → (before : IsOut (setup_of task graph choice settings reopenings) machine 0 old)
+    → (after : IsOut (setup_of task graph choice settings reopenings) machine broken new)
+    × (IsInTurns (setup_of task graph choice settings reopenings) machine 0 old before
+    → IsInTurns (setup_of task graph choice settings reopenings) machine broken new after)
 
 -- The lease is the graph's, which has no end, and its block's noted key is that of an Opened row.
 -- At some moment that the graph is, the lease is out and has worked in turns.

@@ -16,6 +16,7 @@ pub record IsSameHolder (old new : View) : Type 0 where
   pub made : new.journal.made ≡ old.journal.made
   pub task : new.task ≡ old.task
   pub graph : new.graph ≡ old.graph
+  pub choice : new.choice ≡ old.choice
   pub settings : new.settings ≡ old.settings
 
 -- The search is for this task by these blocks of its own. The pass's worker has no lease and has

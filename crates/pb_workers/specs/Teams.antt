@@ -12,8 +12,9 @@ pub record IsToSplit (task : TaskParts) (graph : AbstractGraph) (more : ℕ) (vi
     pub none_taken_in : view.journal.taken_in ≡ []
     pub more_is : view.journal.made + more ≡ view.settings.workers
 
--- it is the same search: the same task, by the same blocks, with the same settings
+-- it is the same search: the same task, by the same blocks, with the same estimate and settings
 pub record KeepsSearch (old new : View) : Type 0 where
   pub task : new.task ≡ old.task
   pub graph : new.graph ≡ old.graph
+  pub choice : new.choice ≡ old.choice
   pub settings : new.settings ≡ old.settings

@@ -13,6 +13,7 @@ watch_view view =
     record {
       task = view.task;
       graph = view.graph;
+      choice = view.choice;
       lent = view.lent;
       read = was_read view;
       answers = view.read;
@@ -30,6 +31,7 @@ pub record KeepsLease (old new : View) : Type 0 where
   pub lent : new.lent ≡ old.lent
   pub task : new.task ≡ old.task
   pub graph : new.graph ≡ old.graph
+  pub choice : new.choice ≡ old.choice
   pub settings : new.settings ≡ old.settings
 
 -- It is the same yard and the same pass, which has the same lease.
@@ -44,7 +46,14 @@ same_watch watch =
     record {
       yard = refl;
       pass = ((((refl, refl, refl, refl), refl)), refl);
-      lease = record { journal = refl; lent = refl; task = refl; graph = refl; settings = refl };
+      lease = record {
+        journal = refl;
+        lent = refl;
+        task = refl;
+        graph = refl;
+        choice = refl;
+        settings = refl;
+      };
     }
 
 pub same_watch_on : (old mid new : YardWatch) → IsSameWatch old mid → IsSameWatch mid new
@@ -64,6 +73,7 @@ same_watch_on old mid new one two =
         lent = two.lease.lent ∙ one.lease.lent;
         task = two.lease.task ∙ one.lease.task;
         graph = two.lease.graph ∙ one.lease.graph;
+        choice = two.lease.choice ∙ one.lease.choice;
         settings = two.lease.settings ∙ one.lease.settings;
       };
     }

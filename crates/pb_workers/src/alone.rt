@@ -54,7 +54,7 @@ pub fn run_alone<G: Gate>(
     ensures same { IsSameSearch graph.old graph.new }
 {
     let _ = graph.abstraction();
-    let tools = Tools::new(alloc, task)?;
+    let tools = Tools::new(alloc, task, graph.choice())?;
     let mut worker = Worker::new(task, abstraction, tools);
     let end = search(&mut worker, graph, gate);
     sign_off(graph, end)

@@ -14,7 +14,7 @@ ghost use Rattle.pb_workers.specs.Tools.{AreFor};
 ghost use Rattle.pb_workers.specs.Holding.{Works};
 
 use pb_abstract::AbsGraph;
-use pb_estimate::Estimator;
+use pb_estimate::{Choice, Estimator};
 use pb_expand::{Watch, Worked, work, work_watched};
 use pb_lease::Lease;
 use pb_model::Succ;
@@ -29,11 +29,11 @@ pub struct Tools {
 }
 
 impl Tools {
-    /// Tools for this task. An error is out of memory.
-    pub fn new(alloc: Global, task: &Task) -> Result<Tools, AllocError>
-        ensures { IfOk result (AreFor task.now) }
+    /// Tools for this task, with the estimates of this choice. An error is out of memory.
+    pub fn new(alloc: Global, task: &Task, choice: &Choice) -> Result<Tools, AllocError>
+        ensures { IfOk result (AreFor task.now choice.now) }
     {
-        let estimator = Estimator::of(alloc, task)?;
+        let estimator = Estimator::of(alloc, task, choice)?;
         let succs = Vec::with_capacity(alloc, task.max_degree() as usize)?;
         Ok(Tools { estimator, succs })
     }
@@ -53,10 +53,11 @@ pub struct Worker<'a> {
 impl<'a> Worker<'a> {
     /// A worker for this task by these blocks, with tools for the task.
     pub fn new(task: &'a Task, abstraction: &'a AbsGraph, tools: Tools) -> Worker<'a>
-        requires { AreFor task.now tools }
+        requires { max_degree_of task.now ≤ vec_capacity tools.succs }
         ensures task { result.task.now ≡ task.now }
         ensures abstraction { result.abstraction.now ≡ abstraction.now }
-        ensures tools { IsOfTask result.estimator result.task.now }
+        ensures tools { (choice : _) → IsOfTask tools.estimator task.now choice
+            → IsOfTask result.estimator result.task.now choice }
     {
         let Tools { estimator, succs } = tools;
         Worker {
@@ -71,15 +72,16 @@ impl<'a> Worker<'a> {
     /// out.
     pub fn work(&mut self, lease: &mut Lease) -> Worked
         requires graph { IsGraphOf self.old.task.now self.old.abstraction.now }
-        requires at_work { IsAtWork self.old.task.now self.old.abstraction.now lease.old }
-        requires tools { IsOfTask self.old.estimator self.old.task.now }
+        requires at_work { IsAtWork self.old.task.now self.old.abstraction.now lease.old.choice
+            lease.old }
+        requires tools { IsOfTask self.old.estimator self.old.task.now lease.old.choice }
         ensures turned { HasTurned (space_of self.old.task.now)
-            (guide_of self.old.task.now self.old.abstraction.now) reads_none lease.old.block
+            (guide_of self.old.task.now self.old.abstraction.now lease.old.choice) reads_none lease.old.block
             (lease.new.used - lease.old.used) (broken_by result)
             (leased_store lease.old) (leased_store lease.new) }
         ensures counted { lease.old.used ≤ lease.new.used }
         ensures within { lease.new.used ≤ lease.new.quota }
-        ensures out { Works self.old.task.now self.old.abstraction.now lease.old lease.new
+        ensures out { Works self.old.task.now self.old.abstraction.now lease.old.choice lease.old lease.new
             (broken_by result) }
         ensures spent { (result ≡ Spent)
             ↔ (HasOpened (own_rows lease.new) × (lease.new.used ≡ lease.new.quota)) }
@@ -88,7 +90,7 @@ impl<'a> Worker<'a> {
         ensures scope { HasScope self.old.abstraction.now lease.new }
         ensures task { self.new.task.now ≡ self.old.task.now }
         ensures abstraction { self.new.abstraction.now ≡ self.old.abstraction.now }
-        ensures tools { IsOfTask self.new.estimator self.new.task.now }
+        ensures tools { IsOfTask self.new.estimator self.new.task.now lease.old.choice }
     {
         work(
             self.task,
@@ -102,20 +104,22 @@ impl<'a> Worker<'a> {
     /// Works on a lease as `work` does, under a watch of the incumbent.
     pub fn work_watched<W: Watch>(&mut self, lease: &mut Lease, watch: &mut W) -> Worked
         requires graph { IsGraphOf self.old.task.now self.old.abstraction.now }
-        requires at_work { IsAtWork self.old.task.now self.old.abstraction.now lease.old }
-        requires tools { IsOfTask self.old.estimator self.old.task.now }
+        requires at_work { IsAtWork self.old.task.now self.old.abstraction.now lease.old.choice
+            lease.old }
+        requires tools { IsOfTask self.old.estimator self.old.task.now lease.old.choice }
         requires can { W.can watch.old }
         requires task_is { (W.seen watch.old).task ≡ self.old.task.now }
         requires graph_is { (W.seen watch.old).graph ≡ self.old.abstraction.now }
+        requires choice_is { (W.seen watch.old).choice ≡ lease.old.choice }
         requires watched { IsWatched (space_of self.old.task.now)
-            (guide_of self.old.task.now self.old.abstraction.now) (W.seen watch.old) 0 lease.old }
+            (guide_of self.old.task.now self.old.abstraction.now lease.old.choice) (W.seen watch.old) 0 lease.old }
         ensures turned { HasTurnedReading (space_of self.old.task.now)
-            (guide_of self.old.task.now self.old.abstraction.now) (W.seen watch.new).read
+            (guide_of self.old.task.now self.old.abstraction.now lease.old.choice) (W.seen watch.new).read
             lease.old.block (lease.new.used - lease.old.used) (broken_by result)
             (ends_with_read result) (leased_store lease.old) (leased_store lease.new)
             (W.seen watch.old).answers (W.seen watch.new).answers }
         ensures watched { IsWatched (space_of self.old.task.now)
-            (guide_of self.old.task.now self.old.abstraction.now) (W.seen watch.new)
+            (guide_of self.old.task.now self.old.abstraction.now lease.old.choice) (W.seen watch.new)
             (broken_by result) lease.new }
         ensures can { W.can watch.new }
         ensures stays { W.stays watch.old watch.new }
@@ -126,7 +130,7 @@ impl<'a> Worker<'a> {
         ensures scope { HasScope self.old.abstraction.now lease.new }
         ensures task { self.new.task.now ≡ self.old.task.now }
         ensures abstraction { self.new.abstraction.now ≡ self.old.abstraction.now }
-        ensures tools { IsOfTask self.new.estimator self.new.task.now }
+        ensures tools { IsOfTask self.new.estimator self.new.task.now lease.old.choice }
     {
         work_watched(
             self.task,

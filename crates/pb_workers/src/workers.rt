@@ -14,6 +14,7 @@ use crate::event_count::EventCount;
 use crate::worker::Tools;
 use crate::yard_search::run_worker;
 use pb_abstract::AbsGraph;
+use pb_estimate::Choice;
 use pb_outside::Gate;
 use pb_task::Task;
 use pb_yard::{Pass, Yard};
@@ -22,13 +23,18 @@ use std::sync::Wait;
 use std::thread::{Threads, join};
 
 // Tools for so many workers.
-fn tools_for(alloc: Global, task: &Task, workers: u32) -> Result<Vec<Tools>, AllocError>
-    ensures tools { IfOk result (λ v. AllAreFor task.now v.items) }
+fn tools_for(
+    alloc: Global,
+    task: &Task,
+    choice: &Choice,
+    workers: u32,
+) -> Result<Vec<Tools>, AllocError>
+    ensures tools { IfOk result (λ v. AllAreFor task.now choice.now v.items) }
     ensures count { IfOk result (λ v. vec_len v ≡ workers) }
 {
     let mut tools = Vec::with_capacity(alloc, workers as usize)?;
     for _i in 0..workers {
-        tools.push_reserved(Tools::new(alloc, task)?);
+        tools.push_reserved(Tools::new(alloc, task, choice)?);
     }
     Ok(tools)
 }
@@ -48,7 +54,8 @@ fn run_all<R: Threads + Wait + Sync, G: Gate>(
 ) -> Pass
     requires own { IsOf yard.now pass }
     requires first { worker_of pass ≡ 0 }
-    requires tools { AreFor task.now first × AllAreFor task.now others.items }
+    requires tools { AreFor task.now (view_of pass).choice first
+        × AllAreFor task.now (view_of pass).choice others.items }
     requires to_split { IsToSplit task.now abstraction.now (vec_len others) (view_of pass) }
     ensures own { IsOf yard.now result }
     ensures first { worker_of result ≡ 0 }
@@ -64,7 +71,8 @@ fn run_all<R: Threads + Wait + Sync, G: Gate>(
         rt,
         || -> Pass
             requires { IsSync R.row × IsOf yard.now pass × (worker_of pass ≡ 0)
-                × AreFor task.now first × AllAreFor task.now others.items
+                × AreFor task.now (view_of pass).choice first
+                × AllAreFor task.now (view_of pass).choice others.items
                 × IsToSplit task.now abstraction.now (vec_len others) (view_of pass) }
             ensures { IsOf yard.entry.now result × (worker_of result ≡ 0)
                 × (parts_of result ≡ parts_of pass) × AllSignedOff (view_of result)
@@ -83,7 +91,7 @@ fn run_all<R: Threads + Wait + Sync, G: Gate>(
             )
         },
         || -> Pass
-            requires { IsOf yard.now other × AreFor task.now tools
+            requires { IsOf yard.now other × AreFor task.now (view_of other).choice tools
                 × IsIdle task.now abstraction.now (view_of other) }
             ensures { IsOf yard.entry.now result × (parts_of result ≡ parts_of other)
                 × IsSameHolder (view_of other) (view_of result)
@@ -105,6 +113,7 @@ pub fn run_workers<R: Threads + Wait + Sync, G: Gate>(
     alloc: Global,
     task: &Task,
     abstraction: &AbsGraph,
+    choice: &Choice,
     yard: &Yard,
     gate: &G,
     pass: Pass,
@@ -117,6 +126,7 @@ pub fn run_workers<R: Threads + Wait + Sync, G: Gate>(
     requires graph { IsGraphOf task.now abstraction.now }
     requires task { (view_of pass).task ≡ task.now }
     requires abstraction { (view_of pass).graph ≡ abstraction.now }
+    requires choice { (view_of pass).choice ≡ choice.now }
     requires vacant { (view_of pass).lent ≡ None }
     requires stays { IsActive (view_of pass) }
 
@@ -129,10 +139,10 @@ pub fn run_workers<R: Threads + Wait + Sync, G: Gate>(
 
     ensures err { IfErr result (λ e. e.1 ≡ pass) }
 {
-    let Ok(first) = Tools::new(alloc, task) else {
+    let Ok(first) = Tools::new(alloc, task, choice) else {
         return Err((AllocError, pass));
     };
-    let Ok(others) = tools_for(alloc, task, workers.wrapping_sub(1)) else {
+    let Ok(others) = tools_for(alloc, task, choice, workers.wrapping_sub(1)) else {
         return Err((AllocError, pass));
     };
     let count = EventCount::new();

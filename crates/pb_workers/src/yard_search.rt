@@ -31,7 +31,8 @@ fn take_leases<W: Wait, G: Gate>(
     requires own { IsWatchOf watch.old }
     requires idle { IsIdle worker.old.task.now worker.old.abstraction.now
         (view_of watch.old.pass) }
-    requires tools { IsOfTask worker.old.estimator worker.old.task.now }
+    requires tools { IsOfTask worker.old.estimator worker.old.task.now
+        (view_of watch.old.pass).choice }
     ensures same { KeepsPass watch.old.pass watch.new.pass }
     ensures yard { watch.new.yard.now ≡ watch.old.yard.now }
     ensures holder { IsSameHolder (view_of watch.old.pass) (view_of watch.new.pass) }
@@ -66,7 +67,7 @@ pub fn run_worker<W: Wait, G: Gate>(
     pass: Pass,
 ) -> Pass
     requires own { IsOf yard.now pass }
-    requires tools { AreFor task.now tools }
+    requires tools { AreFor task.now (view_of pass).choice tools }
     requires idle { IsIdle task.now abstraction.now (view_of pass) }
     ensures same { IsSamePass pass result × (parts_of result ≡ parts_of pass) }
     ensures holder { IsSameHolder (view_of pass) (view_of result) }

@@ -101,7 +101,8 @@ pub fn yard_turn<W: Wait, G: Gate>(
     requires own { IsWatchOf watch.old }
     requires leased { IsLeased worker.old.task.now worker.old.abstraction.now
         (view_of watch.old.pass) lease }
-    requires tools { IsOfTask worker.old.estimator worker.old.task.now }
+    requires tools { IsOfTask worker.old.estimator worker.old.task.now
+        (view_of watch.old.pass).choice }
     ensures same { KeepsPass watch.old.pass watch.new.pass }
     ensures yard { watch.new.yard.now ≡ watch.old.yard.now }
     ensures holder { IsSameHolder (view_of watch.old.pass) (view_of watch.new.pass) }
@@ -111,7 +112,8 @@ pub fn yard_turn<W: Wait, G: Gate>(
         (view_of watch.new.pass)) }
     ensures task { worker.new.task.now ≡ worker.old.task.now }
     ensures abstraction { worker.new.abstraction.now ≡ worker.old.abstraction.now }
-    ensures tools { IsOfTask worker.new.estimator worker.new.task.now }
+    ensures tools { IsOfTask worker.new.estimator worker.new.task.now
+        (view_of watch.new.pass).choice }
 {
     let worked = worker.work_watched(&mut lease, watch);
     gate.giving(lease.worker(), lease.block());
@@ -160,7 +162,8 @@ pub fn yard_hold<W: Wait, G: Gate>(
     requires own { IsWatchOf watch.old }
     requires leased { IsLeased worker.old.task.now worker.old.abstraction.now
         (view_of watch.old.pass) lease }
-    requires tools { IsOfTask worker.old.estimator worker.old.task.now }
+    requires tools { IsOfTask worker.old.estimator worker.old.task.now
+        (view_of watch.old.pass).choice }
     ensures same { KeepsPass watch.old.pass watch.new.pass }
     ensures yard { watch.new.yard.now ≡ watch.old.yard.now }
     ensures holder { IsSameHolder (view_of watch.old.pass) (view_of watch.new.pass) }
@@ -168,7 +171,8 @@ pub fn yard_hold<W: Wait, G: Gate>(
         (view_of watch.new.pass) }
     ensures task { worker.new.task.now ≡ worker.old.task.now }
     ensures abstraction { worker.new.abstraction.now ≡ worker.old.abstraction.now }
-    ensures tools { IsOfTask worker.new.estimator worker.new.task.now }
+    ensures tools { IsOfTask worker.new.estimator worker.new.task.now
+        (view_of watch.new.pass).choice }
 {
     let mut held = lease;
     for _ in rt.forever() {

@@ -1,5 +1,5 @@
 -- One expansion that offers one successor, as the work of a lease.
-use Rattle.std.proofs.Common.{◌≡◌, ℕ, ◌+◌, Bool, List, [], ◌∷◌, length, get_or, Option, Some, Result, Ok, OnOk, IsFalse, IsSome, refl, sym, ap, ◌∙◌, subst, arith}
+use Rattle.std.proofs.Common.{◌≡◌, ℕ, ◌+◌, Bool, List, [], ◌∷◌, length, get_or, Option, Some, Result, Ok, OnOk, IfOk, IsFalse, IsSome, refl, sym, ap, ◌∙◌, subst, arith}
 use Rattle.std.specs.List.{AllByRecursion}
 use Rattle.pb_model.specs.declared.row.Status.TheVariants.{Closed}
 use Rattle.pb_model.specs.declared.row.Row.{Row}
@@ -27,6 +27,10 @@ one_succ (first ∷ second ∷ rest) succ long is = absurd (omega (arith, long))
 -- what a call did that answered well
 pub when_ok : {X E P : Type 0} (r : Result X E) (x : X) → r ≡ Ok x → OnOk r P → P
 when_ok {X} {E} {P} r x is h = subst (λ (r : Result X E). OnOk r P) is h
+
+-- what holds of what is found, where it is expected
+pub when_found : {X E : Type 0} (P : X → Type 0) (r : Result X E) (x : X) → r ≡ Ok x → IfOk r P → P x
+when_found {X} {E} P r x is h = subst (λ (r : Result X E). IfOk r P) is h
 
 -- the bundle that the only step leads to
 pub only_leads : (space : Space) (guide : Guide) (state : ℕ) (parts : List (ℕ × Content)) (succ : Succ) → steps space state ≡ succ ∷ []

@@ -26,20 +26,22 @@ use Rattle.pb_yard.specs.Rule.{journal_view, IsSearchOf, IsRecent, HasNoPass}
 pub record GoesOnAs (old new : GraphValue) : Type 0 where
   pub task : new.task ≡ old.task
   pub graph : new.table.graph ≡ old.table.graph
+  pub choice : new.choice ≡ old.choice
   pub settings : new.table.settings ≡ old.table.settings
 
 module _ (old new : GraphValue) (same : GoesOnAs old new) where
   pub setup_same : setup_in new ≡ setup_in old
-  setup_same = λ i. setup_of (same.task i) (same.graph i) (same.settings i) 0
+  setup_same = λ i. setup_of (same.task i) (same.graph i) (same.choice i) (same.settings i) 0
 
   pub search_same : (view : View) → IsSearchOf old view → IsSearchOf new view
-  search_same view is = record { task = is.task ∙ sym same.task; graph = is.graph ∙ sym same.graph; settings = is.settings ∙ sym same.settings }
+  search_same view is = record { task = is.task ∙ sym same.task; graph = is.graph ∙ sym same.graph; choice = is.choice ∙ sym same.choice; settings = is.settings ∙ sym same.settings }
 
   -- a lease whose grant stays is one of the graph as before
   pub still_of_graph : (lease : LeaseValue) → (counts_in new).leases lease.worker ≡ (counts_in old).leases lease.worker → IsOfGraph old lease → IsOfGraph new lease
   still_of_graph lease leases of = record {
     leased = leases ∙ of.leased;
     weight = of.weight ∙ ap weight_of (sym same.settings);
+    choice = of.choice ∙ sym same.choice;
     scope = record { blocks = λ b. of.scope.blocks b ∙ ap (λ (g : AbstractGraph). (blocks_of g).scope lease.block b) (sym same.graph); weights = of.scope.weights };
   }
 

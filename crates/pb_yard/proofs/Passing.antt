@@ -48,7 +48,7 @@ opens g k o = record {
     one zero view e up = subst (IsViewOf g (opening_machine (setup_in g)) (λ worker. None)) (some-injective (opening_view g) view e) record {
       lent = refl;
       told = refl;
-      search = record { task = refl; graph = refl; settings = refl };
+      search = record { task = refl; graph = refl; choice = refl; settings = refl };
       known = record { read = λ incumbent has. unread incumbent has; last = refl };
       copy = λ lease is. absurd (none-some lease is);
     }
@@ -112,7 +112,7 @@ module _ (x : GraphValue) (shared : Option ℕ) (views : List View) (seat : ℕ)
   kept = let m = h.each seat v at live in record {
     lent = m.lent;
     told = m.told;
-    search = record { task = m.search.task; graph = m.search.graph; settings = m.search.settings };
+    search = record { task = m.search.task; graph = m.search.graph; choice = m.search.choice; settings = m.search.settings };
     known = record { read = m.known.read; last = m.known.last };
     copy = m.copy;
   }
@@ -124,7 +124,7 @@ module _ (x : GraphValue) (shared : Option ℕ) (views : List View) (seat : ℕ)
   given = let m = h.each seat v at live in record {
     lent = free;
     told = untold;
-    search = record { task = m.search.task; graph = m.search.graph; settings = m.search.settings };
+    search = record { task = m.search.task; graph = m.search.graph; choice = m.search.choice; settings = m.search.settings };
     known = record { read = λ incumbent has. unread incumbent has; last = known_none v.journal.made };
     copy = λ lease is. absurd (none-some lease is);
   }
@@ -191,7 +191,7 @@ module _ (x : GraphValue) (shared : Option ℕ) (views : List View) (seat : ℕ)
   met = let m = h.each seat v at live in record {
     lent = m.lent;
     told = m.told;
-    search = record { task = m.search.task; graph = m.search.graph; settings = m.search.settings };
+    search = record { task = m.search.task; graph = m.search.graph; choice = m.search.choice; settings = m.search.settings };
     known = record { read = m.known.read; last = m.known.last };
     copy = m.copy;
   }

@@ -20,6 +20,7 @@ use Rattle.pb_machine.proofs.Callers.{known_more, entry_here, entry_else}
 use Rattle.pb_abstract.specs.Graph.{AbstractGraph}
 use Rattle.pb_bundles.specs.Parts.{away_rows}
 use Rattle.pb_bundles.specs.Moves.{NotesKeys}
+use Rattle.pb_estimate.specs.declared.choice.Choice.{Choice}
 use Rattle.pb_lease.specs.Tables.{blocks}
 use Rattle.pb_lease.specs.Events.{Adds, ending}
 use Rattle.pb_lease.specs.LeaseValue.{LeaseValue, leased_store}
@@ -63,11 +64,11 @@ ending_by own true None other else = refl
 ending_by own true (Some e) other else = refl
 ending_by own false end other else = refl
 
-same_adds : (x y : GraphValue) (events : List Event) → Adds x.table y.table events → y.task ≡ x.task → GoesOnAs x y
-same_adds x y events adds task = record { task = task; graph = adds.graph; settings = adds.settings }
+same_adds : (x y : GraphValue) (events : List Event) → Adds x.table y.table events → y.task ≡ x.task → y.choice ≡ x.choice → GoesOnAs x y
+same_adds x y events adds task choice = record { task = task; graph = adds.graph; choice = choice; settings = adds.settings }
 
 pub same_rest : (x y : GraphValue) (events : List Event) → Adds x.table y.table events → y ≡ record x { table = y.table } → GoesOnAs x y
-same_rest x y events adds rest = same_adds x y events adds (ap (λ (g : GraphValue). g.task) rest)
+same_rest x y events adds rest = same_adds x y events adds (ap (λ (g : GraphValue). g.task) rest) (ap (λ (g : GraphValue). g.choice) rest)
 
 -- ---- a step from a yard
 
@@ -162,7 +163,7 @@ module _ (x y : GraphValue) (shared : Option ℕ) (views : List View) (seat : �
         follows = t.1;
         later = t.0.store.incumbent;
         in_time = settled_one (setup_in x) (Lease Own lease.block lease.quota) h.machine h.settled t.0 gives_whole tt t.6;
-        same = same_adds x y (Lease Own lease.block lease.quota ∷ []) l.events l.task;
+        same = same_adds x y (Lease Own lease.block lease.quota ∷ []) l.events l.task l.choice;
         added = l.events.journal;
         by = first_by Own (Lease Own lease.block lease.quota) [] (λ other. refl) (λ other else. refl);
         records = λ other grant leased. rows_entry h.lent Own (Some lease) other;
@@ -188,12 +189,13 @@ module _ (x y : GraphValue) (shared : Option ℕ) (views : List View) (seat : �
     is_own = b.same.worker ∙ is_lent.worker_is
 
     -- it worked in turns
-    abbrev WorkedBy : TaskParts → AbstractGraph → Type 0
-    WorkedBy t a = (w : IsWorked (space_of t) (guide_of t a) b.lent.block lease.used most_broken (was_read v) (leased_store b.lent) (leased_store lease))
-        × AreLeaseTurns (space_of t) (guide_of t a) w.works (leased_store b.lent)
+    abbrev WorkedBy : TaskParts → AbstractGraph → Choice → Type 0
+    WorkedBy t a h = (w : IsWorked (space_of t) (guide_of t a h) b.lent.block lease.used most_broken (was_read v) (leased_store b.lent) (leased_store lease))
+        × AreLeaseTurns (space_of t) (guide_of t a h) w.works (leased_store b.lent)
 
-    worked : WorkedBy x.task x.table.graph
-    worked = subst (λ (t : TaskParts). WorkedBy t x.table.graph) mine.search.task (subst (λ (a : AbstractGraph). WorkedBy v.task a) mine.search.graph (b.work, b.turns))
+    worked : WorkedBy x.task x.table.graph x.choice
+    worked = subst (λ (t : TaskParts). WorkedBy t x.table.graph x.choice) mine.search.task
+        (subst (λ (a : AbstractGraph). WorkedBy v.task a x.choice) mine.search.graph (subst (λ (h : Choice). WorkedBy v.task v.graph h) mine.search.choice (b.work, b.turns)))
 
     out : IsOutInTurns (setup_in x) h.machine most_broken lease
     out = let there = worked_leases_are_out x Recorded h.machine h.moment b.lent lease most_broken (was_read v) is_lent.of_graph b.same
@@ -204,8 +206,9 @@ module _ (x y : GraphValue) (shared : Option ℕ) (views : List View) (seat : �
     shows : ShowsTold x h.machine lease
     shows cost told =
         let t = b.told cost (sym mine.told ∙ ap h.machine.told (sym is_own) ∙ told) in
-        subst (λ (p : TaskParts). HasGoalWithin (space_of p) (guide_of p x.table.graph) (leased_store lease) cost) mine.search.task
-        (subst (λ (a : AbstractGraph). HasGoalWithin (space_of v.task) (guide_of v.task a) (leased_store lease) cost) mine.search.graph t)
+        subst (λ (p : TaskParts). HasGoalWithin (space_of p) (guide_of p x.table.graph x.choice) (leased_store lease) cost) mine.search.task
+        (subst (λ (a : AbstractGraph). HasGoalWithin (space_of v.task) (guide_of v.task a x.choice) (leased_store lease) cost) mine.search.graph
+        (subst (λ (h : Choice). HasGoalWithin (space_of v.task) (guide_of v.task v.graph h) (leased_store lease) cost) mine.search.choice t))
 
     -- the lease brings no lesser incumbent than the shared one
     brought : lesser h.machine.store.incumbent lease.incumbent ≡ shared
@@ -224,6 +227,7 @@ module _ (x y : GraphValue) (shared : Option ℕ) (views : List View) (seat : �
     brought_of_graph = record {
       leased = ap (counts_in x).leases b.same.worker ∙ is_lent.of_graph.leased ∙ (λ i. Some (record { block = sym b.same.block i; quota = sym b.same.quota i }));
       weight = b.same.weight ∙ is_lent.of_graph.weight;
+      choice = b.same.choice ∙ is_lent.of_graph.choice;
       scope = record {
         blocks = λ block. same_places b.lent.parts lease.parts block b.same.places ∙ is_lent.of_graph.scope.blocks block ∙ ap (λ own. (blocks x.table).scope own block) (sym b.same.block);
         weights = b.weights;
@@ -261,7 +265,7 @@ module _ (x y : GraphValue) (shared : Option ℕ) (views : List View) (seat : �
             follows = t.1;
             later = (returns_in_time t.0 t.1.moment (t.4 (out (one_if trouble) lease b).1)).0;
             in_time = (returns_in_time t.0 t.1.moment (t.4 (out (one_if trouble) lease b).1)).1;
-            same = same_adds x y (Release lease.worker lease.used trouble ∷ ending trouble x.table.end) r.events r.task;
+            same = same_adds x y (Release lease.worker lease.used trouble ∷ ending trouble x.table.end) r.events r.task r.choice;
             added = r.events.journal;
             by = first_by Own (Release lease.worker lease.used trouble) (ending trouble x.table.end) (λ other. ap (λ w. w == other) own) (ending_by Own trouble x.table.end);
             records = λ other grant leased. by_cases (other == Own)
@@ -296,7 +300,7 @@ module _ (x y : GraphValue) (shared : Option ℕ) (views : List View) (seat : �
             later = t.0.store.incumbent;
             in_time = settled_one (setup_in x) (Renew lease.worker lease.used kept.quota) h.machine h.settled t.0 whole
                 (grant_of lease, (out 0 lease b).0.leased, spent, still_first x lease y r.noted places Recorded after h.machine t.0 h.moment t.1.moment goes.0) (t.6 (out 0 lease b).1);
-            same = record { task = r.task; graph = r.events.graph; settings = r.events.settings };
+            same = record { task = r.task; graph = r.events.graph; choice = r.choice; settings = r.events.settings };
             added = same;
             by = first_by Own (Renew lease.worker lease.used kept.quota) [] (λ other. ap (λ w. w == other) own) (λ other else. refl);
             records = λ other grant leased. rows_entry h.lent Own (Some kept) other ∙ (λ i. with_entry Recorded (sym own i) (away_rows kept.parts) other);

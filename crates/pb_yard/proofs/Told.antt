@@ -34,7 +34,7 @@ lent_leases_may_come_back g view at live lease is untold most_broken =
     record {
       lent = lease;
       lent_is = is;
-      same = record { worker = refl; block = refl; quota = refl; weight = refl; places = refl; incumbent = at_most_self lease.incumbent };
+      same = record { worker = refl; block = refl; quota = refl; weight = refl; choice = refl; places = refl; incumbent = at_most_self lease.incumbent };
       weights = it.of_graph.scope.weights;
       work = record { works = []; on = tt; comes = refl; used_is = sym it.unused; few_broken = omega arith; stops = tt };
       turns = tt;
@@ -80,6 +80,7 @@ module _ (step : GraphValue → GraphValue → Type 0) (list : GraphValue → Li
     made = ap (λ (u : View). u.journal.made) h.view;
     settings = ap (λ (u : View). u.settings) h.view;
     graph = ap (λ (u : View). u.graph) h.view;
+    choice = ap (λ (u : View). u.choice) h.view;
     task = ap (λ (u : View). u.task) h.view;
   }
 
@@ -135,6 +136,7 @@ keeps_on old between new first later = record {
   made = later.made ∙ first.made;
   settings = later.settings ∙ first.settings;
   graph = later.graph ∙ first.graph;
+  choice = later.choice ∙ first.choice;
   task = later.task ∙ first.task;
 }
 
@@ -146,6 +148,7 @@ read_keeps old between r = record {
   made = ap (λ (u : View). u.journal.made) r.view;
   settings = ap (λ (u : View). u.settings) r.view;
   graph = ap (λ (u : View). u.graph) r.view;
+  choice = ap (λ (u : View). u.choice) r.view;
   task = ap (λ (u : View). u.task) r.view;
 }
 

@@ -18,6 +18,7 @@ use Rattle.pb_machine.specs.Machine.{Machine, IsWorked, HasWorked, Tells, tell_m
 use Rattle.pb_machine.proofs.Callers.{known_new, known_more, lesser_one, entry_here, entry_else, moves_keep_lawful, known_stays, runs_go_on, others_keep_whole}
 use Rattle.pb_bundles.specs.Homes.{home_rows}
 use Rattle.pb_abstract.specs.Graph.{AbstractGraph}
+use Rattle.pb_estimate.specs.declared.choice.Choice.{Choice}
 use Rattle.pb_lease.specs.LeaseValue.{LeaseValue, leased_store}
 use Rattle.pb_lease.specs.Leased.{guide_of, grant_of, IsOut}
 use Rattle.pb_lease.specs.GraphValue.{GraphValue, setup_in}
@@ -66,7 +67,7 @@ module _ (seat : ℕ) (v : View) (held : Option GraphValue) (live : v.journal.is
   read_view = record {
     lent = mine.lent;
     told = mine.told;
-    search = record { task = mine.search.task; graph = mine.search.graph; settings = mine.search.settings };
+    search = record { task = mine.search.task; graph = mine.search.graph; choice = mine.search.choice; settings = mine.search.settings };
     known = record { read = read_known; last = known_all v.journal.own.worker };
     copy = λ lease is. at_most_trans (cost_of number) v.last lease.incumbent (read_falls x number views seat v h at live).1 (mine.copy lease is);
   }
@@ -178,12 +179,13 @@ module _ (seat : ℕ) (v : View) (lease : LeaseValue) (cost : ℕ) (live : v.jou
   is_own : lease.worker ≡ Own
   is_own = b.same.worker ∙ is_lent.worker_is
 
-  abbrev FoundBy : TaskParts → AbstractGraph → Type 0
-  FoundBy t a = IsWorked (space_of t) (guide_of t a) b.lent.block lease.used 1 (was_read v) (leased_store b.lent) (leased_store lease)
-      × HasGoalWithin (space_of t) (guide_of t a) (leased_store lease) cost
+  abbrev FoundBy : TaskParts → AbstractGraph → Choice → Type 0
+  FoundBy t a h = IsWorked (space_of t) (guide_of t a h) b.lent.block lease.used 1 (was_read v) (leased_store b.lent) (leased_store lease)
+      × HasGoalWithin (space_of t) (guide_of t a h) (leased_store lease) cost
 
-  found : FoundBy x.task x.table.graph
-  found = subst (λ (t : TaskParts). FoundBy t x.table.graph) my_view.search.task (subst (λ (a : AbstractGraph). FoundBy v.task a) my_view.search.graph (b.work, b.shown))
+  found : FoundBy x.task x.table.graph x.choice
+  found = subst (λ (t : TaskParts). FoundBy t x.table.graph x.choice) my_view.search.task
+      (subst (λ (a : AbstractGraph). FoundBy v.task a x.choice) my_view.search.graph (subst (λ (h : Choice). FoundBy v.task v.graph h) my_view.search.choice (b.work, b.shown)))
 
   out : IsOut (setup_in x) h.machine 1 lease
   out = (worked_leases_are_out x (λ w. rows_of (h.lent w)) h.machine h.moment b.lent lease 1 (was_read v) is_lent.of_graph b.same
@@ -230,7 +232,7 @@ module _ (seat : ℕ) (v : View) (lease : LeaseValue) (cost : ℕ) (live : v.jou
   told_view = record {
     lent = my_view.lent;
     told = entry_here h.machine.told Own Own (lesser (h.machine.told Own) (Some cost)) (equal_self Own) ∙ ap (λ o. lesser o (Some cost)) my_view.told;
-    search = record { task = my_view.search.task; graph = my_view.search.graph; settings = my_view.search.settings };
+    search = record { task = my_view.search.task; graph = my_view.search.graph; choice = my_view.search.choice; settings = my_view.search.settings };
     known = record { read = λ incumbent has worker. known_on worker incumbent (my_view.known.read incumbent has worker); last = last_known };
     copy = λ other is. at_most_trans (lesser v.last (Some cost)) v.last other.incumbent (lesser_at_most v.last (Some cost)) (my_view.copy other is);
   }

@@ -7,6 +7,7 @@ use Rattle.pb_task.specs.declared.parts.TaskParts.{TaskParts}
 use Rattle.pb_task.specs.Parts.{space_of}
 use Rattle.pb_abstract.specs.Graph.{AbstractGraph, blocks_of}
 use Rattle.pb_bundles.specs.Parts.{content_in}
+use Rattle.pb_estimate.specs.declared.choice.Choice.{Choice}
 use Rattle.pb_lease.specs.LeaseValue.{LeaseValue, leased_store, HasWeights, IsSameLease}
 use Rattle.pb_lease.specs.Leased.{guide_of, grant_of, HasScope}
 use Rattle.pb_lease.specs.GraphValue.{GraphValue}
@@ -40,24 +41,28 @@ module _ (g : GraphValue) (view : View) (at : IsAt g view) (live : view.journal.
   pub own_there : IsSome (content_in lease.parts lease.block)
   own_there = scope.blocks lease.block ∙ at.yard.is_setup.blocks.own lease.block block_is_known
 
-  abbrev Leads : TaskParts → AbstractGraph → Type 0
-  Leads t a = (state : ℕ) → (guide_of t a).home state ≡ lease.block → LeadsInto (space_of t) (guide_of t a) state lease.parts
+  -- the search goes by the lease's choice
+  choice_is : view.choice ≡ lease.choice
+  choice_is = of_view.search.choice ∙ sym (at.yard.lent_is view.journal.own.worker lease lent_to).of_graph.choice
 
-  leads : Leads g.task g.table.graph
+  abbrev Leads : TaskParts → AbstractGraph → Choice → Type 0
+  Leads t a h = (state : ℕ) → (guide_of t a h).home state ≡ lease.block → LeadsInto (space_of t) (guide_of t a h) state lease.parts
+
+  leads : Leads g.task g.table.graph lease.choice
   leads state home action to cost step =
-      scope.blocks ((guide_of g.task g.table.graph).home to)
-      ∙ ap (λ k. (blocks_of g.table.graph).scope k ((guide_of g.task g.table.graph).home to)) (sym home) ∙ at.yard.is_setup.blocks.steps state action to cost step
+      scope.blocks ((guide_of g.task g.table.graph lease.choice).home to)
+      ∙ ap (λ k. (blocks_of g.table.graph).scope k ((guide_of g.task g.table.graph lease.choice).home to)) (sym home) ∙ at.yard.is_setup.blocks.steps state action to cost step
 
   -- and those that steps from its block lead to
-  pub leads_there : Leads task graph
-  leads_there = subst (λ (a : AbstractGraph). Leads task a) (sym of_view.search.graph ∙ graph_is) (subst (λ (p : TaskParts). Leads p g.table.graph) (sym of_view.search.task ∙ task_is) leads)
+  pub leads_there : Leads task graph lease.choice
+  leads_there = subst (λ (a : AbstractGraph). Leads task a lease.choice) (sym of_view.search.graph ∙ graph_is) (subst (λ (p : TaskParts). Leads p g.table.graph lease.choice) (sym of_view.search.task ∙ task_is) leads)
 
   -- after one expansion, by which no goal was found
   module _ (worked : LeaseValue) (changes : ChangesRows (record lease { used = lease.used + 1 }) worked) (untold : view.told ≡ None) (none : worked.incumbent ≡ None) where
-    abbrev Worked : TaskParts → AbstractGraph → (used : ℕ) → Type 0
-    Worked t a used =
-        (work : IsWorked (space_of t) (guide_of t a) lease.block used 0 (was_read view) (leased_store lease) (leased_store worked))
-        × AreLeaseTurns (space_of t) (guide_of t a) work.works (leased_store lease)
+    abbrev Worked : TaskParts → AbstractGraph → Choice → (used : ℕ) → Type 0
+    Worked t a h used =
+        (work : IsWorked (space_of t) (guide_of t a h) lease.block used 0 (was_read view) (leased_store lease) (leased_store worked))
+        × AreLeaseTurns (space_of t) (guide_of t a h) work.works (leased_store lease)
 
     same : IsSameLease lease worked
     same = let s = same_changed (record lease { used = lease.used + 1 }) worked changes in record {
@@ -65,15 +70,17 @@ module _ (g : GraphValue) (view : View) (at : IsAt g view) (live : view.journal.
       block = s.block;
       quota = s.quota;
       weight = s.weight;
+      choice = s.choice;
       places = s.places;
       incumbent = s.incumbent;
     }
 
-    pub worked_brought : Worked task graph 1 → IsBrought view 0 worked
+    pub worked_brought : Worked task graph lease.choice 1 → IsBrought view 0 worked
     worked_brought work =
         let used : 1 ≡ worked.used = ap (λ n. n + 1) (sym unused) ∙ sym (ap (λ (l : LeaseValue). l.used) changes.others) in
-        let w : Worked view.task view.graph worked.used =
-        subst (λ n. Worked view.task view.graph n) used (subst (λ (p : TaskParts). Worked p view.graph 1) (sym task_is) (subst (λ (a : AbstractGraph). Worked task a 1) (sym graph_is) work)) in
+        let w : Worked view.task view.graph view.choice worked.used =
+        subst (λ n. Worked view.task view.graph view.choice n) used
+        (subst (λ (p : TaskParts). Worked p view.graph view.choice 1) (sym task_is) (subst (λ (a : AbstractGraph). Worked task a view.choice 1) (sym graph_is) (subst (λ (h : Choice). Worked task graph h 1) (sym choice_is) work))) in
         record {
           lent = lease;
           lent_is = lent;

@@ -140,6 +140,7 @@ pub record KeepsWorkers (old new : View) : Type 0 where
   pub made : new.journal.made ≡ old.journal.made
   pub settings : new.settings ≡ old.settings
   pub graph : new.graph ≡ old.graph
+  pub choice : new.choice ≡ old.choice
   pub task : new.task ≡ old.task
 
 -- ---- the end

@@ -56,6 +56,7 @@ pub record IsLent (g : GraphValue) (machine : Machine) (worker : ℕ) (lease : L
 pub record IsSearchOf (g : GraphValue) (view : View) : Type 0 where
   pub task : view.task ≡ g.task
   pub graph : view.graph ≡ g.table.graph
+  pub choice : view.choice ≡ g.choice
   pub settings : view.settings ≡ g.table.settings
 
 -- Every worker can have read what the pass has read as the incumbent. The pass's own worker can

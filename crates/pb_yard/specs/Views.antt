@@ -2,8 +2,10 @@
 use Rattle.std.specs.Prelude.{ℕ, ◌==◌, if◌then◌else◌, false, List, [], ◌∷◌, Option, Some, None, length, drop}
 use Rattle.pb_model.specs.Store.{lesser}
 use Rattle.pb_task.specs.declared.parts.TaskParts.TheVariants.{Tiles}
+use Rattle.pb_estimate.specs.declared.choice.Choice.TheVariants.{Plain}
 use Rattle.pb_abstract.specs.declared.projection.Projection.TheVariants.{Blank}
 use Rattle.pb_machine.specs.declared.event.Event.{Event}
+use Rattle.pb_machine.specs.Settings.{standard}
 use Rattle.pb_machine.specs.Views.{first_view, spent_view, view_after, with_one_more, next_view, met_view}
 use Rattle.pb_lease.specs.LeaseValue.{LeaseValue}
 use Rattle.pb_lease.specs.GraphValue.{GraphValue}
@@ -26,6 +28,7 @@ opening_view g =
       lent = None;
       task = g.task;
       graph = g.table.graph;
+      choice = g.choice;
       settings = g.table.settings;
       told = None;
       last = None;
@@ -61,8 +64,9 @@ spent_pass_view =
       lent = None;
       task = Tiles (record { rows = 0; cols = 0; start = []; goal = [] });
       graph = record { projection = Blank; scopes = [] };
+      choice = Plain;
       settings =
-          record { workers = 0; num = 0; den = 0; budget = 0; lot = 0; wish = 0; plain = false };
+          record standard { workers = 0; num = 0; den = 0; budget = 0; lot = 0; wish = 0 };
       told = None;
       last = None;
       read = [];

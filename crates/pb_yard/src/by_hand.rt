@@ -8,7 +8,7 @@ ghost use Rattle.pb_model.specs.declared.row.Status.TheVariants.{Closed};
 ghost use Rattle.pb_machine.specs.Machine.{IsWorked};
 ghost use Rattle.pb_machine.specs.Turns.{AreLeaseTurns};
 ghost use Rattle.pb_task.specs.Parts.{space_of};
-ghost use Rattle.pb_estimate.specs.Estimates.{estimate_of};
+ghost use Rattle.pb_estimate.specs.Estimates.{estimate_by};
 ghost use Rattle.pb_abstract.specs.Graph.{IsGraphOf};
 ghost use Rattle.pb_bundles.specs.Parts.{content_in, away_rows};
 ghost use Rattle.pb_lease.specs.LeaseValue.{leased_store, HasWeights, IsSameLease};
@@ -48,7 +48,7 @@ fn see_that_it_is_expanded<R: Abort>(
 )
     requires graph { IsGraphOf task.now abstraction.now }
     ensures state { IsTrue ((space_of task.now).is_state state.now) }
-    ensures home { (guide_of task.now abstraction.now).home state.now ≡ lease.now.block }
+    ensures home { (guide_of task.now abstraction.now lease.now.choice).home state.now ≡ lease.now.block }
     ensures no_goal { IsFalse ((space_of task.now).is_goal state.now) }
     ensures start { row.now.g ≡ 0 }
     ensures kept { ¬ MayBeCut lease.now.weight lease.now.incumbent row.now.g row.now.estimate }
@@ -99,10 +99,10 @@ fn offer<R: Abort>(
     requires state { IsTrue ((space_of task.now).is_state succ.now.state) }
     requires there { IsSome (content_in lease.old.parts block) }
     ensures rows { OffersAt lease.old lease.new block succ.now.state g
-        (estimate_of task.now succ.now.state) (Some parent.now) succ.now.action }
+        (estimate_by task.now lease.old.choice succ.now.state) (Some parent.now) succ.now.action }
     ensures changes { ChangesRows lease.old lease.new }
 {
-    let mut estimator = Estimator::of(alloc, task).expect(rt, "memory");
+    let mut estimator = Estimator::of(alloc, task, lease.choice()).expect(rt, "memory");
     let estimate = estimator.estimate(task, &succ.state);
     let bundle = lease.bundle_mut(block);
     bundle
@@ -138,14 +138,14 @@ fn expand_first<R: Abort>(
     requires own { IsSome (content_in lease.old.parts lease.old.block) }
     requires weights { HasWeights lease.old }
     requires there { (state : ℕ)
-        → (guide_of task.now abstraction.now).home state ≡ lease.old.block
-        → LeadsInto (space_of task.now) (guide_of task.now abstraction.now) state
+        → (guide_of task.now abstraction.now lease.old.choice).home state ≡ lease.old.block
+        → LeadsInto (space_of task.now) (guide_of task.now abstraction.now lease.old.choice) state
         lease.old.parts }
     requires left { lease.old.used < lease.old.quota }
     ensures worked { (known : Option ℕ → Bool)
-        → (work : IsWorked (space_of task.now) (guide_of task.now abstraction.now)
+        → (work : IsWorked (space_of task.now) (guide_of task.now abstraction.now lease.old.choice)
         lease.old.block 1 0 known (leased_store lease.old) (leased_store lease.new))
-        × AreLeaseTurns (space_of task.now) (guide_of task.now abstraction.now) work.works
+        × AreLeaseTurns (space_of task.now) (guide_of task.now abstraction.now lease.old.choice) work.works
         (leased_store lease.old) }
     ensures changes { ChangesRows (record lease.old { used = lease.old.used + 1 }) lease.new }
     ensures none { lease.new.incumbent ≡ None }
@@ -192,13 +192,13 @@ pub(crate) fn expand_only<R: Abort>(
     requires own { IsSome (content_in lease.old.parts lease.old.block) }
     requires weights { HasWeights lease.old }
     requires there { (state : ℕ)
-        → (guide_of task.now abstraction.now).home state ≡ lease.old.block
-        → LeadsInto (space_of task.now) (guide_of task.now abstraction.now) state
+        → (guide_of task.now abstraction.now lease.old.choice).home state ≡ lease.old.block
+        → LeadsInto (space_of task.now) (guide_of task.now abstraction.now lease.old.choice) state
         lease.old.parts }
     ensures worked { (known : Option ℕ → Bool)
-        → (work : IsWorked (space_of task.now) (guide_of task.now abstraction.now)
+        → (work : IsWorked (space_of task.now) (guide_of task.now abstraction.now lease.old.choice)
         lease.old.block 1 0 known (leased_store lease.old) (leased_store lease.new))
-        × AreLeaseTurns (space_of task.now) (guide_of task.now abstraction.now) work.works
+        × AreLeaseTurns (space_of task.now) (guide_of task.now abstraction.now lease.old.choice) work.works
         (leased_store lease.old) }
     ensures changes { ChangesRows (record lease.old { used = lease.old.used + 1 }) lease.new }
     ensures none { lease.new.incumbent ≡ None }

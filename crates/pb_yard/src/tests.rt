@@ -2,6 +2,8 @@
 //! pass holds the turn nothing is done, and the lease is as it was.
 ghost use Rattle.std.specs.Prelude.{◌≡◌, ◌+◌, false, [], None};
 ghost use Rattle.std.specs.Arc.{arc_value};
+ghost use Rattle.pb_task.specs.Parts.{space_of};
+ghost use Rattle.pb_estimate.specs.Estimates.{estimate_of};
 ghost use Rattle.pb_abstract.specs.Graph.{IsGraphOf};
 ghost use Rattle.pb_lease.specs.declared.answer.LeaseReply.TheVariants.{Leased};
 ghost use Rattle.pb_yard.specs.declared.switch.Switch.TheVariants.{Gave, Busy};
@@ -13,9 +15,10 @@ ghost use Rattle.pb_yard.specs.Calls.{IsReady, IsActive, IsAlone, HasSignedOff, 
 use crate::by_hand::expand_only;
 use crate::{Pass, Switch, Yard, YardRule};
 use pb_abstract::AbsGraph;
-use pb_estimate::Estimator;
+use pb_estimate::{Choice, Estimator};
 use pb_lease::{Lease, LeaseGraph, LeaseReply};
-use pb_machine::{End, Event, Settings};
+use pb_machine::{End, Event, STANDARD, Settings};
+use pb_model::Estimate;
 use pb_task::{Cells, Class, GridParts, Swamp, Task};
 use pb_turn::Leaving;
 use std::alloc::{AllocError, Global};
@@ -319,6 +322,18 @@ fn square(alloc: Global) -> Result<Task, AllocError> {
     Ok(task)
 }
 
+// The estimate of the start.
+fn start_estimate<R: Abort>(rt: &R, alloc: Global, task: &Task) -> Estimate
+    ensures { result ≡ estimate_of task.now (space_of task.now).start }
+{
+    let start = task.initial();
+    if !task.is_state(&start) {
+        panic!(rt; "no state");
+    }
+    let mut estimator = Estimator::of(alloc, task, &Choice::Plain).expect(rt, "memory");
+    estimator.estimate(task, &start)
+}
+
 // A yard over a new graph for two workers, and its first pass.
 fn open<R: Abort>(
     rt: &R,
@@ -333,24 +348,17 @@ fn open<R: Abort>(
     ensures task { (view_of result.1).task ≡ arc_value task.now }
     ensures abstraction { (view_of result.1).graph ≡ arc_value abstraction.now }
 {
-    let start = task.initial();
-    if !task.is_state(&start) {
-        panic!(rt; "no state");
-    }
-    let mut estimator = Estimator::of(alloc, task).expect(rt, "memory");
-    let estimate = estimator.estimate(task, &start);
+    let estimate = start_estimate(rt, alloc, task);
     let settings = Settings {
         workers: 2,
-        num: 1,
-        den: 1,
         budget: 1000,
-        lot: 256,
-        wish: 256,
-        plain: false,
+        ..STANDARD
     };
     let task = Arc::clone(task).expect(rt, "memory");
     let abstraction = Arc::clone(abstraction).expect(rt, "memory");
-    let graph = LeaseGraph::new(alloc, task, abstraction, estimate, settings).expect(rt, "memory");
+    let graph = LeaseGraph::new(alloc, task, abstraction, Choice::Plain, estimate, settings).expect(
+        rt, "memory",
+    );
     match Yard::new(alloc, graph) {
         Ok(made) => made,
         Err((_, graph)) => {

@@ -2,6 +2,7 @@
 ghost use Rattle.std.specs.Prelude.{map};
 
 use pb_abstract::AbsGraph;
+use pb_estimate::Choice;
 use pb_lease::Lease;
 use pb_machine::{Event, Settings};
 use pb_task::Task;
@@ -47,6 +48,8 @@ pub struct View {
     pub task: Task,
     /// By which blocks.
     pub graph: AbsGraph,
+    /// With estimates by which choice.
+    pub choice: Choice,
     /// With which settings.
     pub settings: Settings,
     /// The least cost that it told since its lease was given or last renewed.

@@ -1,4 +1,6 @@
-use Rattle.std.proofs.Common.{None, Some, [], ◌∷◌, ◌∙◌, refl}
+use Rattle.std.proofs.Common.{None, Some, [], ◌∷◌, ◌∙◌, ap, refl}
+use Rattle.pb_estimate.specs.declared.choice.Choice.{Choice}
+use Rattle.pb_estimate.specs.Spelling.{spelling_of}
 use Rattle.pb_cert.specs.Stated.{text_of}
 use Rattle.pb_command.specs.Causes.{solve_meant}
 use Rattle.pb_answer.specs.Outputs.{output}
@@ -12,7 +14,9 @@ returns-in_ok-certificate-in-Some c = λ best.
     (output c.in-Some.name.now (text_of c.in_ok-certificate-in-Some.certificate) ∷ []) best
     (is_certificate c.args.task.now (solve_meant c.args.solve.now) c.args.graph.now c.requires.quiet
     c.max_degree-lawful.ensures.lawful c.requires.range c.in_ok-certificate-in-Some.certificate
-    c.args.plan c.in-Some.name.now (c.in_ok-certificate-in-Some.ensures.kind ∙ c.kind.ensures.kind)
+    c.args.plan c.in-Some.name.now (c.in_ok-certificate-in-Some.ensures.spelling ∙ c.of-spelling.ensures
+    ∙ ap (λ (choice : Choice). spelling_of c.args.task.now choice)
+    (c.in_ok-clone-in-Some.ensures.cases ∙ c.choice.ensures.choice ∙ c.requires.quiet.best.choice))
     c.in_ok-certificate-in-Some.ensures.weight c.in_ok-certificate-in-Some.ensures.plan
     c.in_ok-certificate-in-Some.ensures.count c.in_ok-certificate-in-Some.ensures.lines
     c.in_ok-certificate-in-Some.ensures.valid best)

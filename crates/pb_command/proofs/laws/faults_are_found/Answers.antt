@@ -3,8 +3,9 @@ use Rattle.std.specs.Prelude.{if◌then◌else◌}
 use Rattle.std.specs.Str.{bytes_eq}
 use Rattle.pb_command.specs.Values.{kind_of_text}
 use Rattle.pb_command.specs.Meaning.{Reading, Refused, with_kind}
-use Rattle.pb_command.specs.Options.{Placed, Valued, Num, Den}
-use Rattle.pb_command.specs.declared.command.KindWord.{KindWord}
+use Rattle.pb_command.specs.declared.table.ValuedOption.TheVariants.{Num, Den}
+use Rattle.pb_command.specs.Options.{Placed, Valued}
+use Rattle.pb_task.specs.declared.kind.Kind.{Kind}
 use Rattle.pb_command.specs.declared.refusal.CommandFault.TheVariants as fault
 use Rattle.pb_command.proofs.Examples.{grid_name, tiles_name, strips_name, one_name, two_name, zero_name}
 use Rattle.pb_command.proofs.SolveReading.{solve_is}
@@ -22,11 +23,11 @@ pub returns-clause-domain : goal.returns-clause-domain
 returns-clause-domain c = λ domain hd. solve_is (Placed (codes "strips") ∷ Placed domain ∷ []) (strips_name, (hd, tt)) tt (refl, (refl, tt)) (codes "strips") domain refl refl
 
 -- a word that isn't the name of a kind is refused, whatever the other values are
-other_kind : (word : List ℕ) (next : KindWord → Reading) → bytes_eq word (codes "grid") ≡ false → bytes_eq word (codes "tiles") ≡ false
+other_kind : (word : List ℕ) (next : Kind → Reading) → bytes_eq word (codes "grid") ≡ false → bytes_eq word (codes "tiles") ≡ false
     → bytes_eq word (codes "strips") ≡ false → with_kind (kind_of_text (Some word)) next ≡ Refused fault.Kind
 other_kind word next no_grid no_tiles no_strips =
     by (bytes_eq word (codes "grid")) (bytes_eq word (codes "tiles")) (bytes_eq word (codes "strips")) _ _ _ no_grid no_tiles no_strips where
-      by : (a b c : Bool) (k l m : KindWord) → a ≡ false → b ≡ false → c ≡ false
+      by : (a b c : Bool) (k l m : Kind) → a ≡ false → b ≡ false → c ≡ false
           → with_kind (if a then Some k else (if b then Some l else (if c then Some m else None))) next ≡ Refused fault.Kind
       by false false false k l m e f g = refl
       by false false true k l m e f g = cc

@@ -1,5 +1,6 @@
 use Rattle.std.proofs.Common.{◌∙◌}
-use Rattle.pb_command.specs.Options.{value_given, Certificate, Journal}
+use Rattle.pb_command.specs.declared.table.ValuedOption.TheVariants.{Certificate, Journal}
+use Rattle.pb_command.specs.Options.{value_given}
 use Rattle.pb_command.proofs.SolveReading.{solve_is_tested, meant_by, low_weight, one_name, same_names}
 use Rattle.pb_command.proofs.laws.solve_tests_options.Goals as goal
 

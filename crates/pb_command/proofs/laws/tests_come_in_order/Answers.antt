@@ -1,5 +1,6 @@
 use Rattle.std.proofs.Common.{[], ◌∷◌, refl, codes}
-use Rattle.pb_command.specs.Options.{Placed, Valued, Den, Certificate, Journal}
+use Rattle.pb_command.specs.declared.table.ValuedOption.TheVariants.{Den, Certificate, Journal}
+use Rattle.pb_command.specs.Options.{Placed, Valued}
 use Rattle.pb_command.proofs.Examples.{grid_name, tiles_name, two_name, letter_name}
 use Rattle.pb_command.proofs.SolveReading.{solve_is}
 use Rattle.pb_command.proofs.laws.tests_come_in_order.Goals as goal

@@ -1,7 +1,9 @@
 use Rattle.std.proofs.Common.{◌≡◌, ◌∙◌, ap, ap₂, rules, codes}
 use Rattle.std.proofs.lemmas.Result.{IfOk-weaker}
+use Rattle.std.specs.Prelude.{map}
 use Rattle.clap.specs.Words.{app_of, new_app, with_rule}
-use Rattle.pb_command.specs.Parser.{the_check}
+use Rattle.pb_command.specs.Table.{flag_name, check_options, check_flags}
+use Rattle.pb_command.specs.Parser.{the_check, flag_rule, option_rule, with_rules}
 use Rattle.pb_command.proofs.parser.check.Goals as goal
 
 pub returns-clause-app : goal.returns-clause-app
@@ -12,12 +14,11 @@ returns-clause-app c =
     let certificate = ap₂ with_rule kind c.required_word-2.ensures.rule in
     let first = ap₂ with_rule certificate c.required_word-3.ensures.rule in
     let second = ap₂ with_rule first c.optional_word.ensures.rule in
-    let row = ap₂ with_rule second c.number_option.ensures.rule in
-    let swamp = ap₂ with_rule row c.flag.ensures.rule in
+    let whole = ap (λ a. with_rules (with_rules a (map option_rule check_options)) (map (λ f. flag_rule (flag_name f)) check_flags)) second in
     let made-1 = c.add-with_kind.ensures.app _ new in
     let made-2 = c.add-with_certificate.ensures.app _ made-1 in
     let made-3 = c.add-with_first.ensures.app _ made-2 in
     let made-4 = c.add-with_second.ensures.app _ made-3 in
-    let made-5 = c.add-with_row.ensures.app _ made-4 in
-    let made-6 = c.add.ensures.app _ made-5 in
-    IfOk-weaker c.add.result _ _ (λ m h. h ∙ swamp) made-6
+    let made-5 = c.add_options-with_options.ensures.app _ made-4 in
+    let made-6 = c.add_flags.ensures.app _ made-5 in
+    IfOk-weaker c.add_flags.result _ _ (λ m h. h ∙ whole) made-6

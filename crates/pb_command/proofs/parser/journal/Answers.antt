@@ -1,7 +1,9 @@
 use Rattle.std.proofs.Common.{◌≡◌, ◌∙◌, ap, ap₂, rules, codes}
 use Rattle.std.proofs.lemmas.Result.{IfOk-weaker}
+use Rattle.std.specs.Prelude.{map}
 use Rattle.clap.specs.Words.{app_of, new_app, with_rule}
-use Rattle.pb_command.specs.Parser.{the_journal}
+use Rattle.pb_command.specs.Table.{journal_options}
+use Rattle.pb_command.specs.Parser.{the_journal, option_rule, with_rules}
 use Rattle.pb_command.proofs.parser.journal.Goals as goal
 
 pub returns-clause-app : goal.returns-clause-app
@@ -12,10 +14,10 @@ returns-clause-app c =
     let journal = ap₂ with_rule kind c.required_word-2.ensures.rule in
     let first = ap₂ with_rule journal c.required_word-3.ensures.rule in
     let second = ap₂ with_rule first c.optional_word.ensures.rule in
-    let row = ap₂ with_rule second c.number_option.ensures.rule in
+    let whole = ap (λ a. with_rules a (map option_rule journal_options)) second in
     let made-1 = c.add-with_kind.ensures.app _ new in
     let made-2 = c.add-with_journal.ensures.app _ made-1 in
     let made-3 = c.add-with_first.ensures.app _ made-2 in
     let made-4 = c.add-with_second.ensures.app _ made-3 in
-    let made-5 = c.add.ensures.app _ made-4 in
-    IfOk-weaker c.add.result _ _ (λ m h. h ∙ row) made-5
+    let made-5 = c.add_options.ensures.app _ made-4 in
+    IfOk-weaker c.add_options.result _ _ (λ m h. h ∙ whole) made-5

@@ -8,12 +8,12 @@ use Rattle.pb_expand.proofs.working.work.Given as goal
 
 abbrev pub invariant-loop-state : goal.invariant-loop-state
 invariant-loop-state l = record {
-  turned : HasTurned (space_of l.task) (guide_of l.task l.graph) reads_none l.initial.lease.block (l.lease.used - l.initial.lease.used) 0 (leased_store l.initial.lease) (leased_store l.lease);
+  turned : HasTurned (space_of l.task) (guide_of l.task l.graph l.initial.lease.choice) reads_none l.initial.lease.block (l.lease.used - l.initial.lease.used) 0 (leased_store l.initial.lease) (leased_store l.lease);
   counted : l.initial.lease.used ≤ l.lease.used;
   within : l.lease.used ≤ l.lease.quota;
-  at_work : IsAtWork l.task l.graph l.lease;
+  at_work : IsAtWork l.task l.graph l.initial.lease.choice l.lease;
   same : IsSameLease l.initial.lease l.lease;
-  tables : IsOfTask l.estimator l.task;
+  tables : IsOfTask l.estimator l.task l.initial.lease.choice;
   room : vec_capacity l.initial.succs ≤ vec_capacity l.succs;
 }
 

@@ -1,10 +1,9 @@
 use Rattle.std.proofs.Common.{List, ℕ, Option, sym, subst}
-use Rattle.pb_lease.specs.Leased.{guide_of}
+use Rattle.pb_search.specs.Ends.{searched_guide}
 use Rattle.pb_workers.specs.Ends.{home_store}
 use Rattle.pb_check.specs.declared.fault.Verdict.{Verdict}
-use Rattle.pb_made.specs.declared.answer.MadeAnswer.{MadeAnswer}
-use Rattle.pb_made.specs.Found.{IsCertificateOf}
-use Rattle.pb_made.specs.Answers.{unweighted, IsAnswered, IsJudged}
+use Rattle.pb_cert.specs.Found.{IsCertificateOf}
+use Rattle.pb_made.specs.Answers.{unweighted, made_settings, IsAnswered, IsJudged}
 use Rattle.pb_made.proofs.Answered.{IsOfRows, with_its_settings, is_unweighted, answered, not_refused}
 use Rattle.pb_made.proofs.solving.answer_end.Goals as goal
 
@@ -22,16 +21,15 @@ certificate_text-requires-clause-weight c =
 
 pub returns : goal.returns
 returns c =
-    subst (λ (a : MadeAnswer). IsAnswered c.args.task.now c.args.workers a)
-    (sym c.answer_of.ensures)
-    (answered c.args.task.now c.args.graph.now c.args.workers c.requires c.in_ok-plan.plan
+    answered c.args.task.now c.args.graph.now c.args.workers c.requires c.in_ok-plan.plan
     c.as_slice.result.now c.in-Some.verdict c.in_ok-plan.ensures
     (subst (λ (text : List ℕ).
     IsCertificateOf c.args.task.now unweighted
-    (guide_of c.args.task.now c.args.graph.now.table.graph) (home_store c.args.graph.now)
+    (searched_guide c.args.task.now c.args.graph.now.table.graph
+    (made_settings c.args.workers)) (home_store c.args.graph.now)
     c.in_ok-plan.plan text) (sym c.as_slice.ensures.value) c.in_ok-text.ensures)
     (subst (λ (o : Option Verdict). IsJudged c.args.task.now c.as_slice.result.now o) c.in-Some.is
-    c.in_ok-judgement.ensures))
+    c.in_ok-judgement.ensures)
 
 pub unreachable-requires : goal.unreachable-requires
 unreachable-requires c =
@@ -39,7 +37,8 @@ unreachable-requires c =
     c.as_slice.result.now
     (subst (λ (text : List ℕ).
     IsCertificateOf c.args.task.now unweighted
-    (guide_of c.args.task.now c.args.graph.now.table.graph) (home_store c.args.graph.now)
+    (searched_guide c.args.task.now c.args.graph.now.table.graph
+    (made_settings c.args.workers)) (home_store c.args.graph.now)
     c.in_ok-plan.plan text) (sym c.as_slice.ensures.value) c.in_ok-text.ensures)
     (subst (λ (o : Option Verdict). IsJudged c.args.task.now c.as_slice.result.now o) c.in-None.is
     c.in_ok-judgement.ensures)

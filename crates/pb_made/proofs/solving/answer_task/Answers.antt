@@ -5,9 +5,9 @@ use Rattle.pb_machine.specs.declared.settings.Settings.{Settings}
 use Rattle.pb_task.specs.declared.parts.TaskParts.{TaskParts}
 use Rattle.pb_lease.specs.GraphValue.{GraphValue}
 use Rattle.pb_search.specs.Ends.{IsBestOf, EndsQuietly, StopsWith, MarksNothing}
-use Rattle.pb_made.specs.Searches.{SearchEnds, LeavesQuiet}
+use Rattle.pb_search.specs.Searches.{SearchEnds, LeavesQuiet}
 use Rattle.pb_made.specs.Answers.{made_settings, IsAnswered}
-use Rattle.pb_made.proofs.Searched.{leaves_quiet, search_stops}
+use Rattle.pb_search.proofs.Callers.{leaves_quiet, search_stops}
 use Rattle.pb_made.proofs.solving.answer_task.Goals as goal
 
 pub answer_end-requires : goal.answer_end-requires

@@ -1,25 +1,25 @@
-use Rattle.std.proofs.Common.{◌≡◌, ◌^◌, ◌<◌, ◌∙◌, arith, ap, subst}
-use Rattle.pb_model.specs.Weight.{Weight}
-use Rattle.pb_lease.specs.Leased.{guide_of}
+use Rattle.std.proofs.Common.{◌∙◌, ap, arith, refl}
+use Rattle.pb_estimate.specs.declared.choice.Choice.{Choice}
+use Rattle.pb_estimate.specs.Spelling.{spelling_of}
+use Rattle.pb_search.specs.Ends.{choice_of, searched_guide}
 use Rattle.pb_workers.specs.Ends.{home_store}
-use Rattle.pb_made.specs.Found.{IsCertificateOf}
-use Rattle.pb_made.proofs.QuietEnds.{is_certificate}
+use Rattle.pb_search.proofs.Callers.{quiet_end}
+use Rattle.pb_cert.proofs.Callers.{is_certificate}
+use Rattle.pb_made.specs.Answers.{unweighted}
 use Rattle.pb_made.proofs.solving.certificate_text.Goals as goal
 
 pub returns : goal.returns
 returns c =
-    let num : c.args.graph.now.table.settings.num ≡ 1 =
-    ap (λ (w : Weight). w.num) c.requires.weight in
-    let den : c.args.graph.now.table.settings.den ≡ 1 =
-    ap (λ (w : Weight). w.den) c.requires.weight in
-    subst (λ (w : Weight).
-    IsCertificateOf c.args.task.now w
-    (guide_of c.args.task.now c.args.graph.now.table.graph) (home_store c.args.graph.now)
-    c.args.plan c.in_ok-text.text.items) c.requires.weight
-    (is_certificate c.args.task.now c.args.graph.now.table.settings c.args.graph.now
-    c.requires.quiet c.max_degree-lawful.ensures.lawful (omega (arith, num)) (omega (arith, den))
-    c.in_ok-certificate.certificate c.args.plan _ c.in_ok-text.ensures
-    (c.in_ok-certificate.ensures.kind ∙ c.kind_word.ensures.kind)
+    is_certificate c.args.task.now (searched_guide c.args.task.now c.args.graph.now.table.graph
+    c.args.graph.now.table.settings)
+    (home_store c.args.graph.now)
+    (quiet_end c.args.task.now c.args.graph.now.table.settings c.args.graph.now c.requires.quiet)
+    c.max_degree-lawful.ensures.lawful
+    (choice_of c.args.graph.now.table.settings) refl refl unweighted c.requires.weight (omega arith)
+    (omega arith) c.in_ok-certificate.certificate c.args.plan _ c.in_ok-text.ensures
+    (c.in_ok-certificate.ensures.spelling ∙ c.of-spelling.ensures
+    ∙ ap (λ (choice : Choice). spelling_of c.args.task.now choice)
+    (c.in_ok-clone.ensures.cases ∙ c.choice.ensures.choice ∙ c.requires.quiet.best.choice))
     c.in_ok-certificate.ensures.weight c.in_ok-certificate.ensures.plan
     c.in_ok-certificate.ensures.count c.in_ok-certificate.ensures.lines
-    c.in_ok-certificate.ensures.valid c.requires.plan)
+    c.in_ok-certificate.ensures.valid c.requires.plan

@@ -3,6 +3,7 @@ use Rattle.std.specs.Arc.{arc_value}
 use Rattle.pb_task.specs.declared.parts.TaskParts.{TaskParts}
 use Rattle.pb_task.specs.Parts.{space_of, IsTask}
 use Rattle.pb_task.proofs.Callers.{tasks_are_proper}
+use Rattle.pb_estimate.specs.Tables.{IsOfTask}
 use Rattle.pb_search.proofs.opening.opening.Goals as goal
 
 pub estimate-estimate-requires-clause-state : goal.estimate-estimate-requires-clause-state
@@ -13,6 +14,12 @@ estimate-estimate-requires-clause-state c =
     subst (λ (p : TaskParts). (space_of p).is_state c.initial-start.result ≡ true) (sym c.deref-3.ensures)
     (subst (λ n. (space_of task).is_state n ≡ true) (sym start) (tasks_are_proper task is_task).0.start)
 
+pub estimate-estimate-requires-clause-task : goal.estimate-estimate-requires-clause-task
+estimate-estimate-requires-clause-task c = (
+  c.choice_of-choice.result,
+  subst (λ (p : TaskParts). IsOfTask c.in_ok-estimator.estimator p c.choice_of-choice.result) (c.deref-2.ensures ∙ sym c.deref-3.ensures) c.in_ok-estimator.ensures,
+)
+
 pub returns : goal.returns
 returns c =
     let task : arc_value c.in_ok-shared_task.shared_task ≡ arc_value c.args.task.now = search rules in
@@ -20,6 +27,7 @@ returns c =
     record {
       task = c.in_ok-graph.ensures.task ∙ task;
       graph_is = c.in_ok-graph.ensures.graph ∙ abstraction;
+      choice_is = c.in_ok-graph.ensures.choice ∙ c.choice_of-choice.ensures;
       settings_are = c.in_ok-graph.ensures.settings;
       counts = c.in_ok-graph.ensures.counts;
       opening = record { empty = c.in_ok-graph.ensures.journal; moment = c.in_ok-graph.ensures.moment };

@@ -1,4 +1,4 @@
-use Rattle.std.proofs.Common.{◌≡◌, Some, inl, inr, subst}
+use Rattle.std.proofs.Common.{◌≡◌, Some, inl, inr, sym, ap, ◌∙◌, subst}
 use Rattle.pb_machine.specs.declared.event.End.TheVariants.{Quiet, Budget}
 use Rattle.pb_workers.specs.Teams.{KeepsSearch}
 use Rattle.pb_yard.specs.declared.view.View.{View}
@@ -6,6 +6,10 @@ use Rattle.pb_yard.specs.Views.{opening_view}
 use Rattle.pb_yard.specs.Passes.{view_of}
 use Rattle.pb_search.proofs.Ending.{yard_searched}
 use Rattle.pb_search.proofs.together.search_together.Goals as goal
+
+pub run_workers-requires-clause-choice : goal.run_workers-requires-clause-choice
+run_workers-requires-clause-choice g c _ _ =
+    ap (λ (u : View). u.choice) c.in-Ok.ensures.view ∙ sym (c.in_ok-choice.ensures.cases ∙ c.choice.ensures.choice)
 
 pub returns-in-Some-Quiet : goal.returns-in-Some-Quiet
 returns-in-Some-Quiet g c =

@@ -1,6 +1,8 @@
-use Rattle.std.proofs.Common.{None, refl, ap, arith}
+use Rattle.std.proofs.Common.{None, refl, ap, sym, subst, arith}
 use Rattle.pb_machine.specs.Counts.{Counts}
 use Rattle.pb_machine.specs.Machine.{opening_machine}
+use Rattle.pb_estimate.specs.declared.choice.Choice.{Choice}
+use Rattle.pb_expand.specs.Turned.{IsAtWork}
 use Rattle.pb_lease.specs.GraphValue.{setup_in}
 use Rattle.pb_lease.proofs.Callers.{setup_is}
 use Rattle.pb_test_search.proofs.graphs.lease_first.Goals as goal
@@ -21,7 +23,7 @@ returns-in-Leased c =
     let t = c.in-Leased.ensures.leased_moment c.in-Leased.lease refl (λ worker home state. None) (opening_machine (setup_in c.args.graph.now)) (c.requires.moment (λ worker home state. None)).at in
     record {
       leased = l;
-      at_work = record {
+      at_work = subst (λ (choice : Choice). IsAtWork c.lease.new.self.task c.lease.new.self.table.graph choice c.in-Leased.lease) (sym l.of_graph.choice) (record {
         settings = c.lease.new.self.table.settings;
         reopenings = 0;
         machine = t.0;
@@ -32,5 +34,6 @@ returns-in-Leased c =
         known = t.0.known c.in-Leased.lease.worker;
         work = t.3.0.work;
         scope = l.of_graph.scope;
-      };
+        choice_is = l.of_graph.choice;
+      });
     }

@@ -20,10 +20,10 @@ cool-requires-clause-block c = subst (λ (a : AbstractGraph). c.args.block < (bl
 
 pub returns-then-hot : goal.returns-then-hot
 returns-then-hot c = by_cases c.mark_hot.result
-    (λ e. stays_of_graph c.args.graph.now c.mark_hot.new.self (Hot c.worker-worker.result c.args.block ∷ []) (c.mark_hot.ensures.marked e).events c.args.lease.now refl c.requires)
+    (λ e. stays_of_graph c.args.graph.now c.mark_hot.new.self (Hot c.worker-worker.result c.args.block ∷ []) (c.mark_hot.ensures.marked e).events (ap (λ (g : GraphValue). g.choice) (c.mark_hot.ensures.marked e).rest) c.args.lease.now refl c.requires)
     (λ e. subst (λ (g : GraphValue). IsOfGraph g c.args.lease.now) (sym (c.mark_hot.ensures.refused e)) c.requires)
 
 pub returns-else-hot : goal.returns-else-hot
 returns-else-hot c = by_cases c.cool.result
-    (λ e. stays_of_graph c.args.graph.now c.cool.new.self (Cold c.worker-worker.result c.args.block ∷ []) (c.cool.ensures.cooled e).events c.args.lease.now refl c.requires)
+    (λ e. stays_of_graph c.args.graph.now c.cool.new.self (Cold c.worker-worker.result c.args.block ∷ []) (c.cool.ensures.cooled e).events (ap (λ (g : GraphValue). g.choice) (c.cool.ensures.cooled e).rest) c.args.lease.now refl c.requires)
     (λ e. subst (λ (g : GraphValue). IsOfGraph g c.args.lease.now) (sym (c.cool.ensures.refused e)) c.requires)

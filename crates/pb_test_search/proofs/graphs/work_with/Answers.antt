@@ -15,8 +15,8 @@ work-worked-requires-clause-graph c =
 pub work-worked-requires-clause-at_work : goal.work-worked-requires-clause-at_work
 work-worked-requires-clause-at_work c =
     let a = c.abstraction-blocks in
-    subst (λ (t : TaskParts). IsAtWork t a.result.now c.args.lease.now) c.requires.task
-    (subst (λ (g : AbstractGraph). IsAtWork c.args.graph.now.task g c.args.lease.now) (sym a.ensures.graph) c.requires.at_work)
+    subst (λ (t : TaskParts). IsAtWork t a.result.now c.args.lease.now.choice c.args.lease.now) c.requires.task
+    (subst (λ (g : AbstractGraph). IsAtWork c.args.graph.now.task g c.args.lease.now.choice c.args.lease.now) (sym a.ensures.graph) c.requires.at_work)
 
 pub returns : goal.returns
 returns c =
@@ -26,5 +26,6 @@ returns c =
     record {
       leased = ap (counts_in c.args.graph.now).leases same.worker ∙ of.leased ∙ (λ i. Some (record { block = sym same.block i; quota = sym same.quota i }));
       weight = same.weight ∙ of.weight;
+      choice = same.choice ∙ of.choice;
       scope = subst (λ (g : AbstractGraph). HasScope g c.work-worked.new.lease) a.ensures.graph c.work-worked.ensures.scope;
     }

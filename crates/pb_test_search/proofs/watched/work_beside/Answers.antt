@@ -1,4 +1,5 @@
-use Rattle.std.proofs.Common.{true, false, sym, ap, subst}
+use Rattle.std.proofs.Common.{true, false, sym, ap, ◌∙◌, subst}
+use Rattle.pb_estimate.specs.Tables.{IsOfTask}
 use Rattle.pb_yard.specs.declared.view.View.{View}
 use Rattle.pb_yard.specs.Passes.{view_of}
 use Rattle.pb_yard.specs.Calls.{IsReady}
@@ -17,6 +18,13 @@ pub work_watched-worked-requires-clause-watched : goal.work_watched-worked-requi
 work_watched-worked-requires-clause-watched g c =
     let w = c.args.watch.now in let t = c.args.task.now in let a = c.args.graph.now in let l = c.requires.leased in
     watched t a (view_of w.pass) w.pass.is_live c.args.lease l
+
+pub returns-clause-tools : goal.returns-clause-tools
+returns-clause-tools g c =
+    let v = view_of c.args.watch.now.pass in let l = c.requires.leased in let y = l.at.yard in
+    let of_view = y.each l.at.seat v l.at.mine c.args.watch.now.pass.is_live in
+    let same = of_view.search.choice ∙ sym (y.lent_is v.journal.own.worker c.args.lease (of_view.lent ∙ l.lent)).of_graph.choice in
+    subst (IsOfTask c.work_watched-worked.new.estimator c.args.task.now) (sym same) c.work_watched-worked.ensures.tables
 
 pub release-requires-clause-brought : goal.release-requires-clause-brought
 release-requires-clause-brought g c =

@@ -1,4 +1,5 @@
-use Rattle.std.proofs.Common.{true, false, refl, ◌∙◌}
+use Rattle.std.proofs.Common.{true, false, refl, sym, ◌∙◌, subst}
+use Rattle.pb_estimate.specs.Tables.{IsOfTask}
 use Rattle.pb_workers.proofs.Going.{same_then}
 use Rattle.pb_workers.proofs.Serving.{serves_then}
 use Rattle.pb_workers.proofs.Marked.{marked_same, marked_signed}
@@ -9,6 +10,10 @@ use Rattle.pb_workers.proofs.turning.turn.Goals as goal
 pub work-worked-requires-clause-at_work : goal.work-worked-requires-clause-at_work
 work-worked-requires-clause-at_work g c =
     at_work c.args.graph.now c.args.lease c.requires.held c.args.worker.now.task.now c.args.worker.now.abstraction.now c.requires.serves.task c.requires.serves.abstraction c.abstraction.ensures.lawful
+
+pub work-worked-requires-clause-tools : goal.work-worked-requires-clause-tools
+work-worked-requires-clause-tools g c =
+    subst (IsOfTask c.args.worker.now.estimator c.args.worker.now.task.now) (sym c.requires.held.of_graph.choice) c.requires.serves.tools
 
 pub renew-requires : goal.renew-requires
 renew-requires g c =
@@ -107,20 +112,24 @@ pub returns-in-Kept-clause-serves : goal.returns-in-Kept-clause-serves
 returns-in-Kept-clause-serves g c =
     let same = kept_same c.args.graph.now c.args.lease c.requires.held c.args.worker.now.task.now c.args.worker.now.abstraction.now c.requires.serves.task c.requires.serves.abstraction c.work-worked.new.lease c.work-worked.ensures.same c.work-worked.ensures.scope
     c.mark_rival.new.graph c.mark_rival.ensures.moment c.renew.new.self c.in-Kept.kept (c.in-Kept.ensures.kept c.in-Kept.kept refl).1 (c.in-Kept.ensures.kept c.in-Kept.kept refl).0 in
-    serves_then c.args.graph.now c.renew.new.self c.args.worker.now c.work-worked.new.self same c.requires.serves c.work-worked.ensures.task c.work-worked.ensures.abstraction c.work-worked.ensures.tools
+    serves_then c.args.graph.now c.renew.new.self c.args.worker.now c.work-worked.new.self same c.requires.serves c.work-worked.ensures.task c.work-worked.ensures.abstraction
+    (subst (IsOfTask c.work-worked.new.self.estimator c.work-worked.new.self.task.now) c.requires.held.of_graph.choice c.work-worked.ensures.tools)
 
 pub returns-in-Given-clause-serves : goal.returns-in-Given-clause-serves
 returns-in-Given-clause-serves g c =
     let same = same_then c.args.graph.now c.mark_rival.new.graph c.renew.new.self (marked_same c.args.graph.now c.work-worked.new.lease.worker c.mark_rival.new.graph c.mark_rival.ensures.moment)
     (returned_same c.mark_rival.new.graph c.work-worked.new.lease false c.renew.new.self (c.in-Given.ensures.given refl).1) in
-    serves_then c.args.graph.now c.renew.new.self c.args.worker.now c.work-worked.new.self same c.requires.serves c.work-worked.ensures.task c.work-worked.ensures.abstraction c.work-worked.ensures.tools
+    serves_then c.args.graph.now c.renew.new.self c.args.worker.now c.work-worked.new.self same c.requires.serves c.work-worked.ensures.task c.work-worked.ensures.abstraction
+    (subst (IsOfTask c.work-worked.new.self.estimator c.work-worked.new.self.task.now) c.requires.held.of_graph.choice c.work-worked.ensures.tools)
 
 pub returns-in-Empty-clause-serves : goal.returns-in-Empty-clause-serves
 returns-in-Empty-clause-serves g c =
     let same = returned_same c.args.graph.now c.work-worked.new.lease false c.release.new.self c.release.ensures.released in
-    serves_then c.args.graph.now c.release.new.self c.args.worker.now c.work-worked.new.self same c.requires.serves c.work-worked.ensures.task c.work-worked.ensures.abstraction c.work-worked.ensures.tools
+    serves_then c.args.graph.now c.release.new.self c.args.worker.now c.work-worked.new.self same c.requires.serves c.work-worked.ensures.task c.work-worked.ensures.abstraction
+    (subst (IsOfTask c.work-worked.new.self.estimator c.work-worked.new.self.task.now) c.requires.held.of_graph.choice c.work-worked.ensures.tools)
 
 pub returns-in-Memory-clause-serves : goal.returns-in-Memory-clause-serves
 returns-in-Memory-clause-serves g c =
     let same = returned_same c.args.graph.now c.work-worked.new.lease true c.release-in-Memory.new.self c.release-in-Memory.ensures.released in
-    serves_then c.args.graph.now c.release-in-Memory.new.self c.args.worker.now c.work-worked.new.self same c.requires.serves c.work-worked.ensures.task c.work-worked.ensures.abstraction c.work-worked.ensures.tools
+    serves_then c.args.graph.now c.release-in-Memory.new.self c.args.worker.now c.work-worked.new.self same c.requires.serves c.work-worked.ensures.task c.work-worked.ensures.abstraction
+    (subst (IsOfTask c.work-worked.new.self.estimator c.work-worked.new.self.task.now) c.requires.held.of_graph.choice c.work-worked.ensures.tools)

@@ -14,4 +14,4 @@ invariant-loop g l =
     × IsLeased l.initial.worker.task.now l.initial.worker.abstraction.now (view_of l.watch.pass) l.held
     × (l.worker.task.now ≡ l.initial.worker.task.now)
     × (l.worker.abstraction.now ≡ l.initial.worker.abstraction.now)
-    × IsOfTask l.worker.estimator l.worker.task.now
+    × IsOfTask l.worker.estimator l.worker.task.now (view_of l.watch.pass).choice

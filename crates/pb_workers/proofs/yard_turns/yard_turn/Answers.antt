@@ -3,8 +3,9 @@ use Rattle.pb_task.specs.declared.parts.TaskParts.{TaskParts}
 use Rattle.pb_abstract.specs.Graph.{AbstractGraph, IsGraphOf}
 use Rattle.pb_yard.specs.Passes.{view_of}
 use Rattle.pb_yard.specs.Replies.{ReleasesAs, release_events}
-use Rattle.pb_workers.specs.Shared.{IsLeased, IsIdle}
-use Rattle.pb_workers.proofs.Sharing.{at_work, watched, work_holder, work_active, work_task, work_graph, lease_of, brought, holder_then, reader_holds, released_then}
+use Rattle.pb_estimate.specs.Tables.{IsOfTask}
+use Rattle.pb_workers.specs.Shared.{IsSameHolder, IsLeased, IsIdle}
+use Rattle.pb_workers.proofs.Sharing.{choice_is, at_work, watched, work_holder, work_active, work_task, work_graph, lease_of, brought, holder_then, reader_holds, released_then}
 use Rattle.pb_workers.proofs.yard_turns.yard_turn.Goals as goal
 
 pub work_watched-worked-requires-clause-at_work : goal.work_watched-worked-requires-clause-at_work
@@ -16,6 +17,16 @@ pub work_watched-worked-requires-clause-watched : goal.work_watched-worked-requi
 work_watched-worked-requires-clause-watched g c =
     let w = c.args.watch.now in let t = c.args.worker.now.task.now in let a = c.args.worker.now.abstraction.now in
     watched t a (view_of w.pass) w.pass.is_live c.args.lease c.requires.leased
+
+pub work_watched-worked-requires-clause-choice_is : goal.work_watched-worked-requires-clause-choice_is
+work_watched-worked-requires-clause-choice_is g c =
+    let w = c.args.watch.now in let t = c.args.worker.now.task.now in let a = c.args.worker.now.abstraction.now in
+    choice_is t a (view_of w.pass) w.pass.is_live c.args.lease c.requires.leased
+
+pub work_watched-worked-requires-clause-tools : goal.work_watched-worked-requires-clause-tools
+work_watched-worked-requires-clause-tools g c =
+    let w = c.args.watch.now in let t = c.args.worker.now.task.now in let a = c.args.worker.now.abstraction.now in
+    subst (IsOfTask c.args.worker.now.estimator t) (choice_is t a (view_of w.pass) w.pass.is_live c.args.lease c.requires.leased) c.requires.tools
 
 pub mark_rival-requires-clause-leased : goal.mark_rival-requires-clause-leased
 mark_rival-requires-clause-leased g c =
@@ -155,3 +166,21 @@ returns-in-Memory-clause-holder g c =
     let k = view_of c.work_watched-worked.new.watch.pass in let s = c.work_watched-worked.new.self in
     holder_then (view_of w.pass) k (view_of c.release.new.pass) (work_holder t a (view_of w.pass) w.pass.is_live c.args.lease l k e.stays.lease c.work_watched-worked.new.lease e.same)
     (reader_holds (ReleasesAs c.work_watched-worked.new.lease true) (release_events c.work_watched-worked.new.lease true) k None None (view_of c.release.new.pass) c.release.ensures.released)
+
+pub returns-in-Spent-clause-tools : goal.returns-in-Spent-clause-tools
+returns-in-Spent-clause-tools g c =
+    let w = c.args.watch.now in let t = c.args.worker.now.task.now in let a = c.args.worker.now.abstraction.now in let l = c.requires.leased in let e = c.work_watched-worked.ensures in
+    let k = view_of c.work_watched-worked.new.watch.pass in let s = c.work_watched-worked.new.self in
+    subst (IsOfTask s.estimator s.task.now) (sym (IsSameHolder.choice (returns-in-Spent-clause-holder g c) ∙ choice_is t a (view_of w.pass) w.pass.is_live c.args.lease l)) e.tools
+
+pub returns-in-Empty-clause-tools : goal.returns-in-Empty-clause-tools
+returns-in-Empty-clause-tools g c =
+    let w = c.args.watch.now in let t = c.args.worker.now.task.now in let a = c.args.worker.now.abstraction.now in let l = c.requires.leased in let e = c.work_watched-worked.ensures in
+    let k = view_of c.work_watched-worked.new.watch.pass in let s = c.work_watched-worked.new.self in
+    subst (IsOfTask s.estimator s.task.now) (sym (IsSameHolder.choice (returns-in-Empty-clause-holder g c) ∙ choice_is t a (view_of w.pass) w.pass.is_live c.args.lease l)) e.tools
+
+pub returns-in-Memory-clause-tools : goal.returns-in-Memory-clause-tools
+returns-in-Memory-clause-tools g c =
+    let w = c.args.watch.now in let t = c.args.worker.now.task.now in let a = c.args.worker.now.abstraction.now in let l = c.requires.leased in let e = c.work_watched-worked.ensures in
+    let k = view_of c.work_watched-worked.new.watch.pass in let s = c.work_watched-worked.new.self in
+    subst (IsOfTask s.estimator s.task.now) (sym (IsSameHolder.choice (returns-in-Memory-clause-holder g c) ∙ choice_is t a (view_of w.pass) w.pass.is_live c.args.lease l)) e.tools

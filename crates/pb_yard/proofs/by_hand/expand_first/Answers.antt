@@ -1,7 +1,7 @@
 use Rattle.std.proofs.Common.{◌≡◌, ◌+◌, Some, IsSome, sym, ap, ◌∙◌, subst, arith}
 use Rattle.pb_bundles.specs.Parts.{content_in}
 use Rattle.pb_task.specs.Parts.{space_of}
-use Rattle.pb_estimate.specs.Estimates.{estimate_of}
+use Rattle.pb_estimate.specs.Estimates.{estimate_by}
 use Rattle.pb_lease.specs.LeaseValue.{LeaseValue}
 use Rattle.pb_lease.specs.Leased.{guide_of}
 use Rattle.pb_lease.specs.Rows.{OffersAt}
@@ -15,7 +15,7 @@ offer-requires-clause-there g c =
     let a = c.args.abstraction.now in
     let s = c.first_row-state.result.0 in
     subst (λ block. IsSome (content_in c.args.lease.now.parts block)) (sym c.block-block.ensures.block)
-    (only_leads (space_of t) (guide_of t a) s c.args.lease.now.parts c.only_successor-succ.result c.only_successor-succ.ensures.only (c.requires.there s c.see_that_it_is_expanded.ensures.home))
+    (only_leads (space_of t) (guide_of t a c.args.lease.now.choice) s c.args.lease.now.parts c.only_successor-succ.result c.only_successor-succ.ensures.only (c.requires.there s c.see_that_it_is_expanded.ensures.home))
 
 pub close-requires : goal.close-requires
 close-requires g c =
@@ -35,9 +35,9 @@ returns-clause-worked g c =
     let s = c.first_row-state.result.0 in
     let succ = c.only_successor-succ.result in
     let see = c.see_that_it_is_expanded.ensures in
-    worked_by_hand (space_of t) (guide_of t a) c.args.lease.now c.offer.new.lease c.close.new.lease c.spend.new.self s c.first_row-state.result.1 succ c.first_row-state.ensures
+    worked_by_hand (space_of t) (guide_of t a c.args.lease.now.choice) c.args.lease.now c.offer.new.lease c.close.new.lease c.spend.new.self s c.first_row-state.result.1 succ c.first_row-state.ensures
     see.home see.no_goal see.kept c.only_successor-succ.ensures.only
-    (subst (λ block. OffersAt c.args.lease.now c.offer.new.lease block succ.state (c.first_row-state.result.1.g + succ.cost) (estimate_of t succ.state) (Some s) succ.action) c.block-block.ensures.block c.offer.ensures.rows)
+    (subst (λ block. OffersAt c.args.lease.now c.offer.new.lease block succ.state (c.first_row-state.result.1.g + succ.cost) (estimate_by t c.args.lease.now.choice succ.state) (Some s) succ.action) c.block-block.ensures.block c.offer.ensures.rows)
     c.offer.ensures.changes c.close.ensures.rows c.close.ensures.changes c.spend.ensures
 
 pub returns-clause-changes : goal.returns-clause-changes

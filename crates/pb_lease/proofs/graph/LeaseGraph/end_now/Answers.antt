@@ -55,7 +55,7 @@ returns-then-is_any_opened-clause-moment c =
     let free = subst (λ (v : GraphValue). IsChoice v None) (sym c.self.view_is) c.requires.none_free in
     let opened = c.is_any_opened.ensures.0 c.if-is_any_opened.true in
     let done : IsDone t Budget = (opened, used_up t c.self.invariant none home free opened.0 opened.1) in
-    let new : GraphValue = record { task = t.task; table = c.end_budget.new.self; homes = t.homes; incumbent = t.incumbent } in
+    let new : GraphValue = record { task = t.task; choice = t.choice; table = c.end_budget.new.self; homes = t.homes; incumbent = t.incumbent } in
     subst (λ (v : GraphValue). KeepsLeases v (end_events v.table.end Budget) new) c.self.view_is
     (subst (λ (o : Option End). KeepsLeases t (end_events o Budget) new) (sym none) (ended_next t c.self.invariant Budget new c.end_budget.ensures.events refl none home done))
 
@@ -65,6 +65,6 @@ returns-else-is_any_opened-clause-moment c =
     let none = subst (λ (v : GraphValue). v.table.end ≡ None) (sym c.self.view_is) c.requires.no_end in
     let home = subst (λ (v : GraphValue). is_out_in v ≡ false) (sym c.self.view_is) c.requires.home in
     let done : IsDone t Quiet = λ opened. true≢false (sym (c.is_any_opened.ensures.1 opened) ∙ c.if-is_any_opened.false) in
-    let new : GraphValue = record { task = t.task; table = c.end_quiet.new.self; homes = t.homes; incumbent = t.incumbent } in
+    let new : GraphValue = record { task = t.task; choice = t.choice; table = c.end_quiet.new.self; homes = t.homes; incumbent = t.incumbent } in
     subst (λ (v : GraphValue). KeepsLeases v (end_events v.table.end Quiet) new) c.self.view_is
     (subst (λ (o : Option End). KeepsLeases t (end_events o Quiet) new) (sym none) (ended_next t c.self.invariant Quiet new c.end_quiet.ensures.events refl none home done))

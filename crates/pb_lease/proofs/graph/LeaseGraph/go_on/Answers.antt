@@ -31,4 +31,4 @@ returns-clause-of_graph c =
     subst (λ (o : Option Grant). Adds t.table c.renew-quota.new.self (Renew lease.worker lease.used (min t.table.settings.lot (t.table.left + (quota_of o - lease.used))) ∷ [])) of.leased c.renew-quota.ensures.events in
     let quota : c.renew-quota.result ≡ renewed_quota t lease = c.renew-quota.ensures.quota ∙ ap (λ (o : Option Grant). min t.table.settings.lot (t.table.left + (quota_of o - lease.used))) of.leased in
     let kept : LeaseValue = record lease { quota = c.renew-quota.result; used = 0; incumbent = c.least-incumbent.result } in
-    still_of_graph t c.self.invariant lease of (renewed_quota t lease) c.renew-quota.new.self adds kept refl (ap (λ n. record { block = lease.block; quota = n }) quota) refl refl refl t.homes c.least-incumbent.result
+    still_of_graph t c.self.invariant lease of (renewed_quota t lease) c.renew-quota.new.self adds kept refl (ap (λ n. record { block = lease.block; quota = n }) quota) refl refl refl refl t.homes c.least-incumbent.result

@@ -74,12 +74,13 @@ returns-clause-leased c =
       used = 0;
       incumbent = t.incumbent;
       weight = record { num = c.settings-settings.result.now.num; den = c.settings-settings.result.now.den };
+      choice = c.in_ok-choice.choice;
       parts = c.take_out-parts.result;
     } in
     let adds : Adds t.table c.lease.new.self (Lease lease.worker lease.block lease.quota ∷ []) = subst (λ q. Adds t.table c.lease.new.self (Lease c.args.worker c.args.block q ∷ [])) (sym c.in_ok-quota.ensures.quota) c.in_ok-quota.ensures.events in
-    subst (λ (v : GraphValue). IsLeased v c.args.worker lease (record { task = t.task; table = c.lease.new.self; homes = c.take_out-parts.new.self; incumbent = t.incumbent })) c.self.view_is
+    subst (λ (v : GraphValue). IsLeased v c.args.worker lease (record { task = t.task; choice = t.choice; table = c.lease.new.self; homes = c.take_out-parts.new.self; incumbent = t.incumbent })) c.self.view_is
     (given t c.self.invariant lease c.lease.new.self c.take_out-parts.new.self c.scope.result.now (λ b. c.scope.ensures.each b ∙ ap (λ (of : Blocks). of.scope c.args.block b) graph) first
-    (ap weight_of settings) adds c.take_out-parts.ensures.taken c.in_ok-quota.ensures.quota refl refl c.take_out-parts.ensures.left c.take_out-parts.ensures.out c.in_ok-quota.ensures.room)
+    (ap weight_of settings) c.in_ok-choice.ensures.cases adds c.take_out-parts.ensures.taken c.in_ok-quota.ensures.quota refl refl c.take_out-parts.ensures.left c.take_out-parts.ensures.out c.in_ok-quota.ensures.room)
 
 pub returns-clause-moment : goal.returns-clause-moment
 returns-clause-moment c =
@@ -97,11 +98,12 @@ returns-clause-moment c =
       used = 0;
       incumbent = t.incumbent;
       weight = record { num = c.settings-settings.result.now.num; den = c.settings-settings.result.now.den };
+      choice = c.in_ok-choice.choice;
       parts = c.take_out-parts.result;
     } in
-    let new : GraphValue = record { task = t.task; table = c.lease.new.self; homes = c.take_out-parts.new.self; incumbent = t.incumbent } in
+    let new : GraphValue = record { task = t.task; choice = t.choice; table = c.lease.new.self; homes = c.take_out-parts.new.self; incumbent = t.incumbent } in
     let adds : Adds t.table c.lease.new.self (Lease lease.worker lease.block lease.quota ∷ []) = subst (λ q. Adds t.table c.lease.new.self (Lease c.args.worker c.args.block q ∷ [])) (sym c.in_ok-quota.ensures.quota) c.in_ok-quota.ensures.events in
     let leased : IsLeased t lease.worker lease new =
     given t c.self.invariant lease c.lease.new.self c.take_out-parts.new.self c.scope.result.now (λ b. c.scope.ensures.each b ∙ ap (λ (of : Blocks). of.scope c.args.block b) graph) first
-    (ap weight_of settings) adds c.take_out-parts.ensures.taken c.in_ok-quota.ensures.quota refl refl c.take_out-parts.ensures.left c.take_out-parts.ensures.out c.in_ok-quota.ensures.room in
+    (ap weight_of settings) c.in_ok-choice.ensures.cases adds c.take_out-parts.ensures.taken c.in_ok-quota.ensures.quota refl refl c.take_out-parts.ensures.left c.take_out-parts.ensures.out c.in_ok-quota.ensures.room in
     subst (λ (v : GraphValue). LeasesNext v lease new) c.self.view_is (leases_next t c.self.invariant lease new leased inside vacant stays)

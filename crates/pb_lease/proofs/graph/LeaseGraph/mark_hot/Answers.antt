@@ -18,14 +18,14 @@ invariant_of-self c =
     let known = subst (λ (v : GraphValue). c.args.block < (blocks v.table).count) (sym c.self.view_is) c.requires.block in
     by_cases c.mark_hot.result
     (λ e. event_kept t c.self.invariant c.mark_hot.new.self (Hot c.args.worker c.args.block) (c.mark_hot.ensures.events e) (hot_is_legal t c.self.invariant c.args.worker c.args.block leased known c.is_outranked-outranked.result (sym c.mark_hot.ensures.answer ∙ e)).0 refl)
-    (λ e. subst (λ (table : Table). IsLeaseGraph (record { task = t.task; table = table; homes = t.homes; incumbent = t.incumbent })) (sym (c.mark_hot.ensures.refused e)) c.self.invariant)
+    (λ e. subst (λ (table : Table). IsLeaseGraph (record { task = t.task; choice = t.choice; table = table; homes = t.homes; incumbent = t.incumbent })) (sym (c.mark_hot.ensures.refused e)) c.self.invariant)
 
 pub returns-clause-moment : goal.returns-clause-moment
 returns-clause-moment c e =
     let t : GraphValue = the_view c.self.inside in
     let leased = subst (λ (v : GraphValue). is_some ((counts_in v).leases c.args.worker) ≡ true) (sym c.self.view_is) c.requires.leased in
     let known = subst (λ (v : GraphValue). c.args.block < (blocks v.table).count) (sym c.self.view_is) c.requires.block in
-    let new : GraphValue = record { task = t.task; table = c.mark_hot.new.self; homes = t.homes; incumbent = t.incumbent } in
+    let new : GraphValue = record { task = t.task; choice = t.choice; table = c.mark_hot.new.self; homes = t.homes; incumbent = t.incumbent } in
     let may = hot_is_legal t c.self.invariant c.args.worker c.args.block leased known c.is_outranked-outranked.result (sym c.mark_hot.ensures.answer ∙ e) in
     let none : IsOutranked t c.args.block → ⊥ = λ outranked. true≢false (sym (c.is_outranked-outranked.ensures.1 (subst (λ (v : GraphValue). IsOutranked v c.args.block) c.self.view_is outranked)) ∙ may.1) in
     subst (λ (v : GraphValue). KeepsLeases v (Hot c.args.worker c.args.block ∷ []) new) c.self.view_is

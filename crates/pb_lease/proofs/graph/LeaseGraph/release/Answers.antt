@@ -29,13 +29,14 @@ returns-clause-moment c =
     let t : GraphValue = the_view c.self.inside in
     let lease : LeaseValue = the_lease c.lease.inside in
     let of : IsOfGraph t lease = subst (λ (l : LeaseValue). IsOfGraph t l) (sym c.lease.view_is) (subst (λ (v : GraphValue). IsOfGraph v c.args.lease) (sym c.self.view_is) c.requires) in
-    let new : GraphValue = record { task = t.task; table = c.release.new.self; homes = c.bring_back.new.self; incumbent = c.least-self-inside.result } in
+    let new : GraphValue = record { task = t.task; choice = t.choice; table = c.release.new.self; homes = c.bring_back.new.self; incumbent = c.least-self-inside.result } in
     let released : IsReleased t lease c.args.trouble new = record {
       home = c.bring_back.ensures.home;
       noted = c.bring_back.ensures.noted;
       events = c.release.ensures.events;
       room = c.release.ensures.room;
       task = refl;
+      choice = refl;
       incumbent = c.least-self-inside.ensures;
     } in
     subst (λ (l : LeaseValue). ReleasesNext c.args.self.now l c.args.trouble new) c.lease.view_is

@@ -28,7 +28,7 @@ returns-then-may_go_on-clause-kept c kept is =
     let lease : LeaseValue = c.args.lease in
     let homes = c.note.new.self in
     let noted = subst (λ (l : LeaseValue). NotesKeys l.parts t.homes.keys homes.keys) c.lease.view_is c.note.ensures.noted in
-    let mid : GraphValue = record { task = t.task; table = t.table; homes = homes; incumbent = t.incumbent } in
+    let mid : GraphValue = record { task = t.task; choice = t.choice; table = t.table; homes = homes; incumbent = t.incumbent } in
     let new = c.go_on.new.self in
     let goes : GoesOn mid lease mid = c.may_go_on.ensures.0 c.if-may_go_on.true in
     let on : GoesOn t lease new = goes_on t lease homes c.note.ensures.bundles noted c.go_on.result new c.go_on.ensures.rest goes in
@@ -45,7 +45,7 @@ returns-then-may_go_on-clause-kept_moment c kept is =
     let few = subst (λ (l : LeaseValue). l.used ≤ l.quota) c.lease.view_is c.lease.invariant.within in
     let homes = c.note.new.self in
     let noted = subst (λ (l : LeaseValue). NotesKeys l.parts t.homes.keys homes.keys) c.lease.view_is c.note.ensures.noted in
-    let mid : GraphValue = record { task = t.task; table = t.table; homes = homes; incumbent = t.incumbent } in
+    let mid : GraphValue = record { task = t.task; choice = t.choice; table = t.table; homes = homes; incumbent = t.incumbent } in
     let new = c.go_on.new.self in
     let goes : GoesOn mid lease mid = c.may_go_on.ensures.0 c.if-may_go_on.true in
     let renewed : IsRenewed t lease c.go_on.result new =
@@ -60,7 +60,7 @@ returns-else-may_go_on-clause-given c is =
     let lease : LeaseValue = c.args.lease in
     let homes = c.note.new.self in
     let noted = subst (λ (l : LeaseValue). NotesKeys l.parts t.homes.keys homes.keys) c.lease.view_is c.note.ensures.noted in
-    let mid : GraphValue = record { task = t.task; table = t.table; homes = homes; incumbent = t.incumbent } in
+    let mid : GraphValue = record { task = t.task; choice = t.choice; table = t.table; homes = homes; incumbent = t.incumbent } in
     let new = c.release.new.self in
     let not_on : GoesOn mid lease mid → ⊥ = λ goes. true≢false (sym (c.may_go_on.ensures.1 goes) ∙ c.if-may_go_on.false) in
     let released : IsReleased mid lease false new = c.release.ensures.released in
@@ -75,7 +75,7 @@ returns-else-may_go_on-clause-given_moment c is =
     let few = subst (λ (l : LeaseValue). l.used ≤ l.quota) c.lease.view_is c.lease.invariant.within in
     let homes = c.note.new.self in
     let noted = subst (λ (l : LeaseValue). NotesKeys l.parts t.homes.keys homes.keys) c.lease.view_is c.note.ensures.noted in
-    let mid : GraphValue = record { task = t.task; table = t.table; homes = homes; incumbent = t.incumbent } in
+    let mid : GraphValue = record { task = t.task; choice = t.choice; table = t.table; homes = homes; incumbent = t.incumbent } in
     let new = c.release.new.self in
     let released : IsReleased mid lease false new = c.release.ensures.released in
     subst (λ (v : GraphValue). ReleasesNext v lease false new) c.self.view_is
@@ -102,7 +102,7 @@ returns-else-may_go_on-clause-first c =
     let few = subst (λ (l : LeaseValue). l.used ≤ l.quota) c.lease.view_is c.lease.invariant.within in
     let homes = c.note.new.self in
     let noted = subst (λ (l : LeaseValue). NotesKeys l.parts t.homes.keys homes.keys) c.lease.view_is c.note.ensures.noted in
-    let mid : GraphValue = record { task = t.task; table = t.table; homes = homes; incumbent = t.incumbent } in
+    let mid : GraphValue = record { task = t.task; choice = t.choice; table = t.table; homes = homes; incumbent = t.incumbent } in
     let new = c.release.new.self in
     let released : IsReleased mid lease false new = c.release.ensures.released in
     subst (λ (v : GraphValue). ChoosesByRows v lease new) c.self.view_is (chosen_by_rows t c.self.invariant lease of few new (is_released t lease homes c.note.ensures.bundles noted new released).noted)

@@ -28,6 +28,6 @@ returns-clause-moment c =
     let stays = subst (λ (v : GraphValue). (counts_in v).signed_off c.args.worker ≡ false) (sym c.self.view_is) c.requires.stays in
     let cause = subst (λ (v : GraphValue). (c.args.trouble || is_some v.table.end) ≡ true) (sym c.self.view_is) c.requires.cause in
     let may = sign_off_may (blocks t.table) t.table.settings (counts_in t) c.args.worker c.args.trouble inside stays vacant refl cause in
-    let new : GraphValue = record { task = t.task; table = c.sign_off.new.self; homes = t.homes; incumbent = t.incumbent } in
+    let new : GraphValue = record { task = t.task; choice = t.choice; table = c.sign_off.new.self; homes = t.homes; incumbent = t.incumbent } in
     subst (λ (v : GraphValue). KeepsLeases v (Off c.args.worker c.args.trouble ∷ ending c.args.trouble v.table.end) new) c.self.view_is
     (signed_off_next t c.self.invariant c.args.worker c.args.trouble new c.sign_off.ensures.events refl may)

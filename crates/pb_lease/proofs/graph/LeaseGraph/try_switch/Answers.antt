@@ -38,6 +38,12 @@ lease_at_once-requires-clause-stays c =
 pub returns-in-Kept-clause-kept : goal.returns-in-Kept-clause-kept
 returns-in-Kept-clause-kept c kept is = c.in-Kept.ensures.kept kept (ap Renews (kept_same c.in-Kept.kept kept is))
 
+pub returns-in-Kept-clause-kept_moment : goal.returns-in-Kept-clause-kept_moment
+returns-in-Kept-clause-kept_moment c kept is = (c.in-Kept.ensures.first, c.in-Kept.ensures.kept_moment kept (ap Renews (kept_same c.in-Kept.kept kept is)))
+
+pub returns-else-has_room-clause-came_back : goal.returns-else-has_room-clause-came_back
+returns-else-has_room-clause-came_back c either = ((c.in-Given.ensures.given refl).0, c.in-Given.ensures.first, c.in-Given.ensures.given_moment refl)
+
 pub returns-then-has_room-clause-kept_moment : goal.returns-then-has_room-clause-kept_moment
 returns-then-has_room-clause-kept_moment c kept is = absurd (c.lease_at_once.ensures.kept kept is)
 

@@ -1,0 +1,42 @@
+-- A file that is too long is refused with the line of its own.
+use Rattle.std.proofs.Common.{◌≡◌, ℕ, None, Some, Err, List, [], ◌∷◌, ap}
+use Rattle.pb_command.specs.declared.command.InputOptions.{InputOptions}
+use Rattle.pb_command.specs.Values.{InputNames, Grid, Tiles, Strips}
+use Rattle.pb_command.specs.Files.{input_files, loaded_files}
+use Rattle.pb_command.specs.Meaning.{Meaning, Read, Solve, Check, Journal, Make}
+use Rattle.pb_answer.specs.Loaded.{input_task, with_text}
+use Rattle.pb_answer.specs.Long.{fault_of, LongFilesAreRefused}
+
+same : (a b : List ℕ) → Some a ≡ Some b → a ≡ b
+same a b e = cc
+
+-- the files of a task, read from the first text on
+alone : (input : InputNames) (options : InputOptions) (texts : List (List ℕ)) (report : List ℕ) → fault_of (input_files input) texts ≡ Some report → input_task input options 0 texts ≡ Err report
+alone (Grid names) options [] report is = ap Err (same _ report is)
+alone (Grid names) options (one ∷ []) report is = ap Err (same _ report is)
+alone (Grid names) options (one ∷ (two ∷ rest)) report is = cc
+alone (Tiles board) options [] report is = ap Err (same _ report is)
+alone (Tiles board) options (one ∷ rest) report is = cc
+alone (Strips names) options [] report is = ap Err (same _ report is)
+alone (Strips names) options (one ∷ []) report is = ap Err (same _ report is)
+alone (Strips names) options (one ∷ (two ∷ rest)) report is = cc
+
+-- and behind the text that is judged
+behind : (input : InputNames) (options : InputOptions) (text : List ℕ) (texts : List (List ℕ)) (report : List ℕ) → fault_of (input_files input) texts ≡ Some report
+    → input_task input options 1 (text ∷ texts) ≡ Err report
+behind (Grid names) options text [] report is = ap Err (same _ report is)
+behind (Grid names) options text (one ∷ []) report is = ap Err (same _ report is)
+behind (Grid names) options text (one ∷ (two ∷ rest)) report is = cc
+behind (Tiles board) options text [] report is = ap Err (same _ report is)
+behind (Tiles board) options text (one ∷ rest) report is = cc
+behind (Strips names) options text [] report is = ap Err (same _ report is)
+behind (Strips names) options text (one ∷ []) report is = ap Err (same _ report is)
+behind (Strips names) options text (one ∷ (two ∷ rest)) report is = cc
+
+pub long_files_are_refused : LongFilesAreRefused
+long_files_are_refused (Solve solve) texts report is = alone solve.input solve.options texts report is
+long_files_are_refused (Check check) [] report is = ap Err (same _ report is)
+long_files_are_refused (Check check) (text ∷ texts) report is = ap (with_text (Some text)) (behind check.input check.options text texts report is)
+long_files_are_refused (Journal journal) [] report is = ap Err (same _ report is)
+long_files_are_refused (Journal journal) (text ∷ texts) report is = ap (with_text (Some text)) (behind journal.input journal.options text texts report is)
+long_files_are_refused (Make make) texts report is = cc

@@ -1,0 +1,52 @@
+-- What a search leaves, apart from how it searched. A further engine is one case more of `Engine`
+-- and of `SearchLeaves`; the claims of a search cite nothing else of it.
+use Rattle.std.specs.Prelude.{◌≡◌, Option, Some, List}
+use Rattle.pb_model.specs.Space.{Space}
+use Rattle.pb_model.specs.Guide.{Guide}
+use Rattle.pb_model.specs.Store.{Store}
+use Rattle.pb_model.specs.Plan.{Plan}
+use Rattle.pb_model.specs.Certificate.{IsBackedBy}
+use Rattle.pb_machine.specs.declared.event.End.{End}
+use Rattle.pb_machine.specs.declared.event.Event.{Event}
+use Rattle.pb_machine.specs.declared.settings.Settings.{Settings}
+use Rattle.pb_task.specs.declared.parts.TaskParts.{TaskParts}
+use Rattle.pb_search.specs.Ends.{searched_guide}
+use Rattle.pb_search.specs.Searches.{SearchEnds}
+use Rattle.pb_cert.specs.Found.{IsTracedIfAny}
+use Rattle.pb_command.specs.Meaning.{SolveMeaning}
+
+-- the lease machine of PBNF
+pub data Engine : Type 0 where
+  Leases : Engine
+
+-- the engine that the words ask for
+abbrev pub engine_asked : SolveMeaning → Engine
+engine_asked solve = Leases
+
+-- what the search looked up, the rows that it has at its end, and its journal, if the engine keeps
+-- one
+pub record Left : Type 0 where
+  pub guide : Guide
+  pub store : Store
+  pub journal : Option (List Event)
+
+-- what a search by leases leaves
+abbrev pub left_by_leases : {parts : TaskParts} {settings : Settings} {end : End}
+    {journal : List Event} → SearchEnds parts settings end journal → Left
+left_by_leases {parts} {settings} {end} {journal} run = record {
+  guide = searched_guide parts run.ends.graph settings;
+  store = run.ends.machine.store;
+  journal = Some journal;
+}
+
+-- a search of the task by this engine, with these settings, came to this end and left this
+abbrev pub SearchLeaves : Engine → TaskParts → Settings → End → Left → Type 0
+SearchLeaves Leases parts settings end left =
+    (journal : List Event) × (run : SearchEnds parts settings end journal)
+    × (left ≡ left_by_leases run)
+
+-- The plan is the one that the rows lead to, and costs no more than the incumbent. Without an
+-- incumbent there is none.
+pub record FindsIn (space : Space) (left : Left) (plan : Option Plan) : Type 0 where
+  pub backed : IsBackedBy left.store.incumbent plan
+  pub traced : IsTracedIfAny space left.guide left.store plan

@@ -1,0 +1,7 @@
+ghost use Rattle.pb_answer.specs.Long.{LongFilesAreRefused};
+
+/// If a file was too long, so that its text and the later ones were not loaded, the texts are
+/// refused with the line of that file.
+pub fn long_files_are_refused()
+    ensures { LongFilesAreRefused }
+{}

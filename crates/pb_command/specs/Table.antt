@@ -1,0 +1,102 @@
+-- The options of all commands, in one table: the name of each, and what a value of it is. For a
+-- number that is its range, and the number if the option isn't given. After the table stands which
+-- command has which options.
+use Rattle.std.specs.Prelude.{ℕ, ◌≤◌, ⊤, Bool, true, List, [], ◌∷◌, codes}
+use Rattle.std.specs.List.{list_any}
+use Rattle.std.specs.Str.{bytes_eq}
+use Rattle.clap.specs.Words.{Text}
+use Rattle.clap.specs.ValueTests.{is_unsigned_in}
+use Rattle.pb_command.specs.declared.table.ValuedOption.{ValuedOption}
+use Rattle.pb_command.specs.declared.table.ValuedOption.TheVariants.{Row, Workers, Num, Den, Budget, Lot, Blocks, Certificate, Journal}
+use Rattle.pb_command.specs.declared.table.FlagOption.{FlagOption}
+use Rattle.pb_command.specs.declared.table.FlagOption.TheVariants.{Plain, Swamp}
+
+-- whole numbers from `least` to `most`, and the one that stands for an option that isn't given
+pub record Range : Type 0 where
+  pub least : ℕ
+  pub most : ℕ
+  pub default : ℕ
+
+-- What a value of an option is: a number in a range, the name of a file, or one of some words. No
+-- option has words yet.
+pub data Form : Type 0 where
+  Number : Range → Form
+  FileName : Form
+  OneOf : List Text → Form
+
+-- a row of the table
+pub record Entry : Type 0 where
+  pub name : Text
+  pub form : Form
+
+abbrev pub number : Text → (least most default : ℕ) → Entry
+number name least most default =
+    record { name = name; form = Number (record { least = least; most = most; default = default }) }
+
+abbrev pub file_name : Text → Entry
+file_name name = record { name = name; form = FileName }
+
+-- The table: the row of the scenario, how many workers search, the numerator and the denominator of
+-- the weight, and how many expansions a search may do, at most 2^40. How many expansions a lease
+-- gets at most, at most 2^20, and how many blocks the abstract graph has at most. The names under
+-- which the certificate and the journal are saved.
+abbrev pub entry_of : ValuedOption → Entry
+entry_of Row = number (codes "row") 0 1000000 0
+entry_of Workers = number (codes "workers") 1 64 1
+entry_of Num = number (codes "num") 1 1000 1
+entry_of Den = number (codes "den") 1 1000 1
+entry_of Budget = number (codes "budget") 1 1099511627776 16777216
+entry_of Lot = number (codes "lot") 1 1048576 256
+entry_of Blocks = number (codes "blocks") 16 4096 256
+entry_of Certificate = file_name (codes "cert")
+entry_of Journal = file_name (codes "trace")
+
+abbrev pub option_name : ValuedOption → Text
+option_name option = (entry_of option).name
+
+abbrev pub option_form : ValuedOption → Form
+option_form option = (entry_of option).form
+
+-- the options without a value: no block is marked hot, and entering swamp costs 2
+abbrev pub flag_name : FlagOption → Text
+flag_name Plain = codes "plain"
+flag_name Swamp = codes "swamp"
+
+-- ---- which command has which options, in the order in which clap knows them
+
+abbrev pub solve_options : List ValuedOption
+solve_options =
+    Row ∷ Workers ∷ Num ∷ Den ∷ Budget ∷ Lot ∷ Blocks ∷ Certificate ∷ Journal ∷ []
+
+abbrev pub solve_flags : List FlagOption
+solve_flags = Plain ∷ Swamp ∷ []
+
+abbrev pub check_options : List ValuedOption
+check_options = Row ∷ []
+
+abbrev pub check_flags : List FlagOption
+check_flags = Swamp ∷ []
+
+abbrev pub journal_options : List ValuedOption
+journal_options = Row ∷ []
+
+abbrev pub make_options : List ValuedOption
+make_options = Workers ∷ []
+
+-- ---- values
+
+-- whether a text is a value of this form
+abbrev pub is_value : Form → Text → Bool
+is_value (Number range) text = is_unsigned_in range.least range.most text
+is_value FileName text = true
+is_value (OneOf words) text = list_any (λ word. bytes_eq word text) words
+
+-- a number is a value of this form
+abbrev pub IsWithin : Form → ℕ → Type 0
+IsWithin (Number range) n = (range.least ≤ n) × (n ≤ range.most)
+IsWithin FileName n = ⊤
+IsWithin (OneOf words) n = ⊤
+
+-- a number lies in the range of its option
+abbrev pub IsInRangeOf : ValuedOption → ℕ → Type 0
+IsInRangeOf option n = IsWithin (option_form option) n

@@ -1,0 +1,150 @@
+//! The options of all commands, in one table.
+ghost use Rattle.std.specs.Prelude.{◌≡◌, ◌≤◌};
+ghost use Rattle.pb_command.specs.Table.{entry_of, file_name, flag_name, number};
+ghost use Rattle.pb_command.specs.Table.{option_form, option_name};
+ghost use Rattle.pb_command.specs.Values.{entry_meant, form_meant, HasDefault};
+
+/// An option that has a value.
+#[derive(Clone, Copy)]
+pub enum ValuedOption {
+    /// `--row K`: the row of the scenario, counted from 0.
+    Row,
+    /// `--workers W`: how many workers search.
+    Workers,
+    /// `--num N`: the numerator of the weight.
+    Num,
+    /// `--den D`: the denominator of the weight.
+    Den,
+    /// `--budget B`: how many expansions the search may do.
+    Budget,
+    /// `--lot L`: how many expansions a lease gets at most.
+    Lot,
+    /// `--blocks C`: how many blocks the abstract graph has at most.
+    Blocks,
+    /// `--cert NAME`: the name under which the certificate is saved.
+    Certificate,
+    /// `--trace NAME`: the name under which the journal is saved.
+    Journal,
+}
+
+/// An option without a value.
+#[derive(Clone, Copy)]
+pub enum FlagOption {
+    /// `--plain`: no block is marked hot.
+    Plain,
+    /// `--swamp`: entering an `S` cell of a map costs 2.
+    Swamp,
+}
+
+// What a value of an option is.
+#[derive(Clone, Copy)]
+pub(crate) enum ValueForm {
+    // A whole number in a range, with the number if the option isn't given.
+    Number { least: u64, most: u64, default: u64 },
+    // The name of a file.
+    FileName,
+}
+
+// A row of the table.
+#[derive(Clone, Copy)]
+pub(crate) struct TableEntry<'a> {
+    name: &'a str,
+    form: ValueForm,
+}
+
+// The options of each command, in the order in which clap knows them.
+pub(crate) const SOLVE_OPTIONS: [ValuedOption; 9] = [
+    ValuedOption::Row,
+    ValuedOption::Workers,
+    ValuedOption::Num,
+    ValuedOption::Den,
+    ValuedOption::Budget,
+    ValuedOption::Lot,
+    ValuedOption::Blocks,
+    ValuedOption::Certificate,
+    ValuedOption::Journal,
+];
+
+pub(crate) const SOLVE_FLAGS: [FlagOption; 2] = [FlagOption::Plain, FlagOption::Swamp];
+
+pub(crate) const CHECK_OPTIONS: [ValuedOption; 1] = [ValuedOption::Row];
+
+pub(crate) const CHECK_FLAGS: [FlagOption; 1] = [FlagOption::Swamp];
+
+pub(crate) const JOURNAL_OPTIONS: [ValuedOption; 1] = [ValuedOption::Row];
+
+pub(crate) const MAKE_OPTIONS: [ValuedOption; 1] = [ValuedOption::Workers];
+
+// An option with a number.
+fn number<'a>(name: &'a str, least: u64, most: u64, default: u64) -> TableEntry<'a>
+    requires { (least ≤ default) × (default ≤ most) }
+    ensures entry { entry_meant result ≡ number name.now least most default }
+    ensures default { HasDefault result.form }
+{
+    TableEntry {
+        name,
+        form: ValueForm::Number {
+            least,
+            most,
+            default,
+        },
+    }
+}
+
+// An option with the name of a file.
+fn file_name<'a>(name: &'a str) -> TableEntry<'a>
+    ensures entry { entry_meant result ≡ file_name name.now }
+    ensures default { HasDefault result.form }
+{
+    TableEntry {
+        name,
+        form: ValueForm::FileName,
+    }
+}
+
+// The table: the name of each option, and the range of its number and the default.
+fn entry_of<'a>(option: ValuedOption) -> TableEntry<'a>
+    ensures entry { entry_meant result ≡ entry_of option }
+    ensures default { HasDefault result.form }
+{
+    match option {
+        ValuedOption::Row => number("row", 0, 1_000_000, 0),
+        ValuedOption::Workers => number("workers", 1, 64, 1),
+        ValuedOption::Num => number("num", 1, 1_000, 1),
+        ValuedOption::Den => number("den", 1, 1_000, 1),
+        ValuedOption::Budget => number("budget", 1, 1_099_511_627_776, 16_777_216),
+        ValuedOption::Lot => number("lot", 1, 1_048_576, 256),
+        ValuedOption::Blocks => number("blocks", 16, 4_096, 256),
+        ValuedOption::Certificate => file_name("cert"),
+        ValuedOption::Journal => file_name("trace"),
+    }
+}
+
+impl ValuedOption {
+    // What it is called.
+    pub(crate) fn name<'a>(self) -> &'a str
+        ensures { result.now ≡ option_name self }
+    {
+        entry_of(self).name
+    }
+
+    // What a value of it is.
+    pub(crate) fn form(self) -> ValueForm
+        ensures form { form_meant result ≡ option_form self }
+        ensures default { HasDefault result }
+    {
+        entry_of(self).form
+    }
+}
+
+impl FlagOption {
+    // What it is called.
+    pub(crate) fn name<'a>(self) -> &'a str
+        ensures { result.now ≡ flag_name self }
+    {
+        match self {
+            FlagOption::Plain => "plain",
+            FlagOption::Swamp => "swamp",
+        }
+    }
+}

@@ -1,7 +1,0 @@
-use Rattle.std.proofs.Common.{rules}
-use Rattle.pb_estimate.specs.Tables.{IsOfTask}
-use Rattle.pb_estimate.proofs.estimator.Estimator.of.Goals as goal
-
-pub returns : goal.returns
-unfolding IsOfTask
-returns c = search rules

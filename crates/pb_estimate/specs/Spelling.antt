@@ -1,0 +1,59 @@
+-- How a certificate is spelled: the lines before its weight, and the digits of its states. What
+-- writes certificates and what reads them both cite this.
+use Rattle.std.specs.Prelude.{◌≡◌, ℕ, List, [], ◌∷◌, length, codes}
+use Rattle.pb_model.specs.Certificate.{Certificate}
+use Rattle.pb_model.specs.Texts.{spaced, certificate_text}
+use Rattle.pb_task.specs.declared.kind.Kind.{Kind}
+use Rattle.pb_task.specs.declared.parts.TaskParts.{TaskParts}
+use Rattle.pb_task.specs.Kinds.{kind_of, kind_name}
+use Rattle.pb_estimate.specs.declared.choice.Choice.{Choice}
+use Rattle.pb_estimate.specs.declared.choice.Choice.TheVariants.{Plain}
+use Rattle.pb_estimate.specs.declared.spelling.Stated.{Stated}
+use Rattle.pb_estimate.specs.declared.spelling.Version.{Version}
+use Rattle.pb_estimate.specs.declared.spelling.Version.TheVariants.{One}
+use Rattle.pb_estimate.specs.declared.spelling.Spelling.{Spelling}
+
+-- How a certificate of this task is written whose search had this choice of an estimate: in version
+-- 1, with states of 64 digits.
+abbrev pub spelling_of : TaskParts → Choice → Spelling
+spelling_of parts choice =
+    record { kind = kind_of parts; version = One; width = 64; stated = record { choice = choice } }
+
+-- the states of this version have so many digits
+abbrev pub IsWidthOf : Version → (width : ℕ) → Type 0
+IsWidthOf One width = width ≡ 64
+
+-- a spelling that there is
+abbrev pub IsSpelling : Spelling → Type 0
+IsSpelling spelling = IsWidthOf spelling.version spelling.width
+
+-- ---- the lines before the weight
+
+abbrev pub version_line : Version → List ℕ
+version_line One = codes "pbnf-certificate 1"
+
+abbrev pub kind_line : Kind → List ℕ
+kind_line kind = spaced (codes "kind") (kind_name kind)
+
+-- the lines that say the choice of an estimate; the plain one needs none
+abbrev pub choice_text : Choice → List (List ℕ)
+choice_text Plain = []
+
+-- the lines that say what is stated besides
+abbrev pub stated_text : Stated → List (List ℕ)
+stated_text stated = choice_text stated.choice
+
+abbrev pub head_of : Spelling → List (List ℕ)
+head_of spelling =
+    version_line spelling.version ∷ kind_line spelling.kind ∷ stated_text spelling.stated
+
+-- how many lines come before the weight
+abbrev pub head_lines : Spelling → ℕ
+head_lines spelling = length (head_of spelling)
+
+-- ---- the whole text
+
+-- the text of a certificate that is spelled so
+abbrev pub spelled_text : Spelling → Certificate → List ℕ
+spelled_text spelling certificate =
+    certificate_text (head_of spelling) spelling.width certificate

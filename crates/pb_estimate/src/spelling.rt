@@ -1,0 +1,67 @@
+//! How a certificate is spelled. What writes certificates and what reads them both stand on this.
+ghost use Rattle.std.specs.Prelude.{◌≡◌, ◌≤◌, length};
+ghost use Rattle.pb_estimate.specs.Spelling.{spelling_of, stated_text, head_lines};
+
+use crate::choice::Choice;
+use pb_task::{Kind, Task};
+
+/// What a certificate states beside the kind of its task and the width of its states.
+#[derive(Drop)]
+pub struct Stated {
+    /// The choice of the estimate by which its cut rows are judged.
+    pub choice: Choice,
+}
+
+impl Stated {
+    /// How many lines of a certificate say it.
+    pub fn lines(&self) -> u32
+        ensures lines { result ≡ length (stated_text self.now) }
+        ensures few { result ≤ 16 }
+    {
+        match &self.choice {
+            Choice::Plain => 0,
+        }
+    }
+}
+
+/// The versions of the format of certificates.
+#[derive(Clone, Copy, Debug, PartialEq, Eq)]
+pub enum Version {
+    /// States have 64 hexadecimal digits, and nothing is stated besides.
+    One,
+}
+
+/// How a certificate is spelled.
+#[derive(Drop)]
+pub struct Spelling {
+    /// The kind of its task.
+    pub kind: Kind,
+    /// The version of the format.
+    pub version: Version,
+    /// How many hexadecimal digits a state has.
+    pub width: u32,
+    /// What it states besides.
+    pub stated: Stated,
+}
+
+impl Spelling {
+    /// How a certificate of this task is written whose search had this choice of an estimate.
+    pub fn of(task: &Task, choice: Choice) -> Spelling
+        ensures { result ≡ spelling_of task.now choice }
+    {
+        Spelling {
+            kind: task.kind(),
+            version: Version::One,
+            width: 64,
+            stated: Stated { choice },
+        }
+    }
+
+    /// How many lines come before a certificate's weight.
+    pub fn head_lines(&self) -> u32
+        ensures lines { result ≡ head_lines self.now }
+        ensures few { result ≤ 18 }
+    {
+        2 + self.stated.lines()
+    }
+}

@@ -1,0 +1,121 @@
+-- The clauses of `run`, from how a call of the program goes.
+use Rattle.std.proofs.Common.{◌≡◌, ◌⊎◌, ◌↔◌, ◌∙◌, ℕ, ◌≤◌, IsTrue, false, Option, List, [], sym, subst}
+use Rattle.pb_outside.specs.Outside.{Files, IfTold, KeepsAll, Rose}
+use Rattle.pb_outside.specs.Calls.{Call}
+use Rattle.pb_grid.specs.Laws.{ReadAsSpelled}
+use Rattle.pb_tiles.specs.Laws.{ReadingsAreSpelled}
+use Rattle.pb_command.specs.Meaning.{Reading, reading_of_words}
+use Rattle.pb_run.specs.Asked.{files_of}
+use Rattle.pb_run.specs.Calls.{calls_since, loaded_texts, outputs_in, put_bytes, have_failed}
+use Rattle.pb_run.specs.Loads.{AreLoaded}
+use Rattle.pb_run.specs.Course.{Does}
+use Rattle.pb_run.specs.Contents.{SavesIn, LeavesPart, Goes, GoesBy, WritesPut}
+use Rattle.pb_run.specs.Outcome.{Outcome, outcome_by, outcome, IsAnswer}
+use Rattle.pb_run.specs.Headline.{PlanIsPlan, NoneIsCheaper, CertificateHolds, NoneMeansNone, StopHasCause}
+use Rattle.pb_run.specs.Kinds.{MapsHold, BoardsHold, NamedHolds}
+use Rattle.pb_run.specs.Commands.{SolvesHold, ChecksHold, JournalsHold, MakesHold, RefusalHolds}
+use Rattle.pb_run.specs.Served.{CanServe, IsAnswered, IsComplete}
+use Rattle.pb_run.specs.Whole.{CallsHold, AnswersIfServed, BreaksOnlyBy, ContentsHold}
+use Rattle.pb_run.proofs.ByKind.{maps_hold, boards_hold, named_hold}
+use Rattle.pb_run.proofs.Doing as doing
+
+module _ (words : List (List ℕ)) (n : ℕ) (files files' : Option Files) (shelf shelf' sink sink' : List Call)
+    (goes : Goes (reading_of_words words) n files files' shelf shelf' sink sink') (status : ℕ) (is : status ≡ n) where
+  abbrev asked : Reading
+  asked = reading_of_words words
+
+  abbrev it : Outcome
+  it = outcome words status shelf shelf' sink sink'
+
+  since : (P : ℕ → List Call → List Call → Type 0) → (GoesBy asked n files files' goes.0 goes.1 → P n goes.0 goes.1) → P status (calls_since shelf shelf') (calls_since sink sink')
+  since P f = doing.since asked n files files' shelf shelf' sink sink' goes P status is f
+
+  does : GoesBy asked n files files' goes.0 goes.1 → Does asked n goes.0 goes.1
+  does by = doing.does asked n goes.0 goes.1 files files' by
+
+  promised : (P : Outcome → Type 0) → ((m : ℕ) (own out : List Call) → Does asked m own out → P (outcome_by asked m own out)) → P it
+  promised P f = doing.promised asked n files files' shelf shelf' sink sink' goes P f status is
+
+  -- ---- promise by promise
+
+  pub plan : PlanIsPlan it
+  plan = promised PlanIsPlan (doing.plan asked)
+
+  pub cheapest : NoneIsCheaper it
+  cheapest = promised NoneIsCheaper (doing.cheapest asked)
+
+  pub certified : CertificateHolds it
+  certified = promised CertificateHolds (doing.certified asked)
+
+  pub none : NoneMeansNone it
+  none = promised NoneMeansNone (doing.none asked)
+
+  pub stopped : StopHasCause it
+  stopped = promised StopHasCause (doing.stopped asked)
+
+  pub solve : SolvesHold it
+  solve = promised SolvesHold (doing.solved asked)
+
+  pub check : ChecksHold it
+  check = promised ChecksHold (doing.checked_text asked)
+
+  pub journal : JournalsHold it
+  journal = promised JournalsHold (doing.judged_text asked)
+
+  pub make : MakesHold it
+  make = promised MakesHold (doing.made asked)
+
+  pub refused : ReadAsSpelled → ReadingsAreSpelled → RefusalHolds it
+  refused maps boards = promised RefusalHolds (doing.refused maps boards asked)
+
+  -- ---- kind by kind
+
+  pub maps : ReadAsSpelled → MapsHold it
+  maps law = maps_hold it law solve none
+
+  pub boards : ReadingsAreSpelled → BoardsHold it
+  boards law = boards_hold it law solve none
+
+  pub named : NamedHolds it
+  named = named_hold it solve none check
+
+  -- ---- of every call
+
+  pub calls : CallsHold words status shelf shelf' sink sink'
+  calls = record {
+    in_order = doing.does_since asked n files files' shelf shelf' sink sink' goes status is;
+    shelf_fault = since (λ m own out. m ≡ 73 ↔ IsTrue (have_failed own)) (λ by. doing.shelf_fails asked n goes.0 goes.1 (does by));
+    sink_fault = since (λ m own out. m ≡ 74 ↔ IsTrue (have_failed out)) (λ by. doing.sink_fails asked n goes.0 goes.1 (does by));
+    answered = since (λ m own out. have_failed own ≡ false → have_failed out ≡ false → IsAnswered asked (loaded_texts own) m) (λ by. doing.done_is_answered asked n goes.0 goes.1 (does by));
+    named = since (λ m own out. doing.AreNamed asked m own out) (λ by. doing.outputs_are_named asked n goes.0 goes.1 (does by));
+  }
+
+  pub answered : (can_load : List ℕ → Type 0) (can_hold : List ℕ → ℕ → Type 0) (can_take : ℕ → Type 0) → (CanServe asked files can_load can_hold can_take → IsAnswer n ⊎ (n ≡ 71))
+      → AnswersIfServed words status files can_load can_hold can_take
+  answered can_load can_hold can_take sure can = record {
+    complete = subst (λ (m : ℕ). IsComplete asked files m) (sym is) (doing.complete asked n goes.0 goes.1 files files' goes.4 (sure can));
+    answered = subst (λ (m : ℕ). IsAnswer m ⊎ (m ≡ 71)) (sym is) (sure can);
+  }
+
+  module _ (faults faults' puts puts' : ℕ) (shelf_rose : n ≡ 73 → Rose faults faults') (sink_rose : n ≡ 74 → Rose puts puts')
+      (shelf_later : faults ≤ faults') (sink_later : puts ≤ puts') where
+    pub broken : BreaksOnlyBy it faults faults' puts puts'
+    broken = record {
+      unsaved = since (λ m own out. m ≡ 71 → outputs_in own ≡ []) (λ by. doing.nothing_saved asked n goes.0 goes.1 (does by));
+      silent = since (λ m own out. (m ≡ 71) ⊎ (m ≡ 73) → put_bytes out ≡ []) (λ by. doing.silent asked n goes.0 goes.1 (does by));
+      shelf_rose = λ e. shelf_rose (sym is ∙ e);
+      sink_rose = λ e. sink_rose (sym is ∙ e);
+      shelf_later = shelf_later;
+      sink_later = sink_later;
+    }
+
+  pub contents : (written written' : Option (List ℕ)) → WritesPut written written' sink sink' → ContentsHold it files files' written written'
+  contents written written' puts = record {
+    loaded = since (λ m own out. IsAnswer m → AreLoaded files (files_of asked) (loaded_texts own)) (λ by. doing.texts_loaded asked n goes.0 goes.1 files files' by);
+    saved = since (λ m own out. IsAnswer m ⊎ (m ≡ 74) → IfTold files files' (SavesIn (outputs_in own))) (λ by. doing.files_saved asked n goes.0 goes.1 files files' by);
+    kept = since (λ m own out. m ≡ 71 → IfTold files files' KeepsAll) (λ by. doing.files_kept asked n goes.0 goes.1 files files' by);
+    left = since (λ m own out. m ≡ 73 → IfTold files files' (λ before after. KeepsAll before after ⊎ LeavesPart asked (loaded_texts own) before after))
+        (λ by. doing.files_left asked n goes.0 goes.1 files files' by);
+    others = doing.others_stay asked n goes.0 goes.1 files files' goes.4;
+    printed = doing.puts_since written written' sink sink' puts;
+  }

@@ -1,0 +1,32 @@
+-- What is answered of a command line and of the texts that were loaded of its files.
+use Rattle.std.specs.Prelude.{◌≡◌, ◌⊎◌, ℕ, List, []}
+use Rattle.pb_command.specs.Meaning.{Reading, Refused, Read, Solve, Check, Journal, Make, MakeMeaning, reading_of_words}
+use Rattle.pb_command.specs.Causes.{IsPrinted}
+use Rattle.pb_answer.specs.Loaded.{solve_task, check_task, journal_task}
+use Rattle.pb_answer.specs.Answer.{Said, Says, Saves, IsFound, IsChecked, IsJudged, OrRefused}
+use Rattle.pb_run.specs.Makes.{MakesPlan, MakesNone, MakesStop}
+
+-- ---- of a task that is to be made
+
+abbrev pub IsMade : MakeMeaning → Said → Type 0
+IsMade make said =
+    ((said.status ≡ 0) × Saves said [] × MakesPlan (Says said) make)
+    ⊎ (((said.status ≡ 1) × Saves said [] × MakesNone (Says said) make)
+    ⊎ ((said.status ≡ 2) × Saves said [] × MakesStop (Says said) make))
+
+-- ---- of the words and the texts
+
+abbrev pub AnswersReading : Reading → (texts : List (List ℕ)) → Said → Type 0
+AnswersReading (Refused fault) texts said =
+    (said.status ≡ 64) × IsPrinted fault said.report × Saves said []
+AnswersReading (Read (Solve solve)) texts said =
+    OrRefused (solve_task solve texts) (IsFound solve) said
+AnswersReading (Read (Check check)) texts said =
+    OrRefused (check_task check texts) (λ task. IsChecked task.0 task.1) said
+AnswersReading (Read (Journal journal)) texts said =
+    OrRefused (journal_task journal texts) (λ task. IsJudged task.0 task.1) said
+AnswersReading (Read (Make make)) texts said = IsMade make said
+
+-- this is answered of the words and of the texts that were loaded
+abbrev pub Answers : (words texts : List (List ℕ)) → Said → Type 0
+Answers words texts said = AnswersReading (reading_of_words words) texts said

@@ -1,0 +1,69 @@
+-- Completeness: what is answered if the shelf and the sink can do what is asked of them.
+use Rattle.std.specs.Prelude.{◌≡◌, ◌⊎◌, ℕ, ⊤, Option, None, Some, List, [], ◌∷◌, length, Ok, IfSome}
+use Rattle.pb_task.specs.declared.parts.TaskParts.{TaskParts}
+use Rattle.pb_check.specs.declared.fault.Verdict.{Verdict}
+use Rattle.pb_check.specs.Shown.{IsAccepted}
+use Rattle.pb_command.specs.Meaning.{Reading, Refused, Read, Solve, Check, Journal, Make}
+use Rattle.pb_outside.specs.Outside.{Files}
+use Rattle.pb_run.specs.Asked.{files_of, CanLoad}
+use Rattle.pb_run.specs.Calls.{CanHold}
+use Rattle.pb_run.specs.Loads.{loads_of}
+use Rattle.pb_answer.specs.Loaded.{solve_task, check_task, journal_task}
+use Rattle.pb_answer.specs.Journals.{IsJournalOf}
+use Rattle.pb_answer.specs.Answer.{Said}
+use Rattle.pb_run.specs.Answers.{AnswersReading}
+
+-- these are some of the names, in their order
+abbrev pub AreSomeOf : (begun names : List (List ℕ)) → Type 0
+AreSomeOf [] names = ⊤
+AreSomeOf (name ∷ begun) [] = ⊥
+AreSomeOf (name ∷ begun) (first ∷ names) =
+    ((name ≡ first) × AreSomeOf begun names) ⊎ AreSomeOf (name ∷ begun) names
+
+-- ---- completeness
+
+-- whatever is answered of the texts, the shelf can hold what is to be saved, and the sink can take
+-- what is to be printed
+abbrev pub CanHandOut : Reading → (texts : List (List ℕ)) → (can_hold : List ℕ → ℕ → Type 0)
+    → (can_take : ℕ → Type 0) → Type 0
+CanHandOut reading texts can_hold can_take =
+    (said : Said) → AnswersReading reading texts said → CanHold can_hold said.outputs
+    × can_take (length said.report)
+
+-- What is answered, unless memory ran out:
+-- - of words that are no command line, their refusal;
+-- - of a task to solve, a plan, that there is none, or a stop;
+-- - of a valid certificate or a journal of the task, that it is accepted;
+-- - of a task that is to be made, what a search answers.
+abbrev pub IsAnswered : Reading → (texts : List (List ℕ)) → (status : ℕ) → Type 0
+IsAnswered (Refused fault) texts status = (status ≡ 64) ⊎ (status ≡ 71)
+IsAnswered (Read (Solve solve)) texts status =
+    (parts : TaskParts) → solve_task solve texts ≡ Ok parts
+    → (status ≡ 0) ⊎ ((status ≡ 1) ⊎ ((status ≡ 2) ⊎ (status ≡ 71)))
+IsAnswered (Read (Check check)) texts status =
+    (parts : TaskParts) (certificate : List ℕ) (verdict : Verdict)
+    → check_task check texts ≡ Ok (parts, certificate)
+    → IsAccepted parts certificate verdict
+    → (status ≡ 0) ⊎ (status ≡ 71)
+IsAnswered (Read (Journal journal)) texts status =
+    (parts : TaskParts) (text : List ℕ) (events : ℕ) → journal_task journal texts ≡ Ok (parts, text)
+    → IsJournalOf parts text events → (status ≡ 0) ⊎ (status ≡ 71)
+IsAnswered (Read (Make make)) texts status =
+    (status ≡ 0) ⊎ ((status ≡ 1) ⊎ ((status ≡ 2) ⊎ (status ≡ 71)))
+
+-- The shelf's files are known, and it can load those that the words name. Whatever is answered of
+-- their texts can be handed out.
+abbrev pub CanServe : Reading → Option Files → (can_load : List ℕ → Type 0)
+    → (can_hold : List ℕ → ℕ → Type 0) → (can_take : ℕ → Type 0) → Type 0
+CanServe reading None can_load can_hold can_take = ⊥
+CanServe reading (Some told) can_load can_hold can_take =
+    CanLoad can_load (files_of reading)
+    × ((texts : List (List ℕ)) → loads_of told (files_of reading) ≡ Some texts
+    → CanHandOut reading texts can_hold can_take)
+
+-- If the shelf's files are known and the named ones are there, there is an answer to their texts,
+-- or memory ran out.
+abbrev pub IsComplete : Reading → Option Files → (status : ℕ) → Type 0
+IsComplete reading files status =
+    IfSome files (λ told. (texts : List (List ℕ)) → loads_of told (files_of reading) ≡ Some texts
+    → IsAnswered reading texts status)
