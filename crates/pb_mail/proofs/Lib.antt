@@ -1,3 +1,4 @@
+pub mod Callers
 mod Letters
 mod Keeping
 mod Passing

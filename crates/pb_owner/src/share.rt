@@ -1,0 +1,8 @@
+use pb_lists::Bundle;
+
+/// What one owner has: the rows of its states, and its own copy of the incumbent.
+#[derive(Drop)]
+pub struct Share {
+    pub bundle: Bundle,
+    pub incumbent: Option<u64>,
+}
