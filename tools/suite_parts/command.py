@@ -60,6 +60,15 @@ def seconds(word: str) -> float:
     raise argparse.ArgumentTypeError(f"`{word}` is no time in seconds")
 
 
+def size(word: str) -> float:
+    try:
+        if 2**-20 <= float(word) <= 2**20:
+            return float(word)
+    except ValueError:
+        pass
+    raise argparse.ArgumentTypeError(f"`{word}` is no size in MiB")
+
+
 def checks(word: str) -> typing.Tuple[str, ...]:
     names = tuple(word.split(",")) if word != "none" else ()
     if not set(names) <= {"proved", "second"} or len(set(names)) < len(names):
@@ -119,6 +128,9 @@ def add_verify(words: typing.Any) -> None:
     verify.add_argument("folder", metavar="DIR")
     verify.add_argument("--inputs", metavar="FOLDER",
                         help="your own copies of the inputs, found by name: they must be the same")
+    verify.add_argument("--piece-mib", type=size, default=64.0, metavar="N",
+                        help="the second checker judges pieces of so many MiB, each by a worker "
+                             "(64)")
     add_checkers(verify, "second")
     add_pool(verify)
     verify.set_defaults(call=verify_results)

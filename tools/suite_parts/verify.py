@@ -14,12 +14,14 @@ import typing
 
 from .driver import run_all
 from .jobs import needs_of
+from .pools import Pool
 from .results import Results
 from .tables import claim
 from .tasks import Faulty
-from .work import Job, Record, sum_of, task_words_of, verify_job
+from .work import Job, Record, sum_of, task_words_of, verify_job, verify_piece
 
 Checkers = typing.Sequence[typing.Dict[str, typing.Any]]
+MOST_PIECES = 4096
 
 
 def verify(results: Results, checkers: Checkers, options: argparse.Namespace,
@@ -37,6 +39,7 @@ def verify(results: Results, checkers: Checkers, options: argparse.Namespace,
     found: typing.Dict[str, Record] = {}
     if jobs:
         with open_pool(jobs) as pool:
+            faults += judge_pieces(pool, jobs, records, options.piece_mib)
             lost = run_all(pool, verify_job, jobs,
                            lambda record: found.update({record["name"]: record}))
             faults += [f"{job['name']}: its worker was killed each time" for job in lost]
@@ -64,6 +67,33 @@ def job_of_record(folder: pathlib.Path, name: str, record: Record, checkers: Che
             "needs": needs_of("checker", checkers),
             "check_limits": {"seconds": options.check_seconds, "mib": options.check_mib},
             "settings": settings_of(folder)}
+
+
+def judge_pieces(pool: Pool, jobs: typing.Sequence[Job], records: typing.Dict[str, Record],
+                 mib: float) -> typing.List[str]:
+    """Has large certificates judged by pieces, and gives each job the lines of its pieces. The
+    second checker joins them later; without them it judges the whole. Faults of the pieces."""
+    parts = {job["name"]: parts_of(job, records[job["name"]], int(mib * 2**20)) for job in jobs}
+    found: typing.Dict[str, Record] = {}
+    lost = run_all(pool, verify_piece, [part for of_job in parts.values() for part in of_job],
+                   lambda record: found.update({record["name"]: record}))
+    faults = [f"{part['name']}: its worker was killed each time" for part in lost]
+    for job in jobs:
+        pieces = [found.get(part["name"], {"line": ""}) for part in parts[job["name"]]]
+        faults += [f"{job['name']}: {piece['fault']}" for piece in pieces if "fault" in piece]
+        if all(piece["line"] for piece in pieces):
+            job["pieces"] = [piece["line"] for piece in pieces]
+    return faults
+
+
+def parts_of(job: Job, record: Record, size: int) -> typing.List[Job]:
+    """A job for each piece, where the second checker is asked and the certificate is large. The
+    record is believed only as to how many pieces are made."""
+    second = [checker for checker in job["checkers"] if checker["name"] == "second"]
+    length = record.get("certificate_bytes")
+    count = min(-(-length // size), MOST_PIECES) if second and isinstance(length, int) else 1
+    return [{**job, "name": f"{job['name']}.{number}", "checkers": second,
+             "piece": f"{number}/{count}"} for number in range(1, count + 1)] if count > 1 else []
 
 
 def settings_of(folder: pathlib.Path) -> str:

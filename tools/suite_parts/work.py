@@ -21,7 +21,7 @@ import typing
 import zlib
 
 from .answers import read_answer
-from .limits import run_limited
+from .limits import Ended, run_limited
 
 Job = typing.Dict[str, typing.Any]
 Record = typing.Dict[str, typing.Any]
@@ -162,11 +162,7 @@ def judge(job: Job, certificate: str, claim: typing.Optional[str], scratch: str)
     found: Record = {"rows": rows_in(certificate), "certificate_bytes": os.path.getsize(certificate)}
     says = []
     for checker in job["checkers"]:
-        command = [sys.executable if word == "PYTHON" else word for word in checker["command"]]
-        names = [os.path.join(job["folder"], file["path"]) for file in job["inputs"]]
-        words = [*command, "check", job["kind"], certificate, *names, *task_words_of(job)]
-        limits = job["check_limits"]
-        ended = run_limited(words, scratch, limits["seconds"], limits["mib"])
+        ended = run_checker(job, checker, how_of(job, checker, scratch), certificate, scratch)
         line = ended.output.strip() or (f"status {ended.status}" if ended.status else ended.why)
         says.append(line)
         found["check_" + checker["name"]] = line
@@ -175,6 +171,27 @@ def judge(job: Job, certificate: str, claim: typing.Optional[str], scratch: str)
         found["certified"] = all(line == claim or not claim and line.startswith("accepted ")
                                  for line in says)
     return found
+
+
+def run_checker(job: Job, checker: typing.Dict[str, typing.Any], how: typing.List[str],
+                certificate: str, scratch: str) -> Ended:
+    """Runs a checker on the certificate, within its limits."""
+    command = [sys.executable if word == "PYTHON" else word for word in checker["command"]]
+    names = [os.path.join(job["folder"], file["path"]) for file in job["inputs"]]
+    words = [*command, *how, "check", job["kind"], certificate, *names, *task_words_of(job)]
+    limits = job["check_limits"]
+    return run_limited(words, scratch, limits["seconds"], limits["mib"])
+
+
+def how_of(job: Job, checker: typing.Dict[str, typing.Any], scratch: str) -> typing.List[str]:
+    """The words that have the second checker answer from what its pieces have, if they were
+    judged before."""
+    if checker["name"] != "second" or not job.get("pieces"):
+        return []
+    path = os.path.join(scratch, "pieces")
+    with open(path, "w", encoding="ascii") as file:
+        file.writelines(f"{line}\n" for line in job["pieces"])
+    return ["--join", path]
 
 
 def task_words_of(job: Job) -> typing.List[str]:
@@ -212,15 +229,40 @@ def verify_job(job: Job) -> Record:
         if sum_of(path) != file["sha256"]:
             found["faults"].append(f"{file['path']} isn't the input that the record names")
     with tempfile.TemporaryDirectory(prefix="pbnf-suite-") as scratch:
-        certificate = os.path.join(scratch, "certificate")
-        try:
-            unpack(os.path.join(job["folder"], job["certificate"]), certificate)
-        except (OSError, EOFError, ValueError, zlib.error) as error:
-            return {**found, "faults": [*found["faults"], f"{job['certificate']}: {error}"]}
+        certificate, fault = unpacked(job, scratch)
+        if fault:
+            return {**found, "faults": [*found["faults"], fault]}
         if sum_of(certificate) != job["certificate_sha256"]:
             found["faults"].append("the certificate isn't the one that the record names")
         found |= judge(job, certificate, None, scratch)
     return found
+
+
+def verify_piece(job: Job) -> Record:
+    """What the second checker has of a piece of a kept certificate, as a line; or a fault."""
+    refusal = refusal_of(job)
+    if refusal:
+        return {"refused": refusal, "host": socket.gethostname()}
+    found: Record = {"name": job["name"], "line": ""}
+    with tempfile.TemporaryDirectory(prefix="pbnf-suite-") as scratch:
+        certificate, fault = unpacked(job, scratch)
+        if fault:
+            return {**found, "fault": fault}
+        ended = run_checker(job, job["checkers"][0], ["--piece", job["piece"]], certificate, scratch)
+    if ended.status != 0:
+        why = ended.why if ended.status is None else f"status {ended.status}"
+        return {**found, "fault": f"piece {job['piece']}: {why} {ended.output.strip()}".rstrip()}
+    return {**found, "line": ended.output.strip()}
+
+
+def unpacked(job: Job, scratch: str) -> typing.Tuple[str, typing.Optional[str]]:
+    """Where the kept certificate was unpacked, and a fault if it can't be."""
+    certificate = os.path.join(scratch, "certificate")
+    try:
+        unpack(os.path.join(job["folder"], job["certificate"]), certificate)
+    except (OSError, EOFError, ValueError, zlib.error) as error:
+        return certificate, f"{job['certificate']}: {error}"
+    return certificate, None
 
 
 def unpack(packed: str, text: str) -> None:

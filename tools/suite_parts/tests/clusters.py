@@ -109,6 +109,8 @@ class Clusters(Case):
         verified = self.call("verify", self.out, *self.dask())
         self.assertEqual(verified.returncode, 0, verified.stdout + verified.stderr)
         self.assertIn("3 of 3 certificates are accepted", verified.stdout)
+        pieces = self.call("verify", self.out, "--piece-mib", 0.0005, *self.dask())
+        self.assertEqual((pieces.returncode, pieces.stdout), (0, verified.stdout), pieces.stderr)
 
     def test_a_worker_with_another_program_is_refused(self) -> None:
         self.assertEqual(self.run_suite(self.boards(1)).returncode, 0)

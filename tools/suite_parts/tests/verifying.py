@@ -56,6 +56,28 @@ class Verifying(Case):
         self.assertIn("2 of 2 certificates are accepted, 0 claims have no certificate, 0 faults",
                       run.stdout)
 
+    def test_by_pieces(self) -> None:
+        run = self.verify("--piece-mib", 0.003)
+        self.assertEqual(run.returncode, 0, run.stdout + run.stderr)
+        self.assertIn("accepted cost 38 bound 38: grid inputs/", run.stdout)
+        self.assertIn("2 of 2 certificates are accepted", run.stdout)
+
+    def test_a_certificate_by_pieces_that_lacks_a_row(self) -> None:
+        record = self.records()["lake.scen:0"]
+        place = self.out / record["certificate"]
+        lines = gzip.decompress(place.read_bytes()).split(b"\n")
+        at = next(at for at, line in enumerate(lines) if line.startswith(b"rows "))
+        lines[at] = b"rows %d" % (int(lines[at][5:]) - 1)
+        del lines[at + 100]
+        place.write_bytes(gzip.compress(b"\n".join(lines)))
+        whole, pieces = (self.verify(*words) for words in ([], ["--piece-mib", 0.003]))
+        self.assertEqual(pieces.returncode, 1)
+        self.assertIn("refused Missing", pieces.stdout)
+        self.assertEqual(pieces.stdout, whole.stdout)
+
+    def test_a_piece_that_takes_too_long(self) -> None:
+        self.demand_fault("piece 1/", "--piece-mib", 0.003, "--check-seconds", 0.01)
+
     def test_a_changed_certificate(self) -> None:
         place = self.out / self.records()["lake.scen:0"]["certificate"]
         text = gzip.decompress(place.read_bytes())
