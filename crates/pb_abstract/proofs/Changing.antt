@@ -1,5 +1,5 @@
 -- What actions do to the tracked atoms, and the edges that it makes.
-use Rattle.std.proofs.Common.{◌≡◌, ℕ, ◌^◌, ◌<◌, ◌≤◌, Bool, true, false, not, ◌||◌, ◌==◌, ◌&&◌, List, [], ◌∷◌, None, Some, if◌then◌else◌, IsTrue, length, slice_get, refl, sym, ap, subst, ◌∙◌, arith, bit_and, bit_or, ◌↔◌, ◌⊎◌, inl, inr, true≢false}
+use Rattle.std.proofs.Common.{◌≡◌, ℕ, ◌^◌, ◌<◌, ◌≤◌, Bool, true, false, not, ◌||◌, ◌==◌, ◌&&◌, ◌+◌, ◌++◌, take, List, [], ◌∷◌, None, Some, if◌then◌else◌, IsTrue, length, slice_get, refl, sym, ap, subst, ◌∙◌, arith, bit_and, bit_or, ◌↔◌, ◌⊎◌, inl, inr, true≢false}
 use Rattle.std.specs.Prelude.{option_map}
 use Rattle.std.specs.Int.{bit_not, w32}
 use Rattle.std.specs.List.{list_any, dedup, dedup_from, Any}
@@ -8,11 +8,12 @@ use Rattle.std.proofs.lemmas.Bool.{and_from, or_left, or_right}
 use Rattle.std.proofs.lemmas.Nat.{and_le_l, or_lt}
 use Rattle.std.proofs.lemmas.Nat.Bits.{bit_at-zero}
 use Rattle.std.proofs.lemmas.Option.{slice_get-map, slice_get-get_or, slice_get_within, get_or_from_slice_get}
-use Rattle.std.proofs.lemmas.List.Folds.{Any-from_list_any, list_any_at}
+use Rattle.std.proofs.lemmas.List.{take_more}
+use Rattle.std.proofs.lemmas.List.Folds.{Any-from_list_any, list_any_at, list_any-append}
 use Rattle.pb_model.proofs.Callers.{and_true, or_true, by_cases, equal, equal_self, not_false}
 use Rattle.pb_task.specs.declared.parts.GroundAction.{GroundAction}
 use Rattle.pb_task.specs.declared.parts.StripsParts.{StripsParts}
-use Rattle.pb_task.specs.Strips.{has_atom, holds_after, Acts}
+use Rattle.pb_task.specs.Strips.{action_at, has_atom, holds_after, Acts}
 use Rattle.pb_task.proofs.Callers.{same_atoms, both_atoms, any_atom, no_atom, common_all, all_common, strips_act}
 use Rattle.pb_abstract.specs.declared.changes.Change.{Change}
 use Rattle.pb_abstract.specs.Tracked.{AreAtoms, tracked_set, tracked_action, tracked_task, IsTrackedEdge}
@@ -176,3 +177,34 @@ module _ (strips : StripsParts) (atoms : List ℕ) (are : AreAtoms strips atoms)
     back : (block ≡ c) ⊎ IsTrackedEdge strips atoms block c → IsTrue (has list c)
     back (inl e) = here e
     back (inr edge) = there (edge_found c edge)
+
+-- ---- one more action
+
+no_more : (any : Bool) → (any || (false || false)) ≡ any
+no_more true = refl
+no_more false = refl
+
+-- what the actions do, with one more of them, which may change nothing
+pub any_more : (atoms : List ℕ) (actions : List GroundAction) (at : ℕ) (test : Change → Bool) (changes after : List Change) → at < length actions
+    → list_any test changes ≡ list_any (λ action. changes_some (change_of atoms action) && test (change_of atoms action)) (take at actions)
+    → after ≡ (if changes_some (change_of atoms (action_at actions at)) then changes ++ change_of atoms (action_at actions at) ∷ [] else changes)
+    → list_any test after ≡ list_any (λ action. changes_some (change_of atoms action) && test (change_of atoms action)) (take (at + 1) actions)
+any_more atoms actions at test changes after less so_far is = go (changes_some change) refl is where
+  change : Change
+  change = change_of atoms (action_at actions at)
+
+  counts : GroundAction → Bool
+  counts action = changes_some (change_of atoms action) && test (change_of atoms action)
+
+  all : list_any counts (take (at + 1) actions) ≡ (list_any counts (take at actions) || (counts (action_at actions at) || false))
+  all =
+      ap (list_any counts) (take_more actions at (record { name = []; needs = 0; adds = 0; deletes = 0; cost = 1 }) less)
+      ∙ list_any-append counts (take at actions) (action_at actions at ∷ [])
+
+  go : (some : Bool) → changes_some change ≡ some → after ≡ (if some then changes ++ change ∷ [] else changes) → list_any test after ≡ list_any counts (take (at + 1) actions)
+  go true e here =
+      ap (list_any test) here ∙ list_any-append test changes (change ∷ []) ∙ ap (λ any. any || (test change || false)) so_far
+      ∙ ap (λ some. list_any counts (take at actions) || ((some && test change) || false)) (sym e) ∙ sym all
+  go false e here =
+      ap (list_any test) here ∙ so_far ∙ sym (no_more (list_any counts (take at actions)))
+      ∙ ap (λ some. list_any counts (take at actions) || ((some && test change) || false)) (sym e) ∙ sym all

@@ -10,6 +10,7 @@ use Rattle.pb_model.proofs.Callers.{and_true, or_true, not_true, by_cases, equal
 use Rattle.pb_machine.specs.Tables.{one_if}
 use Rattle.pb_task.specs.declared.parts.GroundAction.{GroundAction}
 use Rattle.pb_task.specs.declared.parts.StripsParts.{StripsParts}
+use Rattle.pb_task.specs.Strips.{action_at}
 use Rattle.pb_abstract.specs.Tracked.{changes, changers, is_changed, comes_before, AreInOrder, AreTracked}
 use Rattle.pb_abstract.specs.Ranking.{AreCounts, is_left, is_fewer, better, precedes, IsNext, IsNone, AreFirst}
 use Rattle.pb_abstract.specs.Graph.{has}
@@ -25,12 +26,26 @@ changers_small atom (action ∷ actions) = go (changes atom action) (changers_sm
   go true h = omega arith
   go false h = omega arith
 
+-- the actions from a place on are the one at the place and those after it
+pub one_step : (atom : ℕ) (actions : List GroundAction) (at : ℕ) → at < length actions
+    → changers atom (drop at actions) ≡ one_if (changes atom (action_at actions at)) + changers atom (drop (at + 1) actions)
+one_step atom actions at less = at_drop_more (changers atom) actions at (record { name = []; needs = 0; adds = 0; deletes = 0; cost = 1 }) less
+
+-- one more action is counted, or passed
+pub counted_more : (atom count : ℕ) (actions : List GroundAction) (at : ℕ) (test : Bool) → at < length actions
+    → count + changers atom (drop at actions) ≡ changers atom actions → changes atom (action_at actions at) ≡ test
+    → count + one_if test + changers atom (drop (at + 1) actions) ≡ changers atom actions
+counted_more atom count actions at test less so_far is =
+    let step : changers atom (drop at actions) ≡ one_if (changes atom (action_at actions at)) + changers atom (drop (at + 1) actions) = one_step atom actions at less in
+    let one : one_if (changes atom (action_at actions at)) ≡ one_if test = ap one_if is in
+    omega (arith, step, one, so_far)
+
 -- the actions that were counted, and one more, are no more than there are
-pub counted : (atom count : ℕ) (actions : List GroundAction) (at : ℕ) (action : GroundAction) → at < length actions → action ≡ get_or actions at action
-    → count + changers atom (drop at actions) ≡ changers atom actions → changes atom action ≡ true → count + 1 ≤ length actions
-counted atom count actions at action less here so_far changed =
-    let step : changers atom (drop at actions) ≡ one_if (changes atom (get_or actions at action)) + changers atom (drop (at + 1) actions) = at_drop_more (changers atom) actions at action less in
-    let one : one_if (changes atom (get_or actions at action)) ≡ 1 = ap (λ a. one_if (changes atom a)) (sym here) ∙ ap one_if changed in
+pub counted : (atom count : ℕ) (actions : List GroundAction) (at : ℕ) → at < length actions
+    → count + changers atom (drop at actions) ≡ changers atom actions → changes atom (action_at actions at) ≡ true → count + 1 ≤ length actions
+counted atom count actions at less so_far changed =
+    let step : changers atom (drop at actions) ≡ one_if (changes atom (action_at actions at)) + changers atom (drop (at + 1) actions) = one_step atom actions at less in
+    let one : one_if (changes atom (action_at actions at)) ≡ 1 = ap one_if changed in
     let few : changers atom actions ≤ length actions = changers_small atom actions in
     omega arith
 
@@ -110,7 +125,7 @@ best_more counts tracked count best is = go (is_left counts tracked count && is_
   go false e = best_kept counts tracked count best is e
 
 -- an atom that is left is one of those that are counted
-left_known : (counts tracked : List ℕ) (atom : ℕ) → IsTrue (is_left counts tracked atom) → atom < length counts
+pub left_known : (counts tracked : List ℕ) (atom : ℕ) → IsTrue (is_left counts tracked atom) → atom < length counts
 left_known counts tracked atom left = which (cases_lt atom (length counts)) where
   some : 0 < get_or counts atom 0
   some = below 0 (get_or counts atom 0) (and_true (nat_lt 0 (get_or counts atom 0)) (not (has tracked atom)) left).0

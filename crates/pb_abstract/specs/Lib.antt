@@ -1,5 +1,6 @@
 pub use Rattle.pb_machine.specs.Blocks
 pub use Rattle.pb_packed.specs.Bits
+pub use Rattle.pb_packed.specs.Sizes
 pub use Rattle.pb_task.specs.Grid
 pub use Rattle.pb_task.specs.Parts
 pub use Rattle.pb_task.specs.Strips

@@ -1,6 +1,6 @@
-ghost use Rattle.std.specs.Prelude.{◌≡◌, ◌<◌, ◌≤◌, ◌^◌, ◌↔◌, ◌⊎◌, ◌==◌, ◌||◌, ◌&&◌, ℕ, [], Bool, IsTrue, IfOk, length, slice_index_or};
+ghost use Rattle.std.specs.Prelude.{◌≡◌, ◌<◌, ◌≤◌, ◌^◌, ◌↔◌, ◌⊎◌, ◌==◌, ◌||◌, ◌&&◌, ◌++◌, ◌∷◌, ℕ, [], Bool, IsTrue, IfOk, OnOk, length, slice_index_or, if◌then◌else◌};
 ghost use Rattle.std.specs.List.{list_any};
-ghost use Rattle.pb_task.specs.Strips.{IsStrips};
+ghost use Rattle.pb_task.specs.Strips.{action_at, IsStrips};
 ghost use Rattle.pb_abstract.specs.Tracked.{AreAtoms, IsTrackedEdge};
 ghost use Rattle.pb_abstract.specs.Borders.{is_number};
 ghost use Rattle.pb_abstract.specs.Changes.{change_of, changes_some, block_after};
@@ -9,7 +9,7 @@ ghost use Rattle.pb_abstract.specs.declared.changes.Change.{Change};
 
 use crate::lists::BlockList;
 use crate::tracked::TrackedAtoms;
-use pb_task::{GroundAction, StripsParts};
+use pb_task::{Actions, StripsParts};
 use std::alloc::{AllocError, Global};
 
 /// Which of the tracked atoms an action needs, adds and deletes: in each set the first tracked atom
@@ -25,13 +25,14 @@ pub struct Change {
 }
 
 // What an action does to the tracked atoms.
-fn change_of(atoms: &TrackedAtoms, action: &GroundAction) -> Change
-    ensures { result ≡ change_of atoms.now action.now }
+fn change_of(atoms: &TrackedAtoms, actions: &Actions, at: usize) -> Change
+    requires { at < length actions.now }
+    ensures { result ≡ change_of atoms.now (action_at actions.now at) }
 {
     Change {
-        needs: atoms.tracked_set(&action.needs),
-        adds: atoms.tracked_set(&action.adds),
-        deletes: atoms.tracked_set(&action.deletes),
+        needs: atoms.tracked_set(&actions.needs(at)),
+        adds: atoms.tracked_set(&actions.adds(at)),
+        deletes: atoms.tracked_set(&actions.deletes(at)),
     }
 }
 
@@ -46,10 +47,21 @@ fn block_after(change: &Change, block: u32) -> Option<u32>
     }
 }
 
+// Adds a change at the end, unless it adds and deletes nothing.
+fn push_change(changes: &mut Vec<Change>, change: Change) -> Result<(), AllocError>
+    ensures { OnOk result (changes.new.items ≡ (if changes_some change
+        then changes.old.items ++ change ∷ [] else changes.old.items)) }
+{
+    if change.adds != 0 || change.deletes != 0 {
+        changes.push(change)?;
+    }
+    Ok(())
+}
+
 // What the actions do to the tracked atoms, without those that add and delete none of them.
 fn all_changes(
     alloc: Global,
-    actions: &[GroundAction],
+    actions: &Actions,
     atoms: &TrackedAtoms,
 ) -> Result<Vec<Change>, AllocError>
     ensures { IfOk result (λ changes. (test : Change → Bool)
@@ -58,11 +70,8 @@ fn all_changes(
         actions.now) }
 {
     let mut changes = Vec::new(alloc);
-    for action in actions {
-        let change = change_of(atoms, action);
-        if change.adds != 0 || change.deletes != 0 {
-            changes.push(change)?;
-        }
+    for at in 0..actions.len() {
+        push_change(&mut changes, change_of(atoms, actions, at))?;
     }
     Ok(changes)
 }
@@ -106,7 +115,7 @@ pub fn scopes(
         → IsTrue (has (slice_index_or scopes.items block []) other)
         ↔ ((block ≡ other) ⊎ IsTrackedEdge strips.now atoms.now block other)) }
 {
-    let changes = each_once(all_changes(alloc, strips.actions.as_slice(), atoms)?);
+    let changes = each_once(all_changes(alloc, &strips.actions, atoms)?);
     let mut scopes = Vec::new(alloc);
     for block in 0..atoms.set_count() {
         scopes.push(scope(alloc, changes.as_slice(), block)?)?;

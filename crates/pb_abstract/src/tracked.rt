@@ -1,4 +1,5 @@
-ghost use Rattle.std.specs.Prelude.{◌≡◌, ◌<◌, ◌≤◌, ◌^◌, ◌++◌, ◌∷◌, [], length};
+ghost use Rattle.std.specs.Prelude.{◌≡◌, ◌<◌, ◌≤◌, ◌^◌, ◌++◌, ◌∷◌, [], All, length};
+ghost use Rattle.pb_packed.specs.Sizes.{state_bits};
 ghost use Rattle.pb_abstract.specs.Tracked.{tracked_set};
 
 use pb_packed::Packed;
@@ -10,12 +11,13 @@ const MOST: usize = 12;
 /// The numbers of the ground atoms that are tracked, at most 12. Contracts see them as a list.
 #[derive(Clone, Copy, PartialEq, Eq)]
 pub struct TrackedAtoms {
-    atoms: [u8; MOST],
+    atoms: [u16; MOST],
     count: usize,
 }
 
 impl Model for TrackedAtoms {
-    ghost use Rattle.std.specs.Prelude.{◌≡◌, ◌≤◌, ◌-◌, ◌++◌, ℕ, List, length, take, drop, replicate};
+    ghost use Rattle.std.specs.Prelude.{◌≡◌, ◌<◌, ◌≤◌, ◌-◌, ◌++◌, ℕ, List, All, length, take, drop, replicate};
+    ghost use Rattle.pb_packed.specs.Sizes.{state_bits};
     ghost use Rattle.pb_abstract.specs.Padded.{padded_again};
 
     ghost Value = { List ℕ };
@@ -23,7 +25,8 @@ impl Model for TrackedAtoms {
     ghost view = { λ t. take t.count t.atoms };
 
     ghost invariant = { λ t. (length t.atoms ≡ 12) × (t.count ≤ 12)
-        × (drop t.count t.atoms ≡ replicate (12 - t.count) 0) };
+        × (drop t.count t.atoms ≡ replicate (12 - t.count) 0)
+        × All (λ atom. atom < state_bits) t.atoms };
 
     ghost inverse = { λ atoms. record {
       atoms = atoms ++ replicate (12 - length atoms) 0;
@@ -48,8 +51,9 @@ impl TrackedAtoms {
     }
 
     /// Adds an atom after the others.
-    pub fn push(&mut self, atom: u8)
-        requires { length self.old < 12 }
+    pub fn push(&mut self, atom: u16)
+        requires few { length self.old < 12 }
+        requires small { atom < state_bits }
         ensures { self.new ≡ self.old ++ atom ∷ [] }
     {
         self.atoms[self.count] = atom;
@@ -57,9 +61,10 @@ impl TrackedAtoms {
     }
 
     /// The atoms, in order.
-    pub fn as_slice(&self) -> &[u8]
+    pub fn as_slice(&self) -> &[u16]
         ensures atoms { result.now ≡ self.now }
         ensures few { length self.now ≤ 12 }
+        ensures small { All (λ atom. atom < state_bits) self.now }
     {
         &self.atoms[..self.count]
     }

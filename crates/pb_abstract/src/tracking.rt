@@ -1,29 +1,21 @@
 ghost use Rattle.std.specs.Prelude.{◌≡◌, ◌<◌, ◌≤◌, length, IfOk, IfSome, IfNone};
+ghost use Rattle.pb_packed.specs.Sizes.{most_atoms};
 ghost use Rattle.pb_task.specs.Strips.{IsStrips};
-ghost use Rattle.pb_abstract.specs.Tracked.{changes, changers, AreTracked};
+ghost use Rattle.pb_abstract.specs.Tracked.{changers, AreTracked};
 ghost use Rattle.pb_abstract.specs.Ranking.{AreCounts, is_left, is_fewer, better, IsNext, IsNone};
 
 use crate::tracked::TrackedAtoms;
-use pb_task::{GroundAction, StripsParts};
+use pb_task::{Actions, StripsParts};
 use std::alloc::{AllocError, Global};
 
-// Whether an action adds or deletes an atom.
-fn changes(action: &GroundAction, atom: u32) -> bool
-    requires { atom < 256 }
-    ensures { result ≡ changes atom action.now }
-{
-    action.adds.has(atom) || action.deletes.has(atom)
-}
-
 // How many of the actions change an atom.
-fn changers(actions: &[GroundAction], atom: u32) -> u32
-    requires few { length actions.now ≤ 65536 }
-    requires atom { atom < 256 }
+fn changers(actions: &Actions, atom: u32) -> u32
+    requires { length actions.now ≤ 65536 }
     ensures { result ≡ changers atom actions.now }
 {
     let mut count = 0;
-    for action in actions {
-        if changes(action, atom) {
+    for at in 0..actions.len() {
+        if actions.changes(at, atom) {
             count += 1;
         }
     }
@@ -37,13 +29,13 @@ fn counts(alloc: Global, strips: &StripsParts) -> Result<Vec<u32>, AllocError>
 {
     let mut counts = Vec::new(alloc);
     for atom in 0..strips.atoms {
-        counts.push(changers(strips.actions.as_slice(), atom))?;
+        counts.push(changers(&strips.actions, atom))?;
     }
     Ok(counts)
 }
 
 // Whether some action changes an atom, and it isn't tracked yet.
-fn is_left(counts: &[u32], tracked: &TrackedAtoms, atom: u8) -> bool
+fn is_left(counts: &[u32], tracked: &TrackedAtoms, atom: u16) -> bool
     requires { atom < length counts.now }
     ensures { result ≡ is_left counts.now tracked.now atom }
 {
@@ -51,7 +43,7 @@ fn is_left(counts: &[u32], tracked: &TrackedAtoms, atom: u8) -> bool
 }
 
 // Whether fewer actions change an atom than the best one, if there is one.
-fn is_fewer(counts: &[u32], atom: u8, best: Option<u8>) -> bool
+fn is_fewer(counts: &[u32], atom: u16, best: Option<u16>) -> bool
     requires atom { atom < length counts.now }
     requires best { IfSome best (λ other. other < length counts.now) }
     ensures { result ≡ is_fewer counts.now atom best }
@@ -63,7 +55,7 @@ fn is_fewer(counts: &[u32], atom: u8, best: Option<u8>) -> bool
 }
 
 // The better one of an atom and the best one so far.
-fn better(counts: &[u32], tracked: &TrackedAtoms, atom: u8, best: Option<u8>) -> Option<u8>
+fn better(counts: &[u32], tracked: &TrackedAtoms, atom: u16, best: Option<u16>) -> Option<u16>
     requires atom { atom < length counts.now }
     requires best { IfSome best (λ other. other < length counts.now) }
     ensures { result ≡ better counts.now tracked.now atom best }
@@ -77,14 +69,14 @@ fn better(counts: &[u32], tracked: &TrackedAtoms, atom: u8, best: Option<u8>) ->
 
 // The atom to be tracked next, or None if there is none. Of the changed atoms that aren't tracked
 // yet, it is the one that the fewest actions change. Of several such atoms it is the least.
-fn next(counts: &[u32], tracked: &TrackedAtoms) -> Option<u8>
-    requires { length counts.now ≤ 256 }
+fn next(counts: &[u32], tracked: &TrackedAtoms) -> Option<u16>
+    requires { length counts.now ≤ most_atoms }
     ensures next { IfSome result (IsNext counts.now tracked.now) }
     ensures none { IfNone result (IsNone counts.now tracked.now) }
 {
     let mut best = None;
     for atom in 0..counts.len() {
-        best = better(counts, tracked, atom as u8, best);
+        best = better(counts, tracked, atom as u16, best);
     }
     best
 }

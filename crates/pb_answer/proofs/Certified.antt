@@ -54,7 +54,7 @@ module _ (parts : TaskParts) (solve : SolveMeaning) (graph : GraphValue)
 
   -- it is that of the search that left the graph
   of_search : (P : Guide → Store → Type 0) → P guide (home_store graph)
-      → P (searched_guide parts left.run.ends.graph (settings_of solve)) left.run.ends.machine.store
+      → P (searched_guide parts left.run.ends.graph (settings_of solve)) left.run.ends.run.machine.store
   of_search P is =
       subst (λ (s : Store). P (searched_guide parts left.run.ends.graph (settings_of solve)) s) left.run.rows
       (subst (λ (g : AbstractGraph). P (searched_guide parts g (settings_of solve)) (home_store graph)) left.run.blocks is)
@@ -69,7 +69,7 @@ module _ (parts : TaskParts) (solve : SolveMeaning) (graph : GraphValue)
       → quiet.IsValidFor parts guide (home_store graph) at_end plan c
       → IsPlanOfRows plan
       → IsCertificate (Some name) parts (weight_asked solve) (searched_guide parts left.run.ends.graph (settings_of solve))
-      left.run.ends.machine.store plan (output name (text_of c) ∷ [])
+      left.run.ends.run.machine.store plan (output name (text_of c) ∷ [])
   is_certificate lawful range c plan name spelling w p count lines valid best =
       let num : solve.settings.num ≤ 1000 = range.settings.weight.small in
       let den : solve.settings.den ≤ solve.settings.num = range.settings.weight.at_least_one in (
@@ -86,7 +86,7 @@ module _ (parts : TaskParts) (solve : SolveMeaning) (graph : GraphValue)
   pub certifies : (plan : Option Plan) (name : Option (List ℕ)) → solve.certificate ≡ name
       → (certificate : List Output) → IsPlanOfRows plan
       → IsCertificate name parts (weight_asked solve) (searched_guide parts left.run.ends.graph (settings_of solve))
-      left.run.ends.machine.store plan certificate
+      left.run.ends.run.machine.store plan certificate
       → Certifies (λ outputs. ◌≡◌ {A = List Output}
       (certificate ++ journal_outputs solve.journal (settings_of solve) graph.table.journal) outputs)
       solve parts plan
@@ -100,7 +100,7 @@ module _ (parts : TaskParts) (solve : SolveMeaning) (graph : GraphValue)
     },
     certificate,
     subst (λ (n : Option (List ℕ)). IsCertificate n parts (weight_asked solve)
-        (searched_guide parts left.run.ends.graph (settings_of solve)) left.run.ends.machine.store plan certificate)
+        (searched_guide parts left.run.ends.graph (settings_of solve)) left.run.ends.run.machine.store plan certificate)
         (sym named) is,
     refl,
   )

@@ -32,12 +32,12 @@ module _ (written : WrittenJournalsAreAccepted) (solve : SolveMeaning) (parts : 
       → IsJournalOf parts (journal_text (settings_of solve) events) (length events)
   is_journal end events run =
       let ends = run.ends in
-      let legal : IsHistory (blocks_of ends.graph) (settings_of solve) 0 events ends.machine.counts =
+      let legal : IsHistory (blocks_of ends.graph) (settings_of solve) 0 events ends.run.machine.counts =
       subst (λ (j : List Event).
-      IsHistory (blocks_of ends.graph) (settings_of solve) 0 j ends.machine.counts)
-      (sym run.events) ends.legal in
-      let read = written (blocks_of ends.graph) (settings_of solve) events ends.machine.counts
-      ends.few legal ends.finished in
+      IsHistory (blocks_of ends.graph) (settings_of solve) 0 j ends.run.machine.counts)
+      (sym run.events) ends.run.legal in
+      let read = written (blocks_of ends.graph) (settings_of solve) events ends.run.machine.counts
+      ends.few legal ends.run.finished in
       record {
         graph = ends.graph;
         blocks = record {
@@ -49,10 +49,10 @@ module _ (written : WrittenJournalsAreAccepted) (solve : SolveMeaning) (parts : 
         finished = record {
           settings = settings_of solve;
           journal = events;
-          counts = ends.machine.counts;
+          counts = ends.run.machine.counts;
           text = refl;
           legal = legal;
-          finished = ends.finished;
+          finished = ends.run.finished;
           count = refl;
         };
       }

@@ -35,7 +35,7 @@ abbrev pub left_by_leases : {parts : TaskParts} {settings : Settings} {end : End
     {journal : List Event} → SearchEnds parts settings end journal → Left
 left_by_leases {parts} {settings} {end} {journal} run = record {
   guide = searched_guide parts run.ends.graph settings;
-  store = run.ends.machine.store;
+  store = run.ends.run.machine.store;
   journal = Some journal;
 }
 

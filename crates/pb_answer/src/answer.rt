@@ -10,10 +10,10 @@ use crate::input::{NoTask, input_task};
 use crate::journal::judge_journal;
 use crate::solve::solve_task;
 use crate::status::Status;
+use crate::store::SearchedStore;
 use crate::texts::Texts;
 use pb_cert::Certificate;
 use pb_command::{CheckCommand, JournalCommand, SolveCommand};
-use pb_lease::LeaseGraph;
 use pb_machine::{Event, Settings};
 use pb_outside::Gate;
 use pb_report::Report;
@@ -78,7 +78,7 @@ fn refuse_input<'a>(report: Report) -> Answer<'a>
 }
 
 /// The answer to a search, or to texts that spell no task. If a file was too long, its text and the
-/// later ones are left out. The graph that was searched is kept in `kept`: the certificate and the
+/// later ones are left out. What the search leaves is kept in `kept`: the certificate and the
 /// journal borrow it. An error is out of memory.
 ///
 /// A search has as many workers as the command asks for: one waits for nobody, and more have a
@@ -89,7 +89,7 @@ pub fn answer_solve<'a, R: Threads + Wait + Sync, G: Gate>(
     solve: SolveCommand<'a>,
     texts: &Texts,
     gate: &G,
-    kept: &'a mut Option<LeaseGraph>,
+    kept: &'a mut Option<SearchedStore>,
 ) -> Result<Answer<'a>, AllocError>
     requires { IsInRange (Solve (solve_meant solve)) }
     ensures { IfOk result (λ a. OrRefused (solve_task (solve_meant solve.entry) texts.now)

@@ -10,6 +10,7 @@ mod journal;
 mod laws;
 mod solve;
 mod status;
+mod store;
 mod texts;
 
 pub use answer::{
@@ -17,4 +18,5 @@ pub use answer::{
 };
 pub use laws::long_files_are_refused;
 pub use status::Status;
+pub use store::SearchedStore;
 pub use texts::Texts;

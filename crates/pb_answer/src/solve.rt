@@ -13,6 +13,7 @@ ghost use Rattle.pb_answer.specs.Answer.{IsFound, IsSolved, IsUnsolvable, IsStop
 
 use crate::answer::{Answer, SavedCertificate, SavedJournal};
 use crate::status::Status;
+use crate::store::{SearchedStore, keep_leases};
 use pb_cert::{Certificate, Plan, trace};
 use pb_command::SolveCommand;
 use pb_estimate::Spelling;
@@ -27,15 +28,15 @@ use std::sync::{Arc, Wait};
 use std::thread::Threads;
 
 /// Searches a task as the words ask. It makes the report and, for each that has a name, the
-/// certificate and the journal. The graph is kept in `kept`: certificate and journal borrow it. An
-/// error is out of memory.
+/// certificate and the journal. The rows are kept in `kept`: certificate and journal borrow them.
+/// An error is out of memory.
 pub fn solve_task<'a, R: Threads + Wait + Sync, G: Gate>(
     rt: &R,
     alloc: Global,
     task: Task,
     solve: SolveCommand<'a>,
     gate: &G,
-    kept: &'a mut Option<LeaseGraph>,
+    kept: &'a mut Option<SearchedStore>,
 ) -> Result<Answer<'a>, AllocError>
     requires range { IsInRange (Solve (solve_meant solve)) }
     requires names { NamesTell task }
@@ -44,7 +45,7 @@ pub fn solve_task<'a, R: Threads + Wait + Sync, G: Gate>(
     let settings = solve.settings;
     let task = Arc::new(alloc, task)?;
     let graph = search(rt, alloc, &task, settings, gate)?;
-    let kept_graph = kept.insert(graph);
+    let kept_graph = keep_leases(kept, graph);
     match kept_graph.end() {
         Some(End::Quiet) => report_end(alloc, &task, solve, kept_graph),
         Some(End::Budget) => report_stop(alloc, &task, solve, kept_graph),

@@ -3,10 +3,11 @@ use Rattle.std.proofs.Common.{◌≡◌, ℕ, zero, suc, ◌+◌, ◌-◌, ◌<�
 use Rattle.std.proofs.lemmas.List.{length-append, length-map}
 use Rattle.std.proofs.lemmas.Option.{slice_get-get_or}
 use Rattle.std.specs.Fmt.{decimal}
+use Rattle.pb_packed.specs.Sizes.{version_1_digits}
 use Rattle.pb_model.specs.Plan.{Plan}
 use Rattle.pb_model.specs.Certificate.{Line, Certificate}
 use Rattle.pb_model.specs.Texts.{line, lines, spaced, line_text, plan_text, weight_text, rows_text}
-use Rattle.pb_print.specs.Saved.{PutsLine}
+use Rattle.pb_print.specs.Saved.{longest_line, PutsLine}
 use Rattle.pb_print.proofs.Callers.{lines-append, lines-last, puts_left, puts_right, short_enough}
 use Rattle.pb_estimate.specs.declared.choice.Choice.{Choice}
 use Rattle.pb_estimate.specs.declared.choice.Choice.TheVariants.{Plain}
@@ -77,11 +78,11 @@ lines_are_text spelled =
 -- ---- a line that was put
 
 module _ (old new : List ℕ) (spelling : Spelling) (at : ℕ) where
-  pub version_put : at ≡ 0 → new ≡ old ++ line (version_line spelling.version) → length new ≤ length old + 128 → PutsLine old new (head_of spelling) at
+  pub version_put : at ≡ 0 → new ≡ old ++ line (version_line spelling.version) → length new ≤ length old + longest_line → PutsLine old new (head_of spelling) at
   version_put zeroth e short =
       (version_line spelling.version, subst (λ n. slice_get (head_of spelling) n ≡ Some (version_line spelling.version)) (sym zeroth) refl, e, short)
 
-  pub kind_put : at ≡ 1 → new ≡ old ++ line (kind_line spelling.kind) → length new ≤ length old + 128 → PutsLine old new (head_of spelling) at
+  pub kind_put : at ≡ 1 → new ≡ old ++ line (kind_line spelling.kind) → length new ≤ length old + longest_line → PutsLine old new (head_of spelling) at
   kind_put first e short =
       (kind_line spelling.kind, subst (λ n. slice_get (head_of spelling) n ≡ Some (kind_line spelling.kind)) (sym first) refl, e, short)
 
@@ -96,7 +97,7 @@ module _ (old new : List ℕ) (spelled : SpelledCertificate) (at : ℕ) where
   pub head_put : PutsLine old new (head_of spelled.spelling) at → PutsLine old new (first_lines spelled) at
   head_put puts = puts_left old new (head_of spelled.spelling) (weight_line spelled.certificate.weight ∷ []) at puts
 
-  pub weight_put : head_lines spelled.spelling ≤ at → at < length (first_lines spelled) → new ≡ old ++ line (weight_line spelled.certificate.weight) → length new ≤ length old + 128
+  pub weight_put : head_lines spelled.spelling ≤ at → at < length (first_lines spelled) → new ≡ old ++ line (weight_line spelled.certificate.weight) → length new ≤ length old + longest_line
       → PutsLine old new (first_lines spelled) at
   weight_put past within e short =
       puts_right old new (head_of spelled.spelling) (weight_line spelled.certificate.weight ∷ []) at 0 past (omega (arith, past, within, first_counted)) (weight_line spelled.certificate.weight, refl, e, short)
@@ -114,7 +115,7 @@ none_put old new None at none within e =
     (codes "none", subst (λ n. slice_get (plan_lines None) n ≡ Some (codes "none")) (sym zeroth) refl, e, short_enough old new (line (codes "none")) e (omega arith))
 
 module _ (old new : List ℕ) (plan : Plan) (at : ℕ) where
-  pub steps_put : (actions : List ℕ) → actions ≡ plan.actions → at ≡ 0 → new ≡ old ++ line (spaced (codes "plan") (decimal (length actions))) → length new ≤ length old + 128 → PutsLine old new (plan_lines (Some plan)) at
+  pub steps_put : (actions : List ℕ) → actions ≡ plan.actions → at ≡ 0 → new ≡ old ++ line (spaced (codes "plan") (decimal (length actions))) → length new ≤ length old + longest_line → PutsLine old new (plan_lines (Some plan)) at
   steps_put actions same zeroth e short =
       let first : List ℕ = spaced (codes "plan") (decimal (length plan.actions)) in (
         first,
@@ -123,7 +124,7 @@ module _ (old new : List ℕ) (plan : Plan) (at : ℕ) where
         short,
       )
 
-  pub action_put : (actions : List ℕ) → actions ≡ plan.actions → (at ≡ 0 → ⊥) → at ≤ length actions → new ≡ old ++ line (decimal (get_or actions (at - 1) 0)) → length new ≤ length old + 128
+  pub action_put : (actions : List ℕ) → actions ≡ plan.actions → (at ≡ 0 → ⊥) → at ≤ length actions → new ≡ old ++ line (decimal (get_or actions (at - 1) 0)) → length new ≤ length old + longest_line
       → PutsLine old new (plan_lines (Some plan)) at
   action_put actions same positive within e short =
       let action : ℕ = get_or actions (at - 1) 0 in
@@ -135,7 +136,7 @@ module _ (old new : List ℕ) (plan : Plan) (at : ℕ) where
         short,
       )
 
-  pub cost_put : (actions : List ℕ) (cost : ℕ) → actions ≡ plan.actions → cost ≡ plan.cost → length actions < at → at < length plan.actions + 2 → new ≡ old ++ line (spaced (codes "cost") (decimal cost)) → length new ≤ length old + 128
+  pub cost_put : (actions : List ℕ) (cost : ℕ) → actions ≡ plan.actions → cost ≡ plan.cost → length actions < at → at < length plan.actions + 2 → new ≡ old ++ line (spaced (codes "cost") (decimal cost)) → length new ≤ length old + longest_line
       → PutsLine old new (plan_lines (Some plan)) at
   cost_put actions cost same is past within e short =
       let last : List ℕ = spaced (codes "cost") (decimal plan.cost) in (
@@ -146,12 +147,12 @@ module _ (old new : List ℕ) (plan : Plan) (at : ℕ) where
       )
 
 module _ (old new : List ℕ) (digits : ℕ) (certificate : Certificate) (at : ℕ) where
-  pub count_put : (rows : ℕ) → rows ≡ length certificate.lines → at ≡ 0 → new ≡ old ++ line (spaced (codes "rows") (decimal rows)) → length new ≤ length old + 128 → PutsLine old new (rows_lines digits certificate) at
+  pub count_put : (rows : ℕ) → rows ≡ length certificate.lines → at ≡ 0 → new ≡ old ++ line (spaced (codes "rows") (decimal rows)) → length new ≤ length old + longest_line → PutsLine old new (rows_lines digits certificate) at
   count_put rows same zeroth e short =
       let first : List ℕ = spaced (codes "rows") (decimal (length certificate.lines)) in
       (first, get_first (line_text digits) first (codes "end") certificate.lines at zeroth, subst (λ n. new ≡ old ++ line (spaced (codes "rows") (decimal n))) same e, short)
 
-  pub row_put : (row : Line) → 64 ≡ digits → (at ≡ 0 → ⊥) → slice_get certificate.lines (at - 1) ≡ Some row → new ≡ old ++ line (line_text 64 row) → length new ≤ length old + 128 → PutsLine old new (rows_lines digits certificate) at
+  pub row_put : (row : Line) → version_1_digits ≡ digits → (at ≡ 0 → ⊥) → slice_get certificate.lines (at - 1) ≡ Some row → new ≡ old ++ line (line_text version_1_digits row) → length new ≤ length old + longest_line → PutsLine old new (rows_lines digits certificate) at
   row_put row width positive found e short = (
     line_text digits row,
     get_middle (line_text digits) (spaced (codes "rows") (decimal (length certificate.lines))) (codes "end") certificate.lines at row (grind (arith, positive)) found,
@@ -171,12 +172,12 @@ module _ (old new : List ℕ) (digits : ℕ) (certificate : Certificate) (at : �
       counted : (rows : List Line) (first : List ℕ) → length (first ∷ (map (line_text digits) rows ++ codes "end" ∷ [])) ≡ length rows + 2
       counted rows first = simp (length-append, length-map) (omega arith)
 
--- each version that is written has 64 digits
-sixty_four_of : (version : Version) (width : ℕ) → IsWidthOf version width → 64 ≡ width
-sixty_four_of One width is = sym is
+-- each version that is written has the digits of version 1
+width_of_version : (version : Version) (width : ℕ) → IsWidthOf version width → version_1_digits ≡ width
+width_of_version One width is = sym is
 
-pub sixty_four : (spelling : Spelling) → IsSpelling spelling → 64 ≡ spelling.width
-sixty_four spelling is = sixty_four_of spelling.version spelling.width is
+pub width_of_spelling : (spelling : Spelling) → IsSpelling spelling → version_1_digits ≡ spelling.width
+width_of_spelling spelling is = width_of_version spelling.version spelling.width is
 
 module _ (old new : List ℕ) (spelled : SpelledCertificate) (at first : ℕ) (counted : first ≡ length (first_lines spelled)) where
   pub first_line_put : PutsLine old new (first_lines spelled) at → PutsLine old new (lines_of spelled) at

@@ -3,6 +3,7 @@
 use Rattle.std.proofs.Common.{◌≡◌, ℕ, ◌^◌, ◌<◌, ◌≤◌, IsTrue, Option, None, Some, List, [], ◌∷◌, length, Result, Ok, Err, refl, ap, sym, ◌∙◌, subst, arith}
 use Rattle.std.specs.List.{AllByRecursion}
 use Rattle.std.proofs.lemmas.List.Elements.{All-from_recursion}
+use Rattle.pb_packed.specs.Sizes.{version_1_digits}
 use Rattle.pb_model.specs.declared.row.Estimate.{Estimate}
 use Rattle.pb_model.specs.declared.row.Row.{Row}
 use Rattle.pb_model.specs.Space.{Space, IsProper}
@@ -62,7 +63,7 @@ module _ (space : Space) (most : ℕ) (proper : IsProper space most) where
 -- the text of a valid certificate whose numbers can be stated is accepted, if what it states is
 text_is_accepted : (parts : TaskParts) (choice : Choice) (certificate : Certificate)
     → stated_fault parts (record { choice = choice }) ≡ None
-    → IsValid (space_of parts) (estimate_by parts choice) certificate → Fits 64 certificate
+    → IsValid (space_of parts) (estimate_by parts choice) certificate → Fits version_1_digits certificate
     → checked parts (spelled_text (spelling_of parts choice) certificate)
     ≡ Ok (verdict_of certificate.weight certificate.plan)
 text_is_accepted parts choice certificate stated valid fits = go (checked parts bytes) refl
@@ -219,7 +220,7 @@ module _ (parts : TaskParts) (guide : Guide) (store : Store)
       → weight.den < 2 ^ 63 → (c : SpelledCertificate) (plan : Option Plan)
       → IsValid (space_of parts) estimate (certificate_of weight plan c.certificate.lines)
       → length c.certificate.lines < 2 ^ 63 → HasLines c → PlanFitsIfAny plan
-      → Fits 64 (certificate_of weight plan c.certificate.lines)
+      → Fits version_1_digits (certificate_of weight plan c.certificate.lines)
   fits lawful estimate weight num den c plan valid count lines plan_fits =
       let are = home_lines c lines in
       record {

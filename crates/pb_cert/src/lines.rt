@@ -1,8 +1,9 @@
 ghost use Rattle.std.specs.Prelude.{◌≡◌, ◌+◌, ◌<◌, ◌≤◌, ◌^◌, ◌++◌, Some, length, slice_get};
 ghost use Rattle.std.specs.Fmt.{decimal};
+ghost use Rattle.pb_packed.specs.Sizes.{version_1_digits};
 ghost use Rattle.pb_model.specs.Texts.{line, spaced, line_text};
 ghost use Rattle.pb_estimate.specs.Spelling.{version_line, kind_line, stated_text, head_of, head_lines};
-ghost use Rattle.pb_print.specs.Saved.{PutsLine};
+ghost use Rattle.pb_print.specs.Saved.{longest_line, PutsLine};
 ghost use Rattle.pb_cert.specs.Stated.{text_of, lines_of, first_lines, plan_lines, rows_lines, weight_line};
 
 use crate::Plan;
@@ -15,9 +16,9 @@ use pb_task::Kind;
 // Puts a line of a word and a number at the piece's end.
 fn put_numbered(word: &[u8], n: u64, out: &mut Piece)
     requires word { length word.now ≤ 8 }
-    requires room { length out.old + 128 ≤ 4096 }
+    requires room { length out.old + longest_line ≤ 4096 }
     ensures line { out.new ≡ out.old ++ line (spaced word.now (decimal n)) }
-    ensures short { length out.new ≤ length out.old + 128 }
+    ensures short { length out.new ≤ length out.old + longest_line }
 {
     out.push(word);
     out.push(b" ");
@@ -27,9 +28,9 @@ fn put_numbered(word: &[u8], n: u64, out: &mut Piece)
 
 // Puts the line of an action at the piece's end.
 fn put_action(action: u32, out: &mut Piece)
-    requires room { length out.old + 128 ≤ 4096 }
+    requires room { length out.old + longest_line ≤ 4096 }
     ensures line { out.new ≡ out.old ++ line (decimal action) }
-    ensures short { length out.new ≤ length out.old + 128 }
+    ensures short { length out.new ≤ length out.old + longest_line }
 {
     out.push_number(u64::from(action));
     out.push(b"\n");
@@ -37,9 +38,9 @@ fn put_action(action: u32, out: &mut Piece)
 
 // Puts the line of a state at the piece's end.
 fn put_row(row: &Line, out: &mut Piece)
-    requires room { length out.old + 128 ≤ 4096 }
-    ensures line { out.new ≡ out.old ++ line (line_text 64 row.now) }
-    ensures short { length out.new ≤ length out.old + 128 }
+    requires room { length out.old + longest_line ≤ 4096 }
+    ensures line { out.new ≡ out.old ++ line (line_text version_1_digits row.now) }
+    ensures short { length out.new ≤ length out.old + longest_line }
 {
     out.push_hex(&row.state);
     out.push(b" ");
@@ -55,7 +56,7 @@ fn put_row(row: &Line, out: &mut Piece)
 // Puts a line that states a plan at the piece's end.
 fn put_plan_line(plan: &Plan, at: u128, out: &mut Piece)
     requires within { at < length plan.now.actions + 2 }
-    requires room { length out.old + 128 ≤ 4096 }
+    requires room { length out.old + longest_line ≤ 4096 }
     ensures { PutsLine out.old out.new (plan_lines (Some plan.now)) at }
 {
     let actions = plan.actions();
@@ -70,9 +71,9 @@ fn put_plan_line(plan: &Plan, at: u128, out: &mut Piece)
 
 // Puts the line of a version at the piece's end.
 fn put_version(version: Version, out: &mut Piece)
-    requires room { length out.old + 128 ≤ 4096 }
+    requires room { length out.old + longest_line ≤ 4096 }
     ensures line { out.new ≡ out.old ++ line (version_line version) }
-    ensures short { length out.new ≤ length out.old + 128 }
+    ensures short { length out.new ≤ length out.old + longest_line }
 {
     match version {
         Version::One => out.push(b"pbnf-certificate 1\n"),
@@ -81,9 +82,9 @@ fn put_version(version: Version, out: &mut Piece)
 
 // Puts the line of a kind at the piece's end.
 fn put_kind(kind: Kind, out: &mut Piece)
-    requires room { length out.old + 128 ≤ 4096 }
+    requires room { length out.old + longest_line ≤ 4096 }
     ensures line { out.new ≡ out.old ++ line (kind_line kind) }
-    ensures short { length out.new ≤ length out.old + 128 }
+    ensures short { length out.new ≤ length out.old + longest_line }
 {
     out.push(b"kind ");
     out.push(kind.name().as_bytes());
@@ -93,7 +94,7 @@ fn put_kind(kind: Kind, out: &mut Piece)
 // Puts a line of what is stated besides at the piece's end, if it is one of them. The plain choice
 // is said in no line.
 fn put_stated(stated: &Stated, _at: u128, _out: &mut Piece)
-    requires room { length _out.old + 128 ≤ 4096 }
+    requires room { length _out.old + longest_line ≤ 4096 }
     ensures { _at < length (stated_text stated.now)
         → PutsLine _out.old _out.new (stated_text stated.now) _at }
 {
@@ -105,7 +106,7 @@ fn put_stated(stated: &Stated, _at: u128, _out: &mut Piece)
 // Puts a line that comes before the weight at the piece's end.
 fn put_head(spelling: &Spelling, at: u128, out: &mut Piece)
     requires within { at < head_lines spelling.now }
-    requires room { length out.old + 128 ≤ 4096 }
+    requires room { length out.old + longest_line ≤ 4096 }
     ensures { PutsLine out.old out.new (head_of spelling.now) at }
 {
     if at == 0 {
@@ -133,10 +134,10 @@ impl Certificate<'_> {
         line_at(&self.parts, &self.places[i])
     }
 
-    // How many digits a state has: there is one version, which has 64.
+    // How many digits a state has: as many as in version 1, the only one that there is.
     fn digits(&self) -> u32
         ensures digits { result ≡ self.now.spelling.width }
-        ensures all { result ≡ 64 }
+        ensures all { result ≡ version_1_digits }
     {
         self.spelling.width
     }
@@ -162,7 +163,7 @@ impl Certificate<'_> {
 
     fn put_first(&self, at: u128, out: &mut Piece)
         requires within { at < length (first_lines self.now) }
-        requires room { length out.old + 128 ≤ 4096 }
+        requires room { length out.old + longest_line ≤ 4096 }
         ensures { PutsLine out.old out.new (first_lines self.now) at }
     {
         if at < u128::from(self.spelling.head_lines()) {
@@ -173,9 +174,9 @@ impl Certificate<'_> {
     }
 
     fn put_weight(&self, out: &mut Piece)
-        requires room { length out.old + 128 ≤ 4096 }
+        requires room { length out.old + longest_line ≤ 4096 }
         ensures line { out.new ≡ out.old ++ line (weight_line self.now.certificate.weight) }
-        ensures short { length out.new ≤ length out.old + 128 }
+        ensures short { length out.new ≤ length out.old + longest_line }
     {
         out.push(b"weight ");
         out.push_number(self.num);
@@ -186,7 +187,7 @@ impl Certificate<'_> {
 
     fn put_plan(&self, at: u128, out: &mut Piece)
         requires within { at < length (plan_lines self.now.certificate.plan) }
-        requires room { length out.old + 128 ≤ 4096 }
+        requires room { length out.old + longest_line ≤ 4096 }
         ensures { PutsLine out.old out.new (plan_lines self.now.certificate.plan) at }
     {
         match &self.plan {
@@ -197,7 +198,7 @@ impl Certificate<'_> {
 
     fn put_rows(&self, at: u128, out: &mut Piece)
         requires within { at < length (rows_lines self.now.spelling.width self.now.certificate) }
-        requires room { length out.old + 128 ≤ 4096 }
+        requires room { length out.old + longest_line ≤ 4096 }
         ensures { PutsLine out.old out.new
             (rows_lines self.now.spelling.width self.now.certificate) at }
     {

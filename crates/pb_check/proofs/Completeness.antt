@@ -30,18 +30,18 @@ use Rattle.pb_check.specs.Judging.{passes, or_then, unless, same_kind, stated_fa
 use Rattle.pb_check.proofs.Finding.{equal_at}
 use Rattle.pb_check.proofs.Written.{read_of}
 
-kind_same : (a : Kind) → same_kind a a ≡ true
+pub kind_same : (a : Kind) → same_kind a a ≡ true
 kind_same Grid = refl
 kind_same Tiles = refl
 kind_same Strips = refl
 
-weight_ok : (weight : Weight) → IsWeight weight → is_weight weight ≡ true
+pub weight_ok : (weight : Weight) → IsWeight weight → is_weight weight ≡ true
 weight_ok weight w = and_from (leb 1 weight.den) (leb weight.den weight.num && leb weight.num 1000) (le-leb _ _ w.positive) (and_from (leb weight.den weight.num) (leb weight.num 1000) (le-leb _ _ w.at_least_one) (le-leb _ _ w.small))
 
 pair : (to from cost total : ℕ) → to ≡ from → cost ≡ total → ◌≡◌ {A = Result (ℕ × ℕ) CertificateFault} (Ok (from, cost)) (Ok (to, total))
 pair to from cost total a b = cc
 
-walked : (space : Space) (from done cost : ℕ) (actions : List ℕ) (rest to : ℕ) → Walk space from actions rest to → walk space from done cost actions ≡ Ok (to, cost + rest)
+pub walked : (space : Space) (from done cost : ℕ) (actions : List ℕ) (rest to : ℕ) → Walk space from actions rest to → walk space from done cost actions ≡ Ok (to, cost + rest)
 unfolding walk
 walked space from done cost [] rest to w = pair to from cost (cost + rest) w.1 (let z : rest ≡ 0 = w.0 in omega (arith, z))
 walked space from done cost (action ∷ actions) rest to w =
@@ -56,7 +56,7 @@ plan_ok space plan is =
     let g : space.is_goal is.0 ≡ true = is.2 in
     rw (w, g, c) refl
 
-plan_ok_if_any : (space : Space) (plan : Option Plan) → IsPlanIfAny space plan → plan_fault_if_any space plan ≡ Ok true
+pub plan_ok_if_any : (space : Space) (plan : Option Plan) → IsPlanIfAny space plan → plan_fault_if_any space plan ≡ Ok true
 plan_ok_if_any space None is = refl
 plan_ok_if_any space (Some plan) is = plan_ok space plan is
 
@@ -79,28 +79,28 @@ unfolding order_fault
 order_ok line before [] h = refl
 order_ok line before (row ∷ rows) h = let lt : ltb before row.state ≡ true = lt-ltb _ _ h.0 in rw lt (order_ok (line + 1) row.state rows h.1)
 
-rows_order_ok : (line : ℕ) (rows : List Line) → Rise rows → rows_order_fault line rows ≡ None
+pub rows_order_ok : (line : ℕ) (rows : List Line) → Rise rows → rows_order_fault line rows ≡ None
 rows_order_ok line [] h = refl
 rows_order_ok line (row ∷ rows) h = order_ok (line + 1) row.state rows h
 
-each_ok : (fault : (line : ℕ) → Line → Option CertificateFault) (P : Line → Type 0) (line : ℕ) (rows : List Line) → ((k : ℕ) (row : Line) → P row → fault k row ≡ None) → All P rows → first_fault_by fault line rows ≡ None
+pub each_ok : (fault : (line : ℕ) → Line → Option CertificateFault) (P : Line → Type 0) (line : ℕ) (rows : List Line) → ((k : ℕ) (row : Line) → P row → fault k row ≡ None) → All P rows → first_fault_by fault line rows ≡ None
 unfolding first_fault_by
 each_ok fault P line [] so h = refl
 each_ok fault P line (row ∷ rows) so h =
     ap (λ f. or_then f (first_fault_by fault (line + 1) rows)) (so line row (All-head P row rows h)) ∙ each_ok fault P (line + 1) rows so (All-tail P row rows h)
 
-found : (rows : List Line) → Rise rows → (state most : ℕ) → HasLineWithin rows state most → (g : ℕ) × (g_of rows state ≡ Some g) × (g ≤ most)
+pub found : (rows : List Line) → Rise rows → (state most : ℕ) → HasLineWithin rows state most → (g : ℕ) × (g_of rows state ≡ Some g) × (g ≤ most)
 found rows rise state most h =
     let at : Contains rows h.0 = h.1 in
     (h.0.g, sym (equal_at rows at.0 h.0 at.1 (sym at.2) rise state h.2), h.3)
 
-zero_ok : (g : Option ℕ) (k : ℕ) → g ≡ Some k → k ≤ 0 → is_zero g ≡ true
+pub zero_ok : (g : Option ℕ) (k : ℕ) → g ≡ Some k → k ≤ 0 → is_zero g ≡ true
 zero_ok g k e le = let z : k ≡ 0 = omega (arith, le) in ap is_zero e ∙ ap (λ n. eqb n 0) z
 
-target_ok : (line action most : ℕ) (g : Option ℕ) (k : ℕ) → g ≡ Some k → k ≤ most → target_fault line action most g ≡ None
+pub target_ok : (line action most : ℕ) (g : Option ℕ) (k : ℕ) → g ≡ Some k → k ≤ most → target_fault line action most g ≡ None
 target_ok line action most g k e le = ap (target_fault line action most) e ∙ ap (λ b. unless b (faults.TooDear line action)) (le-leb k most le)
 
-may_ok : (weight : Weight) (best : Option ℕ) (g : ℕ) (e : Estimate) → MayBeCut weight best g e → may_be_cut weight best g e ≡ true
+pub may_ok : (weight : Weight) (best : Option ℕ) (g : ℕ) (e : Estimate) → MayBeCut weight best g e → may_be_cut weight best g e ≡ true
 may_ok weight best g Dead h = refl
 may_ok weight None g (Cost x) h = absurd h
 may_ok weight (Some best) g (Cost x) h = le-leb _ _ h
@@ -116,7 +116,7 @@ module _ (space : Space) (estimate : ℕ → Estimate) (weight : Weight) (best :
       go None e = refl
       go (Some step) e = let f = found rows rise step.0 (g + step.1) (so action step.0 step.1 e) in target_ok line action (g + step.1) (g_of rows step.0) f.0 f.1 f.2
 
-  row_ok : (line : ℕ) (row : Line) → (IsTrue row.is_closed → IsClosedLine space rows row) → (IsFalse row.is_closed → MayBeCut weight best row.g (estimate row.state)) → row_fault space estimate weight best rows line row ≡ None
+  pub row_ok : (line : ℕ) (row : Line) → (IsTrue row.is_closed → IsClosedLine space rows row) → (IsFalse row.is_closed → MayBeCut weight best row.g (estimate row.state)) → row_fault space estimate weight best rows line row ≡ None
   unfolding row_fault
   row_ok line row closed cut = go row.is_closed refl
     where

@@ -3,6 +3,7 @@ use Rattle.std.proofs.Common.{◌≡◌, ◌≢◌, ◌⊎◌, inl, inr, ℕ, ze
 use Rattle.std.specs.Prelude.{codes}
 use Rattle.std.proofs.lemmas.Bool.{eqb-true}
 use Rattle.std.proofs.lemmas.List.{nil_from_length}
+use Rattle.pb_packed.specs.Sizes.{version_1_digits}
 use Rattle.pb_model.specs.Weight.{Weight}
 use Rattle.pb_model.specs.Plan.{Plan}
 use Rattle.pb_model.specs.Certificate.{Line}
@@ -330,8 +331,8 @@ unfolding stated_at
 stated_step line = given_step (λ (stated : Stated). length (stated_text stated)) line
     (record { choice = Plain }) refl
 
-abbrev spelling_with : Kind → Stated → Spelling
-spelling_with kind stated = record { kind = kind; version = One; width = 64; stated = stated }
+abbrev pub spelling_with : Kind → Stated → Spelling
+spelling_with kind stated = record { kind = kind; version = One; width = version_1_digits; stated = stated }
 
 head_step : IsStep head_lines 1 head_at
 unfolding head_at
@@ -358,7 +359,7 @@ row_step line = line_step (λ row. 1) (λ row. 0) line
     (λ first. row_in line first.0 >>= λ row. Ok (row, first.1)) (λ row. refl)
     (λ first. word_step (line + 1) (row_in line first))
 
-one_more : {A : Type 0} (x : A) (xs : List A) → length (x ∷ xs) ≡ 1 + length xs
+pub one_more : {A : Type 0} (x : A) (xs : List A) → length (x ∷ xs) ≡ 1 + length xs
 one_more x xs = omega arith
 
 actions_step : (count line : ℕ) → IsStep (λ actions. length actions) line (actions_at count line)
@@ -379,7 +380,7 @@ rows_step (suc count) line =
     line (row_at line) (λ row text. rows_at count (line + 1) text) (row_step line)
     (λ row. rows_step count (line + 1))
 
-abbrev lines_of : Plan → ℕ
+abbrev pub lines_of : Plan → ℕ
 lines_of plan = length plan.actions + 1
 
 steps_step : (count line : ℕ) → IsStep lines_of line (steps_at count line)
@@ -392,7 +393,7 @@ steps_step count line =
     (actions_step count line) (λ actions. number_step (line + length actions) (codes "cost "))
 
 -- how many lines come after a plan's first
-abbrev later_lines : Option Plan → ℕ
+abbrev pub later_lines : Option Plan → ℕ
 later_lines None = 0
 later_lines (Some plan) = lines_of plan
 
@@ -438,7 +439,7 @@ body_last line =
     (λ rows. named_last (line + 1 + length rows) (end_at (line + 1 + length rows)) (λ ended. rows)
     (end_last (line + 1 + length rows))))
 
-abbrev text_with : Spelling → Weight → Option Plan → List Line → Text
+abbrev pub text_with : Spelling → Weight → Option Plan → List Line → Text
 text_with spelling weight plan rows =
     record {
       spelling = spelling;

@@ -15,3 +15,8 @@ mod Validity
 mod Completeness
 mod Claims
 mod Known
+mod FirstLines
+mod FirstUnspelled
+mod CaseOf
+mod CaseTold
+mod CaseExamples

@@ -1,6 +1,7 @@
 -- How bytes spell a certificate, line by line and word by word.
 use Rattle.std.specs.Prelude.{◌≡◌, ℕ, ◌+◌, ◌*◌, Bool, true, false, Option, None, Some, List, [], ◌∷◌, ◌++◌, length, codes, nat_lt}
 use Rattle.std.specs.List.{list_all}
+use Rattle.pb_packed.specs.Sizes.{version_1_digits}
 use Rattle.pb_model.specs.Weight.{Weight}
 use Rattle.pb_model.specs.Plan.{Plan}
 use Rattle.pb_model.specs.Certificate.{Line}
@@ -15,9 +16,9 @@ abbrev pub hex_value_after : ℕ → List ℕ → ℕ
 hex_value_after n [] = n
 hex_value_after n (b ∷ bs) = hex_value_after (n * 16 + hex_value b) bs
 
--- exactly 64 hexadecimal digits
+-- exactly the hexadecimal digits of version 1
 pub record IsStateWord (word : List ℕ) (state : ℕ) : Type 0 where
-  pub sixty_four : length word ≡ 64
+  pub count : length word ≡ version_1_digits
   pub digits : list_all (λ b. nat_lt (hex_value b) 16) word ≡ true
   pub value : state ≡ hex_value_after 0 word
 

@@ -4,6 +4,7 @@ use Rattle.std.proofs.lemmas.Bool.{and_parts, and_from}
 use Rattle.std.specs.Prelude.{codes}
 use Rattle.std.specs.List.{list_all}
 use Rattle.std.proofs.lemmas.Bool.Decides.{nat_tests}
+use Rattle.pb_packed.specs.Sizes.{version_1_digits}
 use Rattle.pb_model.specs.Weight.{Weight}
 use Rattle.pb_model.specs.Plan.{Plan}
 use Rattle.pb_model.specs.Certificate.{Line}
@@ -38,7 +39,7 @@ hex_after_again n (b ∷ bs) digits =
 
 pub state_again : (word : List ℕ) (state : ℕ) → IsStateWord word state → state_of word ≡ Some state
 state_again word state is =
-    let e : eqb (length word) 64 ≡ true = (let s = is.sixty_four in grind (arith, nat_tests, s)) in
+    let e : eqb (length word) version_1_digits ≡ true = (let s = is.count in grind (arith, nat_tests, s)) in
     ap (λ t. cond t (hex_after 0 word) None) e ∙ hex_after_again 0 word is.digits ∙ ap (λ (k : ℕ). Some k) (sym is.value)
 
 -- ---- words have neither a space nor an end of a line
@@ -63,7 +64,7 @@ unfolding fixed_at
 fixed_again line piece text rest is none =
     ap (λ r. r >>= λ first. cond (is_text piece first.0) (Ok first.1) (Err (Syntax line))) (line_again line text piece rest is none) ∙ ap (λ t. cond t (Ok rest) (Err (Syntax line))) (text_again piece)
 
-behind_number_word_read : (line : ℕ) (piece word : List ℕ) (n : ℕ) → IsNumberWord word n → number_behind line piece (piece ++ word) ≡ Ok n
+pub behind_number_word_read : (line : ℕ) (piece word : List ℕ) (n : ℕ) → IsNumberWord word n → number_behind line piece (piece ++ word) ≡ Ok n
 behind_number_word_read line piece word n is =
     ap (λ o. wanted line o >>= λ word. wanted line (number_of word)) (behind_again piece word) ∙ ap (wanted line) (number_word_read word n is)
 
@@ -81,13 +82,13 @@ fine_weight num den = Ok (record { num = num; den = den })
 abbrev fine_row : (state g : ℕ) → Bool → Result Line CertificateFault
 fine_row state g is_closed = Ok (record { state = state; g = g; is_closed = is_closed })
 
-kind_again : (line : ℕ) (k : Kind) → kind_in line (kind_line k) ≡ Ok k
+pub kind_again : (line : ℕ) (k : Kind) → kind_in line (kind_line k) ≡ Ok k
 unfolding kind_in behind
 kind_again line Grid = refl
 kind_again line Tiles = refl
 kind_again line Strips = refl
 
-kind_none : (k : Kind) → has_none 10 (kind_line k) ≡ true
+pub kind_none : (k : Kind) → has_none 10 (kind_line k) ≡ true
 kind_none Grid = refl
 kind_none Tiles = refl
 kind_none Strips = refl
@@ -101,7 +102,7 @@ closed_none : (c : Bool) → has_none 10 (closed_text c) ≡ true
 closed_none true = refl
 closed_none false = refl
 
-weight_again : (line : ℕ) (text : List ℕ) (w : Weight) → IsWeightLine text w → weight_in line text ≡ Ok w
+pub weight_again : (line : ℕ) (text : List ℕ) (w : Weight) → IsWeightLine text w → weight_in line text ≡ Ok w
 unfolding weight_in
 weight_again line text w is =
     let den_of = λ (num : ℕ) (den : Option ℕ). wanted line den >>= λ den. fine_weight num den in
@@ -113,11 +114,11 @@ weight_again line text w is =
     ∙ ap num_of (number_word_read is.num w.num is.num_is)
     ∙ ap (den_of w.num) (number_word_read is.den w.den is.den_is)
 
-weight_none : (text : List ℕ) (w : Weight) → IsWeightLine text w → has_none 10 text ≡ true
+pub weight_none : (text : List ℕ) (w : Weight) → IsWeightLine text w → has_none 10 text ≡ true
 weight_none text w is = ap (has_none 10) is.line_is
     ∙ none_both 10 (codes "weight ") (is.num ++ 32 ∷ is.den) refl (none_both 10 is.num (32 ∷ is.den) (number_has_none 10 is.num (omega arith) is.num_is.digits) (number_has_none 10 is.den (omega arith) is.den_is.digits))
 
-row_again : (line : ℕ) (text : List ℕ) (row : Line) → IsRowLine text row → row_in line text ≡ Ok row
+pub row_again : (line : ℕ) (text : List ℕ) (row : Line) → IsRowLine text row → row_in line text ≡ Ok row
 unfolding row_in
 row_again line text row is =
     let end_of = λ (state g : ℕ) (r : Result Bool CertificateFault). r >>= λ is_closed. fine_row state g is_closed in
@@ -132,7 +133,7 @@ row_again line text row is =
     ∙ ap (g_of row.state) (number_word_read is.g row.g is.g_is)
     ∙ ap (end_of row.state row.g) (closed_again line row.is_closed)
 
-row_none : (text : List ℕ) (row : Line) → IsRowLine text row → has_none 10 text ≡ true
+pub row_none : (text : List ℕ) (row : Line) → IsRowLine text row → has_none 10 text ≡ true
 row_none text row is = ap (has_none 10) is.line_is
     ∙ none_both 10 is.state (32 ∷ (is.g ++ 32 ∷ closed_text row.is_closed)) (state_has_none 10 is.state (omega arith) is.state_is.digits)
     (none_both 10 is.g (32 ∷ closed_text row.is_closed) (number_has_none 10 is.g (omega arith) is.g_is.digits) (closed_none row.is_closed))
@@ -223,9 +224,9 @@ head_again text spelling rest known is = go spelling.version spelling.width know
         let second : kind_at 2 behind_version ≡ Ok (kind, behind_kind) =
         ap (λ r. r >>= λ first. kind_in 2 first.0 >>= λ kind. fine (kind, first.1)) (line_again 2 behind_version (kind_line kind) behind_kind refl (kind_none kind))
         ∙ ap (λ r. r >>= λ kind. fine (kind, behind_kind)) (kind_again 2 kind) in
-        ap (λ r. r >>= λ rest. kind_at 2 rest >>= λ kind. stated_at 3 kind.1 >>= λ stated. fine (record { kind = kind.0; version = One; width = 64; stated = stated.0 }, stated.1)) first
-        ∙ ap (λ r. r >>= λ kind. stated_at 3 kind.1 >>= λ stated. fine (record { kind = kind.0; version = One; width = 64; stated = stated.0 }, stated.1)) second
-        ∙ ap (λ r. r >>= λ stated. fine (made 64 stated.0, stated.1)) (stated_again 3 behind_kind stated rest refl)
+        ap (λ r. r >>= λ rest. kind_at 2 rest >>= λ kind. stated_at 3 kind.1 >>= λ stated. fine (record { kind = kind.0; version = One; width = version_1_digits; stated = stated.0 }, stated.1)) first
+        ∙ ap (λ r. r >>= λ kind. stated_at 3 kind.1 >>= λ stated. fine (record { kind = kind.0; version = One; width = version_1_digits; stated = stated.0 }, stated.1)) second
+        ∙ ap (λ r. r >>= λ stated. fine (made version_1_digits stated.0, stated.1)) (stated_again 3 behind_kind stated rest refl)
         ∙ ap (λ (w : ℕ). fine (made w stated, rest)) (sym known)
 
 pub readable : (bytes : List ℕ) (text : Text) → Spells bytes text → text_of bytes ≡ Ok text

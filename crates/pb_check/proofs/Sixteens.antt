@@ -3,9 +3,8 @@ use Rattle.std.proofs.Common.{◌≡◌, ℕ, suc, ◌+◌, ◌*◌, ◌^◌, �
 use Rattle.std.proofs.Math.Nat.{pow-suc, pow-le-pow_right}
 use Rattle.std.proofs.Math.ListN.{drop_of_length-le}
 use Rattle.std.specs.Option.{option_and_then, option_map}
-use Rattle.pb_packed.specs.Bits.{with_bits_of}
+use Rattle.pb_packed.specs.Words.{number_of}
 use Rattle.pb_check.specs.Words.{hex_value, hex_after}
-use Rattle.pb_check.proofs.States.{field_above}
 
 -- ---- as a loop reads them
 
@@ -129,17 +128,9 @@ module _ (word first others second rest third fourth : List ℕ) (one : word ≡
         pub fourth_fails : ◌≡◌ {A = Option ℕ} None (hex_after 0 fourth) → ◌≡◌ {A = Option ℕ} None (hex_after 0 word)
         fourth_fails none = sym (to_end ∙ ap (option_map (λ v. ((a * 2 ^ 64 + b) * 2 ^ 64 + c) * 2 ^ 64 + v)) (sym none))
 
-        pub all_four : (d state : ℕ) → Some d ≡ hex_after 0 fourth → a < 2 ^ 64 → b < 2 ^ 64 → c < 2 ^ 64 → d < 2 ^ 64 → state ≡ with_bits_of (with_bits_of (with_bits_of (with_bits_of 0 0 64 d) 64 64 c) 128 64 b) 192 64 a
-            → Some state ≡ hex_after 0 word
-        all_four d state d_is a_small b_small c_small d_small is =
+        pub all_four : (d state : ℕ) → Some d ≡ hex_after 0 fourth → state ≡ number_of (d ∷ c ∷ b ∷ a ∷ []) → Some state ≡ hex_after 0 word
+        all_four d state d_is is =
             sym (to_end ∙ ap (option_map (λ v. ((a * 2 ^ 64 + b) * 2 ^ 64 + c) * 2 ^ 64 + v)) (sym d_is) ∙ ap (λ k. Some k) (sym (is ∙ value)))
           where
-            value : with_bits_of (with_bits_of (with_bits_of (with_bits_of 0 0 64 d) 64 64 c) 128 64 b) 192 64 a ≡ ((a * 2 ^ 64 + b) * 2 ^ 64 + c) * 2 ^ 64 + d
-            value =
-                let low : with_bits_of 0 0 64 d ≡ d = field_above 0 0 64 d (omega arith) ∙ (let z : 0 + d * 2 ^ 0 ≡ d = omega arith in z) in
-                let two : with_bits_of d 64 64 c ≡ d + c * 2 ^ 64 = field_above d 64 64 c d_small in
-                let three : with_bits_of (d + c * 2 ^ 64) 128 64 b ≡ d + c * 2 ^ 64 + b * 2 ^ 128 = field_above (d + c * 2 ^ 64) 128 64 b (omega (arith, d_small, c_small)) in
-                let four : with_bits_of (d + c * 2 ^ 64 + b * 2 ^ 128) 192 64 a ≡ d + c * 2 ^ 64 + b * 2 ^ 128 + a * 2 ^ 192 =
-                field_above (d + c * 2 ^ 64 + b * 2 ^ 128) 192 64 a (omega (arith, d_small, c_small, b_small)) in
-                ap (λ k. with_bits_of (with_bits_of (with_bits_of k 64 64 c) 128 64 b) 192 64 a) low ∙ ap (λ k. with_bits_of (with_bits_of k 128 64 b) 192 64 a) two
-                ∙ ap (λ k. with_bits_of k 192 64 a) three ∙ four ∙ omega arith
+            value : number_of (d ∷ c ∷ b ∷ a ∷ []) ≡ ((a * 2 ^ 64 + b) * 2 ^ 64 + c) * 2 ^ 64 + d
+            value = omega arith

@@ -5,6 +5,7 @@ use Rattle.std.specs.Prelude.{codes}
 use Rattle.std.specs.List.{list_all}
 use Rattle.std.proofs.lemmas.List.{nil_from_length}
 use Rattle.std.proofs.lemmas.Bool.{eqb-true, and_from}
+use Rattle.pb_packed.specs.Sizes.{version_1_digits}
 use Rattle.pb_model.specs.Weight.{Weight}
 use Rattle.pb_model.specs.Plan.{Plan}
 use Rattle.pb_model.specs.Certificate.{Line}
@@ -55,9 +56,9 @@ hex_after_is n (b ∷ bs) m e =
 
 pub state_is : (word : List ℕ) (state : ℕ) → state_of word ≡ Some state → IsStateWord word state
 state_is word state e =
-    let a = if_some (eqb (length word) 64) (hex_after 0 word) state e in
+    let a = if_some (eqb (length word) version_1_digits) (hex_after 0 word) state e in
     let r = hex_after_is 0 word state a.1 in
-    record { sixty_four = eqb-true _ _ a.0; digits = r.0; value = r.1 }
+    record { count = eqb-true _ _ a.0; digits = r.0; value = r.1 }
 
 -- ---- lines
 
@@ -162,7 +163,7 @@ head_is text x e =
     let a = bind_ok (fixed_at 1 (version_line One) text) _ x e in
     let b = bind_ok (kind_at 2 a.0) _ x a.2 in
     let c = bind_ok (stated_at 3 b.0.1) _ x b.2 in
-    let made : Spelling = record { kind = b.0.0; version = One; width = 64; stated = c.0.0 } in
+    let made : Spelling = record { kind = b.0.0; version = One; width = version_1_digits; stated = c.0.0 } in
     let others : List ℕ = texts.lines (stated_text c.0.0) in
     let is : text ≡ texts.lines (head_of made) ++ c.0.1 =
     fixed_is 1 (version_line One) text a.0 a.1

@@ -36,11 +36,11 @@ use Rattle.pb_check.proofs.Written.{is_spelled}
 
 -- ---- steps of a chain that did not fail
 
-passed : (fault : Option CertificateFault) (x : Bool) → passes fault ≡ Ok x → fault ≡ None
+pub passed : (fault : Option CertificateFault) (x : Bool) → passes fault ≡ Ok x → fault ≡ None
 passed None x e = refl
 passed (Some f) x e = absurd cc
 
-holds : (b : Bool) (f : CertificateFault) → unless b f ≡ None → b ≡ true
+pub holds : (b : Bool) (f : CertificateFault) → unless b f ≡ None → b ≡ true
 holds true f e = refl
 holds false f e = absurd cc
 
@@ -50,7 +50,7 @@ first_none (Some f) b e = absurd cc
 
 -- ---- kind and weight
 
-kinds_same : (a b : Kind) → same_kind a b ≡ true → b ≡ a
+pub kinds_same : (a b : Kind) → same_kind a b ≡ true → b ≡ a
 kinds_same Grid Grid e = refl
 kinds_same Tiles Tiles e = refl
 kinds_same Strips Strips e = refl
@@ -61,7 +61,7 @@ kinds_same Tiles Strips e = absurd cc
 kinds_same Strips Grid e = absurd cc
 kinds_same Strips Tiles e = absurd cc
 
-weighs : (weight : Weight) → is_weight weight ≡ true → IsWeight weight
+pub weighs : (weight : Weight) → is_weight weight ≡ true → IsWeight weight
 weighs weight e =
     let a = and_parts (leb 1 weight.den) (leb weight.den weight.num && leb weight.num 1000) e in
     let b = and_parts (leb weight.den weight.num) (leb weight.num 1000) a.1 in
@@ -69,7 +69,7 @@ weighs weight e =
 
 -- ---- the plan
 
-walks : (space : Space) (from done cost : ℕ) (actions : List ℕ) (to total : ℕ) → walk space from done cost actions ≡ Ok (to, total) → (rest : ℕ) × Walk space from actions rest to × (total ≡ cost + rest)
+pub walks : (space : Space) (from done cost : ℕ) (actions : List ℕ) (to total : ℕ) → walk space from done cost actions ≡ Ok (to, total) → (rest : ℕ) × Walk space from actions rest to × (total ≡ cost + rest)
 unfolding walk
 walks space from done cost [] to total e = let p = ok_is (from, cost) (to, total) e in (0, (refl, sym (ap (λ (q : ℕ × ℕ). q.0) p)), (let c : cost ≡ total = ap (λ (q : ℕ × ℕ). q.1) p in omega (arith, c)))
 walks space from done cost (action ∷ actions) to total e = go (λ next first h. walks space next (done + 1) (cost + first) actions to total h) (space.step from action) refl e
@@ -90,7 +90,7 @@ planned space plan x e =
     let same : w.0 ≡ plan.cost = (let t : a.0.1 ≡ 0 + w.0 = w.2 in omega (arith, t, c)) in
     (a.0.0, subst (λ k. Walk space space.start plan.actions k a.0.0) same w.1, holds (space.is_goal a.0.0) faults.NotGoal (passed (unless (space.is_goal a.0.0) faults.NotGoal) b.0 b.1))
 
-planned_if_any : (space : Space) (plan : Option Plan) (x : Bool) → plan_fault_if_any space plan ≡ Ok x → IsPlanIfAny space plan
+pub planned_if_any : (space : Space) (plan : Option Plan) (x : Bool) → plan_fault_if_any space plan ≡ Ok x → IsPlanIfAny space plan
 planned_if_any space None x e = tt
 planned_if_any space (Some plan) x e = planned space plan x e
 
@@ -109,19 +109,19 @@ unfolding IsStrictlySortedBy
 ascends_above before [] h = tt
 ascends_above before (row ∷ rows) h = (all_above row.state rows h.1, ascends_above row.state rows h.1)
 
-ascends : (rows : List Line) → Rise rows → Ascends rows
+pub ascends : (rows : List Line) → Rise rows → Ascends rows
 unfolding IsStrictlySortedBy
 ascends [] h = tt
 ascends (row ∷ rows) h = (all_above row.state rows h, ascends_above row.state rows h)
 
-each : (fault : (line : ℕ) → Line → Option CertificateFault) (P : Line → Type 0) (line : ℕ) (rows : List Line) → ((k : ℕ) (row : Line) → fault k row ≡ None → P row) → first_fault_by fault line rows ≡ None → All P rows
+pub each : (fault : (line : ℕ) → Line → Option CertificateFault) (P : Line → Type 0) (line : ℕ) (rows : List Line) → ((k : ℕ) (row : Line) → fault k row ≡ None → P row) → first_fault_by fault line rows ≡ None → All P rows
 unfolding first_fault_by
 each fault P line [] so e = All-nil P
 each fault P line (row ∷ rows) so e =
     let h = first_none (fault line row) (first_fault_by fault (line + 1) rows) e in
     All-cons P row rows (so line row h.0) (each fault P (line + 1) rows so h.1)
 
-has_row : (rows : List Line) (state g : ℕ) → g_of rows state ≡ Some g → (line : Line) × Contains rows line × (line.state ≡ state) × (line.g ≡ g)
+pub has_row : (rows : List Line) (state g : ℕ) → g_of rows state ≡ Some g → (line : Line) × Contains rows line × (line.state ≡ state) × (line.g ≡ g)
 unfolding g_of
 has_row [] state g e = absurd cc
 has_row (row ∷ rows) state g e = go (has_row rows state g) (eqb row.state state) refl e
@@ -136,21 +136,21 @@ within_is rows state most (Some k) is low some =
     let h = has_row rows state k is in
     (h.0, h.1, h.2, (let a : h.0.g ≡ k = h.3 in let b : k ≤ most = low k refl in omega (arith, a, b)))
 
-starts : (rows : List Line) (state : ℕ) → is_zero (g_of rows state) ≡ true → HasLineWithin rows state 0
+pub starts : (rows : List Line) (state : ℕ) → is_zero (g_of rows state) ≡ true → HasLineWithin rows state 0
 starts rows state e = go (g_of rows state) refl e
   where
     go : (g : Option ℕ) → g_of rows state ≡ g → is_zero g ≡ true → HasLineWithin rows state 0
     go None is e = absurd cc
     go (Some k) is e = let z = eqb-true k 0 e in within_is rows state 0 (Some k) is (λ j same. let s = same_Some k j same in omega (arith, z, s)) (λ none. cc)
 
-on_target : (rows : List Line) (line action state most : ℕ) → target_fault line action most (g_of rows state) ≡ None → HasLineWithin rows state most
+pub on_target : (rows : List Line) (line action state most : ℕ) → target_fault line action most (g_of rows state) ≡ None → HasLineWithin rows state most
 on_target rows line action state most e = go (g_of rows state) refl e
   where
     go : (g : Option ℕ) → g_of rows state ≡ g → target_fault line action most g ≡ None → HasLineWithin rows state most
     go None is e = absurd cc
     go (Some k) is e = let le = leb-true k most (holds (leb k most) (faults.TooDear line action) e) in within_is rows state most (Some k) is (λ j same. let s = same_Some k j same in omega (arith, le, s)) (λ none. cc)
 
-step_passes : (space : Space) (rows : List Line) (line g state count action : ℕ) → steps_fault space rows line g state count ≡ None → action < count → step_fault rows line g action (space.step state action) ≡ None
+pub step_passes : (space : Space) (rows : List Line) (line g state count action : ℕ) → steps_fault space rows line g state count ≡ None → action < count → step_fault rows line g action (space.step state action) ≡ None
 unfolding steps_fault
 step_passes space rows line g state zero action e lt = absurd (omega (arith, lt))
 step_passes space rows line g state (suc count) action e lt =
@@ -163,13 +163,13 @@ step_passes space rows line g state (suc count) action e lt =
     cases : (action count : ℕ) → action < suc count → (action < count) ⊎ (action ≡ count)
     cases action count lt = grind (arith, lt)
 
-cuts : (weight : Weight) (best : Option ℕ) (g : ℕ) (e : Estimate) → may_be_cut weight best g e ≡ true → MayBeCut weight best g e
+pub cuts : (weight : Weight) (best : Option ℕ) (g : ℕ) (e : Estimate) → may_be_cut weight best g e ≡ true → MayBeCut weight best g e
 cuts weight best g Dead h = tt
 cuts weight None g (Cost x) h = absurd cc
 cuts weight (Some best) g (Cost x) h = leb-true _ _ h
 
 module _ (space : Space) (greatest : ℕ) (estimate : ℕ → Estimate) (weight : Weight) (best : Option ℕ) (rows : List Line) (proper : IsProper space greatest) where
-  closed_row : (line : ℕ) (row : Line) → row_fault space estimate weight best rows line row ≡ None → row.is_closed ≡ true → IsClosedLine space rows row
+  pub closed_row : (line : ℕ) (row : Line) → row_fault space estimate weight best rows line row ≡ None → row.is_closed ≡ true → IsClosedLine space rows row
   unfolding row_fault
   closed_row line row e closed =
       let inner : cond (space.is_goal row.state) (Some (faults.GoalClosed line)) (steps_fault space rows line row.g row.state space.actions) ≡ None =
@@ -190,7 +190,7 @@ module _ (space : Space) (greatest : ℕ) (estimate : ℕ → Estimate) (weight 
       no_goal true f rest e = absurd cc
       no_goal false f rest e = (refl, e)
 
-  cut_row : (line : ℕ) (row : Line) → row_fault space estimate weight best rows line row ≡ None → row.is_closed ≡ false → MayBeCut weight best row.g (estimate row.state)
+  pub cut_row : (line : ℕ) (row : Line) → row_fault space estimate weight best rows line row ≡ None → row.is_closed ≡ false → MayBeCut weight best row.g (estimate row.state)
   unfolding row_fault
   cut_row line row e is_open =
       cuts weight best row.g (estimate row.state) (holds (may_be_cut weight best row.g (estimate row.state)) (faults.Low line)

@@ -3,6 +3,7 @@ use Rattle.std.proofs.Common.{◌≡◌, ℕ, ◌^◌, ◌<◌, Bool, true, fals
 use Rattle.std.specs.Prelude.{codes}
 use Rattle.std.specs.Fmt.{decimal}
 use Rattle.std.proofs.lemmas.List.Elements.{All-nil, All-cons, All-head, All-tail}
+use Rattle.pb_packed.specs.Sizes.{version_1_digits}
 use Rattle.pb_packed.specs.Digits.{hex_digits}
 use Rattle.pb_model.specs.Weight.{Weight}
 use Rattle.pb_model.specs.Plan.{Plan}
@@ -55,49 +56,49 @@ lines_of_actions text (action ∷ actions) rest is small =
 -- ---- rows
 
 abbrev IsSmall : Line → Type 0
-IsSmall row = (row.state < 16 ^ 64) × (row.g < 2 ^ 63)
+IsSmall row = (row.state < 16 ^ version_1_digits) × (row.g < 2 ^ 63)
 
 end_of_row : (is_closed : Bool) → closed_text is_closed ≡ (if is_closed then codes "closed" else codes "cut")
 end_of_row true = refl
 end_of_row false = refl
 
-row_is : (line : List ℕ) (row : Line) → IsRowLine line row → (line ≡ texts.line_text 64 row) × IsSmall row
+row_is : (line : List ℕ) (row : Line) → IsRowLine line row → (line ≡ texts.line_text version_1_digits row) × IsSmall row
 row_is line row is =
     let state = state_word_is is.state row.state is.state_is in
     let g = number_word_is is.g row.g is.g_is in (
       is.line_is ∙ ap (λ (w : List ℕ). w ++ 32 ∷ (is.g ++ 32 ∷ closed_text row.is_closed)) state.0
-          ∙ ap (λ (w : List ℕ). hex_digits 64 row.state ++ 32 ∷ (w ++ 32 ∷ closed_text row.is_closed)) g
-          ∙ ap (λ (w : List ℕ). hex_digits 64 row.state ++ 32 ∷ (decimal row.g ++ 32 ∷ w)) (end_of_row row.is_closed),
+          ∙ ap (λ (w : List ℕ). hex_digits version_1_digits row.state ++ 32 ∷ (w ++ 32 ∷ closed_text row.is_closed)) g
+          ∙ ap (λ (w : List ℕ). hex_digits version_1_digits row.state ++ 32 ∷ (decimal row.g ++ 32 ∷ w)) (end_of_row row.is_closed),
       (state.1, is.g_is.small),
     )
 
-line_of_row : (row : Line) → IsSmall row → IsRowLine (texts.line_text 64 row) row
+pub line_of_row : (row : Line) → IsSmall row → IsRowLine (texts.line_text version_1_digits row) row
 line_of_row row small = record {
-  state = hex_digits 64 row.state;
+  state = hex_digits version_1_digits row.state;
   g = decimal row.g;
-  line_is = ap (λ (w : List ℕ). hex_digits 64 row.state ++ 32 ∷ (decimal row.g ++ 32 ∷ w)) (sym (end_of_row row.is_closed));
-  state_is = state_word (hex_digits 64 row.state) row.state refl small.0;
+  line_is = ap (λ (w : List ℕ). hex_digits version_1_digits row.state ++ 32 ∷ (decimal row.g ++ 32 ∷ w)) (sym (end_of_row row.is_closed));
+  state_is = state_word (hex_digits version_1_digits row.state) row.state refl small.0;
   g_is = number_word (decimal row.g) row.g refl small.1;
 }
 
-rows_are : (text : List ℕ) (rows : List Line) (rest : List ℕ) → AreRowLines text rows rest → (text ≡ texts.lines (map (texts.line_text 64) rows) ++ rest) × All IsSmall rows
+rows_are : (text : List ℕ) (rows : List Line) (rest : List ℕ) → AreRowLines text rows rest → (text ≡ texts.lines (map (texts.line_text version_1_digits) rows) ++ rest) × All IsSmall rows
 rows_are text [] rest are = (are, All-nil IsSmall)
 rows_are text (row ∷ rows) rest (line, after, begins, is, are) =
     let one = row_is line row is in
     let others = rows_are after rows rest are in (
-      begins ∙ ap (λ (t : List ℕ). t ++ 10 ∷ after) one.0 ∙ sym (line_then (texts.line_text 64 row) after)
-          ∙ ap (λ (t : List ℕ). texts.line (texts.line_text 64 row) ++ t) others.0
-          ∙ sym (append_assoc (texts.line (texts.line_text 64 row)) (texts.lines (map (texts.line_text 64) rows)) rest),
+      begins ∙ ap (λ (t : List ℕ). t ++ 10 ∷ after) one.0 ∙ sym (line_then (texts.line_text version_1_digits row) after)
+          ∙ ap (λ (t : List ℕ). texts.line (texts.line_text version_1_digits row) ++ t) others.0
+          ∙ sym (append_assoc (texts.line (texts.line_text version_1_digits row)) (texts.lines (map (texts.line_text version_1_digits) rows)) rest),
       All-cons IsSmall row rows one.1 others.1,
     )
 
-lines_of_rows : (text : List ℕ) (rows : List Line) (rest : List ℕ) → text ≡ texts.lines (map (texts.line_text 64) rows) ++ rest → All IsSmall rows → AreRowLines text rows rest
+lines_of_rows : (text : List ℕ) (rows : List Line) (rest : List ℕ) → text ≡ texts.lines (map (texts.line_text version_1_digits) rows) ++ rest → All IsSmall rows → AreRowLines text rows rest
 lines_of_rows text [] rest is small = is
 lines_of_rows text (row ∷ rows) rest is small =
-    let after : List ℕ = texts.lines (map (texts.line_text 64) rows) ++ rest in (
-      texts.line_text 64 row,
+    let after : List ℕ = texts.lines (map (texts.line_text version_1_digits) rows) ++ rest in (
+      texts.line_text version_1_digits row,
       after,
-      is ∙ append_assoc (texts.line (texts.line_text 64 row)) (texts.lines (map (texts.line_text 64) rows)) rest ∙ line_then (texts.line_text 64 row) after,
+      is ∙ append_assoc (texts.line (texts.line_text version_1_digits row)) (texts.lines (map (texts.line_text version_1_digits) rows)) rest ∙ line_then (texts.line_text version_1_digits row) after,
       line_of_row row (All-head IsSmall row rows small),
       lines_of_rows after rows rest refl (All-tail IsSmall row rows small),
     )
@@ -169,7 +170,7 @@ abbrev count_words : Certificate → List ℕ
 count_words c = codes "rows " ++ decimal (length c.lines)
 
 abbrev row_lines : Certificate → List ℕ
-row_lines c = texts.lines (map (texts.line_text 64) c.lines)
+row_lines c = texts.lines (map (texts.line_text version_1_digits) c.lines)
 
 abbrev end_line : List ℕ
 end_line = codes "end" ++ 10 ∷ []
@@ -186,18 +187,18 @@ from_plan c = texts.plan_text c.plan ++ from_count c
 abbrev from_weight : Certificate → List ℕ
 from_weight c = weight_words c ++ 10 ∷ from_plan c
 
-whole : (head : List (List ℕ)) (c : Certificate) → texts.certificate_text head 64 c ≡ texts.lines head ++ from_weight c
+whole : (head : List (List ℕ)) (c : Certificate) → texts.certificate_text head version_1_digits c ≡ texts.lines head ++ from_weight c
 whole head c = cat (texts.lines head) (weight_words c) (texts.plan_text c.plan) (count_words c) (row_lines c) end_line
 
--- each version that is read has 64 digits
-sixty_four : (version : Version) (width : ℕ) → IsWidthOf version width → width ≡ 64
-sixty_four One width is = is
+-- each version that is read has the digits of version 1
+width_of_version : (version : Version) (width : ℕ) → IsWidthOf version width → width ≡ version_1_digits
+width_of_version One width is = is
 
 pub is_spelled : (bytes : List ℕ) (text : Text) → Spells bytes text → IsSpelled bytes text.spelling text.certificate
 is_spelled bytes text is =
     let c = text.certificate in
     let head = head_of text.spelling in
-    let width : 64 ≡ text.spelling.width = sym (sixty_four text.spelling.version text.spelling.width is.known) in
+    let width : version_1_digits ≡ text.spelling.width = sym (width_of_version text.spelling.version text.spelling.width is.known) in
     let weight = weight_is is.weight_words c.weight is.weight.1 in
     let plan = plan_is is.plan_part c.plan is.count_line is.plan in
     let count = number_line is.count_line (codes "rows ") (length c.lines) is.row_part is.count in
@@ -206,7 +207,7 @@ is_spelled bytes text is =
     let of_count : is.count_line ≡ from_count c = count.0 ∙ ap (λ (t : List ℕ). texts.line (count_words c) ++ t) of_rows in
     let of_plan : is.plan_part ≡ from_plan c = plan.0 ∙ ap (λ (t : List ℕ). texts.plan_text c.plan ++ t) of_count in
     let of_weight : is.weight_line ≡ from_weight c = is.weight.0 ∙ ap (λ (t : List ℕ). t ++ 10 ∷ is.plan_part) weight ∙ ap (λ (t : List ℕ). weight_words c ++ 10 ∷ t) of_plan in
-    let fits : Fits 64 c = record { weight = (is.weight.1.num_is.small, is.weight.1.den_is.small); plan = plan.1; count = count.1; lines = rows.1 } in
+    let fits : Fits version_1_digits c = record { weight = (is.weight.1.num_is.small, is.weight.1.den_is.small); plan = plan.1; count = count.1; lines = rows.1 } in
     record {
       known = is.known;
       text = is.head ∙ ap (λ (t : List ℕ). texts.lines head ++ t) of_weight ∙ sym (whole head c) ∙ ap (λ w. texts.certificate_text head w c) width;
@@ -217,8 +218,8 @@ pub spells : (bytes : List ℕ) (text : Text) → IsSpelled bytes text.spelling 
 spells bytes text is first =
     let c = text.certificate in
     let head = head_of text.spelling in
-    let width : text.spelling.width ≡ 64 = sixty_four text.spelling.version text.spelling.width is.known in
-    let fits : Fits 64 c = subst (λ w. Fits w c) width is.fits in
+    let width : text.spelling.width ≡ version_1_digits = width_of_version text.spelling.version text.spelling.width is.known in
+    let fits : Fits version_1_digits c = subst (λ w. Fits w c) width is.fits in
     record {
       weight_line = from_weight c;
       plan_part = from_plan c;

@@ -11,3 +11,4 @@ pub mod Rows
 pub mod Spelling
 pub mod Judging
 pub mod Shown
+pub mod Cases

@@ -1,6 +1,7 @@
 -- Reading a certificate from its first byte to its last, with the first line that is not spelled as
 -- it must be.
 use Rattle.std.specs.Prelude.{ℕ, zero, suc, ◌+◌, Bool, true, false, Option, None, Some, List, [], ◌∷◌, length, Result, Ok, Err, if◌then◌else◌, ◌==◌, codes}
+use Rattle.pb_packed.specs.Sizes.{version_1_digits}
 use Rattle.pb_model.specs.Weight.{Weight}
 use Rattle.pb_model.specs.Plan.{Plan}
 use Rattle.pb_model.specs.Certificate.{Line, Certificate}
@@ -80,13 +81,13 @@ kind_at line text = do
 unfoldable pub stated_at : (line : ℕ) → List ℕ → Result (Stated × List ℕ) CertificateFault
 stated_at line text = Ok (record { choice = Plain }, text)
 
--- the lines before the weight: version 1 has states of 64 digits
+-- the lines before the weight, which say that states have the digits of version 1
 unfoldable pub head_at : List ℕ → Result (Spelling × List ℕ) CertificateFault
 head_at text = do
   rest ← fixed_at 1 (version_line One) text
   kind ← kind_at 2 rest
   stated ← stated_at 3 kind.1
-  Ok (record { kind = kind.0; version = One; width = 64; stated = stated.0 }, stated.1)
+  Ok (record { kind = kind.0; version = One; width = version_1_digits; stated = stated.0 }, stated.1)
 
 unfoldable pub weight_at : (line : ℕ) → List ℕ → Result (Weight × List ℕ) CertificateFault
 weight_at line text = do

@@ -1,3 +1,4 @@
+ghost use Rattle.pb_check.specs.Cases.{CasesAreRefused, RefusalsHaveTheirCase};
 ghost use Rattle.pb_check.specs.Shown.{BoundsAreLeast, CutCertificatesAreRefused};
 ghost use Rattle.pb_check.specs.Judging.{StatedChoicesSuit};
 ghost use Rattle.pb_check.specs.Spelling.{ReadAsSpelled, TextsHaveOneSpelling};
@@ -29,4 +30,14 @@ pub fn bounds_are_least()
 /// what is left.
 pub fn cut_certificates_are_refused()
     ensures { CutCertificatesAreRefused }
+{}
+
+/// A fault is reported only in its case, in the words of texts, plans and rows.
+pub fn refusals_have_their_case()
+    ensures { RefusalsHaveTheirCase }
+{}
+
+/// In its case a fault is reported.
+pub fn cases_are_refused()
+    ensures { CasesAreRefused }
 {}

@@ -17,7 +17,7 @@ mod words;
 pub use checker::check;
 pub use fault::{CertificateFault, CheckError, Claim, Verdict};
 pub use laws::{
-    bounds_are_least, cut_certificates_are_refused, read_as_spelled, stated_choices_suit,
-    texts_have_one_spelling,
+    bounds_are_least, cases_are_refused, cut_certificates_are_refused, read_as_spelled,
+    refusals_have_their_case, stated_choices_suit, texts_have_one_spelling,
 };
 pub use reading::stated_choice;

@@ -3,6 +3,7 @@ ghost use Rattle.pb_model.specs.Weight.{Weight};
 ghost use Rattle.pb_model.specs.Plan.{Plan};
 ghost use Rattle.pb_model.specs.Certificate.{Certificate};
 ghost use Rattle.pb_lines.specs.Words.{number_of, behind, part};
+ghost use Rattle.pb_check.specs.Rows.{IsSmall};
 ghost use Rattle.pb_check.specs.Words.{state_of};
 ghost use Rattle.pb_estimate.specs.Spelling.{stated_text, head_lines};
 ghost use Rattle.pb_check.specs.Faults.{Gives, wanted};
@@ -14,7 +15,7 @@ use crate::stated::{StatedPlan, StatedText, StatedWeight};
 use crate::words::state_of;
 use pb_estimate::{Choice, Spelling, Stated, Version};
 use pb_lines::{behind, is_text, number_of, part};
-use pb_packed::Packed;
+use pb_packed::{DIGITS, Packed};
 use pb_task::Kind;
 use std::alloc::Global;
 
@@ -83,7 +84,8 @@ fn behind_in<'a>(line: u64, text: &'a [u8], piece: &[u8]) -> Result<&'a [u8], Ch
 }
 
 fn state_in(line: u64, text: &[u8]) -> Result<Packed, CheckError>
-    ensures { Gives (λ x. x) result (wanted line (state_of text.now)) }
+    ensures gives { Gives (λ x. x) result (wanted line (state_of text.now)) }
+    ensures small { IfOk result IsSmall }
 {
     match state_of(text) {
         Some(state) => Ok(state),
@@ -118,6 +120,7 @@ fn closed_in(line: u64, text: &[u8]) -> Result<bool, CheckError>
 #[tactic(auto, unfolding(crate::specs::Reading::row_in))]
 fn row_in(line: u64, text: &[u8]) -> Result<StatedRow, CheckError>
     ensures gives { Gives (λ x. x) result (row_in line text.now) }
+    ensures small { IfOk result (λ x. IsSmall x.state) }
 {
     let (front, back) = part_in(line, text, b' ')?;
     let (middle, end) = part_in(line, back, b' ')?;
@@ -192,7 +195,7 @@ fn head_at(text: &[u8]) -> Result<(Spelling, &[u8]), CheckError>
     let spelling = Spelling {
         kind,
         version: Version::One,
-        width: 64,
+        width: DIGITS as u32,
         stated,
     };
     Ok((spelling, rest))
@@ -223,6 +226,7 @@ fn weight_at(line: u64, text: &[u8]) -> Result<(StatedWeight, &[u8]), CheckError
 #[tactic(auto, unfolding(crate::specs::Reading::row_at))]
 fn row_at(line: u64, text: &[u8]) -> Result<(StatedRow, &[u8]), CheckError>
     ensures gives { Gives (λ x. (x.0, x.1.now)) result (row_at line text.now) }
+    ensures small { IfOk result (λ x. IsSmall x.0.state) }
     ensures shorter { IfOk result (λ x. length x.1.now + 1 ≤ length text.now) }
 {
     let (first, rest) = line_at(line, text)?;
@@ -270,7 +274,7 @@ fn rows_at(
     let mut rest = text;
     for i in 0..count {
         let (row, after) = row_at(line + i, rest)?;
-        states.push(row.state)?;
+        states.push(row.state.in_words::<4>())?;
         costs.push(row.g)?;
         closed.push(row.is_closed)?;
         rest = after;

@@ -1,8 +1,10 @@
 //! The states that words of a certificate spell.
 ghost use Rattle.std.specs.Prelude.{◌≡◌, ◌≤◌, ◌<◌, ◌^◌, length, IfSome};
+ghost use Rattle.pb_packed.specs.Sizes.{version_1_digits};
+ghost use Rattle.pb_check.specs.Rows.{IsSmall};
 ghost use Rattle.pb_check.specs.Words.{hex_value, hex_after, state_of};
 
-use pb_packed::Packed;
+use pb_packed::{DIGITS, Packed};
 
 // The value of a hexadecimal digit, and 16 for another byte.
 fn hex_value(byte: u8) -> u64
@@ -32,10 +34,11 @@ fn hex_number(digits: &[u8]) -> Option<u64>
     Some(number)
 }
 
-// The state that 64 hexadecimal digits spell, sixteen by sixteen.
+// The state that the hexadecimal digits of version 1 spell, sixteen by sixteen.
 fn state_in_fours(word: &[u8]) -> Option<Packed>
-    requires { length word.now ≡ 64 }
-    ensures { result ≡ hex_after 0 word.now }
+    requires { length word.now ≡ version_1_digits }
+    ensures state { result ≡ hex_after 0 word.now }
+    ensures small { IfSome result IsSmall }
 {
     let (first, behind_first) = word.split_at(16);
     let (second, behind_second) = behind_first.split_at(16);
@@ -44,19 +47,15 @@ fn state_in_fours(word: &[u8]) -> Option<Packed>
     let high = hex_number(second)?;
     let low = hex_number(third)?;
     let lowest = hex_number(fourth)?;
-    let state = Packed::zero()
-        .with_bits(0, 64, lowest)
-        .with_bits(64, 64, low)
-        .with_bits(128, 64, high)
-        .with_bits(192, 64, highest);
-    Some(state)
+    Some(Packed::of_slice(&[lowest, low, high, highest]))
 }
 
-/// The state that exactly 64 hexadecimal digits spell.
+/// The state that exactly the hexadecimal digits of version 1 spell.
 pub fn state_of(word: &[u8]) -> Option<Packed>
-    ensures { result ≡ state_of word.now }
+    ensures state { result ≡ state_of word.now }
+    ensures small { IfSome result IsSmall }
 {
-    if word.len() == 64 {
+    if word.len() == DIGITS {
         state_in_fours(word)
     } else {
         None

@@ -5,10 +5,10 @@ use Rattle.std.proofs.lemmas.Bool.{cases_eq}
 use Rattle.std.proofs.lemmas.List.{get_or_append_left, get_or_push, length_push, get_or-set_same, get_or-set_other, length-map, map-append, append-nil}
 use Rattle.std.proofs.lemmas.List.Elements.{All-push, All-more, All-weaker, All-contains, All-nil, filter-append, Contains-append_left, Contains-push}
 use Rattle.pb_task.specs.declared.parts.GroundAction.{GroundAction}
-use Rattle.pb_task.specs.Strips.{has_atom}
+use Rattle.pb_task.specs.Strips.{action_at, has_atom}
 use Rattle.pb_estimate.specs.declared.relaxed.RelaxedTask.{RelaxedTask}
 use Rattle.pb_estimate.specs.Exploring.{count}
-use Rattle.pb_estimate.specs.Tables.{atoms_in, has_more, useful_actions, relaxed_action, action_at, AreUsers, AreFree, AreRelaxed, IsWanted}
+use Rattle.pb_estimate.specs.Tables.{atoms_in, has_more, useful_actions, relaxed_action, AreUsers, AreFree, AreRelaxed, IsWanted}
 use Rattle.pb_estimate.proofs.Rounds.{count_is_small}
 use Rattle.pb_estimate.proofs.Counts.{counted_at, count_none}
 use Rattle.pb_estimate.proofs.Released.{Ascend, all_still, not_before, in_front, in_next}

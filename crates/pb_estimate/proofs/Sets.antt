@@ -5,9 +5,9 @@ use Rattle.std.specs.List.{filter}
 use Rattle.std.proofs.lemmas.List.{get_or-map, get_or_default, length-append}
 use Rattle.std.proofs.lemmas.List.Elements.{All-append, All-cons, All-nil, All-contains, All-contains_itself, All-filter, Contains-append_left, Contains-push}
 use Rattle.pb_task.specs.declared.parts.GroundAction.{GroundAction}
-use Rattle.pb_task.specs.Strips.{has_atom}
+use Rattle.pb_task.specs.Strips.{action_at, has_atom}
 use Rattle.pb_estimate.specs.Exploring.{count}
-use Rattle.pb_estimate.specs.Tables.{atoms_in, has_more, useful_actions, relaxed_action, action_at, relaxed_at}
+use Rattle.pb_estimate.specs.Tables.{atoms_in, has_more, useful_actions, relaxed_action, relaxed_at}
 
 -- ---- the atoms of a set
 

@@ -3,15 +3,16 @@ use Rattle.std.proofs.Common.{◌≡◌, ◌≢◌, ℕ, suc, ◌+◌, ◌*◌, 
 use Rattle.std.proofs.lemmas.Bool.{cases_eq, cases_lt}
 use Rattle.std.proofs.lemmas.List.{get_or-map, length-map, length-set}
 use Rattle.std.proofs.lemmas.List.Elements.{All-contains}
+use Rattle.pb_packed.specs.Sizes.{most_atoms}
 use Rattle.pb_task.specs.declared.parts.GroundAction.{GroundAction}
 use Rattle.pb_task.specs.declared.parts.StripsParts.{StripsParts}
-use Rattle.pb_task.specs.Strips.{has_atom, IsGroundAction, IsStrips}
+use Rattle.pb_task.specs.Strips.{action_at, has_atom, IsGroundAction, IsStrips}
 use Rattle.pb_estimate.specs.declared.exploration.AtomCost.{AtomCost}
 use Rattle.pb_estimate.specs.declared.exploration.AtomCost.TheVariants.{Final}
 use Rattle.pb_estimate.specs.declared.relaxed.RelaxedAction.{RelaxedAction}
 use Rattle.pb_estimate.specs.Hmax.{IsAtMost, atom_cost}
 use Rattle.pb_estimate.specs.Exploring.{known_cost, final_cost, known_in, cost_in, final_in, is_final_in, waiting, AreNoLess, HaveSameFinals, IsLeastOpen}
-use Rattle.pb_estimate.specs.Tables.{atoms_in, useful_actions, relaxed_action, action_at, relaxed_at, AddsAt, IsAddedBy, IsRelaxed, AreUsers, AreFree}
+use Rattle.pb_estimate.specs.Tables.{atoms_in, useful_actions, relaxed_action, relaxed_at, AddsAt, IsAddedBy, IsRelaxed, AreUsers, AreFree}
 use Rattle.pb_estimate.proofs.Costs.{at_most_more}
 use Rattle.pb_estimate.proofs.Rounds.{count_is_small, in_later_rounds}
 use Rattle.pb_estimate.proofs.Fixed.{holds_from}
@@ -107,7 +108,7 @@ module _ (strips : StripsParts) (state : ℕ) (is : IsStrips strips) (actions : 
       finals = λ atom c e. let wrong : None ≡ Some c = sym (none_final atom) ∙ e in cc;
       within = λ atom cost h. small atom cost h (only_free atom cost h);
       room = let few : waiting (λ _. true) last strips.atoms ≤ strips.atoms = count_is_small (λ a. true && not (is_final_in last a)) strips.atoms in
-          let most : strips.atoms ≤ 256 = is.atoms in
+          let most : strips.atoms ≤ most_atoms = is.atoms in
           omega arith;
     }
       where
@@ -185,8 +186,8 @@ module _ (strips : StripsParts) (state : ℕ) (is : IsStrips strips) (actions : 
     pub rest_waits : waiting (λ _. true) costs strips.atoms ≡ suc (waiting (λ _. true) (set costs atom (Final cost)) strips.atoms)
     rest_waits = waiting_drops costs atom cost least (λ _. true) strips.atoms atom_less refl
 
-    pub level_is_small : cost ≤ 2 ^ 28
-    level_is_small = let room : level + 2 ^ 20 * waiting (λ _. true) costs strips.atoms ≤ 2 ^ 28 = u.room in
+    pub level_is_small : cost ≤ 2 ^ 30
+    level_is_small = let room : level + 2 ^ 20 * waiting (λ _. true) costs strips.atoms ≤ 2 ^ 30 = u.room in
         let far : cost ≤ level + 2 ^ 20 = not_far in
         let more : waiting (λ _. true) costs strips.atoms ≡ suc (waiting (λ _. true) (set costs atom (Final cost)) strips.atoms) = rest_waits in
         omega arith
@@ -267,7 +268,7 @@ module _ (strips : StripsParts) (state : ℕ) (is : IsStrips strips) (actions : 
         below = λ a n h lower. below a n lower (only a n h);
         finals = λ a n e. finals_within costs atom cost least level not_below u.finals a n (sym (finals a) ∙ e);
         within = λ a n h. within a n (only a n h);
-        room = let room : level + 2 ^ 20 * waiting (λ _. true) costs strips.atoms ≤ 2 ^ 28 = u.room in
+        room = let room : level + 2 ^ 20 * waiting (λ _. true) costs strips.atoms ≤ 2 ^ 30 = u.room in
             let far : cost ≤ level + 2 ^ 20 = not_far in
             let more : waiting (λ _. true) costs strips.atoms ≡ suc (waiting (λ _. true) (set costs atom (Final cost)) strips.atoms) = rest_waits in
             let still : waiting (λ _. true) last strips.atoms ≡ waiting (λ _. true) (set costs atom (Final cost)) strips.atoms =

@@ -5,12 +5,12 @@ use Rattle.std.proofs.Math.ListN.{get_or-eq_default}
 use Rattle.std.proofs.lemmas.Bool.{and_parts, not-true, cases_eq, cases_lt}
 use Rattle.pb_task.specs.declared.parts.GroundAction.{GroundAction}
 use Rattle.pb_task.specs.declared.parts.StripsParts.{StripsParts}
-use Rattle.pb_task.specs.Strips.{has_atom}
+use Rattle.pb_task.specs.Strips.{action_at, has_atom}
 use Rattle.pb_estimate.specs.declared.exploration.AtomCost.{AtomCost}
 use Rattle.pb_estimate.specs.declared.exploration.AtomCost.TheVariants.{Unreached, Open, Final}
 use Rattle.pb_estimate.specs.Hmax.{IsAtMost, cheapest_by, atom_cost, goal_cost}
 use Rattle.pb_estimate.specs.Exploring.{count, known_cost, final_cost, known_in, cost_in, final_in, is_final_in, waiting, AreNoLess, HaveSameFinals, FinalsAreWithin, OpensAreFrom, IsLeastOpen}
-use Rattle.pb_estimate.specs.Tables.{atoms_in, has_more, useful_actions, action_at}
+use Rattle.pb_estimate.specs.Tables.{atoms_in, has_more, useful_actions}
 use Rattle.pb_estimate.proofs.Costs.{at_most_more, lesser_right, lesser_cases, same_cost, dearest_at, dearest_from, CostsByOne, cheapest_is, cheapest_from}
 use Rattle.pb_estimate.proofs.Rounds.{no_cheaper}
 use Rattle.pb_estimate.proofs.Fixed.{holds_is}
@@ -157,7 +157,7 @@ pub record IsUnderway (strips : StripsParts) (state level : ℕ) (costs : List A
   pub below : (atom cost : ℕ) → IsAtMost (cost_in costs atom) cost → cost < level → IsAtMost (final_in costs atom) cost
   pub finals : FinalsAreWithin level costs
   pub within : (atom cost : ℕ) → IsAtMost (cost_in costs atom) cost → IsAtMost (cost_in costs atom) (level + 2 ^ 20)
-  pub room : level + 2 ^ 20 * waiting (λ _. true) costs strips.atoms ≤ 2 ^ 28
+  pub room : level + 2 ^ 20 * waiting (λ _. true) costs strips.atoms ≤ 2 ^ 30
 
 -- the counters are those of the atoms that each action needs whose costs aren't final
 pub record AreCounted (strips : StripsParts) (counts : List ℕ) (costs : List AtomCost) : Type 0 where

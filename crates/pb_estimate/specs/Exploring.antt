@@ -1,6 +1,7 @@
 -- An exploration of what can hold after a state if nothing is deleted: costs of atoms that fall
 -- until they are final, and a queue of the atoms that were reached.
 use Rattle.std.specs.Prelude.{◌≡◌, ℕ, zero, suc, ◌+◌, ◌<◌, ◌≤◌, ◌↔◌, ◌⊎◌, Bool, true, not, ◌&&◌, List, length, Contains, Option, None, Some, is_some, slice_index, slice_index_or, if◌then◌else◌}
+use Rattle.pb_packed.specs.Sizes.{most_atoms}
 use Rattle.pb_estimate.specs.declared.exploration.AtomCost.{AtomCost}
 use Rattle.pb_estimate.specs.declared.exploration.AtomCost.TheVariants.{Unreached, Open, Final}
 use Rattle.pb_estimate.specs.declared.exploration.Exploration.{Exploration}
@@ -68,7 +69,7 @@ OpensAreFrom cost costs = (atom c : ℕ) → known_in costs atom ≡ Open c → 
 -- The queue has a place for each atom, and its first places have exactly the atoms that were
 -- reached. The costs of the atoms before `first` are final.
 pub record IsExploration (e : Exploration) : Type 0 where
-  pub few : length e.costs.items ≤ 256
+  pub few : length e.costs.items ≤ most_atoms
   pub places : length e.queue.items ≡ length e.costs.items
   pub reached : e.reached ≡ count (λ atom. is_some (cost_in e.costs.items atom))
       (length e.costs.items)

@@ -1,3 +1,4 @@
+pub use Rattle.pb_packed.specs.Sizes
 pub use Rattle.pb_task.specs.Parts
 pub use Rattle.pb_task.specs.Strips
 pub use Rattle.pb_task.specs.Tiles

@@ -1,6 +1,7 @@
 -- How a certificate is spelled: the lines before its weight, and the digits of its states. What
 -- writes certificates and what reads them both cite this.
 use Rattle.std.specs.Prelude.{◌≡◌, ℕ, List, [], ◌∷◌, length, codes}
+use Rattle.pb_packed.specs.Sizes.{version_1_digits}
 use Rattle.pb_model.specs.Certificate.{Certificate}
 use Rattle.pb_model.specs.Texts.{spaced, certificate_text}
 use Rattle.pb_task.specs.declared.kind.Kind.{Kind}
@@ -14,14 +15,19 @@ use Rattle.pb_estimate.specs.declared.spelling.Version.TheVariants.{One}
 use Rattle.pb_estimate.specs.declared.spelling.Spelling.{Spelling}
 
 -- How a certificate of this task is written whose search had this choice of an estimate: in version
--- 1, with states of 64 digits.
+-- 1, with the digits of that version.
 abbrev pub spelling_of : TaskParts → Choice → Spelling
 spelling_of parts choice =
-    record { kind = kind_of parts; version = One; width = 64; stated = record { choice = choice } }
+    record {
+      kind = kind_of parts;
+      version = One;
+      width = version_1_digits;
+      stated = record { choice = choice };
+    }
 
 -- the states of this version have so many digits
 abbrev pub IsWidthOf : Version → (width : ℕ) → Type 0
-IsWidthOf One width = width ≡ 64
+IsWidthOf One width = width ≡ version_1_digits
 
 -- a spelling that there is
 abbrev pub IsSpelling : Spelling → Type 0

@@ -6,7 +6,7 @@ use Rattle.pb_task.specs.declared.parts.GroundAction.{GroundAction}
 use Rattle.pb_task.specs.declared.parts.StripsParts.{StripsParts}
 use Rattle.pb_task.specs.declared.parts.TaskParts.{TaskParts}
 use Rattle.pb_task.specs.declared.parts.TaskParts.TheVariants as parts
-use Rattle.pb_task.specs.Strips.{has_atom}
+use Rattle.pb_task.specs.Strips.{action_at, has_atom}
 use Rattle.pb_estimate.specs.declared.choice.Choice.{Choice}
 use Rattle.pb_estimate.specs.declared.choice.Choice.TheVariants.{Plain}
 use Rattle.pb_estimate.specs.Estimates.{way_home}
@@ -45,11 +45,6 @@ useful_actions count actions =
 -- an action without what it deletes
 abbrev pub relaxed_action : (count : ℕ) → GroundAction → RelaxedAction
 relaxed_action count action = record { adds = atoms_in action.adds count; cost = action.cost }
-
--- the action of a number, and one that changes nothing if there are fewer
-abbrev pub action_at : List GroundAction → (number : ℕ) → GroundAction
-action_at actions number =
-    slice_index_or actions number (record { name = []; needs = 0; adds = 0; deletes = 0; cost = 1 })
 
 abbrev pub relaxed_at : List RelaxedAction → (number : ℕ) → RelaxedAction
 relaxed_at actions number = slice_index_or actions number (record { adds = []; cost = 1 })

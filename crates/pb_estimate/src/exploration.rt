@@ -1,4 +1,5 @@
 ghost use Rattle.std.specs.Prelude.{[], ◌∷◌, ◌≡◌, ℕ, ◌<◌, ◌≤◌, ◌↔◌, IsTrue, IfOk, IfSome, IfNone, All, length, slice_index, slice_set, true, None, is_some};
+ghost use Rattle.pb_packed.specs.Sizes.{most_atoms};
 ghost use Rattle.pb_task.specs.Strips.{has_atom};
 ghost use Rattle.pb_estimate.specs.declared.exploration.AtomCost.TheVariants.{Unreached, Open, Final};
 ghost use Rattle.pb_estimate.specs.Hmax.{IsAtMost};
@@ -25,7 +26,7 @@ pub struct Exploration {
     /// The cost of each atom.
     pub costs: Vec<AtomCost>,
     /// The atoms that were reached, in the order in which they were. Later places are unused.
-    pub queue: Vec<u8>,
+    pub queue: Vec<u16>,
     /// The costs of the atoms at the places before this one are final.
     pub first: usize,
     /// How many atoms were reached.
@@ -44,7 +45,7 @@ fn is_final(cost: AtomCost) -> bool
 }
 
 // The one of two atoms that costs less.
-fn lesser(best: Option<(u8, u32)>, other: (u8, u32)) -> Option<(u8, u32)>
+fn lesser(best: Option<(u16, u32)>, other: (u16, u32)) -> Option<(u16, u32)>
     ensures one { IfSome result (λ least. IsOneOf best other least) }
     ensures some { IsTrue (is_some result) }
     ensures no_more { IfSome result (λ least. (least.1 ≤ other.1)
@@ -57,7 +58,7 @@ fn lesser(best: Option<(u8, u32)>, other: (u8, u32)) -> Option<(u8, u32)>
 }
 
 // The cheapest of these atoms whose cost is open. No open cost is less than `level`.
-fn least(costs: &[AtomCost], atoms: &[u8], level: u32) -> Option<(u8, u32)>
+fn least(costs: &[AtomCost], atoms: &[u16], level: u32) -> Option<(u16, u32)>
     requires inside { All (λ atom. atom < length costs.now) atoms.now }
     requires level { OpensAreFrom level costs.now }
     ensures found { IfSome result (λ found. (found.0 < length costs.now)
@@ -82,7 +83,7 @@ fn least(costs: &[AtomCost], atoms: &[u8], level: u32) -> Option<(u8, u32)>
 impl Exploration {
     /// An exploration of `count` atoms, with none reached.
     pub fn of(alloc: Global, count: usize) -> Result<Exploration, AllocError>
-        requires { count ≤ 256 }
+        requires { count ≤ most_atoms }
         ensures is { IfOk result IsExploration }
         ensures long { IfOk result (λ made. length made.costs.items ≡ count) }
     {
@@ -121,13 +122,13 @@ impl Exploration {
         self.clear();
         for atom in 0..count {
             if state.has(atom) {
-                self.lower(atom as u8, 0);
+                self.lower(atom as u16, 0);
             }
         }
     }
 
     // Lowers the cost of an atom to this one, if it isn't reached or costs more.
-    fn lower(&mut self, atom: u8, cost: u32)
+    fn lower(&mut self, atom: u16, cost: u32)
         requires is { IsExploration self.old }
         requires inside { atom < length self.old.costs.items }
         requires finals { FinalsAreWithin cost self.old.costs.items }
@@ -152,7 +153,7 @@ impl Exploration {
     }
 
     /// Lowers the costs of some atoms to this one, if they aren't reached or cost more.
-    pub fn lower_each(&mut self, atoms: &[u8], cost: u32)
+    pub fn lower_each(&mut self, atoms: &[u16], cost: u32)
         requires is { IsExploration self.old }
         requires inside { All (λ atom. atom < length self.old.costs.items) atoms.now }
         requires finals { FinalsAreWithin cost self.old.costs.items }
@@ -184,7 +185,7 @@ impl Exploration {
     }
 
     /// Makes the least cost that is open, with its atom, final. No open cost is less than `level`.
-    pub fn next(&mut self, level: u32) -> Option<(u8, u32)>
+    pub fn next(&mut self, level: u32) -> Option<(u16, u32)>
         requires is { IsExploration self.old }
         requires level { OpensAreFrom level self.old.costs.items }
         ensures is { IsExploration self.new }

@@ -1,17 +1,18 @@
 ghost use Rattle.std.specs.Prelude.{[], ◌∷◌, ◌≡◌, ℕ, ◌<◌, ◌≤◌, ◌++◌, All, Contains, IfOk, List, OnOk, length, replicate, false, slice_index, slice_index_or, slice_set, if◌then◌else◌, ◌==◌};
+ghost use Rattle.pb_packed.specs.Sizes.{state_bits, most_atoms};
 ghost use Rattle.pb_task.specs.declared.parts.GroundAction.{GroundAction};
-ghost use Rattle.pb_task.specs.Strips.{has_atom, IsGroundAction, IsStrips};
+ghost use Rattle.pb_task.specs.Strips.{action_at, has_atom, IsGroundAction, IsStrips};
 ghost use Rattle.pb_estimate.specs.Tables.{atoms_in, has_more, AreRelaxed, IsWanted};
 
 use pb_packed::Packed;
-use pb_task::{GroundAction, StripsParts};
+use pb_task::{Actions, StripsParts};
 use std::alloc::{AllocError, Global};
 use std::marker::Model;
 
 /// The numbers of some ground atoms.
 #[derive(Drop)]
 pub struct AtomList {
-    atoms: Vec<u8>,
+    atoms: Vec<u16>,
 }
 
 impl Model for AtomList {
@@ -24,7 +25,7 @@ impl Model for AtomList {
 
 impl AtomList {
     /// The numbers, in ascending order.
-    pub fn as_slice(&self) -> &[u8]
+    pub fn as_slice(&self) -> &[u16]
         ensures { result.now ≡ self.now }
     {
         self.atoms.as_slice()
@@ -105,7 +106,7 @@ impl RelaxedActions {
 }
 
 // Adds an action at the end of the list of one atom.
-fn push_at(lists: &mut Vec<ActionList>, atom: u8, action: u16) -> Result<(), AllocError>
+fn push_at(lists: &mut Vec<ActionList>, atom: u16, action: u16) -> Result<(), AllocError>
     requires { atom < length lists.old.items }
     ensures { OnOk result (lists.new.items
         ≡ slice_set lists.old.items atom (slice_index_or lists.old.items atom [] ++ action ∷ [])) }
@@ -115,7 +116,7 @@ fn push_at(lists: &mut Vec<ActionList>, atom: u8, action: u16) -> Result<(), All
 }
 
 // Adds an action at the end of the lists of some atoms.
-fn push_each(lists: &mut Vec<ActionList>, atoms: &[u8], action: u16) -> Result<(), AllocError>
+fn push_each(lists: &mut Vec<ActionList>, atoms: &[u16], action: u16) -> Result<(), AllocError>
     requires inside { All (λ atom. atom < length lists.old.items) atoms.now }
     requires ascend { (j k : ℕ) → j < k → k < length atoms.now
         → slice_index atoms.now j < slice_index atoms.now k }
@@ -158,7 +159,7 @@ impl Users {
     }
 
     // An action needs these atoms too.
-    fn push(&mut self, atoms: &[u8], action: u16) -> Result<(), AllocError>
+    fn push(&mut self, atoms: &[u16], action: u16) -> Result<(), AllocError>
         requires inside { All (λ atom. atom < length self.old) atoms.now }
         requires ascend { (j k : ℕ) → j < k → k < length atoms.now
             → slice_index atoms.now j < slice_index atoms.now k }
@@ -172,7 +173,7 @@ impl Users {
     }
 
     /// The actions that need an atom.
-    pub fn of(&self, atom: u8) -> &[u16]
+    pub fn of(&self, atom: u16) -> &[u16]
         requires { atom < length self.now }
         ensures { result.now ≡ slice_index_or self.now atom [] }
     {
@@ -200,29 +201,35 @@ pub struct RelaxedTask {
 
 // The atoms of a set.
 fn atoms_in(alloc: Global, set: &Packed, count: u32) -> Result<AtomList, AllocError>
-    requires { count ≤ 256 }
+    requires { count ≤ most_atoms }
     ensures { IfOk result (λ atoms. atoms ≡ atoms_in set.now count) }
 {
     let mut atoms = Vec::new(alloc);
     for atom in 0..count {
         if set.has(atom) {
-            atoms.push(atom as u8)?;
+            atoms.push(atom as u16)?;
         }
     }
     Ok(AtomList { atoms })
 }
 
 // Whether an atom is among these that isn't in the set.
-fn has_more(atoms: &[u8], set: &Packed) -> bool
+fn has_more(atoms: &[u16], set: &Packed) -> bool
+    requires { All (λ atom. atom < state_bits) atoms.now }
     ensures { result ≡ has_more atoms.now set.now }
 {
-    atoms.iter().any(|atom| !set.has(u32::from(*atom)))
+    for atom in atoms {
+        if !set.has(u32::from(*atom)) {
+            return true;
+        }
+    }
+    false
 }
 
 // Adds an action at the end of a task's.
 fn add_action(
     task: &mut RelaxedTask,
-    needs: &[u8],
+    needs: &[u16],
     adds: AtomList,
     cost: u32,
 ) -> Result<(), AllocError>
@@ -230,7 +237,7 @@ fn add_action(
     requires ascend { (j k : ℕ) → j < k → k < length needs.now
         → slice_index needs.now j < slice_index needs.now k }
     requires many { length task.old.needs.items < 65536 }
-    requires few { length needs.now ≤ 256 }
+    requires few { length needs.now ≤ most_atoms }
     ensures actions { OnOk result (task.new.actions ≡ task.old.actions
         ++ record { adds = adds; cost = cost } ∷ []) }
     ensures needs { OnOk result (task.new.needs.items ≡ task.old.needs.items
@@ -259,29 +266,32 @@ fn add_useful(
     alloc: Global,
     count: u32,
     task: &mut RelaxedTask,
-    action: &GroundAction,
+    actions: &Actions,
+    at: usize,
 ) -> Result<(), AllocError>
-    requires count { count ≤ 256 }
-    requires action { IsGroundAction count action.now }
+    requires count { count ≤ most_atoms }
+    requires at { at < length actions.now }
+    requires action { IsGroundAction count (action_at actions.now at) }
     requires users { length task.old.users ≡ count }
     requires many { length task.old.needs.items < 65536 }
-    ensures relaxed { OnOk result ((actions : List GroundAction)
-        → AreRelaxed count actions task.old → AreRelaxed count (actions
-        ++ action.now ∷ []) task.new) }
+    ensures relaxed { OnOk result ((before : List GroundAction)
+        → AreRelaxed count before task.old → AreRelaxed count (before
+        ++ action_at actions.now at ∷ []) task.new) }
     ensures goal { (task.new.goal ≡ task.old.goal) × (task.new.wanted ≡ task.old.wanted) }
 {
-    let adds = atoms_in(alloc, &action.adds, count)?;
-    if !has_more(adds.as_slice(), &action.needs) {
+    let needed = actions.needs(at);
+    let adds = atoms_in(alloc, &actions.adds(at), count)?;
+    if !has_more(adds.as_slice(), &needed) {
         return Ok(());
     }
-    let needs = atoms_in(alloc, &action.needs, count)?;
-    add_action(task, needs.as_slice(), adds, action.cost as u32)?;
+    let needs = atoms_in(alloc, &needed, count)?;
+    add_action(task, needs.as_slice(), adds, actions.cost(at) as u32)?;
     Ok(())
 }
 
 // Whether each atom is in the set.
 fn flags(alloc: Global, set: &Packed, count: u32) -> Result<Vec<bool>, AllocError>
-    requires { count ≤ 256 }
+    requires { count ≤ most_atoms }
     ensures long { IfOk result (λ flags. length flags.items ≡ count) }
     ensures flags { IfOk result (λ flags. (atom : ℕ) → atom < count
         → slice_index_or flags.items atom false ≡ has_atom set.now atom) }
@@ -320,8 +330,8 @@ pub fn relaxed_task(alloc: Global, strips: &StripsParts) -> Result<RelaxedTask, 
     ensures goal { IfOk result (IsWanted strips.now.goal strips.now.atoms) }
 {
     let mut task = empty_task(alloc, strips)?;
-    for action in strips.actions.as_slice() {
-        add_useful(alloc, strips.atoms, &mut task, action)?;
+    for at in 0..strips.actions.len() {
+        add_useful(alloc, strips.atoms, &mut task, &strips.actions, at)?;
     }
     Ok(task)
 }

@@ -3,6 +3,7 @@ ghost use Rattle.std.specs.Prelude.{◌≡◌, ◌≤◌, length};
 ghost use Rattle.pb_estimate.specs.Spelling.{spelling_of, stated_text, head_lines};
 
 use crate::choice::Choice;
+use pb_packed::DIGITS;
 use pb_task::{Kind, Task};
 
 /// What a certificate states beside the kind of its task and the width of its states.
@@ -52,7 +53,7 @@ impl Spelling {
         Spelling {
             kind: task.kind(),
             version: Version::One,
-            width: 64,
+            width: DIGITS as u32,
             stated: Stated { choice },
         }
     }

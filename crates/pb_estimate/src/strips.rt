@@ -51,7 +51,7 @@ fn count_down(
     requires counts { length counts.old ≡ length actions.now }
     requires user { user < length actions.now }
     requires some { 1 ≤ slice_index counts.old user }
-    requires level { level ≤ 2 ^ 28 }
+    requires level { level ≤ 2 ^ 30 }
     requires finals { FinalsAreWithin level exploration.old.costs.items }
     ensures is { IsExploration exploration.new }
     ensures long { length exploration.new.costs.items ≡ length exploration.old.costs.items }
@@ -89,7 +89,7 @@ fn count_down_each(
         × (1 ≤ slice_index counts.old user)) users.now }
     requires ascend { (j k : ℕ) → j < k → k < length users.now
         → slice_index users.now j < slice_index users.now k }
-    requires level { level ≤ 2 ^ 28 }
+    requires level { level ≤ 2 ^ 30 }
     requires finals { FinalsAreWithin level exploration.old.costs.items }
     ensures is { IsExploration exploration.new }
     ensures long { length exploration.new.costs.items ≡ length exploration.old.costs.items }

@@ -18,7 +18,6 @@ use Rattle.pb_lease.specs.Leased.{guide_of, setup_of, grant_of, HasScope, IsOut,
 use Rattle.pb_expand.specs.Turned.{own_rows, IsAtWork, reads_none, HasTurned, HasTurnedOnce}
 use Rattle.pb_lease.specs.Rows.{LeadsInto}
 use Rattle.pb_lease.proofs.Callers.{same_places}
-use Rattle.pb_expand.proofs.Turned.{turned_on}
 
 -- costs of a task are in the range of the planner
 greater_costs : (setup : Setup) → IsSetup setup greatest_cost → IsSetup setup (2 ^ 20)
@@ -118,9 +117,6 @@ module _ (task : TaskParts) (graph : AbstractGraph) (choice : Choice) (settings 
 
 -- turns by the one choice are turns by the other, which is the same
 module _ (task : TaskParts) (graph : AbstractGraph) (choice own : Choice) (is : own ≡ choice) {known : Option ℕ → Bool} {block used broken : ℕ} {old new : Store} where
-  pub turned_by : HasTurned (space_of task) (guide_of task graph own) known block used broken old new → HasTurned (space_of task) (guide_of task graph choice) known block used broken old new
-  turned_by turned = subst (λ h. HasTurned (space_of task) (guide_of task graph h) known block used broken old new) is turned
-
   pub turned_once_by : HasTurnedOnce (space_of task) (guide_of task graph own) known block used broken old new → HasTurnedOnce (space_of task) (guide_of task graph choice) known block used broken old new
   turned_once_by turned = subst (λ h. HasTurnedOnce (space_of task) (guide_of task graph h) known block used broken old new) is turned
 
@@ -128,53 +124,10 @@ module _ (task : TaskParts) (graph : AbstractGraph) (choice own : Choice) (is : 
 pub at_work_by_own : (task : TaskParts) (graph : AbstractGraph) (choice : Choice) (lease : LeaseValue) → IsAtWork task graph choice lease → IsAtWork task graph lease.choice lease
 at_work_by_own task graph choice lease at = subst (λ h. IsAtWork task graph h lease) (sym at.choice_is) at
 
--- a lease is at work after turns of which none was broken off
+-- the bundles of a lease stay
 module _ (task : TaskParts) (graph : AbstractGraph) (choice : Choice) (old new : LeaseValue) (more : ℕ) (at : IsAtWork task graph choice old) where
   pub scope_on : IsSameLease old new → HasWeights new → HasScope graph new
   scope_on same weights = record {
     blocks = λ block. same_places old.parts new.parts block same.places ∙ at.scope.blocks block ∙ ap (λ own. (blocks_of graph).scope own block) (sym same.block);
     weights = weights;
   }
-
-  pub at_work_on : HasTurned (space_of task) (guide_of task graph choice) reads_none old.block more 0 (leased_store old) (leased_store new) → IsSameLease old new → new.used ≡ old.used + more → HasWeights new
-      → IsAtWork task graph choice new
-  at_work_on turned same used weights =
-      let given : ℕ → ℕ → Store = λ block worker. lent_store (setup_of task graph choice at.settings at.reopenings) block at.machine.store (at.machine.given worker) in
-      let second = lease_work_stays (space_of task) (guide_of task graph choice) old.block more 0 0 reads_none at.known (leased_store old) (leased_store new) turned.work (omega arith)
-      (λ incumbent known. absurd (true≢false (sym known))) in
-      let both : IsWorked (space_of task) (guide_of task graph choice) old.block (old.used + more) 0 at.known (given old.block old.worker) (leased_store new) =
-      (lease_work_goes_on (space_of task) (guide_of task graph choice) old.block old.used more 0 at.known at.known (given old.block old.worker) (leased_store old) (leased_store new)
-      at.work second.0 (λ incumbent known. known)).0 in
-      record {
-        settings = at.settings;
-        reopenings = at.reopenings;
-        machine = at.machine;
-        is_setup = at.is_setup;
-        in_range = at.in_range;
-        lawful = at.lawful;
-        leased = ap at.machine.counts.leases same.worker ∙ at.leased ∙ λ i. Some (record { block = sym same.block i; quota = sym same.quota i });
-        known = at.known;
-        work = subst (λ n. IsWorked (space_of task) (guide_of task graph choice) new.block n 0 at.known (given new.block new.worker) (leased_store new)) (sym used)
-            (subst (λ b. IsWorked (space_of task) (guide_of task graph choice) b (old.used + more) 0 at.known (given b new.worker) (leased_store new)) (sym same.block)
-            (subst (λ w. IsWorked (space_of task) (guide_of task graph choice) old.block (old.used + more) 0 at.known (given old.block w) (leased_store new)) (sym same.worker) both));
-        scope = scope_on same weights;
-        choice_is = same.choice ∙ at.choice_is;
-      }
-
--- turns of a lease go on
-module _ (task : TaskParts) (graph : AbstractGraph) (choice : Choice) (first old new : LeaseValue) (same : IsSameLease first old) where
-  pub turned_then : (used more broken : ℕ) → HasTurned (space_of task) (guide_of task graph choice) reads_none first.block used 0 (leased_store first) (leased_store old)
-      → HasTurned (space_of task) (guide_of task graph choice) reads_none old.block more broken (leased_store old) (leased_store new)
-      → HasTurned (space_of task) (guide_of task graph choice) reads_none first.block (used + more) broken (leased_store first) (leased_store new)
-  turned_then used more broken before turned =
-      turned_on (space_of task) (guide_of task graph choice) first.block used more broken (leased_store first) (leased_store old) (leased_store new) before
-      (subst (λ block. HasTurned (space_of task) (guide_of task graph choice) reads_none block more broken (leased_store old) (leased_store new)) same.block turned)
-
-  -- so the count of expansions tells how many there were
-  pub worked_on : (more broken : ℕ) → HasTurned (space_of task) (guide_of task graph choice) reads_none first.block (old.used - first.used) 0 (leased_store first) (leased_store old) → first.used ≤ old.used
-      → HasTurned (space_of task) (guide_of task graph choice) reads_none old.block more broken (leased_store old) (leased_store new) → new.used ≡ old.used + more
-      → HasTurned (space_of task) (guide_of task graph choice) reads_none first.block (new.used - first.used) broken (leased_store first) (leased_store new)
-  worked_on more broken before counted turned used =
-      let sum : (old.used - first.used) + more ≡ new.used - first.used = omega (arith, used, counted) in
-      subst (λ n. HasTurned (space_of task) (guide_of task graph choice) reads_none first.block n broken (leased_store first) (leased_store new)) sum
-      (turned_then (old.used - first.used) more broken before turned)

@@ -1,5 +1,5 @@
+pub mod Callers
 mod Turned
 mod Known
 mod Listed
-mod Far
 mod Watched

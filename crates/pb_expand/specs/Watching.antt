@@ -1,5 +1,5 @@
 -- What a worker that watches the incumbent knows, and what it shows of its lease.
-use Rattle.std.specs.Prelude.{◌≡◌, ℕ, ◌+◌, ◌-◌, ◌<◌, ◌≤◌, ◌^◌, Bool, true, false, List, ◌∷◌, Option, Some, IsTrue}
+use Rattle.std.specs.Prelude.{◌≡◌, ℕ, ◌+◌, ◌-◌, ◌<◌, ◌≤◌, ◌^◌, ⊤, Bool, true, false, List, [], ◌∷◌, Option, None, Some, IsTrue, IfSome}
 use Rattle.pb_model.specs.Space.{Space}
 use Rattle.pb_model.specs.Guide.{Guide}
 use Rattle.pb_model.specs.Store.{Store, HasGoalWithin, AtMost, lesser}
@@ -11,7 +11,7 @@ use Rattle.pb_estimate.specs.declared.choice.Choice.{Choice}
 use Rattle.pb_abstract.specs.Graph.{AbstractGraph}
 use Rattle.pb_lease.specs.LeaseValue.{LeaseValue, leased_store, HasWeights, IsSameLease}
 use Rattle.pb_lease.specs.Leased.{guide_of}
-use Rattle.pb_expand.specs.Turned.{IsAtWork, HasTurned, copies_of}
+use Rattle.pb_expand.specs.Turned.{IsAtWork, HasTurned, copies_of, reads_none}
 
 -- What a watch knows:
 -- - what is searched, by which blocks and by which estimate,
@@ -86,14 +86,66 @@ pub record HasTold (old : WatchView) (cost : ℕ) (new : WatchView) : Type 0 whe
   pub least : new.least ≡ lesser old.least (Some cost)
   pub answers : new.answers ≡ old.answers
 
--- The lease may be worked on under this watch.
-pub record IsAtWatch (task : TaskParts) (graph : AbstractGraph) (choice : Choice)
-    (view : WatchView) (lease : LeaseValue) : Type 0 where
+-- The watch is of a search for this task, by these blocks and by this estimate.
+pub record IsOfSearch (task : TaskParts) (graph : AbstractGraph) (choice : Choice)
+    (view : WatchView) : Type 0 where
   pub task_is : view.task ≡ task
   pub graph_is : view.graph ≡ graph
   pub choice_is : view.choice ≡ choice
+
+-- ---- a watch, or none: a watch without a view reads none and is told nothing
+
+-- what was read
+abbrev pub known_by : Option WatchView → Option ℕ → Bool
+known_by None = reads_none
+known_by (Some view) = view.read
+
+-- what each read has found, the last one first
+abbrev pub answers_of : Option WatchView → List (Option ℕ)
+answers_of None = []
+answers_of (Some view) = view.answers
+
+-- the answers are these; without a view there are none, and nothing is asked of them
+abbrev pub HasAnswers : (view : Option WatchView) → List (Option ℕ) → Type 0
+HasAnswers view answers = IfSome view (λ seen. seen.answers ≡ answers)
+
+-- the lease has the least cost that was read or told
+abbrev pub IsLevel : (view : Option WatchView) → LeaseValue → Type 0
+IsLevel view lease = IfSome view (λ seen. lease.incumbent ≡ seen.least)
+
+-- the lease came from the one that was lent, as the watch knows
+abbrev pub IsUnder : Space → Guide → (view : Option WatchView) → (most_broken : ℕ) → LeaseValue
+    → Type 0
+IsUnder space guide view most_broken lease =
+    IfSome view (λ seen. IsWatched space guide seen most_broken lease)
+
+-- it is the same watch, or still none
+abbrev pub Keeps : (old new : Option WatchView) → Type 0
+Keeps None None = ⊤
+Keeps (Some old) (Some new) = KeepsWatch old new
+Keeps None (Some new) = ⊥
+Keeps (Some old) None = ⊥
+
+-- one read was made, which found this as the incumbent; without a view it found none
+abbrev pub Reads : (old : Option WatchView) → (found : Option ℕ) → (new : Option WatchView) → Type 0
+Reads None found None = found ≡ None
+Reads (Some old) found (Some new) = HasRead old found new
+Reads None found (Some new) = ⊥
+Reads (Some old) found None = ⊥
+
+-- the cost was told, if there is a view
+abbrev pub Tells : (old : Option WatchView) → (cost : ℕ) → (new : Option WatchView) → Type 0
+Tells None cost None = ⊤
+Tells (Some old) cost (Some new) = HasTold old cost new
+Tells None cost (Some new) = ⊥
+Tells (Some old) cost None = ⊥
+
+-- The lease may be worked on under this watch.
+pub record IsAtWatch (task : TaskParts) (graph : AbstractGraph) (choice : Choice)
+    (view : Option WatchView) (lease : LeaseValue) : Type 0 where
+  pub search : IfSome view (λ seen. IsOfSearch task graph choice seen)
   pub at_work : IsAtWork task graph choice lease
-  pub watched : IsWatched (space_of task) (guide_of task graph choice) view 0 lease
+  pub watched : IsUnder (space_of task) (guide_of task graph choice) view 0 lease
   pub within : lease.used ≤ lease.quota
 
 -- ---- a read before each turn
@@ -104,31 +156,31 @@ abbrev pub with_read : (is_read : Bool) → (incumbent : Option ℕ) → (before
 with_read true incumbent before = incumbent ∷ before
 with_read false incumbent before = before
 
--- These turns, with a read before each. The turns were done with what was read, in the same order.
--- Each turn has a read of its own. The only other read is one after the last turn, which found what
--- the store has.
-pub record HasTurnedReading (space : Space) (guide : Guide) (known : Option ℕ → Bool)
-    (block used broken : ℕ) (read_after : Bool) (old new : Store) (was now : List (Option ℕ))
-    : Type 0 where
-  pub turned : HasTurned space guide known block used broken old new
-  pub reads : now ≡ with_read read_after new.incumbent
-      (copies_of space guide turned.work.works old was)
+-- These turns, with a read before each if there is a view. The turns were done with what was read,
+-- in the same order. Each turn has a read of its own. The only other read is one after the last
+-- turn, which found what the store has. Without a view nothing was read.
+pub record HasTurnedReading (space : Space) (guide : Guide) (block used broken : ℕ)
+    (read_after : Bool) (old new : Store) (was now : Option WatchView) : Type 0 where
+  pub turned : HasTurned space guide (known_by now) block used broken old new
+  pub reads : HasAnswers now (with_read read_after new.incumbent
+      (copies_of space guide turned.work.works old (answers_of was)))
 
 -- From the one lease to the other its worker did turns under the watch. They have exactly this many
 -- expansions more, and exactly this many that were broken off. If the lease's incumbent was what
 -- the watch had read or told, it still is. Each turn has a read of its own before it. `read_before`
 -- says whether a read came before the first turn, and `read_after` whether one came after the last.
 pub record HasTurnedWatched (space : Space) (guide : Guide) (more broken : ℕ)
-    (read_before read_after : Bool) (old : LeaseValue) (was : WatchView) (new : LeaseValue)
-    (now : WatchView) : Type 0 where
-  pub turned : HasTurned space guide now.read old.block more broken (leased_store old)
+    (read_before read_after : Bool) (old : LeaseValue) (was : Option WatchView) (new : LeaseValue)
+    (now : Option WatchView) : Type 0 where
+  pub turned : HasTurned space guide (known_by now) old.block more broken (leased_store old)
       (leased_store new)
   pub same : IsSameLease old new
   pub used : new.used ≡ old.used + more
   pub weights : HasWeights old → HasWeights new
-  pub kept : KeepsWatch was now
-  pub watched : IsWatched space guide now broken new
-  pub level : old.incumbent ≡ was.least → new.incumbent ≡ now.least
-  pub reads : (before : List (Option ℕ)) → was.answers ≡ with_read read_before old.incumbent before
-      → now.answers ≡ with_read read_after new.incumbent
-      (copies_of space guide turned.work.works (leased_store old) before)
+  pub kept : Keeps was now
+  pub watched : IsUnder space guide now broken new
+  pub level : IsLevel was old → IsLevel now new
+  pub reads : (before : List (Option ℕ))
+      → HasAnswers was (with_read read_before old.incumbent before)
+      → HasAnswers now (with_read read_after new.incumbent
+      (copies_of space guide turned.work.works (leased_store old) before))

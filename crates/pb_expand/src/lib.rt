@@ -13,6 +13,6 @@ mod watch;
 mod watching;
 mod working;
 
-pub use watch::Watch;
+pub use watch::{NoWatch, Watch};
 pub use watching::work_watched;
 pub use working::{Worked, work};

@@ -1,5 +1,7 @@
 //! The incumbent as a worker sees it while it works.
-ghost use Rattle.pb_expand.specs.Watching.{WatchView, MayTell, HasRead, HasTold};
+ghost use Rattle.std.specs.Prelude.{◌≡◌, ⊤, IfSome, Option, None, refl};
+ghost use mathlib.Core.Path.{◌∙◌};
+ghost use Rattle.pb_expand.specs.Watching.{WatchView, MayTell, Reads, Tells};
 
 use pb_lease::Lease;
 
@@ -7,8 +9,8 @@ use pb_lease::Lease;
 /// cost of its own. Costs are in the unit of the task's action costs. Neither call waits or takes
 /// memory.
 pub trait Watch {
-    // What the watch knows.
-    ghost seen: { Self → WatchView };
+    // What the watch knows, or None if it reads none and is told nothing.
+    ghost seen: { Self → Option WatchView };
 
     // What both calls need, and keep.
     ghost can: { Self → Type 0 };
@@ -25,14 +27,36 @@ pub trait Watch {
         requires { can self.old }
         ensures can { can self.new }
         ensures stays { stays self.old self.new }
-        ensures read { HasRead (seen self.old) result (seen self.new) };
+        ensures read { Reads (seen self.old) result (seen self.new) };
 
     /// Tells the watch the cost of a goal's row of the lease. The lease must not have that cost as
     /// its incumbent yet.
     fn tell(&mut self, lease: &Lease, cost: u64)
         requires can { can self.old }
-        requires may { MayTell (seen self.old) lease.now cost }
+        requires may { IfSome (seen self.old) (λ view. MayTell view lease.now cost) }
         ensures can { can self.new }
         ensures stays { stays self.old self.new }
-        ensures told { HasTold (seen self.old) cost (seen self.new) };
+        ensures told { Tells (seen self.old) cost (seen self.new) };
+}
+
+/// The watch of a worker that has nobody to hear of: it reads none, and what it is told is lost.
+#[derive(Drop)]
+pub struct NoWatch;
+
+impl Watch for NoWatch {
+    ghost seen = { λ watch. None };
+
+    ghost can = { λ watch. ⊤ };
+
+    ghost stays = { λ old new. new ≡ old };
+
+    ghost stays_none = { λ watch. refl };
+
+    ghost stays_on = { λ old mid new one two. two ∙ one };
+
+    fn read(&mut self) -> Option<u64> {
+        None
+    }
+
+    fn tell(&mut self, _lease: &Lease, _cost: u64) {}
 }

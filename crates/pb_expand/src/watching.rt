@@ -1,5 +1,5 @@
-//! The turns of a worker that reads the incumbent before each turn. It tells its watch each better
-//! cost before its lease has that cost as its incumbent.
+//! The turns of a worker. If it has a watch, it reads the incumbent before each turn, and tells the
+//! watch each better cost before its lease has that cost as its incumbent.
 ghost use Rattle.std.specs.Prelude.{◌≡◌, ◌-◌, ◌<◌, ◌≤◌, ◌↔◌, ◌∷◌, ℕ, true, false, not, IsSome, IfSome, IfNone, vec_capacity};
 ghost use Rattle.pb_model.specs.Space.{Space};
 ghost use Rattle.pb_model.specs.Guide.{Guide};
@@ -16,7 +16,7 @@ ghost use Rattle.pb_lease.specs.Leased.{guide_of, HasScope};
 ghost use Rattle.pb_expand.specs.Turned.{own_rows, IsAtWork, IsNext};
 ghost use Rattle.pb_lease.specs.Rows.{own_opened};
 ghost use Rattle.pb_expand.specs.Worked.{broken_by, ends_with_read};
-ghost use Rattle.pb_expand.specs.Watching.{IsWatched, KeepsWatch, IsAtWatch, HasTurnedReading, HasTurnedWatched};
+ghost use Rattle.pb_expand.specs.Watching.{IsOfSearch, answers_of, HasAnswers, IsLevel, IsUnder, Keeps, IsAtWatch, HasTurnedReading, HasTurnedWatched};
 ghost use Rattle.pb_expand.specs.declared.working.Worked.TheVariants.{Spent, Empty, Memory};
 
 use crate::bundles::{cut, first};
@@ -49,15 +49,15 @@ fn next_row<W: Watch>(lease: &mut Lease, watch: &mut W) -> Option<(Packed, Row)>
     ensures can { W.can watch.new }
     ensures stays { W.stays watch.old watch.new }
     ensures turned { (space : Space) (guide : Guide)
-        → IsWatched space guide (W.seen watch.old) 0 lease.old
+        → IsUnder space guide (W.seen watch.old) 0 lease.old
         → HasTurnedWatched space guide 0 0 false true lease.old (W.seen watch.old) lease.new
         (W.seen watch.new) }
     ensures copy { (space : Space) (guide : Guide)
-        → IsWatched space guide (W.seen watch.old) 0 lease.old
-        → lease.new.incumbent ≡ (W.seen watch.new).least }
+        → IsUnder space guide (W.seen watch.old) 0 lease.old
+        → IsLevel (W.seen watch.new) lease.new }
     ensures one { (space : Space) (guide : Guide)
-        → IsWatched space guide (W.seen watch.old) 0 lease.old
-        → (W.seen watch.new).answers ≡ lease.new.incumbent ∷ (W.seen watch.old).answers }
+        → IsUnder space guide (W.seen watch.old) 0 lease.old
+        → HasAnswers (W.seen watch.new) (lease.new.incumbent ∷ answers_of (W.seen watch.old)) }
     ensures opened { own_opened lease.new ≡ own_opened lease.old }
     ensures some { IfSome result (λ found. IsFirstRow lease.new.weight (own_rows lease.new) found.0
         found.1) }
@@ -70,7 +70,7 @@ fn next_row<W: Watch>(lease: &mut Lease, watch: &mut W) -> Option<(Packed, Row)>
 
 // Cuts the first Opened row if it may be cut. If it is a goal's, takes it after its cost was told.
 // Answers whether it did either.
-fn settle_row_watched<W: Watch>(
+fn settle_row<W: Watch>(
     task: &Task,
     lease: &mut Lease,
     watch: &mut W,
@@ -85,7 +85,7 @@ fn settle_row_watched<W: Watch>(
     ensures turned { (graph : AbstractGraph) (choice : Choice) → IsAtWatch task.now graph choice (W.seen watch.old) lease.old
         → HasTurnedWatched (space_of task.now) (guide_of task.now graph choice) 0 0 true (not result)
         lease.old (W.seen watch.old) lease.new (W.seen watch.new) }
-    ensures none { (W.seen watch.new).answers ≡ (W.seen watch.old).answers }
+    ensures none { answers_of (W.seen watch.new) ≡ answers_of (W.seen watch.old) }
     ensures fewer { result ≡ true → own_opened lease.new < own_opened lease.old }
     ensures next { result ≡ false → IsNext (space_of task.now) lease.new state.now row.now }
 {
@@ -104,7 +104,7 @@ fn settle_row_watched<W: Watch>(
 
 // Cuts and takes rows of the lease's block until the first Opened one is to be expanded, and
 // answers that row and its state.
-fn settle_watched<W: Watch>(task: &Task, lease: &mut Lease, watch: &mut W) -> Option<(Packed, Row)>
+fn settle<W: Watch>(task: &Task, lease: &mut Lease, watch: &mut W) -> Option<(Packed, Row)>
     requires can { W.can watch.old }
     requires at { (graph : AbstractGraph) × (choice : Choice) × IsAtWatch task.now graph choice (W.seen watch.old) lease.old }
     ensures can { W.can watch.new }
@@ -114,21 +114,24 @@ fn settle_watched<W: Watch>(task: &Task, lease: &mut Lease, watch: &mut W) -> Op
         (W.seen watch.old) lease.new (W.seen watch.new) }
     ensures same { IsSameLease lease.old lease.new }
     ensures used { lease.new.used ≡ lease.old.used }
-    ensures copy { lease.new.incumbent ≡ (W.seen watch.new).least }
+    ensures copy { IsLevel (W.seen watch.new) lease.new }
     ensures next { IfSome result (λ found. IsNext (space_of task.now) lease.new found.0 found.1) }
     ensures none { IfNone result (HasOpened (own_rows lease.new) → ⊥) }
 {
     while let Some((state, row)) = next_row(lease, watch) {
-        if !settle_row_watched(task, lease, watch, &state, &row) {
+        if !settle_row(task, lease, watch, &state, &row) {
             return Some((state, row));
         }
     }
     None
 }
 
-/// Works on a lease as `work` does, under a watch of the incumbent. Before each turn the incumbent
-/// is read and taken into the lease. If the first Opened row is a goal's, its cost is told before
-/// the lease has it as its incumbent. The list is for successors alone. Only bundles take memory.
+/// Works on a lease, in turns, as a best-first search does that opens rows again (Hart, Nilsson,
+/// Raphael 1968), on the rows of one block. A turn cuts the first Opened row if it may be cut,
+/// takes it if it is a goal's, and else expands it. The turns end when no row of the block is
+/// Opened, or the lease's quota is used up. Before each turn the incumbent is read and taken into
+/// the lease. The cost of a goal's row is told before the lease has it as its incumbent. The list
+/// is for successors alone. Only bundles take memory.
 pub fn work_watched<W: Watch>(
     task: &Task,
     estimator: &mut Estimator,
@@ -142,26 +145,25 @@ pub fn work_watched<W: Watch>(
     requires room { max_degree_of task.now ≤ vec_capacity succs.old }
     requires at_work { IsAtWork task.now graph.now lease.old.choice lease.old }
     requires can { W.can watch.old }
-    requires task_is { (W.seen watch.old).task ≡ task.now }
-    requires graph_is { (W.seen watch.old).graph ≡ graph.now }
-    requires choice_is { (W.seen watch.old).choice ≡ lease.old.choice }
-    requires watched { IsWatched (space_of task.now) (guide_of task.now graph.now lease.old.choice)
+    requires search { IfSome (W.seen watch.old)
+        (λ seen. IsOfSearch task.now graph.now lease.old.choice seen) }
+    requires watched { IsUnder (space_of task.now) (guide_of task.now graph.now lease.old.choice)
         (W.seen watch.old) 0 lease.old }
 
     // What was done: the counted expansions, one that was broken off if memory ran out, and a read
     // before each turn.
-    ensures turned { HasTurnedReading (space_of task.now) (guide_of task.now graph.now lease.old.choice)
-        (W.seen watch.new).read lease.old.block (lease.new.used - lease.old.used) (broken_by result)
-        (ends_with_read result) (leased_store lease.old) (leased_store lease.new)
-        (W.seen watch.old).answers (W.seen watch.new).answers }
+    ensures turned { HasTurnedReading (space_of task.now)
+        (guide_of task.now graph.now lease.old.choice) lease.old.block
+        (lease.new.used - lease.old.used) (broken_by result) (ends_with_read result)
+        (leased_store lease.old) (leased_store lease.new) (W.seen watch.old) (W.seen watch.new) }
     ensures counted { lease.old.used ≤ lease.new.used }
     ensures within { lease.new.used ≤ lease.new.quota }
 
     // The lease has the least cost that was read or told, and shows what was told.
-    ensures copy { lease.new.incumbent ≡ (W.seen watch.new).least }
-    ensures watched { IsWatched (space_of task.now) (guide_of task.now graph.now lease.old.choice) (W.seen watch.new)
-        (broken_by result) lease.new }
-    ensures kept { KeepsWatch (W.seen watch.old) (W.seen watch.new) }
+    ensures copy { IsLevel (W.seen watch.new) lease.new }
+    ensures watched { IsUnder (space_of task.now) (guide_of task.now graph.now lease.old.choice)
+        (W.seen watch.new) (broken_by result) lease.new }
+    ensures kept { Keeps (W.seen watch.old) (W.seen watch.new) }
 
     // Why it stopped.
     ensures spent { (result ≡ Spent) ↔ (HasOpened (own_rows lease.new)
@@ -181,7 +183,7 @@ pub fn work_watched<W: Watch>(
     ensures room { vec_capacity succs.old ≤ vec_capacity succs.new }
 {
     let quota = lease.quota();
-    while let Some((state, row)) = settle_watched(task, lease, watch) {
+    while let Some((state, row)) = settle(task, lease, watch) {
         if lease.used() == quota {
             return Worked::Spent;
         }

@@ -12,7 +12,8 @@ ghost use Rattle.pb_expand.specs.Turned.{own_rows, IsAtWork, HasTurned, IsNext, 
 ghost use Rattle.pb_expand.specs.Worked.{broken_by};
 ghost use Rattle.pb_expand.specs.declared.working.Worked.TheVariants.{Spent, Empty, Memory};
 
-use crate::turns::{expand, settle};
+use crate::watch::NoWatch;
+use crate::watching::work_watched;
 use pb_abstract::AbsGraph;
 use pb_estimate::Estimator;
 use pb_lease::Lease;
@@ -31,11 +32,8 @@ pub enum Worked {
     Memory,
 }
 
-/// Works on a lease, in turns, as a best-first search does that opens rows again (Hart, Nilsson,
-/// Raphael 1968), on the rows of one block. A turn cuts the first Opened row if it may be cut,
-/// takes it if it is a goal's, and else expands it. The turns end when no row of the block is
-/// Opened, or the lease's quota is used up. The list is for successors alone. Only bundles take
-/// memory.
+/// Works on a lease as `work_watched` does, with nothing to watch: it reads no incumbent, and tells
+/// nobody of a cost.
 pub fn work(
     task: &Task,
     estimator: &mut Estimator,
@@ -79,15 +77,6 @@ pub fn work(
     ensures tables { IsOfTask estimator.new task.now lease.old.choice }
     ensures room { vec_capacity succs.old ≤ vec_capacity succs.new }
 {
-    let quota = lease.quota();
-    while let Some((state, row)) = settle(task, lease) {
-        if lease.used() == quota {
-            return Worked::Spent;
-        }
-        match expand(task, estimator, graph, lease, succs, &state, &row) {
-            Ok(()) => {}
-            Err(_) => return Worked::Memory,
-        }
-    }
-    Worked::Empty
+    let mut watch = NoWatch;
+    work_watched(task, estimator, graph, lease, succs, &mut watch)
 }

@@ -1,3 +1,4 @@
+pub use Rattle.pb_packed.specs.Sizes
 pub mod Instances
 pub mod Actions
 pub mod Atoms

@@ -1,4 +1,5 @@
 ghost use Rattle.std.specs.Prelude.{◌≡◌, ◌≤◌, ◌++◌, map, length, IfOk, OnOk, IfErr};
+ghost use Rattle.pb_packed.specs.Sizes.{most_atoms};
 ghost use Rattle.pb_ground.specs.Atoms.{ground_atoms, atoms_of, number_in, same_atom, atom_of};
 ghost use Rattle.pb_ground.specs.Errors.{TellsAtoms};
 ghost use Rattle.pb_ground.specs.Pruning.{AreFluent};
@@ -9,6 +10,7 @@ use crate::fitting::candidates;
 use crate::search::{choices_of, copy_of};
 use crate::statics::fluent_of;
 use pb_lifted::Lifted;
+use pb_packed::MOST_ATOMS;
 use pb_pddl::Listed;
 use std::alloc::{AllocError, Global};
 use std::collections::BTreeSet;
@@ -67,9 +69,6 @@ impl Atoms {
     }
 }
 
-/// How many ground atoms there may be: as many as a packed state has bits.
-const LIMIT: usize = 256;
-
 /// Adds the atoms of a predicate with each of these lists of objects.
 fn add_rows(
     alloc: Global,
@@ -110,16 +109,16 @@ fn add_atoms(
 
 /// The ground atoms of a lifted task: all instances of its fluent predicates by objects of fitting
 /// types. They are in the order of the declarations, and then of their lists of objects, the first
-/// object most significant. `TooManyAtoms`: there are more than 256; they are counted before any is
-/// built.
+/// object most significant. `TooManyAtoms`: there are more than a task may have; they are counted
+/// before any is built.
 pub fn ground_atoms(alloc: Global, lifted: &Lifted) -> Result<Atoms, GroundError>
-    ensures few { OnOk result (length (ground_atoms lifted.now) ≤ 256) }
+    ensures few { OnOk result (length (ground_atoms lifted.now) ≤ most_atoms) }
     ensures atoms { IfOk result (λ atoms. atoms ≡ ground_atoms lifted.now) }
     ensures refused { IfErr result (TellsAtoms lifted.now) }
 {
     let fluent = fluent_of(alloc, lifted.actions.as_slice())?;
     let n = count_atoms(&fluent, lifted);
-    if n > LIMIT as u64 {
+    if n > u64::from(MOST_ATOMS) {
         return Err(GroundError::TooManyAtoms { n });
     }
     let mut items = Listed::new(alloc);

@@ -6,7 +6,7 @@ use std::alloc::{AllocError, AllocFailed};
 /// Why a lifted task was not grounded.
 #[derive(Clone, Copy, Debug)]
 pub enum GroundError {
-    /// There are more than 256 ground atoms: n, or 4,294,967,295 if there are more than that.
+    /// There are more ground atoms than a task may have: n, or 4,294,967,295 if there are more than that.
     TooManyAtoms { n: u64 },
     /// There are more than 65,536 ground actions.
     TooManyActions,

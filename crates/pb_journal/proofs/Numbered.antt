@@ -5,7 +5,7 @@ use Rattle.std.proofs.lemmas.Option.{slice_get-get_or}
 use Rattle.pb_model.specs.Texts.{line, lines}
 use Rattle.pb_machine.specs.declared.event.Event.{Event}
 use Rattle.pb_machine.specs.declared.settings.Settings.{Settings}
-use Rattle.pb_print.specs.Saved.{PutsLine}
+use Rattle.pb_print.specs.Saved.{longest_line, PutsLine}
 use Rattle.pb_print.proofs.Callers.{lines-append, get_right, puts_left}
 use Rattle.pb_journal.specs.Texts.{header_lines, event_line, journal_text, lines_of}
 
@@ -25,7 +25,7 @@ lines_counted settings journal =
 
 pub setting_put : (old new : List ℕ) (settings : Settings) (at number : ℕ) (text : List ℕ)
     → at ≡ number → slice_get (header_lines settings) number ≡ Some text
-    → new ≡ old ++ line text → length new ≤ length old + 128
+    → new ≡ old ++ line text → length new ≤ length old + longest_line
     → PutsLine old new (header_lines settings) at
 setting_put old new settings at number text same there put short =
     (text, subst (λ n. slice_get (header_lines settings) n ≡ Some text) (sym same) there, put, short)
@@ -47,7 +47,7 @@ event_of (first ∷ journal) (suc at) event is = event_of journal at event is
 
 pub event_line_put : (old new : List ℕ) (settings : Settings) (journal : List Event) (at : ℕ)
     (event : Event) → 6 ≤ at → slice_get journal (at - 6) ≡ Some event
-    → new ≡ old ++ line (event_line event) → length new ≤ length old + 128
+    → new ≡ old ++ line (event_line event) → length new ≤ length old + longest_line
     → PutsLine old new (lines_of settings journal) at
 event_line_put old new settings journal at event past found put short = (
   event_line event,

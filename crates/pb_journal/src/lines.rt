@@ -2,7 +2,7 @@
 ghost use Rattle.std.specs.Prelude.{◌≡◌, ◌+◌, ◌<◌, ◌≤◌, ◌^◌, [], ◌++◌, map, length, codes};
 ghost use Rattle.std.specs.Fmt.{decimal};
 ghost use Rattle.pb_model.specs.Texts.{line, spaced};
-ghost use Rattle.pb_print.specs.Saved.{PutsLine};
+ghost use Rattle.pb_print.specs.Saved.{longest_line, PutsLine};
 ghost use Rattle.pb_journal.specs.Texts.{numbered, plain_line, report_word, header_lines, event_line, journal_text, lines_of};
 
 use pb_machine::{End, Event, Settings};
@@ -11,9 +11,9 @@ use pb_print::{NumberedLines, Piece};
 // Puts a line of a word and a number at the piece's end.
 fn put_numbered(word: &[u8], n: u64, out: &mut Piece)
     requires word { length word.now ≤ 8 }
-    requires room { length out.old + 128 ≤ 4096 }
+    requires room { length out.old + longest_line ≤ 4096 }
     ensures line { out.new ≡ out.old ++ line (numbered word.now n) }
-    ensures short { length out.new ≤ length out.old + 128 }
+    ensures short { length out.new ≤ length out.old + longest_line }
 {
     out.push(word);
     out.push(b" ");
@@ -23,9 +23,9 @@ fn put_numbered(word: &[u8], n: u64, out: &mut Piece)
 
 // Puts the line that says whether the search is plain at the piece's end.
 fn put_plain(plain: bool, out: &mut Piece)
-    requires room { length out.old + 128 ≤ 4096 }
+    requires room { length out.old + longest_line ≤ 4096 }
     ensures line { out.new ≡ out.old ++ line (plain_line plain) }
-    ensures short { length out.new ≤ length out.old + 128 }
+    ensures short { length out.new ≤ length out.old + longest_line }
 {
     let text: &[u8] = if plain { b"plain 1\n" } else { b"plain 0\n" };
     out.push(text);
@@ -34,7 +34,7 @@ fn put_plain(plain: bool, out: &mut Piece)
 // Puts the line of this number of the settings at the piece's end.
 fn put_setting(settings: &Settings, at: u128, out: &mut Piece)
     requires within { at < 6 }
-    requires room { length out.old + 128 ≤ 4096 }
+    requires room { length out.old + longest_line ≤ 4096 }
     ensures { PutsLine out.old out.new (header_lines settings.now) at }
 {
     match at {
@@ -50,7 +50,7 @@ fn put_setting(settings: &Settings, at: u128, out: &mut Piece)
 // Puts a word and the number of a worker at the piece's end, with a space after each.
 fn put_worker(word: &[u8], worker: u32, out: &mut Piece)
     requires word { length word.now ≤ 8 }
-    requires room { length out.old + 128 ≤ 4096 }
+    requires room { length out.old + longest_line ≤ 4096 }
     ensures text { out.new ≡ out.old ++ spaced (numbered word.now worker) [] }
     ensures short { length out.new ≤ length out.old + 32 }
 {
@@ -105,9 +105,9 @@ fn put_reported(n: u64, memory: bool, out: &mut Piece)
 
 // Puts the line of an event at the piece's end.
 fn put_event(event: &Event, out: &mut Piece)
-    requires room { length out.old + 128 ≤ 4096 }
+    requires room { length out.old + longest_line ≤ 4096 }
     ensures line { out.new ≡ out.old ++ line (event_line event.now) }
-    ensures short { length out.new ≤ length out.old + 128 }
+    ensures short { length out.new ≤ length out.old + longest_line }
 {
     match *event {
         Event::Lease {

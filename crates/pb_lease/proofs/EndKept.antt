@@ -42,15 +42,15 @@ module _ (of : Blocks) (settings : Settings) where
       go true is = refl
       go false is = λ i. record counts { trouble = is i }
 
-  pub reported_history : (memory : Bool) (counts : Counts) (journal : List Event) → counts.trouble ≡ (memory && is_none counts.end) → IsHistory of settings 0 journal counts
-      → IsHistory of settings 0 (journal ++ ending memory counts.end) (ended_counts memory counts)
-  reported_history memory counts journal report history = go (memory && is_none counts.end) refl report
+  pub reported_history : {before : ℕ} (memory : Bool) (counts : Counts) (journal : List Event) → counts.trouble ≡ (memory && is_none counts.end) → IsHistory of settings before journal counts
+      → IsHistory of settings before (journal ++ ending memory counts.end) (ended_counts memory counts)
+  reported_history {before} memory counts journal report history = go (memory && is_none counts.end) refl report
     where
-      go : (r : Bool) → (memory && is_none counts.end) ≡ r → counts.trouble ≡ r → IsHistory of settings 0 (journal ++ cond r (Ended Memory ∷ []) []) (record counts { end = cond r (Some Memory) counts.end; trouble = false })
+      go : (r : Bool) → (memory && is_none counts.end) ≡ r → counts.trouble ≡ r → IsHistory of settings before (journal ++ cond r (Ended Memory ∷ []) []) (record counts { end = cond r (Some Memory) counts.end; trouble = false })
       go true e is = history_with of settings journal (journal ++ Ended Memory ∷ []) counts (record counts { end = Some Memory; trouble = false }) (Ended Memory) history
           ((ends_are_legal of settings counts (none_end counts.end (and_true memory (is_none counts.end) e).1)).2 is) refl refl
-      go false e is = subst (λ (j : List Event). IsHistory of settings 0 j (record counts { trouble = false })) (sym (append-nil journal))
-          (subst (IsHistory of settings 0 journal) (λ i. record counts { trouble = is i }) history)
+      go false e is = subst (λ (j : List Event). IsHistory of settings before j (record counts { trouble = false })) (sym (append-nil journal))
+          (subst (IsHistory of settings before journal) (λ i. record counts { trouble = is i }) history)
 
 module _ (t : Table) (busy near : List ℕ) (promised spare : ℕ) (k : IsKept t busy near promised spare) where
   -- ---- an end that the caller knows
@@ -96,6 +96,7 @@ module _ (t : Table) (busy near : List ℕ) (promised spare : ℕ) (k : IsKept t
       journal = is ∙ append_assoc t.journal (Off worker memory ∷ []) (ending memory t.end);
       graph = refl;
       settings = refl;
+      past = refl;
     }
 
     pub off_kept : (ended room : ℕ) → ended ≡ one_if (memory && is_none t.end) → worker < t.settings.workers → (counts_of t).leases worker ≡ None → (counts_of t).signed_off worker ≡ false
@@ -124,8 +125,8 @@ module _ (t : Table) (busy near : List ℕ) (promised spare : ℕ) (k : IsKept t
             counted = λ c lt. k.busy_is.counted c lt ∙ sym (ap (λ (n : Counts). busy_count (blocks t) t.settings.workers n.leases c) off_counts);
           };
           marks = k.marks;
-          history = subst (λ (j : List Event). IsHistory (blocks t) t.settings 0 j (counts_of off_table)) (sym is)
-              (subst (IsHistory (blocks t) t.settings 0 ((t.journal ++ Off worker memory ∷ []) ++ ending memory t.end)) (sym off_counts) both);
+          history = subst (λ (j : List Event). IsHistory (blocks t) t.settings t.past.spent j (counts_of off_table)) (sym is)
+              (subst (IsHistory (blocks t) t.settings t.past.spent ((t.journal ++ Off worker memory ∷ []) ++ ending memory t.end)) (sym off_counts) both);
           within = left.0;
           left = left.1;
           promised_is = omega (arith, now_due);

@@ -51,7 +51,7 @@ module _ (g : GraphValue) (k : IsLeaseGraph g) where
   }
 
   pub lawful_in : AreLawful (blocks g.table) g.table.settings (counts_in g)
-  lawful_in = histories_are_lawful (blocks g.table) g.table.settings 0 g.table.journal (counts_in g) k.legal
+  lawful_in = histories_are_lawful (blocks g.table) g.table.settings g.table.past.spent g.table.journal (counts_in g) k.legal
 
   pub no_key_above : (block : ℕ) → (blocks g.table).count ≤ block → key_at g.homes block ≡ None
   no_key_above block le = get_or_past g.homes.keys block None (omega (arith, le, k.key_places))

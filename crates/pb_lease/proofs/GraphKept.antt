@@ -18,6 +18,7 @@ use Rattle.pb_bundles.specs.Homes.{HomeTable, content_at}
 use Rattle.pb_bundles.specs.Parts.{content_in}
 use Rattle.pb_bundles.specs.Moves.{vacated, IsVacant}
 use Rattle.pb_bundles.proofs.Callers.{vacated_length}
+use Rattle.pb_lease.specs.declared.past.Past.{Past}
 use Rattle.pb_lease.specs.Tables.{Table, blocks, counts_of}
 use Rattle.pb_lease.specs.Events.{Adds, counts_along, ending}
 use Rattle.pb_lease.specs.LeaseValue.{LeaseValue}
@@ -30,30 +31,31 @@ use Rattle.pb_lease.proofs.Away.{away, away_at, more_away, same_away, brought_ho
 
 -- ---- the journal
 
-pub moved_history : (old new : Table) (events : List Event) → Adds old new events → IsHistory (blocks old) old.settings 0 (old.journal ++ events) (counts_along (blocks old) old.settings (counts_of old) events)
-    → IsHistory (blocks new) new.settings 0 new.journal (counts_of new)
+pub moved_history : (old new : Table) (events : List Event) → Adds old new events → IsHistory (blocks old) old.settings old.past.spent (old.journal ++ events) (counts_along (blocks old) old.settings (counts_of old) events)
+    → IsHistory (blocks new) new.settings new.past.spent new.journal (counts_of new)
 moved_history old new events adds history =
-    subst (λ (g : AbstractGraph). IsHistory (blocks_of g) new.settings 0 new.journal (counts_of new)) (sym adds.graph)
-    (subst (λ (s : Settings). IsHistory (blocks old) s 0 new.journal (counts_of new)) (sym adds.settings)
-    (subst (λ (j : List Event). IsHistory (blocks old) old.settings 0 j (counts_of new)) (sym adds.journal)
-    (subst (λ (c : Counts). IsHistory (blocks old) old.settings 0 (old.journal ++ events) c) (sym adds.counts) history)))
+    subst (λ (g : AbstractGraph). IsHistory (blocks_of g) new.settings new.past.spent new.journal (counts_of new)) (sym adds.graph)
+    (subst (λ (s : Settings). IsHistory (blocks old) s new.past.spent new.journal (counts_of new)) (sym adds.settings)
+    (subst (λ (p : Past). IsHistory (blocks old) old.settings p.spent new.journal (counts_of new)) (sym adds.past)
+    (subst (λ (j : List Event). IsHistory (blocks old) old.settings old.past.spent j (counts_of new)) (sym adds.journal)
+    (subst (λ (c : Counts). IsHistory (blocks old) old.settings old.past.spent (old.journal ++ events) c) (sym adds.counts) history))))
 
-pub one_more : (old new : Table) (event : Event) → Adds old new (event ∷ []) → IsHistory (blocks old) old.settings 0 old.journal (counts_of old) → refusal (blocks old) old.settings (counts_of old) event ≡ None
-    → IsHistory (blocks new) new.settings 0 new.journal (counts_of new)
-one_more old new event adds history may = moved_history old new (event ∷ []) adds (histories_grow (blocks old) old.settings 0 old.journal event (counts_of old) history may)
+pub one_more : (old new : Table) (event : Event) → Adds old new (event ∷ []) → IsHistory (blocks old) old.settings old.past.spent old.journal (counts_of old) → refusal (blocks old) old.settings (counts_of old) event ≡ None
+    → IsHistory (blocks new) new.settings new.past.spent new.journal (counts_of new)
+one_more old new event adds history may = moved_history old new (event ∷ []) adds (histories_grow (blocks old) old.settings old.past.spent old.journal event (counts_of old) history may)
 
 -- an event, and the end that follows from want of memory, where one does
 pub with_ending : (old new : Table) (event : Event) (memory : Bool) → Adds old new (event ∷ ending memory (counts_after (blocks old) old.settings (counts_of old) event).end)
-    → IsHistory (blocks old) old.settings 0 old.journal (counts_of old) → refusal (blocks old) old.settings (counts_of old) event ≡ None
+    → IsHistory (blocks old) old.settings old.past.spent old.journal (counts_of old) → refusal (blocks old) old.settings (counts_of old) event ≡ None
     → (counts_after (blocks old) old.settings (counts_of old) event).trouble ≡ (memory && is_none (counts_after (blocks old) old.settings (counts_of old) event).end)
-    → IsHistory (blocks new) new.settings 0 new.journal (counts_of new)
+    → IsHistory (blocks new) new.settings new.past.spent new.journal (counts_of new)
 with_ending old new event memory adds history may report =
     let after = counts_after (blocks old) old.settings (counts_of old) event in
-    let first = histories_grow (blocks old) old.settings 0 old.journal event (counts_of old) history may in
+    let first = histories_grow (blocks old) old.settings old.past.spent old.journal event (counts_of old) history may in
     let both = reported_history (blocks old) old.settings memory after (old.journal ++ event ∷ []) report first in
     moved_history old new (event ∷ ending memory after.end) adds
-    (subst (λ (j : List Event). IsHistory (blocks old) old.settings 0 j (counts_along (blocks old) old.settings after (ending memory after.end))) (append_assoc old.journal (event ∷ []) (ending memory after.end))
-    (subst (IsHistory (blocks old) old.settings 0 ((old.journal ++ event ∷ []) ++ ending memory after.end)) (sym (reported_counts (blocks old) old.settings memory after report)) both))
+    (subst (λ (j : List Event). IsHistory (blocks old) old.settings old.past.spent j (counts_along (blocks old) old.settings after (ending memory after.end))) (append_assoc old.journal (event ∷ []) (ending memory after.end))
+    (subst (IsHistory (blocks old) old.settings old.past.spent ((old.journal ++ event ∷ []) ++ ending memory after.end)) (sym (reported_counts (blocks old) old.settings memory after report)) both))
 
 -- whether blocks are away, by the leases that are left
 pub away_in : (old new : GraphValue) (events : List Event) (leases : ℕ → Option Grant) → Adds old.table new.table events → (counts_along (blocks old.table) old.table.settings (counts_in old) events).leases ≡ leases → (block : ℕ)
@@ -71,7 +73,7 @@ module _ (old : GraphValue) (k : IsLeaseGraph old) (table : Table) (homes : Home
   count_same = ap (λ (g : AbstractGraph). (blocks_of g).count) adds.graph
 
   -- what the graph keeps, by what is at home and by the weights
-  pub graph_kept : IsHistory (blocks table) table.settings 0 table.journal (counts_of table) → length homes.bundles ≡ length old.homes.bundles → length homes.keys ≡ length old.homes.keys
+  pub graph_kept : IsHistory (blocks table) table.settings table.past.spent table.journal (counts_of table) → length homes.bundles ≡ length old.homes.bundles → length homes.keys ≡ length old.homes.keys
       → ((block : ℕ) → block < (blocks old.table).count → is_some (content_at homes block) ≡ not (away (blocks table) table.settings.workers (counts_of table).leases block))
       → ((block : ℕ) (content : Content) → content_at homes block ≡ Some content → content.weight ≡ weight_of old.table.settings) → IsLeaseGraph New
   graph_kept legal places keys home weights = record {
@@ -86,7 +88,7 @@ module _ (old : GraphValue) (k : IsLeaseGraph old) (table : Table) (homes : Home
   }
 
   -- where no bundle moves and the scopes that are out stay
-  pub numbers_kept : IsHistory (blocks table) table.settings 0 table.journal (counts_of table) → homes.bundles ≡ old.homes.bundles → length homes.keys ≡ length old.homes.keys
+  pub numbers_kept : IsHistory (blocks table) table.settings table.past.spent table.journal (counts_of table) → homes.bundles ≡ old.homes.bundles → length homes.keys ≡ length old.homes.keys
       → ((block : ℕ) → away (blocks table) table.settings.workers (counts_of table).leases block ≡ away (blocks old.table) old.table.settings.workers (counts_in old).leases block)
       → IsLeaseGraph New
   numbers_kept legal same keys scopes = graph_kept legal (ap length same) keys

@@ -1,7 +1,7 @@
 -- A graph of a search that begins.
 use Rattle.std.proofs.Common.{◌≡◌, ℕ, ◌<◌, true, false, not, is_some, List, [], Option, Some, None, refl, sym, ap, ◌∙◌, arith, subst, length, get_or, replicate, slice_set, length-set, cond}
 use Rattle.std.proofs.lemmas.List.{get_or-replicate}
-use Rattle.std.proofs.lemmas.Option.{same_Some}
+use Rattle.std.proofs.lemmas.Option.{none-some, same_Some}
 use Rattle.std.proofs.Math.ListN.{length-replicate}
 use Rattle.pb_model.specs.declared.key.Key.{Key}
 use Rattle.pb_model.specs.declared.row.Estimate.{Estimate}
@@ -26,12 +26,15 @@ use Rattle.pb_bundles.specs.Moves.{NotesKey}
 use Rattle.pb_bundles.specs.Stores.{HasKeys}
 use Rattle.pb_bundles.proofs.Callers.{some_within, set_at, opening_rows_are_home, keys_at_home_are_best}
 use Rattle.pb_model.proofs.Callers.{equal_self}
-use Rattle.pb_lease.specs.Tables.{Table, blocks, counts_of}
+use Rattle.pb_lease.specs.declared.past.Past.{Past}
+use Rattle.pb_lease.specs.Tables.{Table, no_past, blocks, counts_of}
 use Rattle.pb_lease.specs.Leased.{guide_of}
 use Rattle.pb_lease.specs.GraphValue.{GraphValue, setup_in, IsLeaseGraph}
 use Rattle.pb_lease.specs.Moments.{IsMomentAt, IsMoment}
+use Rattle.pb_lease.specs.Begins.{begin_machine, IsBegin}
 use Rattle.pb_lease.proofs.Away.{none_away}
 use Rattle.pb_lease.proofs.GraphBasics.{setup_is}
+use Rattle.pb_lease.proofs.Beginnings.{same_is, lawful_moments_begin}
 
 -- what the parts of such a graph are
 pub record IsOpening (task : TaskParts) (choice : Choice) (table : Table) (homes : HomeTable) : Type 0 where
@@ -39,6 +42,7 @@ pub record IsOpening (task : TaskParts) (choice : Choice) (table : Table) (homes
   pub suits : suits task choice ≡ true
   pub graph_of : IsGraphOf task table.graph
   pub range : AreInRange table.settings
+  pub past : table.past ≡ no_past
   pub counts : counts_of table ≡ opening_counts table.settings 0
   pub journal : table.journal ≡ []
   pub there : home_of task table.graph (space_of task).start < (blocks table).count
@@ -48,7 +52,7 @@ pub record IsOpening (task : TaskParts) (choice : Choice) (table : Table) (homes
   pub noted : AreNoted homes
 
 module _ (task : TaskParts) (is_task : IsTask task) (choice : Choice) (suited : suits task choice ≡ true) (graph : AbstractGraph) (graph_of : IsGraphOf task graph) (settings : Settings) (range : AreInRange settings) (table : Table) (same_graph : table.graph ≡ graph)
-    (same_settings : table.settings ≡ settings) (counts : counts_of table ≡ opening_counts settings 0) (journal : table.journal ≡ []) (start : ℕ) (start_is : start ≡ (space_of task).start)
+    (same_settings : table.settings ≡ settings) (past : table.past ≡ no_past) (counts : counts_of table ≡ opening_counts settings 0) (journal : table.journal ≡ []) (start : ℕ) (start_is : start ≡ (space_of task).start)
     (block : ℕ) (block_is : block ≡ home_of task graph start) (below : block < (blocks_of graph).count) (count : ℕ) (count_is : count ≡ (blocks_of graph).count)
     (estimate : Estimate) (estimate_is : estimate ≡ estimate_by task choice (space_of task).start) (first homes : HomeTable) (first_is : first ≡ empty_homes count (weight_of settings))
     (put : (content : Content) → content_at first block ≡ Some content → homes.bundles ≡ slice_set first.bundles block (Some (with_start content start estimate)))
@@ -87,6 +91,7 @@ module _ (task : TaskParts) (is_task : IsTask task) (choice : Choice) (suited : 
     suits = suited;
     graph_of = subst (IsGraphOf task) (sym same_graph) graph_of;
     range = subst AreInRange (sym same_settings) range;
+    past = past;
     counts = counts ∙ ap (λ (s : Settings). opening_counts s 0) (sym same_settings);
     journal = journal;
     there = subst (λ n. n < (blocks table).count) home_is (subst (λ (g : AbstractGraph). block < (blocks_of g).count) (sym same_graph) below);
@@ -122,9 +127,10 @@ module _ (task : TaskParts) (choice : Choice) (table : Table) (homes : HomeTable
   none_out : is_any_out table.settings.workers (counts_of table).leases ≡ false
   none_out = ap (λ (c : Counts). is_any_out table.settings.workers c.leases) o.counts ∙ any_false table.settings.workers (λ worker. false) (λ worker. refl)
 
-  legal : IsHistory (blocks table) table.settings 0 table.journal (counts_of table)
-  legal = subst (λ (j : List Event). IsHistory (blocks table) table.settings 0 j (counts_of table)) (sym o.journal)
-      (subst (IsHistory (blocks table) table.settings 0 []) (sym o.counts) (record { range = o.range; enough = omega arith; replays = refl }))
+  legal : IsHistory (blocks table) table.settings table.past.spent table.journal (counts_of table)
+  legal = subst (λ (p : Past). IsHistory (blocks table) table.settings p.spent table.journal (counts_of table)) (sym o.past)
+      (subst (λ (j : List Event). IsHistory (blocks table) table.settings 0 j (counts_of table)) (sym o.journal)
+      (subst (IsHistory (blocks table) table.settings 0 []) (sym o.counts) (record { range = o.range; enough = omega arith; replays = refl })))
 
   pub opening_kept : IsLeaseGraph New
   opening_kept = record {
@@ -142,7 +148,7 @@ module _ (task : TaskParts) (choice : Choice) (table : Table) (homes : HomeTable
   }
 
   lawful : IsLawful (setup_in New) (opening_machine (setup_in New))
-  lawful = opening_is_lawful (setup_in New) greatest_cost (setup_is New opening_kept) refl
+  lawful = opening_is_lawful (setup_in New) greatest_cost (setup_is New opening_kept) (ap (λ (p : Past). p.reopenings) o.past)
 
   opening_at : (recorded : (worker : ℕ) → Rows) → IsMomentAt New recorded (opening_machine (setup_in New))
   opening_at recorded = record {
@@ -157,3 +163,7 @@ module _ (task : TaskParts) (choice : Choice) (table : Table) (homes : HomeTable
 
   pub opening_moment : (recorded : (worker : ℕ) → Rows) → IsMoment New recorded (opening_machine (setup_in New))
   opening_moment recorded = record { at = opening_at recorded; incumbent = refl; untold = λ worker. refl }
+
+  pub opening_begins : (opening_machine (setup_in New) ≡ begin_machine New) × IsBegin New
+  opening_begins = lawful_moments_begin New (λ worker home state. None) (opening_machine (setup_in New)) opening_kept o.journal (opening_moment (λ worker home state. None))
+      (λ worker other is. same_is other None is) (λ cost is. absurd (none-some cost is))

@@ -33,3 +33,4 @@ mod Fewer
 mod Changed
 mod AfterWork
 mod AtHome
+mod Beginnings

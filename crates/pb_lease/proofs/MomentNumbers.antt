@@ -51,7 +51,7 @@ module _ (old : GraphValue) (k : IsLeaseGraph old) (events : List Event) (new : 
   )
     where
       setup : setup_in new ≡ setup_in old
-      setup = same_setup old new (ap (λ (g : GraphValue). g.task) rest) (ap (λ (g : GraphValue). g.choice) rest) adds.graph adds.settings
+      setup = same_setup old new (ap (λ (g : GraphValue). g.task) rest) (ap (λ (g : GraphValue). g.choice) rest) adds.graph adds.settings adds.past
 
 -- ---- one event that may come
 

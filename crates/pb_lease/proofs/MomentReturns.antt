@@ -126,7 +126,7 @@ module _ (old : GraphValue) (k : IsLeaseGraph old) (lease : LeaseValue) (of : Is
 
     module _ (new : GraphValue) (r : IsReleased old lease trouble new) where
       setup : setup_in new ≡ setup_in old
-      setup = same_setup old new r.task r.choice r.events.graph r.events.settings
+      setup = same_setup old new r.task r.choice r.events.graph r.events.settings r.events.past
 
       module _ (recorded : (worker : ℕ) → Rows) (machine : Machine) (m : IsMomentAt old recorded machine) (out : IsOut (setup_in old) machine (one_if trouble) lease) (shows : ShowsTold old machine lease) where
         abbrev Home : Bool → Machine
@@ -201,7 +201,7 @@ module _ (old : GraphValue) (k : IsLeaseGraph old) (lease : LeaseValue) (of : Is
 
     module _ (new : GraphValue) (n : IsRenewed old lease Kept new) where
       setup_too : setup_in new ≡ setup_in old
-      setup_too = same_setup old new n.task n.choice n.events.graph n.events.settings
+      setup_too = same_setup old new n.task n.choice n.events.graph n.events.settings n.events.past
 
       module _ (recorded : (worker : ℕ) → Rows) (machine : Machine) (m : IsMomentAt old recorded machine) (out : IsOut (setup_in old) machine 0 lease) (shows : ShowsTold old machine lease) (known : IsKnownThen machine lease new.incumbent) where
         abbrev Next : Machine

@@ -87,11 +87,11 @@ module _ (of : Blocks) (settings : Settings) where
 
   -- ---- histories
 
-  pub history_with : (journal after : List Event) (counts next : Counts) (event : Event) → IsHistory of settings 0 journal counts → refusal of settings counts event ≡ None
-      → next ≡ counts_after of settings counts event → after ≡ journal ++ event ∷ [] → IsHistory of settings 0 after next
-  history_with journal after counts next event history may comes is =
-      let grown = histories_grow of settings 0 journal event counts history may in
-      subst (λ (j : List Event). IsHistory of settings 0 j next) (sym is) (subst (IsHistory of settings 0 (journal ++ event ∷ [])) (sym comes) grown)
+  pub history_with : {before : ℕ} (journal after : List Event) (counts next : Counts) (event : Event) → IsHistory of settings before journal counts → refusal of settings counts event ≡ None
+      → next ≡ counts_after of settings counts event → after ≡ journal ++ event ∷ [] → IsHistory of settings before after next
+  history_with {before} journal after counts next event history may comes is =
+      let grown = histories_grow of settings before journal event counts history may in
+      subst (λ (j : List Event). IsHistory of settings before j next) (sym is) (subst (IsHistory of settings before (journal ++ event ∷ [])) (sym comes) grown)
 
 -- the same from tables that are those
 pub adds_as : (table old new : Table) (events : Table → List Event) → table ≡ old → Adds table new (events table) → Adds old new (events old)

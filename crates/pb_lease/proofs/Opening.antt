@@ -12,14 +12,14 @@ use Rattle.pb_machine.specs.Room.{room_after, KeepsWithinRoom}
 use Rattle.pb_machine.proofs.Callers.{any_false, defaults, counts_same, counters_begin_at_none}
 use Rattle.pb_abstract.specs.Graph.{AbstractGraph, IsGraph, blocks_of}
 use Rattle.pb_lease.specs.declared.seat.Seat.{Seat}
-use Rattle.pb_lease.specs.Tables.{Table, vacant, seat_of, counts_of}
+use Rattle.pb_lease.specs.Tables.{Table, no_past, vacant, seat_of, counts_of}
 use Rattle.pb_lease.specs.Kept.{IsKept, due_of}
 
 module _ (graph : AbstractGraph) (settings : Settings) (seats : List Seat) (hot : List Bool) (busy near : List ℕ) (journal : List Event)
     (range : AreInRange settings) (lawful : IsGraph graph) (seats_is : seats ≡ replicate settings.workers vacant) (hot_is : hot ≡ replicate (blocks_of graph).count false)
     (busy_is : busy ≡ replicate (blocks_of graph).count 0) (near_is : near ≡ replicate (blocks_of graph).count 0) (journal_is : journal ≡ []) where
   abbrev opening_table : Table
-  opening_table = record { graph = graph; settings = settings; seats = seats; hot = hot; spent = 0; left = settings.budget; end = None; journal = journal }
+  opening_table = record { graph = graph; settings = settings; past = no_past; seats = seats; hot = hot; spent = 0; left = settings.budget; end = None; journal = journal }
 
   seat_at : (k : ℕ) → seat_of seats k ≡ vacant
   seat_at k = ap (λ (s : List Seat). seat_of s k) seats_is ∙ defaults settings.workers k vacant

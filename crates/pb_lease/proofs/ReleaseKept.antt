@@ -91,6 +91,7 @@ module _ (t : Table) (busy near : List ℕ) (promised spare : ℕ) (k : IsKept t
           journal = is ∙ append_assoc t.journal (Release worker used memory ∷ []) (ending memory t.end);
           graph = refl;
           settings = refl;
+          past = refl;
         }
 
         pub release_room : rooms home_table ≡ with_entry (rooms t) worker 0
@@ -120,8 +121,8 @@ module _ (t : Table) (busy near : List ℕ) (promised spare : ℕ) (k : IsKept t
                 counted = λ c lt. home_busy.counted c lt ∙ sym (ap (λ (n : Counts). busy_count (blocks t) t.settings.workers n.leases c) home_is);
               };
               marks = marks;
-              history = subst (λ (j : List Event). IsHistory (blocks t) t.settings 0 j (counts_of home_table)) (sym is)
-                  (subst (IsHistory (blocks t) t.settings 0 ((t.journal ++ Release worker used memory ∷ []) ++ ending memory t.end)) (sym home_is) both);
+              history = subst (λ (j : List Event). IsHistory (blocks t) t.settings t.past.spent j (counts_of home_table)) (sym is)
+                  (subst (IsHistory (blocks t) t.settings t.past.spent ((t.journal ++ Release worker used memory ∷ []) ++ ending memory t.end)) (sym home_is) both);
               within = left.0;
               left = left.1;
               promised_is = omega (arith, now_due);

@@ -21,6 +21,7 @@ pub record Adds (old new : Table) (events : List Event) : Type 0 where
   pub journal : new.journal ≡ old.journal ++ events
   pub graph : new.graph ≡ old.graph
   pub settings : new.settings ≡ old.settings
+  pub past : new.past ≡ old.past
 
 -- the end that follows from an out-of-memory report, if the search has not ended
 abbrev pub ending : (memory : Bool) → Option End → List Event

@@ -24,10 +24,10 @@ pub record GraphValue : Type 0 where
   pub homes : HomeTable  -- the bundles at home and the keys that were noted
   pub incumbent : Option ℕ
 
--- what the graph's search is: its task, by its blocks, with its estimate and its settings, and never
--- opened again
+-- what the graph's search is: its task, by its blocks, with its estimate and its settings, opened
+-- again as often as the graph was
 abbrev pub setup_in : GraphValue → Setup
-setup_in g = setup_of g.task g.table.graph g.choice g.table.settings 0
+setup_in g = setup_of g.task g.table.graph g.choice g.table.settings g.table.past.reopenings
 
 -- who has which lease, what is left, which blocks are hot, and who has signed off
 abbrev pub counts_in : GraphValue → Counts
@@ -40,7 +40,8 @@ pub record IsLeaseGraph (g : GraphValue) : Type 0 where
   pub is_task : IsTask g.task
   pub suits : suits g.task g.choice ≡ true
   pub graph_of : IsGraphOf g.task g.table.graph
-  pub legal : IsHistory (blocks g.table) g.table.settings 0 g.table.journal (counts_in g)
+  pub legal : IsHistory (blocks g.table) g.table.settings g.table.past.spent g.table.journal
+      (counts_in g)
   pub places : length g.homes.bundles ≡ (blocks g.table).count
   pub key_places : length g.homes.keys ≡ (blocks g.table).count
   pub home : (block : ℕ) → block < (blocks g.table).count

@@ -49,7 +49,8 @@ pub record IsKept (table : Table) (busy near : List ℕ) (promised spare : ℕ) 
   pub own : (block : ℕ) → block < (blocks table).count → IsTrue ((blocks table).scope block block)
   pub busy_is : AreBusy (blocks table) table.settings.workers (counts_of table).leases busy
   pub marks : AreMarks (blocks table) table.hot near
-  pub history : IsHistory (blocks table) table.settings 0 table.journal (counts_of table)
+  pub history : IsHistory (blocks table) table.settings table.past.spent table.journal
+      (counts_of table)
   pub within : KeepsWithinRoom table.journal
   pub left : HasRoomLeft table
   pub promised_is : promised ≡ due table.seats table.end

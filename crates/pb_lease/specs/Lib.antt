@@ -29,6 +29,7 @@ pub mod Lending
 pub mod Leased
 pub mod GraphValue
 pub mod Moments
+pub mod Begins
 pub mod Choices
 pub mod Steps
 pub mod Rows

@@ -6,18 +6,24 @@ use Rattle.pb_machine.specs.declared.settings.Settings.{Settings}
 use Rattle.pb_machine.specs.Blocks.{Blocks}
 use Rattle.pb_machine.specs.Counts.{Counts}
 use Rattle.pb_abstract.specs.Graph.{AbstractGraph, blocks_of}
+use Rattle.pb_lease.specs.declared.past.Past.{Past}
 use Rattle.pb_lease.specs.declared.seat.Seat.{Seat}
 
 -- what a caller sees of the tables
 pub record Table : Type 0 where
   pub graph : AbstractGraph
   pub settings : Settings
+  pub past : Past  -- what earlier runs on the same rows did
   pub seats : List Seat  -- by worker
   pub hot : List Bool  -- by block
   pub spent : ℕ
   pub left : ℕ
   pub end : Option End
   pub journal : List Event
+
+-- what a first run has behind it
+abbrev pub no_past : Past
+no_past = record { reopenings = 0; spent = 0 }
 
 -- what a worker has that hasn't had a lease yet
 abbrev pub vacant : Seat

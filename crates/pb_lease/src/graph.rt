@@ -13,10 +13,11 @@ ghost use Rattle.pb_abstract.specs.Graph.{IsGraphOf};
 ghost use Rattle.pb_lists.specs.Bundle.{row_of};
 ghost use Rattle.pb_bundles.specs.Homes.{content_at, home_rows};
 ghost use Rattle.pb_machine.specs.Room.{KeepsWithinRoom};
-ghost use Rattle.pb_lease.specs.Tables.{blocks, rooms};
+ghost use Rattle.pb_lease.specs.Tables.{no_past, blocks, rooms};
 ghost use Rattle.pb_lease.specs.GraphValue.{setup_in, counts_in, IsLeaseGraph};
 ghost use Rattle.pb_lease.specs.Choices.{is_out_in};
 ghost use Rattle.pb_lease.specs.Moments.{IsMomentAt, IsMoment};
+ghost use Rattle.pb_lease.specs.Begins.{begin_machine, IsBegin};
 
 use crate::tables::MachineTables;
 use pb_abstract::AbsGraph;
@@ -72,7 +73,7 @@ impl Model for LeaseGraph {
 }
 
 impl LeaseGraph {
-    /// The graph of a search that begins. The start alone has a row, which is Opened. Nothing is
+    /// The graph of a search that begins for the first time. The start alone has a row, which is Opened. Nothing is
     /// leased, all of the budget is left, no cost is known, and the journal is empty. The call
     /// takes room for all blocks and workers, for every worker's signing off and for one end. The
     /// estimate is the start's, by the choice, which suits the task. An error means out of memory.
@@ -93,6 +94,7 @@ impl LeaseGraph {
         ensures choice { IfOk result (λ g. g.choice ≡ choice) }
         ensures graph { IfOk result (λ g. g.table.graph ≡ arc_value graph) }
         ensures settings { IfOk result (λ g. g.table.settings ≡ settings) }
+        ensures past { IfOk result (λ g. g.table.past ≡ no_past) }
         ensures counts { IfOk result (λ g. counts_in g ≡ opening_counts settings 0) }
         ensures journal { IfOk result (λ g. g.table.journal ≡ []) }
         ensures rooms { IfOk result (λ g. (worker : ℕ) → rooms g.table worker ≡ 0) }
@@ -103,6 +105,8 @@ impl LeaseGraph {
             state) }
         ensures moment { IfOk result (λ g. (recorded : (worker : ℕ) → Rows)
             → IsMoment g recorded (opening_machine (setup_in g))) }
+        ensures begin { IfOk result IsBegin }
+        ensures opening { IfOk result (λ g. begin_machine g ≡ opening_machine (setup_in g)) }
     {
         let start = task.initial();
         let block = graph.block(&task, &start);
@@ -124,8 +128,8 @@ impl LeaseGraph {
     /// The events so far: a legal history, which keeps within the room of its leases.
     pub fn journal(&self) -> &[Event]
         ensures events { result.now ≡ self.now.table.journal }
-        ensures legal { IsHistory (blocks self.now.table) self.now.table.settings 0
-            self.now.table.journal (counts_in self.now) }
+        ensures legal { IsHistory (blocks self.now.table) self.now.table.settings
+            self.now.table.past.spent self.now.table.journal (counts_in self.now) }
         ensures within { KeepsWithinRoom self.now.table.journal }
     {
         self.tables.journal()

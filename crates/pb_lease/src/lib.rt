@@ -4,6 +4,7 @@
 #![tactic(auto)]
 
 mod answer;
+mod begins;
 mod closing;
 mod counters;
 mod ending;
@@ -16,6 +17,7 @@ mod leasing;
 mod lowering;
 mod marking;
 mod marks;
+mod past;
 mod returning;
 mod seat;
 mod seats;
@@ -24,6 +26,7 @@ mod switching;
 mod tables;
 
 pub use answer::{LeaseReply, Renewed, SwitchReply};
+pub use begins::{lawful_moments_begin, reopened_graphs_begin};
 pub use graph::LeaseGraph;
 pub use laws::{
     events_leave_others, leases_stay_out, none_out_can_be_leased, none_out_is_moment,
@@ -31,6 +34,7 @@ pub use laws::{
 };
 pub use lease::Lease;
 pub use leasing::ROOM;
+pub use past::Past;
 pub use seat::Seat;
 pub use store::home_rows_are_whole;
 pub use tables::MachineTables;

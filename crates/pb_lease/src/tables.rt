@@ -6,9 +6,10 @@ ghost use Rattle.pb_machine.specs.Counts.{opening_counts};
 ghost use Rattle.pb_machine.specs.Counters.{busy_count, hot_count};
 ghost use Rattle.pb_machine.specs.History.{IsHistory};
 ghost use Rattle.pb_machine.specs.Room.{KeepsWithinRoom};
-ghost use Rattle.pb_lease.specs.Tables.{blocks, counts_of, seat_of, rooms};
+ghost use Rattle.pb_lease.specs.Tables.{no_past, blocks, counts_of, seat_of, rooms};
 
 use crate::marks::Marks;
+use crate::past::Past;
 use crate::seat::Seat;
 use pb_abstract::AbsGraph;
 use pb_machine::{End, Event, Settings};
@@ -23,6 +24,8 @@ use std::sync::Arc;
 pub struct MachineTables {
     pub(crate) graph: Arc<AbsGraph>,
     pub(crate) settings: Settings,
+    // what earlier runs on the same rows did
+    pub(crate) past: Past,
     pub(crate) seats: Vec<Seat>,
     pub(crate) marks: Marks,
     // how many leased blocks are in the interference of each block
@@ -46,6 +49,7 @@ impl Model for MachineTables {
     ghost view = { λ t. record {
       graph = arc_value t.graph;
       settings = t.settings;
+      past = t.past;
       seats = t.seats.items;
       hot = t.marks.hot.items;
       spent = t.spent;
@@ -57,6 +61,7 @@ impl Model for MachineTables {
     ghost invariant = { λ t. IsKept (record {
       graph = arc_value t.graph;
       settings = t.settings;
+      past = t.past;
       seats = t.seats.items;
       hot = t.marks.hot.items;
       spent = t.spent;
@@ -67,7 +72,7 @@ impl Model for MachineTables {
 }
 
 impl MachineTables {
-    /// Tables of a search that begins: nothing is leased, all of the budget is left, and the
+    /// Tables of a search that begins for the first time: nothing is leased, all of the budget is left, and the
     /// journal is empty. They have room for every worker's signing off and for one end. An error
     /// means out of memory.
     pub fn new(
@@ -80,6 +85,7 @@ impl MachineTables {
         ensures journal { IfOk result (λ t. t.journal ≡ []) }
         ensures graph { IfOk result (λ t. t.graph ≡ arc_value graph) }
         ensures settings { IfOk result (λ t. t.settings ≡ settings) }
+        ensures past { IfOk result (λ t. t.past ≡ no_past) }
         ensures rooms { IfOk result (λ t. (worker : ℕ) → rooms t worker ≡ 0) }
     {
         let blocks = graph.count() as usize;
@@ -88,6 +94,7 @@ impl MachineTables {
         Ok(MachineTables {
             graph,
             settings,
+            past: Past::NONE,
             seats: vec![in alloc; Seat::VACANT; workers]?,
             marks: Marks {
                 hot: vec![in alloc; false; blocks]?,
@@ -120,8 +127,8 @@ impl MachineTables {
     /// room of its leases.
     pub fn journal(&self) -> &[Event]
         ensures events { result.now ≡ self.now.journal }
-        ensures legal { IsHistory (blocks self.now) self.now.settings 0 self.now.journal
-            (counts_of self.now) }
+        ensures legal { IsHistory (blocks self.now) self.now.settings self.now.past.spent
+            self.now.journal (counts_of self.now) }
         ensures within { KeepsWithinRoom self.now.journal }
     {
         &self.journal
@@ -134,7 +141,7 @@ impl MachineTables {
         self.end
     }
 
-    /// How many expansions were settled.
+    /// How many expansions were settled, with those of earlier runs.
     pub fn spent(&self) -> u64
         ensures { result ≡ self.now.spent }
     {

@@ -1,5 +1,5 @@
 -- The buckets after a state was put into one, and after states left one.
-use Rattle.std.proofs.Common.{◌≡◌, ℕ, Bool, true, false, cond, Option, Some, None, List, [], ◌∷◌, ◌&&◌, ◌⊎◌, inl, inr, refl, sym, ap, ◌∙◌, subst, nat_eq, true≢false, IfSome, IfNone}
+use Rattle.std.proofs.Common.{◌≡◌, ℕ, Bool, true, false, cond, Option, Some, None, List, [], ◌∷◌, ◌&&◌, ◌⊎◌, inl, inr, refl, sym, ap, ◌∙◌, subst, nat_eq, true≢false, IfSome, IfNone, if◌then◌else◌}
 use Rattle.std.specs.Ordering.{is_eq, match_ordering}
 use Rattle.std.specs.declared.cmp.Ordering.{Ordering}
 use Rattle.std.specs.declared.cmp.Ordering.TheVariants.{Less, Equal, Greater}
@@ -12,13 +12,12 @@ use Rattle.pb_model.specs.declared.row.Status.TheVariants.{Opened}
 use Rattle.pb_model.specs.Weight.{Weight}
 use Rattle.pb_model.specs.KeyOrder.{key_cmp, same_key}
 use Rattle.pb_lists.specs.Bundle.{row_in}
-use Rattle.pb_lists.specs.Fields.{key_at, is_opened, is_open_at, sum_of, estimate_in, key_with}
-use Rattle.pb_lists.specs.Buckets.{Buckets, Entry, has_entry, has_in, has_at, has_state, top_of, first_key_of, is_of, is_on_top, IsOrdered, HasHeaps, HasFiled, is_led, is_tidy, IsTidy, KeepsEntries, KeepsLive}
+use Rattle.pb_lists.specs.Fields.{key_at, is_opened, opened_costs, has_key, is_open_at, sum_of, estimate_in, key_with}
+use Rattle.pb_lists.specs.Buckets.{Buckets, has_entry, has_in, has_at, has_state, top_of, first_key_of, is_of, is_on_top, HasFiled, is_led, is_tidy, IsTidy, KeepsEntries, KeepsLive}
 use Rattle.pb_lists.specs.declared.bucket.Bucket.{Bucket}
 use Rattle.pb_lists.proofs.Order.{key_self, key_found}
 use Rattle.pb_model.proofs.Callers.{equal, equal_self, equal_swap}
-use Rattle.pb_lists.proofs.Parts.{top_empty}
-use Rattle.std.specs.BinaryHeap.{heap_items}
+use Rattle.pb_lists.specs.Heaped.{Entry, IsTop}
 
 pub key_same : (key : Key) → same_key key key ≡ true
 key_same key = ap is_eq (key_self key)
@@ -27,6 +26,15 @@ key_same key = ap is_eq (key_self key)
 pub key_joins : (key : Key) → key_with (sum_of key) (estimate_in key) ≡ key
 key_joins (Sum sum h) = refl
 key_joins Dead = refl
+
+-- the costs of an Opened row have the row's key
+pub key_by_costs : (weight : Weight) (found : Option Row) (key : Key) → has_key weight (opened_costs found) key ≡ is_open_at weight found key
+key_by_costs weight None key = refl
+key_by_costs weight (Some row) key = which (is_opened row.status)
+  where
+    which : (b : Bool) → has_key weight (if b then Some (row.g, row.estimate) else None) key ≡ (b && same_key (key_at weight row) key)
+    which true = refl
+    which false = refl
 
 -- ---- a bucket that is written
 
@@ -46,13 +54,6 @@ module _ (old new : Buckets) (sum : Key) (bucket : Bucket) (set : (q : Key) → 
       which : (b : Bool) → same_key sum q ≡ b → has_at new q entry ≡ true
       which true same = ap (λ found. has_in found entry) (at_sum q same) ∙ more entry (subst (λ k. has_at old k entry ≡ true) (sym (key_found sum q same)) had)
       which false other = ap (λ found. has_in found entry) (at_other q other) ∙ had
-
-  pub set_heaps : IsOrdered bucket → HasHeaps old → HasHeaps new
-  set_heaps heap heaps q = which (same_key sum q) refl
-    where
-      which : (b : Bool) → same_key sum q ≡ b → IfSome (get key_cmp new q) IsOrdered
-      which true same = subst (λ found. IfSome found IsOrdered) (sym (at_sum q same)) heap
-      which false other = subst (λ found. IfSome found IsOrdered) (sym (at_other q other)) (heaps q)
 
   pub set_empty : ((entry : Entry) → has_entry bucket entry ≡ false) → (entry : Entry) → has_at new sum entry ≡ false
   set_empty none entry = ap (λ found. has_in found entry) (at_sum sum (key_same sum)) ∙ none entry
@@ -145,9 +146,9 @@ module _ (weight : Weight) (entries : List (ℕ × Row)) where
 
   -- the entry is alone in its bucket
   pub led_alone : (sum : Key) (bucket : Bucket) (entry : Entry) → is_open_at weight (row_in entries entry.1) (key_with sum entry.0) ≡ true
-      → (top_of bucket ≡ None) ⊎ (top_of bucket ≡ Some entry) → has_entry bucket entry ≡ true → is_led weight entries sum (top_of bucket) ≡ true
-  led_alone sum bucket entry live (inl e) member = absurd (true≢false (sym member ∙ top_empty (heap_items bucket.words) (heap_items bucket.wide) e entry))
-  led_alone sum bucket entry live (inr e) member = ap (λ top. is_led weight entries sum top) e ∙ live
+      → (top_of bucket ≡ None) ⊎ (top_of bucket ≡ Some entry) → has_entry bucket entry ≡ true → IsTop (has_entry bucket) (top_of bucket) → is_led weight entries sum (top_of bucket) ≡ true
+  led_alone sum bucket entry live (inl e) member top = let none : IsTop (has_entry bucket) None = subst (λ t. IsTop (has_entry bucket) t) e top in absurd (true≢false (sym member ∙ none.none entry))
+  led_alone sum bucket entry live (inr e) member top = ap (λ top. is_led weight entries sum top) e ∙ live
 
 -- ---- entries that leave a bucket
 
@@ -170,17 +171,6 @@ module _ (weight : Weight) (entries : List (ℕ × Row)) (sum : Key) where
 -- ---- the first bucket, which is empty, is taken out
 
 module _ (old new : Buckets) (sum : Key) where
-  pub pop_heaps : (popped : Option (Key × Bucket)) → IfSome popped (λ first. Updates key_cmp old new first.0 None) → IfNone popped (IsUnchanged old new) → HasHeaps old → HasHeaps new
-  pop_heaps None updates same heaps q = subst (λ list. IfSome (lookup (is_at (key_cmp q)) list) IsOrdered) (sym same) (heaps q)
-  pop_heaps (Some first) updates same heaps q = which (same_key first.0 q) refl
-    where
-      is : (b : Bool) → same_key first.0 q ≡ b → get key_cmp new q ≡ cond b None (get key_cmp old q)
-      is b e = updates.0 q ∙ ap (λ t. cond t None (get key_cmp old q)) e
-
-      which : (b : Bool) → same_key first.0 q ≡ b → IfSome (get key_cmp new q) IsOrdered
-      which true e = subst (λ found. IfSome found IsOrdered) (sym (is true e)) tt
-      which false e = subst (λ found. IfSome found IsOrdered) (sym (is false e)) (heaps q)
-
   pub pop_filed : (weight : Weight) (entries : List (ℕ × Row)) (popped : Option (Key × Bucket)) → first_key_of old.entries ≡ Some sum → ((entry : Entry) → has_at old sum entry ≡ false)
       → IfSome popped (λ first. old.entries ≡ first ∷ new.entries) → IfSome popped (λ first. Updates key_cmp old new first.0 None) → IfNone popped (IsUnchanged old new)
       → HasFiled weight entries old → HasFiled weight entries new

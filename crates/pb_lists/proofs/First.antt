@@ -13,12 +13,11 @@ use Rattle.pb_model.specs.Weight.{Weight}
 use Rattle.pb_model.proofs.Callers.{key_cases, by_cases, below, not_below}
 use Rattle.pb_lists.specs.Bundle.{row_in}
 use Rattle.pb_lists.specs.Fields.{key_at, is_opened, is_open_at, sum_of, estimate_in, key_with}
-use Rattle.pb_lists.specs.Buckets.{Buckets, Entry, IsNoLater, has_entry, has_in, has_at, top_of, IsOrdered, HasHeaps, HasFiled, is_led, is_tidy, IsTidy}
+use Rattle.pb_lists.specs.Buckets.{Buckets, has_entry, has_in, has_at, top_of, HasFiled, is_led, is_tidy, IsTidy}
+use Rattle.pb_lists.specs.Heaped.{Entry, IsNoLater, IsTop}
+use Rattle.std.specs.Option.{option_map}
 use Rattle.pb_lists.specs.declared.bucket.Bucket.{Bucket}
 use Rattle.pb_lists.proofs.Order.{key_found, key_above}
-
-pub heap_at : (buckets : Buckets) (sum : Key) (bucket : Bucket) → get key_cmp buckets sum ≡ Some bucket → HasHeaps buckets → IsOrdered bucket
-heap_at buckets sum bucket value heaps = subst (λ found. IfSome found IsOrdered) value (heaps sum)
 
 -- ---- the first bucket
 
@@ -93,6 +92,14 @@ module _ (weight : Weight) (entries : List (ℕ × Row)) (buckets : Buckets) (fi
   pub has_top : top_of bucket ≡ None → ⊥
   has_top none = true≢false (sym led ∙ ap (λ top. is_led weight entries sum top) none)
 
+  -- a bucket whose top has no estimate has no top
+  pub has_least : None ≡ option_map (λ (entry : Entry). entry.0) (top_of bucket) → ⊥
+  has_least none = which (top_of bucket) refl none
+    where
+      which : (top : Option Entry) → top_of bucket ≡ top → None ≡ option_map (λ (entry : Entry). entry.0) top → ⊥
+      which None e n = has_top e
+      which (Some top) e n = cc
+
   module _ (top : Entry) (is_top : Some top ≡ top_of bucket) (low : (other : Entry) → has_entry bucket other ≡ true → IsNoLater top other) where
     here : HasKey weight (row_in entries top.1) (key_with sum top.0)
     here = open_row_at weight (row_in entries top.1) (key_with sum top.0) (ap (λ found. is_led weight entries sum found) is_top ∙ led)
@@ -153,3 +160,11 @@ module _ (weight : Weight) (entries : List (ℕ × Row)) (buckets : Buckets) (fi
                 let le = at_key other row found opened same in
                 by_cases (nat_lt top.1 other) (λ t. inr (inr (here.3 ∙ same, below top.1 other t))) (λ f. let ge = not_below top.1 other f in inl (omega arith))
             which (inr (inr g)) = absurd (not_below_top other row found opened g)
+
+  -- the key of the least estimate
+  pub best_at : (h : ℕ) → Some h ≡ option_map (λ (entry : Entry). entry.0) (top_of bucket) → IsTop (has_entry bucket) (top_of bucket) → IsBest weight (row_in entries) (Some (key_with sum h))
+  best_at h is led_by = which (top_of bucket) refl is led_by
+    where
+      which : (top : Option Entry) → top ≡ top_of bucket → Some h ≡ option_map (λ (entry : Entry). entry.0) top → IsTop (has_entry bucket) top → IsBest weight (row_in entries) (Some (key_with sum h))
+      which None e f t = cc
+      which (Some top) e f t = let same : top.0 ≡ h = cc in subst (λ n. IsBest weight (row_in entries) (Some (key_with sum n))) same (best_of top e t.least)

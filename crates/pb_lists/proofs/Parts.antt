@@ -1,5 +1,5 @@
--- The entries of a bucket, in two parts, after one came or left.
-use Rattle.std.proofs.Common.{◌≡◌, ◌<◌, ◌≤◌, Bool, true, false, Option, Some, None, List, [], ◌∷◌, ◌||◌, ◌&&◌, ◌⊎◌, inl, inr, refl, sym, ap, ◌∙◌, subst, arith, nat_eq, true≢false, IfSome, IfNone, slice_index_or, if◌then◌else◌}
+-- Heaps of entries, and entries in two parts, after one came or left.
+use Rattle.std.proofs.Common.{◌≡◌, ◌<◌, ◌≤◌, Bool, true, false, Option, Some, None, List, [], ◌∷◌, ◌||◌, ◌&&◌, ◌⊎◌, inl, inr, refl, sym, ap, ◌∙◌, subst, arith, nat_eq, true≢false, IfSome, IfNone, Result, Ok, Err, OnOk, OnErr, slice_index_or, if◌then◌else◌}
 use Rattle.std.proofs.Math.Bool.{or-true, or_assoc, or_comm}
 use Rattle.std.proofs.lemmas.Bool.{or_cases, cases_order, cases_lt}
 use Rattle.std.proofs.lemmas.List.Sorted.{list_any-IsPermutation}
@@ -12,8 +12,7 @@ use Rattle.std.specs.Ordering.{nat_cmp, ordering_then, is_lt}
 use Rattle.std.specs.BinaryHeap.{heap_items, lt_by_cmp}
 use Rattle.std.specs.declared.cmp.Reverse.{Reverse}
 use Rattle.pb_model.proofs.Callers.{equal, equal_self}
-use Rattle.pb_lists.specs.declared.bucket.Bucket.{Bucket}
-use Rattle.pb_lists.specs.Buckets.{Entry, entry_cmp, later, IsNoLater, is_same, is_among, has_entry, first_of, is_wide_before, top_of}
+use Rattle.pb_lists.specs.Heaped.{Entry, entry_cmp, later, IsNoLater, is_same, is_among, first_of, is_second_first, top_of_two, IsTop}
 
 -- ---- entries
 
@@ -91,21 +90,21 @@ least_among item (other ∷ items) above entry among = which (is_same entry othe
     which true e m rest = subst (λ p. IsNoLater item.0 p) (sym (same_found entry other.0 e)) (not_before item.0 other.0 above.0)
     which false e m rest = rest m
 
--- ---- an entry that comes
+-- ---- what a call answered
 
-among_more : (entry : Entry) (item : Reverse Entry) (old new : List (Reverse Entry)) → IsPermutation (item ∷ old) new → is_among entry new ≡ (is_same entry item.0 || is_among entry old)
+pub ok_then : {T E P Q : Type 0} (result : Result T E) → (P → Q) → OnOk result P → OnOk result Q
+ok_then (Ok x) f p = f p
+ok_then (Err e) f p = tt
+
+pub err_then : {T E P Q : Type 0} (result : Result T E) → (P → Q) → OnErr result P → OnErr result Q
+err_then (Ok x) f p = tt
+err_then (Err e) f p = f p
+
+-- ---- one heap
+
+-- an entry comes into a heap
+pub among_more : (entry : Entry) (item : Reverse Entry) (old new : List (Reverse Entry)) → IsPermutation (item ∷ old) new → is_among entry new ≡ (is_same entry item.0 || is_among entry old)
 among_more entry item old new moved = sym (list_any-IsPermutation (λ other. is_same entry other.0) (item ∷ old) new moved)
-
-pub words_more : (item : Reverse Entry) (old new wide : List (Reverse Entry)) → IsPermutation (item ∷ old) new
-    → (entry : Entry) → (is_among entry new || is_among entry wide) ≡ (is_same entry item.0 || (is_among entry old || is_among entry wide))
-words_more item old new wide moved entry =
-    ap (λ b. b || is_among entry wide) (among_more entry item old new moved) ∙ or_assoc (is_same entry item.0) (is_among entry old) (is_among entry wide)
-
-pub wide_more : (item : Reverse Entry) (words old new : List (Reverse Entry)) → IsPermutation (item ∷ old) new
-    → (entry : Entry) → (is_among entry words || is_among entry new) ≡ (is_same entry item.0 || (is_among entry words || is_among entry old))
-wide_more item words old new moved entry =
-    ap (λ b. is_among entry words || b) (among_more entry item old new moved) ∙ (sym (or_assoc (is_among entry words) (is_same entry item.0) (is_among entry old))
-    ∙ (ap (λ b. b || is_among entry old) (or_comm (is_among entry words) (is_same entry item.0)) ∙ or_assoc (is_same entry item.0) (is_among entry words) (is_among entry old)))
 
 first_member : (items : List (Reverse Entry)) (entry : Entry) → first_of items ≡ Some entry → is_among entry items ≡ true
 first_member [] entry first = cc
@@ -113,69 +112,30 @@ first_member (item ∷ items) entry first =
     let is : item.0 ≡ entry = cc in
     ap (λ b. b || is_among entry items) (subst (λ e. is_same entry e ≡ true) (sym is) (same_self entry))
 
-pub top_member : (bucket : Bucket) (entry : Entry) → top_of bucket ≡ Some entry → has_entry bucket entry ≡ true
-top_member bucket entry top = which (is_wide_before (first_of (heap_items bucket.words)) (first_of (heap_items bucket.wide))) top
-  where
-    which : (b : Bool) → (if b then first_of (heap_items bucket.wide) else first_of (heap_items bucket.words)) ≡ Some entry → has_entry bucket entry ≡ true
-    which true e = ap (λ b. is_among entry (heap_items bucket.words) || b) (first_member (heap_items bucket.wide) entry e) ∙ or-true (is_among entry (heap_items bucket.words))
-    which false e = ap (λ b. b || is_among entry (heap_items bucket.wide)) (first_member (heap_items bucket.words) entry e)
+-- a heap without an entry has no top
+top_of_none : (items : List (Reverse Entry)) → items ≡ [] → IsTop (λ entry. is_among entry items) (first_of items)
+top_of_none [] empty = record { here = tt; least = tt; none = λ entry. refl }
+top_of_none (item ∷ items) empty = cc
 
-module _ (entry : Entry) (old new : Bucket) (more : (other : Entry) → has_entry new other ≡ (is_same other entry || has_entry old other)) where
-  pub pushed_member : has_entry new entry ≡ true
-  pushed_member = more entry ∙ ap (λ b. b || has_entry old entry) (same_self entry)
-
-  pub pushed_keeps : (other : Entry) → has_entry old other ≡ true → has_entry new other ≡ true
-  pushed_keeps other had = more other ∙ (ap (λ b. is_same other entry || b) had ∙ or-true (is_same other entry))
-
-  -- the top after a push
-  pub pushed_top : (was is : Option Entry) → top_of old ≡ was → top_of new ≡ is
-      → IfSome was (λ least. (other : Entry) → has_entry old other ≡ true → IsNoLater least other) → IfNone was ((other : Entry) → has_entry old other ≡ false)
-      → IfSome is (λ least. (other : Entry) → has_entry new other ≡ true → IsNoLater least other) → IfNone is ((other : Entry) → has_entry new other ≡ false)
-      → (is ≡ was) ⊎ (is ≡ Some entry)
-  pushed_top was None e f low none least empty = absurd (true≢false (sym pushed_member ∙ empty entry))
-  pushed_top was (Some top) e f low none least empty = which (is_same top entry) refl (sym (more top) ∙ top_member new top f)
-    where
-      among : (found : Option Entry) → top_of old ≡ found → IfSome found (λ least. (other : Entry) → has_entry old other ≡ true → IsNoLater least other)
-          → IfNone found ((other : Entry) → has_entry old other ≡ false) → has_entry old top ≡ true → Some top ≡ found
-      among None d l n m = absurd (true≢false (sym m ∙ n top))
-      among (Some first) d l n m = ap (λ t. Some t) (no_later_both top first (least first (pushed_keeps first (top_member old first d))) (l top m))
-
-      which : (b : Bool) → is_same top entry ≡ b → (b || has_entry old top) ≡ true → (Some top ≡ was) ⊎ (Some top ≡ Some entry)
-      which true s m = inr (ap (λ t. Some t) (same_found top entry s))
-      which false s m = inl (among was e low none m)
-
--- ---- the top
-
-pub least_of_parts : (entry : Entry) (words wide : List (Reverse Entry)) → ((other : Entry) → is_among other words ≡ true → IsNoLater entry other)
-    → ((other : Entry) → is_among other wide ≡ true → IsNoLater entry other) → (other : Entry) → (is_among other words || is_among other wide) ≡ true → IsNoLater entry other
-least_of_parts entry words wide low under other member = which (or_cases (is_among other words) (is_among other wide) member)
-  where
-    which : (is_among other words ≡ true) ⊎ (is_among other wide ≡ true) → IsNoLater entry other
-    which (inl m) = low other m
-    which (inr m) = under other m
-
-pub least_before : (first second : Entry) (items : List (Reverse Entry)) → is_lt (entry_cmp first second) ≡ true → ((other : Entry) → is_among other items ≡ true → IsNoLater second other)
-    → (other : Entry) → is_among other items ≡ true → IsNoLater first other
-least_before first second items lt low other member = no_later_trans first second other (before first second lt) (low other member)
-
-pub least_not_after : (first second : Entry) (items : List (Reverse Entry)) → is_lt (entry_cmp second first) ≡ false → ((other : Entry) → is_among other items ≡ true → IsNoLater second other)
-    → (other : Entry) → is_among other items ≡ true → IsNoLater first other
-least_not_after first second items ge low other member = no_later_trans first second other (not_before first second ge) (low other member)
-
-pub least_of_none : (entry : Entry) (items : List (Reverse Entry)) → items ≡ [] → (other : Entry) → is_among other items ≡ true → IsNoLater entry other
-least_of_none entry [] none other member = absurd (true≢false (sym member))
-least_of_none entry (item ∷ items) none other member = cc
-
--- ---- the top leaves
+-- the top of a heap
+pub heap_top : (items : List (Reverse Entry)) (found : Option Entry) → found ≡ first_of items → IfSome found (λ entry. (other : Entry) → is_among other items ≡ true → IsNoLater entry other)
+    → IfNone found (items ≡ []) → IsTop (λ entry. is_among entry items) (first_of items)
+heap_top items None first least none = top_of_none items none
+heap_top items (Some entry) first least none = subst (λ top. IsTop (λ other. is_among other items) top) first (record {
+  here = first_member items entry (sym first);
+  least = least;
+  none = tt;
+})
 
 top_first : (items : List (Reverse Entry)) (item : Reverse Entry) → item ≡ slice_index_or items 0 item → is_among item.0 items ≡ true → first_of items ≡ Some item.0
 top_first [] item first member = absurd (true≢false (sym member))
 top_first (other ∷ items) item first member = ap (λ (r : Reverse Entry). Some r.0) (sym first)
 
--- a part loses its first
-pub part_less : (item : Reverse Entry) (old new : List (Reverse Entry)) → item ≡ slice_index_or old 0 item → IsPermutation old (item ∷ new)
-    → (entry : Entry) → is_among entry old ≡ true → (first_of old ≡ Some entry) ⊎ (is_among entry new ≡ true)
-part_less item old new first moved entry had = which (is_same entry item.0) refl (sym (is entry) ∙ had)
+-- a heap loses its first
+pub heap_less : (old new : List (Reverse Entry)) (popped : Option (Reverse Entry)) → IfSome popped (λ item. item ≡ slice_index_or old 0 item) → IfSome popped (λ item. IsPermutation old (item ∷ new))
+    → IfNone popped (new ≡ old) → (entry : Entry) → is_among entry old ≡ true → (first_of old ≡ Some entry) ⊎ (is_among entry new ≡ true)
+heap_less old new None first moved same entry had = inr (ap (λ items. is_among entry items) same ∙ had)
+heap_less old new (Some item) first moved same entry had = which (is_same entry item.0) refl (sym (is entry) ∙ had)
   where
     is : (other : Entry) → is_among other old ≡ (is_same other item.0 || is_among other new)
     is other = list_any-IsPermutation (λ it. is_same other it.0) old (item ∷ new) moved
@@ -186,50 +146,84 @@ part_less item old new first moved entry had = which (is_same entry item.0) refl
         inl (top_first old item first member ∙ ap (λ s. Some s) (sym (same_found entry item.0 e)))
     which false e m = inr m
 
--- ---- the top is taken out
+-- ---- two parts
 
-pub pop_wide : (words old new : List (Reverse Entry)) (popped : Option (Reverse Entry)) → is_wide_before (first_of words) (first_of old) ≡ true
-    → IfSome popped (λ item. item ≡ slice_index_or old 0 item) → IfSome popped (λ item. IsPermutation old (item ∷ new)) → IfNone popped (new ≡ old)
-    → (entry : Entry) → (is_among entry words || is_among entry old) ≡ true
-    → ((if is_wide_before (first_of words) (first_of old) then first_of old else first_of words) ≡ Some entry) ⊎ ((is_among entry words || is_among entry new) ≡ true)
-pop_wide words old new None first top moved same entry had = inr (ap (λ items. is_among entry words || is_among entry items) same ∙ had)
-pop_wide words old new (Some item) first top moved same entry had = which (or_cases (is_among entry words) (is_among entry old) had)
+either : {P : Type 0} (a b : Bool) → (a || b) ≡ true → (a ≡ true → P) → (b ≡ true → P) → P
+either {P = P} a b member left right = which (or_cases a b member)
   where
-    part : (first_of old ≡ Some entry) ⊎ (is_among entry new ≡ true)
-        → ((if is_wide_before (first_of words) (first_of old) then first_of old else first_of words) ≡ Some entry) ⊎ ((is_among entry words || is_among entry new) ≡ true)
-    part (inl e) = inl (ap (λ b. if b then first_of old else first_of words) first ∙ e)
-    part (inr m) = inr (ap (λ b. is_among entry words || b) m ∙ or-true (is_among entry words))
+    which : (a ≡ true) ⊎ (b ≡ true) → P
+    which (inl m) = left m
+    which (inr m) = right m
 
-    which : (is_among entry words ≡ true) ⊎ (is_among entry old ≡ true)
-        → ((if is_wide_before (first_of words) (first_of old) then first_of old else first_of words) ≡ Some entry) ⊎ ((is_among entry words || is_among entry new) ≡ true)
-    which (inl m) = inr (ap (λ b. b || is_among entry new) m)
-    which (inr m) = part (part_less item old new top moved entry m)
-
-pub pop_words : (old new wide : List (Reverse Entry)) (popped : Option (Reverse Entry)) → is_wide_before (first_of old) (first_of wide) ≡ false
-    → IfSome popped (λ item. item ≡ slice_index_or old 0 item) → IfSome popped (λ item. IsPermutation old (item ∷ new)) → IfNone popped (new ≡ old)
-    → (entry : Entry) → (is_among entry old || is_among entry wide) ≡ true
-    → ((if is_wide_before (first_of old) (first_of wide) then first_of wide else first_of old) ≡ Some entry) ⊎ ((is_among entry new || is_among entry wide) ≡ true)
-pop_words old new wide None first top moved same entry had = inr (ap (λ items. is_among entry items || is_among entry wide) same ∙ had)
-pop_words old new wide (Some item) first top moved same entry had = which (or_cases (is_among entry old) (is_among entry wide) had)
+-- the top of two parts is that of one of them
+pub two_top : (had more : Entry → Bool) (first second : Option Entry) → IsTop had first → IsTop more second → IsTop (λ entry. had entry || more entry) (top_of_two first second)
+two_top had more None None a b = record { here = tt; least = tt; none = λ entry. ap (λ x. x || more entry) (a.none entry) ∙ b.none entry }
+two_top had more None (Some second) a b = record {
+  here = ap (λ x. had second || x) b.here ∙ or-true (had second);
+  least = λ other member. either (had other) (more other) member (λ m. absurd (true≢false (sym m ∙ a.none other))) (λ m. b.least other m);
+  none = tt;
+}
+two_top had more (Some first) None a b = record {
+  here = ap (λ x. x || more first) a.here;
+  least = λ other member. either (had other) (more other) member (λ m. a.least other m) (λ m. absurd (true≢false (sym m ∙ b.none other)));
+  none = tt;
+}
+two_top had more (Some first) (Some second) a b = which (is_lt (entry_cmp second first)) refl
   where
-    part : (first_of old ≡ Some entry) ⊎ (is_among entry new ≡ true)
-        → ((if is_wide_before (first_of old) (first_of wide) then first_of wide else first_of old) ≡ Some entry) ⊎ ((is_among entry new || is_among entry wide) ≡ true)
-    part (inl e) = inl (ap (λ b. if b then first_of wide else first_of old) first ∙ e)
-    part (inr m) = inr (ap (λ b. b || is_among entry wide) m)
+    which : (x : Bool) → is_lt (entry_cmp second first) ≡ x → IsTop (λ entry. had entry || more entry) (if x then Some second else Some first)
+    which true e = record {
+      here = ap (λ x. had second || x) b.here ∙ or-true (had second);
+      least = λ other member. either (had other) (more other) member (λ m. no_later_trans second first other (before second first e) (a.least other m)) (λ m. b.least other m);
+      none = tt;
+    }
+    which false e = record {
+      here = ap (λ x. x || more first) a.here;
+      least = λ other member. either (had other) (more other) member (λ m. a.least other m) (λ m. no_later_trans first second other (not_before first second e) (b.least other m));
+      none = tt;
+    }
 
-    which : (is_among entry old ≡ true) ⊎ (is_among entry wide ≡ true)
-        → ((if is_wide_before (first_of old) (first_of wide) then first_of wide else first_of old) ≡ Some entry) ⊎ ((is_among entry new || is_among entry wide) ≡ true)
-    which (inl m) = part (part_less item old new top moved entry m)
-    which (inr m) = inr (ap (λ b. is_among entry new || b) m ∙ or-true (is_among entry new))
+-- an entry comes into the first part, or into the second
+pub first_more : (is same had more : Bool) → is ≡ (same || had) → (is || more) ≡ (same || (had || more))
+first_more is same had more e = ap (λ b. b || more) e ∙ or_assoc same had more
 
--- a bucket without a top is empty
-pub top_empty : (words wide : List (Reverse Entry)) → (if is_wide_before (first_of words) (first_of wide) then first_of wide else first_of words) ≡ None
-    → (entry : Entry) → (is_among entry words || is_among entry wide) ≡ false
-top_empty [] [] none entry = refl
-top_empty [] (item ∷ wide) none entry = cc
-top_empty (word ∷ words) [] none entry = cc
-top_empty (word ∷ words) (item ∷ wide) none entry = absurd (which (is_lt (entry_cmp item.0 word.0)) none)
+pub second_more : (is same had more : Bool) → is ≡ (same || more) → (had || is) ≡ (same || (had || more))
+second_more is same had more e = ap (λ b. had || b) e ∙ (sym (or_assoc had same more) ∙ (ap (λ b. b || more) (or_comm had same) ∙ or_assoc same had more))
+
+-- the first part loses its top, which is that of both
+pub first_less : (had less more : Entry → Bool) (first second : Option Entry) → is_second_first first second ≡ false → ((entry : Entry) → had entry ≡ true → (first ≡ Some entry) ⊎ (less entry ≡ true))
+    → (entry : Entry) → (had entry || more entry) ≡ true → (top_of_two first second ≡ Some entry) ⊎ ((less entry || more entry) ≡ true)
+first_less had less more first second is left entry member = either (had entry) (more entry) member (λ m. part (left entry m)) (λ m. inr (ap (λ b. less entry || b) m ∙ or-true (less entry)))
   where
-    which : (b : Bool) → (if b then Some item.0 else Some word.0) ≡ None → ⊥
-    which true e = cc
-    which false e = cc
+    part : (first ≡ Some entry) ⊎ (less entry ≡ true) → (top_of_two first second ≡ Some entry) ⊎ ((less entry || more entry) ≡ true)
+    part (inl e) = inl (ap (λ b. if b then second else first) is ∙ e)
+    part (inr m) = inr (ap (λ b. b || more entry) m)
+
+-- the second part loses its top, which is that of both
+pub second_less : (had more less : Entry → Bool) (first second : Option Entry) → is_second_first first second ≡ true → ((entry : Entry) → more entry ≡ true → (second ≡ Some entry) ⊎ (less entry ≡ true))
+    → (entry : Entry) → (had entry || more entry) ≡ true → (top_of_two first second ≡ Some entry) ⊎ ((had entry || less entry) ≡ true)
+second_less had more less first second is left entry member = either (had entry) (more entry) member (λ m. inr (ap (λ b. b || less entry) m)) (λ m. part (left entry m))
+  where
+    part : (second ≡ Some entry) ⊎ (less entry ≡ true) → (top_of_two first second ≡ Some entry) ⊎ ((had entry || less entry) ≡ true)
+    part (inl e) = inl (ap (λ b. if b then second else first) is ∙ e)
+    part (inr m) = inr (ap (λ b. had entry || b) m ∙ or-true (had entry))
+
+-- ---- the top after a push
+
+module _ (entry : Entry) (had has : Entry → Bool) (more : (other : Entry) → has other ≡ (is_same other entry || had other)) where
+  pub pushed_member : has entry ≡ true
+  pushed_member = more entry ∙ ap (λ b. b || had entry) (same_self entry)
+
+  pub pushed_keeps : (other : Entry) → had other ≡ true → has other ≡ true
+  pushed_keeps other here = more other ∙ (ap (λ b. is_same other entry || b) here ∙ or-true (is_same other entry))
+
+  pub pushed_top : (was is : Option Entry) → IsTop had was → IsTop has is → (is ≡ was) ⊎ (is ≡ Some entry)
+  pushed_top was None old new = absurd (true≢false (sym pushed_member ∙ new.none entry))
+  pushed_top was (Some top) old new = which (is_same top entry) refl (sym (more top) ∙ new.here)
+    where
+      among : (found : Option Entry) → IsTop had found → had top ≡ true → Some top ≡ found
+      among None o m = absurd (true≢false (sym m ∙ o.none top))
+      among (Some first) o m = ap (λ t. Some t) (no_later_both top first (new.least first (pushed_keeps first o.here)) (o.least top m))
+
+      which : (b : Bool) → is_same top entry ≡ b → (b || had top) ≡ true → (Some top ≡ was) ⊎ (Some top ≡ Some entry)
+      which true s m = inr (ap (λ t. Some t) (same_found top entry s))
+      which false s m = inl (among was old m)

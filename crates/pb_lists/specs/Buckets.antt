@@ -2,12 +2,8 @@
 -- whose keys have that sum, the least on top. The state of an Opened row is in the bucket of its
 -- key's sum, with its key's estimate. A state may stay in a bucket that isn't its row's any more.
 use Rattle.std.specs.Prelude.{◌≡◌, ◌≤◌, ◌<◌, ◌+◌, ◌⊎◌, ◌&&◌, ◌||◌, ℕ, Bool, true, false, Option, None, Some, List, [], ◌∷◌, IfSome, nat_eq, if◌then◌else◌}
-use Rattle.std.specs.List.{list_any}
-use Rattle.std.specs.Ordering.{nat_cmp, ordering_then, is_lt}
-use Rattle.std.specs.declared.cmp.Ordering.{Ordering}
-use Rattle.std.specs.declared.cmp.Reverse.{Reverse}
 use Rattle.std.specs.BTreeMap.{BTreeMap, get}
-use Rattle.std.specs.BinaryHeap.{heap_items, heap_len, IsHeap}
+use Rattle.std.specs.Global.{Box}
 use Rattle.pb_model.specs.declared.key.Key.{Key}
 use Rattle.pb_model.specs.declared.row.Row.{Row}
 use Rattle.pb_model.specs.declared.row.Status.TheVariants.{Opened}
@@ -15,56 +11,44 @@ use Rattle.pb_model.specs.Weight.{Weight, IsWeight}
 use Rattle.pb_model.specs.KeyOrder.{key_cmp}
 use Rattle.pb_lists.specs.Bundle.{row_in}
 use Rattle.pb_lists.specs.Fields.{key_at, is_open_at, sum_of, estimate_in, key_with}
+use Rattle.pb_lists.specs.Heaped.{Entry, is_among, first_of, top_of_two}
+use Rattle.pb_lists.specs.declared.wide_entries.WideEntries.{WideEntries}
 use Rattle.pb_lists.specs.declared.bucket.Bucket.{Bucket}
 
 abbrev pub Buckets : Type 0
 Buckets = BTreeMap Key Bucket
 
--- an estimate and a state
-abbrev pub Entry : Type 0
-Entry = ℕ × ℕ
+-- ---- the entries of states of more than one word
 
--- by the estimate, and for equal estimates by the state
-abbrev pub entry_cmp : Entry → Entry → Ordering
-entry_cmp entry other = ordering_then (nat_cmp entry.0 other.0) (nat_cmp entry.1 other.1)
+abbrev pub has_wide : WideEntries → Entry → Bool
+has_wide wide entry = is_among entry wide.few.items || is_among entry wide.many.items
 
--- the greatest of a heap comes first, so the lesser entry is the greater
-abbrev pub later : Reverse Entry → Reverse Entry → Ordering
-later item other = entry_cmp other.0 item.0
+abbrev pub top_of_wide : WideEntries → Option Entry
+top_of_wide wide = top_of_two (first_of wide.few.items) (first_of wide.many.items)
 
--- the entry is the other, or comes before it
-abbrev pub IsNoLater : Entry → Entry → Type 0
-IsNoLater entry other = (entry.0 < other.0) ⊎ ((entry.0 ≡ other.0) × (entry.1 ≤ other.1))
+abbrev pub has_boxed : Option (Box WideEntries) → Entry → Bool
+has_boxed None entry = false
+has_boxed (Some wide) entry = has_wide wide.value entry
 
-abbrev pub is_same : Entry → Entry → Bool
-is_same entry other = nat_eq entry.0 other.0 && nat_eq entry.1 other.1
+abbrev pub top_of_boxed : Option (Box WideEntries) → Option Entry
+top_of_boxed None = None
+top_of_boxed (Some wide) = top_of_wide wide.value
 
-abbrev pub is_among : Entry → List (Reverse Entry) → Bool
-is_among entry items = list_any (λ item. is_same entry item.0) items
+abbrev pub count_of_boxed : Option (Box WideEntries) → ℕ
+count_of_boxed None = 0
+count_of_boxed (Some wide) = wide.value.few.len + wide.value.many.len
+
+-- ---- a bucket
 
 abbrev pub has_entry : Bucket → Entry → Bool
-has_entry bucket entry =
-    is_among entry (heap_items bucket.words) || is_among entry (heap_items bucket.wide)
-
-abbrev pub count_of : Bucket → ℕ
-count_of bucket = heap_len bucket.words + heap_len bucket.wide
-
-abbrev pub first_of : List (Reverse Entry) → Option Entry
-first_of [] = None
-first_of (item ∷ items) = Some item.0
-
--- whether the first of the wide entries comes before that of the words
-abbrev pub is_wide_before : Option Entry → Option Entry → Bool
-is_wide_before word None = false
-is_wide_before None (Some wide) = true
-is_wide_before (Some word) (Some wide) = is_lt (entry_cmp wide word)
+has_entry bucket entry = is_among entry bucket.words.items || has_boxed bucket.wide entry
 
 -- the first entry of a bucket
 abbrev pub top_of : Bucket → Option Entry
-top_of bucket =
-    if is_wide_before (first_of (heap_items bucket.words)) (first_of (heap_items bucket.wide))
-    then first_of (heap_items bucket.wide)
-    else first_of (heap_items bucket.words)
+top_of bucket = top_of_two (first_of bucket.words.items) (top_of_boxed bucket.wide)
+
+abbrev pub count_of : Bucket → ℕ
+count_of bucket = bucket.words.len + count_of_boxed bucket.wide
 
 abbrev pub has_in : Option Bucket → Entry → Bool
 has_in None entry = false
@@ -90,15 +74,6 @@ is_of (Some entry) state = nat_eq entry.1 state
 abbrev pub is_on_top : List (Key × Bucket) → (state : ℕ) → Bool
 is_on_top [] state = false
 is_on_top (first ∷ others) state = is_of (top_of first.1) state
-
--- both parts of a bucket are heaps
-pub record IsOrdered (bucket : Bucket) : Type 0 where
-  pub words : IsHeap later (heap_items bucket.words)
-  pub wide : IsHeap later (heap_items bucket.wide)
-
--- each bucket is in order
-abbrev pub HasHeaps : Buckets → Type 0
-HasHeaps buckets = (sum : Key) → IfSome (get key_cmp buckets sum) IsOrdered
 
 -- each Opened row is in the bucket of its key's sum
 abbrev pub HasFiled : Weight → List (ℕ × Row) → Buckets → Type 0
@@ -132,6 +107,5 @@ KeepsLive weight entries sum bucket left = (entry : Entry)
 -- what holds between the weight, the rows and the buckets of a bundle
 pub record AreFields (weight : Weight) (entries : List (ℕ × Row)) (buckets : Buckets) : Type 0 where
   pub filed : HasFiled weight entries buckets
-  pub heaps : HasHeaps buckets
   pub tidy : IsTidy weight entries buckets
   pub is_weight : IsWeight weight

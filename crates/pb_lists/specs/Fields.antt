@@ -31,6 +31,11 @@ abbrev pub opened_costs : Option Row → Option (ℕ × Estimate)
 opened_costs None = None
 opened_costs (Some row) = if is_opened row.status then Some (row.g, row.estimate) else None
 
+-- whether there are costs with this key
+abbrev pub has_key : Weight → Option (ℕ × Estimate) → Key → Bool
+has_key weight None key = false
+has_key weight (Some costs) key = same_key (key_of weight costs.0 costs.1) key
+
 -- the sum of a key, as the key with that sum and the estimate 0
 abbrev pub sum_of : Key → Key
 sum_of (Sum sum h) = Sum sum 0

@@ -6,8 +6,10 @@ pub use Rattle.pb_model.specs.Work
 pub mod Bundle
 pub mod Offers
 pub mod Laws
+pub mod Heaped
 pub mod Buckets
 pub mod Fields
-pub mod SmallRow
+pub mod NarrowRow
+pub mod ListedRows
 pub mod Rows
 pub mod Store

@@ -1,13 +1,14 @@
 //! The Opened rows of a bundle, in buckets by the sum of their keys.
-ghost use Rattle.std.specs.Prelude.{◌≡◌, ◌≤◌, ◌∷◌, true, false, ℕ, List, Some, OnOk, OnErr};
+ghost use Rattle.std.specs.Prelude.{◌≡◌, ◌≤◌, ◌∷◌, true, false, ℕ, List, Some, None, OnOk, OnErr};
 ghost use Rattle.std.specs.BTreeMap.{btree_map_len};
 ghost use Rattle.pb_lists.specs.Bundle.{row_in};
-ghost use Rattle.pb_lists.specs.Fields.{weight_of, is_open_at, sum_of, estimate_in, key_with};
+ghost use Rattle.pb_lists.specs.Fields.{weight_of, has_key, is_open_at, sum_of, estimate_in, key_with};
 ghost use Rattle.pb_model.specs.Key.{key_of};
 ghost use Rattle.pb_model.specs.Weight.{Weight};
 ghost use Rattle.pb_model.specs.declared.row.Row.{Row};
-ghost use Rattle.pb_lists.specs.Buckets.{Entry, has_entry, has_at, has_state, first_key_of, is_on_top, top_of};
-ghost use Rattle.pb_lists.specs.Buckets.{KeepsLive, KeepsEntries, IsOrdered, HasHeaps, HasFiled, IsTidy, is_led};
+ghost use Rattle.pb_lists.specs.Heaped.{Entry};
+ghost use Rattle.pb_lists.specs.Buckets.{has_entry, has_at, has_state, first_key_of, is_on_top, top_of};
+ghost use Rattle.pb_lists.specs.Buckets.{KeepsLive, KeepsEntries, HasFiled, IsTidy, is_led};
 
 use crate::bucket::Bucket;
 use crate::rows::Rows;
@@ -69,13 +70,12 @@ pub(crate) fn file(
     alloc: Global,
     buckets: &mut Buckets,
     key: &Key,
-    state: Packed,
+    state: &Packed,
 ) -> Result<(), AllocError>
-    ensures heaps { HasHeaps buckets.old → HasHeaps buckets.new }
     ensures kept { KeepsEntries buckets.old buckets.new }
-    ensures filed { OnOk result (has_state buckets.new key.now state ≡ true) }
+    ensures filed { OnOk result (has_state buckets.new key.now state.now ≡ true) }
     ensures led { OnOk result ((weight : Weight) (entries : List (ℕ × Row))
-        → HasHeaps buckets.old → is_open_at weight (row_in entries state) key.now ≡ true
+        → is_open_at weight (row_in entries state.now) key.now ≡ true
         → IsTidy weight entries buckets.old → IsTidy weight entries buckets.new) }
     ensures err { OnErr result ((weight : Weight) (entries : List (ℕ × Row))
         → IsTidy weight entries buckets.old → IsTidy weight entries buckets.new) }
@@ -84,12 +84,12 @@ pub(crate) fn file(
     let h = h_in(key);
     match buckets.get_mut(&sum) {
         Some(bucket) => {
-            bucket.push(h, state)?;
+            bucket.push(alloc, h, state)?;
             Ok(())
         }
         None => {
             let mut bucket = Bucket::new(alloc);
-            bucket.push(h, state)?;
+            bucket.push(alloc, h, state)?;
             buckets.insert(sum, bucket)?;
             Ok(())
         }
@@ -100,10 +100,8 @@ pub(crate) fn file(
 pub(crate) fn tidy_after(buckets: &mut Buckets, rows: &Rows, num: u64, den: u64, state: &Packed)
     requires num { num ≤ 1000 }
     requires den { den ≤ 1000 }
-    requires heaps { HasHeaps buckets.old }
     requires tidy { is_on_top buckets.old.entries state.now ≡ false
         → IsTidy (weight_of num den) rows.now.entries buckets.old }
-    ensures heaps { HasHeaps buckets.new }
     ensures filed { HasFiled (weight_of num den) rows.now.entries buckets.old
         → HasFiled (weight_of num den) rows.now.entries buckets.new }
     ensures tidy { IsTidy (weight_of num den) rows.now.entries buckets.new }
@@ -118,10 +116,7 @@ fn is_first(buckets: &Buckets, state: &Packed) -> bool
     ensures { result ≡ is_on_top buckets.now.entries state.now }
 {
     match buckets.first_key_value() {
-        Some((_, bucket)) => match bucket.top() {
-            Some(top) => top.1 == *state,
-            None => false,
-        },
+        Some((_, bucket)) => bucket.is_on_top(state),
         None => false,
     }
 }
@@ -131,8 +126,6 @@ fn is_first(buckets: &Buckets, state: &Packed) -> bool
 pub(crate) fn tidy(buckets: &mut Buckets, rows: &Rows, num: u64, den: u64)
     requires num { num ≤ 1000 }
     requires den { den ≤ 1000 }
-    requires heaps { HasHeaps buckets.old }
-    ensures heaps { HasHeaps buckets.new }
     ensures filed { HasFiled (weight_of num den) rows.now.entries buckets.old
         → HasFiled (weight_of num den) rows.now.entries buckets.new }
     ensures tidy { IsTidy (weight_of num den) rows.now.entries buckets.new }
@@ -159,8 +152,6 @@ fn clear_first(buckets: &mut Buckets, rows: &Rows, num: u64, den: u64, sum: &Key
     requires num { num ≤ 1000 }
     requires den { den ≤ 1000 }
     requires first { first_key_of buckets.old.entries ≡ Some sum.now }
-    requires heaps { HasHeaps buckets.old }
-    ensures heaps { HasHeaps buckets.new }
     ensures filed { HasFiled (weight_of num den) rows.now.entries buckets.old
         → HasFiled (weight_of num den) rows.now.entries buckets.new }
     ensures tidy { result ≡ true → IsTidy (weight_of num den) rows.now.entries buckets.new }
@@ -179,8 +170,43 @@ fn clear_first(buckets: &mut Buckets, rows: &Rows, num: u64, den: u64, sum: &Key
 fn clear(bucket: &mut Bucket, rows: &Rows, num: u64, den: u64, sum: &Key) -> bool
     requires num { num ≤ 1000 }
     requires den { den ≤ 1000 }
-    requires heap { IsOrdered bucket.old }
-    ensures heap { IsOrdered bucket.new }
+    ensures kept { KeepsLive (weight_of num den) rows.now.entries sum.now bucket.old bucket.new }
+    ensures led { result ≡ true
+        → is_led (weight_of num den) rows.now.entries sum.now (top_of bucket.new) ≡ true }
+    ensures none { result ≡ false → (entry : Entry) → has_entry bucket.new entry ≡ false }
+{
+    if bucket.is_narrow() {
+        clear_words(bucket, rows, num, den, sum)
+    } else {
+        clear_all(bucket, rows, num, den, sum)
+    }
+}
+
+// The same for a bucket whose states have one word. Each is looked up as that word.
+fn clear_words(bucket: &mut Bucket, rows: &Rows, num: u64, den: u64, sum: &Key) -> bool
+    requires num { num ≤ 1000 }
+    requires den { den ≤ 1000 }
+    requires narrow { bucket.old.wide ≡ None }
+    ensures kept { KeepsLive (weight_of num den) rows.now.entries sum.now bucket.old bucket.new }
+    ensures led { result ≡ true
+        → is_led (weight_of num den) rows.now.entries sum.now (top_of bucket.new) ≡ true }
+    ensures none { result ≡ false → (entry : Entry) → has_entry bucket.new entry ≡ false }
+{
+    while let Some(first) = bucket.first_word() {
+        let key = key_from(sum, first.0);
+        if is_at(rows.opened_word(first.1), num, den, &key) {
+            return true;
+        }
+        bucket.pop_word();
+    }
+    false
+}
+
+// The same for a bucket of any states.
+#[inline(never)]
+fn clear_all(bucket: &mut Bucket, rows: &Rows, num: u64, den: u64, sum: &Key) -> bool
+    requires num { num ≤ 1000 }
+    requires den { den ≤ 1000 }
     ensures kept { KeepsLive (weight_of num den) rows.now.entries sum.now bucket.old bucket.new }
     ensures led { result ≡ true
         → is_led (weight_of num den) rows.now.entries sum.now (top_of bucket.new) ≡ true }
@@ -188,7 +214,7 @@ fn clear(bucket: &mut Bucket, rows: &Rows, num: u64, den: u64, sum: &Key) -> boo
 {
     while let Some(top) = bucket.top() {
         let key = key_from(sum, top.0);
-        if is_opened_at(rows, num, den, &key, &top.1) {
+        if is_at(rows.opened(&top.1), num, den, &key) {
             return true;
         }
         bucket.pop();
@@ -196,14 +222,13 @@ fn clear(bucket: &mut Bucket, rows: &Rows, num: u64, den: u64, sum: &Key) -> boo
     false
 }
 
-// Whether the state's row is Opened, with this key.
-fn is_opened_at(rows: &Rows, num: u64, den: u64, key: &Key, state: &Packed) -> bool
+// Whether the costs of an Opened row, if there is one, have this key.
+fn is_at(costs: Option<(u64, Estimate)>, num: u64, den: u64, key: &Key) -> bool
     requires num { num ≤ 1000 }
     requires den { den ≤ 1000 }
-    ensures { result
-        ≡ is_open_at (weight_of num den) (row_in rows.now.entries state.now) key.now }
+    ensures { result ≡ has_key (weight_of num den) costs key.now }
 {
-    match rows.opened(state) {
+    match costs {
         Some(costs) => key_of(num, den, costs.0, &costs.1) == *key,
         None => false,
     }

@@ -128,8 +128,8 @@ impl Bundle {
         ensures { IsBest self.now.weight (row_of self.now) result }
     {
         match self.opened.first_key_value() {
-            Some((sum, bucket)) => match bucket.top() {
-                Some(top) => Some(key_from(sum, top.0)),
+            Some((sum, bucket)) => match bucket.least() {
+                Some(h) => Some(key_from(sum, h)),
                 None => None,
             },
             None => None,
@@ -158,10 +158,10 @@ impl Bundle {
     {
         match self.row(&state) {
             None => {
-                self.add(state, opened_row(g, estimate, parent, action))?;
+                self.add(&state, &opened_row(g, estimate, parent, action))?;
                 Ok(Offer::New)
             }
-            Some(was) => self.lower(state, &was, g, parent, action),
+            Some(was) => self.lower(&state, &was, g, parent, action),
         }
     }
 
@@ -193,7 +193,7 @@ impl Bundle {
             return Ok(Offer::Worse);
         }
         let (state, was) = self.at(place);
-        self.lower(state, &was, g, parent, action)
+        self.lower(&state, &was, g, parent, action)
     }
 
     /// Offers a row to a state that has none, as `offer` does, with one look-up less.
@@ -212,7 +212,7 @@ impl Bundle {
             (offered_row g estimate parent action None)) }
         ensures err { OnErr result (self.new ≡ self.old) }
     {
-        self.add(state, opened_row(g, estimate, parent, action))
+        self.add(&state, &opened_row(g, estimate, parent, action))
     }
 
     /// Closes an Opened row: its state was expanded. It takes no memory.
@@ -239,15 +239,15 @@ impl Bundle {
 
     // Adds an Opened row for a state that has none. Room is taken in the table, then the state
     // enters its bucket, then the table gets its row: the steps that may fail come first.
-    fn add(&mut self, state: Packed, row: Row) -> Result<(), AllocError>
-        requires absent { row_of self.old state ≡ None }
-        requires opened { row.status ≡ Opened }
-        ensures put { OnOk result (self.new ≡ put self.old state row) }
-        ensures sets { OnOk result (SetsRow (row_of self.old) (row_of self.new) state row) }
+    fn add(&mut self, state: &Packed, row: &Row) -> Result<(), AllocError>
+        requires absent { row_of self.old state.now ≡ None }
+        requires opened { row.now.status ≡ Opened }
+        ensures put { OnOk result (self.new ≡ put self.old state.now row.now) }
+        ensures sets { OnOk result (SetsRow (row_of self.old) (row_of self.new) state.now row.now) }
         ensures err { OnErr result (self.new ≡ self.old) }
     {
         let key = key_of(self.num, self.den, row.g, &row.estimate);
-        self.rows.make_place(&state, &row)?;
+        self.rows.make_place(state, row)?;
         self.rows.reserve()?;
         file(self.alloc, &mut self.opened, &key, state)?;
         self.rows.insert(state, row);
@@ -257,16 +257,16 @@ impl Bundle {
     // Offers a state its row with this g, if that is lower.
     fn lower(
         &mut self,
-        state: Packed,
+        state: &Packed,
         was: &Row,
         g: u64,
         parent: Option<Packed>,
         action: u32,
     ) -> Result<Offer, AllocError>
-        requires { row_of self.old state ≡ Some was.now }
-        ensures put { OnOk result (self.new ≡ put self.old state
+        requires { row_of self.old state.now ≡ Some was.now }
+        ensures put { OnOk result (self.new ≡ put self.old state.now
             (offered_row g was.now.estimate parent action (Some was.now))) }
-        ensures sets { OnOk result (SetsRow (row_of self.old) (row_of self.new) state
+        ensures sets { OnOk result (SetsRow (row_of self.old) (row_of self.new) state.now
             (offered_row g was.now.estimate parent action (Some was.now))) }
         ensures answer { IfOk result (λ answer. answer ≡ offer_of (Some was.now) g) }
         ensures err { OnErr result (self.new ≡ self.old) }
@@ -274,21 +274,21 @@ impl Bundle {
         if was.g <= g {
             return Ok(Offer::Worse);
         }
-        self.open_again(state, opened_row(g, was.estimate, parent, action))?;
+        self.open_again(state, &opened_row(g, was.estimate, parent, action))?;
         Ok(Offer::Better)
     }
 
     // Replaces the row of a state by an Opened one, which enters its new bucket first. The state is
     // still in its old bucket, and leaves it when it comes first there.
-    fn open_again(&mut self, state: Packed, row: Row) -> Result<(), AllocError>
-        requires found { IsSome (row_of self.old state) }
-        requires opened { row.status ≡ Opened }
-        ensures put { OnOk result (self.new ≡ put self.old state row) }
-        ensures sets { OnOk result (SetsRow (row_of self.old) (row_of self.new) state row) }
+    fn open_again(&mut self, state: &Packed, row: &Row) -> Result<(), AllocError>
+        requires found { IsSome (row_of self.old state.now) }
+        requires opened { row.now.status ≡ Opened }
+        ensures put { OnOk result (self.new ≡ put self.old state.now row.now) }
+        ensures sets { OnOk result (SetsRow (row_of self.old) (row_of self.new) state.now row.now) }
         ensures err { OnErr result (self.new ≡ self.old) }
     {
         let key = key_of(self.num, self.den, row.g, &row.estimate);
-        self.rows.make_place(&state, &row)?;
+        self.rows.make_place(state, row)?;
         file(self.alloc, &mut self.opened, &key, state)?;
         self.rows.insert(state, row);
         tidy(&mut self.opened, &self.rows, self.num, self.den);

@@ -2,15 +2,19 @@
 //! that are Opened.
 #![tactic(auto)]
 
+mod any_rows;
 mod bucket;
 mod buckets;
 mod bundle;
+mod heap;
 mod laws;
+mod narrow_row;
+mod narrow_rows;
 mod rows;
 mod rules;
-mod small_row;
 mod store;
-mod word;
+mod wide_entries;
+mod wide_rows;
 
 pub use bundle::{Bundle, Offer};
 pub use laws::{entries_are_rows, keys_are_ordered};

@@ -1,32 +1,30 @@
 //! The rows of a bundle by their states, in order of insertion, in few bytes if they fit.
-ghost use Rattle.std.specs.Prelude.{◌≡◌, ◌<◌, ◌^◌, ℕ, true, false, None, Some, [], IsSome, IfOk, IfSome, IfNone, OnOk, nat_eq, map, option_copied, slice_get, length, if◌then◌else◌};
+ghost use Rattle.std.specs.Prelude.{◌≡◌, ◌<◌, ℕ, None, Some, [], IsSome, IfSome, IfNone, OnOk, nat_eq, slice_get, length, if◌then◌else◌};
 ghost use Rattle.std.specs.List.{IsDistinct};
-ghost use Rattle.std.specs.Map.{keys_of, lookup};
-ghost use Rattle.indexmap.specs.IndexMap.{insert_entry, spare};
+ghost use Rattle.std.specs.Map.{keys_of};
+ghost use Rattle.indexmap.specs.IndexMap.{insert_entry};
 ghost use Rattle.pb_lists.specs.Bundle.{row_in};
 ghost use Rattle.pb_lists.specs.Fields.{opened_costs};
-ghost use Rattle.pb_lists.specs.Rows.{HasPlaceFor, HasWords, wide_entry};
-ghost use Rattle.pb_lists.specs.SmallRow.{is_small};
+ghost use Rattle.pb_lists.specs.ListedRows.{HasPlaceFor};
 
-use crate::small_row::SmallRow;
-use crate::word::{state_of, word_of};
-use indexmap::IndexMap;
+use crate::narrow_rows::{NarrowRows, is_narrow};
+use crate::wide_rows::{WideRows, widened};
 use pb_model::{Estimate, Row, Status};
-use pb_packed::Packed;
+use pb_packed::{Packed, Words};
 use std::alloc::{AllocError, Global};
 use std::marker::Model;
 
 // The table of the rows.
 #[derive(Drop)]
 enum Table {
-    // states of one word each, with small rows
-    Small(IndexMap<u64, SmallRow>),
-    // any states and rows
-    Wide(IndexMap<Packed, Row>),
+    // states and parents of one word each, with narrow rows
+    Small(NarrowRows<1>),
+    // all others, behind one test
+    Wide(WideRows),
 }
 
-// The rows by their states, in order of insertion. The table is small until a state or a row comes
-// that a small one has no place for.
+// The rows by their states, in order of insertion. The table becomes wider when a state or a row
+// comes that it has no place for.
 #[derive(Drop)]
 pub(crate) struct Rows {
     table: Table,
@@ -34,13 +32,12 @@ pub(crate) struct Rows {
 }
 
 impl Model for Rows {
-    ghost use Rattle.pb_lists.specs.Rows.{ListedRows, listed_of, IsTable};
+    ghost use Rattle.pb_lists.specs.ListedRows.{ListedRows};
+    ghost use Rattle.pb_lists.specs.Rows.{listed_of};
 
     ghost Value = { ListedRows };
 
     ghost view = { λ r. listed_of r.table };
-
-    ghost invariant = { λ r. IsTable r.table };
 }
 
 impl Rows {
@@ -49,7 +46,7 @@ impl Rows {
         ensures { result.entries ≡ [] }
     {
         Rows {
-            table: Table::Small(IndexMap::new(alloc)),
+            table: Table::Small(NarrowRows::new(alloc)),
             alloc,
         }
     }
@@ -60,8 +57,8 @@ impl Rows {
         ensures distinct { IsDistinct nat_eq (keys_of self.now.entries) }
     {
         match &self.table {
-            Table::Small(rows) => rows.len() as u64,
-            Table::Wide(rows) => rows.len() as u64,
+            Table::Small(rows) => rows.len(),
+            Table::Wide(rows) => rows.len(),
         }
     }
 
@@ -70,11 +67,8 @@ impl Rows {
         ensures { result ≡ row_in self.now.entries state.now }
     {
         match &self.table {
-            Table::Small(rows) => match small_row_in(rows, state) {
-                Some(row) => Some(row.row()),
-                None => None,
-            },
-            Table::Wide(rows) => rows.get(state).copied(),
+            Table::Small(rows) => rows.row(state),
+            Table::Wide(rows) => rows.row(state),
         }
     }
 
@@ -83,17 +77,18 @@ impl Rows {
         ensures { result ≡ opened_costs (row_in self.now.entries state.now) }
     {
         match &self.table {
-            Table::Small(rows) => match small_row_in(rows, state) {
-                Some(row) => row.opened(),
-                None => None,
-            },
-            Table::Wide(rows) => match rows.get(state) {
-                Some(row) => match row.status {
-                    Status::Opened => Some((row.g, row.estimate)),
-                    _ => None,
-                },
-                None => None,
-            },
+            Table::Small(rows) => rows.opened(state),
+            Table::Wide(rows) => rows.opened(state),
+        }
+    }
+
+    // The g and the estimate of the row of the state that is this word, if that is Opened.
+    pub(crate) fn opened_word(&self, word: u64) -> Option<(u64, Estimate)>
+        ensures { result ≡ opened_costs (row_in self.now.entries word) }
+    {
+        match &self.table {
+            Table::Small(rows) => rows.opened_at(&Words::of_word(word)),
+            Table::Wide(rows) => rows.opened(&Packed::of_word(word)),
         }
     }
 
@@ -103,14 +98,8 @@ impl Rows {
         ensures { slice_get self.now.entries i ≡ Some result }
     {
         match &self.table {
-            Table::Small(rows) => match rows.get_index(i as usize) {
-                Some(entry) => (state_of(*entry.0), entry.1.row()),
-                None => unreachable!(),
-            },
-            Table::Wide(rows) => match rows.get_index(i as usize) {
-                Some(entry) => (*entry.0, *entry.1),
-                None => unreachable!(),
-            },
+            Table::Small(rows) => rows.at(i),
+            Table::Wide(rows) => rows.at(i),
         }
     }
 
@@ -121,14 +110,8 @@ impl Rows {
             → result ≡ row.g }
     {
         match &self.table {
-            Table::Small(rows) => match rows.get_index(i as usize) {
-                Some(entry) => u64::from(entry.1.g),
-                None => unreachable!(),
-            },
-            Table::Wide(rows) => match rows.get_index(i as usize) {
-                Some(entry) => entry.1.g,
-                None => unreachable!(),
-            },
+            Table::Small(rows) => rows.g_at(i),
+            Table::Wide(rows) => rows.g_at(i),
         }
     }
 
@@ -141,54 +124,61 @@ impl Rows {
         ensures none { IfNone result (row_in self.now.entries state.now ≡ None) }
     {
         match &self.table {
-            Table::Small(rows) => place_of_small(rows, state),
-            Table::Wide(rows) => place_of_wide(rows, state),
+            Table::Small(rows) => rows.place_of(state),
+            Table::Wide(rows) => rows.place_of(state),
         }
     }
 
-    // Makes the table wide if it has no place for this state or this row. If memory runs out, the
+    // Makes the table wider if it has no place for this state or this row. If memory runs out, the
     // table is as before.
     pub(crate) fn make_place(&mut self, state: &Packed, row: &Row) -> Result<(), AllocError>
         ensures entries { self.new.entries ≡ self.old.entries }
         ensures place { OnOk result (HasPlaceFor self.new state.now row.now) }
-        ensures small { HasPlaceFor self.old state.now row.now
-            → self.new.is_wide ≡ self.old.is_wide }
     {
-        if let Table::Small(rows) = &self.table {
-            if word_of(state).is_none() || SmallRow::of(row).is_none() {
-                let wide = widened(self.alloc, rows)?;
-                self.table = Table::Wide(wide);
+        match &mut self.table {
+            Table::Small(rows) => {
+                if !is_narrow::<1>(state, row) {
+                    let wide = widened::<1>(self.alloc, rows, state, row)?;
+                    self.table = Table::Wide(wide);
+                }
+                Ok(())
             }
+            Table::Wide(rows) => rows.make_place(self.alloc, state, row),
         }
-        Ok(())
     }
 
     // Makes room for one more row.
     pub(crate) fn reserve(&mut self) -> Result<(), AllocError>
         ensures entries { self.new.entries ≡ self.old.entries }
-        ensures is_wide { self.new.is_wide ≡ self.old.is_wide }
+        ensures width { self.new.width ≡ self.old.width }
         ensures room { OnOk result (0 < self.new.room) }
     {
         match &mut self.table {
-            Table::Small(rows) => rows.reserve(1),
-            Table::Wide(rows) => rows.reserve(1),
+            Table::Small(rows) => rows.reserve(),
+            Table::Wide(rows) => rows.reserve(),
         }
     }
 
     // Gives a state this row. One that has a row keeps its place, and a new one goes last.
-    pub(crate) fn insert(&mut self, state: Packed, row: Row)
-        requires place { HasPlaceFor self.old state row }
-        requires room { row_in self.old.entries state ≡ None → 0 < self.old.room }
-        ensures entries { self.new.entries ≡ insert_entry nat_eq self.old.entries state row }
+    pub(crate) fn insert(&mut self, state: &Packed, row: &Row)
+        requires place { HasPlaceFor self.old state.now row.now }
+        requires room { row_in self.old.entries state.now ≡ None → 0 < self.old.room }
+        ensures entries { self.new.entries
+            ≡ insert_entry nat_eq self.old.entries state.now row.now }
         ensures updates { (other : ℕ) → row_in self.new.entries other
-            ≡ (if nat_eq state other then Some row else row_in self.old.entries other) }
+            ≡ (if nat_eq state.now other then Some row.now else row_in self.old.entries other) }
+    {
+        self.put(state, row);
+    }
+
+    fn put(&mut self, state: &Packed, row: &Row)
+        requires place { HasPlaceFor self.old state.now row.now }
+        requires room { row_in self.old.entries state.now ≡ None → 0 < self.old.room }
+        ensures { self.new.entries ≡ insert_entry nat_eq self.old.entries state.now row.now }
     {
         match &mut self.table {
-            Table::Small(rows) => insert_small(rows, &state, &row),
-            Table::Wide(rows) => match rows.insert(state, row) {
-                Ok(_) => {}
-                Err(_) => unreachable!(),
-            },
+            Table::Small(rows) => rows.insert(state, row),
+            Table::Wide(rows) => rows.insert(state, row),
         }
     }
 
@@ -203,121 +193,18 @@ impl Rows {
             ≡ (if nat_eq state.now other then Some (record row { status = status })
             else row_in self.old.entries other) }
     {
+        self.put_status(state, status);
+    }
+
+    fn put_status(&mut self, state: &Packed, status: Status)
+        requires found { IsSome (row_in self.old.entries state.now) }
+        ensures { (row : _) → row_in self.old.entries state.now ≡ Some row
+            → self.new.entries ≡ insert_entry nat_eq self.old.entries state.now
+            (record row { status = status }) }
+    {
         match &mut self.table {
-            Table::Small(rows) => set_small_status(rows, state, status),
-            Table::Wide(rows) => set_wide_status(rows, state, status),
+            Table::Small(rows) => rows.set_status(state, status),
+            Table::Wide(rows) => rows.set_status(state, status),
         }
     }
-}
-
-// The small row of a state.
-fn small_row_in<'a>(rows: &'a IndexMap<u64, SmallRow>, state: &Packed) -> Option<&'a SmallRow>
-    requires { HasWords rows.now.entries }
-    ensures { option_copied result ≡ lookup (nat_eq state.now) rows.now.entries }
-{
-    match word_of(state) {
-        Some(word) => rows.get(&word),
-        None => None,
-    }
-}
-
-// The place of a state among small rows, or None if it has none.
-fn place_of_small(rows: &IndexMap<u64, SmallRow>, state: &Packed) -> Option<u64>
-    requires { HasWords rows.now.entries }
-    ensures some { IfSome result (λ place. (row : _)
-        × (lookup (nat_eq state.now) rows.now.entries ≡ Some row)
-        × (slice_get rows.now.entries place ≡ Some (state.now, row))) }
-    ensures within { IfSome result (λ place. place < length rows.now.entries) }
-    ensures none { IfNone result (lookup (nat_eq state.now) rows.now.entries ≡ None) }
-{
-    let word = word_of(state)?;
-    match rows.get_full(&word) {
-        Some(found) => Some(found.0 as u64),
-        None => None,
-    }
-}
-
-// The place of a state in a wide table, or None if it has none.
-fn place_of_wide(rows: &IndexMap<Packed, Row>, state: &Packed) -> Option<u64>
-    ensures some { IfSome result (λ place. (row : _)
-        × (row_in rows.now.entries state.now ≡ Some row)
-        × (slice_get rows.now.entries place ≡ Some (state.now, row))) }
-    ensures within { IfSome result (λ place. place < length rows.now.entries) }
-    ensures none { IfNone result (row_in rows.now.entries state.now ≡ None) }
-{
-    match rows.get_full(state) {
-        Some(found) => Some(found.0 as u64),
-        None => None,
-    }
-}
-
-// Gives a state this row, which fits a small one.
-fn insert_small(rows: &mut IndexMap<u64, SmallRow>, state: &Packed, row: &Row)
-    requires word { state.now < 2 ^ 64 }
-    requires small { is_small row.now ≡ true }
-    requires room { lookup (nat_eq state.now) rows.old.entries ≡ None → 0 < spare rows.old }
-    ensures entries { map wide_entry rows.new.entries
-        ≡ insert_entry nat_eq (map wide_entry rows.old.entries) state.now row.now }
-    ensures words { HasWords rows.old.entries → HasWords rows.new.entries }
-{
-    let Some(word) = word_of(state) else {
-        unreachable!()
-    };
-    let Some(small) = SmallRow::of(row) else {
-        unreachable!()
-    };
-    match rows.insert(word, small) {
-        Ok(_) => {}
-        Err(_) => unreachable!(),
-    }
-}
-
-// Writes the status of a state's small row.
-fn set_small_status(rows: &mut IndexMap<u64, SmallRow>, state: &Packed, status: Status)
-    requires words { HasWords rows.old.entries }
-    requires found { IsSome (lookup (nat_eq state.now) rows.old.entries) }
-    ensures entries { (row : _) → lookup (nat_eq state.now) rows.old.entries ≡ Some row
-        → rows.new.entries ≡ insert_entry nat_eq rows.old.entries state.now
-        (record row { status = status }) }
-    ensures words { HasWords rows.new.entries }
-{
-    let Some(word) = word_of(state) else {
-        unreachable!()
-    };
-    match rows.get_mut(&word) {
-        Some(row) => row.status = status,
-        None => unreachable!(),
-    }
-}
-
-// Writes the status of a state's row in a wide table.
-fn set_wide_status(rows: &mut IndexMap<Packed, Row>, state: &Packed, status: Status)
-    requires found { IsSome (row_in rows.old.entries state.now) }
-    ensures entries { (row : _) → row_in rows.old.entries state.now ≡ Some row
-        → rows.new.entries ≡ insert_entry nat_eq rows.old.entries state.now
-        (record row { status = status }) }
-{
-    match rows.get_mut(state) {
-        Some(row) => row.status = status,
-        None => unreachable!(),
-    }
-}
-
-// A wide table with the rows of a small one, in their order.
-fn widened(
-    alloc: Global,
-    rows: &IndexMap<u64, SmallRow>,
-) -> Result<IndexMap<Packed, Row>, AllocError>
-    ensures { IfOk result (λ wide. wide.entries ≡ map wide_entry rows.now.entries) }
-{
-    let mut wide = IndexMap::with_capacity(alloc, rows.len() + 1)?;
-    'entries: for i in 0..rows.len() {
-        match rows.get_index(i) {
-            Some(entry) => {
-                wide.insert(state_of(*entry.0), entry.1.row())?;
-            }
-            None => unreachable!(),
-        }
-    }
-    Ok(wide)
 }

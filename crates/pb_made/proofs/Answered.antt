@@ -86,7 +86,7 @@ module _ (parts : TaskParts) (graph : GraphValue) (workers : ℕ)
   -- it is the certificate of the search's rows
   is_of_search : (plan : Option Plan) (text : List ℕ) → IsOfRows plan text
       → IsCertificateOf parts unweighted (searched_guide parts left.run.ends.graph (made_settings workers))
-      left.run.ends.machine.store plan text
+      left.run.ends.run.machine.store plan text
   is_of_search plan text is =
       subst (λ (s : Store).
       IsCertificateOf parts unweighted (searched_guide parts left.run.ends.graph (made_settings workers)) s plan text)

@@ -44,7 +44,7 @@ IsCertified parts workers verdict =
     × (text : List ℕ)
     × IsCertificateOf parts unweighted
     (searched_guide parts found.run.ends.graph (made_settings workers))
-    found.run.ends.machine.store plan text
+    found.run.ends.run.machine.store plan text
     × (verdict ≡ verdict_of unweighted plan)
 
 -- ---- answers

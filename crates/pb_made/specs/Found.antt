@@ -17,6 +17,6 @@ use Rattle.pb_cert.specs.Found.{IsTracedIfAny}
 pub record Finds (parts : TaskParts) (settings : Settings) (journal : List Event)
     (plan : Option Plan) : Type 0 where
   pub run : SearchEnds parts settings Quiet journal
-  pub backed : IsBackedBy run.ends.machine.store.incumbent plan
+  pub backed : IsBackedBy run.ends.run.machine.store.incumbent plan
   pub traced : IsTracedIfAny (space_of parts) (searched_guide parts run.ends.graph settings)
-      run.ends.machine.store plan
+      run.ends.run.machine.store plan

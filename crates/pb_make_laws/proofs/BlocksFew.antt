@@ -4,6 +4,7 @@ use Rattle.std.proofs.lemmas.Bool.{le-ltb}
 use Rattle.std.proofs.lemmas.List.{length-map}
 use Rattle.std.proofs.lemmas.List.Sums.{length-filter, count_by-le-length}
 use Rattle.std.proofs.lemmas.Nat.{mul-le}
+use Rattle.pb_packed.specs.Sizes.{most_atoms}
 use Rattle.pb_pddl.specs.declared.tree.Problem.{Problem}
 use Rattle.pb_lifted.specs.declared.lifted.Lifted.{Lifted}
 use Rattle.pb_lifted.specs.declared.lifted.Schema.{Schema}
@@ -96,8 +97,8 @@ blocks_have_no_fault blocks few problem is =
     let small : length lifted.objects ≤ 14 = omega (arith, count, few) in
     let atoms : length (ground_atoms lifted) ≤ 239 = atoms_few lifted small 0 lifted.predicates in
     let actions : length (ground_actions lifted (ground_atoms lifted)) ≤ 420 = actions_few lifted small (ground_atoms lifted) 0 lifted.actions in
-    let atoms_fit : length (ground_atoms lifted) ≤ 256 = omega (arith, atoms) in
+    let atoms_fit : length (ground_atoms lifted) ≤ most_atoms = omega (arith, atoms) in
     let actions_fit : length (ground_actions lifted (ground_atoms lifted)) ≤ 65536 = omega (arith, actions) in
     ap (λ o. or_too_many o lifted) (well_typed_is_accepted blocks_tree problem (well_typed blocks few problem is))
-    ∙ neither (nat_lt 256 (length (ground_atoms lifted))) (nat_lt 65536 (length (ground_actions lifted (ground_atoms lifted)))) _ _
-    (le-ltb 256 (length (ground_atoms lifted)) atoms_fit) (le-ltb 65536 (length (ground_actions lifted (ground_atoms lifted))) actions_fit)
+    ∙ neither (nat_lt most_atoms (length (ground_atoms lifted))) (nat_lt 65536 (length (ground_actions lifted (ground_atoms lifted)))) _ _
+    (le-ltb most_atoms (length (ground_atoms lifted)) atoms_fit) (le-ltb 65536 (length (ground_actions lifted (ground_atoms lifted))) actions_fit)

@@ -20,7 +20,7 @@ use Rattle.pb_model.proofs.Callers.{broken_append}
 use Rattle.pb_lists.specs.Bundle.{SetsStatus}
 use Rattle.pb_hashed.specs.Mailed.{Owner, share_store}
 use Rattle.pb_hashed.specs.MailWork.{sent_by, IsOwnWork, share_after, ComesAlone, letters_out}
-use Rattle.pb_owner.specs.Shares.{AreOwn, AreOwnTurns, HasWorked}
+use Rattle.pb_owner.specs.Shares.{AreOwn, AreOwnTurns, IsBrokenLast, HasWorked}
 
 expansions_append : (xs ys : List Work) → expansions (xs ++ ys) ≡ expansions xs + expansions ys
 expansions_append [] ys = omega arith
@@ -31,9 +31,26 @@ expansions_append (take_goal own ∷ xs) ys = expansions_append xs ys
 expansions_append (lower cost ∷ xs) ys = expansions_append xs ys
 expansions_append (reopen x ∷ xs) ys = expansions_append xs ys
 
+last_append : (xs ys : List Work) → broken_expansions xs ≡ 0 → IsBrokenLast ys → IsBrokenLast (xs ++ ys)
+last_append [] ys none last = last
+last_append (expand own ∷ xs) ys none last = last_append xs ys none last
+last_append (break_off own offers ∷ xs) ys none last = absurd (omega arith)
+last_append (cut own ∷ xs) ys none last = last_append xs ys none last
+last_append (take_goal own ∷ xs) ys none last = last_append xs ys none last
+last_append (lower cost ∷ xs) ys none last = last_append xs ys none last
+last_append (reopen x ∷ xs) ys none last = last_append xs ys none last
+
+last_one : (x : Work) → IsBrokenLast (x ∷ [])
+last_one (expand own) = tt
+last_one (break_off own offers) = refl
+last_one (cut own) = tt
+last_one (take_goal own) = tt
+last_one (lower cost) = tt
+last_one (reopen x) = tt
+
 module _ (space : Space) (guide : Guide) (weight : Weight) (number : ℕ) where
   pub worked_none : (old new : Owner) → new ≡ old → HasWorked space guide weight number 0 0 old new
-  worked_none old new is = record { works = []; comes = is; turns = tt; used_is = refl; broken_is = refl }
+  worked_none old new is = record { works = []; comes = is; turns = tt; used_is = refl; broken_is = refl; broken_last = tt }
 
   alone_append : (xs ys : List Work) (old mid new : Owner) → ComesAlone space guide weight number xs old mid → ComesAlone space guide weight number ys mid new
       → ComesAlone space guide weight number (xs ++ ys) old new
@@ -45,14 +62,15 @@ module _ (space : Space) (guide : Guide) (weight : Weight) (number : ℕ) where
   turns_append [] ys old mid comes one two = subst (λ k. AreOwnTurns space guide weight number ys k) comes two
   turns_append (x ∷ xs) ys old mid comes one two = (one.0, turns_append xs ys (share_after space guide weight number x old) mid comes.2 one.1 two)
 
-  pub worked_then : (used broken more other : ℕ) (old mid new : Owner) → HasWorked space guide weight number used broken old mid → HasWorked space guide weight number more other mid new
+  pub worked_then : (used broken more other : ℕ) → broken ≡ 0 → (old mid new : Owner) → HasWorked space guide weight number used broken old mid → HasWorked space guide weight number more other mid new
       → HasWorked space guide weight number (used + more) (broken + other) old new
-  worked_then used broken more other old mid new one two = record {
+  worked_then used broken more other none old mid new one two = record {
     works = one.works ++ two.works;
     comes = alone_append one.works two.works old mid new one.comes two.comes;
     turns = turns_append one.works two.works old mid one.comes one.turns two.turns;
     used_is = omega (arith, expansions_append one.works two.works, one.used_is, two.used_is);
     broken_is = omega (arith, broken_append one.works two.works, one.broken_is, two.broken_is);
+    broken_last = last_append one.works two.works (one.broken_is ∙ none) two.broken_last;
   }
 
   -- ---- one piece
@@ -78,6 +96,7 @@ module _ (space : Space) (guide : Guide) (weight : Weight) (number : ℕ) where
       turns = (turn, tt);
       used_is = u;
       broken_is = b;
+      broken_last = last_one x;
     }
       where
         is : new ≡ share_after space guide weight number x o

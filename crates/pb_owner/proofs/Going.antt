@@ -1,5 +1,5 @@
 -- One thing after another: what an owner did, and what it sent.
-use Rattle.std.proofs.Common.{ℕ, ◌+◌, ◌*◌, ◌<◌, ◌≤◌, ◌-◌, ◌++◌, List, [], sym, ap, ◌∙◌, subst, arith, mul-le-mul_left}
+use Rattle.std.proofs.Common.{◌≡◌, ℕ, ◌+◌, ◌*◌, ◌<◌, ◌≤◌, ◌-◌, ◌++◌, List, [], sym, ap, ◌∙◌, subst, arith, mul-le-mul_left}
 use Rattle.std.proofs.lemmas.List.{append-nil, append_assoc}
 use Rattle.pb_model.specs.Space.{Space, IsProper}
 use Rattle.pb_model.specs.Guide.{Guide}
@@ -40,28 +40,28 @@ module _ {K : Type 0} (post : Post K) where
       worked = λ letters. worked_none space guide weight number (owner_of old letters) (owner_of old (λ to. letters to ++ [])) (λ i. owner_of old (λ to. append-nil (letters to) i));
     }
 
-    pub expanded_then : (used broken more other : ℕ) (old mid new : Share) (before after next : PostPass) → HasExpanded space guide weight number used broken post old mid before after
+    pub expanded_then : (used broken more other : ℕ) → broken ≡ 0 → (old mid new : Share) (before after next : PostPass) → HasExpanded space guide weight number used broken post old mid before after
         → HasExpanded space guide weight number more other post mid new after next → HasExpanded space guide weight number (used + more) (broken + other) post old new before next
-    expanded_then used broken more other old mid new before after next one two = record {
+    expanded_then used broken more other none old mid new before after next one two = record {
       sends = one.sends ++ two.sends;
       posted = posted_then before after next one.sends two.sends [] [] one.posted two.posted;
       worked = λ letters.
           subst (λ (o : Owner). HasWorked space guide weight number (used + more) (broken + other) (owner_of old letters) o)
           (λ i. owner_of new (λ to. (append_assoc (letters to) (letters_to to one.sends) (letters_to to two.sends) ∙ ap (λ l. letters to ++ l) (sym (letters_to_append to one.sends two.sends))) i))
-          (worked_then space guide weight number used broken more other (owner_of old letters) (owner_of mid (λ to. letters to ++ letters_to to one.sends)) (owner_of new (λ to. (letters to ++ letters_to to one.sends) ++ letters_to to two.sends))
+          (worked_then space guide weight number used broken more other none (owner_of old letters) (owner_of mid (λ to. letters to ++ letters_to to one.sends)) (owner_of new (λ to. (letters to ++ letters_to to one.sends) ++ letters_to to two.sends))
           (one.worked letters) (two.worked (λ to. letters to ++ letters_to to one.sends)));
     }
 
     -- work that sends nothing
-    pub expanded_still : (used broken : ℕ) (old mid new : Share) (before after : PostPass) → HasExpanded space guide weight number used broken post old mid before after
+    pub expanded_still : (used broken : ℕ) → broken ≡ 0 → (old mid new : Share) (before after : PostPass) → HasExpanded space guide weight number used broken post old mid before after
         → ((letters : ℕ → List Letter) → HasWorked space guide weight number 0 0 (owner_of mid letters) (owner_of new letters)) → HasExpanded space guide weight number used broken post old new before after
-    expanded_still used broken old mid new before after one still = record {
+    expanded_still used broken none old mid new before after one still = record {
       sends = one.sends;
       posted = one.posted;
       worked = λ letters.
-          let both = worked_then space guide weight number used broken 0 0 (owner_of old letters) (owner_of mid (λ to. letters to ++ letters_to to one.sends)) (owner_of new (λ to. letters to ++ letters_to to one.sends))
+          let both = worked_then space guide weight number used broken 0 0 none (owner_of old letters) (owner_of mid (λ to. letters to ++ letters_to to one.sends)) (owner_of new (λ to. letters to ++ letters_to to one.sends))
           (one.worked letters) (still (λ to. letters to ++ letters_to to one.sends)) in
-          record { works = both.works; comes = both.comes; turns = both.turns; used_is = omega (arith, both.used_is); broken_is = omega (arith, both.broken_is) };
+          record { works = both.works; comes = both.comes; turns = both.turns; used_is = omega (arith, both.used_is); broken_is = omega (arith, both.broken_is); broken_last = both.broken_last };
     }
 
     pub expanded_own : (used broken : ℕ) (old new : Share) (before after : PostPass) → HasExpanded space guide weight number used broken post old new before after → AreOwn guide number (row_of old.bundle) → AreOwn guide number (row_of new.bundle)

@@ -8,7 +8,7 @@ use Rattle.pb_model.specs.Weight.{Weight}
 use Rattle.pb_model.specs.Guide.{Guide}
 use Rattle.pb_model.specs.Store.{Part, MayBeCut}
 use Rattle.pb_model.specs.Key.{IsFirstRow}
-use Rattle.pb_model.specs.Work.{Work, expansions, broken_expansions}
+use Rattle.pb_model.specs.Work.{Work, break_off, expansions, broken_expansions}
 use Rattle.pb_machine.specs.Turns.{IsLeaseTurn}
 use Rattle.pb_lists.specs.Bundle.{Content, row_of}
 use Rattle.pb_task.specs.declared.parts.TaskParts.{TaskParts}
@@ -56,8 +56,14 @@ AreOwnTurns space guide weight number (work ∷ works) old =
     IsLeaseTurn guide (share_store weight number old) work
     × AreOwnTurns space guide weight number works (share_after space guide weight number work old)
 
+-- if one of these pieces of work is an expansion that was broken off, it is the last
+abbrev pub IsBrokenLast : List Work → Type 0
+IsBrokenLast [] = ⊤
+IsBrokenLast (break_off own offers ∷ works) = works ≡ []
+IsBrokenLast (work ∷ works) = IsBrokenLast works
+
 -- Alone, the owner came from the one share to the other, by turns: by exactly so many expansions,
--- and so many that were broken off.
+-- and so many that were broken off. If one was, it was the last turn.
 pub record HasWorked (space : Space) (guide : Guide) (weight : Weight) (number used broken : ℕ)
     (old new : Owner) : Type 0 where
   pub works : List Work
@@ -65,6 +71,7 @@ pub record HasWorked (space : Space) (guide : Guide) (weight : Weight) (number u
   pub turns : AreOwnTurns space guide weight number works old
   pub used_is : expansions works ≡ used
   pub broken_is : broken_expansions works ≡ broken
+  pub broken_last : IsBrokenLast works
 
 -- the state has this row, which is the first Opened one of the share, and the next turn is its
 -- expansion

@@ -1,10 +1,11 @@
 -- The digits of a number are hexadecimal digits, and tell the number.
-use Rattle.std.proofs.Common.{lit<, rules, pow-suc, ◌≡◌, ℕ, zero, suc, ◌+◌, ◌*◌, ◌/◌, ◌%◌, ◌^◌, ◌<◌, IsTrue, [], ◌∷◌, ◌++◌, length, take, get_or, All, sym, ap, subst, ◌∙◌, arith, length-append}
+use Rattle.std.proofs.Common.{lit<, rules, pow-suc, ◌≡◌, ℕ, zero, suc, ◌+◌, ◌*◌, ◌/◌, ◌%◌, ◌^◌, ◌<◌, IsTrue, ◌≤◌, Option, Some, None, IfSome, List, [], ◌∷◌, ◌++◌, length, take, get_or, All, sym, ap, subst, ◌∙◌, arith, length-append}
 use Rattle.std.proofs.lemmas.Nat.{mod_below, div-add-mod', div_below}
 use Rattle.std.proofs.lemmas.List.{append_cancel_left}
 use Rattle.std.proofs.lemmas.List.Elements.{All-append, All-cons}
 use Rattle.std.proofs.Math.Seq.{take-append_seam}
-use Rattle.pb_packed.specs.Digits.{hex_digit, hex_digits, is_hex_digit}
+use Rattle.pb_packed.specs.Digits.{hex_digit, hex_digits, is_hex_digit, AreHexDigits}
+use Rattle.pb_packed.specs.Sizes.{most_digits}
 use Rattle.pb_packed.specs.Laws.{DigitsAreHex, DigitsTellNumbers}
 use Rattle.pb_packed.proofs.HexDigits.{no_digits, one_more}
 
@@ -39,3 +40,12 @@ digits_tell_numbers (suc count) n m n_small m_small same =
     let quotients : n / 16 ≡ m / 16 =
     digits_tell_numbers count (n / 16) (m / 16) (div_below n 16 (16 ^ count) (lit< tt) (omega (arith, power, n_small))) (div_below m 16 (16 ^ count) (lit< tt) (omega (arith, power, m_small))) front in
     sym (div-add-mod' n 16) ∙ ap (λ k. k * 16 + n % 16) quotients ∙ ap (λ k. m / 16 * 16 + k) rest ∙ div-add-mod' m 16
+
+-- the text that the digits of a number are is made of digits
+pub are_digits : (text : List ℕ) (n : ℕ) → text ≡ hex_digits (length text) n → All (λ c. IsTrue (is_hex_digit c)) text
+are_digits text n is = subst (λ (t : List ℕ). All (λ c. IsTrue (is_hex_digit c)) t) (sym is) (digits_are_hex (length text) n).1
+
+pub are_digits_if_read : (text : List ℕ) (read : Option ℕ) → IfSome read (λ n. text ≡ hex_digits (length text) n)
+    → 1 ≤ length text → length text ≤ most_digits → IfSome read (λ n. AreHexDigits text)
+are_digits_if_read text None is some most = tt
+are_digits_if_read text (Some n) is some most = (some, most, are_digits text n is)

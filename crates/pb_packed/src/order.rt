@@ -1,10 +1,11 @@
-ghost use Rattle.std.specs.Prelude.{◌≡◌, ◌++◌, ◌/◌, ◌%◌, ◌^◌, nat_eq, Some};
+ghost use Rattle.std.specs.Prelude.{◌≡◌, nat_eq, Some};
 ghost use Rattle.std.specs.Ordering.{nat_cmp};
 ghost use Rattle.std.proofs.Common.{rules};
 ghost use Rattle.std.specs.Cmp.Rules.{comparing, hashing};
-ghost use Rattle.std.specs.Hash as fed;
+ghost use Rattle.pb_packed.specs.Forms.{words_fed};
 
 use crate::Packed;
+use crate::packed::Form;
 use std::cmp::Ordering;
 use std::hash::{Hash, Hasher};
 
@@ -14,9 +15,12 @@ impl PartialEq for Packed {
     ghost laws = { Prim.search rules };
 
     fn eq(&self, other: &Packed) -> bool {
-        let (high, low) = self.halves();
-        let (other_high, other_low) = other.halves();
-        (high == other_high) & (low == other_low)
+        match (&self.form, &other.form) {
+            (Form::Word(word), Form::Word(other)) => *word == *other,
+            (Form::Few(words), Form::Few(other)) => *words == *other,
+            (Form::Many(words), Form::Many(other)) => *words == *other,
+            _ => false,
+        }
     }
 }
 
@@ -25,14 +29,16 @@ impl Eq for Packed {
 }
 
 impl Hash for Packed {
-    ghost hash_input = { λ n. fed.u128 (n / 2 ^ 128) ++ fed.u128 (n % 2 ^ 128) };
+    ghost hash_input = { words_fed };
 
     ghost respects_eq = { Prim.search (hashing, rules) };
 
     fn hash<H: Hasher>(&self, state: &mut H) {
-        let (high, low) = self.halves();
-        high.hash(state);
-        low.hash(state);
+        match &self.form {
+            Form::Word(word) => word.hash(state),
+            Form::Few(words) => words.hash(state),
+            Form::Many(words) => words.hash(state),
+        }
     }
 }
 
@@ -56,14 +62,15 @@ impl Ord for Packed {
     ghost matches_eq = { Prim.search rules };
 
     fn cmp(&self, other: &Packed) -> Ordering {
-        let (high, low) = self.halves();
-        let (other_high, other_low) = other.halves();
-        if high == other_high {
-            low.cmp(&other_low)
-        } else if high < other_high {
-            Ordering::Less
-        } else {
-            Ordering::Greater
+        match (&self.form, &other.form) {
+            (Form::Word(word), Form::Word(other)) => word.cmp(other),
+            (Form::Few(words), Form::Few(other)) => words.cmp(other),
+            (Form::Many(words), Form::Many(other)) => words.cmp(other),
+            (Form::Word(_), _) => Ordering::Less,
+            (Form::Few(_), Form::Word(_)) => Ordering::Greater,
+            (Form::Few(_), Form::Many(_)) => Ordering::Less,
+            (Form::Many(_), Form::Word(_)) => Ordering::Greater,
+            (Form::Many(_), Form::Few(_)) => Ordering::Greater,
         }
     }
 }

@@ -1,45 +1,37 @@
-ghost use Rattle.std.specs.Prelude.{◌≡◌, ◌+◌, ◌*◌, ◌/◌, ◌%◌, ◌^◌};
+ghost use Rattle.std.specs.Prelude.{◌≡◌, ◌<◌, ◌≤◌, ◌^◌, IfSome, IfNone, length};
+ghost use Rattle.pb_packed.specs.Words.{number_of, AreWords};
 
+use crate::Words;
 use std::marker::Model;
 
-// How many values a word has.
-const WORDS: u128 = 1 << 64;
+// A number in the smallest of three forms that it fits. So two numbers are equal only if their forms
+// are, and the order of the forms is that of the numbers.
+#[derive(Clone, Copy, Debug)]
+pub(crate) enum Form {
+    Word(u64),
+    Few(Words<4>),
+    Many(Words<16>),
+}
 
-/// A packed state: 256 bits, which contracts see as one number. It is held as four words, the
-/// lowest first. Two halves of type `u128` would be aligned to 16 bytes, which makes a row that
-/// holds states longer.
+/// A packed state: 1,024 bits, which contracts see as one number.
 #[derive(Clone, Copy, Debug)]
 pub struct Packed {
-    first: u64,
-    second: u64,
-    third: u64,
-    fourth: u64,
+    pub(crate) form: Form,
 }
 
 impl Model for Packed {
-    ghost use Rattle.std.specs.Prelude.{ℕ, ◌+◌, ◌*◌, ◌/◌, ◌%◌, ◌^◌, ◌<◌};
-    ghost use Rattle.pb_packed.specs.Words.{words_of_sum};
+    ghost use Rattle.std.specs.Prelude.{ℕ};
+    ghost use Rattle.pb_packed.specs.Forms.{number_in, IsSmallest, form_of, form_is_back};
 
     ghost Value = { ℕ };
 
-    ghost view = { λ p. (p.fourth * 2 ^ 64 + p.third) * 2 ^ 128 + (p.second * 2 ^ 64 + p.first) };
+    ghost view = { λ p. number_in p.form };
 
-    ghost invariant = { λ p. (p.first < 2 ^ 64) × (p.second < 2 ^ 64) × (p.third < 2 ^ 64)
-        × (p.fourth < 2 ^ 64) };
+    ghost invariant = { λ p. IsSmallest p.form };
 
-    ghost inverse = { λ n. record {
-      first = n % 2 ^ 64;
-      second = n / 2 ^ 64 % 2 ^ 64;
-      third = n / 2 ^ 128 % 2 ^ 64;
-      fourth = n / 2 ^ 192;
-    } };
+    ghost inverse = { λ n. record { form = form_of n } };
 
-    ghost inverse_ok = { λ a h i. record {
-      first = (words_of_sum a.first a.second a.third a.fourth h.0 h.1 h.2).0 i;
-      second = (words_of_sum a.first a.second a.third a.fourth h.0 h.1 h.2).1 i;
-      third = (words_of_sum a.first a.second a.third a.fourth h.0 h.1 h.2).2 i;
-      fourth = (words_of_sum a.first a.second a.third a.fourth h.0 h.1 h.2).3 i;
-    } };
+    ghost inverse_ok = { λ a h i. record { form = form_is_back a.form h i } };
 }
 
 impl Packed {
@@ -48,54 +40,86 @@ impl Packed {
         ensures { result ≡ 0 }
     {
         Packed {
-            first: 0,
-            second: 0,
-            third: 0,
-            fourth: 0,
+            form: Form::Word(0),
         }
     }
 
-    // The number's high and low half.
+    /// The state whose number is this word.
     #[inline]
-    pub(crate) fn halves(&self) -> (u128, u128)
-        ensures { result.0 * 2 ^ 128 + result.1 ≡ self.now }
-    {
-        let high = u128::from(self.fourth) * WORDS + u128::from(self.third);
-        let low = u128::from(self.second) * WORDS + u128::from(self.first);
-        (high, low)
-    }
-
-    // The number that has these halves.
-    #[inline]
-    pub(crate) fn of_halves(high: u128, low: u128) -> Packed
-        ensures { result ≡ high * 2 ^ 128 + low }
+    pub fn of_word(word: u64) -> Packed
+        ensures { result ≡ word }
     {
         Packed {
-            first: (low % WORDS) as u64,
-            second: (low / WORDS) as u64,
-            third: (high % WORDS) as u64,
-            fourth: (high / WORDS) as u64,
+            form: Form::Word(word),
         }
     }
 
-    // The lowest word.
+    /// The word that is the state's number, if it fits one.
     #[inline]
-    pub(crate) fn low_word(&self) -> u64
-        ensures { result ≡ self.now % 2 ^ 64 }
+    pub fn as_word(&self) -> Option<u64>
+        ensures some { IfSome result (λ word. word ≡ self.now) }
+        ensures small { IfSome result (λ word. word < 2 ^ 64) }
+        ensures none { IfNone result (2 ^ 64 ≤ self.now) }
     {
-        self.first
+        match &self.form {
+            Form::Word(word) => Some(*word),
+            Form::Few(_) => None,
+            Form::Many(_) => None,
+        }
     }
 
-    // The same number with another lowest word.
-    #[inline]
-    pub(crate) fn with_low_word(&self, word: u64) -> Packed
-        ensures { result ≡ self.now / 2 ^ 64 * 2 ^ 64 + word }
+    /// The state whose number these words spell, the lowest first.
+    pub fn of_slice(words: &[u64]) -> Packed
+        requires few { length words.now ≤ 16 }
+        requires words { AreWords (length words.now) words.now }
+        ensures { result ≡ number_of words.now }
     {
-        Packed {
-            first: word,
-            second: self.second,
-            third: self.third,
-            fourth: self.fourth,
+        if words.len() <= 4 {
+            Packed::of_few(Words::of_slice(words))
+        } else {
+            Packed::of_words(Words::of_slice(words))
+        }
+    }
+
+    /// The state whose number these 4 words are.
+    #[inline]
+    pub fn of_few(words: Words<4>) -> Packed
+        ensures { result ≡ words }
+    {
+        if words.fits(1) {
+            Packed::of_word(words.low_word())
+        } else {
+            Packed {
+                form: Form::Few(words),
+            }
+        }
+    }
+
+    // The smallest form of a number in 16 words.
+    pub(crate) fn of_words(words: Words<16>) -> Packed
+        ensures { result ≡ words }
+    {
+        if words.fits(1) {
+            Packed::of_word(words.low_word())
+        } else if words.fits(4) {
+            Packed {
+                form: Form::Few(words.resized::<4>()),
+            }
+        } else {
+            Packed {
+                form: Form::Many(words),
+            }
+        }
+    }
+
+    /// The number in 16 words.
+    pub fn words(&self) -> Words<16>
+        ensures { result ≡ self.now }
+    {
+        match self.form {
+            Form::Word(word) => Words::of_word(word),
+            Form::Few(words) => words.resized::<16>(),
+            Form::Many(words) => words,
         }
     }
 }

@@ -2,6 +2,7 @@
 use Rattle.std.proofs.Common.{◌≡◌, ℕ, suc, ◌*◌, ◌^◌, ◌<◌, ◌≤◌, false, List, [], ◌∷◌, length, map, All, IsTrue, refl, sym, ap, ◌∙◌, subst, arith, nat_lt}
 use Rattle.std.proofs.lemmas.Bool.{and_parts, ltb-true}
 use Rattle.std.proofs.lemmas.List.Elements.{All-weaker}
+use Rattle.pb_packed.specs.Sizes.{most_atoms}
 use Rattle.pb_packed.specs.Bits.{bits_of}
 use Rattle.pb_model.specs.Space.{Space, IsProper}
 use Rattle.pb_task.specs.declared.parts.GroundAction.{GroundAction}
@@ -46,8 +47,8 @@ are_sets strips tracked sets is are few e = record {
 }
 
 -- the tracked atoms have numbers of 8 bits
-pub small_atoms : (strips : StripsParts) (tracked : List ℕ) → IsStrips strips → All (λ atom. atom < strips.atoms) tracked → All (λ atom. atom < 256) tracked
-small_atoms strips tracked is are = All-weaker (λ atom. atom < strips.atoms) (λ atom. atom < 256) (λ atom less. let few : strips.atoms ≤ 256 = is.atoms in omega (arith, few, less)) tracked are
+pub small_atoms : (strips : StripsParts) (tracked : List ℕ) → IsStrips strips → All (λ atom. atom < strips.atoms) tracked → All (λ atom. atom < most_atoms) tracked
+small_atoms strips tracked is are = All-weaker (λ atom. atom < strips.atoms) (λ atom. atom < most_atoms) (λ atom less. let few : strips.atoms ≤ most_atoms = is.atoms in omega (arith, few, less)) tracked are
 
 pub strips_table : (strips : StripsParts) (tracked costs : List ℕ) (state : ℕ) → IsStrips strips → All (λ atom. atom < strips.atoms) tracked → length tracked ≤ 12 → AreOfStrips strips tracked costs → IsTrue ((strips_space strips).is_state state)
     → estimate_in (cost_in costs (image_of_set tracked state)) ≡ strips_value strips tracked state

@@ -1,3 +1,4 @@
+pub use Rattle.pb_packed.specs.Sizes
 pub mod Least
 pub mod Projection
 pub mod Projected

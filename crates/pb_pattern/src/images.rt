@@ -1,7 +1,8 @@
 // Images of states: the tracked atoms of a set, and the cells of the tracked pieces of a board.
 ghost use Rattle.std.specs.Prelude.{[], ◌≡◌, ◌+◌, ◌*◌, ◌<◌, ◌≤◌, ◌^◌, ◌==◌, All, IfOk, IfSome, IsTrue, length, map, not, OnOk, position, take, ◌++◌};
+ghost use Rattle.pb_packed.specs.Sizes.{most_atoms};
 ghost use Rattle.pb_packed.specs.Bits.{bit_number};
-ghost use Rattle.pb_task.specs.Strips.{has_atom, IsStrips};
+ghost use Rattle.pb_task.specs.Strips.{action_at, has_atom, IsStrips};
 ghost use Rattle.pb_task.specs.Tiles.{board_of, board_state, cell_count, is_board_state, IsTiles};
 ghost use Rattle.pb_pattern.specs.Projected.{atoms_by, cell_with, cells_from, goal_first, image_of_board, image_of_set, placing_of, projected_strips, tracked_atoms, tracked_tiles};
 ghost use Rattle.pb_pattern.specs.Graphs.{parts_of, pieces_of, rule_of};
@@ -9,7 +10,7 @@ ghost use Rattle.pb_pattern.specs.Graphs.{parts_of, pieces_of, rule_of};
 use crate::pieces::Pieces;
 use crate::sets::{Rule, Sets};
 use pb_packed::Packed;
-use pb_task::{GroundAction, StripsParts, TilesParts};
+use pb_task::{Actions, StripsParts, TilesParts};
 use std::alloc::{AllocError, Global};
 
 // The greatest number of cells that a board has.
@@ -19,7 +20,7 @@ const MOST_CELLS: usize = 16;
 
 // The goal's atoms among the first `count`.
 fn goal_atoms(alloc: Global, goal: &Packed, count: u32) -> Result<Vec<u32>, AllocError>
-    requires { count ≤ 256 }
+    requires { count ≤ most_atoms }
     ensures { IfOk result (λ atoms. atoms.items ≡ atoms_by (has_atom goal.now) count) }
 {
     let mut atoms = Vec::new(alloc);
@@ -33,7 +34,7 @@ fn goal_atoms(alloc: Global, goal: &Packed, count: u32) -> Result<Vec<u32>, Allo
 
 // The atoms among the first `count` that the goal doesn't have.
 fn other_atoms(alloc: Global, goal: &Packed, count: u32) -> Result<Vec<u32>, AllocError>
-    requires { count ≤ 256 }
+    requires { count ≤ most_atoms }
     ensures { IfOk result (λ atoms. atoms.items
         ≡ atoms_by (λ atom. not (has_atom goal.now atom)) count) }
 {
@@ -61,7 +62,7 @@ pub fn tracked_atoms(alloc: Global, strips: &StripsParts, k: u32) -> Result<Vec<
 // 1 if an atom is in a set, and else 0.
 #[inline]
 fn atom_bit(set: &Packed, atom: u32) -> u32
-    requires { atom < 256 }
+    requires { atom < most_atoms }
     ensures bit { result ≡ bit_number (has_atom set.now atom) }
     ensures small { result ≤ 1 }
 {
@@ -71,7 +72,7 @@ fn atom_bit(set: &Packed, atom: u32) -> u32
 /// The image of a set of atoms: which of the tracked ones it has.
 pub fn image_of_set(tracked: &[u32], set: &Packed) -> u32
     requires few { length tracked.now ≤ 12 }
-    requires atoms { All (λ atom. atom < 256) tracked.now }
+    requires atoms { All (λ atom. atom < most_atoms) tracked.now }
     ensures image { result ≡ image_of_set tracked.now set.now }
     ensures small { result < 2 ^ length tracked.now }
 {
@@ -83,32 +84,29 @@ pub fn image_of_set(tracked: &[u32], set: &Packed) -> u32
 }
 
 // A ground action as far as it concerns the tracked atoms.
-fn rule_of(tracked: &[u32], action: &GroundAction) -> Rule
+fn rule_of(tracked: &[u32], actions: &Actions, at: usize) -> Rule
+    requires at { at < length actions.now }
     requires few { length tracked.now ≤ 12 }
-    requires atoms { All (λ atom. atom < 256) tracked.now }
-    ensures { result ≡ rule_of tracked.now action.now }
+    requires atoms { All (λ atom. atom < most_atoms) tracked.now }
+    ensures { result ≡ rule_of tracked.now (action_at actions.now at) }
 {
     Rule {
-        needs: image_of_set(tracked, &action.needs),
-        adds: image_of_set(tracked, &action.adds),
-        deletes: image_of_set(tracked, &action.deletes),
-        cost: action.cost,
+        needs: image_of_set(tracked, &actions.needs(at)),
+        adds: image_of_set(tracked, &actions.adds(at)),
+        deletes: image_of_set(tracked, &actions.deletes(at)),
+        cost: actions.cost(at),
     }
 }
 
 // The actions of a task as far as they concern the tracked atoms.
-fn rules_of(
-    alloc: Global,
-    tracked: &[u32],
-    actions: &[GroundAction],
-) -> Result<Vec<Rule>, AllocError>
+fn rules_of(alloc: Global, tracked: &[u32], actions: &Actions) -> Result<Vec<Rule>, AllocError>
     requires few { length tracked.now ≤ 12 }
-    requires atoms { All (λ atom. atom < 256) tracked.now }
+    requires atoms { All (λ atom. atom < most_atoms) tracked.now }
     ensures { IfOk result (λ rules. rules.items ≡ map (rule_of tracked.now) actions.now) }
 {
     let mut rules = Vec::with_capacity(alloc, actions.len())?;
-    for action in actions {
-        rules.push(rule_of(tracked, action))?;
+    for at in 0..actions.len() {
+        rules.push(rule_of(tracked, actions, at))?;
     }
     Ok(rules)
 }
@@ -116,10 +114,10 @@ fn rules_of(
 /// The task over the tracked atoms alone.
 pub fn sets_of(alloc: Global, strips: &StripsParts, tracked: &[u32]) -> Result<Sets, AllocError>
     requires few { length tracked.now ≤ 12 }
-    requires atoms { All (λ atom. atom < 256) tracked.now }
+    requires atoms { All (λ atom. atom < most_atoms) tracked.now }
     ensures { IfOk result (λ sets. parts_of sets ≡ projected_strips strips.now tracked.now) }
 {
-    let rules = rules_of(alloc, tracked, strips.actions.as_slice())?;
+    let rules = rules_of(alloc, tracked, &strips.actions)?;
     Ok(Sets {
         atoms: tracked.len() as u32,
         rules,

@@ -9,7 +9,7 @@ use Rattle.pb_outside.specs.Outside.{Files}
 use Rattle.pb_outside.specs.Calls.{HasBytes}
 use Rattle.pb_outside.specs.Saves.{HoldsPart, IsWritten}
 use Rattle.pb_outside.proofs.Callers.{added_written, part_of_more}
-use Rattle.pb_print.specs.Saved.{PutsLine, AreLines, AddsLine}
+use Rattle.pb_print.specs.Saved.{longest_line, PutsLine, AreLines, AddsLine}
 
 pub begun : (old new : Files) (name : List ℕ) (texts : List (List ℕ)) → new name ≡ Some [] → IsWritten new name [] (lines (take 0 texts))
 begun old new name texts e = ([], e, refl)
@@ -42,7 +42,7 @@ longer texts at len more old new empty puts so_far is =
     let last : more ≡ length (line puts.0) = is ∙ ap length fresh in
     omega (arith, all, last, so_far)
 
-pub short_line : (old new : List ℕ) (texts : List (List ℕ)) (at more : ℕ) → old ≡ [] → PutsLine old new texts at → more ≡ length new → more ≤ 128
+pub short_line : (old new : List ℕ) (texts : List (List ℕ)) (at more : ℕ) → old ≡ [] → PutsLine old new texts at → more ≡ length new → more ≤ longest_line
 short_line old new texts at more empty puts is = let none : length old ≡ 0 = ap length empty in omega (arith, puts.3, is, none)
 
 pub all_lines : (texts : List (List ℕ)) (at : ℕ) → length texts ≤ at → lines (take at texts) ≡ lines texts

@@ -1,7 +1,7 @@
 -- The line of a number, in a list of lines and in two lists one behind the other.
 use Rattle.std.proofs.Common.{◌≡◌, ℕ, zero, suc, ◌+◌, ◌-◌, ◌≤◌, Option, None, Some, List, [], ◌∷◌, ◌++◌, length, slice_get, sym, subst, arith}
 use Rattle.std.proofs.lemmas.List.{length-append}
-use Rattle.pb_print.specs.Saved.{PutsLine}
+use Rattle.pb_print.specs.Saved.{longest_line, PutsLine}
 
 pub get_left : (texts others : List (List ℕ)) (at : ℕ) (text : List ℕ) → slice_get texts at ≡ Some text → slice_get (texts ++ others) at ≡ Some text
 get_left [] others at text is = absurd (none_some text is)
@@ -24,5 +24,5 @@ puts_left old new texts others at puts = (puts.0, get_left texts others at puts.
 pub puts_right : (old new : List ℕ) (texts others : List (List ℕ)) (at past : ℕ) → length texts ≤ at → at - length texts ≡ past → PutsLine old new others past → PutsLine old new (texts ++ others) at
 puts_right old new texts others at past le e puts = (puts.0, get_right texts others at puts.0 le (subst (λ n. slice_get others n ≡ Some puts.0) (sym e) puts.1), puts.2, puts.3)
 
-pub short_enough : (old new text : List ℕ) → new ≡ old ++ text → length text ≤ 128 → length new ≤ length old + 128
+pub short_enough : (old new text : List ℕ) → new ≡ old ++ text → length text ≤ longest_line → length new ≤ length old + longest_line
 short_enough old new text e le = rw (e, length-append old text) (omega (arith, le))

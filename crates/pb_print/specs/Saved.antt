@@ -6,12 +6,16 @@ use Rattle.pb_outside.specs.Calls.{Call}
 use Rattle.pb_outside.specs.Saves.{IsWritten, HaveBegun}
 use Rattle.pb_model.specs.Texts.{line, lines}
 
--- the line of this number, counted from 0, was put at the end of the piece, which grew by at most
--- 128 bytes
+-- how many bytes a line of a saved text has at most, its line feed included
+abbrev pub longest_line : ℕ
+longest_line = 128
+
+-- the line of this number, counted from 0, was put at the end of the piece, which grew by no more
+-- than a line has
 abbrev pub PutsLine : (old new : List ℕ) → List (List ℕ) → (at : ℕ) → Type 0
 PutsLine old new texts at =
     (text : List ℕ) × (slice_get texts at ≡ Some text) × (new ≡ old ++ line text)
-    × (length new ≤ length old + 128)
+    × (length new ≤ length old + longest_line)
 
 -- the piece is made of whole lines
 abbrev pub AreLines : List ℕ → Type 0

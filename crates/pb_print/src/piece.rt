@@ -1,9 +1,10 @@
 ghost use Rattle.std.specs.Prelude.{◌≡◌, ◌+◌, ◌≤◌, [], ◌++◌, length};
 ghost use Rattle.std.specs.Fmt.{decimal};
 ghost use Rattle.pb_packed.specs.Digits.{hex_digits};
+ghost use Rattle.pb_packed.specs.Sizes.{version_1_digits};
 
 use itoa::Buffer;
-use pb_packed::Packed;
+use pb_packed::{DIGITS, MOST_DIGITS, Packed};
 use std::marker::Model;
 
 /// A piece of a text, of at most 4,096 bytes, in a buffer of that size. No call takes memory.
@@ -79,14 +80,15 @@ impl Piece {
         self.push(buffer.format(n).as_bytes());
     }
 
-    /// Appends a state in 64 hexadecimal digits.
+    /// Appends a state in the hexadecimal digits of version 1.
     pub fn push_hex(&mut self, state: &Packed)
-        requires { length self.old + 64 ≤ 4096 }
-        ensures digits { self.new ≡ self.old ++ hex_digits 64 state.now }
-        ensures len { length self.new ≡ length self.old + 64 }
+        requires { length self.old + version_1_digits ≤ 4096 }
+        ensures digits { self.new ≡ self.old ++ hex_digits version_1_digits state.now }
+        ensures len { length self.new ≡ length self.old + version_1_digits }
     {
-        let mut digits = [0u8; 64];
-        state.hex(&mut digits);
-        self.push(&digits);
+        let mut digits = [0u8; MOST_DIGITS];
+        state.hex(DIGITS as u32, &mut digits);
+        let (text, _rest) = digits.as_slice().split_at(DIGITS);
+        self.push(text);
     }
 }

@@ -4,7 +4,7 @@ ghost use Rattle.pb_model.specs.Texts.{line, lines};
 ghost use Rattle.pb_outside.specs.Outside.{IfTold, KeepsOthers, KeepsHolds, HasCause};
 ghost use Rattle.pb_outside.specs.Calls.{Call, HasBytes, KeepsLoads};
 ghost use Rattle.pb_outside.specs.Saves.{IsPartSaved, HoldsPart, IsWritten, Saves, SavesPart, HaveBegun, KeepsBegun, BreaksSave, IfHasRoom};
-ghost use Rattle.pb_print.specs.Saved.{PutsLine, AreLines, AddsLine, CallForLine};
+ghost use Rattle.pb_print.specs.Saved.{longest_line, PutsLine, AreLines, AddsLine, CallForLine};
 
 use crate::Piece;
 use pb_outside::{Failed, Shelf};
@@ -30,7 +30,7 @@ pub trait NumberedLines {
     /// Puts the line of this number at the piece's end.
     fn put_line(&self, at: u128, out: &mut Piece)
         requires within { at < length (lines_of self.now) }
-        requires room { length out.old + 128 ≤ 4096 }
+        requires room { length out.old + longest_line ≤ 4096 }
         ensures { PutsLine out.old out.new (lines_of self.now) at };
 }
 
@@ -66,7 +66,7 @@ fn append_piece<H: Shelf>(shelf: &mut H, name: &str, piece: &mut Piece) -> Resul
 fn make_room<H: Shelf>(shelf: &mut H, name: &str, piece: &mut Piece) -> Result<(), Failed>
     requires lines { AreLines piece.old }
     ensures lines { OnOk result (AreLines piece.new) }
-    ensures room { OnOk result (length piece.new + 128 ≤ 4096) }
+    ensures room { OnOk result (length piece.new + longest_line ≤ 4096) }
     ensures ok { OnOk result (IfTold (H.files shelf.old) (H.files shelf.new)
         (λ old new. (text : List ℕ) → IsWritten old name.now piece.old text
         → IsWritten new name.now piece.new text)) }

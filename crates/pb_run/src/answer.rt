@@ -3,9 +3,8 @@ ghost use Rattle.pb_answer.specs.Answer.{said_of};
 ghost use Rattle.pb_run.specs.Answers.{Answers};
 
 use crate::make::make_task;
-use pb_answer::{Answer, Status, Texts, answer_check, answer_journal, answer_solve};
+use pb_answer::{Answer, SearchedStore, Status, Texts, answer_check, answer_journal, answer_solve};
 use pb_command::{CommandLine, CommandRefusal, Message, read_words};
-use pb_lease::LeaseGraph;
 use pb_outside::Gate;
 use pb_report::Report;
 use std::alloc::{AllocError, Global};
@@ -25,8 +24,8 @@ fn refuse_words<'a>(alloc: Global, message: &Message) -> Result<Answer<'a>, Allo
 }
 
 /// What is answered of the words and of the texts that were loaded of the files that they name. If
-/// a file was too long, its text and the later ones are left out. The graph that was searched is
-/// kept in `kept`: the certificate and the journal borrow it. An error is out of memory.
+/// a file was too long, its text and the later ones are left out. What a search leaves is kept in
+/// `kept`: the certificate and the journal borrow it. An error is out of memory.
 ///
 /// This is the whole program but its reading, saving and printing. A search has as many workers as
 /// the words ask for: one waits for nobody, and more have a thread each.
@@ -36,7 +35,7 @@ pub fn answer_words<'a, R: Threads + Wait + Sync, G: Gate>(
     words: &'a [String],
     texts: &Texts,
     gate: &G,
-    kept: &'a mut Option<LeaseGraph>,
+    kept: &'a mut Option<SearchedStore>,
 ) -> Result<Answer<'a>, AllocError>
     ensures { IfOk result (λ a. Answers (map string_bytes words.entry.now) texts.now (said_of a)) }
 {

@@ -13,9 +13,8 @@ ghost use Rattle.pb_run.specs.Contents.{Goes, WritesPut};
 use crate::answer::answer_words;
 use crate::load::load_files;
 use crate::output::{Ending, hand_out};
-use pb_answer::Status;
+use pb_answer::{SearchedStore, Status};
 use pb_grid::read_as_spelled;
-use pb_lease::LeaseGraph;
 use pb_outside::{Gate, Shelf, Sink};
 use pb_tiles::readings_are_spelled;
 use std::alloc::Global;
@@ -93,7 +92,7 @@ pub fn run<R: Threads + Wait + Sync, H: Shelf, K: Sink, G: Gate>(
 }
 
 // The whole way: the files that the words name are loaded, what is asked of their texts is
-// answered, and the answer is handed out. The graph that was searched is kept in `kept`.
+// answered, and the answer is handed out. What a search leaves is kept in `kept`.
 fn carry_out<'a, R: Threads + Wait + Sync, H: Shelf, K: Sink, G: Gate>(
     rt: &R,
     alloc: Global,
@@ -101,7 +100,7 @@ fn carry_out<'a, R: Threads + Wait + Sync, H: Shelf, K: Sink, G: Gate>(
     shelf: &mut H,
     out: &mut K,
     gate: &G,
-    kept: &'a mut Option<LeaseGraph>,
+    kept: &'a mut Option<SearchedStore>,
 ) -> Status
     ensures goes { Goes (reading_of_words (map string_bytes words.now)) (number_of result)
         (H.files shelf.old) (H.files shelf.new) (H.calls shelf.old) (H.calls shelf.new)

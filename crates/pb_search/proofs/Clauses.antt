@@ -1,5 +1,5 @@
 -- What a search came to, as its callers learn it.
-use Rattle.std.proofs.Common.{◌≡◌, ◌≤◌, ◌^◌, ◌⊎◌, inl, inr, true, Option, None, Some, Result, IfOk, refl, sym, ap, ◌∙◌, subst, arith}
+use Rattle.std.proofs.Common.{◌≡◌, ◌≤◌, ◌^◌, ◌⊎◌, inl, inr, true, ℕ, List, Option, None, Some, Result, IfOk, refl, sym, ap, ◌∙◌, subst, arith}
 use Rattle.std.proofs.lemmas.Result.{IfOk-weaker}
 use Rattle.pb_model.specs.Weight.{Weight}
 use Rattle.pb_model.specs.Work.{Comes, expansions, opening_store}
@@ -8,10 +8,10 @@ use Rattle.pb_machine.specs.declared.event.End.{End}
 use Rattle.pb_machine.specs.declared.event.End.TheVariants.{Quiet, Budget, Memory}
 use Rattle.pb_machine.specs.declared.settings.Settings.{Settings}
 use Rattle.pb_machine.specs.Settings.{AreInRange, weight_of}
-use Rattle.pb_machine.specs.Counts.{Counts}
-use Rattle.pb_machine.specs.History.{IsHistory}
+use Rattle.pb_machine.specs.Counts.{Counts, opening_counts}
+use Rattle.pb_machine.specs.History.{IsHistory, AreFinished}
 use Rattle.pb_machine.specs.Room.{KeepsWithinRoom}
-use Rattle.pb_machine.specs.Machine.{Setup, IsSetup, Machine, journal_of, opening_machine}
+use Rattle.pb_machine.specs.Machine.{Setup, IsSetup, Machine, Move, Runs, journal_of, opening_machine}
 use Rattle.pb_machine.specs.Lawful.{broken_leases, IsLawful}
 use Rattle.pb_machine.proofs.Callers.{none_counted, spent_is_used, used_fits_budget, journals_are_histories, costs_fit}
 use Rattle.pb_task.specs.declared.parts.TaskParts.{TaskParts}
@@ -20,9 +20,10 @@ use Rattle.pb_abstract.specs.Graph.{AbstractGraph, blocks_of, IsGraph, IsGraphOf
 use Rattle.pb_lease.specs.Leased.{setup_of}
 use Rattle.pb_lease.specs.GraphValue.{GraphValue, setup_in}
 use Rattle.pb_lease.proofs.Callers.{setup_is, all_rows}
-use Rattle.pb_yard.proofs.Callers.{runs_are_short}
+use Rattle.pb_yard.specs.Order.{RunsInTime}
+use Rattle.pb_yard.proofs.Callers.{in_time_is_run, runs_are_short}
 use Rattle.pb_workers.proofs.Callers.{store_is, best_end}
-use Rattle.pb_search.specs.Ends.{choice_of, search_of, HasSmallCosts, IsBestOf, HasEndedSo, EndsBy, StopsWith, EndsQuietly, MarksNothing}
+use Rattle.pb_search.specs.Ends.{choice_of, search_of, HasSmallCosts, IsBestOf, HasEndedSo, RunEnds, EndsBy, StopsWith, EndsQuietly, MarksNothing}
 use Rattle.pb_search.specs.Searched.{HasSearched}
 use Rattle.pb_search.proofs.Marks.{marks_nothing}
 use Rattle.pb_search.proofs.Ending.{searched_so}
@@ -37,19 +38,61 @@ none_broken_at p m l ends = none_counted p.settings.workers m.broken (λ k lt. b
     go (inr q) (inl t) = let bad : ◌≡◌ {A = Option End} (Some Budget) None = sym q ∙ l.counts.trouble t in cc
     go (inr q) (inr e) = let bad : ◌≡◌ {A = Option End} (Some Budget) (Some Memory) = sym q ∙ e in cc
 
+-- ---- a run, wherever it begins
+
+module _ (setup : Setup) (range : AreInRange setup.settings) (before : ℕ) (enough : before ≤ setup.settings.budget) (begin : Machine) (begins : begin.counts ≡ opening_counts setup.settings before)
+    (moves : List Move) (machine : Machine) (run : RunsInTime setup begin moves machine) (lawful : IsLawful setup machine) (finished : AreFinished setup.settings machine.counts)
+    (within : KeepsWithinRoom (journal_of moves)) (ended : (machine.counts.end ≡ Some Quiet) ⊎ (machine.counts.end ≡ Some Budget)) where
+  plain_run : Runs setup begin moves machine
+  plain_run = in_time_is_run setup moves begin machine run
+
+  legal_run : IsHistory setup.blocks setup.settings before (journal_of moves) machine.counts
+  legal_run = journals_are_histories setup moves begin machine before range enough begins plain_run
+
+  ends_so : (end : End) → machine.counts.end ≡ Some end → HasEndedSo end setup.settings machine.store (expansions lawful.reached.works)
+  ends_so Quiet is = (omega (arith, lawful.reached.spent, lawful.counts.sum), lawful.quiet is)
+  ends_so Budget is =
+      let spent = spent_is_used setup.blocks setup.settings before (journal_of moves) machine.counts legal_run in
+      let all = (used_fits_budget setup.blocks setup.settings before (journal_of moves) machine.counts legal_run).1 is in
+      (lawful.reached.spent ∙ spent ∙ all, lawful.budget is)
+  ends_so Memory is = go ended
+    where
+      go : {A : Type 0} → (machine.counts.end ≡ Some Quiet) ⊎ (machine.counts.end ≡ Some Budget) → A
+      go (inl quiet) = let bad : ◌≡◌ {A = Option End} (Some Quiet) (Some Memory) = sym quiet ∙ is in cc
+      go (inr budget) = let bad : ◌≡◌ {A = Option End} (Some Budget) (Some Memory) = sym budget ∙ is in cc
+
+  pub run_ends : (end : End) → machine.counts.end ≡ Some end → RunEnds setup before begin end moves
+  run_ends end is = record {
+    machine = machine;
+    run = plain_run;
+    ordered = run;
+    lawful = lawful;
+    end_is = is;
+    finished = finished;
+    legal = legal_run;
+    first_weight = lawful.reached.first_weight;
+    is_weight = lawful.reached.is_weight;
+    works = lawful.reached.works;
+    comes = lawful.reached.comes;
+    none_broken = let none = none_broken_at setup machine lawful ended in omega (arith, lawful.reached.broken, none);
+    reopened = lawful.reached.reopened;
+    between = lawful.reached.between;
+    first_run = λ first. sym (weights_stay setup.space setup.guide lawful.reached.works (opening_store setup.space setup.guide lawful.reached.first_weight) machine.store lawful.reached.comes
+        (lawful.reached.reopened ∙ first)) ∙ lawful.weight;
+    ended_so = ends_so end is;
+    within = within;
+  }
+
 module _ (parts : TaskParts) (abstraction : AbstractGraph) (settings : Settings) (range : AreInRange settings) (graph_of : IsGraphOf parts abstraction)
     (finest : IsFinest parts settings.wish abstraction.projection) (few : (blocks_of abstraction).count ≤ 4096) (g : GraphValue) (h : HasSearched parts abstraction settings g) where
   abbrev setup : Setup
   setup = search_of parts abstraction settings
 
   setup_same : setup_in g ≡ setup
-  setup_same = λ i. setup_of (h.task i) (h.graph_is i) (h.choice_is i) (h.settings_are i) 0
+  setup_same = λ i. setup_of (h.task i) (h.graph_is i) (h.choice_is i) (h.settings_are i) (h.past i).reopenings
 
   lawful : IsLawful setup h.machine
   lawful = subst (λ (s : Setup). IsLawful s h.machine) setup_same h.moment.at.lawful
-
-  legal : IsHistory (blocks_of abstraction) settings 0 (journal_of h.moves) h.machine.counts
-  legal = journals_are_histories setup h.moves (opening_machine setup) h.machine 0 range (omega arith) refl h.run
 
   small_costs : HasSmallCosts g
   small_costs block state row found =
@@ -77,11 +120,6 @@ module _ (parts : TaskParts) (abstraction : AbstractGraph) (settings : Settings)
       go (inl quiet) = inl (ended_here Quiet quiet)
       go (inr budget) = inr (ended_here Budget budget)
 
-  first_weight : lawful.reached.first_weight ≡ weight_of settings
-  first_weight =
-      sym (weights_stay setup.space setup.guide lawful.reached.works (opening_store setup.space setup.guide lawful.reached.first_weight) h.machine.store lawful.reached.comes lawful.reached.reopened)
-      ∙ lawful.weight
-
   is_setup : IsSetup setup (2 ^ 20)
   is_setup = subst (λ (s : Setup). IsSetup s (2 ^ 20)) setup_same (setup_is g h.lawful)
 
@@ -92,36 +130,29 @@ module _ (parts : TaskParts) (abstraction : AbstractGraph) (settings : Settings)
   no_memory (inl quiet) memory = let bad : ◌≡◌ {A = Option End} (Some Quiet) (Some Memory) = sym quiet ∙ memory in cc
   no_memory (inr budget) memory = let bad : ◌≡◌ {A = Option End} (Some Budget) (Some Memory) = sym budget ∙ memory in cc
 
-  ends_by : (end : End) → h.machine.counts.end ≡ Some end → HasEndedSo end settings h.machine.store (expansions lawful.reached.works) → EndsBy parts settings end h.moves
-  ends_by end is so = record {
+  run_ended : (end : End) → h.machine.counts.end ≡ Some end → RunEnds setup 0 (opening_machine setup) end h.moves
+  run_ended = run_ends setup range 0 (omega arith) (opening_machine setup) refl h.moves h.machine h.ordered lawful h.finished within ended
+
+  ends_by : (end : End) → h.machine.counts.end ≡ Some end → EndsBy parts settings end h.moves
+  unfolding run_ends run_ended
+  ends_by end is = record {
     graph = abstraction;
     graph_of = graph_of;
     finest = finest;
-    machine = h.machine;
-    run = h.run;
-    ordered = h.ordered;
-    lawful = lawful;
-    end_is = is;
-    finished = h.finished;
-    legal = legal;
     few = few;
-    works = lawful.reached.works;
-    comes = subst (λ (w : Weight). Comes setup.space setup.guide lawful.reached.works (opening_store setup.space setup.guide w) h.machine.store) first_weight lawful.reached.comes;
-    none_broken = let none = none_broken_at setup h.machine lawful ended in omega (arith, lawful.reached.broken, none);
-    one_run = lawful.reached.reopened;
-    ended_so = so;
-    within = within;
+    run = run_ended end is;
+    comes = subst (λ (w : Weight). Comes setup.space setup.guide (run_ended end is).works (opening_store setup.space setup.guide w) (run_ended end is).machine.store) ((run_ended end is).first_run refl) (run_ended end is).comes;
     short = runs_are_short setup (2 ^ 20) h.moves h.machine is_setup refl range h.ordered within h.finished (no_memory ended);
   }
 
   pub quiet_run : g.table.end ≡ Some Quiet → EndsQuietly parts settings g.table.journal g
-  unfolding ends_by
+  unfolding run_ends run_ended ends_by
   quiet_run quiet =
       let is = ended_here Quiet quiet in
       record {
         moves = h.moves;
         journal_is = h.journal;
-        ends = ends_by Quiet is (omega (arith, lawful.reached.spent, lawful.counts.sum), lawful.quiet is);
+        ends = ends_by Quiet is;
         blocks = h.graph_is;
         rows = sym (store_is g h.lawful h.home h.recorded h.machine h.moment);
       }
@@ -129,9 +160,7 @@ module _ (parts : TaskParts) (abstraction : AbstractGraph) (settings : Settings)
   pub budget_stop : g.table.end ≡ Some Budget → StopsWith parts settings g.table.journal
   budget_stop budget =
       let is = ended_here Budget budget in
-      let spent = spent_is_used (blocks_of abstraction) settings 0 (journal_of h.moves) h.machine.counts legal in
-      let all = (used_fits_budget (blocks_of abstraction) settings 0 (journal_of h.moves) h.machine.counts legal).1 is in
-      (h.moves, h.journal, ends_by Budget is (lawful.reached.spent ∙ spent ∙ all, lawful.budget is))
+      (h.moves, h.journal, ends_by Budget is)
 
   pub plain_marks_nothing : settings.plain ≡ true → MarksNothing g.table.journal
   plain_marks_nothing plain = subst MarksNothing (sym h.journal) (marks_nothing setup plain h.moves (opening_machine setup) h.machine h.run)

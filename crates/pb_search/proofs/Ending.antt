@@ -7,17 +7,20 @@ use Rattle.pb_machine.specs.declared.settings.Settings.{Settings}
 use Rattle.pb_machine.specs.Counts.{Counts, opening_counts, is_any_out}
 use Rattle.pb_machine.specs.History.{AreFinished}
 use Rattle.pb_machine.specs.Room.{KeepsWithinRoom}
-use Rattle.pb_machine.specs.Machine.{Setup, journal_of, opening_machine}
+use Rattle.pb_machine.specs.Machine.{Setup, Machine, journal_of, opening_machine}
 use Rattle.pb_machine.proofs.Callers.{any_false}
 use Rattle.pb_task.specs.declared.parts.TaskParts.{TaskParts}
 use Rattle.pb_abstract.specs.Graph.{AbstractGraph}
 use Rattle.pb_lease.specs.Leased.{setup_of}
+use Rattle.pb_lease.specs.Tables.{no_past}
 use Rattle.pb_lease.specs.GraphValue.{GraphValue, setup_in, counts_in, IsLeaseGraph}
+use Rattle.pb_lease.specs.Begins.{begin_machine}
 use Rattle.pb_lease.specs.Choices.{is_out_in}
 use Rattle.pb_workers.specs.Runs.{IsSameSearch, IsAnyMoment, RunsOn}
 use Rattle.pb_workers.specs.Teams.{KeepsSearch}
 use Rattle.pb_yard.specs.declared.view.View.{View}
 use Rattle.pb_yard.specs.Views.{opening_view}
+use Rattle.pb_yard.specs.Order.{RunsInTime}
 use Rattle.pb_yard.specs.Calls.{IsClosed}
 use Rattle.pb_yard.proofs.Callers.{in_time_is_run}
 use Rattle.pb_search.specs.Ends.{choice_of, search_of, LeadsInTime}
@@ -36,7 +39,7 @@ module _ (parts : TaskParts) (abstraction : AbstractGraph) (settings : Settings)
   setup = search_of parts abstraction settings
 
   pub opening_is_moment : IsAnyMoment old
-  opening_is_moment = (λ worker home state. None, opening_machine (setup_in old), opens.opening.moment (λ worker home state. None))
+  opening_is_moment = (λ worker home state. None, begin_machine old, opens.begin.moment (λ worker home state. None))
 
   pub none_out : is_out_in old ≡ false
   none_out =
@@ -47,7 +50,7 @@ module _ (parts : TaskParts) (abstraction : AbstractGraph) (settings : Settings)
   none_signed_off = ap (λ (c : Counts). c.signed_off 0) opens.counts
 
   old_setup : setup_in old ≡ setup
-  old_setup = λ i. setup_of (opens.task i) (opens.graph_is i) (opens.choice_is i) (opens.settings_are i) 0
+  old_setup = λ i. setup_of (opens.task i) (opens.graph_is i) (opens.choice_is i) (opens.settings_are i) (opens.past i).reopenings
 
   -- a worker that searched alone
   module _ (new : GraphValue) (same : IsSameSearch old new) (alone : settings.workers ≡ 1) where
@@ -61,19 +64,20 @@ module _ (parts : TaskParts) (abstraction : AbstractGraph) (settings : Settings)
 
     pub alone_searched : IsLeaseGraph new → KeepsWithinRoom new.table.journal → RunsOn old new → is_out_in new ≡ false → (counts_in new).signed_off 0 ≡ true → HasEnded new → HasSearched parts abstraction settings new
     alone_searched lawful within runs home off ended =
-        let last = runs (λ worker home state. None) (opening_machine (setup_in old)) (opens.opening.moment (λ worker home state. None)) in
+        let last = runs (λ worker home state. None) (begin_machine old) (opens.begin.moment (λ worker home state. None)) in
         let to = last.1 in
-        let run : LeadsInTime setup to.moves last.0 = subst (λ (s : Setup). LeadsInTime s to.moves last.0) old_setup to.run in
+        let run : LeadsInTime setup to.moves last.0 = subst (λ (s : Setup). LeadsInTime s to.moves last.0) old_setup (subst (λ (m : Machine). RunsInTime (setup_in old) m to.moves last.0) opens.opening to.run) in
         record {
           task = same.task ∙ opens.task;
           graph_is = same.graph ∙ opens.graph_is;
           choice_is = same.choice ∙ opens.choice_is;
           settings_are = same.settings ∙ opens.settings_are;
+          past = same.past ∙ opens.past;
           lawful = lawful;
           home = home;
           ended = ended;
           moves = to.moves;
-          journal = to.events ∙ ap (λ (j : List Event). j ++ journal_of to.moves) opens.opening.empty;
+          journal = to.events ∙ ap (λ (j : List Event). j ++ journal_of to.moves) opens.begin.empty;
           machine = last.0;
           run = in_time_is_run setup to.moves (opening_machine setup) last.0 run;
           ordered = run;
@@ -97,18 +101,26 @@ module _ (parts : TaskParts) (abstraction : AbstractGraph) (settings : Settings)
     are : new.table.settings ≡ settings
     are = sym closed.search.settings ∙ keeps.settings ∙ opens.settings_are
 
+    past : new.table.past ≡ no_past
+    past = closed.of_run.past ∙ ap (λ (g : GraphValue). g.table.past) keeps.begin ∙ opens.past
+
     new_setup : setup_in new ≡ setup
-    new_setup = λ i. setup_of (task i) (graph i) (choice i) (are i) 0
+    new_setup = λ i. setup_of (task i) (graph i) (choice i) (are i) (past i).reopenings
+
+    begins : begin_machine view.begin ≡ opening_machine setup
+    begins = ap begin_machine keeps.begin ∙ opens.opening ∙ ap (λ (s : Setup). opening_machine s) old_setup
 
     pub yard_searched : IsLeaseGraph new → KeepsWithinRoom new.table.journal → HasEnded new → HasSearched parts abstraction settings new
     yard_searched lawful within ended =
         let moment = closed.moment (λ worker home state. None) in
-        let run : LeadsInTime setup closed.moves closed.machine = subst (λ (s : Setup). LeadsInTime s closed.moves closed.machine) new_setup closed.run in
+        let run : LeadsInTime setup closed.moves closed.machine =
+        subst (λ (m : Machine). RunsInTime setup m closed.moves closed.machine) begins (subst (λ (s : Setup). RunsInTime s (begin_machine view.begin) closed.moves closed.machine) new_setup closed.run) in
         record {
           task = task;
           graph_is = graph;
           choice_is = choice;
           settings_are = are;
+          past = past;
           lawful = lawful;
           home = closed.home;
           ended = ended;

@@ -3,3 +3,4 @@ mod Marks
 mod Leaves
 mod Ending
 mod Clauses
+mod Closed

@@ -1,9 +1,10 @@
 -- How a search by leases ends, and what it has then.
 use Rattle.std.specs.Prelude.{◌≡◌, ℕ, ◌-◌, ◌^◌, ◌≤◌, Bool, true, false, IsFalse, List, length, Some}
 use Rattle.std.specs.List.{list_any}
+use Rattle.pb_model.specs.Weight.{Weight, IsWeight}
 use Rattle.pb_model.specs.Guide.{Guide}
 use Rattle.pb_model.specs.Store.{Store, IsQuiet, HasOpened, CostsAtMost}
-use Rattle.pb_model.specs.Work.{Work, Comes, expansions, broken_expansions, reopenings, opening_store}
+use Rattle.pb_model.specs.Work.{Work, Comes, expansions, broken_expansions, reopenings, ReopensQuiet, opening_store}
 use Rattle.pb_machine.specs.declared.event.End.{End}
 use Rattle.pb_machine.specs.declared.event.End.TheVariants.{Quiet, Budget, Memory}
 use Rattle.pb_machine.specs.declared.event.Event.{Event}
@@ -21,7 +22,8 @@ use Rattle.pb_estimate.specs.declared.choice.Choice.TheVariants.{Plain}
 use Rattle.pb_abstract.specs.Projection.{IsFinest}
 use Rattle.pb_abstract.specs.Graph.{AbstractGraph, blocks_of, IsGraphOf}
 use Rattle.pb_lease.specs.Leased.{guide_of, setup_of}
-use Rattle.pb_lease.specs.GraphValue.{GraphValue}
+use Rattle.pb_lease.specs.GraphValue.{GraphValue, setup_in}
+use Rattle.pb_lease.specs.Begins.{begin_machine}
 use Rattle.pb_lease.specs.Choices.{is_out_in}
 use Rattle.pb_yard.specs.Order.{RunsInTime}
 use Rattle.pb_yard.specs.Length.{most_events}
@@ -89,36 +91,57 @@ HasEndedSo Budget settings store expanded =
     (expanded ≡ settings.budget) × ((block : ℕ) × HasOpened (store.rows block))
 HasEndedSo Memory settings store expanded = ⊥
 
+-- A run of a search by leases came to this end by these moves. It began with this machine, and
+-- earlier runs on the same rows had spent so much of the budget. The moves lead to a lawful machine
+-- with this end, at which every worker has signed off. So their events are a finished legal
+-- history. Whatever the number of workers, the moves are in order and in time. Each lease is of the
+-- first choice at its moment, with the incumbent of the whole store. Expansions, none of them
+-- broken off, lead from the start's row alone to the rows of that machine, as the end says: those of
+-- this run, and those of the earlier ones. The rows were opened again before each run but the
+-- first, when no row was Opened. The journal isn't padded: each of its events is within the room of
+-- its lease.
+pub record RunEnds (setup : Setup) (before : ℕ) (begin : Machine) (end : End) (moves : List Move)
+    : Type 0 where
+  pub machine : Machine
+  pub run : Runs setup begin moves machine
+  pub ordered : RunsInTime setup begin moves machine
+  pub lawful : IsLawful setup machine
+  pub end_is : machine.counts.end ≡ Some end
+  pub finished : AreFinished setup.settings machine.counts
+  pub legal : IsHistory setup.blocks setup.settings before (journal_of moves) machine.counts
+  pub first_weight : Weight
+  pub is_weight : IsWeight first_weight
+  pub works : List Work
+  pub comes : Comes setup.space setup.guide works
+      (opening_store setup.space setup.guide first_weight) machine.store
+  pub none_broken : broken_expansions works ≡ 0
+  pub reopened : reopenings works ≡ setup.reopenings
+  pub between : ReopensQuiet setup.space setup.guide works
+      (opening_store setup.space setup.guide first_weight)
+  pub first_run : setup.reopenings ≡ 0 → first_weight ≡ weight_of setup.settings
+  pub ended_so : HasEndedSo end setup.settings machine.store (expansions works)
+  pub within : KeepsWithinRoom (journal_of moves)
+
+-- The run that began with this graph came to this end by these moves.
+abbrev pub EndsFrom : (begin : GraphValue) → End → List Move → Type 0
+EndsFrom begin end moves =
+    RunEnds (setup_in begin) begin.table.past.spent (begin_machine begin) end moves
+
 -- A search by leases of this task, with these settings, came to this end by these moves. They are
--- over the finest abstract graph of the task that has no more blocks than are wished for. They lead
--- from the machine that has the start's row alone to a lawful one with this end, at which every
--- worker has signed off. So their events are a finished legal history. Whatever the number of
--- workers, the moves are in order and in time. Each lease is of the first choice at its moment,
--- with the incumbent of the whole store. Expansions, none of them broken off, lead from the start's
--- row alone to the rows of that machine, as the end says. The journal isn't padded: each of its
--- events is within the room of its lease. There are no more events than the expansions can have
--- brought about.
+-- over the finest abstract graph of the task that has no more blocks than are wished for. The run is
+-- a first one: it began with the machine that has the start's row alone, at the weight of the
+-- settings. There are no more events than the expansions can have brought about.
 pub record EndsBy (parts : TaskParts) (settings : Settings) (end : End) (moves : List Move)
     : Type 0 where
   pub graph : AbstractGraph
   pub graph_of : IsGraphOf parts graph
   pub finest : IsFinest parts settings.wish graph.projection
-  pub machine : Machine
-  pub run : Leads (search_of parts graph settings) moves machine
-  pub ordered : LeadsInTime (search_of parts graph settings) moves machine
-  pub lawful : IsLawful (search_of parts graph settings) machine
-  pub end_is : machine.counts.end ≡ Some end
-  pub finished : AreFinished settings machine.counts
-  pub legal : IsHistory (blocks_of graph) settings 0 (journal_of moves) machine.counts
   pub few : (blocks_of graph).count ≤ 4096
-  pub works : List Work
-  pub comes : ComesFromStart parts graph settings works machine.store
-  pub none_broken : broken_expansions works ≡ 0
-  pub one_run : reopenings works ≡ 0
-  pub ended_so : HasEndedSo end settings machine.store (expansions works)
-  pub within : KeepsWithinRoom (journal_of moves)
+  pub run : RunEnds (search_of parts graph settings) 0
+      (opening_machine (search_of parts graph settings)) end moves
+  pub comes : ComesFromStart parts graph settings run.works run.machine.store
   pub short : length (journal_of moves)
-      ≤ most_events (space_of parts).actions machine.counts.spent settings.workers
+      ≤ most_events (space_of parts).actions run.machine.counts.spent settings.workers
 
 -- A search of this task with these settings came to the end of its budget by some moves. Their
 -- events are those of the journal.
@@ -135,7 +158,7 @@ pub record EndsQuietly (parts : TaskParts) (settings : Settings) (journal : List
   pub journal_is : journal ≡ journal_of moves
   pub ends : EndsBy parts settings Quiet moves
   pub blocks : graph.table.graph ≡ ends.graph
-  pub rows : home_store graph ≡ ends.machine.store
+  pub rows : home_store graph ≡ ends.run.machine.store
 
 -- ---- marks
 

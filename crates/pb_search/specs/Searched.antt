@@ -6,13 +6,14 @@ use Rattle.pb_machine.specs.declared.settings.Settings.{Settings}
 use Rattle.pb_machine.specs.Counts.{opening_counts}
 use Rattle.pb_machine.specs.History.{AreFinished}
 use Rattle.pb_machine.specs.Room.{KeepsWithinRoom}
-use Rattle.pb_machine.specs.Machine.{Machine, Move, journal_of}
+use Rattle.pb_machine.specs.Machine.{Machine, opening_machine, Move, journal_of}
 use Rattle.pb_task.specs.declared.parts.TaskParts.{TaskParts}
 use Rattle.pb_abstract.specs.Graph.{AbstractGraph}
-use Rattle.pb_lease.specs.GraphValue.{GraphValue, counts_in, IsLeaseGraph}
+use Rattle.pb_lease.specs.Tables.{no_past}
+use Rattle.pb_lease.specs.GraphValue.{GraphValue, setup_in, counts_in, IsLeaseGraph}
 use Rattle.pb_lease.specs.Choices.{is_out_in}
 use Rattle.pb_lease.specs.Moments.{IsMoment}
-use Rattle.pb_yard.specs.Calls.{IsOpening}
+use Rattle.pb_lease.specs.Begins.{begin_machine, IsBegin}
 use Rattle.pb_search.specs.Ends.{choice_of, search_of, Leads, LeadsInTime}
 
 -- The graph is that of a search of this task by this abstract graph, with these settings. The
@@ -23,8 +24,10 @@ pub record Opens (parts : TaskParts) (abstraction : AbstractGraph) (settings : S
   pub graph_is : graph.table.graph ≡ abstraction
   pub choice_is : graph.choice ≡ choice_of settings
   pub settings_are : graph.table.settings ≡ settings
+  pub past : graph.table.past ≡ no_past
   pub counts : counts_in graph ≡ opening_counts settings 0
-  pub opening : IsOpening graph
+  pub begin : IsBegin graph
+  pub opening : begin_machine graph ≡ opening_machine (setup_in graph)
 
 -- The graph is what a search of this task by this abstract graph, with these settings, came to,
 -- quietly or by its budget. It is a moment of a machine at which every worker has signed off. Moves
@@ -37,6 +40,7 @@ pub record HasSearched (parts : TaskParts) (abstraction : AbstractGraph) (settin
   pub graph_is : graph.table.graph ≡ abstraction
   pub choice_is : graph.choice ≡ choice_of settings
   pub settings_are : graph.table.settings ≡ settings
+  pub past : graph.table.past ≡ no_past
   pub lawful : IsLeaseGraph graph
   pub home : IsFalse (is_out_in graph)
   pub ended : (graph.table.end ≡ Some Quiet) ⊎ (graph.table.end ≡ Some Budget)

@@ -3,8 +3,10 @@
 #![tactic(auto)]
 
 mod alone;
+mod laws;
 mod opening;
 mod searching;
 mod together;
 
+pub use laws::closed_yards_have_ended;
 pub use searching::search;

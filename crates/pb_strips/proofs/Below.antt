@@ -3,6 +3,7 @@ use Rattle.std.proofs.Common.{◌≡◌, ◌<◌, ◌≤◌, ℕ, suc, Bool, tru
 use Rattle.std.proofs.lemmas.List.{length-map}
 use Rattle.std.proofs.lemmas.List.Elements.{All-nil, All-cons, All-append, All-weaker}
 use Rattle.std.specs.List.{list_any}
+use Rattle.pb_packed.specs.Sizes.{most_atoms}
 use Rattle.pb_pddl.specs.declared.tree.Domain.{Domain}
 use Rattle.pb_pddl.specs.declared.tree.Problem.{Problem}
 use Rattle.pb_lifted.specs.declared.lifted.Lifted.{Lifted}
@@ -98,7 +99,7 @@ all_packed domain problem count (action ∷ actions) range =
     All-cons (IsGroundAction count) (packed_action domain problem count action) (map (packed_action domain problem count) actions) (packed_is domain problem count action (range 0 action (omega arith)))
     (all_packed domain problem count actions (λ k d less. range (suc k) d (omega arith)))
 
-pub is_strips : (domain : Domain) (problem : Problem) → first_refusal domain problem ≡ None → length (ground_atoms (lifted_of domain problem)) ≤ 256
+pub is_strips : (domain : Domain) (problem : Problem) → first_refusal domain problem ≡ None → length (ground_atoms (lifted_of domain problem)) ≤ most_atoms
     → length (ground_actions (lifted_of domain problem) (ground_atoms (lifted_of domain problem))) ≤ 65536 → IsStrips (strips_of domain problem)
 is_strips domain problem accepted few_atoms few_actions =
     let lifted : Lifted = lifted_of domain problem in

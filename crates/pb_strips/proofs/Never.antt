@@ -2,6 +2,7 @@
 use Rattle.std.proofs.Common.{◌≡◌, ℕ, cond, nat_lt, length, Option, Some, None, Result, Ok, Err, refl, ap, ◌∙◌, subst}
 use Rattle.std.proofs.lemmas.Bool.{le-ltb}
 use Rattle.std.specs.Prelude.{IfErr}
+use Rattle.pb_packed.specs.Sizes.{most_atoms}
 use Rattle.pb_pddl.specs.declared.tree.Domain.{Domain}
 use Rattle.pb_pddl.specs.declared.tree.Problem.{Problem}
 use Rattle.pb_lifted.specs.declared.refusal.TypingRefusal.{TypingRefusal}
@@ -23,7 +24,7 @@ no_fault domain problem typed limits =
     let more : Option StripsError = Some (errors.TooManyAtoms (ground.told atoms)) in
     let last : Option StripsError = Some errors.TooManyActions in
     ap (λ (r : Option TypingRefusal). or_too_many r lifted) (well_typed_is_accepted domain problem typed)
-    ∙ ap (λ b. cond b more (cond (nat_lt 65536 actions) last None)) (le-ltb 256 atoms limits.0) ∙ ap (λ b. cond b last None) (le-ltb 65536 actions limits.1)
+    ∙ ap (λ b. cond b more (cond (nat_lt 65536 actions) last None)) (le-ltb most_atoms atoms limits.0) ∙ ap (λ b. cond b last None) (le-ltb 65536 actions limits.1)
 
 memory_alone : (e : StripsError) → Tells None e → e ≡ errors.Memory
 memory_alone (errors.Refused refusal) told = cc

@@ -1,5 +1,6 @@
 -- The parts that are put together are those of the task.
 use Rattle.std.proofs.Common.{◌≡◌, ◌≤◌, ℕ, Bool, List, [], length, map, All, sym, ap, ◌∙◌, subst}
+use Rattle.pb_packed.specs.Sizes.{most_atoms}
 use Rattle.pb_pddl.specs.declared.tree.Domain.{Domain}
 use Rattle.pb_pddl.specs.declared.tree.Problem.{Problem}
 use Rattle.pb_lifted.specs.declared.lifted.Lifted.{Lifted}
@@ -26,9 +27,9 @@ same_parts n m actions others start first goal last never ever a b c d e =
 
 -- what a set of numbers is, whatever the number of atoms
 abbrev pub Packs : List ℕ → ℕ → Type 0
-Packs numbers set = (count : ℕ) → count ≤ 256 → AreAtoms count numbers → set ≡ numbered_set count numbers
+Packs numbers set = (count : ℕ) → count ≤ most_atoms → AreAtoms count numbers → set ≡ numbered_set count numbers
 
-set_is : (atoms all : List GroundAtom) (list other : List LiftedAtom) (numbers : List ℕ) (set : ℕ) → length atoms ≤ 256 → numbers ≡ numbers_of atoms [] list → atoms ≡ all → list ≡ other → Packs numbers set
+set_is : (atoms all : List GroundAtom) (list other : List LiftedAtom) (numbers : List ℕ) (set : ℕ) → length atoms ≤ most_atoms → numbers ≡ numbers_of atoms [] list → atoms ≡ all → list ≡ other → Packs numbers set
     → set ≡ numbered_set (length all) (numbers_of all [] other)
 set_is atoms all list other numbers set few is same alike packs =
     packs (length atoms) few (subst (AreAtoms (length atoms)) (sym is) (numbers_below atoms [] list))
@@ -37,8 +38,8 @@ set_is atoms all list other numbers set few is same alike packs =
 
 pub parts_are : (domain : Domain) (problem : Problem) (lifted : Lifted) (atoms seen : List GroundAtom) (actions : List instance.ActionInstance) (packed : List GroundAction) (first wanted : List ℕ)
     (start goal : ℕ) (never : Bool)
-    → lifted ≡ lifted_of domain problem → atoms ≡ ground_atoms lifted → length atoms ≤ 256 → actions ≡ ground_actions lifted atoms → seen ≡ atoms
-    → ((count : ℕ) → count ≤ 256 → All (HasAtoms count) actions → packed ≡ map (packed_action domain problem count) actions)
+    → lifted ≡ lifted_of domain problem → atoms ≡ ground_atoms lifted → length atoms ≤ most_atoms → actions ≡ ground_actions lifted atoms → seen ≡ atoms
+    → ((count : ℕ) → count ≤ most_atoms → All (HasAtoms count) actions → packed ≡ map (packed_action domain problem count) actions)
     → first ≡ numbers_of atoms [] lifted.init → Packs first start → wanted ≡ numbers_of atoms [] lifted.goal → Packs wanted goal → never ≡ is_never lifted
     → parts (length seen) packed start goal never ≡ strips_of domain problem
 parts_are domain problem lifted atoms seen actions packed first wanted start goal never lifted_is atoms_are few actions_are seen_is packs first_is start_is wanted_is goal_is never_is =

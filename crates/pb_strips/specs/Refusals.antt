@@ -1,5 +1,6 @@
 -- Why a domain and a problem are no task: the first cause in order.
 use Rattle.std.specs.Prelude.{◌≡◌, ◌≤◌, nat_lt, if◌then◌else◌, length, Option, Some, None}
+use Rattle.pb_packed.specs.Sizes.{most_atoms}
 use Rattle.pb_pddl.specs.declared.tree.Domain.{Domain}
 use Rattle.pb_pddl.specs.declared.tree.Problem.{Problem}
 use Rattle.pb_lifted.specs.declared.lifted.Lifted.{Lifted}
@@ -12,10 +13,10 @@ use Rattle.pb_ground.specs.Errors.{told}
 use Rattle.pb_strips.specs.declared.error.StripsError.{StripsError}
 use Rattle.pb_strips.specs.declared.error.StripsError.TheVariants as errors
 
--- more than 256 ground atoms, or else more than 65,536 ground actions
+-- more ground atoms than a task may have, or else more than 65,536 ground actions
 abbrev pub too_many : Lifted → Option StripsError
 too_many lifted =
-    if nat_lt 256 (length (ground_atoms lifted)) then Some
+    if nat_lt most_atoms (length (ground_atoms lifted)) then Some
     (errors.TooManyAtoms (told (length (ground_atoms lifted))))
     else (if nat_lt 65536 (length (ground_actions lifted (ground_atoms lifted)))
     then Some errors.TooManyActions else None)
@@ -35,9 +36,9 @@ Tells fault (errors.TooManyAtoms n) = fault ≡ Some (errors.TooManyAtoms n)
 Tells fault errors.TooManyActions = fault ≡ Some errors.TooManyActions
 Tells fault errors.Memory = Unit {0}
 
--- at most 256 ground atoms and 65,536 ground actions
+-- as many ground atoms as a task may have, at most, and at most 65,536 ground actions
 abbrev pub IsWithinLimits : Domain → Problem → Type 0
 IsWithinLimits domain problem =
-    (length (ground_atoms (lifted_of domain problem)) ≤ 256)
+    (length (ground_atoms (lifted_of domain problem)) ≤ most_atoms)
     × (length (ground_actions (lifted_of domain problem) (ground_atoms (lifted_of domain problem)))
     ≤ 65536)

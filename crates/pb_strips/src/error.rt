@@ -11,7 +11,8 @@ use std::alloc::{AllocError, AllocFailed};
 pub enum StripsError {
     /// A name or a cost is at fault, or there are too many objects.
     Refused(TypingRefusal),
-    /// There are more than 256 ground atoms: n, or 4,294,967,295 if there are more than that.
+    /// There are more ground atoms than a task may have: n, or 4,294,967,295 if there are more
+    /// than that.
     TooManyAtoms { n: u64 },
     /// There are more than 65,536 ground actions.
     TooManyActions,

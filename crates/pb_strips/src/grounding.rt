@@ -1,4 +1,5 @@
 ghost use Rattle.std.specs.Prelude.{◌≡◌, ◌≤◌, length, None, OnOk, IfOk, IfErr};
+ghost use Rattle.pb_packed.specs.Sizes.{most_atoms};
 ghost use Rattle.pb_task.specs.declared.parts.TaskParts.TheVariants.{Strips};
 ghost use Rattle.pb_strips.specs.Grounding.{strips_of};
 ghost use Rattle.pb_lifted.specs.Lifted.{lifted_of};
@@ -27,7 +28,7 @@ fn task_by(
     requires resolved { first_refusal domain.now problem.now ≡ None }
     requires lifted { lifted.now ≡ lifted_of domain.now problem.now }
     requires atoms { atoms.now ≡ ground_atoms lifted.now }
-    requires few { length (ground_atoms lifted.now) ≤ 256 }
+    requires few { length (ground_atoms lifted.now) ≤ most_atoms }
     ensures accepted { OnOk result (first_fault domain.now problem.now ≡ None) }
     ensures task { IfOk result (λ task. task ≡ Strips (strips_of domain.now problem.now)) }
     ensures refused { IfErr result (Tells (first_fault domain.now problem.now)) }

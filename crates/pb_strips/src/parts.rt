@@ -1,4 +1,5 @@
 ghost use Rattle.std.specs.Prelude.{◌≡◌, ◌≤◌, ℕ, All, map, length, IfOk};
+ghost use Rattle.pb_packed.specs.Sizes.{most_atoms};
 ghost use Rattle.pb_lifted.specs.Lifted.{lifted_of};
 ghost use Rattle.pb_ground.specs.Atoms.{ground_atoms};
 ghost use Rattle.pb_ground.specs.Actions.{ground_actions};
@@ -20,8 +21,9 @@ fn packed_action(
     problem: &Problem,
     action: &ActionInstance,
 ) -> Result<pb_task::GroundAction, AllocError>
-    requires { HasAtoms 256 action.now }
-    ensures { IfOk result (λ packed. (count : ℕ) → count ≤ 256 → HasAtoms count action.now
+    requires { HasAtoms most_atoms action.now }
+    ensures { IfOk result (λ packed. (count : ℕ) → count ≤ most_atoms
+        → HasAtoms count action.now
         → packed ≡ packed_action domain.now problem.now count action.now) }
 {
     let name = name_of(
@@ -47,15 +49,16 @@ fn packed_actions(
     problem: &Problem,
     actions: &[ActionInstance],
 ) -> Result<Actions, AllocError>
-    requires { All (HasAtoms 256) actions.now }
-    ensures { IfOk result (λ all. (count : ℕ) → count ≤ 256 → All (HasAtoms count) actions.now
+    requires { All (HasAtoms most_atoms) actions.now }
+    ensures { IfOk result (λ all. (count : ℕ) → count ≤ most_atoms
+        → All (HasAtoms count) actions.now
         → all ≡ map (packed_action domain.now problem.now count) actions.now) }
 {
-    let mut all = Vec::new(alloc);
+    let mut all = Actions::new(alloc);
     for action in actions {
-        all.push(packed_action(alloc, domain, problem, action)?)?;
+        all = all.with(packed_action(alloc, domain, problem, action)?)?;
     }
-    Ok(Actions::of(all))
+    Ok(all)
 }
 
 /// The task of a domain and a problem, from its ground atoms and ground actions.
@@ -69,7 +72,7 @@ pub(crate) fn parts_of(
 ) -> Result<StripsParts, AllocError>
     requires lifted { lifted.now ≡ lifted_of domain.now problem.now }
     requires atoms { atoms.now ≡ ground_atoms lifted.now }
-    requires few { length atoms.now ≤ 256 }
+    requires few { length atoms.now ≤ most_atoms }
     requires actions { actions.now ≡ ground_actions lifted.now atoms.now }
     ensures { IfOk result (λ parts. parts ≡ strips_of domain.now problem.now) }
 {

@@ -1,4 +1,5 @@
 ghost use Rattle.std.specs.Prelude.{◌≡◌, ◌≤◌, ℕ};
+ghost use Rattle.pb_packed.specs.Sizes.{most_atoms};
 ghost use Rattle.pb_strips.specs.Grounding.{numbered_set};
 ghost use Rattle.pb_strips.specs.Packing.{AreAtoms};
 
@@ -6,8 +7,8 @@ use pb_packed::Packed;
 
 /// The set of the atoms of these numbers.
 pub(crate) fn set_of(numbers: &[usize]) -> Packed
-    requires { AreAtoms 256 numbers.now }
-    ensures { (count : ℕ) → count ≤ 256 → AreAtoms count numbers.now
+    requires { AreAtoms most_atoms numbers.now }
+    ensures { (count : ℕ) → count ≤ most_atoms → AreAtoms count numbers.now
         → result ≡ numbered_set count numbers.now }
 {
     let mut set = Packed::zero();

@@ -1,15 +1,16 @@
 -- The steps of STRIPS: they are by actions that there are, lead from sets of atoms to sets of atoms, and are those by which an action acts.
-use Rattle.std.proofs.Common.{◌≡◌, ℕ, ◌^◌, ◌<◌, ◌≤◌, Bool, true, false, not, IsTrue, ◌&&◌, ◌||◌, Option, None, Some, slice_get, if◌then◌else◌, refl, sym, subst, ap, arith, ◌∙◌}
+use Rattle.std.proofs.Common.{◌≡◌, ℕ, zero, suc, ◌^◌, ◌<◌, ◌≤◌, ◌↔◌, List, [], ◌∷◌, length, Bool, true, false, not, IsTrue, ◌&&◌, ◌||◌, Option, None, Some, slice_get, if◌then◌else◌, refl, sym, subst, ap, arith, ◌∙◌}
 use Rattle.std.proofs.lemmas.Bool.{ltb-true, lt-ltb}
 use Rattle.std.proofs.lemmas.Option.{slice_get_within, get_or_from_slice_get}
 use Rattle.std.proofs.lemmas.List.Elements.{All-get_or}
+use Rattle.pb_packed.specs.Sizes.{most_atoms, state_bits}
 use Rattle.pb_model.specs.Space.{Steps, IsProper}
-use Rattle.pb_task.specs.Strips.{has_atom, is_within, holds_after, state_after, step_by, is_atom_set, strips_step, strips_space, IsGroundAction, IsStrips, Acts}
+use Rattle.pb_task.specs.Strips.{has_atom, is_within, holds_after, state_after, step_by, is_atom_set, strips_step, strips_space, IsGroundAction, IsStrips, Acts, action_at}
 use Rattle.pb_task.specs.Laws.{StripsAreProper, StripsAct}
 use Rattle.pb_task.specs.Parts.{greatest_cost}
 use Rattle.pb_task.specs.declared.parts.GroundAction.{GroundAction}
 use Rattle.pb_task.specs.declared.parts.StripsParts.{StripsParts}
-use Rattle.pb_task.proofs.AtomSets.{from_within, to_within, same_atoms, sets_are_of_atoms, filled_is, not_above, more_than}
+use Rattle.pb_task.proofs.AtomSets.{from_within, to_within, same_atoms, sets_are_of_atoms, accepted_is, not_above, more_than, within_is}
 
 -- what a step is: the action that there is, and that what it needs holds
 pub record IsStep (strips : StripsParts) (from action to cost : ℕ) : Type 0 where
@@ -86,8 +87,8 @@ strips_is_proper strips is = record {
       omega (arith, s.price, known.cost.1);
 }
 
-pub sets_are_small : (strips : StripsParts) → IsStrips strips → (state : ℕ) → IsTrue (is_atom_set strips.atoms state) → state < 2 ^ 256
-sets_are_small strips is state e = omega (arith, ltb-true state (2 ^ strips.atoms) e, more_than strips.atoms is.atoms)
+pub sets_are_small : (strips : StripsParts) → IsStrips strips → (state : ℕ) → IsTrue (is_atom_set strips.atoms state) → state < 2 ^ most_atoms
+sets_are_small strips is state e = omega (arith, ltb-true state (2 ^ strips.atoms) e, more_than strips.atoms most_atoms is.atoms)
 
 pub strips_are_proper : StripsAreProper
 strips_are_proper strips is = (strips_is_proper strips is, sets_are_small strips is)
@@ -119,15 +120,41 @@ steps_where_acts strips from action to cost a =
 pub strips_act : StripsAct
 strips_act strips from action to cost = (acts strips from action to cost, steps_where_acts strips from action to cost)
 
--- ---- the state that is made word by word
+-- ---- the state after an action
 
 nowhere : (adds state deletes : Bool) → adds ≡ false → state ≡ false → (adds || (state && not deletes)) ≡ false
 nowhere true state deletes a s = a
 nowhere false true deletes a s = absurd (let e : true ≡ false = s in cc)
 nowhere false false deletes a s = refl
 
-pub after_is : (count state after : ℕ) (act : GroundAction) → count ≤ 256 → act.adds < 2 ^ count → state < 2 ^ count → after < 2 ^ 256
-    → ((atom : ℕ) → atom < 256 → has_atom after atom ≡ holds_after act state atom) → after ≡ state_after count act state
+pub after_is : (count state after : ℕ) (act : GroundAction) → count ≤ most_atoms → act.adds < 2 ^ count → state < 2 ^ count → after < 2 ^ state_bits
+    → ((atom : ℕ) → has_atom after atom ≡ holds_after act state atom) → after ≡ state_after count act state
 after_is count state after act few adds small fits has =
-    filled_is (holds_after act state) after count few fits has
+    accepted_is (holds_after act state) after count state_bits (omega (arith, few)) fits has
     (λ atom above. nowhere (has_atom act.adds atom) (has_atom state atom) (has_atom act.deletes atom) (not_above act.adds count atom adds above) (not_above state count atom small above))
+
+-- ---- the step by the action of a number
+
+pub known_at : (actions : List GroundAction) (at : ℕ) → at < length actions → slice_get actions at ≡ Some (action_at actions at)
+known_at [] at less = absurd (omega (arith, less))
+known_at (action ∷ actions) zero less = refl
+known_at (action ∷ actions) (suc at) less = known_at actions at (omega (arith, less))
+
+pub step_at : (strips : StripsParts) → IsStrips strips → (from action : ℕ) → IsTrue (is_atom_set strips.atoms from) → action < length strips.actions
+    → (test : Bool) → IsTrue test ↔ ((atom : ℕ) → IsTrue (has_atom (action_at strips.actions action).needs atom) → IsTrue (has_atom from atom))
+    → strips_step strips from action
+    ≡ (if test then Some (state_after strips.atoms (action_at strips.actions action) from, (action_at strips.actions action).cost) else None)
+step_at strips is from action small less test decides =
+    let act = action_at strips.actions action in
+    let here : slice_get strips.actions action ≡ Some act = known_at strips.actions action less in
+    let known : IsGroundAction strips.atoms act = known_action strips is action act here in
+    step_from strips from action (Some act) small here ∙ step_taken strips.atoms from act test (sym (within_is test strips.atoms act.needs from known.needs decides))
+
+-- the state that an action leads to is known by its atoms
+pub state_at : (strips : StripsParts) → IsStrips strips → (from action to : ℕ) → IsTrue (is_atom_set strips.atoms from) → action < length strips.actions
+    → to < 2 ^ state_bits → ((atom : ℕ) → has_atom to atom ≡ holds_after (action_at strips.actions action) from atom)
+    → to ≡ state_after strips.atoms (action_at strips.actions action) from
+state_at strips is from action to small less fits has =
+    let act = action_at strips.actions action in
+    let known : IsGroundAction strips.atoms act = known_action strips is action act (known_at strips.actions action less) in
+    after_is strips.atoms from to act is.atoms known.adds (ltb-true from (2 ^ strips.atoms) small) fits has

@@ -1,4 +1,4 @@
--- Sets of atoms as numbers: by their bits, and by words of 64 bits.
+-- Sets of atoms as numbers.
 use Rattle.std.proofs.Common.{◌≡◌, ℕ, zero, suc, ◌+◌, ◌-◌, ◌*◌, ◌/◌, ◌%◌, ◌^◌, ◌<◌, ◌≤◌, Bool, true, false, not, IsTrue, nat_eq, ◌==◌, ◌&&◌, ◌||◌, inl, inr, refl, sym, subst, ap, arith, ◌∙◌, bit_and, bit_or, min, max, lit<, ◌↔◌}
 use Rattle.std.proofs.Math.Nat.{div-eq_of_lt, pow-le-pow_right, pow-suc}
 use Rattle.std.specs.Int.{Width, bit_at, bit_not, w64}
@@ -112,25 +112,18 @@ to_within (suc count) small large all =
     and_from (is_within count small large) _ (to_within count small large (λ atom less. all atom (omega (arith, less))))
     (told (has_atom small count) (has_atom large count) (all count (omega arith)))
 
-pub within_is : (answer : Bool) (count small large : ℕ) → count ≤ 256 → small < 2 ^ count → IsTrue answer ↔ Within 256 small large → answer ≡ is_within count small large
-within_is answer count small large few fits is = same_from_decides {P = Within 256 small large} answer (is_within count small large) is (
-  λ e atom less has. elim (cases_lt atom count) [
+-- a test of whether all atoms of one set are in another is that of the atoms of the task
+pub within_is : (answer : Bool) (count small large : ℕ) → small < 2 ^ count
+    → IsTrue answer ↔ ((atom : ℕ) → IsTrue (has_atom small atom) → IsTrue (has_atom large atom)) → answer ≡ is_within count small large
+within_is answer count small large fits is = same_from_decides {P = (atom : ℕ) → IsTrue (has_atom small atom) → IsTrue (has_atom large atom)} answer (is_within count small large) is (
+  λ e atom has. elim (cases_lt atom count) [
     | inl lower ↦ from_within count small large e atom lower has
     | inr above ↦ absurd (false≢true (sym (not_above small count atom fits above) ∙ has))
   ],
-  λ all. to_within count small large (λ atom less. all atom (omega (arith, less, few))),
+  λ all. to_within count small large (λ atom less. all atom),
 )
 
--- ---- words of 64 bits
-
--- an atom of a word is an atom of the set
-pub word_atom : (set at atom : ℕ) → atom < 64 → has_atom (bits_of set at 64) atom ≡ has_atom set (at + atom)
-word_atom set at atom less =
-    ap (λ bit. bit == 1) (sym (bit_at_cat_low (set / 2 ^ at / 2 ^ 64) 64 (set / 2 ^ at % 2 ^ 64) atom less)
-    ∙ ap (λ n. bit_at n atom) (shr_split (set / 2 ^ at) 64) ∙ ap (λ n. n % 2) (shr-shr set at atom))
-
-pub word_small : (set at : ℕ) → bits_of set at 64 < 2 ^ 64
-word_small set at = mod_below (set / 2 ^ at) (2 ^ 64) (pow_pos 64)
+-- ---- common atoms, those of either set, and those of neither
 
 least : (one other : Bool) → min (bit_number one) (bit_number other) ≡ bit_number (one && other)
 least true true = refl
@@ -162,18 +155,6 @@ pub no_atom : (width : Width) (word atom : ℕ) → word < 2 ^ bits width → at
 no_atom width word atom small less = number_tells _ _
     (sym (bit_is (bit_not width word) atom) ∙ bit_at_not width word atom small less ∙ ap (λ b. 1 - b) (bit_is word atom) ∙ turned (has_atom word atom))
 
--- the word of the set that has the atoms of one set, and those of another that are not in a third
-pub word_changed : (adds state deletes at atom : ℕ) → atom < 64
-    → has_atom (bit_or (bits_of adds at 64) (bit_and (bits_of state at 64) (2 ^ 64 - 1 - bits_of deletes at 64))) atom
-    ≡ (has_atom adds (at + atom) || (has_atom state (at + atom) && not (has_atom deletes (at + atom))))
-word_changed adds state deletes at atom less =
-    any_atom (bits_of adds at 64) _ atom
-    ∙ ap (λ b. has_atom (bits_of adds at 64) atom || b) (both_atoms (bits_of state at 64) _ atom)
-    ∙ ap (λ b. has_atom (bits_of adds at 64) atom || (has_atom (bits_of state at 64) atom && b)) (no_atom w64 (bits_of deletes at 64) atom (word_small deletes at) less)
-    ∙ ap (λ b. b || (has_atom (bits_of state at 64) atom && not (has_atom (bits_of deletes at 64) atom))) (word_atom adds at atom less)
-    ∙ ap (λ b. has_atom adds (at + atom) || (b && not (has_atom (bits_of deletes at 64) atom))) (word_atom state at atom less)
-    ∙ ap (λ b. has_atom adds (at + atom) || (has_atom state (at + atom) && not b)) (word_atom deletes at atom less)
-
 -- a set is within another where their common atoms are its own
 pub common_all : (small large : ℕ) → bit_and small large ≡ small → (atom : ℕ) → IsTrue (has_atom small atom) → IsTrue (has_atom large atom)
 common_all small large same atom is =
@@ -187,89 +168,20 @@ all_common count small large fits all =
       absorbed true other more = more refl
       absorbed false other more = refl
 
--- the same of the words of two sets
-abbrev pub WordWithin : (small large at : ℕ) → Type 0
-WordWithin small large at = (atom : ℕ) → atom < 64 → IsTrue (has_atom small (at + atom)) → IsTrue (has_atom large (at + atom))
+-- ---- a set that has the atoms that a test accepts
 
-pub from_common : (small large at : ℕ) → bit_and (bits_of small at 64) (bits_of large at 64) ≡ bits_of small at 64 → WordWithin small large at
-from_common small large at same atom less is =
-    sym (word_atom large at atom less) ∙ common_all (bits_of small at 64) (bits_of large at 64) same atom (word_atom small at atom less ∙ is)
+pub more_than : (count most : ℕ) → count ≤ most → 2 ^ count ≤ 2 ^ most
+more_than count most few = pow-le-pow_right {n = 2} (lit< tt) {i = count} {j = most} few
 
-pub to_common : (small large at : ℕ) → WordWithin small large at → bit_and (bits_of small at 64) (bits_of large at 64) ≡ bits_of small at 64
-to_common small large at all =
-    all_common 64 (bits_of small at 64) (bits_of large at 64) (word_small small at)
-    (λ atom less is. word_atom large at atom less ∙ all atom less (sym (word_atom small at atom less) ∙ is))
-
-pub word_within_is : (small large at word other : ℕ) → word ≡ bits_of small at 64 → other ≡ bits_of large at 64 → IsTrue (nat_eq (bit_and word other) word) ↔ WordWithin small large at
-word_within_is small large at word other first second = (
-  λ e. from_common small large at (rw (sym first, sym second) (eqb-true (bit_and word other) word e)),
-  λ all. eq-eqb (bit_and word other) word (rw (first, second) (to_common small large at all)),
-)
-
-pub by_words : (small large : ℕ) → WordWithin small large 0 → WordWithin small large 64 → WordWithin small large 128 → WordWithin small large 192 → Within 256 small large
-by_words small large first second third fourth atom less =
-    elim (cases_lt atom 64) [
-      | inl a ↦ at 0 first (omega (arith, a)) (omega (arith, a))
-      | inr a ↦ elim (cases_lt atom 128) [
-        | inl b ↦ at 64 second (omega (arith, a)) (omega (arith, a, b))
-        | inr b ↦ elim (cases_lt atom 192) [
-          | inl d ↦ at 128 third (omega (arith, b)) (omega (arith, b, d))
-          | inr d ↦ at 192 fourth (omega (arith, d)) (omega (arith, d, less))
-        ]
-      ]
-    ] where
-      at : (from : ℕ) → WordWithin small large from → from ≤ atom → atom - from < 64 → IsTrue (has_atom small atom) → IsTrue (has_atom large atom)
-      at from word low high =
-          let place : from + (atom - from) ≡ atom = omega (arith, low) in
-          subst (λ a. IsTrue (has_atom small a) → IsTrue (has_atom large a)) place (word (atom - from) high)
-
-pub of_words : (small large at : ℕ) → at + 64 ≤ 256 → Within 256 small large → WordWithin small large at
-of_words small large at room all atom less is = all (at + atom) (omega (arith, room, less)) is
-
--- ---- a set that is filled word by word
-
--- the atoms below a place are those that a test accepts, and there are no others
-pub record IsFilled (accepts : ℕ → Bool) (set at : ℕ) : Type 0 where
-  pub small : set < 2 ^ at
-  pub atoms : (atom : ℕ) → atom < at → has_atom set atom ≡ accepts atom
-
-pub nothing : (accepts : ℕ → Bool) → IsFilled accepts 0 0
-nothing accepts = record { small = omega arith; atoms = λ atom less. absurd (omega (arith, less)) }
-
-placed : (set at word : ℕ) → set < 2 ^ at → word * 2 ^ at + set ≡ with_bits_of set at 64 word
-placed set at word small =
-    let none : bits_of set at 64 ≡ 0 = ap (λ n. n % 2 ^ 64) (div-eq_of_lt small) in
-    let gone : bits_of set at 64 * 2 ^ at ≡ 0 * 2 ^ at = ap (λ n. n * 2 ^ at) none in
-    omega (arith, gone)
-
-pub next_word : (accepts : ℕ → Bool) (set at word : ℕ) → IsFilled accepts set at → word < 2 ^ 64
-    → ((atom : ℕ) → atom < 64 → has_atom word atom ≡ accepts (at + atom)) → IsFilled accepts (with_bits_of set at 64 word) (at + 64)
-next_word accepts set at word filled fits has =
-    subst (λ s. IsFilled accepts s (at + 64)) (placed set at word filled.small) (record {
-      small = subst (λ power. word * 2 ^ at + set < power) (sym (pow-add 2 at 64)) (mul-add-lt word (2 ^ at) set (2 ^ 64) fits filled.small);
-      atoms = λ atom less. elim (cases_lt atom at) [
-        | inl lower ↦ placed_below word at set atom lower ∙ filled.atoms atom lower
-        | inr above ↦
-            let place : at + (atom - at) ≡ atom = omega (arith, above) in
-            subst (λ a. has_atom (word * 2 ^ at + set) a ≡ accepts a) place
-            (placed_above word at set (atom - at) filled.small ∙ has (atom - at) (omega (arith, less, above)))
-      ];
-    })
-
-pub next_is : (accepts : ℕ → Bool) (set at word filled : ℕ) → filled ≡ with_bits_of set at 64 word → IsFilled accepts set at → word < 2 ^ 64
-    → ((atom : ℕ) → atom < 64 → has_atom word atom ≡ accepts (at + atom)) → IsFilled accepts filled (at + 64)
-next_is accepts set at word filled is before fits has = subst (λ s. IsFilled accepts s (at + 64)) (sym is) (next_word accepts set at word before fits has)
-
-pub more_than : (count : ℕ) → count ≤ 256 → 2 ^ count ≤ 2 ^ 256
-more_than count few = pow-le-pow_right {n = 2} (lit< tt) {i = count} {j = 256} few
-
--- a set that has no atoms from `count` on, filled up to 256, is the set of the first `count`
-pub filled_is : (accepts : ℕ → Bool) (set count : ℕ) → count ≤ 256 → set < 2 ^ 256 → ((atom : ℕ) → atom < 256 → has_atom set atom ≡ accepts atom)
+-- a set that has exactly the atoms that a test accepts, which accepts none from `count` on, is the
+-- set of the first `count`
+pub accepted_is : (accepts : ℕ → Bool) (set count most : ℕ) → count ≤ most → set < 2 ^ most → ((atom : ℕ) → has_atom set atom ≡ accepts atom)
     → ((atom : ℕ) → count ≤ atom → accepts atom ≡ false) → set ≡ set_of count accepts
-filled_is accepts set count few small has none =
+accepted_is accepts set count most few small has none =
     let made_small : set_of count accepts < 2 ^ count = (made count accepts).small in
-    same_atoms 256 set (set_of count accepts) small (omega (arith, made_small, more_than count few))
-    (λ atom less. has atom less ∙ elim (cases_lt atom count) [
+    let more : 2 ^ count ≤ 2 ^ most = more_than count most few in
+    same_atoms most set (set_of count accepts) small (omega (arith, made_small, more))
+    (λ atom less. has atom ∙ elim (cases_lt atom count) [
       | inl lower ↦ sym ((made count accepts).atoms atom lower)
       | inr above ↦ none atom above ∙ sym (not_above (set_of count accepts) count atom made_small above)
     ])

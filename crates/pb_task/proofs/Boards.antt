@@ -12,7 +12,7 @@ use Rattle.std.specs.Prelude.{swap, All}
 use Rattle.std.specs.Bool.{Decides}
 use Rattle.std.specs.List.{list_any, list_all, IsDistinct, AllByRecursion}
 use Rattle.std.specs.List.Sorted.{IsPermutation}
-use Rattle.pb_packed.specs.Bits.{bits_of, with_bits_of}
+use Rattle.pb_packed.specs.Bits.{bits_of}
 use Rattle.pb_model.proofs.Callers.{equal_swap}
 use Rattle.pb_task.specs.Laws.{BoardsArePacked}
 use Rattle.pb_task.specs.Tiles.{are_distinct, is_board, board_state, board_of, is_board_state}
@@ -198,16 +198,8 @@ whole count state less =
     let one : state / 1 ≡ state = omega arith in
     ap (λ n. n % 2 ^ (4 * count)) one ∙ mod-eq_of_lt few
 
-alone : (len word : ℕ) → with_bits_of 0 0 len word ≡ word
-alone len word = zero_less (bits_of 0 0 len * 2 ^ 0) word where
-  zero_less : (n word : ℕ) → 0 - n + word * 1 ≡ word
-  zero_less n word = omega arith
-
 first_false : (a b : Bool) → a ≡ false → false ≡ (a && b)
 first_false a b e = cc
-
-pub from_zero : (none len word packed : ℕ) → none ≡ 0 → packed ≡ with_bits_of none 0 len word → packed ≡ with_bits_of 0 0 len word
-from_zero none len word packed e is = subst (λ n. packed ≡ with_bits_of n 0 len word) e is
 
 pub differ : (a b : ℕ) → true ≡ not (a == b) → a ≢ b
 differ a b e same = let off : (a == b) ≡ true = eq-eqb a b same in cc
@@ -219,17 +211,17 @@ agree a b e = go (a == b) refl e where
   go false is e = cc
 
 -- a state that its lowest bits don't make up is no board
-pub not_whole : (count state word packed : ℕ) → word ≡ bits_of state 0 (4 * count) → packed ≡ with_bits_of 0 0 (4 * count) word → packed ≢ state → false ≡ is_board_state count state
+pub not_whole : (count state word packed : ℕ) → word ≡ bits_of state 0 (4 * count) → packed ≡ word → packed ≢ state → false ≡ is_board_state count state
 not_whole count state word packed is packed_is other = go (nat_lt state (16 ^ count)) refl where
   go : (test : Bool) → nat_lt state (16 ^ count) ≡ test → false ≡ is_board_state count state
-  go true less = absurd (other (packed_is ∙ alone (4 * count) word ∙ is ∙ whole count state (ltb-true state (16 ^ count) less)))
+  go true less = absurd (other (packed_is ∙ is ∙ whole count state (ltb-true state (16 ^ count) less)))
   go false e = first_false (nat_lt state (16 ^ count)) (is_board count (board_of count state)) e
 
 -- a state that its lowest bits make up is one where it has a board's numbers
-pub is_whole : (count state word packed : ℕ) (cells : List ℕ) → word ≡ bits_of state 0 (4 * count) → packed ≡ with_bits_of 0 0 (4 * count) word → packed ≡ state → cells ≡ board_of count word
+pub is_whole : (count state word packed : ℕ) (cells : List ℕ) → word ≡ bits_of state 0 (4 * count) → packed ≡ word → packed ≡ state → cells ≡ board_of count word
     → is_board (length cells) cells ≡ is_board_state count state
 is_whole count state word packed cells is packed_is same read =
-    let here : state ≡ word = sym same ∙ packed_is ∙ alone (4 * count) word in
+    let here : state ≡ word = sym same ∙ packed_is in
     let few : state < 16 ^ count = subst (λ n. n < 16 ^ count) (sym (here ∙ is)) (subst (λ m. bits_of state 0 (4 * count) < m) (sym (power_two count)) (mod-lt (state / 2 ^ 0) (pow_pos (4 * count)))) in
     let board : cells ≡ board_of count state = read ∙ ap (board_of count) (sym here) in
     let many : length cells ≡ count = ap length board ∙ length-board_of count state in

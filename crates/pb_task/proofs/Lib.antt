@@ -4,6 +4,8 @@ mod Sliding
 mod Exchanges
 mod Slides
 mod AtomSets
+mod FlatWords
+mod FlatActions
 mod Acting
 mod Grids
 mod Successors

@@ -1,6 +1,7 @@
 -- The laws of this crate. Each is proved, as the contract of the public function that has its name.
 use Rattle.std.specs.Prelude.{◌≡◌, ℕ, ◌^◌, ◌<◌, ◌≤◌, Bool, IsTrue, List, length, slice_index, ◌*◌, ◌↔◌}
 use Rattle.pb_packed.specs.Bits.{bits_of}
+use Rattle.pb_packed.specs.Sizes.{most_atoms}
 use Rattle.pb_model.specs.Space.{Space, Steps, IsProper, steps}
 use Rattle.pb_model.specs.Plan.{IsPlan}
 use Rattle.pb_task.specs.declared.parts.TaskParts.{TaskParts}
@@ -57,12 +58,13 @@ BoardsArePacked =
     ≡ bits_of state (4 * cell) 4)
 
 -- The start of a STRIPS task is a state. Each of its steps is by one of its actions, leads from a
--- state to a state, and costs 1 to 2^20. Its states are numbers below 2^256.
+-- state to a state, and costs 1 to 2^20. Its states have as many bits
+-- as a task may have atoms.
 abbrev pub StripsAreProper : Type 0
 StripsAreProper =
     (strips : StripsParts) → IsStrips strips
     → IsProper (strips_space strips) greatest_cost
-    × ((state : ℕ) → IsTrue ((strips_space strips).is_state state) → state < 2 ^ 256)
+    × ((state : ℕ) → IsTrue ((strips_space strips).is_state state) → state < 2 ^ most_atoms)
 
 -- A step of a STRIPS task is one by which an action acts, atom by atom.
 abbrev pub StripsAct : Type 0
@@ -79,13 +81,13 @@ SetsAreOfAtoms =
     × ((count one other : ℕ) → one < 2 ^ count → other < 2 ^ count
     → ((atom : ℕ) → atom < count → has_atom one atom ≡ has_atom other atom) → one ≡ other)
 
--- The state space of a task is proper: no action costs more than the greatest cost. Its states are
--- numbers of 256 bits.
+-- The state space of a task is proper: no action costs more than the greatest cost. Its states have
+-- as many bits as a task may have atoms.
 abbrev pub TasksAreProper : Type 0
 TasksAreProper =
     (parts : TaskParts) → IsTask parts
     → IsProper (space_of parts) greatest_cost
-    × ((state : ℕ) → IsTrue ((space_of parts).is_state state) → state < 2 ^ 256)
+    × ((state : ℕ) → IsTrue ((space_of parts).is_state state) → state < 2 ^ most_atoms)
 
 -- No state of a task has more successors than its greatest degree.
 abbrev pub DegreesAreBounded : Type 0

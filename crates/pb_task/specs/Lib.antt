@@ -3,6 +3,8 @@ pub use Rattle.pb_model.specs.Space
 pub mod Grid
 pub mod Tiles
 pub mod Slides
+pub mod FlatSets
+pub mod Actions
 pub mod Strips
 pub mod Parts
 pub mod Kinds

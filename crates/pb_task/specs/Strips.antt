@@ -2,8 +2,9 @@
 -- application of theorem proving to problem solving", 1971). A state is a set of atoms. An action
 -- is applicable if the atoms that it needs hold. It leads to the state without the atoms that it
 -- deletes, together with those that it adds.
-use Rattle.std.specs.Prelude.{◌≡◌, ℕ, zero, suc, ◌+◌, ◌*◌, ◌^◌, ◌<◌, ◌≤◌, Bool, true, not, IsTrue, List, [], length, All, Option, None, Some, slice_get, if◌then◌else◌, nat_lt, ◌==◌, ◌&&◌, ◌||◌}
+use Rattle.std.specs.Prelude.{◌≡◌, ℕ, zero, suc, ◌+◌, ◌*◌, ◌^◌, ◌<◌, ◌≤◌, Bool, true, not, IsTrue, List, [], length, All, Option, None, Some, slice_get, slice_index_or, if◌then◌else◌, nat_lt, ◌==◌, ◌&&◌, ◌||◌}
 use Rattle.pb_packed.specs.Bits.{bits_of, bit_number}
+use Rattle.pb_packed.specs.Sizes.{most_atoms}
 use Rattle.pb_model.specs.Space.{Space}
 use Rattle.pb_task.specs.declared.parts.GroundAction.{GroundAction}
 use Rattle.pb_task.specs.declared.parts.StripsParts.{StripsParts}
@@ -66,6 +67,11 @@ strips_space strips = record {
   step = strips_step strips;
 }
 
+-- the action of a number, and one that changes nothing if there are fewer
+abbrev pub action_at : List GroundAction → (number : ℕ) → GroundAction
+action_at actions number =
+    slice_index_or actions number (record { name = []; needs = 0; adds = 0; deletes = 0; cost = 1 })
+
 -- the name of an action, if there is one
 abbrev pub name_of : Option GroundAction → List ℕ
 name_of None = []
@@ -81,9 +87,10 @@ pub record IsGroundAction (count : ℕ) (action : GroundAction) : Type 0 where
   pub deletes : action.deletes < 2 ^ count
   pub cost : (1 ≤ action.cost) × (action.cost ≤ 2 ^ 20)
 
--- There are at most 256 atoms and at most 65,536 actions, and start and goal are sets of the atoms.
+-- There are no more atoms than a task may have and at most 65,536 actions, and start and goal are
+-- sets of the atoms.
 pub record IsStrips (strips : StripsParts) : Type 0 where
-  pub atoms : strips.atoms ≤ 256
+  pub atoms : strips.atoms ≤ most_atoms
   pub few : length strips.actions ≤ 65536
   pub actions : All (IsGroundAction strips.atoms) strips.actions
   pub start : strips.start < 2 ^ strips.atoms

@@ -27,7 +27,7 @@ pub fn pack(x: u32, y: u32) -> Packed
     requires y { y < 2048 }
     ensures { result ≡ cell_state x y }
 {
-    Packed::zero().with_bits(0, 2 * BITS, u64::from(y) * COLUMNS + u64::from(x))
+    Packed::of_word(u64::from(y) * COLUMNS + u64::from(x))
 }
 
 // The column and the row in a state's bits.

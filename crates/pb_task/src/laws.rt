@@ -24,7 +24,7 @@ pub fn tiles_slide()
 {}
 
 /// The steps of a STRIPS task are by its actions, lead between sets of its atoms and cost 1 to
-/// 2^20. Its states have 256 bits.
+/// 2^20. Its states have as many bits as a task may have atoms.
 pub fn strips_are_proper()
     ensures { StripsAreProper }
 {}

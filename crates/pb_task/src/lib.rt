@@ -4,6 +4,8 @@
 //! as a state space.
 #![tactic(auto)]
 
+mod actions;
+mod atom_sets;
 mod grid;
 mod kind;
 mod laws;
@@ -15,6 +17,7 @@ mod strips;
 mod task;
 mod tiles;
 
+pub use actions::Actions;
 pub use grid::{are_connected, cell_beside};
 pub use kind::Kind;
 pub use laws::{
@@ -23,8 +26,8 @@ pub use laws::{
     tiles_are_proper, tiles_slide,
 };
 pub use parts::{
-    ActionName, Actions, Board, Cells, Class, GridParts, GroundAction, StripsParts, Swamp,
-    TaskParts, TilesParts,
+    ActionName, Board, Cells, Class, GridParts, GroundAction, StripsParts, Swamp, TaskParts,
+    TilesParts,
 };
 pub use plan::PlanFault;
 pub use task::Task;

@@ -1,5 +1,6 @@
 ghost use Rattle.std.specs.Prelude.{◌≡◌, slice_get, string_bytes};
 
+use crate::actions::Actions;
 use pb_packed::Packed;
 use std::marker::Model;
 
@@ -183,41 +184,10 @@ pub struct GroundAction {
     pub cost: u64,
 }
 
-/// The ground actions of a STRIPS task, in the order of their numbers.
-#[derive(Drop)]
-pub struct Actions {
-    actions: Vec<GroundAction>,
-}
-
-impl Model for Actions {
-    ghost use Rattle.std.specs.Prelude.{List};
-    ghost use Rattle.pb_task.specs.declared.parts.GroundAction.{GroundAction};
-
-    ghost Value = { List GroundAction };
-
-    ghost view = { λ a. a.actions.items };
-}
-
-impl Actions {
-    /// These actions.
-    pub fn of(actions: Vec<GroundAction>) -> Actions
-        ensures { result ≡ actions.items }
-    {
-        Actions { actions }
-    }
-
-    /// The actions, the one of number 0 first.
-    pub fn as_slice(&self) -> &[GroundAction]
-        ensures { result.now ≡ self.now }
-    {
-        self.actions.as_slice()
-    }
-}
-
 /// A STRIPS task over numbered ground atoms: atom i is bit i of a set.
 #[derive(Drop)]
 pub struct StripsParts {
-    /// How many ground atoms there are: at most 256.
+    /// How many ground atoms there are: at most `MOST_ATOMS`.
     pub atoms: u32,
     /// The ground actions: at most 65,536.
     pub actions: Actions,

@@ -1,83 +1,84 @@
-ghost use Rattle.std.specs.Prelude.{◌≡◌, ℕ, ◌+◌, ◌<◌, ◌≤◌, ◌^◌, ◌↔◌, IsTrue};
-ghost use Rattle.pb_task.specs.Strips.{has_atom, is_atom_set, holds_after};
+// Sets of atoms, packed or as words. Of two sets of words, the lowest word comes first.
+ghost use Rattle.std.specs.Prelude.{◌≡◌, ℕ, ◌*◌, ◌<◌, ◌≤◌, ◌^◌, ◌↔◌, ◌&&◌, ◌||◌, not, IsTrue, length};
+ghost use Rattle.pb_packed.specs.Sizes.{state_bits, most_atoms};
+ghost use Rattle.pb_packed.specs.Words.{number_of, AreWords};
+ghost use Rattle.pb_task.specs.Strips.{has_atom, is_atom_set};
 
-use crate::parts::GroundAction;
 use pb_packed::Packed;
 
-// A set of at most 256 atoms is looked at by its four words of this many bits.
-const WORD: u32 = 64;
-
-// The set of all 256 atoms.
-fn all_atoms() -> Packed
-    ensures { result + 1 ≡ 2 ^ 256 }
-{
-    Packed::zero()
-        .with_bits(0, WORD, u64::MAX)
-        .with_bits(WORD, WORD, u64::MAX)
-        .with_bits(2 * WORD, WORD, u64::MAX)
-        .with_bits(3 * WORD, WORD, u64::MAX)
-}
+/// How many words a state has at most.
+pub const WORDS: usize = 16;
 
 /// Whether a number is a set of the first `count` atoms.
 pub fn is_atom_set(count: u32, set: &Packed) -> bool
-    requires { count ≤ 256 }
+    requires { count ≤ most_atoms }
     ensures { result ≡ is_atom_set count set.now }
 {
-    if count < 256 {
-        *set < Packed::zero().with(count, true)
-    } else {
-        *set <= all_atoms()
+    *set < Packed::zero().with(count, true)
+}
+
+/// Whether the one set is within the other.
+#[inline]
+pub fn is_within(small: &[u64], large: &[u64]) -> bool
+    requires small { AreWords (length small.now) small.now }
+    requires large { AreWords (length large.now) large.now }
+    requires room { length small.now ≤ length large.now }
+    ensures { IsTrue result
+        ↔ ((atom : ℕ) → IsTrue (has_atom (number_of small.now) atom)
+        → IsTrue (has_atom (number_of large.now) atom)) }
+{
+    for i in 0..small.len() {
+        if small[i] & large[i] != small[i] {
+            return false;
+        }
+    }
+    true
+}
+
+// Takes the atoms of a set out of another.
+#[inline]
+fn take_out(words: &mut [u64], set: &[u64])
+    requires words { AreWords (length words.old) words.old }
+    requires set { AreWords (length set.now) set.now }
+    requires room { length set.now ≤ length words.old }
+    ensures words { AreWords (length words.old) words.new }
+    ensures atoms { (atom : ℕ) → has_atom (number_of words.new) atom
+        ≡ (has_atom (number_of words.old) atom && not (has_atom (number_of set.now) atom)) }
+{
+    for i in 0..set.len() {
+        words[i] = words[i] & !set[i];
     }
 }
 
-// Whether the atoms of the one set are in the other, of the 64 atoms from atom `at` on.
-fn is_word_within(small: &Packed, large: &Packed, at: u32) -> bool
-    requires { at + 64 ≤ 256 }
-    ensures { IsTrue result
-        ↔ ((atom : ℕ) → atom < 64 → IsTrue (has_atom small.now (at + atom))
-        → IsTrue (has_atom large.now (at + atom))) }
+// Puts the atoms of a set into another.
+#[inline]
+fn put_in(words: &mut [u64], set: &[u64])
+    requires words { AreWords (length words.old) words.old }
+    requires set { AreWords (length set.now) set.now }
+    requires room { length set.now ≤ length words.old }
+    ensures words { AreWords (length words.old) words.new }
+    ensures atoms { (atom : ℕ) → has_atom (number_of words.new) atom
+        ≡ (has_atom (number_of set.now) atom || has_atom (number_of words.old) atom) }
 {
-    let word = small.bits(at, WORD);
-    word & large.bits(at, WORD) == word
+    for i in 0..set.len() {
+        words[i] = set[i] | words[i];
+    }
 }
 
-/// Whether the one set of at most 256 atoms is within the other.
-pub fn is_within(small: &Packed, large: &Packed) -> bool
-    ensures { IsTrue result
-        ↔ ((atom : ℕ) → atom < 256 → IsTrue (has_atom small.now atom)
-        → IsTrue (has_atom large.now atom)) }
+/// The atoms that hold after an action that adds and deletes these, of the atoms that held before.
+pub fn after(adds: &[u64], deletes: &[u64], held: &[u64; WORDS]) -> Packed
+    requires adds { AreWords (length adds.now) adds.now }
+    requires deletes { AreWords (length deletes.now) deletes.now }
+    requires held { AreWords 16 held.now }
+    requires few_adds { 64 * length adds.now ≤ state_bits }
+    requires few_deletes { 64 * length deletes.now ≤ state_bits }
+    ensures atoms { (atom : ℕ) → has_atom result atom
+        ≡ (has_atom (number_of adds.now) atom
+        || (has_atom (number_of held.now) atom && not (has_atom (number_of deletes.now) atom))) }
+    ensures bits { result < 2 ^ state_bits }
 {
-    is_word_within(small, large, 0)
-        && is_word_within(small, large, WORD)
-        && is_word_within(small, large, 2 * WORD)
-        && is_word_within(small, large, 3 * WORD)
-}
-
-// Which of the 64 atoms from atom `at` on hold after an action: the word of the state after it.
-fn word_after(action: &GroundAction, state: &Packed, at: u32) -> u64
-    requires { at + 64 ≤ 256 }
-    ensures { (atom : ℕ) → atom < 64 → has_atom result atom
-        ≡ holds_after action.now state.now (at + atom) }
-{
-    let held = state.bits(at, WORD);
-    let deleted = action.deletes.bits(at, WORD);
-    let added = action.adds.bits(at, WORD);
-    added | (held & !deleted)
-}
-
-/// The set of those of 256 atoms that hold after an action.
-pub fn after(action: &GroundAction, state: &Packed) -> Packed
-    ensures atoms { (atom : ℕ) → atom < 256 → has_atom result atom
-        ≡ holds_after action.now state.now atom }
-    ensures bits { result < 2 ^ 256 }
-{
-    let first = word_after(action, state, 0);
-    let second = word_after(action, state, WORD);
-    let third = word_after(action, state, 2 * WORD);
-    let fourth = word_after(action, state, 3 * WORD);
-    Packed::zero()
-        .with_bits(0, WORD, first)
-        .with_bits(WORD, WORD, second)
-        .with_bits(2 * WORD, WORD, third)
-        .with_bits(3 * WORD, WORD, fourth)
+    let mut words = *held;
+    take_out(&mut words, deletes);
+    put_in(&mut words, adds);
+    Packed::of_slice(&words)
 }

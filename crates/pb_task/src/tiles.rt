@@ -26,7 +26,7 @@ pub fn pack(board: &[u8]) -> Packed
     for cell in (0..board.len()).rev() {
         word = word * 16 + u64::from(board[cell]);
     }
-    Packed::zero().with_bits(0, 64, word)
+    Packed::of_word(word)
 }
 
 // The numbers in the first cells of a state, which has no others, from the first on.
@@ -50,7 +50,7 @@ pub fn is_state(tiles: &TilesParts, state: &Packed) -> bool
 {
     let count = tiles.rows * tiles.cols;
     let word = state.bits(0, BITS * count);
-    if Packed::zero().with_bits(0, BITS * count, word) != *state {
+    if Packed::of_word(word) != *state {
         return false;
     }
     let cells = unpack(word, count as usize);
@@ -190,7 +190,7 @@ fn slide_word(
 {
     let other = neighbour(tiles, column, row, action)?;
     let moved = exchanged(word, tiles.rows * tiles.cols, blank, other);
-    Some((Packed::zero().with_bits(0, 64, moved), 1))
+    Some((Packed::of_word(moved), 1))
 }
 
 /// Replaces the list by all successors of a state, in order of the actions. The state is read once.
@@ -221,7 +221,7 @@ pub fn is_at(board: &[u8], state: &Packed) -> bool
     ensures { result ≡ (state.now == board_state board.now) }
 {
     let word = state.bits(0, 64);
-    has_numbers(word, board) && Packed::zero().with_bits(0, 64, word) == *state
+    has_numbers(word, board) && Packed::of_word(word) == *state
 }
 
 // Whether a word represents a board. The board is read up to the first cell that differs.

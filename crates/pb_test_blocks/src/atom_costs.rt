@@ -47,7 +47,7 @@ fn in_chain<R: Abort>(
     let actions = vec![in alloc; third, second, first, direct].expect(rt, "memory");
     let task = Task::of_strips(StripsParts {
         atoms: 4,
-        actions: Actions::of(actions),
+        actions: Actions::of(alloc, actions).expect(rt, "memory"),
         start: set(1),
         goal: set(goal % 16),
         never,
@@ -69,7 +69,7 @@ fn in_join<R: Abort>(
     let actions = vec![in alloc; cheap, dear, both].expect(rt, "memory");
     let task = Task::of_strips(StripsParts {
         atoms: 4,
-        actions: Actions::of(actions),
+        actions: Actions::of(alloc, actions).expect(rt, "memory"),
         start: set(1),
         goal: set(goal % 16),
         never: false,
@@ -77,11 +77,14 @@ fn in_join<R: Abort>(
     estimates(rt, alloc, task, &set(state), &set(6))
 }
 
-// The set of one atom.
+// The set of one atom, in four words.
 fn only(atom: u8) -> Packed
     ensures { result < 2 ^ 256 }
 {
-    Packed::zero().with(u32::from(atom), true)
+    match Packed::zero().with(u32::from(atom), true).as_words::<4>() {
+        Some(words) => Packed::of_few(words),
+        None => Packed::zero(),
+    }
 }
 
 // The one action needs the last of 256 atoms, deletes it, and adds this one, which is the goal. The
@@ -103,7 +106,7 @@ fn from_last<R: Abort>(
     let actions = vec![in alloc; turn].expect(rt, "memory");
     let task = Task::of_strips(StripsParts {
         atoms: 256,
-        actions: Actions::of(actions),
+        actions: Actions::of(alloc, actions).expect(rt, "memory"),
         start: only(255),
         goal: only(atom),
         never: false,

@@ -50,7 +50,7 @@ pub fn six_atoms(alloc: Global) -> Result<Task, AllocError> {
     ]?;
     Ok(Task::of_strips(StripsParts {
         atoms: 6,
-        actions: Actions::of(actions),
+        actions: Actions::of(alloc, actions)?,
         start: set(0b000011),
         goal: set(0b100000),
         never: false,
@@ -67,7 +67,7 @@ pub fn added_alone(alloc: Global, count: u32) -> Result<Task, AllocError>
     }
     Ok(Task::of_strips(StripsParts {
         atoms: count,
-        actions: Actions::of(actions),
+        actions: Actions::of(alloc, actions)?,
         start: set(0),
         goal: set(0),
         never: false,
@@ -78,7 +78,7 @@ pub fn added_alone(alloc: Global, count: u32) -> Result<Task, AllocError>
 pub fn unchanged(alloc: Global) -> Task {
     Task::of_strips(StripsParts {
         atoms: 3,
-        actions: Actions::of(Vec::new(alloc)),
+        actions: Actions::new(alloc),
         start: set(0),
         goal: set(0b111),
         never: false,

@@ -60,7 +60,7 @@ fn spent_once<R: Abort>(rt: &R, alloc: Global) -> Task {
     let actions = vec![in alloc; first, second].expect(rt, "memory");
     Task::of_strips(StripsParts {
         atoms: 3,
-        actions: Actions::of(actions),
+        actions: Actions::of(alloc, actions).expect(rt, "memory"),
         start: set(4),
         goal: set(3),
         never: false,

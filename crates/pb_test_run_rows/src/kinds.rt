@@ -4,7 +4,7 @@ use crate::moves::{add_applied, add_state, add_steps, add_walk};
 use crate::trees::trees_of;
 use pb_grid::{GridError, read_grid};
 use pb_outside::Memory;
-use pb_packed::Packed;
+use pb_packed::{DIGITS, Packed};
 use pb_report::Report;
 use pb_strips::{StripsError, ground};
 use pb_task::{Task, TaskParts};
@@ -81,13 +81,14 @@ fn parts_text(alloc: Global, parts: &TaskParts) -> Result<String, Memory> {
             format!(in alloc; "tiles {} {} {start:?} {goal:?}\n", tiles.rows, tiles.cols)
         }
         TaskParts::Strips(strips) => {
-            let actions = strips.actions.as_slice();
-            let last = match actions.last() {
-                Some(action) => action.name.as_str(),
-                None => "",
+            let count = strips.actions.len();
+            let last = if count == 0 {
+                ""
+            } else {
+                strips.actions.name(count - 1)
             };
             let (atoms, never) = (strips.atoms, strips.never);
-            format!(in alloc; "strips {atoms} {never} {} {last}\n", actions.len())
+            format!(in alloc; "strips {atoms} {never} {count} {last}\n")
         }
     };
     Ok(text?)
@@ -159,7 +160,7 @@ fn state_of(alloc: Global, words: &[String]) -> Result<Option<Packed>, Memory> {
     let Some(word) = words.first() else {
         return Ok(None);
     };
-    let zeros = 64_usize.saturating_sub(word.len());
+    let zeros = DIGITS.saturating_sub(word.len());
     let mut digits = "0".repeat(alloc, zeros)?;
     digits.push_str(word.as_str())?;
     Ok(Packed::of_hex(digits.as_bytes()))

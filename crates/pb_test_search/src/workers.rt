@@ -3,9 +3,10 @@
 ghost use Rattle.std.specs.Prelude.{◌≡◌, ◌+◌, [], None, IsFalse, IfOk};
 ghost use Rattle.pb_machine.specs.History.{AreFinished};
 ghost use Rattle.pb_lease.specs.GraphValue.{counts_in};
+ghost use Rattle.pb_lease.specs.Begins.{IsBegin};
 ghost use Rattle.pb_lease.specs.Choices.{is_out_in};
 ghost use Rattle.pb_yard.specs.Passes.{view_of, parts_of, all_parts, IsOf, IsFirstPass};
-ghost use Rattle.pb_yard.specs.Calls.{IsOpening, IsReady, IsAlone, HasSignedOff, KeepsWorkers};
+ghost use Rattle.pb_yard.specs.Calls.{IsReady, IsAlone, HasSignedOff, KeepsWorkers};
 
 use crate::graphs::start_estimate;
 use pb_abstract::AbsGraph;
@@ -22,7 +23,7 @@ use std::thread::{Threads, join, yield_now};
 
 // The graph of a search of a board of 2 by 2 cells by two workers.
 fn graph(alloc: Global) -> Result<LeaseGraph, AllocError>
-    ensures { IfOk result (λ g. IsOpening g × (g.table.settings.workers ≡ 2)) }
+    ensures { IfOk result (λ g. IsBegin g × (g.table.settings.workers ≡ 2)) }
 {
     let task = Task::of_tiles(TilesParts {
         rows: 2,

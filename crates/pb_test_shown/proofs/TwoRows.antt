@@ -1,4 +1,4 @@
--- A store with the rows of the start and of one of its successors, both Opened, is sound: in one bundle, and in two.
+-- A store with the rows of the start and of one of its successors, both Opened, is sound.
 use Rattle.std.proofs.Common.{◌≡◌, ◌≢◌, ◌⊎◌, inl, inr, ℕ, ◌+◌, ◌≤◌, ◌==◌, Bool, true, false, Option, None, Some, IsTrue, if◌then◌else◌, refl, sym, subst, ap, arith, ◌∙◌}
 use Rattle.std.proofs.lemmas.Bool.{eqb-false}
 use Rattle.pb_model.specs.declared.row.Row.{Row}
@@ -121,62 +121,6 @@ module _ (start next cost action : ℕ) (other : next ≢ start) (empty one two 
         which = λ home state row found. which state row (at_zero home state row found).1;
       }
 
--- ---- in two bundles
-
-abbrev pub two_part_rows : (first second : Content) → Rows
-two_part_rows first second home state = if home == 0 then row_of first state else if home == 1 then row_of second state else None
-
--- the start is at home in part 0, and all else in part 1
-abbrev pub home_by_start : (start state : ℕ) → ℕ
-home_by_start start state = if state == start then 0 else 1
-
-one_row : (part of : Part) (state : ℕ) (new : Option Row → Row) → ((state : ℕ) → part state ≡ None) → SetsRow part of state (new (part state))
-    → (of state ≡ Some (new None)) × ((other : ℕ) (row : Row) → of other ≡ Some row → (other ≡ state) × (row ≡ new None))
-one_row part of state new none sets =
-    let here : of state ≡ Some (new None) = sets.here ∙ ap (λ row. Some (new row)) (none state) in (
-      here,
-      λ other row found. by_cases (other == state)
-          (λ t. let e : other ≡ state = equal other state t in (e, same_row (of state) row (new None) (subst (λ s. of s ≡ Some row) e found) here))
-          (λ f. absurd (none_found (of other) row (sets.others other (eqb-false other state f) ∙ none other) found)),
-    )
-
-module _ (start next cost action : ℕ) (other : next ≢ start) (empty one two empty_two : Content) (none : (state : ℕ) → row_of empty state ≡ None) (none_two : (state : ℕ) → row_of empty_two state ≡ None)
-    (first : SetsRow (row_of empty) (row_of one) start (offered_row 0 (Cost 0) None 0 (row_of empty start)))
-    (second : SetsRow (row_of empty_two) (row_of two) next (offered_row cost (Cost 0) (Some start) action (row_of empty_two next))) where
-  in_first : (row_of one start ≡ Some start_row) × ((other : ℕ) (row : Row) → row_of one other ≡ Some row → (other ≡ start) × (row ≡ start_row))
-  in_first = one_row (row_of empty) (row_of one) start (offered_row 0 (Cost 0) None 0) none first
-
-  in_second : (row_of two next ≡ Some (next_row start cost action)) × ((other : ℕ) (row : Row) → row_of two other ≡ Some row → (other ≡ next) × (row ≡ next_row start cost action))
-  in_second = one_row (row_of empty_two) (row_of two) next (offered_row cost (Cost 0) (Some start) action) none_two second
-
-  home_of_start : home_by_start start start ≡ 0
-  home_of_start = ap (λ b. if b then 0 else 1) (equal_self start)
-
-  home_of_next : home_by_start start next ≡ 1
-  home_of_next = by_cases (next == start) (λ t. absurd (other (equal next start t))) (λ f. ap (λ b. if b then 0 else 1) f)
-
-  -- where a row stands
-  at_one : (home state : ℕ) (row : Row) → two_part_rows one two home state ≡ Some row → ((home ≡ 0) × (row_of one state ≡ Some row)) ⊎ ((home ≡ 1) × (row_of two state ≡ Some row))
-  at_one home state row found =
-      by_cases (home == 0)
-      (λ t. inl (equal home 0 t, if_true (home == 0) (row_of one state) (if home == 1 then row_of two state else None) row t found))
-      (λ f. let there = if_false (home == 0) (row_of one state) (if home == 1 then row_of two state else None) row f found in
-      by_cases (home == 1)
-      (λ t. inr (equal home 1 t, if_true (home == 1) (row_of two state) None row t there))
-      (λ g. absurd (none_found None row refl (if_false (home == 1) (row_of two state) None row g there))))
-
-  pub two_in_two : AreTwo start next cost action (home_by_start start) (two_part_rows one two)
-  two_in_two =
-      record {
-        has_start = ap (λ home. two_part_rows one two home start) home_of_start ∙ in_first.0;
-        has_next = ap (λ home. two_part_rows one two home next) home_of_next ∙ in_second.0;
-        placed = λ home state row found. elim (at_one home state row found) [
-          | inl h ↦ h.0 ∙ sym home_of_start ∙ sym (ap (home_by_start start) (in_first.1 state row h.1).0)
-          | inr h ↦ h.0 ∙ sym home_of_next ∙ sym (ap (home_by_start start) (in_second.1 state row h.1).0)
-        ];
-        which = λ home state row found. elim (at_one home state row found) [ inl h ↦ inl (in_first.1 state row h.1) | inr h ↦ inr (in_second.1 state row h.1) ];
-      }
-
 -- ---- the same, where the start is known by another name
 
 pub one_part_is_sound : (space : Space) (greatest_cost : ℕ) → IsProper space greatest_cost → (start action next cost : ℕ) (empty one two : Content) → start ≡ space.start → ((state : ℕ) → row_of empty state ≡ None)
@@ -186,13 +130,3 @@ pub one_part_is_sound : (space : Space) (greatest_cost : ℕ) → IsProper space
 one_part_is_sound space greatest_cost proper start action next cost empty one two same none weight step other first second =
     two_rows_are_sound space greatest_cost proper action next cost (subst (λ s. Steps space s action next cost) same step) (λ state. 0) (one_part_rows two)
     (subst (λ s. AreTwo s next cost action (λ state. 0) (one_part_rows two)) same (two_in_one start next cost action (eqb-false next start (sym other)) empty one two none first second)) two.weight weight
-
-pub two_parts_are_sound : (space : Space) (greatest_cost : ℕ) → IsProper space greatest_cost → (start action next cost : ℕ) (empty one two empty_two : Content) → start ≡ space.start → ((state : ℕ) → row_of empty state ≡ None)
-    → ((state : ℕ) → row_of empty_two state ≡ None) → one.weight ≡ record { num = 1; den = 1 } → Steps space start action next cost → false ≡ (next == start)
-    → SetsRow (row_of empty) (row_of one) start (offered_row 0 (Cost 0) None 0 (row_of empty start))
-    → SetsRow (row_of empty_two) (row_of two) next (offered_row cost (Cost 0) (Some start) action (row_of empty_two next))
-    → IsSoundAt space (home_by_start start) (two_part_rows one two) one.weight
-two_parts_are_sound space greatest_cost proper start action next cost empty one two empty_two same none none_two weight step other first second =
-    subst (λ s. IsSoundAt space (home_by_start s) (two_part_rows one two) one.weight) (sym same)
-    (two_rows_are_sound space greatest_cost proper action next cost (subst (λ s. Steps space s action next cost) same step) (home_by_start space.start) (two_part_rows one two)
-    (subst (λ s. AreTwo s next cost action (home_by_start s) (two_part_rows one two)) same (two_in_two start next cost action (eqb-false next start (sym other)) empty one two empty_two none none_two first second)) one.weight weight)

@@ -248,35 +248,6 @@ fn plan_of_step(alloc: Global, task: &Task, action: u32) -> Result<Option<Plan>,
     Ok(Some(plan))
 }
 
-// The same if the rows of the start and of that state are in two parts.
-fn plan_over_two_parts(
-    alloc: Global,
-    task: &Task,
-    action: u32,
-) -> Result<Option<Plan>, AllocError> {
-    let start = task.initial();
-    let Some((next, cost)) = task.apply(&start, action) else {
-        return Ok(None);
-    };
-    if next == start {
-        return Ok(None);
-    }
-    if !task.is_goal(&next) {
-        return Ok(None);
-    }
-    let mut first = Bundle::new(alloc, 1, 1)?;
-    let mut second = Bundle::new(alloc, 1, 1)?;
-    first.offer(start, 0, Estimate::Cost(0), None, 0)?;
-    second.offer(next, cost, Estimate::Cost(0), Some(start), action)?;
-    let store = Halves {
-        start,
-        first,
-        second,
-    };
-    let plan = trace(alloc, task, &store)?;
-    Ok(Some(plan))
-}
-
 // Whether a plan has this one action at this cost.
 fn is_step(plan: Option<Plan>, action: u32, cost: u64) -> bool {
     match plan {
@@ -285,11 +256,10 @@ fn is_step(plan: Option<Plan>, action: u32, cost: u64) -> bool {
     }
 }
 
-// The rows stand in one bundle, and then in two parts.
+// The rows stand in one bundle. Each row of data that prints a plan reads it off many parts.
 #[test]
 fn a_plan_is_read_off_the_rows(rt: HostRuntime) -> Result<(), Fail> {
     let task = two_cells(rt.alloc())?;
     assert!(rt; is_step(plan_of_step(rt.alloc(), &task, 3)?, 3, 1));
-    assert!(rt; is_step(plan_over_two_parts(rt.alloc(), &task, 3)?, 3, 1));
     Ok(())
 }

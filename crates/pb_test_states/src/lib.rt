@@ -10,3 +10,5 @@ mod outside;
 mod packed;
 #[cfg(test)]
 mod print;
+#[cfg(test)]
+mod widths;

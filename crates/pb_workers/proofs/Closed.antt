@@ -18,7 +18,7 @@ module _ (old : GraphValue) (trouble : Bool) (new : GraphValue) (s : IsSignedOff
   Gone = counts_after (blocks old.table) old.table.settings (counts_in old) (Off 0 trouble)
 
   pub closed_same : IsSameSearch old new
-  closed_same = record { task = ap (λ (v : GraphValue). v.task) s.rest; graph = s.events.graph; choice = ap (λ (v : GraphValue). v.choice) s.rest; settings = s.events.settings }
+  closed_same = record { task = ap (λ (v : GraphValue). v.task) s.rest; graph = s.events.graph; choice = ap (λ (v : GraphValue). v.choice) s.rest; settings = s.events.settings; past = s.events.past }
 
   closed_leases : (counts_in new).leases ≡ (counts_in old).leases
   closed_leases = ap (λ (c : Counts). c.leases) s.events.counts ∙ ending_same (λ c. c.leases) (blocks old.table) old.table.settings Gone trouble old.table.end (λ c. refl)

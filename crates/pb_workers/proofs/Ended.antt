@@ -2,7 +2,6 @@
 use Rattle.std.proofs.Common.{◌≡◌, ℕ, false, Some, refl, ap, ◌∙◌, subst}
 use Rattle.pb_model.specs.Store.{Rows, Store}
 use Rattle.pb_model.specs.Work.{Comes, opening_store}
-use Rattle.pb_model.specs.Weight.{Weight}
 use Rattle.pb_model.specs.Store.{IsQuiet, IsShown, HasOpened}
 use Rattle.pb_model.specs.Sound.{IsSound}
 use Rattle.pb_model.specs.Plan.{IncumbentHolds}
@@ -46,11 +45,14 @@ module _ (g : GraphValue) (k : IsLeaseGraph g) (home : is_out_in g ≡ false) (r
   spent_end budget =
       let all = budget_ends_are_spent (setup_in g) greatest_cost machine (setup_is g k) m.at.lawful (ap (λ (c : Counts). c.end) m.at.counts ∙ budget) in
       record {
+        first_weight = all.0;
+        is_weight = all.2;
         works = all.1;
-        comes = subst (λ (s : Store). Comes (space_of g.task) (guide_of g.task g.table.graph g.choice) all.1 (opening_store (space_of g.task) (guide_of g.task g.table.graph g.choice) (weight_of g.table.settings)) s) store_is
-            (subst (λ (w : Weight). Comes (space_of g.task) (guide_of g.task g.table.graph g.choice) all.1 (opening_store (space_of g.task) (guide_of g.task g.table.graph g.choice) w) machine.store) (all.8 refl) all.3);
+        comes = subst (λ (s : Store). Comes (space_of g.task) (guide_of g.task g.table.graph g.choice) all.1 (opening_store (space_of g.task) (guide_of g.task g.table.graph g.choice) all.0) s) store_is all.3;
         all = all.4;
         none_broken = all.5;
-        one_run = all.6;
+        reopened = all.6;
+        between = all.7;
+        first_run = all.8;
         opened = (all.9.0, subst (λ (s : Store). HasOpened (s.rows all.9.0)) store_is all.9.1);
       }

@@ -31,7 +31,7 @@ module _ (g : GraphValue) (lease : LeaseValue) (held : IsHeld g lease) (task : T
   pub at_work : IsLeaseGraph g → IsAtWork task graph lease.choice lease
   at_work k = subst (λ (a : AbstractGraph). IsAtWork task a lease.choice lease) graph_is (subst (λ (p : TaskParts). IsAtWork p g.table.graph lease.choice lease) task_is (subst (λ h. IsAtWork g.task g.table.graph h lease) (sym held.of_graph.choice) (record {
     settings = g.table.settings;
-    reopenings = 0;
+    reopenings = g.table.past.reopenings;
     machine = held.machine;
     is_setup = setup_is g k;
     in_range = k.legal.range;
@@ -60,7 +60,7 @@ module _ (g : GraphValue) (lease : LeaseValue) (held : IsHeld g lease) (task : T
         let here : Works g.task g.table.graph g.choice lease worked broken =
         subst (λ h. Works g.task g.table.graph h lease worked broken) held.of_graph.choice
         (subst (λ (p : TaskParts). Works p g.table.graph lease.choice lease worked broken) (sym task_is) (subst (λ (a : AbstractGraph). Works task a lease.choice lease worked broken) (sym graph_is) works)) in
-        let after = here g.table.settings 0 machine out.0 in
+        let after = here g.table.settings g.table.past.reopenings machine out.0 in
         (after.0, after.1 out.1)
 
     -- ---- a lease that comes back
@@ -142,7 +142,7 @@ module _ (g : GraphValue) (lease : LeaseValue) (held : IsHeld g lease) (task : T
 
       module _ (new : GraphValue) (kept : LeaseValue) (n : IsRenewed marked worked kept new) (goes : GoesOn marked worked new) where
         pub kept_same : IsSameSearch g new
-        kept_same = same_then g marked new (marked_same g worked.worker marked mark) (record { task = n.task; graph = n.events.graph; choice = n.choice; settings = n.events.settings })
+        kept_same = same_then g marked new (marked_same g worked.worker marked mark) (record { task = n.task; graph = n.events.graph; choice = n.choice; settings = n.events.settings; past = n.events.past })
 
         pub kept_signed : (counts_in new).signed_off ≡ (counts_in g).signed_off
         kept_signed = ap (λ (c : Counts). c.signed_off) n.events.counts ∙ marked_signed g worked.worker marked mark

@@ -30,6 +30,7 @@ module _ (old : GraphValue) (worker : ℕ) (new : GraphValue) where
     graph = by_mark (λ v. v.table.graph) (λ block is. is.events.graph) m;
     choice = by_mark (λ v. v.choice) (λ block is. ap (λ (v : GraphValue). v.choice) is.rest) m;
     settings = by_mark (λ v. v.table.settings) (λ block is. is.events.settings) m;
+    past = by_mark (λ v. v.table.past) (λ block is. is.events.past) m;
   }
 
   pub marked_homes : IsMarkedAtMost old worker new → new.homes ≡ old.homes

@@ -51,7 +51,7 @@ module _ (old : GraphValue) (lease : LeaseValue) (trouble : Bool) (new : GraphVa
   Back = counts_after (blocks old.table) old.table.settings (counts_in old) (Release lease.worker lease.used trouble)
 
   pub returned_same : IsSameSearch old new
-  returned_same = record { task = r.task; graph = r.events.graph; choice = r.choice; settings = r.events.settings }
+  returned_same = record { task = r.task; graph = r.events.graph; choice = r.choice; settings = r.events.settings; past = r.events.past }
 
   pub returned_vacant : (counts_in new).leases lease.worker ≡ None
   returned_vacant = ap (λ (c : Counts). c.leases lease.worker) r.events.counts

@@ -35,7 +35,7 @@ module _ (g : GraphValue) (alone : g.table.settings.workers ≡ 1) where
 
 module _ (old : GraphValue) (worker : ℕ) (lease : LeaseValue) (new : GraphValue) (l : IsLeased old worker lease new) where
   pub leased_same : IsSameSearch old new
-  leased_same = record { task = l.task; graph = l.events.graph; choice = l.choice; settings = l.events.settings }
+  leased_same = record { task = l.task; graph = l.events.graph; choice = l.choice; settings = l.events.settings; past = l.events.past }
 
   pub none_ended : old.table.end ≡ None
   none_ended = (passes_from (blocks old.table) old.table.settings (counts_in old) lease.block l.first.0.0).3
@@ -130,7 +130,7 @@ module _ (old : GraphValue) (end : End) (new : GraphValue) (e : IsEnded old end 
       go (Some standing) = refl
 
   pub ended_same : IsSameSearch old new
-  ended_same = record { task = ap (λ (v : GraphValue). v.task) e.rest; graph = e.events.graph; choice = ap (λ (v : GraphValue). v.choice) e.rest; settings = e.events.settings }
+  ended_same = record { task = ap (λ (v : GraphValue). v.task) e.rest; graph = e.events.graph; choice = ap (λ (v : GraphValue). v.choice) e.rest; settings = e.events.settings; past = e.events.past }
 
   pub ended_leases : (counts_in new).leases ≡ (counts_in old).leases
   ended_leases = end_same (λ c. c.leases) (λ c. refl)

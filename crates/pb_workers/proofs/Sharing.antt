@@ -26,7 +26,7 @@ use Rattle.pb_lease.specs.LeaseValue.{LeaseValue, leased_store, IsSameLease}
 use Rattle.pb_lease.specs.Leased.{guide_of, HasScope}
 use Rattle.pb_lease.specs.GraphValue.{GraphValue, setup_in, counts_in}
 use Rattle.pb_expand.specs.Turned.{IsAtWork}
-use Rattle.pb_expand.specs.Watching.{IsWatched}
+use Rattle.pb_expand.specs.Watching.{IsOfSearch, IsWatched}
 use Rattle.pb_yard.specs.declared.view.View.{View}
 use Rattle.pb_yard.specs.Views.{view_then}
 use Rattle.pb_yard.specs.Rule.{rows_of, was_read, grant_in, IsViewOf}
@@ -45,7 +45,7 @@ HasNoOff events = list_any is_off events ≡ false
 -- ---- the same holder
 
 pub holder_self : (v : View) → IsSameHolder v v
-holder_self v = record { worker = refl; taken_in = refl; made = refl; task = refl; graph = refl; choice = refl; settings = refl }
+holder_self v = record { worker = refl; taken_in = refl; made = refl; task = refl; graph = refl; choice = refl; settings = refl; begin = refl }
 
 pub holder_then : (old mid new : View) → IsSameHolder old mid → IsSameHolder mid new → IsSameHolder old new
 holder_then old mid new one two = record {
@@ -56,13 +56,14 @@ holder_then old mid new one two = record {
   graph = two.graph ∙ one.graph;
   choice = two.choice ∙ one.choice;
   settings = two.settings ∙ one.settings;
+  begin = two.begin ∙ one.begin;
 }
 
 -- ---- a pass that held the graph
 
 module _ (step : GraphValue → GraphValue → Type 0) (list : GraphValue → List Event) (old : View) (lent : Option LeaseValue) (told : Option ℕ) (new : View) (h : Holds step list old lent told new) where
   pub holder : IsSameHolder old new
-  holder = subst (λ (v : View). IsSameHolder old v) (sym h.view) record { worker = refl; taken_in = refl; made = refl; task = refl; graph = refl; choice = refl; settings = refl }
+  holder = subst (λ (v : View). IsSameHolder old v) (sym h.view) record { worker = refl; taken_in = refl; made = refl; task = refl; graph = refl; choice = refl; settings = refl; begin = refl }
 
   lent_is : new.lent ≡ lent
   lent_is = ap (λ (v : View). v.lent) h.view
@@ -83,7 +84,7 @@ module _ (step : GraphValue → GraphValue → Type 0) (list : GraphValue → Li
 
 module _ (old between : View) (r : HasRead old between) where
   pub read_holder : IsSameHolder old between
-  read_holder = subst (λ (v : View). IsSameHolder old v) (sym r.view) record { worker = refl; taken_in = refl; made = refl; task = refl; graph = refl; choice = refl; settings = refl }
+  read_holder = subst (λ (v : View). IsSameHolder old v) (sym r.view) record { worker = refl; taken_in = refl; made = refl; task = refl; graph = refl; choice = refl; settings = refl; begin = refl }
 
   read_active : IsActive old → IsActive between
   read_active stays = subst (λ (v : View). IsActive v) (sym r.view) stays
@@ -120,7 +121,7 @@ module _ (task : TaskParts) (graph : AbstractGraph) (worker : ℕ) (old new : Vi
   over_then end (between, r, h) = (
     idle_then (LeasesAs worker (Over end)) (lease_events worker (Over end)) between old.lent old.told new h task graph (read_idle old between r task graph first) first.vacant (end_none_off h.found.table.end end),
     ap (λ (v : View). is_some (end_in v.journal.seen)) h.view ∙ ap (λ j. is_some (end_in j)) (sym h.added)
-        ∙ ap is_some (sym (ends_are_told (blocks h.left.table) h.left.table.settings 0 h.left.table.journal (counts_in h.left) (history h.left h.after.shared h.after.views h.after.yard)))
+        ∙ ap is_some (sym (ends_are_told (blocks h.left.table) h.left.table.settings h.left.table.past.spent h.left.table.journal (counts_in h.left) (history h.left h.after.shared h.after.views h.after.yard)))
         ∙ ap is_some (ended_end h.found h.left end h.step_is.0 h.step_is.1),
   )
 
@@ -150,7 +151,7 @@ module _ (task : TaskParts) (graph : AbstractGraph) (view : View) (live : view.j
       subst (λ (a : AbstractGraph). IsAtWork task a lease.choice lease) (sym of_view.search.graph ∙ l.graph_is) (subst (λ (p : TaskParts). IsAtWork p l.yard.table.graph lease.choice lease) (sym of_view.search.task ∙ l.task_is)
       (subst (λ h. IsAtWork l.yard.task l.yard.table.graph h lease) (sym is.of_graph.choice) (record {
         settings = l.yard.table.settings;
-        reopenings = 0;
+        reopenings = l.yard.table.past.reopenings;
         machine = y.machine;
         is_setup = y.is_setup;
         in_range = y.in_range;
@@ -186,6 +187,10 @@ module _ (task : TaskParts) (graph : AbstractGraph) (view : View) (live : view.j
     shown = λ cost is. told_none cost is;
   }
 
+  -- the watch is of the same search
+  pub of_search : IsOfSearch task graph lease.choice (watch_view view)
+  of_search = record { task_is = l.task_is; graph_is = l.graph_is; choice_is = choice_is }
+
   -- after work on the lease under a watch
   module _ (new : View) (still : KeepsLease view new) (worked : LeaseValue) (same : IsSameLease lease worked) where
     pub work_holder : IsSameHolder view new
@@ -197,6 +202,7 @@ module _ (task : TaskParts) (graph : AbstractGraph) (view : View) (live : view.j
       graph = still.graph;
       choice = still.choice;
       settings = still.settings;
+      begin = still.begin;
     }
 
     pub work_active : IsActive new

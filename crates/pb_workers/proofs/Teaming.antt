@@ -36,7 +36,7 @@ module _ (task : TaskParts) (graph : AbstractGraph) (v : View) where
   }
 
 pub search_of : (v u : View) → IsSameHolder v u → KeepsSearch v u
-search_of v u same = record { task = same.task; graph = same.graph; choice = same.choice; settings = same.settings }
+search_of v u same = record { task = same.task; graph = same.graph; choice = same.choice; settings = same.settings; begin = same.begin }
 
 -- the first pass and those that it took in, of workers that have signed off, take in another such pass
 module _ (v split all next other met : View) (split_is : split ≡ split_view v) (keeps : KeepsSearch split all) (offs : AllSignedOff all) (next_is : next ≡ next_pass_view v) (same : IsSameHolder next other)
@@ -47,6 +47,7 @@ module _ (v split all next other met : View) (split_is : split ≡ split_view v)
     graph = keeps.graph ∙ ap (λ (w : View). w.graph) split_is;
     choice = keeps.choice ∙ ap (λ (w : View). w.choice) split_is;
     settings = keeps.settings ∙ ap (λ (w : View). w.settings) split_is;
+    begin = keeps.begin ∙ ap (λ (w : View). w.begin) split_is;
   }
 
   none_made : other.journal.made ≡ 0

@@ -1,9 +1,10 @@
 -- What a search by leases has when it ended.
 use Rattle.std.specs.Prelude.{◌≡◌, ℕ, List}
+use Rattle.pb_model.specs.Weight.{Weight, IsWeight}
 use Rattle.pb_model.specs.Plan.{IncumbentHolds}
 use Rattle.pb_model.specs.Store.{Store, IsShown, IsQuiet, HasOpened}
 use Rattle.pb_model.specs.Sound.{IsSound}
-use Rattle.pb_model.specs.Work.{Work, Comes, expansions, broken_expansions, reopenings, opening_store}
+use Rattle.pb_model.specs.Work.{Work, Comes, expansions, broken_expansions, reopenings, ReopensQuiet, opening_store}
 use Rattle.pb_machine.specs.Settings.{weight_of}
 use Rattle.pb_task.specs.Parts.{space_of}
 use Rattle.pb_bundles.specs.Homes.{home_rows}
@@ -24,14 +25,21 @@ pub record IsBestEnd (g : GraphValue) : Type 0 where
   pub shown : IsShown (space_of g.task) (guide_of g.task g.table.graph g.choice) (home_store g)
   pub holds : IncumbentHolds (space_of g.task) (weight_of g.table.settings) g.incumbent
 
--- Exactly as many expansions as the budget allows, none of them broken off, lead from the start's
--- row alone to the rows at home. One of these is Opened.
+-- Exactly as many expansions as the budget allows, those of earlier runs among them and none of them
+-- broken off, lead from the start's row alone to the rows at home. One of these is Opened. The rows
+-- were opened again between one run and the next, when none was Opened. In a first run the start's
+-- row has the weight of the search.
 pub record IsSpentEnd (g : GraphValue) : Type 0 where
+  pub first_weight : Weight
+  pub is_weight : IsWeight first_weight
   pub works : List Work
   pub comes : Comes (space_of g.task) (guide_of g.task g.table.graph g.choice) works
-      (opening_store (space_of g.task) (guide_of g.task g.table.graph g.choice) (weight_of g.table.settings))
+      (opening_store (space_of g.task) (guide_of g.task g.table.graph g.choice) first_weight)
       (home_store g)
   pub all : expansions works ≡ g.table.settings.budget
   pub none_broken : broken_expansions works ≡ 0
-  pub one_run : reopenings works ≡ 0
+  pub reopened : reopenings works ≡ g.table.past.reopenings
+  pub between : ReopensQuiet (space_of g.task) (guide_of g.task g.table.graph g.choice) works
+      (opening_store (space_of g.task) (guide_of g.task g.table.graph g.choice) first_weight)
+  pub first_run : g.table.past.reopenings ≡ 0 → first_weight ≡ weight_of g.table.settings
   pub opened : (block : ℕ) × HasOpened ((home_store g).rows block)

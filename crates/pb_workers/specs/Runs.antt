@@ -6,12 +6,14 @@ use Rattle.pb_lease.specs.GraphValue.{GraphValue, setup_in}
 use Rattle.pb_lease.specs.Moments.{IsMoment}
 use Rattle.pb_yard.specs.Order.{RunsInTime}
 
--- it is the same search: the same task, by the same blocks, with the same estimate and settings
+-- it is the same run: the same task, by the same blocks, with the same estimate and settings, and
+-- the same runs before it
 pub record IsSameSearch (old new : GraphValue) : Type 0 where
   pub task : new.task ≡ old.task
   pub graph : new.table.graph ≡ old.table.graph
   pub choice : new.choice ≡ old.choice
   pub settings : new.table.settings ≡ old.table.settings
+  pub past : new.table.past ≡ old.table.past
 
 -- the graph, with some rows recorded for its leases, is a moment of the lease machine
 abbrev pub IsAnyMoment : GraphValue → Type 0

@@ -18,6 +18,7 @@ pub record IsSameHolder (old new : View) : Type 0 where
   pub graph : new.graph ≡ old.graph
   pub choice : new.choice ≡ old.choice
   pub settings : new.settings ≡ old.settings
+  pub begin : new.begin ≡ old.begin
 
 -- The search is for this task by these blocks of its own. The pass's worker has no lease and has
 -- not signed off.

@@ -18,3 +18,4 @@ pub record KeepsSearch (old new : View) : Type 0 where
   pub graph : new.graph ≡ old.graph
   pub choice : new.choice ≡ old.choice
   pub settings : new.settings ≡ old.settings
+  pub begin : new.begin ≡ old.begin

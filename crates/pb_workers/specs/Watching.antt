@@ -33,6 +33,7 @@ pub record KeepsLease (old new : View) : Type 0 where
   pub graph : new.graph ≡ old.graph
   pub choice : new.choice ≡ old.choice
   pub settings : new.settings ≡ old.settings
+  pub begin : new.begin ≡ old.begin
 
 -- It is the same yard and the same pass, which has the same lease.
 pub record IsSameWatch (old new : YardWatch) : Type 0 where
@@ -53,6 +54,7 @@ same_watch watch =
         graph = refl;
         choice = refl;
         settings = refl;
+        begin = refl;
       };
     }
 
@@ -75,5 +77,6 @@ same_watch_on old mid new one two =
         graph = two.lease.graph ∙ one.lease.graph;
         choice = two.lease.choice ∙ one.lease.choice;
         settings = two.lease.settings ∙ one.lease.settings;
+        begin = two.lease.begin ∙ one.lease.begin;
       };
     }

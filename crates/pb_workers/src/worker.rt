@@ -1,5 +1,5 @@
 //! What a worker takes with it to its leases.
-ghost use Rattle.std.specs.Prelude.{◌≡◌, ◌↔◌, ◌-◌, ◌≤◌, IfOk, vec_capacity};
+ghost use Rattle.std.specs.Prelude.{◌≡◌, ◌↔◌, ◌-◌, ◌≤◌, IfOk, IfSome, vec_capacity};
 ghost use Rattle.pb_model.specs.Store.{HasOpened};
 ghost use Rattle.pb_task.specs.Parts.{space_of, max_degree_of};
 ghost use Rattle.pb_estimate.specs.Tables.{IsOfTask};
@@ -8,7 +8,7 @@ ghost use Rattle.pb_lease.specs.LeaseValue.{leased_store, IsSameLease};
 ghost use Rattle.pb_lease.specs.Leased.{guide_of, HasScope};
 ghost use Rattle.pb_expand.specs.Turned.{own_rows, IsAtWork, HasTurned, reads_none};
 ghost use Rattle.pb_expand.specs.Worked.{broken_by, ends_with_read};
-ghost use Rattle.pb_expand.specs.Watching.{IsWatched, HasTurnedReading};
+ghost use Rattle.pb_expand.specs.Watching.{IsOfSearch, IsUnder, HasTurnedReading};
 ghost use Rattle.pb_expand.specs.declared.working.Worked.TheVariants.{Spent, Empty};
 ghost use Rattle.pb_workers.specs.Tools.{AreFor};
 ghost use Rattle.pb_workers.specs.Holding.{Works};
@@ -108,19 +108,19 @@ impl<'a> Worker<'a> {
             lease.old }
         requires tools { IsOfTask self.old.estimator self.old.task.now lease.old.choice }
         requires can { W.can watch.old }
-        requires task_is { (W.seen watch.old).task ≡ self.old.task.now }
-        requires graph_is { (W.seen watch.old).graph ≡ self.old.abstraction.now }
-        requires choice_is { (W.seen watch.old).choice ≡ lease.old.choice }
-        requires watched { IsWatched (space_of self.old.task.now)
-            (guide_of self.old.task.now self.old.abstraction.now lease.old.choice) (W.seen watch.old) 0 lease.old }
+        requires search { IfSome (W.seen watch.old) (λ seen.
+            IsOfSearch self.old.task.now self.old.abstraction.now lease.old.choice seen) }
+        requires watched { IsUnder (space_of self.old.task.now)
+            (guide_of self.old.task.now self.old.abstraction.now lease.old.choice)
+            (W.seen watch.old) 0 lease.old }
         ensures turned { HasTurnedReading (space_of self.old.task.now)
-            (guide_of self.old.task.now self.old.abstraction.now lease.old.choice) (W.seen watch.new).read
+            (guide_of self.old.task.now self.old.abstraction.now lease.old.choice)
             lease.old.block (lease.new.used - lease.old.used) (broken_by result)
             (ends_with_read result) (leased_store lease.old) (leased_store lease.new)
-            (W.seen watch.old).answers (W.seen watch.new).answers }
-        ensures watched { IsWatched (space_of self.old.task.now)
-            (guide_of self.old.task.now self.old.abstraction.now lease.old.choice) (W.seen watch.new)
-            (broken_by result) lease.new }
+            (W.seen watch.old) (W.seen watch.new) }
+        ensures watched { IsUnder (space_of self.old.task.now)
+            (guide_of self.old.task.now self.old.abstraction.now lease.old.choice)
+            (W.seen watch.new) (broken_by result) lease.new }
         ensures can { W.can watch.new }
         ensures stays { W.stays watch.old watch.new }
         ensures spent { (result ≡ Spent)

@@ -15,9 +15,10 @@ pub struct YardWatch<'a> {
 
 impl<'a> Watch for YardWatch<'a> {
     ghost use Rattle.pb_workers.specs.Watching.{watch_view, IsWatchOf, IsSameWatch, same_watch, same_watch_on};
+    ghost use Rattle.std.specs.Prelude.{Some};
     ghost use Rattle.pb_yard.specs.Passes.{view_of};
 
-    ghost seen = { λ watch. watch_view (view_of watch.pass) };
+    ghost seen = { λ watch. Some (watch_view (view_of watch.pass)) };
 
     ghost can = { IsWatchOf };
 

@@ -39,13 +39,13 @@ module _ (x : GraphValue) (shared : Option ℕ) (views : List View) (seat : ℕ)
   vacant free = leases_are ∙ ap grant_in free
 
   pub active : IsActive v → (counts_in x).signed_off Own ≡ false
-  active stays = signing_off_is_told (blocks x.table) x.table.settings 0 x.table.journal (counts_in x) Own (history x shared views h)
+  active stays = signing_off_is_told (blocks x.table) x.table.settings x.table.past.spent x.table.journal (counts_in x) Own (history x shared views h)
       ∙ ap (list_any is_off) (h.journals.each seat v.journal (at_journal x.table.settings.workers x.table.journal views h.journals seat v at) live).shares.0.0.told ∙ stays
 
   -- an end that was seen stands
   pub cause : (trouble : Bool) → (trouble || is_some (end_in v.journal.seen)) ≡ true → (trouble || is_some x.table.end) ≡ true
   cause true why = refl
-  cause false why = ap is_some (ends_are_told (blocks x.table) x.table.settings 0 x.table.journal (counts_in x) (history x shared views h) ∙ ap end_in begins.1) ∙ go (end_in v.journal.seen) refl why
+  cause false why = ap is_some (ends_are_told (blocks x.table) x.table.settings x.table.past.spent x.table.journal (counts_in x) (history x shared views h) ∙ ap end_in begins.1) ∙ go (end_in v.journal.seen) refl why
     where
       go : (o : Option End) → end_in v.journal.seen ≡ o → is_some o ≡ true → is_some (end_in (v.journal.seen ++ begins.0)) ≡ true
       go None is there = absurd cc

@@ -113,7 +113,7 @@ module _ (x y : GraphValue) (v : View) (live : v.journal.is_live ≡ true) where
 
   pub stays : y ≡ x → MayGo x y v live [] v.lent v.told
   stays is number views seat h at = subst (λ (z : GraphValue). Steps x z (cost_of number) views seat v h at live [] v.lent v.told (cost_of number)) (sym is)
-      (keeps_step x x (cost_of number) views seat v h at live [] tt (nothing x) record { task = refl; graph = refl; choice = refl; settings = refl } (sym (append-nil x.table.journal)) (λ other else. refl))
+      (keeps_step x x (cost_of number) views seat v h at live [] tt (nothing x) record { task = refl; graph = refl; choice = refl; settings = refl; past = refl } (sym (append-nil x.table.journal)) (λ other else. refl))
 
   -- all but the tables stay
   pub keeps : (events : List Event) → GrantsNone events → Adds x.table y.table events → y ≡ record x { table = y.table } → KeepsLeases x events y → AreBy Own events → MayGo x y v live events v.lent v.told

@@ -1,5 +1,5 @@
 -- What is known when a yard is closed.
-use Rattle.std.proofs.Common.{◌≡◌, ◌≢◌, ℕ, ◌<◌, true, false, List, map, Some, None, refl, sym, ap, ◌∙◌}
+use Rattle.std.proofs.Common.{◌≡◌, ◌≢◌, ℕ, ◌<◌, true, false, List, map, Some, None, refl, sym, ap, ◌∙◌, subst}
 use mathlib.Core.Option.{some}
 use lib.ListN.{get_elem?}
 use Rattle.pb_turn.proofs.Callers.{map_at}
@@ -11,12 +11,14 @@ use Rattle.pb_machine.specs.History.{is_off, events_of, AreFinished}
 use Rattle.pb_machine.specs.Views as of_machine
 use Rattle.pb_machine.proofs.Callers.{signed_off_is_finished, histories_are_lawful, all_off_none_out, last_views_tell_all, last_views_sign_off}
 use Rattle.pb_lease.specs.Tables.{blocks}
-use Rattle.pb_lease.specs.GraphValue.{GraphValue, counts_in}
+use Rattle.pb_lease.specs.GraphValue.{GraphValue, setup_in, counts_in}
+use Rattle.pb_lease.specs.Begins.{begin_machine, IsOfRun}
 use Rattle.pb_lease.specs.Choices.{is_out_in}
 use Rattle.pb_lease.proofs.Callers.{none_out_is_moment}
 use Rattle.pb_yard.specs.declared.view.View.{View}
 use Rattle.pb_yard.specs.Views.{spent_pass_view}
 use Rattle.pb_yard.specs.Rule.{rows_of, journal_view, IsYard}
+use Rattle.pb_yard.specs.Order.{RunsInTime}
 use Rattle.pb_yard.specs.Calls.{AllSignedOff, IsClosed}
 use Rattle.pb_yard.proofs.Parts.{at_journal, moment_where_leased}
 use Rattle.pb_yard.proofs.Meaning.{history}
@@ -39,16 +41,17 @@ module _ (x : GraphValue) (seat : ℕ) (v : View) (live : v.journal.is_live ≡ 
       (off.all_made ∙ ap (λ (t : Settings). t.workers) settings) off.off
 
   finished : AreFinished x.table.settings (counts_in x)
-  finished = signed_off_is_finished (blocks x.table) x.table.settings 0 x.table.journal (counts_in x) (history x x.incumbent views h) refl all_off
+  finished = signed_off_is_finished (blocks x.table) x.table.settings x.table.past.spent x.table.journal (counts_in x) (history x x.incumbent views h) refl all_off
 
   home : is_out_in x ≡ false
-  home = all_off_none_out (blocks x.table) x.table.settings (counts_in x) (histories_are_lawful (blocks x.table) x.table.settings 0 x.table.journal (counts_in x) (history x x.incumbent views h)) finished.signed_off
+  home = all_off_none_out (blocks x.table) x.table.settings (counts_in x) (histories_are_lawful (blocks x.table) x.table.settings x.table.past.spent x.table.journal (counts_in x) (history x x.incumbent views h)) finished.signed_off
 
   pub closed : IsClosed v x
   closed =
       let tells = last_views_tell_all x.table.settings.workers x.table.journal (map journal_view views) seat v.journal h.journals there live in
       record {
         search = (h.each seat v at live).search;
+        of_run = subst (λ (g : GraphValue). IsOfRun g x) (sym (h.began seat v at live)) h.of_run;
         seen = (tells.2 spent).0;
         shares = tells.1;
         history = history x x.incumbent views h;
@@ -56,7 +59,7 @@ module _ (x : GraphValue) (seat : ℕ) (v : View) (live : v.journal.is_live ≡ 
         home = home;
         moves = h.moves;
         machine = h.machine;
-        run = (h.settled, h.run);
+        run = subst (λ (g : GraphValue). RunsInTime (setup_in x) (begin_machine g) h.moves h.machine) (sym (h.began seat v at live)) (h.settled, h.run);
         journal = h.journal;
         moment = λ recorded. none_out_is_moment x recorded h.machine
             (moment_where_leased x (λ worker. rows_of (h.lent worker)) recorded h.machine
@@ -65,7 +68,7 @@ module _ (x : GraphValue) (seat : ℕ) (v : View) (live : v.journal.is_live ≡ 
     where
       none_leased : {A : Type 0} (worker : ℕ) (grant : Grant) → (counts_in x).leases worker ≡ Some grant → A
       none_leased worker grant is =
-          let lawful = histories_are_lawful (blocks x.table) x.table.settings 0 x.table.journal (counts_in x) (history x x.incumbent views h) in
+          let lawful = histories_are_lawful (blocks x.table) x.table.settings x.table.past.spent x.table.journal (counts_in x) (history x x.incumbent views h) in
           let known = (lawful.known worker grant is).0 in
           let gone : (counts_in x).leases worker ≡ None = (lawful.off worker (finished.signed_off worker known)).1 in
           let bad : Some grant ≡ None = sym is ∙ gone in absurd cc

@@ -14,18 +14,19 @@ use Rattle.pb_machine.specs.Tables.{with_entry}
 use Rattle.pb_machine.specs.Counts.{Counts}
 use Rattle.pb_machine.specs.Views as of_machine
 use Rattle.pb_machine.specs.Views.{AreTrueOf, AreBy, view_after}
-use Rattle.pb_machine.specs.Machine.{Setup, IsSetup, Machine, opening_machine, journal_of}
+use Rattle.pb_machine.specs.Machine.{Setup, IsSetup, Machine, journal_of}
 use Rattle.pb_machine.proofs.Callers.{entry_here, entry_else, holding_keeps_views, runs_go_on, known_stays, others_are_left}
 use Rattle.pb_lease.specs.LeaseValue.{LeaseValue}
 use Rattle.pb_lease.specs.GraphValue.{GraphValue, setup_in}
 use Rattle.pb_lease.specs.Moments.{moves_of, Follows}
+use Rattle.pb_lease.specs.Begins.{begin_machine}
 use Rattle.pb_lease.proofs.Callers.{events_leave_others}
 use Rattle.pb_yard.specs.declared.view.View.{View}
 use Rattle.pb_yard.specs.Views.{view_then}
 use Rattle.pb_yard.specs.Order.{RunsSettled}
 use Rattle.pb_yard.specs.Rule.{rows_of, grant_in, journal_view, IsLent, IsKnownTo, IsViewOf, IsRecent, HasNoPass, IsYard}
 use Rattle.pb_yard.proofs.InTime.{events_of_moves, settled_on, settled_same}
-use Rattle.pb_yard.proofs.Parts.{GoesOnAs, setup_same, search_same, still_of_graph, moment_where_leased, at_journal, workers_differ, no_pass_before, unread_recent, recent_stays}
+use Rattle.pb_yard.proofs.Parts.{GoesOnAs, setup_same, run_same, search_same, still_of_graph, moment_where_leased, at_journal, workers_differ, no_pass_before, unread_recent, recent_stays}
 
 -- From the graph x at a moment of the rule these events of one pass's worker, or of nobody, lead to
 -- y.
@@ -65,11 +66,11 @@ module _ (x y : GraphValue) (shared later : Option ℕ) (views : List View) (sea
       → (next.counts.leases other ≡ h.machine.counts.leases other) × (next.given other ≡ h.machine.given other) × (next.told other ≡ h.machine.told other)
   left other else = others_are_left (setup_in x) (moves_of events) h.machine next other s.follows.moves (events_leave_others Own other events s.by else)
 
-  run : RunsSettled (setup_in x) (opening_machine (setup_in x)) (opening_machine (setup_in x)).store.incumbent (h.moves ++ moves_of events) next s.later
-  run = settled_on (setup_in x) h.moves (moves_of events) (opening_machine (setup_in x)) h.machine next (opening_machine (setup_in x)).store.incumbent h.settled s.later h.run s.in_time
+  run : RunsSettled (setup_in x) (begin_machine h.begin) h.begin.incumbent (h.moves ++ moves_of events) next s.later
+  run = settled_on (setup_in x) h.moves (moves_of events) (begin_machine h.begin) h.machine next h.begin.incumbent h.settled s.later h.run s.in_time
 
   journal : journal_of (h.moves ++ moves_of events) ≡ y.table.journal
-  journal = (runs_go_on (setup_in x) h.moves (moves_of events) (opening_machine (setup_in x)) h.machine next).2
+  journal = (runs_go_on (setup_in x) h.moves (moves_of events) (begin_machine h.begin) h.machine next).2
       ∙ ap (λ l. l ++ journal_of (moves_of events)) h.journal ∙ ap (λ l. x.table.journal ++ l) (events_of_moves events) ∙ sym s.added
 
   leases : (other : ℕ) → next.counts.leases other ≡ grant_in (Lent other)
@@ -133,11 +134,14 @@ module _ (x y : GraphValue) (shared later : Option ℕ) (views : List View) (sea
   held = record {
     is_setup = subst (λ (t : Setup). IsSetup t greatest_cost) (sym setup) h.is_setup;
     in_range = subst AreInRange (sym s.same.settings) h.in_range;
+    begin = h.begin;
+    begins = h.begins;
+    of_run = run_same x y s.same h.begin h.of_run;
     moves = h.moves ++ moves_of events;
     machine = next;
     lent = Lent;
     settled = s.later;
-    run = subst (λ (t : Setup). RunsSettled t (opening_machine t) (opening_machine t).store.incumbent (h.moves ++ moves_of events) next s.later) (sym setup) run;
+    run = subst (λ (t : Setup). RunsSettled t (begin_machine h.begin) h.begin.incumbent (h.moves ++ moves_of events) next s.later) (sym setup) run;
     journal = journal;
     moment = moment_where_leased y s.recorded (λ other. rows_of (Lent other)) next s.records s.follows.moment;
     shared_is = shared_is;
@@ -147,6 +151,7 @@ module _ (x y : GraphValue) (shared later : Option ℕ) (views : List View) (sea
     each = each_set (λ j u. u.journal.is_live ≡ true → IsViewOf y next Lent u) views seat New (λ _. mine) theirs;
     recent = each_set (λ j u. u.journal.is_live ≡ true → IsRecent y s.later u) views seat New (λ _. unread_recent y s.later New refl)
         (λ other u apart there up. recent_stays x y events h.settled s.later u s.added (settled_same (setup_in x) events h.machine h.settled next s.later s.in_time) (h.recent other u there up));
+    began = each_set (λ j u. u.journal.is_live ≡ true → u.begin ≡ h.begin) views seat New (λ _. h.began seat v at live) (λ other u apart there up. h.began other u there up);
     others = others;
   }
 

@@ -1,5 +1,5 @@
 -- What the rule of a yard means.
-use Rattle.std.proofs.Common.{◌≡◌, ◌≤◌, ℕ, true, IsTrue, List, Option, Some, refl, sym, ap, ◌∙◌, subst, arith}
+use Rattle.std.proofs.Common.{◌≡◌, ◌≤◌, ℕ, true, IsTrue, List, Option, Some, None, refl, sym, ap, ◌∙◌, subst, arith}
 use mathlib.Core.Option.{some}
 use lib.ListN.{get_elem?}
 use Rattle.pb_model.specs.Plan.{Plan, IsPlan}
@@ -7,15 +7,18 @@ use Rattle.pb_model.specs.Store.{AtMost}
 use Rattle.pb_task.specs.declared.parts.TaskParts.{TaskParts}
 use Rattle.pb_task.specs.Parts.{greatest_cost, space_of}
 use Rattle.pb_machine.specs.declared.event.Event.{Event}
-use Rattle.pb_machine.specs.Counts.{Counts}
+use Rattle.pb_machine.specs.Counts.{Counts, opening_counts}
 use Rattle.pb_machine.specs.History.{IsHistory}
-use Rattle.pb_machine.specs.Machine.{opening_machine, Runs, lent_store}
+use Rattle.pb_machine.specs.declared.settings.Settings.{Settings}
+use Rattle.pb_machine.specs.Machine.{Runs, lent_store}
 use Rattle.pb_machine.proofs.Callers.{incumbents_are_plans, journals_are_histories, scopes_are_apart, recorded_rows_are_lent}
 use Rattle.pb_bundles.specs.Homes.{home_rows}
+use Rattle.pb_lease.specs.declared.past.Past.{Past}
 use Rattle.pb_lease.specs.Tables.{blocks}
 use Rattle.pb_lease.specs.LeaseValue.{LeaseValue, leased_store}
 use Rattle.pb_lease.specs.Leased.{grant_of}
 use Rattle.pb_lease.specs.GraphValue.{GraphValue, setup_in, counts_in}
+use Rattle.pb_lease.specs.Begins.{begin_machine}
 use Rattle.pb_yard.specs.declared.view.View.{View}
 use Rattle.pb_yard.specs.Rule.{rows_of, grant_in, IsYard}
 use Rattle.pb_yard.specs.Calls.{HasPlanWithin}
@@ -24,8 +27,8 @@ use Rattle.pb_yard.proofs.Parts.{at_journal}
 use Rattle.pb_yard.proofs.InTime.{settled_is_run}
 
 module _ (g : GraphValue) (shared : Option ℕ) (views : List View) (yard : IsYard g shared views) where
-  pub runs : Runs (setup_in g) (opening_machine (setup_in g)) yard.moves yard.machine
-  runs = settled_is_run (setup_in g) yard.moves (opening_machine (setup_in g)) (opening_machine (setup_in g)).store.incumbent yard.machine yard.settled yard.run
+  pub runs : Runs (setup_in g) (begin_machine yard.begin) yard.moves yard.machine
+  runs = settled_is_run (setup_in g) yard.moves (begin_machine yard.begin) yard.begin.incumbent yard.machine yard.settled yard.run
 
   -- what any worker can have read is at least the shared number
   pub known_above : (worker : ℕ) (incumbent : Option ℕ) → IsTrue (yard.machine.known worker incumbent) → AtMost shared incumbent
@@ -36,10 +39,21 @@ module _ (g : GraphValue) (shared : Option ℕ) (views : List View) (yard : IsYa
   shared_is_plan seat view at live cost is = subst (λ (t : TaskParts). (plan : Plan) × IsPlan (space_of t) plan × (plan.cost ≤ cost)) (sym (yard.each seat view at live).search.task)
       (incumbents_are_plans (setup_in g) greatest_cost yard.machine yard.is_setup yard.moment.lawful cost (yard.shared_is ∙ is))
 
-  pub history : IsHistory (blocks g.table) g.table.settings 0 g.table.journal (counts_in g)
-  history = subst (λ (c : Counts). IsHistory (blocks g.table) g.table.settings 0 g.table.journal c) yard.moment.counts
-      (subst (λ (j : List Event). IsHistory (blocks g.table) g.table.settings 0 j yard.machine.counts) yard.journal
-      (journals_are_histories (setup_in g) yard.moves (opening_machine (setup_in g)) yard.machine 0 yard.in_range (omega arith) refl runs))
+  -- the run begins with nothing but what earlier runs spent
+  begin_counts : (begin_machine yard.begin).counts ≡ opening_counts g.table.settings g.table.past.spent
+  begin_counts = λ i. opening_counts (sym yard.of_run.settings i) (sym yard.of_run.past i).spent
+
+  enough : g.table.past.spent ≤ g.table.settings.budget
+  enough =
+      let sum = (yard.begins.moment (λ worker home state. None)).at.lawful.counts.sum in
+      let budget = ap (λ (s : Settings). s.budget) yard.of_run.settings in
+      let spent = ap (λ (p : Past). p.spent) yard.of_run.past in
+      omega (arith, sum, budget, spent)
+
+  pub history : IsHistory (blocks g.table) g.table.settings g.table.past.spent g.table.journal (counts_in g)
+  history = subst (λ (c : Counts). IsHistory (blocks g.table) g.table.settings g.table.past.spent g.table.journal c) yard.moment.counts
+      (subst (λ (j : List Event). IsHistory (blocks g.table) g.table.settings g.table.past.spent j yard.machine.counts) yard.journal
+      (journals_are_histories (setup_in g) yard.moves (begin_machine yard.begin) yard.machine g.table.past.spent yard.in_range enough begin_counts runs))
 
   module _ (worker : ℕ) (lease : LeaseValue) (is : yard.lent worker ≡ Some lease) where
     pub leased : yard.machine.counts.leases worker ≡ Some (grant_of lease)

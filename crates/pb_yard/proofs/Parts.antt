@@ -19,6 +19,7 @@ use Rattle.pb_lease.specs.LeaseValue.{LeaseValue}
 use Rattle.pb_lease.specs.Leased.{setup_of}
 use Rattle.pb_lease.specs.GraphValue.{GraphValue, setup_in, counts_in, IsOfGraph}
 use Rattle.pb_lease.specs.Moments.{IsMomentAt}
+use Rattle.pb_lease.specs.Begins.{IsOfRun}
 use Rattle.pb_yard.specs.declared.view.View.{View}
 use Rattle.pb_yard.specs.Rule.{journal_view, IsSearchOf, IsRecent, HasNoPass}
 
@@ -28,10 +29,14 @@ pub record GoesOnAs (old new : GraphValue) : Type 0 where
   pub graph : new.table.graph ≡ old.table.graph
   pub choice : new.choice ≡ old.choice
   pub settings : new.table.settings ≡ old.table.settings
+  pub past : new.table.past ≡ old.table.past
 
 module _ (old new : GraphValue) (same : GoesOnAs old new) where
   pub setup_same : setup_in new ≡ setup_in old
-  setup_same = λ i. setup_of (same.task i) (same.graph i) (same.choice i) (same.settings i) 0
+  setup_same = λ i. setup_of (same.task i) (same.graph i) (same.choice i) (same.settings i) (same.past i).reopenings
+
+  pub run_same : (begin : GraphValue) → IsOfRun begin old → IsOfRun begin new
+  run_same begin is = record { task = same.task ∙ is.task; graph = same.graph ∙ is.graph; choice = same.choice ∙ is.choice; settings = same.settings ∙ is.settings; past = same.past ∙ is.past }
 
   pub search_same : (view : View) → IsSearchOf old view → IsSearchOf new view
   search_same view is = record { task = is.task ∙ sym same.task; graph = is.graph ∙ sym same.graph; choice = is.choice ∙ sym same.choice; settings = is.settings ∙ sym same.settings }

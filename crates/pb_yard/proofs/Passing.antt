@@ -11,56 +11,63 @@ use Rattle.pb_machine.specs.declared.event.Event.{Event}
 use Rattle.pb_machine.specs.declared.settings.Settings.{Settings}
 use Rattle.pb_machine.specs.Views as of_machine
 use Rattle.pb_machine.specs.Views.{AreTrueOf, first_view, spent_view, with_one_more, next_view, met_view}
-use Rattle.pb_machine.specs.Machine.{opening_machine}
 use Rattle.pb_machine.proofs.Callers.{first_views_are_true, splitting_keeps_views, meeting_keeps_views, known_stays}
 use Rattle.pb_lease.specs.GraphValue.{GraphValue, setup_in, IsLeaseGraph}
+use Rattle.pb_lease.specs.Begins.{begin_machine, IsBegin}
 use Rattle.pb_lease.proofs.Callers.{setup_is}
 use Rattle.pb_yard.specs.declared.view.View.{View}
 use Rattle.pb_yard.specs.Views.{cost_of, opening_view, split_view, next_pass_view, met_pass_view, spent_pass_view}
 use Rattle.pb_yard.specs.Rule.{rows_of, grant_in, journal_view, was_read, IsViewOf, IsRecent, HasNoPass, IsYard}
-use Rattle.pb_yard.specs.Calls.{IsOpening}
 use Rattle.pb_yard.proofs.Parts.{at_journal, below_made, no_pass_before, unread_recent}
 use Rattle.pb_yard.proofs.Meaning.{runs}
 
 -- ---- the first pass
 
-pub opens : (g : GraphValue) → IsLeaseGraph g → IsOpening g → IsYard g None (opening_view g ∷ [])
-opens g k o = record {
+pub opens : (g : GraphValue) (shared : Option ℕ) → IsLeaseGraph g → IsBegin g → shared ≡ g.incumbent → IsYard g shared (opening_view g ∷ [])
+opens g shared k o is = record {
   is_setup = setup_is g k;
   in_range = k.legal.range;
+  begin = g;
+  begins = o;
+  of_run = record { task = refl; graph = refl; choice = refl; settings = refl; past = refl };
   moves = [];
-  machine = opening_machine (setup_in g);
+  machine = begin_machine g;
   lent = λ worker. None;
-  settled = (opening_machine (setup_in g)).store.incumbent;
+  settled = g.incumbent;
   run = (refl, refl);
   journal = sym o.empty;
   moment = (o.moment (λ worker. rows_of None)).at;
-  shared_is = refl;
+  shared_is = sym is;
   leases = λ worker. refl;
   lent_is = λ worker lease is. absurd (none-some lease is);
   journals = subst (λ (j : List Event). AreTrueOf g.table.settings.workers j (first_view ∷ [])) (sym o.empty) (first_views_are_true g.table.settings.workers k.legal.range.workers.0);
   each = one;
   recent = recent;
+  began = began;
   others = λ worker none. refl;
 }
   where
-    one : (seat : ℕ) (view : View) → get_elem? (opening_view g ∷ []) seat ≡ some view → view.journal.is_live ≡ true → IsViewOf g (opening_machine (setup_in g)) (λ worker. None) view
-    one zero view e up = subst (IsViewOf g (opening_machine (setup_in g)) (λ worker. None)) (some-injective (opening_view g) view e) record {
+    one : (seat : ℕ) (view : View) → get_elem? (opening_view g ∷ []) seat ≡ some view → view.journal.is_live ≡ true → IsViewOf g (begin_machine g) (λ worker. None) view
+    one zero view e up = subst (IsViewOf g (begin_machine g) (λ worker. None)) (some-injective (opening_view g) view e) record {
       lent = refl;
       told = refl;
       search = record { task = refl; graph = refl; choice = refl; settings = refl };
-      known = record { read = λ incumbent has. unread incumbent has; last = refl };
+      known = record { read = λ incumbent has. unread incumbent has; last = (o.moment (λ worker. rows_of None)).at.incumbent 0 };
       copy = λ lease is. absurd (none-some lease is);
     }
       where
-        unread : (incumbent : Option ℕ) → was_read (opening_view g) incumbent ≡ true → (worker : ℕ) → (opening_machine (setup_in g)).known worker incumbent ≡ true
-        unread None has worker = refl
+        unread : (incumbent : Option ℕ) → was_read (opening_view g) incumbent ≡ true → (worker : ℕ) → (begin_machine g).known worker incumbent ≡ true
+        unread None has worker = absurd (true≢false (sym has))
         unread (Some cost) has worker = absurd (true≢false (sym has))
     one (suc seat) view e up = absurd (some-ne-none view (sym e))
 
-    recent : (seat : ℕ) (view : View) → get_elem? (opening_view g ∷ []) seat ≡ some view → view.journal.is_live ≡ true → IsRecent g (opening_machine (setup_in g)).store.incumbent view
-    recent zero view e up = subst (IsRecent g (opening_machine (setup_in g)).store.incumbent) (some-injective (opening_view g) view e) (unread_recent g (opening_machine (setup_in g)).store.incumbent (opening_view g) refl)
+    recent : (seat : ℕ) (view : View) → get_elem? (opening_view g ∷ []) seat ≡ some view → view.journal.is_live ≡ true → IsRecent g g.incumbent view
+    recent zero view e up = subst (IsRecent g g.incumbent) (some-injective (opening_view g) view e) (unread_recent g g.incumbent (opening_view g) refl)
     recent (suc seat) view e up = absurd (some-ne-none view (sym e))
+
+    began : (seat : ℕ) (view : View) → get_elem? (opening_view g ∷ []) seat ≡ some view → view.journal.is_live ≡ true → view.begin ≡ g
+    began zero view e up = ap (λ (u : View). u.begin) (sym (some-injective (opening_view g) view e))
+    began (suc seat) view e up = absurd (some-ne-none view (sym e))
 
 -- ---- a pass that is split
 
@@ -99,8 +106,10 @@ module _ (x : GraphValue) (shared : Option ℕ) (views : List View) (seat : ℕ)
           let t = (h.moment.lawful.teller v.journal.made cost is).0 in
           let bad : None ≡ Some t.0 = sym (h.leases v.journal.made ∙ ap grant_in free) ∙ t.1 in absurd cc
 
-  known_none : (worker : ℕ) → h.machine.known worker None ≡ true
-  known_none worker = known_stays (setup_in x) h.moves (opening_machine (setup_in x)) h.machine (runs x shared views h) worker None refl
+  -- the incumbent that the yard began with is known to all
+  known_first : (worker : ℕ) → h.machine.known worker v.begin.incumbent ≡ true
+  known_first worker = subst (λ (g : GraphValue). h.machine.known worker g.incumbent ≡ true) (sym (h.began seat v at live))
+      (known_stays (setup_in x) h.moves (begin_machine h.begin) h.machine (runs x shared views h) worker h.begin.incumbent ((h.begins.moment (λ other. rows_of None)).at.incumbent worker))
 
   journals : AreTrueOf x.table.settings.workers x.table.journal (map journal_view Both)
   journals = subst (λ (l : List of_machine.View). AreTrueOf x.table.settings.workers x.table.journal l)
@@ -125,18 +134,21 @@ module _ (x : GraphValue) (shared : Option ℕ) (views : List View) (seat : ℕ)
     lent = free;
     told = untold;
     search = record { task = m.search.task; graph = m.search.graph; choice = m.search.choice; settings = m.search.settings };
-    known = record { read = λ incumbent has. unread incumbent has; last = known_none v.journal.made };
+    known = record { read = λ incumbent has. unread incumbent has; last = known_first v.journal.made };
     copy = λ lease is. absurd (none-some lease is);
   }
     where
       unread : (incumbent : Option ℕ) → was_read New incumbent ≡ true → (worker : ℕ) → h.machine.known worker incumbent ≡ true
-      unread None has worker = known_none worker
+      unread None has worker = absurd (true≢false (sym has))
       unread (Some cost) has worker = absurd (true≢false (sym has))
 
   pub split_yard : IsYard x shared Both
   split_yard = record {
     is_setup = h.is_setup;
     in_range = h.in_range;
+    begin = h.begin;
+    begins = h.begins;
+    of_run = h.of_run;
     moves = h.moves;
     machine = h.machine;
     lent = h.lent;
@@ -152,6 +164,8 @@ module _ (x : GraphValue) (shared : Option ℕ) (views : List View) (seat : ℕ)
         (each_set (λ j u. u.journal.is_live ≡ true → IsViewOf x h.machine h.lent u) views seat Kept (λ _. kept) (λ j u apart e up. h.each j u e up));
     recent = each_snoc (λ j u. u.journal.is_live ≡ true → IsRecent x h.settled u) (set views seat Kept) New (λ _ _. unread_recent x h.settled New refl)
         (each_set (λ j u. u.journal.is_live ≡ true → IsRecent x h.settled u) views seat Kept (λ _. kept_recent) (λ j u apart e up. h.recent j u e up));
+    began = each_snoc (λ j u. u.journal.is_live ≡ true → u.begin ≡ h.begin) (set views seat Kept) New (λ _ _. h.began seat v at live)
+        (each_set (λ j u. u.journal.is_live ≡ true → u.begin ≡ h.begin) views seat Kept (λ _. h.began seat v at live) (λ j u apart e up. h.began j u e up));
     others = λ worker none. h.others worker (no_pass_before worker views seat v Kept at live live refl here
         (λ j u e up. none j u (at_longer (set views seat Kept) (New ∷ []) j u e) up));
   }
@@ -215,6 +229,9 @@ module _ (x : GraphValue) (shared : Option ℕ) (views : List View) (seat : ℕ)
   met_yard = record {
     is_setup = h.is_setup;
     in_range = h.in_range;
+    begin = h.begin;
+    begins = h.begins;
+    of_run = h.of_run;
     moves = h.moves;
     machine = h.machine;
     lent = h.lent;
@@ -230,6 +247,8 @@ module _ (x : GraphValue) (shared : Option ℕ) (views : List View) (seat : ℕ)
         (λ j u far e on. each_set (λ k z. z.journal.is_live ≡ true → IsViewOf x h.machine h.lent z) views seat Met (λ _. met) (λ k z off q. h.each k z q) j u e on);
     recent = each_set (λ j u. u.journal.is_live ≡ true → IsRecent x h.settled u) Taken other spent_pass_view (λ on. absurd (true≢false (sym on)))
         (λ j u far e on. each_set (λ k z. z.journal.is_live ≡ true → IsRecent x h.settled z) views seat Met (λ _. met_recent) (λ k z off q. h.recent k z q) j u e on);
+    began = each_set (λ j u. u.journal.is_live ≡ true → u.begin ≡ h.begin) Taken other spent_pass_view (λ on. absurd (true≢false (sym on)))
+        (λ j u far e on. each_set (λ k z. z.journal.is_live ≡ true → z.begin ≡ h.begin) views seat Met (λ _. h.began seat v at live) (λ k z off q. h.began k z q) j u e on);
     others = none_left;
   }
 

@@ -22,7 +22,7 @@ use Rattle.pb_yard.specs.declared.view.View.{View}
 use Rattle.pb_yard.specs.Views.{cost_of, bounded, view_read, view_left}
 use Rattle.pb_yard.specs.Calls.{ReadsAndHolds}
 use Rattle.pb_yard.specs.Rule.{rows_of, is_cost, was_read, IsYard}
-use Rattle.pb_yard.proofs.Parts.{GoesOnAs, still_of_graph, search_same}
+use Rattle.pb_yard.proofs.Parts.{GoesOnAs, run_same, still_of_graph, search_same}
 use Rattle.pb_yard.proofs.Meaning.{known_above}
 use Rattle.pb_yard.proofs.Clauses.{Fact, MayTake, MayGo, leave_keeps, holds, seen_is}
 
@@ -45,10 +45,13 @@ pub bounded_yard : (f : GraphValue) (bound shared : Option ℕ) (views : List Vi
 bounded_yard f None shared views h known = h
 bounded_yard f (Some cost) shared views h known =
     let y = bounded f (Some cost) in
-    let same : GoesOnAs f y = record { task = refl; graph = refl; choice = refl; settings = refl } in
+    let same : GoesOnAs f y = record { task = refl; graph = refl; choice = refl; settings = refl; past = refl } in
     record {
       is_setup = h.is_setup;
       in_range = h.in_range;
+      begin = h.begin;
+      begins = h.begins;
+      of_run = run_same f y same h.begin h.of_run;
       moves = h.moves;
       machine = h.machine;
       lent = h.lent;
@@ -62,6 +65,7 @@ bounded_yard f (Some cost) shared views h known =
       journals = h.journals;
       each = λ other u there up. let k = h.each other u there up in record { lent = k.lent; told = k.told; search = search_same f y same u k.search; known = k.known; copy = k.copy };
       recent = λ other u there up. let k = h.recent other u there up in record { read_by = k.read_by; fresh = k.fresh };
+      began = h.began;
       others = h.others;
     }
 

@@ -65,7 +65,7 @@ ending_by own true (Some e) other else = refl
 ending_by own false end other else = refl
 
 same_adds : (x y : GraphValue) (events : List Event) → Adds x.table y.table events → y.task ≡ x.task → y.choice ≡ x.choice → GoesOnAs x y
-same_adds x y events adds task choice = record { task = task; graph = adds.graph; choice = choice; settings = adds.settings }
+same_adds x y events adds task choice = record { task = task; graph = adds.graph; choice = choice; settings = adds.settings; past = adds.past }
 
 pub same_rest : (x y : GraphValue) (events : List Event) → Adds x.table y.table events → y ≡ record x { table = y.table } → GoesOnAs x y
 same_rest x y events adds rest = same_adds x y events adds (ap (λ (g : GraphValue). g.task) rest) (ap (λ (g : GraphValue). g.choice) rest)
@@ -300,7 +300,7 @@ module _ (x y : GraphValue) (shared : Option ℕ) (views : List View) (seat : �
             later = t.0.store.incumbent;
             in_time = settled_one (setup_in x) (Renew lease.worker lease.used kept.quota) h.machine h.settled t.0 whole
                 (grant_of lease, (out 0 lease b).0.leased, spent, still_first x lease y r.noted places Recorded after h.machine t.0 h.moment t.1.moment goes.0) (t.6 (out 0 lease b).1);
-            same = record { task = r.task; graph = r.events.graph; choice = r.choice; settings = r.events.settings };
+            same = record { task = r.task; graph = r.events.graph; choice = r.choice; settings = r.events.settings; past = r.events.past };
             added = same;
             by = first_by Own (Renew lease.worker lease.used kept.quota) [] (λ other. ap (λ w. w == other) own) (λ other else. refl);
             records = λ other grant leased. rows_entry h.lent Own (Some kept) other ∙ (λ i. with_entry Recorded (sym own i) (away_rows kept.parts) other);

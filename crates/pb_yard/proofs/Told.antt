@@ -82,6 +82,7 @@ module _ (step : GraphValue → GraphValue → Type 0) (list : GraphValue → Li
     graph = ap (λ (u : View). u.graph) h.view;
     choice = ap (λ (u : View). u.choice) h.view;
     task = ap (λ (u : View). u.task) h.view;
+    begin = ap (λ (u : View). u.begin) h.view;
   }
 
   pub lent_then : new.lent ≡ lent
@@ -125,7 +126,7 @@ ends_are_seen worker old new end h =
     let y = h.2.left in
     let at = h.2.after in
     ap end_in (seen_then _ (lease_events worker (Over end)) h.0 new (lent_by (Over end) old.lent) (told_by (Over end) old.told) h.2)
-    ∙ sym (ends_are_told (blocks y.table) y.table.settings 0 y.table.journal (counts_in y) (history y at.shared at.views at.yard)) ∙ ended_end h.2.found y end h.2.step_is.0 h.2.step_is.1
+    ∙ sym (ends_are_told (blocks y.table) y.table.settings y.table.past.spent y.table.journal (counts_in y) (history y at.shared at.views at.yard)) ∙ ended_end h.2.found y end h.2.step_is.0 h.2.step_is.1
 
 -- ---- what a worker knows by the reply
 
@@ -138,6 +139,7 @@ keeps_on old between new first later = record {
   graph = later.graph ∙ first.graph;
   choice = later.choice ∙ first.choice;
   task = later.task ∙ first.task;
+  begin = later.begin ∙ first.begin;
 }
 
 -- a reading changes nothing of the worker
@@ -150,6 +152,7 @@ read_keeps old between r = record {
   graph = ap (λ (u : View). u.graph) r.view;
   choice = ap (λ (u : View). u.choice) r.view;
   task = ap (λ (u : View). u.task) r.view;
+  begin = ap (λ (u : View). u.begin) r.view;
 }
 
 read_active : (old between : View) → HasRead old between → IsActive old → IsActive between

@@ -14,7 +14,7 @@ use Rattle.pb_task.specs.declared.parts.TaskParts.{TaskParts}
 use Rattle.pb_machine.specs.Tables.{with_entry}
 use Rattle.pb_machine.specs.Views as of_machine
 use Rattle.pb_machine.specs.Views.{AreTrueOf}
-use Rattle.pb_machine.specs.Machine.{Machine, IsWorked, HasWorked, Tells, tell_move, opening_machine, journal_of, with_known, with_incumbent}
+use Rattle.pb_machine.specs.Machine.{Machine, IsWorked, HasWorked, Tells, tell_move, journal_of, with_known, with_incumbent}
 use Rattle.pb_machine.proofs.Callers.{known_new, known_more, lesser_one, entry_here, entry_else, moves_keep_lawful, known_stays, runs_go_on, others_keep_whole}
 use Rattle.pb_bundles.specs.Homes.{home_rows}
 use Rattle.pb_abstract.specs.Graph.{AbstractGraph}
@@ -23,6 +23,7 @@ use Rattle.pb_lease.specs.LeaseValue.{LeaseValue, leased_store}
 use Rattle.pb_lease.specs.Leased.{guide_of, grant_of, IsOut}
 use Rattle.pb_lease.specs.GraphValue.{GraphValue, setup_in}
 use Rattle.pb_lease.specs.Moments.{IsMomentAt}
+use Rattle.pb_lease.specs.Begins.{begin_machine}
 use Rattle.pb_lease.proofs.Callers.{worked_leases_are_out}
 use Rattle.pb_yard.specs.declared.view.View.{View}
 use Rattle.pb_yard.specs.Views.{cost_of, view_read, view_told}
@@ -74,7 +75,7 @@ module _ (seat : ℕ) (v : View) (held : Option GraphValue) (live : v.journal.is
 
   number_settled : AtMost (cost_of number) h.settled
   number_settled = subst (λ o. AtMost o h.settled) h.shared_is
-      (settled_falls (setup_in x) h.moves (opening_machine (setup_in x)) (opening_machine (setup_in x)).store.incumbent h.machine h.settled (at_most_self (opening_machine (setup_in x)).store.incumbent) h.run)
+      (settled_falls (setup_in x) h.moves (begin_machine h.begin) h.begin.incumbent h.machine h.settled (at_most_self h.begin.incumbent) h.run)
 
   read_recent : (o : Option GraphValue) → IsHeld o x → IsRecent x h.settled (view_read o v (cost_of number))
   read_recent None is = unread_recent x h.settled (view_read None v (cost_of number)) refl
@@ -95,6 +96,9 @@ module _ (seat : ℕ) (v : View) (held : Option GraphValue) (live : v.journal.is
   read_yard = record {
     is_setup = h.is_setup;
     in_range = h.in_range;
+    begin = h.begin;
+    begins = h.begins;
+    of_run = h.of_run;
     moves = h.moves;
     machine = h.machine;
     lent = h.lent;
@@ -108,6 +112,7 @@ module _ (seat : ℕ) (v : View) (held : Option GraphValue) (live : v.journal.is
     journals = same_journals x (cost_of number) views seat v Read h at refl;
     each = each_set (λ j u. u.journal.is_live ≡ true → IsViewOf x h.machine h.lent u) views seat Read (λ _. read_view) (λ j u apart e up. h.each j u e up);
     recent = each_set (λ j u. u.journal.is_live ≡ true → IsRecent x h.settled u) views seat Read (λ _. read_recent held is_held) (λ j u apart e up. h.recent j u e up);
+    began = each_set (λ j u. u.journal.is_live ≡ true → u.begin ≡ h.begin) views seat Read (λ _. h.began seat v at live) (λ j u apart e up. h.began j u e up);
     others = λ worker none. h.others worker (no_pass_before worker views seat v Read at live live refl (put_there views seat v Read at) none);
   }
 
@@ -134,17 +139,18 @@ read_stands f v seat number live x (views, h, at) is =
 
 -- ---- a lowering
 
+-- a number that isn't the greatest says itself
+pub number_cost : (n : ℕ) → n < 18446744073709551615 → cost_of n ≡ Some n
+number_cost n less = by_cases (n == 18446744073709551615)
+    (λ e. let is = equal n 18446744073709551615 e in absurd (omega (arith, is, less)))
+    (λ e. ap (λ r. cond r None (Some n)) e)
+
 -- the word is lowered as the incumbent is
 pub cost_of_min : (number cost : ℕ) → cost < 18446744073709551615 → cost_of (min number cost) ≡ lesser (cost_of number) (Some cost)
 cost_of_min number cost fits = by_cases (number == 18446744073709551615)
     (λ e. let is = equal number 18446744073709551615 e in let least : min number cost ≡ cost = omega (arith, is, fits) in
     ap cost_of least ∙ number_cost cost (omega (arith, fits)) ∙ ap (λ o. lesser o (Some cost)) (sym (ap (λ r. cond r None (Some number)) e)))
     (λ e. number_cost (min number cost) (omega (arith, fits)) ∙ ap (λ o. lesser o (Some cost)) (sym (ap (λ r. cond r None (Some number)) e)))
-  where
-    number_cost : (n : ℕ) → n < 18446744073709551615 → cost_of n ≡ Some n
-    number_cost n less = by_cases (n == 18446744073709551615)
-        (λ e. let is = equal n 18446744073709551615 e in absurd (omega (arith, is, less)))
-        (λ e. ap (λ r. cond r None (Some n)) e)
 
 module _ (seat : ℕ) (v : View) (lease : LeaseValue) (cost : ℕ) (live : v.journal.is_live ≡ true) (fits : cost < 18446744073709551615) (b : IsFound v lease cost)
     (x : GraphValue) (number : ℕ) (views : List View) (h : Fact x number views) (at : get_elem? views seat ≡ some v) where
@@ -253,12 +259,15 @@ module _ (seat : ℕ) (v : View) (lease : LeaseValue) (cost : ℕ) (live : v.jou
   told_yard = record {
     is_setup = h.is_setup;
     in_range = h.in_range;
+    begin = h.begin;
+    begins = h.begins;
+    of_run = h.of_run;
     moves = h.moves ++ tell_move Own cost ∷ [];
     machine = Next;
     lent = h.lent;
     settled = h.settled;
-    run = settled_on (setup_in x) h.moves (tell_move Own cost ∷ []) (opening_machine (setup_in x)) h.machine Next (opening_machine (setup_in x)).store.incumbent h.settled h.settled h.run (Next, tells, tt, tt, tt, (refl, refl));
-    journal = (runs_go_on (setup_in x) h.moves (tell_move Own cost ∷ []) (opening_machine (setup_in x)) h.machine Next).2 ∙ append-nil (journal_of h.moves) ∙ h.journal;
+    run = settled_on (setup_in x) h.moves (tell_move Own cost ∷ []) (begin_machine h.begin) h.machine Next h.begin.incumbent h.settled h.settled h.run (Next, tells, tt, tt, tt, (refl, refl));
+    journal = (runs_go_on (setup_in x) h.moves (tell_move Own cost ∷ []) (begin_machine h.begin) h.machine Next).2 ∙ append-nil (journal_of h.moves) ∙ h.journal;
     moment = moment;
     shared_is = ap (λ o. lesser o (Some cost)) h.shared_is ∙ sym (cost_of_min number cost fits);
     leases = h.leases;
@@ -266,6 +275,7 @@ module _ (seat : ℕ) (v : View) (lease : LeaseValue) (cost : ℕ) (live : v.jou
     journals = same_journals x (cost_of number) views seat v Told h at refl;
     each = each_set (λ j u. u.journal.is_live ≡ true → IsViewOf x Next h.lent u) views seat Told (λ _. told_view) theirs;
     recent = each_set (λ j u. u.journal.is_live ≡ true → IsRecent x h.settled u) views seat Told (λ _. unread_recent x h.settled Told refl) (λ j u apart e up. h.recent j u e up);
+    began = each_set (λ j u. u.journal.is_live ≡ true → u.begin ≡ h.begin) views seat Told (λ _. h.began seat v at live) (λ j u apart e up. h.began j u e up);
     others = λ worker none. h.others worker (no_pass_before worker views seat v Told at live live refl (put_there views seat v Told at) none);
   }
 

@@ -8,7 +8,7 @@ use Rattle.pb_machine.specs.declared.event.Event.{Event}
 use Rattle.pb_machine.specs.declared.event.Event.TheVariants.{Hot, Cold}
 use Rattle.pb_machine.specs.History.{StartsWith, is_off, AreFinished, IsHistory}
 use Rattle.pb_machine.specs.Views.{IsShareOf}
-use Rattle.pb_machine.specs.Machine.{Machine, opening_machine, Move, journal_of}
+use Rattle.pb_machine.specs.Machine.{Machine, Move, journal_of}
 use Rattle.pb_lease.specs.declared.answer.LeaseReply.{LeaseReply}
 use Rattle.pb_lease.specs.declared.answer.Renewed.{Renewed}
 use Rattle.pb_lease.specs.declared.answer.Renewed.TheVariants.{Given}
@@ -17,19 +17,12 @@ use Rattle.pb_lease.specs.LeaseValue.{LeaseValue}
 use Rattle.pb_lease.specs.GraphValue.{GraphValue, setup_in, counts_in}
 use Rattle.pb_lease.specs.Choices.{is_out_in}
 use Rattle.pb_lease.specs.Moments.{IsMoment, moves_of}
+use Rattle.pb_lease.specs.Begins.{begin_machine, IsOfRun}
 use Rattle.pb_yard.specs.declared.view.View.{View}
 use Rattle.pb_yard.specs.Views.{view_read, view_then}
 use Rattle.pb_yard.specs.Order.{RunsSettled, RunsInTime}
 use Rattle.pb_yard.specs.Rule.{IsAt, IsSearchOf}
 use Rattle.pb_yard.specs.Replies.{LeasesAs, lease_events, lent_by, told_by, RenewsAs, renewal_events, kept_by, ReleasesAs, release_events, RivalsAs, MarksAs, CoolsAs, mark_events, SignsOffAs, off_events}
-
--- ---- the graph that a yard begins with
-
--- The search begins: nothing has happened, and the graph is the opening moment of the lease
--- machine.
-pub record IsOpening (g : GraphValue) : Type 0 where
-  pub empty : g.table.journal ≡ []
-  pub moment : (recorded : (worker : ℕ) → Rows) → IsMoment g recorded (opening_machine (setup_in g))
 
 -- ---- a reading
 
@@ -142,6 +135,7 @@ pub record KeepsWorkers (old new : View) : Type 0 where
   pub graph : new.graph ≡ old.graph
   pub choice : new.choice ≡ old.choice
   pub task : new.task ≡ old.task
+  pub begin : new.begin ≡ old.begin
 
 -- ---- the end
 
@@ -153,18 +147,21 @@ pub record AllSignedOff (view : View) : Type 0 where
 
 -- The graph is of the search that the yard began with. Its journal is what the pass has seen, and
 -- is a finished history: it has an end, and every worker has signed off. Each worker's events in it
--- are those that the pass has of it. No lease is out. Moves from the opening lead to the graph's
--- moment of the lease machine, in order and in time, and their events are the journal.
+-- are those that the pass has of it. No lease is out. Moves from the machine that a run begins with,
+-- at the graph that the yard began with, lead to the graph's moment of the lease machine. They are
+-- in order and in time, and their events are the journal.
 pub record IsClosed (view : View) (g : GraphValue) : Type 0 where
   pub search : IsSearchOf g view
+  pub of_run : IsOfRun view.begin g
   pub seen : view.journal.seen ≡ g.table.journal
   pub shares : AllByRecursion (IsShareOf g.table.journal view.journal.seen)
       (view.journal.own ∷ view.journal.taken_in)
-  pub history : IsHistory (blocks g.table) g.table.settings 0 g.table.journal (counts_in g)
+  pub history : IsHistory (blocks g.table) g.table.settings g.table.past.spent g.table.journal
+      (counts_in g)
   pub finished : AreFinished g.table.settings (counts_in g)
   pub home : IsFalse (is_out_in g)
   pub moves : List Move
   pub machine : Machine
-  pub run : RunsInTime (setup_in g) (opening_machine (setup_in g)) moves machine
+  pub run : RunsInTime (setup_in g) (begin_machine view.begin) moves machine
   pub journal : journal_of moves ≡ g.table.journal
   pub moment : (recorded : (worker : ℕ) → Rows) → IsMoment g recorded machine

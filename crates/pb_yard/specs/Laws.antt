@@ -28,7 +28,7 @@ abbrev pub YardsAreLawful : Type 0
 YardsAreLawful =
     (g : GraphValue) (shared : Option ℕ) (views : List View) → (yard : IsYard g shared views)
     → IsLawful (setup_in g) yard.machine
-    × IsHistory (blocks g.table) g.table.settings 0 g.table.journal (counts_in g)
+    × IsHistory (blocks g.table) g.table.settings g.table.past.spent g.table.journal (counts_in g)
     × ((worker other : ℕ) (lease second : LeaseValue) → yard.lent worker ≡ Some lease
     → yard.lent other ≡ Some second
     → IsFalse (worker == other) → (block : ℕ) → IsTrue ((blocks g.table).scope lease.block block)

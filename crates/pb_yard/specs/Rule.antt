@@ -10,12 +10,13 @@ use Rattle.pb_machine.specs.declared.event.Grant.{Grant}
 use Rattle.pb_machine.specs.Settings.{AreInRange}
 use Rattle.pb_machine.specs.Views as of_machine
 use Rattle.pb_machine.specs.Views.{AreTrueOf}
-use Rattle.pb_machine.specs.Machine.{IsSetup, Machine, opening_machine, Move, journal_of}
+use Rattle.pb_machine.specs.Machine.{IsSetup, Machine, Move, journal_of}
 use Rattle.pb_bundles.specs.Parts.{away_rows}
 use Rattle.pb_lease.specs.LeaseValue.{LeaseValue}
 use Rattle.pb_lease.specs.Leased.{grant_of}
 use Rattle.pb_lease.specs.GraphValue.{GraphValue, setup_in, IsOfGraph}
 use Rattle.pb_lease.specs.Moments.{IsMomentAt}
+use Rattle.pb_lease.specs.Begins.{begin_machine, IsBegin, IsOfRun}
 use Rattle.pb_yard.specs.declared.view.View.{View}
 use Rattle.pb_yard.specs.Views.{cost_of}
 use Rattle.pb_yard.specs.Order.{RunsSettled}
@@ -89,20 +90,23 @@ HasNoPass worker views =
     (seat : ℕ) (view : View) → get_elem? views seat ≡ some view → IsTrue view.journal.is_live
     → IsFalse (view.journal.own.worker == worker)
 
--- The graph, with what its workers were lent, is a lawful moment of the lease machine. Moves from
--- the opening lead to that moment, in order and in time, and their events are the journal. The
+-- The graph, with what its workers were lent, is a lawful moment of the lease machine. The yard was
+-- made with the graph `begin`, and all live views say so. Moves from the machine that a run begins
+-- with there lead to that moment, in order and in time, and their events are the journal. The
 -- shared number is the least cost that was found or told: the incumbent of the whole store. The
 -- views of all passes are true of the journal and of what is lent. A worker that has no live pass
 -- has no lease.
 pub record IsYard (g : GraphValue) (shared : Option ℕ) (views : List View) : Type 0 where
   pub is_setup : IsSetup (setup_in g) greatest_cost
   pub in_range : AreInRange g.table.settings
+  pub begin : GraphValue
+  pub begins : IsBegin begin
+  pub of_run : IsOfRun begin g
   pub moves : List Move
   pub machine : Machine
   pub lent : (worker : ℕ) → Option LeaseValue
   pub settled : Option ℕ
-  pub run : RunsSettled (setup_in g) (opening_machine (setup_in g))
-      (opening_machine (setup_in g)).store.incumbent moves machine settled
+  pub run : RunsSettled (setup_in g) (begin_machine begin) begin.incumbent moves machine settled
   pub journal : journal_of moves ≡ g.table.journal
   pub moment : IsMomentAt g (λ worker. rows_of (lent worker)) machine
   pub shared_is : machine.store.incumbent ≡ shared
@@ -114,6 +118,8 @@ pub record IsYard (g : GraphValue) (shared : Option ℕ) (views : List View) : T
       → IsTrue view.journal.is_live → IsViewOf g machine lent view
   pub recent : (seat : ℕ) (view : View) → get_elem? views seat ≡ some view
       → IsTrue view.journal.is_live → IsRecent g settled view
+  pub began : (seat : ℕ) (view : View) → get_elem? views seat ≡ some view
+      → IsTrue view.journal.is_live → view.begin ≡ begin
   pub others : (worker : ℕ) → HasNoPass worker views → lent worker ≡ None
 
 -- what the lock keeps: the yard's rule, for the shared incumbent that the number says

@@ -9,6 +9,7 @@ use Rattle.pb_machine.specs.Settings.{standard}
 use Rattle.pb_machine.specs.Views.{first_view, spent_view, view_after, with_one_more, next_view, met_view}
 use Rattle.pb_lease.specs.LeaseValue.{LeaseValue}
 use Rattle.pb_lease.specs.GraphValue.{GraphValue}
+use Rattle.pb_lease.specs.Tables.{no_past}
 use Rattle.pb_yard.specs.declared.view.View.{View}
 
 -- the incumbent that the word says: its greatest number says that there is none
@@ -20,7 +21,7 @@ abbrev pub bounded : GraphValue → Option ℕ → GraphValue
 bounded g None = g
 bounded g (Some cost) = record g { incumbent = lesser g.incumbent (Some cost) }
 
--- the view of the first pass
+-- the view of the first pass: it is as if it had read the graph's incumbent
 abbrev pub opening_view : GraphValue → View
 opening_view g =
     record {
@@ -30,14 +31,16 @@ opening_view g =
       graph = g.table.graph;
       choice = g.choice;
       settings = g.table.settings;
+      begin = g;
       told = None;
-      last = None;
+      last = g.incumbent;
       read = [];
       read_at = None;
     }
 
 -- The view of a pass after another was split from it, and then the view of the other. The other has
--- the next worker's number, no lease and no events, and has seen what the first has.
+-- the next worker's number, no lease and no events, and has seen what the first has. It knows the
+-- incumbent that the yard began with.
 abbrev pub split_view : View → View
 split_view view = record view { journal = with_one_more view.journal }
 
@@ -47,9 +50,31 @@ next_pass_view view =
       journal = next_view view.journal;
       lent = None;
       told = None;
-      last = None;
+      last = view.begin.incumbent;
       read = [];
       read_at = None;
+    }
+
+-- the graph of no search
+abbrev pub no_graph : GraphValue
+no_graph =
+    record {
+      task = Tiles (record { rows = 0; cols = 0; start = []; goal = [] });
+      choice = Plain;
+      table = record {
+        graph = record { projection = Blank; scopes = [] };
+        settings =
+            record standard { workers = 0; num = 0; den = 0; budget = 0; lot = 0; wish = 0 };
+        past = no_past;
+        seats = [];
+        hot = [];
+        spent = 0;
+        left = 0;
+        end = None;
+        journal = [];
+      };
+      homes = record { bundles = []; keys = [] };
+      incumbent = None;
     }
 
 -- the view of a pass after it took in another's; and then what is left at the other's number, which
@@ -62,11 +87,11 @@ spent_pass_view =
     record {
       journal = spent_view;
       lent = None;
-      task = Tiles (record { rows = 0; cols = 0; start = []; goal = [] });
-      graph = record { projection = Blank; scopes = [] };
-      choice = Plain;
-      settings =
-          record standard { workers = 0; num = 0; den = 0; budget = 0; lot = 0; wish = 0 };
+      task = no_graph.task;
+      graph = no_graph.table.graph;
+      choice = no_graph.choice;
+      settings = no_graph.table.settings;
+      begin = no_graph;
       told = None;
       last = None;
       read = [];

@@ -2,26 +2,29 @@
 ghost use Rattle.std.specs.Prelude.{◌≡◌, ◌+◌, ◌<◌, None, IfOk, IfErr};
 ghost use Rattle.pb_yard.specs.Views.{opening_view, split_view, next_pass_view, met_pass_view};
 ghost use Rattle.pb_yard.specs.Passes.{view_of, worker_of, parts_of, all_parts, IsOf, IsFirstPass, IsSamePass};
-ghost use Rattle.pb_yard.specs.Calls.{IsOpening, AllSignedOff, IsClosed};
+ghost use Rattle.pb_lease.specs.Begins.{IsBegin};
+ghost use Rattle.pb_yard.specs.Calls.{AllSignedOff, IsClosed};
 
 use crate::pass::Pass;
-use crate::word::cost;
+use crate::word::{cost, word_of};
 use crate::yard::Yard;
 use pb_lease::LeaseGraph;
 use pb_turn::TurnLock;
 use std::alloc::{AllocError, Global};
 
 impl Yard {
-    /// A yard over the graph of a search that begins, and the pass of worker 0. An error is out of
-    /// memory: the graph comes back with it.
+    /// A yard over a graph with which a run begins: it is at a lawful moment, without a lease and
+    /// without an event. The pass is that of worker 0. An error is out of memory: the graph comes
+    /// back with it.
     pub fn new(alloc: Global, graph: LeaseGraph) -> Result<(Yard, Pass), (AllocError, LeaseGraph)>
-        requires { IsOpening graph }
+        requires { IsBegin graph }
         ensures pass { IfOk result (λ r. IsFirstPass r.0 r.1) }
         ensures view { IfOk result (λ r. view_of r.1 ≡ opening_view graph) }
         ensures err { IfErr result (λ r. r.1 ≡ graph) }
     {
         let _ = graph.abstraction();
-        let (lock, turn) = TurnLock::new(alloc, graph, u64::MAX)?;
+        let incumbent = graph.incumbent();
+        let (lock, turn) = TurnLock::new(alloc, graph, word_of(incumbent))?;
         Ok((
             Yard { lock },
             Pass {
@@ -29,7 +32,8 @@ impl Yard {
                 worker: 0,
                 made: 1,
                 seen: 0,
-                last: None,
+                last: incumbent,
+                first: incumbent,
             },
         ))
     }
@@ -54,7 +58,8 @@ impl Yard {
             worker,
             made: 0,
             seen: pass.seen,
-            last: None,
+            last: pass.first,
+            first: pass.first,
         }
     }
 
@@ -73,6 +78,7 @@ impl Yard {
             made,
             seen,
             last: _,
+            first: _,
         } = other;
         self.lock.meet(&mut pass.turn, turn);
         pass.made = pass.made.wrapping_add(made);
@@ -93,6 +99,7 @@ impl Yard {
             made: _,
             seen: _,
             last: _,
+            first: _,
         } = pass;
         let (mut graph, number) = lock.close_with(turn);
         if let Some(known) = cost(number) {

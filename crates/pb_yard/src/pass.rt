@@ -17,11 +17,14 @@ pub struct Pass {
     pub(crate) seen: u64,
     // the least cost that it has read or told
     pub(crate) last: Option<u64>,
+    // the incumbent of the graph that the yard began with
+    pub(crate) first: Option<u64>,
     ghost is_live: { IsTrue (view turn).journal.is_live },
     ghost worker_is: { (view turn).journal.own.worker ≡ worker },
     ghost made_is: { made ≡ (view turn).journal.made % 2 ^ 32 },
     ghost seen_is: { length (view turn).journal.seen ≡ seen },
     ghost last_is: { (view turn).last ≡ last },
+    ghost first_is: { (view turn).begin.incumbent ≡ first },
     ghost in_range: { AreInRange (view turn).settings },
     ghost counts: { worker ≡ 0 → 0 < (view turn).journal.made },
     ghost has_parts: { worker ≡ 0 → whole < parts turn + (view turn).journal.made },

@@ -3,7 +3,7 @@ ghost use Rattle.std.specs.Prelude.{map};
 
 use pb_abstract::AbsGraph;
 use pb_estimate::Choice;
-use pb_lease::Lease;
+use pb_lease::{Lease, LeaseGraph};
 use pb_machine::{Event, Settings};
 use pb_task::Task;
 use std::collections::LinkedList;
@@ -52,6 +52,8 @@ pub struct View {
     pub choice: Choice,
     /// With which settings.
     pub settings: Settings,
+    /// The graph that the yard began with.
+    pub begin: LeaseGraph,
     /// The least cost that it told since its lease was given or last renewed.
     pub told: Option<u64>,
     /// The least cost that it has read or told.

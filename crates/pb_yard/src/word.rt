@@ -29,6 +29,17 @@ pub(crate) fn cost(number: u64) -> Option<u64>
     }
 }
 
+// The number by which the word says an incumbent.
+pub(crate) fn word_of(incumbent: Option<u64>) -> u64
+    requires { (cost : ℕ) → incumbent ≡ Some cost → cost < 18446744073709551615 }
+    ensures { cost_of result ≡ incumbent }
+{
+    match incumbent {
+        Some(cost) => cost,
+        None => u64::MAX,
+    }
+}
+
 // The lesser of two costs, of which the first may be unknown.
 fn lesser_of(first: Option<u64>, cost: u64) -> u64
     ensures { Some result ≡ lesser first (Some cost) }

@@ -19,9 +19,8 @@ loop-block-preserved c =
     let changes : List Change = c.each_once-changes.result.items in
     let here : (n : ℕ) → IsTrue (has c.in_ok-scope.field-0 n) ↔ ((block ≡ n) ⊎ IsTrackedEdge c.args.strips.now atoms block n) =
     scope_is c.args.strips.now atoms c.requires.atoms block small changes c.in_ok-scope.field-0
-    (λ test. c.each_once-changes.ensures test ∙ c.in_ok-all_changes.ensures test
-    ∙ ap (λ (actions : List GroundAction). list_any (λ action. changes_some (change_of atoms action) && test (change_of atoms action)) actions) c.as_slice.ensures)
-    (λ n. c.in_ok-scope.ensures n ∙ ap (λ (items : List Change). (block == n) || list_any (λ change. is_number (block_after change block) n) items) c.as_slice-in-loop-block.ensures.value) in
+    (λ test. c.each_once-changes.ensures test ∙ c.in_ok-all_changes.ensures test)
+    (λ n. c.in_ok-scope.ensures n ∙ ap (λ (items : List Change). (block == n) || list_any (λ change. is_number (block_after change block) n) items) c.as_slice.ensures.value) in
     record {
       count = ap length c.in_ok-push.ensures.items ∙ length_push c.loop-block.scopes.items c.in_ok-scope.field-0 ∙ ap (λ n. n + 1) c.loop-block.invariant.count;
       scope = λ b other less.

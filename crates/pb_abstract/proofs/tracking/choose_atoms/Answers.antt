@@ -1,8 +1,9 @@
-use Rattle.std.proofs.Common.{◌≡◌, ◌*◌, ◌^◌, suc, length, sym, ap, subst, ◌∙◌, arith, inr}
+use Rattle.std.proofs.Common.{◌≡◌, ◌*◌, ◌^◌, ◌<◌, ◌≤◌, suc, length, sym, ap, subst, ◌∙◌, arith, inr}
 use Rattle.std.proofs.Math.Nat.{pow-suc}
 use Rattle.std.proofs.lemmas.List.{length_push}
+use Rattle.pb_packed.specs.Sizes.{most_atoms}
 use Rattle.pb_abstract.specs.Ranking.{AreFirst, IsNext, IsNone}
-use Rattle.pb_abstract.proofs.Ranking.{tracked_is, all_tracked, first_more, few_tracked}
+use Rattle.pb_abstract.proofs.Ranking.{tracked_is, all_tracked, first_more, few_tracked, left_known}
 use Rattle.pb_abstract.proofs.tracking.choose_atoms.Goals as goal
 
 pub returns-in_default : goal.returns-in_default
@@ -11,8 +12,16 @@ returns-in_default c =
     tracked_is c.args.strips.now c.args.wish c.loop-blocks.atoms c.loop-blocks.invariant.first (omega (arith, c.loop-blocks.invariant.count, c.loop-blocks.invariant.few))
     (inr (all_tracked c.args.strips.now c.in_ok-counts.counts.items c.in_ok-counts.ensures c.loop-blocks.atoms none))
 
-pub push-requires : goal.push-requires
-push-requires c = few_tracked c.loop-blocks.blocks (length c.loop-blocks.atoms) c.args.wish c.loop-blocks.invariant.count (omega (arith, c.loop-blocks-test.true)) c.requires.few
+pub push-requires-clause-few : goal.push-requires-clause-few
+push-requires-clause-few c = few_tracked c.loop-blocks.blocks (length c.loop-blocks.atoms) c.args.wish c.loop-blocks.invariant.count (omega (arith, c.loop-blocks-test.true)) c.requires.few
+
+pub push-requires-clause-small : goal.push-requires-clause-small
+push-requires-clause-small c =
+    let next : IsNext c.in_ok-counts.counts.items c.loop-blocks.atoms c.in-Some.atom = subst (λ counts. IsNext counts c.loop-blocks.atoms c.in-Some.atom) c.as_slice.ensures.value c.in-Some.ensures.next in
+    let known : c.in-Some.atom < length c.in_ok-counts.counts.items = left_known c.in_ok-counts.counts.items c.loop-blocks.atoms c.in-Some.atom next.left in
+    let many : length c.in_ok-counts.counts.items ≡ c.args.strips.now.atoms = c.in_ok-counts.ensures.len in
+    let most : c.args.strips.now.atoms ≤ most_atoms = c.requires.strips.atoms in
+    omega arith
 
 pub loop-blocks-preserved : goal.loop-blocks-preserved
 loop-blocks-preserved c =

@@ -1,5 +1,6 @@
 use Rattle.std.proofs.Common.{◌≡◌, ◌≤◌, [], length, get_or, subst, sym, ap, arith, ◌∙◌}
 use Rattle.std.proofs.lemmas.List.{length-replicate}
+use Rattle.pb_packed.specs.Sizes.{most_atoms}
 use Rattle.pb_estimate.specs.Tables.{atoms_in, AreUsers, AreFree}
 use Rattle.pb_estimate.proofs.Sets.{many_in}
 use Rattle.pb_estimate.proofs.Relaxing.{few_atoms, none_use, none_free, none_at}
@@ -9,7 +10,7 @@ pub overflow_cast-result : goal.overflow_cast-result
 overflow_cast-result c =
     let few : length (atoms_in c.args.strips.now.goal c.args.strips.now.atoms) ≤ c.args.strips.now.atoms = few_atoms c.args.strips.now.goal c.args.strips.now.atoms in
     let is : length c.as_slice-2.result.now ≡ length (atoms_in c.args.strips.now.goal c.args.strips.now.atoms) = ap length (c.as_slice-2.ensures ∙ c.in_ok-atoms_in.ensures) in
-    let most : c.args.strips.now.atoms ≤ 256 = c.requires.atoms in
+    let most : c.args.strips.now.atoms ≤ most_atoms = c.requires.atoms in
     omega arith
 
 pub returns-clause-actions : goal.returns-clause-actions

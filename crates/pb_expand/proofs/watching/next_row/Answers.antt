@@ -1,8 +1,8 @@
-use Rattle.std.proofs.Common.{◌∷◌, ◌∙◌, Option, ℕ, IsSome, sym, ap, subst}
+use Rattle.std.proofs.Common.{IsSome, sym, ap, subst}
 use Rattle.pb_bundles.specs.Parts.{content_in}
 use Rattle.pb_lease.specs.LeaseValue.{LeaseValue, HasWeights}
 use Rattle.pb_lease.specs.Rows.{own_opened}
-use Rattle.pb_expand.proofs.Watched.{read_taken, taken_copy}
+use Rattle.pb_expand.proofs.Watched.{read_taken, taken_copy, taken_answers}
 use Rattle.pb_expand.proofs.watching.next_row.Goals as goal
 
 pub first-requires-clause-own : goal.first-requires-clause-own
@@ -24,7 +24,4 @@ returns-clause-copy g c = λ space guide watched.
 
 pub returns-clause-one : goal.returns-clause-one
 returns-clause-one g c = λ space guide watched.
-    c.read-found.ensures.read.answers
-    ∙ ap (λ (found : Option ℕ). found ∷ (g.W.Watch.seen c.args.watch.now).answers)
-    (c.read-found.ensures.read.least
-    ∙ sym (taken_copy space guide c.args.lease.now (g.W.Watch.seen c.args.watch.now) c.read-found.result c.take_read.new.lease (g.W.Watch.seen c.read-found.new.self) c.read-found.ensures.read c.take_read.ensures watched))
+    taken_answers space guide c.args.lease.now (g.W.Watch.seen c.args.watch.now) c.read-found.result c.take_read.new.lease (g.W.Watch.seen c.read-found.new.self) c.read-found.ensures.read c.take_read.ensures watched

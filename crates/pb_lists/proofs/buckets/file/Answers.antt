@@ -1,9 +1,9 @@
-use Rattle.std.proofs.Common.{◌≡◌, ◌⊎◌, ◌∙◌, sym, ap, subst, true, Some, Result, Ok, Err, OnErr}
+use Rattle.std.proofs.Common.{◌≡◌, ◌⊎◌, ◌∙◌, sym, ap, subst, true, is_some, Some, Result, Ok, Err, OnErr}
 use Rattle.pb_lists.specs.Bundle.{row_in}
 use Rattle.pb_lists.specs.Fields.{is_open_at, sum_of, key_with}
-use Rattle.pb_lists.specs.Buckets.{Buckets, Entry, is_tidy, top_of}
-use Rattle.pb_lists.proofs.Filing.{key_joins, tidy_same, tidy_pushed, tidy_new, led_pushed, led_alone}
-use Rattle.pb_lists.proofs.First.{heap_at}
+use Rattle.pb_lists.specs.Heaped.{Entry}
+use Rattle.pb_lists.specs.Buckets.{Buckets, has_in, is_tidy, top_of}
+use Rattle.pb_lists.proofs.Filing.{set_keeps, key_joins, tidy_same, tidy_pushed, tidy_new, led_pushed, led_alone}
 use Rattle.pb_lists.proofs.buckets.file.Goals as goal
 
 on_err : {T E P : Type 0} (result : Result T E) → P → OnErr result P
@@ -17,23 +17,34 @@ returns-in_err-push-in-Some-clause-err c =
     ∙ (tidy_same weight entries _ c.args.buckets.now.entries c.in-Some.bucket.now c.push.new.self (sym c.in-Some.ensures.value) c.in_err-push-in-Some.ensures.err ∙ tidy))
 
 pub returns-in_ok-push-in-Some-clause-led : goal.returns-in_ok-push-in-Some-clause-led
-returns-in_ok-push-in-Some-clause-led c = λ weight entries heaps live tidy.
+returns-in_ok-push-in-Some-clause-led c = λ weight entries live tidy.
     let key = c.args.key.now in
-    let heap = heap_at c.args.buckets.now c.sum_in-sum.result c.in-Some.bucket.now (sym c.in-Some.ensures.value) heaps in
     let joins = ap (λ sum. key_with sum c.h_in-h.result) c.sum_in-sum.ensures ∙ (ap (λ h. key_with (sum_of key) h) c.h_in-h.ensures ∙ key_joins key) in
-    let here = subst (λ k. is_open_at weight (row_in entries c.args.state) k ≡ true) (sym joins) live in
+    let here = subst (λ k. is_open_at weight (row_in entries c.args.state.now) k ≡ true) (sym joins) live in
     ap (λ list. is_tidy weight entries list) (c.get_mut.follows.holds c.push.new.self).0
     ∙ tidy_pushed weight entries c.sum_in-sum.result c.args.buckets.now.entries c.in-Some.bucket.now c.push.new.self (sym c.in-Some.ensures.value)
-    (led_pushed weight entries c.sum_in-sum.result (top_of c.in-Some.bucket.now) (top_of c.push.new.self) (c.h_in-h.result, c.args.state) here (c.in_ok-push-in-Some.ensures.top heap)) tidy
+    (led_pushed weight entries c.sum_in-sum.result (top_of c.in-Some.bucket.now) (top_of c.push.new.self) (c.h_in-h.result, c.args.state.now) here c.in_ok-push-in-Some.ensures.top) tidy
 
 pub returns-in_ok-insert-in-None-clause-led : goal.returns-in_ok-insert-in-None-clause-led
-returns-in_ok-insert-in-None-clause-led c = λ weight entries heaps live tidy.
+returns-in_ok-insert-in-None-clause-led c = λ weight entries live tidy.
     let key = c.args.key.now in
-    let entry : Entry = (c.h_in-h.result, c.args.state) in
+    let entry : Entry = (c.h_in-h.result, c.args.state.now) in
     let joins = ap (λ sum. key_with sum c.h_in-h.result) c.sum_in-sum.ensures ∙ (ap (λ h. key_with (sum_of key) h) c.h_in-h.ensures ∙ key_joins key) in
-    let here = subst (λ k. is_open_at weight (row_in entries c.args.state) k ≡ true) (sym joins) live in
-    let top = subst (λ was. (top_of c.push-in-None.new.self ≡ was) ⊎ (top_of c.push-in-None.new.self ≡ Some entry)) c.new-bucket.ensures.top (c.in_ok-push-in-None.ensures.top c.new-bucket.ensures.ordered) in
+    let here = subst (λ k. is_open_at weight (row_in entries c.args.state.now) k ≡ true) (sym joins) live in
+    let top = subst (λ was. (top_of c.push-in-None.new.self ≡ was) ⊎ (top_of c.push-in-None.new.self ≡ Some entry)) c.new-bucket.ensures.top c.in_ok-push-in-None.ensures.top in
     subst (λ list. is_tidy weight entries list ≡ true) (sym c.in_ok-insert-in-None.ensures.entries)
     (tidy_new weight entries c.sum_in-sum.result c.get_mut.follows.lender-at-none.entries c.push-in-None.new.self
-    (led_alone weight entries c.sum_in-sum.result c.push-in-None.new.self entry here top c.in_ok-push-in-None.ensures.member)
+    (led_alone weight entries c.sum_in-sum.result c.push-in-None.new.self entry here top c.in_ok-push-in-None.ensures.member c.in_ok-push-in-None.ensures.first)
     (subst (λ (buckets : Buckets). is_tidy weight entries buckets.entries ≡ true) (sym c.get_mut.follows.holds-at-none) tidy))
+
+pub returns-in_ok-push-in-Some-clause-kept : goal.returns-in_ok-push-in-Some-clause-kept
+returns-in_ok-push-in-Some-clause-kept c =
+    set_keeps c.args.buckets.now (c.get_mut.follows.lender c.push.new.self) c.sum_in-sum.result c.push.new.self
+    (((c.get_mut.follows.holds c.push.new.self).3 (ap is_some (sym c.in-Some.ensures.value))).0)
+    (λ entry had. c.push.ensures.kept entry (ap (λ found. has_in found entry) c.in-Some.ensures.value ∙ had))
+
+pub returns-in_err-push-in-Some-clause-kept : goal.returns-in_err-push-in-Some-clause-kept
+returns-in_err-push-in-Some-clause-kept c =
+    set_keeps c.args.buckets.now (c.get_mut.follows.lender c.push.new.self) c.sum_in-sum.result c.push.new.self
+    (((c.get_mut.follows.holds c.push.new.self).3 (ap is_some (sym c.in-Some.ensures.value))).0)
+    (λ entry had. c.push.ensures.kept entry (ap (λ found. has_in found entry) c.in-Some.ensures.value ∙ had))

@@ -1,11 +1,10 @@
 use Rattle.std.specs.BTreeMap.{btree_map_len}
 use Rattle.pb_lists.specs.Fields.{weight_of}
-use Rattle.pb_lists.specs.Buckets.{HasHeaps, HasFiled}
+use Rattle.pb_lists.specs.Buckets.{HasFiled}
 use Rattle.pb_lists.proofs.buckets.tidy.Given as goal
 
 abbrev pub invariant-loop-sum : goal.invariant-loop-sum
 invariant-loop-sum l = record {
-  heaps : HasHeaps l.buckets;
   filed : HasFiled (weight_of l.num l.den) l.rows.entries l.initial.buckets → HasFiled (weight_of l.num l.den) l.rows.entries l.buckets;
 }
 

@@ -1,9 +1,8 @@
-use Rattle.std.proofs.Common.{refl, ap, ◌∙◌, length, map}
-use Rattle.pb_pattern.specs.Graphs.{rule_of}
+use Rattle.std.proofs.Common.{refl, length}
 use Rattle.pb_pattern.proofs.Imaged.{parts_are}
 use Rattle.pb_pattern.proofs.images.sets_of.Goals as goal
 
 pub returns : goal.returns
 returns c =
     parts_are c.args.strips.now c.args.tracked.now (record { atoms = length c.args.tracked.now; rules = c.in_ok-rules.rules; start = c.image_of_set.result; goal = c.image_of_set-2.result }) refl
-    (c.in_ok-rules.ensures ∙ ap (map (rule_of c.args.tracked.now)) c.as_slice.ensures) c.image_of_set.ensures.image c.image_of_set-2.ensures.image
+    c.in_ok-rules.ensures c.image_of_set.ensures.image c.image_of_set-2.ensures.image

@@ -30,5 +30,7 @@ returns c =
       choice_is = c.in_ok-graph.ensures.choice ∙ c.choice_of-choice.ensures;
       settings_are = c.in_ok-graph.ensures.settings;
       counts = c.in_ok-graph.ensures.counts;
-      opening = record { empty = c.in_ok-graph.ensures.journal; moment = c.in_ok-graph.ensures.moment };
+      past = c.in_ok-graph.ensures.past;
+      begin = c.in_ok-graph.ensures.begin;
+      opening = c.in_ok-graph.ensures.opening;
     }

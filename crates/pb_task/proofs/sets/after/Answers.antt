@@ -1,17 +1,17 @@
-use Rattle.std.proofs.Common.{ℕ, sym, subst, arith}
-use Rattle.pb_task.specs.Strips.{holds_after}
-use Rattle.pb_task.proofs.AtomSets.{IsFilled, nothing, next_is}
+use Rattle.std.proofs.Common.{◌≡◌, ◌<◌, ◌*◌, ◌^◌, ◌||◌, ℕ, length, ap, sym, subst, ◌∙◌, arith}
+use Rattle.pb_packed.specs.Sizes.{state_bits}
+use Rattle.pb_packed.specs.Words.{number_of}
+use Rattle.pb_task.specs.Strips.{has_atom}
+use Rattle.pb_task.proofs.FlatWords.{below}
 use Rattle.pb_task.proofs.sets.after.Goals as goal
 
-pub returns : goal.returns
-returns c =
-    let accepts = holds_after c.args.action.now c.args.state.now in
-    let none : IsFilled accepts c.zero.result 0 = subst (λ (set : ℕ). IsFilled accepts set 0) (sym c.zero.ensures) (nothing accepts) in
-    let one : IsFilled accepts c.with_bits.result 64 = next_is accepts c.zero.result 0 c.word_after-first.result c.with_bits.result c.with_bits.ensures none (omega arith) c.word_after-first.ensures in
-    let two : IsFilled accepts c.with_bits-2.result 128 =
-    next_is accepts c.with_bits.result 64 c.word_after-second.result c.with_bits-2.result c.with_bits-2.ensures one (omega arith) c.word_after-second.ensures in
-    let three : IsFilled accepts c.with_bits-3.result 192 =
-    next_is accepts c.with_bits-2.result 128 c.word_after-third.result c.with_bits-3.result c.with_bits-3.ensures two (omega arith) c.word_after-third.ensures in
-    let four : IsFilled accepts c.with_bits-4.result 256 =
-    next_is accepts c.with_bits-3.result 192 c.word_after-fourth.result c.with_bits-4.result c.with_bits-4.ensures three (omega arith) c.word_after-fourth.ensures in
-    record { atoms = four.atoms; bits = four.small }
+pub returns-clause-atoms : goal.returns-clause-atoms
+returns-clause-atoms c = λ atom.
+    ap (λ (n : ℕ). has_atom n atom) c.of_slice.ensures ∙ c.put_in.ensures.atoms atom
+    ∙ ap (λ t. has_atom (number_of c.args.adds.now) atom || t) (c.take_out.ensures.atoms atom)
+
+pub returns-clause-bits : goal.returns-clause-bits
+returns-clause-bits c =
+    let long : length c.take_out.new.words ≡ 16 = omega arith in
+    subst (λ (n : ℕ). n < 2 ^ state_bits) (sym c.of_slice.ensures)
+    (subst (λ k. number_of c.put_in.new.words < 2 ^ (64 * k)) long (below (length c.take_out.new.words) c.put_in.new.words c.put_in.ensures.words))

@@ -5,7 +5,7 @@ use Rattle.pb_yard.specs.Passes.{view_of}
 use Rattle.pb_yard.specs.Calls.{IsReady}
 use Rattle.pb_yard.proofs.Callers.{released_ready}
 use Rattle.pb_workers.specs.declared.yard_watch.YardWatch.{YardWatch}
-use Rattle.pb_workers.proofs.Callers.{at_work, watched, brought, work_active}
+use Rattle.pb_workers.proofs.Callers.{at_work, of_search, watched, brought, work_active}
 use Rattle.pb_test_search.proofs.watched.work_beside.Goals as goal
 use Rattle.pb_test_search.proofs.watched.work_beside.Goals.{in-Spent, in-Empty, in-Memory}
 
@@ -18,6 +18,11 @@ pub work_watched-worked-requires-clause-watched : goal.work_watched-worked-requi
 work_watched-worked-requires-clause-watched g c =
     let w = c.args.watch.now in let t = c.args.task.now in let a = c.args.graph.now in let l = c.requires.leased in
     watched t a (view_of w.pass) w.pass.is_live c.args.lease l
+
+pub work_watched-worked-requires-clause-search : goal.work_watched-worked-requires-clause-search
+work_watched-worked-requires-clause-search g c =
+    let w = c.args.watch.now in let t = c.args.task.now in let a = c.args.graph.now in let l = c.requires.leased in
+    of_search t a (view_of w.pass) w.pass.is_live c.args.lease l
 
 pub returns-clause-tools : goal.returns-clause-tools
 returns-clause-tools g c =

@@ -5,7 +5,7 @@ use Rattle.pb_yard.specs.Passes.{view_of}
 use Rattle.pb_yard.specs.Replies.{ReleasesAs, release_events}
 use Rattle.pb_estimate.specs.Tables.{IsOfTask}
 use Rattle.pb_workers.specs.Shared.{IsSameHolder, IsLeased, IsIdle}
-use Rattle.pb_workers.proofs.Sharing.{choice_is, at_work, watched, work_holder, work_active, work_task, work_graph, lease_of, brought, holder_then, reader_holds, released_then}
+use Rattle.pb_workers.proofs.Sharing.{choice_is, at_work, of_search, watched, work_holder, work_active, work_task, work_graph, lease_of, brought, holder_then, reader_holds, released_then}
 use Rattle.pb_workers.proofs.yard_turns.yard_turn.Goals as goal
 
 pub work_watched-worked-requires-clause-at_work : goal.work_watched-worked-requires-clause-at_work
@@ -18,10 +18,10 @@ work_watched-worked-requires-clause-watched g c =
     let w = c.args.watch.now in let t = c.args.worker.now.task.now in let a = c.args.worker.now.abstraction.now in
     watched t a (view_of w.pass) w.pass.is_live c.args.lease c.requires.leased
 
-pub work_watched-worked-requires-clause-choice_is : goal.work_watched-worked-requires-clause-choice_is
-work_watched-worked-requires-clause-choice_is g c =
+pub work_watched-worked-requires-clause-search : goal.work_watched-worked-requires-clause-search
+work_watched-worked-requires-clause-search g c =
     let w = c.args.watch.now in let t = c.args.worker.now.task.now in let a = c.args.worker.now.abstraction.now in
-    choice_is t a (view_of w.pass) w.pass.is_live c.args.lease c.requires.leased
+    of_search t a (view_of w.pass) w.pass.is_live c.args.lease c.requires.leased
 
 pub work_watched-worked-requires-clause-tools : goal.work_watched-worked-requires-clause-tools
 work_watched-worked-requires-clause-tools g c =

@@ -1,23 +1,23 @@
-use Rattle.std.proofs.Common.{ap, sym, arith, ◌∙◌}
-use Rattle.std.proofs.lemmas.Bool.{eqb-true}
+use Rattle.std.proofs.Common.{◌≡◌, ◌<◌, ◌≤◌, ◌*◌, ◌^◌, ℕ, List, length, get_or, All, ap, sym, subst, arith, ◌∙◌}
+use Rattle.std.proofs.lemmas.List.Elements.{All-get_or}
+use Rattle.pb_packed.specs.Sizes.{version_1_digits}
 use Rattle.pb_check.specs.Judging.{g_of}
-use Rattle.pb_check.proofs.Arrays.{found_by_search, absent_by_search, found_here}
+use Rattle.pb_check.specs.Rows.{IsSmall, AreSmall}
+use Rattle.pb_check.proofs.Arrays.{absent}
 use Rattle.pb_check.proofs.rows.StatedRows.g_of.Goals as goal
 
-pub returns-in-Ok : goal.returns-in-Ok
-returns-in-Ok c =
-    found_by_search c.self.inside.states.items c.self.inside.costs.items c.self.inside.closed.items c.as_slice-states.result.now c.args.state.now c.in-Ok.i c.index-in-Ok.result.now c.as_slice-states.ensures.value c.self.invariant.0 c.self.invariant.1
-    (rw c.self.view_is c.requires) c.in-Ok.ensures.position c.index-in-Ok.ensures
+-- a state of more words is the state of no row
+too_wide : (states : List ℕ) (state : ℕ) → AreSmall states → 2 ^ 256 ≤ state → (k : ℕ) → k < length states → get_or states k 0 ≡ state → ⊥
+too_wide states state are wide k within same =
+    let small : get_or states k 0 < 2 ^ (4 * version_1_digits) = All-get_or IsSmall states k 0 within are in
+    let below : state < 2 ^ (4 * version_1_digits) = subst (λ (s : ℕ). s < 2 ^ (4 * version_1_digits)) same small in
+    omega (arith, below, wide)
+
+pub returns-in-None : goal.returns-in-None
+returns-in-None c =
+    absent c.self.inside.states.items c.self.inside.costs.items c.self.inside.closed.items c.args.state.now c.self.invariant.0 c.self.invariant.1
+    (too_wide c.self.inside.states.items c.args.state.now c.self.invariant.2 c.in-None.ensures.none)
     ∙ ap (λ rows. g_of rows c.args.state.now) c.self.view_is
 
-pub returns-in-Err : goal.returns-in-Err
-returns-in-Err c =
-    absent_by_search c.self.inside.states.items c.self.inside.costs.items c.self.inside.closed.items c.as_slice-states.result.now c.args.state.now c.in-Err.field-0 c.as_slice-states.ensures.value c.self.invariant.0 c.self.invariant.1
-    (rw c.self.view_is c.requires) c.in-Err.ensures.position
-    ∙ ap (λ rows. g_of rows c.args.state.now) c.self.view_is
-
-pub returns-then-eq : goal.returns-then-eq
-returns-then-eq c =
-    found_here c.self.inside.states.items c.self.inside.costs.items c.self.inside.closed.items c.as_slice-states.result.now c.args.state.now c.args.near.now c.index.result.now c.index-states-here.result c.as_slice-states.ensures.value
-    c.self.invariant.0 c.self.invariant.1 (rw c.self.view_is c.requires) (omega (arith, c.if-here-states.true)) c.index-states-here.is (eqb-true _ _ (sym c.eq.ensures ∙ c.if-eq.true)) c.index.ensures
-    ∙ ap (λ rows. g_of rows c.args.state.now) c.self.view_is
+pub returns-in-Some : goal.returns-in-Some
+returns-in-Some c = c.g_of_words.ensures ∙ ap (g_of c.args.self.now) c.in-Some.ensures.some

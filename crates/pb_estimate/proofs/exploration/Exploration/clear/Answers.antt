@@ -1,4 +1,5 @@
 use Rattle.std.proofs.Common.{◌≡◌, ◌≤◌, ℕ, length, subst, sym, arith, rules, ◌∙◌, vec_len}
+use Rattle.pb_packed.specs.Sizes.{most_atoms}
 use Rattle.pb_estimate.specs.declared.exploration.AtomCost.TheVariants.{Unreached}
 use Rattle.pb_estimate.specs.Exploring.{known_in}
 use Rattle.pb_estimate.proofs.Lowered.{all_unreached, none_reached, not_reached}
@@ -9,7 +10,7 @@ returns-clause-is c =
     let none : (atom : ℕ) → known_in c.fill.new.self.items atom ≡ Unreached = all_unreached c.fill.new.self.items (vec_len c.args.self.now.costs) (c.fill.ensures.items (λ y e. e)) in
     let long : length c.fill.new.self.items ≡ length c.args.self.now.costs.items = search rules in
     record {
-      few = subst (λ n. n ≤ 256) (sym long) c.requires.is.few;
+      few = subst (λ n. n ≤ most_atoms) (sym long) c.requires.is.few;
       places = c.requires.is.places ∙ sym long;
       reached = none_reached c.fill.new.self.items none;
       inside = λ k less. absurd (omega (arith, less));

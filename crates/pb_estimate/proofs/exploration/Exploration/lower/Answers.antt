@@ -1,5 +1,6 @@
 use Rattle.std.proofs.Common.{◌≡◌, ◌<◌, ◌≤◌, length, refl, arith, subst, sym, ap, ◌∙◌}
 use Rattle.std.proofs.lemmas.List.{get_or_read}
+use Rattle.pb_packed.specs.Sizes.{most_atoms}
 use Rattle.pb_estimate.specs.declared.exploration.AtomCost.TheVariants.{Unreached, Open, Final}
 use Rattle.pb_estimate.specs.Hmax.{IsAtMost}
 use Rattle.pb_estimate.specs.Exploring.{known_in, known_cost, final_cost}
@@ -16,14 +17,14 @@ pub overflow_add-self : goal.overflow_add-self
 overflow_add-self c =
     let un : known_in c.args.self.now.costs.items c.args.atom ≡ Unreached = sym (get_or_read c.args.self.now.costs.items c.args.atom c.index.result.now c.requires.inside c.index.ensures Unreached) ∙ c.in-Unreached.is in
     let small : c.args.self.now.reached < length c.args.self.now.costs.items = room c.args.self.now.costs.items c.args.atom (Open c.args.cost) c.requires.inside c.args.self.now.reached un refl c.requires.is.reached in
-    let few : length c.args.self.now.costs.items ≤ 256 = c.requires.is.few in
+    let few : length c.args.self.now.costs.items ≤ most_atoms = c.requires.is.few in
     omega arith
 
 pub returns-in-Unreached-clause-is : goal.returns-in-Unreached-clause-is
 returns-in-Unreached-clause-is c =
     let un : known_in c.args.self.now.costs.items c.args.atom ≡ Unreached = sym (get_or_read c.args.self.now.costs.items c.args.atom c.index.result.now c.requires.inside c.index.ensures Unreached) ∙ c.in-Unreached.is in
     let q = pushed c.args.self.now.costs.items c.args.self.now.queue.items c.args.self.now.first c.args.self.now.reached c.args.atom c.args.cost c.requires.inside c.requires.is.places c.requires.is.reached c.requires.is.inside c.requires.is.all c.requires.is.first c.requires.is.passed un in
-    record { few = subst (λ n. n ≤ 256) (sym (same_length c.args.self.now.costs.items c.args.atom (Open c.args.cost))) c.requires.is.few; places = q.0; reached = q.1; inside = q.2; all = q.3; first = q.4; passed = q.5 }
+    record { few = subst (λ n. n ≤ most_atoms) (sym (same_length c.args.self.now.costs.items c.args.atom (Open c.args.cost))) c.requires.is.few; places = q.0; reached = q.1; inside = q.2; all = q.3; first = q.4; passed = q.5 }
 
 pub returns-in-Final-clause-lowered : goal.returns-in-Final-clause-lowered
 returns-in-Final-clause-lowered c =

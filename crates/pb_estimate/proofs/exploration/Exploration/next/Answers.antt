@@ -1,4 +1,5 @@
 use Rattle.std.proofs.Common.{◌≡◌, ◌<◌, ◌≤◌, ℕ, length, List, All, IfNone, refl, is_some, subst, sym, ap, inr}
+use Rattle.pb_packed.specs.Sizes.{most_atoms}
 use Rattle.pb_estimate.specs.declared.exploration.AtomCost.{AtomCost}
 use Rattle.pb_estimate.specs.declared.exploration.AtomCost.TheVariants.{Open, Final}
 use Rattle.pb_estimate.specs.Exploring.{known_cost, known_in}
@@ -33,7 +34,7 @@ returns-clause-is c =
     c.requires.is.reached c.requires.is.inside c.requires.is.all c.first_open-self.ensures.reached c.first_open-self.ensures.passed (Final c.in_ok-atom.cost)
     (ap (λ known. is_some (known_cost known)) is) refl (inr refl) in
     record {
-      few = subst (λ n. n ≤ 256) (sym (same_length c.args.self.now.costs.items c.in_ok-atom.atom (Final c.in_ok-atom.cost))) c.requires.is.few;
+      few = subst (λ n. n ≤ most_atoms) (sym (same_length c.args.self.now.costs.items c.in_ok-atom.atom (Final c.in_ok-atom.cost))) c.requires.is.few;
       places = q.0;
       reached = q.1;
       inside = q.2;

@@ -1,4 +1,5 @@
 use Rattle.std.proofs.Common.{◌≡◌, ◌≤◌, ℕ, length, subst, sym, arith, rules, ◌∙◌}
+use Rattle.pb_packed.specs.Sizes.{most_atoms}
 use Rattle.pb_estimate.specs.declared.exploration.AtomCost.TheVariants.{Unreached}
 use Rattle.pb_estimate.specs.Exploring.{known_in}
 use Rattle.pb_estimate.proofs.Lowered.{all_unreached, none_reached, not_reached}
@@ -10,7 +11,7 @@ returns-clause-is c =
     let long : length c.in_ok-vec.field-0.items ≡ c.args.count = search rules in
     let places : length c.in_ok-vec-2.field-0.items ≡ c.args.count = search rules in
     record {
-      few = subst (λ n. n ≤ 256) (sym long) c.requires;
+      few = subst (λ n. n ≤ most_atoms) (sym long) c.requires;
       places = places ∙ sym long;
       reached = none_reached c.in_ok-vec.field-0.items none;
       inside = λ k less. absurd (omega (arith, less));

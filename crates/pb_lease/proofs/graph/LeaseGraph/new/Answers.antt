@@ -4,7 +4,7 @@ use Rattle.pb_task.specs.declared.parts.TaskParts.{TaskParts}
 use Rattle.pb_task.specs.Parts.{space_of, IsTask}
 use Rattle.pb_task.proofs.Callers.{tasks_are_proper}
 use Rattle.pb_abstract.specs.Graph.{AbstractGraph, blocks_of, home_of}
-use Rattle.pb_lease.proofs.GraphOpening.{IsOpening, opening_of, opening_rows, opening_kept, opening_moment}
+use Rattle.pb_lease.proofs.GraphOpening.{IsOpening, opening_of, opening_rows, opening_kept, opening_moment, opening_begins}
 use Rattle.pb_bundles.specs.Homes.{AreNoted}
 use Rattle.pb_lease.proofs.graph.LeaseGraph.new.Goals as goal
 
@@ -22,7 +22,7 @@ invariant_of-result c =
     let graph : AbstractGraph = arc_value c.args.graph in
     let is_task : IsTask task = subst IsTask c.deref.ensures c.initial-start.ensures.lawful in
     let start : c.initial-start.result ≡ (space_of task).start = c.initial-start.ensures.start ∙ ap (λ (p : TaskParts). (space_of p).start) c.deref.ensures in
-    let o : IsOpening task c.args.choice c.in_ok-tables.tables c.offer_start.new.self = opening_of task is_task c.args.choice c.requires.suits graph c.requires.graph c.args.settings c.requires.settings c.in_ok-tables.tables c.in_ok-tables.ensures.graph c.in_ok-tables.ensures.settings c.in_ok-tables.ensures.counts c.in_ok-tables.ensures.journal
+    let o : IsOpening task c.args.choice c.in_ok-tables.tables c.offer_start.new.self = opening_of task is_task c.args.choice c.requires.suits graph c.requires.graph c.args.settings c.requires.settings c.in_ok-tables.tables c.in_ok-tables.ensures.graph c.in_ok-tables.ensures.settings c.in_ok-tables.ensures.past c.in_ok-tables.ensures.counts c.in_ok-tables.ensures.journal
     c.initial-start.result start c.block-block.result (c.block-block.ensures.block ∙ ap (λ (p : TaskParts). home_of p c.deref-2.result.now c.initial-start.result) c.deref-3.ensures ∙ ap (λ (g : AbstractGraph). home_of task g c.initial-start.result) c.deref-2.ensures)
     (subst (λ (g : AbstractGraph). c.block-block.result < (blocks_of g).count) c.deref-2.ensures c.block-block.ensures.below) c.count.result (c.count.ensures.count ∙ ap (λ (g : AbstractGraph). (blocks_of g).count) c.deref-4.ensures)
     c.args.estimate c.requires.estimate c.in_ok-homes.homes c.offer_start.new.self c.in_ok-homes.ensures c.in_ok-offer_start.ensures.put c.in_ok-offer_start.ensures.noted (subst AreNoted c.homes.view_is c.homes.invariant.noted) in
@@ -34,7 +34,7 @@ returns-clause-rows c =
     let graph : AbstractGraph = arc_value c.args.graph in
     let is_task : IsTask task = subst IsTask c.deref.ensures c.initial-start.ensures.lawful in
     let start : c.initial-start.result ≡ (space_of task).start = c.initial-start.ensures.start ∙ ap (λ (p : TaskParts). (space_of p).start) c.deref.ensures in
-    let o : IsOpening task c.args.choice c.in_ok-tables.tables c.offer_start.new.self = opening_of task is_task c.args.choice c.requires.suits graph c.requires.graph c.args.settings c.requires.settings c.in_ok-tables.tables c.in_ok-tables.ensures.graph c.in_ok-tables.ensures.settings c.in_ok-tables.ensures.counts c.in_ok-tables.ensures.journal
+    let o : IsOpening task c.args.choice c.in_ok-tables.tables c.offer_start.new.self = opening_of task is_task c.args.choice c.requires.suits graph c.requires.graph c.args.settings c.requires.settings c.in_ok-tables.tables c.in_ok-tables.ensures.graph c.in_ok-tables.ensures.settings c.in_ok-tables.ensures.past c.in_ok-tables.ensures.counts c.in_ok-tables.ensures.journal
     c.initial-start.result start c.block-block.result (c.block-block.ensures.block ∙ ap (λ (p : TaskParts). home_of p c.deref-2.result.now c.initial-start.result) c.deref-3.ensures ∙ ap (λ (g : AbstractGraph). home_of task g c.initial-start.result) c.deref-2.ensures)
     (subst (λ (g : AbstractGraph). c.block-block.result < (blocks_of g).count) c.deref-2.ensures c.block-block.ensures.below) c.count.result (c.count.ensures.count ∙ ap (λ (g : AbstractGraph). (blocks_of g).count) c.deref-4.ensures)
     c.args.estimate c.requires.estimate c.in_ok-homes.homes c.offer_start.new.self c.in_ok-homes.ensures c.in_ok-offer_start.ensures.put c.in_ok-offer_start.ensures.noted (subst AreNoted c.homes.view_is c.homes.invariant.noted) in
@@ -46,8 +46,32 @@ returns-clause-moment c =
     let graph : AbstractGraph = arc_value c.args.graph in
     let is_task : IsTask task = subst IsTask c.deref.ensures c.initial-start.ensures.lawful in
     let start : c.initial-start.result ≡ (space_of task).start = c.initial-start.ensures.start ∙ ap (λ (p : TaskParts). (space_of p).start) c.deref.ensures in
-    let o : IsOpening task c.args.choice c.in_ok-tables.tables c.offer_start.new.self = opening_of task is_task c.args.choice c.requires.suits graph c.requires.graph c.args.settings c.requires.settings c.in_ok-tables.tables c.in_ok-tables.ensures.graph c.in_ok-tables.ensures.settings c.in_ok-tables.ensures.counts c.in_ok-tables.ensures.journal
+    let o : IsOpening task c.args.choice c.in_ok-tables.tables c.offer_start.new.self = opening_of task is_task c.args.choice c.requires.suits graph c.requires.graph c.args.settings c.requires.settings c.in_ok-tables.tables c.in_ok-tables.ensures.graph c.in_ok-tables.ensures.settings c.in_ok-tables.ensures.past c.in_ok-tables.ensures.counts c.in_ok-tables.ensures.journal
     c.initial-start.result start c.block-block.result (c.block-block.ensures.block ∙ ap (λ (p : TaskParts). home_of p c.deref-2.result.now c.initial-start.result) c.deref-3.ensures ∙ ap (λ (g : AbstractGraph). home_of task g c.initial-start.result) c.deref-2.ensures)
     (subst (λ (g : AbstractGraph). c.block-block.result < (blocks_of g).count) c.deref-2.ensures c.block-block.ensures.below) c.count.result (c.count.ensures.count ∙ ap (λ (g : AbstractGraph). (blocks_of g).count) c.deref-4.ensures)
     c.args.estimate c.requires.estimate c.in_ok-homes.homes c.offer_start.new.self c.in_ok-homes.ensures c.in_ok-offer_start.ensures.put c.in_ok-offer_start.ensures.noted (subst AreNoted c.homes.view_is c.homes.invariant.noted) in
     opening_moment task c.args.choice c.in_ok-tables.tables c.offer_start.new.self o
+
+pub returns-clause-begin : goal.returns-clause-begin
+returns-clause-begin c =
+    let task : TaskParts = arc_value c.args.task in
+    let graph : AbstractGraph = arc_value c.args.graph in
+    let is_task : IsTask task = subst IsTask c.deref.ensures c.initial-start.ensures.lawful in
+    let start : c.initial-start.result ≡ (space_of task).start = c.initial-start.ensures.start ∙ ap (λ (p : TaskParts). (space_of p).start) c.deref.ensures in
+    let o : IsOpening task c.args.choice c.in_ok-tables.tables c.offer_start.new.self = opening_of task is_task c.args.choice c.requires.suits graph c.requires.graph c.args.settings c.requires.settings c.in_ok-tables.tables c.in_ok-tables.ensures.graph c.in_ok-tables.ensures.settings c.in_ok-tables.ensures.past c.in_ok-tables.ensures.counts c.in_ok-tables.ensures.journal
+    c.initial-start.result start c.block-block.result (c.block-block.ensures.block ∙ ap (λ (p : TaskParts). home_of p c.deref-2.result.now c.initial-start.result) c.deref-3.ensures ∙ ap (λ (g : AbstractGraph). home_of task g c.initial-start.result) c.deref-2.ensures)
+    (subst (λ (g : AbstractGraph). c.block-block.result < (blocks_of g).count) c.deref-2.ensures c.block-block.ensures.below) c.count.result (c.count.ensures.count ∙ ap (λ (g : AbstractGraph). (blocks_of g).count) c.deref-4.ensures)
+    c.args.estimate c.requires.estimate c.in_ok-homes.homes c.offer_start.new.self c.in_ok-homes.ensures c.in_ok-offer_start.ensures.put c.in_ok-offer_start.ensures.noted (subst AreNoted c.homes.view_is c.homes.invariant.noted) in
+    (opening_begins task c.args.choice c.in_ok-tables.tables c.offer_start.new.self o).1
+
+pub returns-clause-opening : goal.returns-clause-opening
+returns-clause-opening c =
+    let task : TaskParts = arc_value c.args.task in
+    let graph : AbstractGraph = arc_value c.args.graph in
+    let is_task : IsTask task = subst IsTask c.deref.ensures c.initial-start.ensures.lawful in
+    let start : c.initial-start.result ≡ (space_of task).start = c.initial-start.ensures.start ∙ ap (λ (p : TaskParts). (space_of p).start) c.deref.ensures in
+    let o : IsOpening task c.args.choice c.in_ok-tables.tables c.offer_start.new.self = opening_of task is_task c.args.choice c.requires.suits graph c.requires.graph c.args.settings c.requires.settings c.in_ok-tables.tables c.in_ok-tables.ensures.graph c.in_ok-tables.ensures.settings c.in_ok-tables.ensures.past c.in_ok-tables.ensures.counts c.in_ok-tables.ensures.journal
+    c.initial-start.result start c.block-block.result (c.block-block.ensures.block ∙ ap (λ (p : TaskParts). home_of p c.deref-2.result.now c.initial-start.result) c.deref-3.ensures ∙ ap (λ (g : AbstractGraph). home_of task g c.initial-start.result) c.deref-2.ensures)
+    (subst (λ (g : AbstractGraph). c.block-block.result < (blocks_of g).count) c.deref-2.ensures c.block-block.ensures.below) c.count.result (c.count.ensures.count ∙ ap (λ (g : AbstractGraph). (blocks_of g).count) c.deref-4.ensures)
+    c.args.estimate c.requires.estimate c.in_ok-homes.homes c.offer_start.new.self c.in_ok-homes.ensures c.in_ok-offer_start.ensures.put c.in_ok-offer_start.ensures.noted (subst AreNoted c.homes.view_is c.homes.invariant.noted) in
+    sym (opening_begins task c.args.choice c.in_ok-tables.tables c.offer_start.new.self o).0

@@ -47,7 +47,7 @@ returns-clause-events c marked =
     let each : (other : ℕ) → get_or c.cool.new.self.hot.items other false ≡ (get_or t.hot other false && not (other == block)) =
     λ other. ap (λ (hot : List Bool). get_or hot other false) c.cool.ensures.hot ∙ colder_is t.hot block (omega (arith, known, c.self.invariant.marks.hot_places)) other in
     let counts = marked_counts t c.self.inside.busy.items c.self.inside.marks.near.items c.self.inside.promised _ c.self.invariant worker was is out.0 out.1 c.push_reserved.new.self.items there c.cool.new.self.hot.items (λ other. get_or t.hot other false && not (other == block)) each in
-    adds_as t c.args.self.now _ (λ v. Cold worker block ∷ []) c.self.view_is (record { counts = counts; journal = c.push_reserved.ensures.items; graph = refl; settings = refl })
+    adds_as t c.args.self.now _ (λ v. Cold worker block ∷ []) c.self.view_is (record { counts = counts; journal = c.push_reserved.ensures.items; graph = refl; settings = refl; past = refl })
 
 pub returns-clause-room : goal.returns-clause-room
 returns-clause-room c marked =

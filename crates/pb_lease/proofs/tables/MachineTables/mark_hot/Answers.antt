@@ -55,7 +55,7 @@ returns-clause-events c marked =
     let each : (other : ℕ) → get_or c.mark.new.self.hot.items other false ≡ ((other == block) || (get_or t.hot other false && not (interferes (blocks t) block other))) =
     λ other. ap (λ (hot : List Bool). get_or hot other false) c.mark.ensures.hot ∙ hotter_is t.hot cooled block (interferes (blocks t) block) places apart other in
     let counts = marked_counts t c.self.inside.busy.items c.self.inside.marks.near.items c.self.inside.promised _ c.self.invariant worker was is out.0 out.1 c.push_reserved.new.self.items there c.mark.new.self.hot.items (λ other. (other == block) || (get_or t.hot other false && not (interferes (blocks t) block other))) each in
-    adds_as t c.args.self.now _ (λ v. Hot worker block ∷ []) c.self.view_is (record { counts = counts; journal = c.push_reserved.ensures.items; graph = refl; settings = refl })
+    adds_as t c.args.self.now _ (λ v. Hot worker block ∷ []) c.self.view_is (record { counts = counts; journal = c.push_reserved.ensures.items; graph = refl; settings = refl; past = refl })
 
 pub returns-clause-room : goal.returns-clause-room
 returns-clause-room c marked =

@@ -1,14 +1,32 @@
-use Rattle.std.proofs.Common.{◌||◌, ◌∙◌, ap}
-use Rattle.std.specs.BinaryHeap.{heap_items}
-use Rattle.pb_lists.specs.Buckets.{is_same, has_entry}
-use Rattle.pb_lists.proofs.Parts.{words_more, wide_more}
+use Rattle.std.proofs.Common.{◌∙◌, ◌||◌, ap}
+use Rattle.pb_lists.specs.Heaped.{is_same, is_among, first_of, top_of_two}
+use Rattle.pb_lists.specs.Buckets.{has_boxed, top_of_boxed}
+use Rattle.pb_lists.proofs.Parts.{ok_then, err_then, first_more, second_more}
 use Rattle.pb_lists.proofs.bucket.Bucket.add.Goals as goal
 
-pub returns-in_ok-push-in-Some-clause-added : goal.returns-in_ok-push-in-Some-clause-added
-returns-in_ok-push-in-Some-clause-added c = λ other.
-    words_more _ (heap_items c.args.self.now.words) (heap_items c.push.new.self) (heap_items c.args.self.now.wide) c.in_ok-push-in-Some.ensures.permutation other
-    ∙ ap (λ n. is_same other (c.args.h, n) || has_entry c.args.self.now other) c.in-Some.ensures.some
+pub returns-in-Some-clause-added : goal.returns-in-Some-clause-added
+returns-in-Some-clause-added c =
+    let words = c.args.self.now.words.items in
+    let wide = c.args.self.now.wide in
+    ok_then c.push.result (λ added other.
+    first_more (is_among other c.push.new.self.items) (is_same other (c.args.h, c.args.state.now)) (is_among other words) (has_boxed wide other)
+    (added other ∙ ap (λ n. is_same other (c.args.h, n) || is_among other words) c.in-Some.ensures.some)) c.push.ensures.added
 
-pub returns-in_ok-push-in-None-clause-added : goal.returns-in_ok-push-in-None-clause-added
-returns-in_ok-push-in-None-clause-added c = λ other.
-    wide_more _ (heap_items c.args.self.now.words) (heap_items c.args.self.now.wide) (heap_items c.push-in-None.new.self) c.in_ok-push-in-None.ensures.permutation other
+pub returns-in-None-clause-added : goal.returns-in-None-clause-added
+returns-in-None-clause-added c =
+    let words = c.args.self.now.words.items in
+    let wide = c.args.self.now.wide in
+    ok_then c.add_wide.result (λ added other.
+    second_more (has_boxed c.add_wide.new.wide other) (is_same other (c.args.h, c.args.state.now)) (is_among other words) (has_boxed wide other) (added other)) c.add_wide.ensures.added
+
+pub returns-in-Some-clause-err : goal.returns-in-Some-clause-err
+returns-in-Some-clause-err c = err_then c.push.result (λ same other. ap (λ items. is_among other items || has_boxed c.args.self.now.wide other) same) c.push.ensures.err
+
+pub returns-in-None-clause-err : goal.returns-in-None-clause-err
+returns-in-None-clause-err c = err_then c.add_wide.result (λ same other. ap (λ b. is_among other c.args.self.now.words.items || b) (same other)) c.add_wide.ensures.err
+
+pub returns-in-Some-clause-top : goal.returns-in-Some-clause-top
+returns-in-Some-clause-top c = err_then c.push.result (λ same. ap (λ items. top_of_two (first_of items) (top_of_boxed c.args.self.now.wide)) same) c.push.ensures.err
+
+pub returns-in-None-clause-top : goal.returns-in-None-clause-top
+returns-in-None-clause-top c = err_then c.add_wide.result (λ same. ap (λ top. top_of_two (first_of c.args.self.now.words.items) top) same) c.add_wide.ensures.top

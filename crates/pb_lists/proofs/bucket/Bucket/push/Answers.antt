@@ -1,13 +1,18 @@
-use Rattle.std.proofs.Common.{◌≡◌, ◌⊎◌, sym, subst, Some}
-use Rattle.pb_lists.specs.Buckets.{top_of}
-use Rattle.pb_lists.proofs.Parts.{pushed_top}
+use Rattle.std.proofs.Common.{◌∙◌}
+use Rattle.pb_lists.specs.Buckets.{has_entry, top_of}
+use Rattle.pb_lists.proofs.Parts.{pushed_member, pushed_keeps, pushed_top}
 use Rattle.pb_lists.proofs.bucket.Bucket.push.Goals as goal
 
+pub returns-clause-member : goal.returns-clause-member
+returns-clause-member c = pushed_member (c.args.h, c.args.state.now) (has_entry c.args.self.now) (has_entry c.add.new.self) c.in_ok-add.ensures.added
+
+pub returns-clause-kept : goal.returns-clause-kept
+returns-clause-kept c = pushed_keeps (c.args.h, c.args.state.now) (has_entry c.args.self.now) (has_entry c.add.new.self) c.in_ok-add.ensures.added
+
 pub returns-clause-top : goal.returns-clause-top
-returns-clause-top c = λ ordered.
-    let old = c.args.self.now in
-    let new = c.add.new.self in
-    let top = pushed_top (c.args.h, c.args.state) old new c.in_ok-add.ensures.added c.top.result c.top-2.result (sym c.top.ensures.top) (sym c.top-2.ensures.top)
-    (c.top.ensures.least ordered) c.top.ensures.none (c.top-2.ensures.least (c.add.ensures.ordered ordered)) c.top-2.ensures.none in
-    subst (λ was. (top_of new ≡ was) ⊎ (top_of new ≡ Some (c.args.h, c.args.state))) c.top.ensures.top
-    (subst (λ is. (is ≡ c.top.result) ⊎ (is ≡ Some (c.args.h, c.args.state))) c.top-2.ensures.top top)
+returns-clause-top c =
+    pushed_top (c.args.h, c.args.state.now) (has_entry c.args.self.now) (has_entry c.add.new.self) c.in_ok-add.ensures.added (top_of c.args.self.now) (top_of c.add.new.self)
+    c.show_top.ensures c.show_top-2.ensures
+
+pub returns-in_err-add-clause-kept : goal.returns-in_err-add-clause-kept
+returns-in_err-add-clause-kept c = λ other had. c.in_err-add.ensures.err other ∙ had

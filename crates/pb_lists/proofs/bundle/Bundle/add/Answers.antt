@@ -10,7 +10,6 @@ invariant_of-self-in_err-file c =
     let weight = weight_of c.self.inside.num c.self.inside.den in
     subst (λ entries. AreFields weight entries c.file.new.buckets) (sym (c.reserve.ensures.entries ∙ c.make_place.ensures.entries)) (record {
       filed = kept_filed weight c.self.inside.rows.entries c.self.inside.opened c.file.new.buckets c.file.ensures.kept c.self.invariant.filed;
-      heaps = c.file.ensures.heaps c.self.invariant.heaps;
       tidy = c.in_err-file.ensures.err weight c.self.inside.rows.entries c.self.invariant.tidy;
       is_weight = c.self.invariant.is_weight;
     })
@@ -23,14 +22,13 @@ invariant_of-self-2 c =
     let sets = c.insert.ensures.updates in
     let same = sym (c.reserve.ensures.entries ∙ c.make_place.ensures.entries) in
     let none = rw (← c.self.view_is) at c.requires.absent in
-    let absent = subst (λ entries. row_in entries c.args.state ≡ None) same none in
+    let absent = subst (λ entries. row_in entries c.args.state.now ≡ None) same none in
     let filed = subst (λ entries. HasFiled weight entries c.self.inside.opened) same c.self.invariant.filed in
     let tidy = subst (λ entries. IsTidy weight entries c.self.inside.opened) same c.self.invariant.tidy in
-    let live = live_row weight rows after c.args.state c.args.row sets c.key_of-key.result c.key_of-key.ensures c.requires.opened in
+    let live = live_row weight rows after c.args.state.now c.args.row.now sets c.key_of-key.result c.key_of-key.ensures c.requires.opened in
     record {
-      filed = put_filed weight rows after c.args.state c.args.row sets c.self.inside.opened c.file.new.buckets c.key_of-key.result c.key_of-key.ensures
+      filed = put_filed weight rows after c.args.state.now c.args.row.now sets c.self.inside.opened c.file.new.buckets c.key_of-key.result c.key_of-key.ensures
           c.in_ok-file.ensures.filed c.file.ensures.kept filed;
-      heaps = c.file.ensures.heaps c.self.invariant.heaps;
-      tidy = c.in_ok-file.ensures.led weight after c.self.invariant.heaps live (tidy_more weight rows after c.args.state c.args.row sets c.self.inside.opened absent tidy);
+      tidy = c.in_ok-file.ensures.led weight after live (tidy_more weight rows after c.args.state.now c.args.row.now sets c.self.inside.opened absent tidy);
       is_weight = c.self.invariant.is_weight;
     }

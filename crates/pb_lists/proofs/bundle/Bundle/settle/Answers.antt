@@ -10,7 +10,6 @@ invariant_of-self c =
       filed = c.tidy_after.ensures.filed
           (settled_filed (weight_of c.self.inside.num c.self.inside.den) c.self.inside.rows.entries c.set_status.new.self.entries c.args.state.now _
           (c.set_status.ensures.updates opened.0 opened.1) c.self.inside.opened c.requires.settled c.self.invariant.filed);
-      heaps = c.tidy_after.ensures.heaps;
       tidy = c.tidy_after.ensures.tidy;
       is_weight = c.self.invariant.is_weight;
     }

@@ -1,0 +1,148 @@
+-- Which fault comes first, for a few texts and for rows of a corridor of three cells.
+use Rattle.std.proofs.Common.{◌≡◌, ℕ, ◌+◌, ◌-◌, Bool, true, false, if◌then◌else◌, nat_lt, ◌==◌, Option, None, Some, List, [], ◌∷◌, ◌++◌, codes, Ok, Err, refl}
+use Rattle.pb_model.specs.declared.row.Estimate.{Estimate}
+use Rattle.pb_model.specs.declared.row.Estimate.TheVariants.{Cost, Dead}
+use Rattle.pb_model.specs.Space.{Space}
+use Rattle.pb_model.specs.Weight.{Weight}
+use Rattle.pb_model.specs.Plan.{Plan}
+use Rattle.pb_model.specs.Certificate.{Line}
+use Rattle.pb_task.specs.declared.parts.TaskParts.{TaskParts}
+use Rattle.pb_check.specs.declared.fault.CertificateFault.{CertificateFault}
+use Rattle.pb_check.specs.declared.fault.CertificateFault.TheVariants as faults
+use Rattle.pb_lines.specs.Words.{place_of, behind}
+use Rattle.pb_check.specs.Reading.{fixed_at, kind_at, kind_in, stated_at, head_at, weight_at, weight_in, text_of}
+use Rattle.pb_check.specs.Judging.{walk, plan_fault, order_fault, rows_order_fault, first_fault_by, state_fault, g_of, steps_fault, row_fault, checked}
+use Rattle.pb_check.specs.Cases.{IsStepFault, EndsElsewhere, IsCostFault, IsOutOfOrder, IsNoState, IsSuccessorFault, HasNoRow, HasRowAbove}
+
+-- ---- texts
+
+no_text : (parts : TaskParts) → checked parts [] ≡ Err (faults.Syntax 1)
+unfolding checked text_of head_at fixed_at place_of
+no_text parts = refl
+
+version_without_end : (parts : TaskParts)
+    → checked parts (codes "pbnf-certificate 1") ≡ Err (faults.Syntax 1)
+unfolding checked text_of head_at fixed_at place_of
+version_without_end parts = refl
+
+no_kind : (parts : TaskParts)
+    → checked parts (codes "pbnf-certificate 1" ++ 10 ∷ []) ≡ Err (faults.Syntax 2)
+unfolding checked text_of head_at fixed_at kind_at place_of behind
+no_kind parts = refl
+
+another_kind : (parts : TaskParts)
+    → checked parts (codes "pbnf-certificate 1" ++ 10 ∷ codes "kind rook" ++ 10 ∷ codes "weight")
+    ≡ Err (faults.Syntax 2)
+unfolding checked text_of head_at fixed_at kind_at kind_in place_of behind
+another_kind parts = refl
+
+-- ---- a corridor: action 0 leads to the next cell, and action 1 to the one before; the goal is the
+-- last cell
+
+right : ℕ → Option (ℕ × ℕ)
+right cell = if nat_lt cell 2 then Some (cell + 1, 1) else None
+
+left : ℕ → Option (ℕ × ℕ)
+left cell = if nat_lt 0 cell then Some (cell - 1, 1) else None
+
+step : (cell action : ℕ) → Option (ℕ × ℕ)
+step cell action =
+    if action == 0 then right cell else (if action == 1 then left cell else None)
+
+corridor : Space
+corridor = record {
+  start = 0;
+  is_state = λ cell. nat_lt cell 3;
+  is_goal = λ cell. cell == 2;
+  actions = 2;
+  step = step;
+}
+
+plan : (actions : List ℕ) → (cost : ℕ) → Plan
+plan actions cost = record { actions = actions; cost = cost }
+
+closed : (cell g : ℕ) → Line
+closed cell g = record { state = cell; g = g; is_closed = true }
+
+cut : (cell g : ℕ) → Line
+cut cell g = record { state = cell; g = g; is_closed = false }
+
+-- ---- the plan
+
+third_step_is_none : plan_fault corridor (plan (0 ∷ 0 ∷ 0 ∷ []) 9) ≡ Err (faults.PlanStep 2)
+unfolding plan_fault walk plan corridor step right
+third_step_is_none = refl
+
+third_step : IsStepFault corridor (plan (0 ∷ 0 ∷ 0 ∷ []) 9) 2
+unfolding plan corridor step right
+third_step = record {
+  before = 0 ∷ 0 ∷ [];
+  action = 0;
+  behind = [];
+  actions_are = refl;
+  place = refl;
+  cost = 2;
+  at = 2;
+  walk = (1, 1, 1, refl, (2, 1, 0, refl, (refl, refl), refl), refl);
+  fault = λ to first step. cc;
+}
+
+ends_before_the_goal : plan_fault corridor (plan (0 ∷ []) 9) ≡ Err faults.NotGoal
+unfolding plan_fault walk plan corridor step right
+ends_before_the_goal = refl
+
+goal_before_cost : EndsElsewhere corridor (plan (0 ∷ []) 9)
+unfolding plan corridor step right
+goal_before_cost = (1, 1, (1, 1, 0, refl, (refl, refl), refl), refl)
+
+costs_two : plan_fault corridor (plan (0 ∷ 0 ∷ []) 9) ≡ Err (faults.Cost 9 2)
+unfolding plan_fault walk plan corridor step right
+costs_two = refl
+
+other_cost : IsCostFault corridor (plan (0 ∷ 0 ∷ []) 9) 9 2
+unfolding plan corridor step right
+other_cost = (refl, 2, (1, 1, 1, refl, (2, 1, 0, refl, (refl, refl), refl), refl), refl, λ same. cc)
+
+-- ---- the rows, of which the first is line 5
+
+-- the order comes before the states
+order_first : rows_order_fault 5 (closed 7 0 ∷ cut 3 1 ∷ []) ≡ Some (faults.RowOrder 6)
+unfolding order_fault closed cut
+order_first = refl
+
+no_state : first_fault_by (state_fault corridor) 5 (closed 0 0 ∷ cut 3 1 ∷ cut 4 1 ∷ [])
+    ≡ Some (faults.BadState 6)
+unfolding first_fault_by corridor closed cut
+no_state = refl
+
+abbrev judged_rows : (best : ℕ) → List Line → Option CertificateFault
+judged_rows best rows =
+    first_fault_by (row_fault corridor (λ cell. Cost (2 - cell)) (record { num = 1; den = 1 })
+    (Some best) rows) 5 rows
+
+sound : judged_rows 2 (closed 0 0 ∷ closed 1 1 ∷ cut 2 2 ∷ []) ≡ None
+unfolding first_fault_by row_fault steps_fault g_of closed corridor step right left cut
+sound = refl
+
+-- a row's own fault comes before those of later rows
+missing_first : judged_rows 2 (closed 0 0 ∷ closed 2 2 ∷ []) ≡ Some (faults.Missing 5 0)
+unfolding first_fault_by row_fault steps_fault g_of closed corridor step right
+missing_first = refl
+
+goal_closed : judged_rows 2 (closed 0 0 ∷ closed 1 1 ∷ closed 2 2 ∷ [])
+    ≡ Some (faults.GoalClosed 7)
+unfolding first_fault_by row_fault steps_fault g_of closed corridor step right left
+goal_closed = refl
+
+-- a row is of both directions: the first action whose successor is at fault
+later_action : judged_rows 2 (closed 1 0 ∷ cut 2 1 ∷ []) ≡ Some (faults.Missing 5 1)
+unfolding first_fault_by row_fault steps_fault g_of closed corridor step right cut left
+later_action = refl
+
+too_dear : judged_rows 2 (closed 0 0 ∷ cut 1 5 ∷ []) ≡ Some (faults.TooDear 5 0)
+unfolding first_fault_by row_fault steps_fault g_of closed corridor step right cut
+too_dear = refl
+
+low : judged_rows 3 (cut 0 0 ∷ []) ≡ Some (faults.Low 5)
+unfolding first_fault_by row_fault steps_fault g_of cut
+low = refl

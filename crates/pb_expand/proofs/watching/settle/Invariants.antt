@@ -1,0 +1,19 @@
+use Rattle.std.proofs.Common.{false}
+use Rattle.pb_task.specs.Parts.{space_of}
+use Rattle.pb_estimate.specs.declared.choice.Choice.{Choice}
+use Rattle.pb_abstract.specs.Graph.{AbstractGraph}
+use Rattle.pb_lease.specs.Leased.{guide_of}
+use Rattle.pb_lease.specs.Rows.{own_opened}
+use Rattle.pb_expand.specs.Watching.{IsAtWatch, HasTurnedWatched}
+use Rattle.pb_expand.proofs.watching.settle.Given as goal
+
+abbrev pub invariant-loop-state : goal.invariant-loop-state
+invariant-loop-state g l = record {
+  can : g.W.Watch.can l.watch;
+  stays : g.W.Watch.stays l.initial.watch l.watch;
+  turned : (graph : AbstractGraph) (choice : Choice) → IsAtWatch l.task graph choice (g.W.Watch.seen l.initial.watch) l.initial.lease
+      → HasTurnedWatched (space_of l.task) (guide_of l.task graph choice) 0 0 false false l.initial.lease (g.W.Watch.seen l.initial.watch) l.lease (g.W.Watch.seen l.watch);
+}
+
+abbrev pub decreases-loop-state : goal.decreases-loop-state
+decreases-loop-state g l = own_opened l.lease

@@ -1,0 +1,107 @@
+//! The entries of states of more than one word.
+ghost use Rattle.std.specs.Prelude.{◌≡◌, ◌⊎◌, ◌||◌, ◌+◌, ◌≤◌, ◌<◌, ◌^◌, true, false, None, Some, IsSome, OnOk, OnErr};
+ghost use Rattle.pb_lists.specs.Heaped.{Entry, entry_cmp, is_same, is_second_first, top_of_two, IsTop};
+ghost use Rattle.pb_lists.specs.Buckets.{has_wide, top_of_wide};
+
+use crate::heap::Heap;
+use pb_packed::Packed;
+use std::alloc::{AllocError, Global};
+use std::cmp::Ordering;
+
+// The entries at one sum whose states have two to four words, and those of five to sixteen.
+#[derive(Drop)]
+pub(crate) struct WideEntries {
+    pub(crate) few: Heap<4>,
+    pub(crate) many: Heap<16>,
+}
+
+impl WideEntries {
+    // No entry. It takes no memory.
+    pub(crate) fn new(alloc: Global) -> WideEntries
+        ensures empty { (entry : Entry) → has_wide result entry ≡ false }
+        ensures top { top_of_wide result ≡ None }
+    {
+        WideEntries {
+            few: Heap::new(alloc),
+            many: Heap::new(alloc),
+        }
+    }
+
+    // Puts an entry in.
+    pub(crate) fn push(&mut self, h: u64, state: &Packed) -> Result<(), AllocError>
+        ensures added { OnOk result ((other : Entry) → has_wide self.new other
+            ≡ (is_same other (h, state.now) || has_wide self.old other)) }
+        ensures err { OnErr result ((other : Entry)
+            → has_wide self.new other ≡ has_wide self.old other) }
+        ensures top { OnErr result (top_of_wide self.new ≡ top_of_wide self.old) }
+    {
+        match state.as_words::<4>() {
+            Some(words) => self.few.push(h, words),
+            None => self.many.push(h, state.words()),
+        }
+    }
+
+    // The first entry.
+    #[inline(never)]
+    pub(crate) fn top(&self) -> Option<(u64, Packed)>
+        ensures first { result ≡ top_of_wide self.now }
+        ensures top { IsTop (has_wide self.now) (top_of_wide self.now) }
+    {
+        first_of_two(self.few.top(), self.many.top())
+    }
+
+    // Which entry comes first, for this clause alone.
+    #[inline]
+    pub(crate) fn show_top(&self)
+        ensures { IsTop (has_wide self.now) (top_of_wide self.now) }
+    {
+        let _ = self.few.first();
+        let _ = self.many.first();
+    }
+
+    // Takes the first entry out.
+    #[inline(never)]
+    pub(crate) fn pop(&mut self)
+        ensures left { (other : Entry) → has_wide self.old other ≡ true
+            → (top_of_wide self.old ≡ Some other) ⊎ (has_wide self.new other ≡ true) }
+        ensures fewer { IsSome (top_of_wide self.old)
+            → self.new.few.len + self.new.many.len < self.old.few.len + self.old.many.len }
+    {
+        if is_second_first(&self.few.top(), &self.many.top()) {
+            self.many.pop();
+        } else {
+            self.few.pop();
+        }
+    }
+}
+
+// Whether the first entry of the second part comes before that of the first: by the estimate, and
+// for equal estimates by the state.
+pub(crate) fn is_second_first(first: &Option<(u64, Packed)>, second: &Option<(u64, Packed)>) -> bool
+    ensures { result ≡ is_second_first first.now second.now }
+{
+    match second {
+        Some(entry) => match first {
+            Some(other) => match entry.cmp(other) {
+                Ordering::Less => true,
+                _ => false,
+            },
+            None => true,
+        },
+        None => false,
+    }
+}
+
+// The first entry of two parts.
+pub(crate) fn first_of_two(
+    first: Option<(u64, Packed)>,
+    second: Option<(u64, Packed)>,
+) -> Option<(u64, Packed)>
+    ensures { result ≡ top_of_two first second }
+{
+    if is_second_first(&first, &second) {
+        second
+    } else {
+        first
+    }
+}

@@ -1,6 +1,0 @@
-use Rattle.std.proofs.Common.{◌+◌, ap, ◌∙◌}
-use Rattle.pb_packed.proofs.Shifts.{masked}
-use Rattle.pb_packed.proofs.parts.bits_of_half.Goals as goal
-
-pub returns : goal.returns
-returns c = masked _ c.args.len c.from.result (ap (λ n. n + 1) c.from.ensures ∙ c.mask.ensures)
