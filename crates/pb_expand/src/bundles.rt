@@ -80,12 +80,12 @@ pub fn offer(
     let bundle = lease.bundle_mut(block);
     match bundle.place_of(&succ.state) {
         Some(place) => {
-            bundle.offer_at(place, g, Some(*parent), succ.action)?;
+            bundle.offer_at(place, g, Some(parent), succ.action)?;
             Ok(())
         }
         None => {
             let estimate = estimator.estimate(task, &succ.state);
-            bundle.offer_new(succ.state, g, estimate, Some(*parent), succ.action)
+            bundle.offer_new(&succ.state, g, estimate, Some(parent), succ.action)
         }
     }
 }

@@ -71,6 +71,14 @@ sets_worse content state g estimate parent action was found le = record {
   others = λ other apart. refl;
 }
 
+-- a row that is written is set
+pub row_sets : (entries after : List (ℕ × Row)) (state : ℕ) (row : Row) → ((other : ℕ) → row_in after other ≡ cond (nat_eq state other) (Some row) (row_in entries other))
+    → SetsRow (row_in entries) (row_in after) state row
+row_sets entries after state row updates = record {
+  here = updates state ∙ ap (λ b. cond b (Some row) (row_in entries state)) (equal_self state);
+  others = λ other apart. updates other ∙ ap (λ b. cond b (Some row) (row_in entries other)) (ne_eqb state other (λ is. apart (sym is)));
+}
+
 -- a status that is written is set, and all else stays
 pub status_sets : (entries after : List (ℕ × Row)) (state : ℕ) (row : Row) (status : Status) → row_in entries state ≡ Some row
     → ((other : ℕ) → row_in after other ≡ cond (nat_eq state other) (Some (record row { status = status })) (row_in entries other)) → SetsStatus (row_in entries) (row_in after) state status

@@ -1,5 +1,5 @@
 -- The buckets after a state was put into one, and after states left one.
-use Rattle.std.proofs.Common.{◌≡◌, ℕ, Bool, true, false, cond, Option, Some, None, List, [], ◌∷◌, ◌&&◌, ◌⊎◌, inl, inr, refl, sym, ap, ◌∙◌, subst, nat_eq, true≢false, IfSome, IfNone, if◌then◌else◌}
+use Rattle.std.proofs.Common.{◌≡◌, ℕ, Bool, true, false, cond, Option, Some, None, List, [], ◌∷◌, ◌&&◌, ◌⊎◌, inl, inr, refl, sym, ap, ◌∙◌, subst, nat_eq, true≢false, IfSome, IfNone, slice_get, if◌then◌else◌}
 use Rattle.std.specs.Ordering.{is_eq, match_ordering}
 use Rattle.std.specs.declared.cmp.Ordering.{Ordering}
 use Rattle.std.specs.declared.cmp.Ordering.TheVariants.{Less, Equal, Greater}
@@ -7,17 +7,22 @@ use Rattle.std.specs.Map.{lookup, set_value}
 use Rattle.std.specs.BTreeMap.{get, is_at, insert_entry, Updates, IsUnchanged}
 use Rattle.pb_model.specs.declared.key.Key.{Key}
 use Rattle.pb_model.specs.declared.key.Key.TheVariants.{Sum, Dead}
+use Rattle.std.specs.Option.{option_map}
+use Rattle.pb_model.specs.declared.row.Estimate.{Estimate}
 use Rattle.pb_model.specs.declared.row.Row.{Row}
 use Rattle.pb_model.specs.declared.row.Status.TheVariants.{Opened}
 use Rattle.pb_model.specs.Weight.{Weight}
 use Rattle.pb_model.specs.KeyOrder.{key_cmp, same_key}
 use Rattle.pb_lists.specs.Bundle.{row_in}
 use Rattle.pb_lists.specs.Fields.{key_at, is_opened, opened_costs, has_key, is_open_at, sum_of, estimate_in, key_with}
-use Rattle.pb_lists.specs.Buckets.{Buckets, has_entry, has_in, has_at, has_state, top_of, first_key_of, is_of, is_on_top, HasFiled, is_led, is_tidy, IsTidy, KeepsEntries, KeepsLive}
+use Rattle.pb_lists.specs.Buckets.{Buckets, has_entry, has_in, has_at, HasState, top_of, first_key_of, place_if_of, place_on_top, HasFiled, is_led, is_tidy, IsTidy, KeepsEntries, KeepsLive, IsPlaced, ArePlaced, HasPlaces}
 use Rattle.pb_lists.specs.declared.bucket.Bucket.{Bucket}
+use Rattle.indexmap.specs.IndexMap as IndexMap
 use Rattle.pb_lists.proofs.Order.{key_self, key_found}
+use Rattle.pb_lists.proofs.Parts.{top_member}
+use Rattle.pb_lists.proofs.Tables.{put_place}
 use Rattle.pb_model.proofs.Callers.{equal, equal_self, equal_swap}
-use Rattle.pb_lists.specs.Heaped.{Entry, IsTop}
+use Rattle.pb_lists.specs.Heaped.{Entry, estimate_and_place, IsTop}
 
 pub key_same : (key : Key) → same_key key key ≡ true
 key_same key = ap is_eq (key_self key)
@@ -62,10 +67,13 @@ module _ (old new : Buckets) (sum : Key) (bucket : Bucket) (set : (q : Key) → 
   pub set_filed : (weight : Weight) (entries : List (ℕ × Row))
       → ((entry : Entry) → is_open_at weight (row_in entries entry.1) (key_with sum entry.0) ≡ true → has_at old sum entry ≡ true → has_entry bucket entry ≡ true)
       → HasFiled weight entries old → HasFiled weight entries new
-  set_filed weight entries left filed state row found opened = which (same_key sum (sum_of (key_at weight row))) refl
+  set_filed weight entries left filed state row found opened = (had.0, which (same_key sum (sum_of (key_at weight row))) refl)
     where
+      had : HasState old (key_at weight row) state
+      had = filed state row found opened
+
       entry : Entry
-      entry = (estimate_in (key_at weight row), state)
+      entry = (estimate_in (key_at weight row), state, had.0)
 
       live : is_open_at weight (row_in entries state) (key_at weight row) ≡ true
       live =
@@ -77,8 +85,30 @@ module _ (old new : Buckets) (sum : Key) (bucket : Bucket) (set : (q : Key) → 
           let is : sum ≡ sum_of (key_at weight row) = key_found sum (sum_of (key_at weight row)) same in
           let joins : key_with sum entry.0 ≡ key_at weight row = ap (λ k. key_with k entry.0) is ∙ key_joins (key_at weight row) in
           let here : is_open_at weight (row_in entries state) (key_with sum entry.0) ≡ true = ap (λ k. is_open_at weight (row_in entries state) k) joins ∙ live in
-          ap (λ found. has_in found entry) (at_sum (sum_of (key_at weight row)) same) ∙ left entry here (subst (λ k. has_at old k entry ≡ true) (sym is) (filed state row found opened))
-      which false other = ap (λ found. has_in found entry) (at_other (sum_of (key_at weight row)) other) ∙ filed state row found opened
+          ap (λ found. has_in found entry) (at_sum (sum_of (key_at weight row)) same) ∙ left entry here (subst (λ k. has_at old k entry ≡ true) (sym is) had.1)
+      which false other = ap (λ found. has_in found entry) (at_other (sum_of (key_at weight row)) other) ∙ had.1
+
+  -- each entry of the bucket is another one, or has the place of its state's row
+  pub set_placed : (entries : List (ℕ × Row)) → ((entry : Entry) → has_entry bucket entry ≡ true → (IsPlaced entries entry) ⊎ (has_at old sum entry ≡ true))
+      → HasPlaces entries old → HasPlaces entries new
+  set_placed entries from placed q entry has = which (same_key sum q) refl
+    where
+      one : (IsPlaced entries entry) ⊎ (has_at old sum entry ≡ true) → IsPlaced entries entry
+      one (inl here) = here
+      one (inr had) = placed sum entry had
+
+      which : (b : Bool) → same_key sum q ≡ b → IsPlaced entries entry
+      which true same = one (from entry (sym (ap (λ found. has_in found entry) (at_sum q same)) ∙ has))
+      which false other = placed q entry (sym (ap (λ found. has_in found entry) (at_other q other)) ∙ has)
+
+  -- an entry comes into the bucket, with the place of its state's row
+  pub set_pushed : (entries : List (ℕ × Row)) (added : Entry) → IsPlaced entries added → ((entry : Entry) → has_entry bucket entry ≡ true → (entry ≡ added) ⊎ (has_at old sum entry ≡ true))
+      → HasPlaces entries old → HasPlaces entries new
+  set_pushed entries added here from placed = set_placed entries (λ entry has. which entry (from entry has)) placed
+    where
+      which : (entry : Entry) → (entry ≡ added) ⊎ (has_at old sum entry ≡ true) → (IsPlaced entries entry) ⊎ (has_at old sum entry ≡ true)
+      which entry (inl is) = inl (subst (λ (e : Entry). IsPlaced entries e) (sym is) here)
+      which entry (inr had) = inr had
 
 -- ---- the first bucket
 
@@ -168,6 +198,31 @@ module _ (weight : Weight) (entries : List (ℕ × Row)) (sum : Key) where
           absurd (true≢false (sym live ∙ (ap (λ (it : Entry). is_open_at weight (row_in entries it.1) (key_with sum it.0)) (sym is) ∙ off)))
       which (inr m) = m
 
+-- the first entry has a state
+pub top_state : (bucket : Bucket) (first : ℕ × ℕ) → Some first ≡ option_map estimate_and_place (top_of bucket) → (state : ℕ) × (top_of bucket ≡ Some (first.0, state, first.1))
+top_state bucket first is = which (top_of bucket) refl is
+  where
+    which : (top : Option Entry) → top_of bucket ≡ top → Some first ≡ option_map estimate_and_place top → (state : ℕ) × (top_of bucket ≡ Some (first.0, state, first.1))
+    which None e f = cc
+    which (Some top) e f =
+        let same : estimate_and_place top ≡ first = cc in
+        (top.1, e ∙ (ap (λ (p : ℕ × ℕ). Some (p.0, top.1, p.1)) same))
+
+-- a bucket without a first entry has none
+pub top_none : (bucket : Bucket) → None ≡ option_map estimate_and_place (top_of bucket) → IsTop (has_entry bucket) (top_of bucket) → (entry : Entry) → has_entry bucket entry ≡ false
+top_none bucket none top = which (top_of bucket) none top
+  where
+    which : (found : Option Entry) → None ≡ option_map estimate_and_place found → IsTop (has_entry bucket) found → (entry : Entry) → has_entry bucket entry ≡ false
+    which None e t = t.none
+    which (Some found) e t = cc
+
+-- whether the row at an entry's place is Opened at the entry's key
+pub live_is : (weight : Weight) (entries : List (ℕ × Row)) (sum key : Key) (h state : ℕ) (costs : Option (ℕ × Estimate)) (is : Bool) → key ≡ key_with sum h → costs ≡ opened_costs (row_in entries state)
+    → is ≡ has_key weight costs key → is_open_at weight (row_in entries state) (key_with sum h) ≡ is
+live_is weight entries sum key h state costs is same read compared =
+    ap (λ k. is_open_at weight (row_in entries state) k) (sym same)
+    ∙ (sym (key_by_costs weight (row_in entries state) key) ∙ (ap (λ c. has_key weight c key) (sym read) ∙ sym compared))
+
 -- ---- the first bucket, which is empty, is taken out
 
 module _ (old new : Buckets) (sum : Key) where
@@ -176,11 +231,15 @@ module _ (old new : Buckets) (sum : Key) where
       → HasFiled weight entries old → HasFiled weight entries new
   pop_filed weight entries None first empty removal updates same filed state row found opened =
       let key = key_at weight row in
-      ap (λ list. has_in (lookup (is_at (key_cmp (sum_of key))) list) (estimate_in key, state)) same ∙ filed state row found opened
-  pop_filed weight entries (Some taken) first empty removal updates same filed state row found opened = which (same_key taken.0 (sum_of (key_at weight row))) refl
+      let had = filed state row found opened in
+      (had.0, ap (λ list. has_in (lookup (is_at (key_cmp (sum_of key))) list) (estimate_in key, state, had.0)) same ∙ had.1)
+  pop_filed weight entries (Some taken) first empty removal updates same filed state row found opened = (had.0, which (same_key taken.0 (sum_of (key_at weight row))) refl)
     where
+      had : HasState old (key_at weight row) state
+      had = filed state row found opened
+
       entry : Entry
-      entry = (estimate_in (key_at weight row), state)
+      entry = (estimate_in (key_at weight row), state, had.0)
 
       is_sum : taken.0 ≡ sum
       is_sum = let e : Some taken.0 ≡ Some sum = sym (ap first_key_of removal) ∙ first in cc
@@ -191,33 +250,48 @@ module _ (old new : Buckets) (sum : Key) where
       which : (b : Bool) → same_key taken.0 (sum_of (key_at weight row)) ≡ b → has_at new (sum_of (key_at weight row)) entry ≡ true
       which true e =
           let at : sum_of (key_at weight row) ≡ sum = sym (key_found taken.0 (sum_of (key_at weight row)) e) ∙ is_sum in
-          absurd (true≢false (sym (filed state row found opened) ∙ (ap (λ k. has_at old k entry) at ∙ empty entry)))
-      which false e = ap (λ f. has_in f entry) (is false e) ∙ filed state row found opened
+          absurd (true≢false (sym had.1 ∙ (ap (λ k. has_at old k entry) at ∙ empty entry)))
+      which false e = ap (λ f. has_in f entry) (is false e) ∙ had.1
+
+  pub pop_placed : (entries : List (ℕ × Row)) (popped : Option (Key × Bucket)) → IfSome popped (λ first. Updates key_cmp old new first.0 None) → IfNone popped (IsUnchanged old new)
+      → HasPlaces entries old → HasPlaces entries new
+  pop_placed entries None updates same placed q entry has = placed q entry (sym (ap (λ list. has_in (lookup (is_at (key_cmp q)) list) entry) same) ∙ has)
+  pop_placed entries (Some taken) updates same placed q entry has = which (same_key taken.0 q) refl
+    where
+      is : (b : Bool) → same_key taken.0 q ≡ b → has_in (cond b None (get key_cmp old q)) entry ≡ true
+      is b e = sym (ap (λ f. has_in f entry) (updates.0 q ∙ ap (λ t. cond t None (get key_cmp old q)) e)) ∙ has
+
+      which : (b : Bool) → same_key taken.0 q ≡ b → IsPlaced entries entry
+      which true e = absurd (true≢false (sym (is true e)))
+      which false e = placed q entry (is false e)
 
 -- ---- the rows change
 
 pub kept_filed : (weight : Weight) (entries : List (ℕ × Row)) (old new : Buckets) → KeepsEntries old new → HasFiled weight entries old → HasFiled weight entries new
 kept_filed weight entries old new kept filed state row found opened =
-    kept (sum_of (key_at weight row)) (estimate_in (key_at weight row), state) (filed state row found opened)
+    let had = filed state row found opened in
+    (had.0, kept (sum_of (key_at weight row)) (estimate_in (key_at weight row), state, had.0) had.1)
 
 module _ (weight : Weight) (entries after : List (ℕ × Row)) (here : ℕ) (row : Row) (sets : (state : ℕ) → row_in after state ≡ cond (nat_eq here state) (Some row) (row_in entries state)) where
   is_row : (b : Bool) (state : ℕ) (other : Row) → nat_eq here state ≡ b → row_in after state ≡ Some other → cond b (Some row) (row_in entries state) ≡ Some other
   is_row b state other e found = sym (sets state ∙ ap (λ t. cond t (Some row) (row_in entries state)) e) ∙ found
 
-  pub put_filed : (old new : Buckets) (key : Key) → key ≡ key_at weight row → has_state new key here ≡ true → KeepsEntries old new → HasFiled weight entries old → HasFiled weight after new
+  pub put_filed : (old new : Buckets) (key : Key) → key ≡ key_at weight row → HasState new key here → KeepsEntries old new → HasFiled weight entries old → HasFiled weight after new
   put_filed old new key is has kept filed state other found opened = which (nat_eq here state) refl
     where
-      which : (b : Bool) → nat_eq here state ≡ b → has_state new (key_at weight other) state ≡ true
+      which : (b : Bool) → nat_eq here state ≡ b → HasState new (key_at weight other) state
       which true e =
           let same : Some row ≡ Some other = is_row true state other e found in
           let one : row ≡ other = cc in
-          subst (λ s. has_state new (key_at weight other) s ≡ true) (equal here state e) (subst (λ k. has_state new k here ≡ true) (is ∙ ap (key_at weight) one) has)
-      which false e = kept (sum_of (key_at weight other)) (estimate_in (key_at weight other), state) (filed state other (is_row false state other e found) opened)
+          subst (λ s. HasState new (key_at weight other) s) (equal here state e) (subst (λ k. HasState new k here) (is ∙ ap (key_at weight) one) has)
+      which false e =
+          let had = filed state other (is_row false state other e found) opened in
+          (had.0, kept (sum_of (key_at weight other)) (estimate_in (key_at weight other), state, had.0) had.1)
 
   pub settled_filed : (buckets : Buckets) → is_opened row.status ≡ false → HasFiled weight entries buckets → HasFiled weight after buckets
   settled_filed buckets settled filed state other found opened = which (nat_eq here state) refl
     where
-      which : (b : Bool) → nat_eq here state ≡ b → has_state buckets (key_at weight other) state ≡ true
+      which : (b : Bool) → nat_eq here state ≡ b → HasState buckets (key_at weight other) state
       which true e =
           let same : Some row ≡ Some other = is_row true state other e found in
           let one : row ≡ other = cc in
@@ -248,10 +322,43 @@ module _ (weight : Weight) (entries after : List (ℕ × Row)) (here : ℕ) (row
 
 -- the row of a state that isn't on top of the first bucket was changed
 pub tidy_other : (weight : Weight) (entries after : List (ℕ × Row)) (here : ℕ) (row : Row) → ((state : ℕ) → row_in after state ≡ cond (nat_eq here state) (Some row) (row_in entries state))
-    → (list : List (Key × Bucket)) → is_tidy weight entries list ≡ true → is_on_top list here ≡ false → is_tidy weight after list ≡ true
+    → (list : List (Key × Bucket)) → is_tidy weight entries list ≡ true → place_on_top list here ≡ None → is_tidy weight after list ≡ true
 tidy_other weight entries after here row sets [] tidy off = refl
 tidy_other weight entries after here row sets (first ∷ list) tidy off = led (top_of first.1) tidy off
   where
-    led : (top : Option Entry) → is_led weight entries first.0 top ≡ true → is_of top here ≡ false → is_led weight after first.0 top ≡ true
+    other : (b : Bool) (place : ℕ) → (if b then Some place else None) ≡ None → b ≡ false
+    other true place e = cc
+    other false place e = refl
+
+    led : (top : Option Entry) → is_led weight entries first.0 top ≡ true → place_if_of top here ≡ None → is_led weight after first.0 top ≡ true
     led None l o = absurd (true≢false (sym l))
-    led (Some top) l o = ap (λ found. is_open_at weight found (key_with first.0 top.0)) (sets top.1 ∙ ap (λ b. cond b (Some row) (row_in entries top.1)) (equal_swap here top.1 ∙ o)) ∙ l
+    led (Some top) l o =
+        ap (λ found. is_open_at weight found (key_with first.0 top.0))
+        (sets top.1 ∙ ap (λ b. cond b (Some row) (row_in entries top.1)) (equal_swap here top.1 ∙ other (nat_eq top.1 here) top.2 o)) ∙ l
+
+-- ---- places
+
+-- what the first bucket has on top has the place of its state's row
+pub top_placed : (entries : List (ℕ × Row)) (list : List (Key × Bucket)) (here place : ℕ)
+    → ((sum : Key) (entry : Entry) → has_in (lookup (is_at (key_cmp sum)) list) entry ≡ true → IsPlaced entries entry)
+    → place_on_top list here ≡ Some place → (row : Row) × (slice_get entries place ≡ Some (here, row))
+top_placed entries [] here place placed on = cc
+top_placed entries (first ∷ list) here place placed on = led (top_of first.1) refl on
+  where
+    led : (top : Option Entry) → top_of first.1 ≡ top → place_if_of top here ≡ Some place → (row : Row) × (slice_get entries place ≡ Some (here, row))
+    led None e o = cc
+    led (Some top) e o = which (nat_eq top.1 here) refl o
+      where
+        member : has_in (lookup (is_at (key_cmp first.0)) (first ∷ list)) top ≡ true
+        member = ap (λ b. has_in (cond b (Some first.1) (lookup (is_at (key_cmp first.0)) list)) top) (key_same first.0) ∙ top_member first.1 top e
+
+        which : (b : Bool) → nat_eq top.1 here ≡ b → (if b then Some top.2 else None) ≡ Some place → (row : Row) × (slice_get entries place ≡ Some (here, row))
+        which true same p =
+            let is : top.2 ≡ place = cc in
+            let at = placed first.0 top member in
+            (at.0, subst (λ n. slice_get entries n ≡ Some (here, at.0)) is (subst (λ s. slice_get entries top.2 ≡ Some (s, at.0)) (equal top.1 here same) at.1))
+        which false same p = cc
+
+-- places stay if a row is put
+pub put_places : (entries : List (ℕ × Row)) (state : ℕ) (row : Row) (buckets : Buckets) → HasPlaces entries buckets → HasPlaces (IndexMap.insert_entry nat_eq entries state row) buckets
+put_places entries state row buckets placed sum entry has = let at = placed sum entry has in put_place entries state row entry.2 entry.1 at.0 at.1

@@ -14,7 +14,7 @@ use Rattle.pb_model.proofs.Callers.{key_cases, by_cases, below, not_below}
 use Rattle.pb_lists.specs.Bundle.{row_in}
 use Rattle.pb_lists.specs.Fields.{key_at, is_opened, is_open_at, sum_of, estimate_in, key_with}
 use Rattle.pb_lists.specs.Buckets.{Buckets, has_entry, has_in, has_at, top_of, HasFiled, is_led, is_tidy, IsTidy}
-use Rattle.pb_lists.specs.Heaped.{Entry, IsNoLater, IsTop}
+use Rattle.pb_lists.specs.Heaped.{Entry, estimate_and_place, IsNoLater, IsTop}
 use Rattle.std.specs.Option.{option_map}
 use Rattle.pb_lists.specs.declared.bucket.Bucket.{Bucket}
 use Rattle.pb_lists.proofs.Order.{key_found, key_above}
@@ -75,6 +75,15 @@ estimate_with : (sum : Key) (h : ℕ) → estimate_in (key_with sum h) ≤ h
 estimate_with (Sum sum k) h = omega arith
 estimate_with Dead h = omega arith
 
+-- the estimate is at most this one, and the state at most this one if the estimates are equal
+abbrev IsUpTo : Entry → (h state : ℕ) → Type 0
+IsUpTo entry h state = (entry.0 < h) ⊎ ((entry.0 ≡ h) × (entry.1 ≤ state))
+
+up_to : (entry other : Entry) → IsNoLater entry other → IsUpTo entry other.0 other.1
+up_to entry other (inl l) = inl l
+up_to entry other (inr (e, inl l)) = inr (e, omega arith)
+up_to entry other (inr (e, inr l)) = let f = l.0 in inr (e, omega arith)
+
 -- ---- the first row
 
 module _ (weight : Weight) (entries : List (ℕ × Row)) (buckets : Buckets) (filed : HasFiled weight entries buckets) (tidy : IsTidy weight entries buckets)
@@ -86,17 +95,18 @@ module _ (weight : Weight) (entries : List (ℕ × Row)) (buckets : Buckets) (fi
   not_above : (state : ℕ) (row : Row) → row_in entries state ≡ Some row → row.status ≡ Opened → IsKeyBelow (sum_of (key_at weight row)) sum → ⊥
   not_above state row found opened low =
       true≢false (sym (ap is_gt (key_above sum (sum_of (key_at weight row)) low))
-      ∙ least (sum_of (key_at weight row)) (has_bucket (estimate_in (key_at weight row), state) (get key_cmp buckets (sum_of (key_at weight row))) (filed state row found opened)))
+      ∙ least (sum_of (key_at weight row)) (let has = filed state row found opened in
+      has_bucket (estimate_in (key_at weight row), state, has.0) (get key_cmp buckets (sum_of (key_at weight row))) has.1))
 
   -- the first bucket has a top
   pub has_top : top_of bucket ≡ None → ⊥
   has_top none = true≢false (sym led ∙ ap (λ top. is_led weight entries sum top) none)
 
   -- a bucket whose top has no estimate has no top
-  pub has_least : None ≡ option_map (λ (entry : Entry). entry.0) (top_of bucket) → ⊥
+  pub has_least : None ≡ option_map estimate_and_place (top_of bucket) → ⊥
   has_least none = which (top_of bucket) refl none
     where
-      which : (top : Option Entry) → top_of bucket ≡ top → None ≡ option_map (λ (entry : Entry). entry.0) top → ⊥
+      which : (top : Option Entry) → top_of bucket ≡ top → None ≡ option_map estimate_and_place top → ⊥
       which None e n = has_top e
       which (Some top) e n = cc
 
@@ -105,17 +115,17 @@ module _ (weight : Weight) (entries : List (ℕ × Row)) (buckets : Buckets) (fi
     here = open_row_at weight (row_in entries top.1) (key_with sum top.0) (ap (λ found. is_led weight entries sum found) is_top ∙ led)
 
     -- a row of this sum is in the bucket
-    at_sum : (state : ℕ) (row : Row) → row_in entries state ≡ Some row → row.status ≡ Opened → sum_of (key_at weight row) ≡ sum → IsNoLater top (estimate_in (key_at weight row), state)
+    at_sum : (state : ℕ) (row : Row) → row_in entries state ≡ Some row → row.status ≡ Opened → sum_of (key_at weight row) ≡ sum → IsUpTo top (estimate_in (key_at weight row)) state
     at_sum state row found opened same =
-        low (estimate_in (key_at weight row), state)
-        (sym (ap (λ f. has_in f (estimate_in (key_at weight row), state)) value)
-        ∙ subst (λ k. has_at buckets k (estimate_in (key_at weight row), state) ≡ true) same (filed state row found opened))
+        let has = filed state row found opened in
+        let entry : Entry = (estimate_in (key_at weight row), state, has.0) in
+        up_to top entry (low entry (sym (ap (λ f. has_in f entry) value) ∙ subst (λ k. has_at buckets k entry ≡ true) same has.1))
 
     -- no Opened row has a lesser key
     not_below_top : (state : ℕ) (row : Row) → row_in entries state ≡ Some row → row.status ≡ Opened → IsKeyBelow (key_at weight row) (key_with sum top.0) → ⊥
     not_below_top state row found opened below = which (key_cases (sum_of (key_at weight row)) sum)
       where
-        at_least : IsNoLater top (estimate_in (key_at weight row), state) → top.0 ≤ estimate_in (key_at weight row)
+        at_least : IsUpTo top (estimate_in (key_at weight row)) state → top.0 ≤ estimate_in (key_at weight row)
         at_least (inl l) = omega arith
         at_least (inr l) = let e = l.0 in omega arith
 
@@ -136,7 +146,7 @@ module _ (weight : Weight) (entries : List (ℕ × Row)) (buckets : Buckets) (fi
     pub first_row : (row : Row) × IsFirstRow weight (row_in entries) top.1 row
     first_row = (here.0, record { found = here.1; opened = here.2; first = before })
       where
-        no_more : (state : ℕ) (row : Row) → key_with sum top.0 ≡ key_at weight row → IsNoLater top (estimate_in (key_at weight row), state) → top.1 ≤ state
+        no_more : (state : ℕ) (row : Row) → key_with sum top.0 ≡ key_at weight row → IsUpTo top (estimate_in (key_at weight row)) state → top.1 ≤ state
         no_more state row same (inl l) =
             let le = subst (λ k. estimate_in k ≤ top.0) same (estimate_with sum top.0) in
             absurd (omega arith)
@@ -162,9 +172,11 @@ module _ (weight : Weight) (entries : List (ℕ × Row)) (buckets : Buckets) (fi
             which (inr (inr g)) = absurd (not_below_top other row found opened g)
 
   -- the key of the least estimate
-  pub best_at : (h : ℕ) → Some h ≡ option_map (λ (entry : Entry). entry.0) (top_of bucket) → IsTop (has_entry bucket) (top_of bucket) → IsBest weight (row_in entries) (Some (key_with sum h))
-  best_at h is led_by = which (top_of bucket) refl is led_by
+  pub best_at : (least : ℕ × ℕ) → Some least ≡ option_map estimate_and_place (top_of bucket) → IsTop (has_entry bucket) (top_of bucket) → IsBest weight (row_in entries) (Some (key_with sum least.0))
+  best_at least is led_by = which (top_of bucket) refl is led_by
     where
-      which : (top : Option Entry) → top ≡ top_of bucket → Some h ≡ option_map (λ (entry : Entry). entry.0) top → IsTop (has_entry bucket) top → IsBest weight (row_in entries) (Some (key_with sum h))
+      which : (top : Option Entry) → top ≡ top_of bucket → Some least ≡ option_map estimate_and_place top → IsTop (has_entry bucket) top → IsBest weight (row_in entries) (Some (key_with sum least.0))
       which None e f t = cc
-      which (Some top) e f t = let same : top.0 ≡ h = cc in subst (λ n. IsBest weight (row_in entries) (Some (key_with sum n))) same (best_of top e t.least)
+      which (Some top) e f t =
+          let both : (top.0, top.2) ≡ least = cc in
+          let same : top.0 ≡ least.0 = ap (λ (p : ℕ × ℕ). p.0) both in subst (λ n. IsBest weight (row_in entries) (Some (key_with sum n))) same (best_of top e t.least)

@@ -12,74 +12,106 @@ use Rattle.std.specs.Ordering.{nat_cmp, ordering_then, is_lt}
 use Rattle.std.specs.BinaryHeap.{heap_items, lt_by_cmp}
 use Rattle.std.specs.declared.cmp.Reverse.{Reverse}
 use Rattle.pb_model.proofs.Callers.{equal, equal_self}
+use Rattle.std.specs.Global.{Box}
+use Rattle.pb_lists.specs.declared.wide_entries.WideEntries.{WideEntries}
+use Rattle.pb_lists.specs.declared.bucket.Bucket.{Bucket}
+use Rattle.pb_lists.specs.Buckets.{has_boxed, top_of_boxed, has_entry, top_of}
 use Rattle.pb_lists.specs.Heaped.{Entry, entry_cmp, later, IsNoLater, is_same, is_among, first_of, is_second_first, top_of_two, IsTop}
 
 -- ---- entries
 
 pub same_self : (entry : Entry) → is_same entry entry ≡ true
-same_self entry = ap (λ b. b && nat_eq entry.1 entry.1) (equal_self entry.0) ∙ equal_self entry.1
+same_self entry =
+    ap (λ b. b && (nat_eq entry.1 entry.1 && nat_eq entry.2 entry.2)) (equal_self entry.0)
+    ∙ (ap (λ b. b && nat_eq entry.2 entry.2) (equal_self entry.1) ∙ equal_self entry.2)
 
 pub same_found : (entry other : Entry) → is_same entry other ≡ true → entry ≡ other
-same_found entry other same = which (nat_eq entry.0 other.0) refl same
+same_found entry other same = which (nat_eq entry.0 other.0) refl (nat_eq entry.1 other.1) refl same
   where
-    which : (b : Bool) → nat_eq entry.0 other.0 ≡ b → (b && nat_eq entry.1 other.1) ≡ true → entry ≡ other
-    which true e m =
+    which : (b : Bool) → nat_eq entry.0 other.0 ≡ b → (d : Bool) → nat_eq entry.1 other.1 ≡ d → (b && (d && nat_eq entry.2 other.2)) ≡ true → entry ≡ other
+    which true e true f m =
         let h : entry.0 ≡ other.0 = equal entry.0 other.0 e in
-        let state : entry.1 ≡ other.1 = equal entry.1 other.1 m in
-        ap (λ n. (n, entry.1)) h ∙ ap (λ s. (other.0, s)) state
-    which false e m = absurd (true≢false (sym m))
+        let state : entry.1 ≡ other.1 = equal entry.1 other.1 f in
+        let place : entry.2 ≡ other.2 = equal entry.2 other.2 m in
+        ap (λ n. (n, entry.1, entry.2)) h ∙ (ap (λ s. (other.0, s, entry.2)) state ∙ ap (λ p. (other.0, other.1, p)) place)
+    which true e false f m = absurd (true≢false (sym m))
+    which false e d f m = absurd (true≢false (sym m))
 
 abbrev ComesFirst : Entry → Entry → Type 0
-ComesFirst first second = (first.0 < second.0) ⊎ ((first.0 ≡ second.0) × (first.1 < second.1))
+ComesFirst first second =
+    (first.0 < second.0)
+    ⊎ ((first.0 ≡ second.0) × ((first.1 < second.1) ⊎ ((first.1 ≡ second.1) × (first.2 < second.2))))
 
 -- an entry is no later than another that doesn't come before it
 no_later : (entry other : Entry) → (ComesFirst other entry → ⊥) → IsNoLater entry other
 no_later entry other not_first = by_first (cases_order entry.0 other.0)
   where
-    by_second : entry.0 ≡ other.0 → ((other.1 < entry.1) ⊎ (entry.1 ≤ other.1)) → IsNoLater entry other
-    by_second e (inl l) = absurd (not_first (inr (sym e, l)))
-    by_second e (inr le) = inr (e, le)
+    by_third : entry.0 ≡ other.0 → entry.1 ≡ other.1 → ((other.2 < entry.2) ⊎ (entry.2 ≤ other.2)) → IsNoLater entry other
+    by_third e f (inl l) = absurd (not_first (inr (sym e, inr (sym f, l))))
+    by_third e f (inr le) = inr (e, inr (f, le))
+
+    by_second : entry.0 ≡ other.0 → ((entry.1 ≡ other.1) ⊎ ((entry.1 < other.1) ⊎ (other.1 < entry.1))) → IsNoLater entry other
+    by_second e (inl f) = by_third e f (cases_lt other.2 entry.2)
+    by_second e (inr (inl l)) = inr (e, inl l)
+    by_second e (inr (inr g)) = absurd (not_first (inr (sym e, inl g)))
 
     by_first : ((entry.0 ≡ other.0) ⊎ ((entry.0 < other.0) ⊎ (other.0 < entry.0))) → IsNoLater entry other
-    by_first (inl e) = by_second e (cases_lt other.1 entry.1)
+    by_first (inl e) = by_second e (cases_order entry.1 other.1)
     by_first (inr (inl l)) = inl l
     by_first (inr (inr g)) = absurd (not_first (inl g))
 
 -- how entries are compared
-compared : (a b : Entry) (first second : Ordering) → nat_cmp a.0 b.0 ≡ first → nat_cmp a.1 b.1 ≡ second → entry_cmp a b ≡ ordering_then first second
-compared a b first second e f = ap (λ o. ordering_then o (nat_cmp a.1 b.1)) e ∙ ap (ordering_then first) f
+compared : (a b : Entry) (first second third : Ordering) → nat_cmp a.0 b.0 ≡ first → nat_cmp a.1 b.1 ≡ second → nat_cmp a.2 b.2 ≡ third
+    → entry_cmp a b ≡ ordering_then (ordering_then first second) third
+compared a b first second third e f g =
+    ap (λ o. ordering_then (ordering_then o (nat_cmp a.1 b.1)) (nat_cmp a.2 b.2)) e
+    ∙ (ap (λ o. ordering_then (ordering_then first o) (nat_cmp a.2 b.2)) f ∙ ap (ordering_then (ordering_then first second)) g)
 
 -- an entry that no other comes before
 not_before : (entry other : Entry) → is_lt (entry_cmp other entry) ≡ false → IsNoLater entry other
 not_before entry other e = no_later entry other (λ first. true≢false (sym (ap is_lt (less first)) ∙ e))
   where
     less : ComesFirst other entry → entry_cmp other entry ≡ Less
-    less (inl l) = compared other entry Less (nat_cmp other.1 entry.1) (sym (nat_cmp_is other.0 entry.0 Less l)) refl
-    less (inr l) = compared other entry Equal Less (sym (nat_cmp_is other.0 entry.0 Equal l.0)) (sym (nat_cmp_is other.1 entry.1 Less l.1))
+    less (inl l) = compared other entry Less (nat_cmp other.1 entry.1) (nat_cmp other.2 entry.2) (sym (nat_cmp_is other.0 entry.0 Less l)) refl refl
+    less (inr (d, inl l)) = compared other entry Equal Less (nat_cmp other.2 entry.2) (sym (nat_cmp_is other.0 entry.0 Equal d)) (sym (nat_cmp_is other.1 entry.1 Less l)) refl
+    less (inr (d, inr l)) =
+        compared other entry Equal Equal Less (sym (nat_cmp_is other.0 entry.0 Equal d)) (sym (nat_cmp_is other.1 entry.1 Equal l.0)) (sym (nat_cmp_is other.2 entry.2 Less l.1))
 
 -- an entry that comes before another
 before : (entry other : Entry) → is_lt (entry_cmp entry other) ≡ true → IsNoLater entry other
 before entry other e = no_later entry other (λ first. true≢false (sym e ∙ ap is_lt (greater first)))
   where
     greater : ComesFirst other entry → entry_cmp entry other ≡ Greater
-    greater (inl l) = compared entry other Greater (nat_cmp entry.1 other.1) (sym (nat_cmp_is entry.0 other.0 Greater l)) refl
-    greater (inr l) = compared entry other Equal Greater (sym (nat_cmp_is entry.0 other.0 Equal (sym l.0))) (sym (nat_cmp_is entry.1 other.1 Greater l.1))
+    greater (inl l) = compared entry other Greater (nat_cmp entry.1 other.1) (nat_cmp entry.2 other.2) (sym (nat_cmp_is entry.0 other.0 Greater l)) refl refl
+    greater (inr (d, inl l)) = compared entry other Equal Greater (nat_cmp entry.2 other.2) (sym (nat_cmp_is entry.0 other.0 Equal (sym d))) (sym (nat_cmp_is entry.1 other.1 Greater l)) refl
+    greater (inr (d, inr l)) =
+        compared entry other Equal Equal Greater (sym (nat_cmp_is entry.0 other.0 Equal (sym d))) (sym (nat_cmp_is entry.1 other.1 Equal (sym l.0))) (sym (nat_cmp_is entry.2 other.2 Greater l.1))
 
 no_later_trans : (a b c : Entry) → IsNoLater a b → IsNoLater b c → IsNoLater a c
 no_later_trans a b c (inl l) (inl m) = inl (omega arith)
-no_later_trans a b c (inl l) (inr m) = let e = m.0 in inl (omega arith)
-no_later_trans a b c (inr l) (inl m) = let e = l.0 in inl (omega arith)
-no_later_trans a b c (inr l) (inr m) = let d = l.1 in let e = m.1 in inr (l.0 ∙ m.0, omega arith)
+no_later_trans a b c (inl l) (inr (e, m)) = inl (omega arith)
+no_later_trans a b c (inr (d, l)) (inl m) = inl (omega arith)
+no_later_trans a b c (inr (d, l)) (inr (e, m)) = inr (d ∙ e, rest l m)
+  where
+    rest : ((a.1 < b.1) ⊎ ((a.1 ≡ b.1) × (a.2 ≤ b.2))) → ((b.1 < c.1) ⊎ ((b.1 ≡ c.1) × (b.2 ≤ c.2))) → (a.1 < c.1) ⊎ ((a.1 ≡ c.1) × (a.2 ≤ c.2))
+    rest (inl x) (inl y) = inl (omega arith)
+    rest (inl x) (inr (f, y)) = inl (omega arith)
+    rest (inr (g, x)) (inl y) = inl (omega arith)
+    rest (inr (g, x)) (inr (f, y)) = inr (g ∙ f, omega arith)
 
 no_later_both : (a b : Entry) → IsNoLater a b → IsNoLater b a → a ≡ b
 no_later_both a b (inl l) (inl m) = absurd (omega arith)
-no_later_both a b (inl l) (inr m) = let e = m.0 in absurd (omega arith)
-no_later_both a b (inr l) (inl m) = let e = l.0 in absurd (omega arith)
-no_later_both a b (inr l) (inr m) =
-    let d = l.1 in
-    let e = m.1 in
-    let state : a.1 ≡ b.1 = omega arith in
-    ap (λ n. (n, a.1)) l.0 ∙ ap (λ s. (b.0, s)) state
+no_later_both a b (inl l) (inr (e, m)) = absurd (omega arith)
+no_later_both a b (inr (d, l)) (inl m) = absurd (omega arith)
+no_later_both a b (inr (d, l)) (inr (e, m)) = rest l m
+  where
+    rest : ((a.1 < b.1) ⊎ ((a.1 ≡ b.1) × (a.2 ≤ b.2))) → ((b.1 < a.1) ⊎ ((b.1 ≡ a.1) × (b.2 ≤ a.2))) → a ≡ b
+    rest (inl x) (inl y) = absurd (omega arith)
+    rest (inl x) (inr (f, y)) = absurd (omega arith)
+    rest (inr (g, x)) (inl y) = absurd (omega arith)
+    rest (inr (g, x)) (inr (f, y)) =
+        let place : a.2 ≡ b.2 = omega arith in
+        ap (λ n. (n, a.1, a.2)) d ∙ (ap (λ s. (b.0, s, a.2)) g ∙ ap (λ p. (b.0, b.1, p)) place)
 
 -- the top of a heap is before all others
 pub least_among : (item : Reverse Entry) (items : List (Reverse Entry)) → AllByRecursion (λ other. lt_by_cmp later item other ≡ false) items → (entry : Entry) → is_among entry items ≡ true → IsNoLater item.0 entry
@@ -146,6 +178,13 @@ heap_less old new (Some item) first moved same entry had = which (is_same entry 
         inl (top_first old item first member ∙ ap (λ s. Some s) (sym (same_found entry item.0 e)))
     which false e m = inr m
 
+-- and nothing comes in
+pub heap_had : (old new : List (Reverse Entry)) (popped : Option (Reverse Entry)) → IfSome popped (λ item. IsPermutation old (item ∷ new)) → IfNone popped (new ≡ old)
+    → (entry : Entry) → is_among entry new ≡ true → is_among entry old ≡ true
+heap_had old new None moved same entry has = ap (λ items. is_among entry items) (sym same) ∙ has
+heap_had old new (Some item) moved same entry has =
+    list_any-IsPermutation (λ it. is_same entry it.0) old (item ∷ new) moved ∙ (ap (λ b. is_same entry item.0 || b) has ∙ or-true (is_same entry item.0))
+
 -- ---- two parts
 
 either : {P : Type 0} (a b : Bool) → (a || b) ≡ true → (a ≡ true → P) → (b ≡ true → P) → P
@@ -182,6 +221,25 @@ two_top had more (Some first) (Some second) a b = which (is_lt (entry_cmp second
       none = tt;
     }
 
+-- and is one of its entries
+two_member : (entry : Entry) (had more : Bool) (first second : Option Entry) → (first ≡ Some entry → had ≡ true) → (second ≡ Some entry → more ≡ true) → top_of_two first second ≡ Some entry → (had || more) ≡ true
+two_member entry had more first second of_first of_second top = which (is_second_first first second) top
+  where
+    which : (b : Bool) → (if b then second else first) ≡ Some entry → (had || more) ≡ true
+    which true e = ap (λ m. had || m) (of_second e) ∙ or-true had
+    which false e = ap (λ m. m || more) (of_first e)
+
+boxed_member : (wide : Option (Box WideEntries)) (entry : Entry) → top_of_boxed wide ≡ Some entry → has_boxed wide entry ≡ true
+boxed_member None entry top = cc
+boxed_member (Some wide) entry top =
+    two_member entry (is_among entry wide.value.few.items) (is_among entry wide.value.many.items) (first_of wide.value.few.items) (first_of wide.value.many.items)
+    (first_member wide.value.few.items entry) (first_member wide.value.many.items entry) top
+
+pub top_member : (bucket : Bucket) (entry : Entry) → top_of bucket ≡ Some entry → has_entry bucket entry ≡ true
+top_member bucket entry top =
+    two_member entry (is_among entry bucket.words.items) (has_boxed bucket.wide entry) (first_of bucket.words.items) (top_of_boxed bucket.wide)
+    (first_member bucket.words.items entry) (boxed_member bucket.wide entry) top
+
 -- an entry comes into the first part, or into the second
 pub first_more : (is same had more : Bool) → is ≡ (same || had) → (is || more) ≡ (same || (had || more))
 first_more is same had more e = ap (λ b. b || more) e ∙ or_assoc same had more
@@ -207,11 +265,25 @@ second_less had more less first second is left entry member = either (had entry)
     part (inl e) = inl (ap (λ b. if b then second else first) is ∙ e)
     part (inr m) = inr (ap (λ b. had entry || b) m ∙ or-true (had entry))
 
+-- a part that loses its top gets nothing
+pub first_had : (had less more : Bool) → (less ≡ true → had ≡ true) → (less || more) ≡ true → (had || more) ≡ true
+first_had had less more kept member = either less more member (λ m. ap (λ b. b || more) (kept m)) (λ m. ap (λ b. had || b) m ∙ or-true had)
+
+pub second_had : (had more less : Bool) → (less ≡ true → more ≡ true) → (had || less) ≡ true → (had || more) ≡ true
+second_had had more less kept member = either had less member (λ m. ap (λ b. b || more) m) (λ m. ap (λ b. had || b) (kept m) ∙ or-true had)
+
 -- ---- the top after a push
 
 module _ (entry : Entry) (had has : Entry → Bool) (more : (other : Entry) → has other ≡ (is_same other entry || had other)) where
   pub pushed_member : has entry ≡ true
   pushed_member = more entry ∙ ap (λ b. b || had entry) (same_self entry)
+
+  pub pushed_had : (other : Entry) → has other ≡ true → (other ≡ entry) ⊎ (had other ≡ true)
+  pushed_had other here = which (or_cases (is_same other entry) (had other) (sym (more other) ∙ here))
+    where
+      which : (is_same other entry ≡ true) ⊎ (had other ≡ true) → (other ≡ entry) ⊎ (had other ≡ true)
+      which (inl s) = inl (same_found other entry s)
+      which (inr m) = inr m
 
   pub pushed_keeps : (other : Entry) → had other ≡ true → has other ≡ true
   pushed_keeps other here = more other ∙ (ap (λ b. is_same other entry || b) here ∙ or-true (is_same other entry))

@@ -1,10 +1,10 @@
 -- Tables of rows, and wider ones with the same rows.
-use Rattle.std.proofs.Common.{lit<, ◌≡◌, ◌<◌, ◌≤◌, ◌*◌, ◌^◌, ◌⊎◌, inl, inr, ℕ, zero, suc, drop, append_assoc, slice_get, Bool, true, false, cond, Option, Some, None, List, [], ◌∷◌, ◌++◌, refl, sym, ap, ◌∙◌, subst, arith, nat_eq}
+use Rattle.std.proofs.Common.{lit<, ◌≡◌, ◌<◌, ◌≤◌, ◌*◌, ◌^◌, ◌⊎◌, inl, inr, ℕ, zero, suc, drop, length, append_assoc, slice_get, Bool, true, false, cond, Option, Some, None, List, [], ◌∷◌, ◌++◌, refl, sym, ap, ◌∙◌, subst, arith, nat_eq}
 use Rattle.std.proofs.Math.Nat.{pow-le-pow_right}
 use Rattle.std.proofs.lemmas.Bool.{eq-eqb, cases_lt}
-use Rattle.std.specs.Map.{lookup, keys_of}
+use Rattle.std.specs.Map.{lookup, keys_of, values_of}
 use Rattle.std.specs.List.{AllByRecursion, IsDistinct}
-use Rattle.indexmap.specs.IndexMap.{insert_entry}
+use Rattle.indexmap.specs.IndexMap.{insert_entry, set_value_at}
 use Rattle.pb_model.specs.declared.row.Row.{Row}
 use Rattle.pb_lists.specs.Bundle.{row_in}
 use Rattle.pb_lists.specs.NarrowRow.{FitsWords, FitsParent, IsNarrow}
@@ -31,6 +31,69 @@ put_found state value (entry ∷ entries) other = at (nat_eq state entry.0) refl
         ap (λ b. cond b (Some entry.1) (lookup (nat_eq other) (insert_entry nat_eq entries state value))) d
         ∙ sym (ap (λ b. cond b (Some value) (Some entry.1)) (subst (λ n. nat_eq state n ≡ false) (sym (equal other entry.0 d)) e))
     at false e false d next = ap (λ b. cond b (Some entry.1) (lookup (nat_eq other) (insert_entry nat_eq entries state value))) d ∙ next
+
+apart_at : (key : ℕ) (entries : List (ℕ × Row)) (place state : ℕ) (row : Row) → slice_get entries place ≡ Some (state, row) → AllByRecursion (λ other. nat_eq key other ≡ false) (keys_of entries) → nat_eq key state ≡ false
+apart_at key [] place state row found apart = cc
+apart_at key (entry ∷ entries) zero state row found apart = let same : entry ≡ (state, row) = cc in subst (λ (e : ℕ × Row). nat_eq key e.0 ≡ false) same apart.0
+apart_at key (entry ∷ entries) (suc place) state row found apart = apart_at key entries place state row found apart.1
+
+-- a row keeps its place
+pub put_place : (entries : List (ℕ × Row)) (state : ℕ) (row : Row) (place other : ℕ) (was : Row) → slice_get entries place ≡ Some (other, was)
+    → (now : Row) × (slice_get (insert_entry nat_eq entries state row) place ≡ Some (other, now))
+put_place [] state row place other was found = cc
+put_place (entry ∷ entries) state row zero other was found = at (nat_eq state entry.0)
+  where
+    at : (here : Bool) → (now : Row) × (slice_get (cond here ((entry.0, row) ∷ entries) (entry ∷ insert_entry nat_eq entries state row)) 0 ≡ Some (other, now))
+    at true = let same : entry ≡ (other, was) = cc in (row, ap (λ (e : ℕ × Row). Some (e.0, row)) same)
+    at false = (was, found)
+put_place (entry ∷ entries) state row (suc place) other was found = at (nat_eq state entry.0) (put_place entries state row place other was found)
+  where
+    at : (here : Bool) → ((now : Row) × (slice_get (insert_entry nat_eq entries state row) place ≡ Some (other, now)))
+        → (now : Row) × (slice_get (cond here ((entry.0, row) ∷ entries) (entry ∷ insert_entry nat_eq entries state row)) (suc place) ≡ Some (other, now))
+    at true next = (was, found)
+    at false next = next
+
+-- a new row goes last
+pub put_new : (entries : List (ℕ × Row)) (state : ℕ) (row : Row) → row_in entries state ≡ None → slice_get (insert_entry nat_eq entries state row) (length entries) ≡ Some (state, row)
+put_new [] state row absent = refl
+put_new (entry ∷ entries) state row absent = at (nat_eq state entry.0) absent (λ a. put_new entries state row a)
+  where
+    at : (here : Bool) → cond here (Some entry.1) (row_in entries state) ≡ None → (row_in entries state ≡ None → slice_get (insert_entry nat_eq entries state row) (length entries) ≡ Some (state, row))
+        → slice_get (cond here ((entry.0, row) ∷ entries) (entry ∷ insert_entry nat_eq entries state row)) (suc (length entries)) ≡ Some (state, row)
+    at true a next = cc
+    at false a next = next a
+
+-- a state without a row has none after a row is written at a place
+pub absent_at : (entries : List (ℕ × Row)) (place : ℕ) (row : Row) (other : ℕ) → row_in entries other ≡ None → row_in (set_value_at entries place row) other ≡ None
+absent_at [] place row other absent = absent
+absent_at (entry ∷ entries) zero row other absent = at (nat_eq other entry.0) absent
+  where
+    at : (here : Bool) → cond here (Some entry.1) (row_in entries other) ≡ None → cond here (Some row) (row_in entries other) ≡ None
+    at true a = cc
+    at false a = a
+absent_at (entry ∷ entries) (suc place) row other absent = at (nat_eq other entry.0) absent (λ a. absent_at entries place row other a)
+  where
+    at : (here : Bool) → cond here (Some entry.1) (row_in entries other) ≡ None → (row_in entries other ≡ None → row_in (set_value_at entries place row) other ≡ None)
+        → cond here (Some entry.1) (row_in (set_value_at entries place row) other) ≡ None
+    at true a next = cc
+    at false a next = next a
+
+pub value_at : (entries : List (ℕ × Row)) (place state : ℕ) (row : Row) → slice_get entries place ≡ Some (state, row) → slice_get (values_of entries) place ≡ Some row
+value_at [] place state row found = cc
+value_at (entry ∷ entries) zero state row found = let same : entry ≡ (state, row) = cc in ap (λ (e : ℕ × Row). Some e.1) same
+value_at (entry ∷ entries) (suc place) state row found = value_at entries place state row found
+
+-- the row at a place is put by writing it there
+pub put_at : (entries : List (ℕ × Row)) (state : ℕ) (was row : Row) (place : ℕ) → slice_get entries place ≡ Some (state, was) → IsDistinct nat_eq (keys_of entries)
+    → set_value_at entries place row ≡ insert_entry nat_eq entries state row
+unfolding IsDistinct
+put_at [] state was row place found distinct = cc
+put_at (entry ∷ entries) state was row zero found distinct =
+    let same : entry ≡ (state, was) = cc in
+    sym (ap (λ b. cond b ((entry.0, row) ∷ entries) (entry ∷ insert_entry nat_eq entries state row)) (eq-eqb state entry.0 (ap (λ (e : ℕ × Row). e.0) (sym same))))
+put_at (entry ∷ entries) state was row (suc place) found distinct =
+    ap (λ others. entry ∷ others) (put_at entries state was row place found distinct.1)
+    ∙ sym (ap (λ b. cond b ((entry.0, row) ∷ entries) (entry ∷ insert_entry nat_eq entries state row)) (equal_swap state entry.0 ∙ apart_at entry.0 entries place state was found distinct.0))
 
 -- ---- words
 

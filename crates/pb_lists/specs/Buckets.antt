@@ -1,7 +1,9 @@
--- The buckets of a bundle, one for each sum. A bucket has the estimates and states of Opened rows
--- whose keys have that sum, the least on top. The state of an Opened row is in the bucket of its
--- key's sum, with its key's estimate. A state may stay in a bucket that isn't its row's any more.
-use Rattle.std.specs.Prelude.{◌≡◌, ◌≤◌, ◌<◌, ◌+◌, ◌⊎◌, ◌&&◌, ◌||◌, ℕ, Bool, true, false, Option, None, Some, List, [], ◌∷◌, IfSome, nat_eq, if◌then◌else◌}
+-- The buckets of a bundle, one for each sum. A bucket has entries of Opened rows whose keys have
+-- that sum, the least on top: each the estimate, the state, and the place of the row. The state of
+-- an Opened row is in the bucket of its key's sum, with its key's estimate. A state may stay in a
+-- bucket that isn't its row's any more. The place is always that of the state's row, since rows are
+-- never taken out.
+use Rattle.std.specs.Prelude.{◌≡◌, ◌≤◌, ◌<◌, ◌+◌, ◌⊎◌, ◌&&◌, ◌||◌, ℕ, Bool, true, false, Option, None, Some, List, [], ◌∷◌, IfSome, nat_eq, slice_get, if◌then◌else◌}
 use Rattle.std.specs.BTreeMap.{BTreeMap, get}
 use Rattle.std.specs.Global.{Box}
 use Rattle.pb_model.specs.declared.key.Key.{Key}
@@ -58,27 +60,29 @@ has_in (Some bucket) entry = has_entry bucket entry
 abbrev pub has_at : Buckets → Key → Entry → Bool
 has_at buckets sum entry = has_in (get key_cmp buckets sum) entry
 
--- whether the state is in the bucket of the key's sum, with the key's estimate
-abbrev pub has_state : Buckets → Key → (state : ℕ) → Bool
-has_state buckets key state = has_at buckets (sum_of key) (estimate_in key, state)
+-- the state is in the bucket of the key's sum, with the key's estimate
+abbrev pub HasState : Buckets → Key → (state : ℕ) → Type 0
+HasState buckets key state =
+    (place : ℕ) × (has_at buckets (sum_of key) (estimate_in key, state, place) ≡ true)
 
 abbrev pub first_key_of : List (Key × Bucket) → Option Key
 first_key_of [] = None
 first_key_of (first ∷ others) = Some first.0
 
-abbrev pub is_of : Option Entry → (state : ℕ) → Bool
-is_of None state = false
-is_of (Some entry) state = nat_eq entry.1 state
+-- the place of an entry, if that is one of this state
+abbrev pub place_if_of : Option Entry → (state : ℕ) → Option ℕ
+place_if_of None state = None
+place_if_of (Some entry) state = if nat_eq entry.1 state then Some entry.2 else None
 
--- whether the first bucket has this state on top
-abbrev pub is_on_top : List (Key × Bucket) → (state : ℕ) → Bool
-is_on_top [] state = false
-is_on_top (first ∷ others) state = is_of (top_of first.1) state
+-- the place of this state's row, if the first bucket has the state on top
+abbrev pub place_on_top : List (Key × Bucket) → (state : ℕ) → Option ℕ
+place_on_top [] state = None
+place_on_top (first ∷ others) state = place_if_of (top_of first.1) state
 
 -- each Opened row is in the bucket of its key's sum
 abbrev pub HasFiled : Weight → List (ℕ × Row) → Buckets → Type 0
 HasFiled weight entries buckets = (state : ℕ) (row : Row) → row_in entries state ≡ Some row
-    → row.status ≡ Opened → has_state buckets (key_at weight row) state ≡ true
+    → row.status ≡ Opened → HasState buckets (key_at weight row) state
 
 -- what a bucket has on top is an Opened row of this sum and the entry's estimate
 abbrev pub is_led : Weight → List (ℕ × Row) → Key → Option Entry → Bool
@@ -104,8 +108,22 @@ KeepsLive weight entries sum bucket left = (entry : Entry)
     → is_open_at weight (row_in entries entry.1) (key_with sum entry.0) ≡ true
     → has_entry bucket entry ≡ true → has_entry left entry ≡ true
 
+-- the row at the entry's place is that of the entry's state
+abbrev pub IsPlaced : List (ℕ × Row) → Entry → Type 0
+IsPlaced entries entry = (row : Row) × (slice_get entries entry.2 ≡ Some (entry.1, row))
+
+-- each entry of a bucket has the place of its state's row
+abbrev pub ArePlaced : List (ℕ × Row) → Bucket → Type 0
+ArePlaced entries bucket = (entry : Entry) → has_entry bucket entry ≡ true → IsPlaced entries entry
+
+-- the same in all buckets
+abbrev pub HasPlaces : List (ℕ × Row) → Buckets → Type 0
+HasPlaces entries buckets =
+    (sum : Key) (entry : Entry) → has_at buckets sum entry ≡ true → IsPlaced entries entry
+
 -- what holds between the weight, the rows and the buckets of a bundle
 pub record AreFields (weight : Weight) (entries : List (ℕ × Row)) (buckets : Buckets) : Type 0 where
   pub filed : HasFiled weight entries buckets
   pub tidy : IsTidy weight entries buckets
+  pub placed : HasPlaces entries buckets
   pub is_weight : IsWeight weight

@@ -54,13 +54,25 @@ impl AnyRows {
         self.rows.get(state).copied()
     }
 
-    // The g and the estimate of a state's row, if that is Opened.
-    pub(crate) fn opened(&self, state: &Packed) -> Option<(u64, Estimate)>
-        ensures { result ≡ opened_costs (row_in self.now.entries state.now) }
+    // The row at this place.
+    pub(crate) fn row_at(&self, place: u64) -> Option<Row>
+        ensures { (state : ℕ) (row : _) → slice_get self.now.entries place ≡ Some (state, row)
+            → result ≡ row_in self.now.entries state }
     {
-        match self.rows.get(state) {
-            Some(row) => match row.status {
-                Status::Opened => Some((row.g, row.estimate)),
+        match self.rows.get_index(place as usize) {
+            Some(entry) => Some(*entry.1),
+            None => None,
+        }
+    }
+
+    // The g and the estimate of the row at this place, if that is Opened.
+    pub(crate) fn opened_at(&self, place: u64) -> Option<(u64, Estimate)>
+        ensures { (state : ℕ) (row : _) → slice_get self.now.entries place ≡ Some (state, row)
+            → result ≡ opened_costs (row_in self.now.entries state) }
+    {
+        match self.rows.get_index(place as usize) {
+            Some(entry) => match entry.1.status {
+                Status::Opened => Some((entry.1.g, entry.1.estimate)),
                 _ => None,
             },
             None => None,
@@ -124,6 +136,33 @@ impl AnyRows {
             Ok(_) => {}
             Err(_) => unreachable!(),
         }
+    }
+
+    // Writes the status of the row at this place. It looks up nothing.
+    pub(crate) fn set_status_at(&mut self, place: u64, status: Status)
+        ensures entries { (state : ℕ) (row : _)
+            → slice_get self.old.entries place ≡ Some (state, row)
+            → self.new.entries ≡ insert_entry nat_eq self.old.entries state
+            (record row { status = status }) }
+        ensures width { self.new.width ≡ self.old.width }
+    {
+        let Some(row) = self.rows.get_index_mut(place as usize) else {
+            return;
+        };
+        row.status = status;
+    }
+
+    // Replaces the row at this place. It looks up nothing.
+    pub(crate) fn put_at(&mut self, place: u64, row: &Row)
+        ensures entries { (state : ℕ) (was : _)
+            → slice_get self.old.entries place ≡ Some (state, was)
+            → self.new.entries ≡ insert_entry nat_eq self.old.entries state row.now }
+        ensures width { self.new.width ≡ self.old.width }
+    {
+        let Some(old) = self.rows.get_index_mut(place as usize) else {
+            return;
+        };
+        *old = *row;
     }
 
     // Writes the status of a state's row, by one look-up.

@@ -1,21 +1,22 @@
-//! The states of the Opened rows at one sum, each with its estimate.
-ghost use Rattle.std.specs.Prelude.{◌≡◌, ◌⊎◌, ◌||◌, ◌≤◌, ◌<◌, true, false, ℕ, Some, None, IsSome, IfSome, OnOk, OnErr};
+//! The states of the Opened rows at one sum, each with its estimate and its row's place.
+ghost use Rattle.std.specs.Prelude.{◌≡◌, ◌⊎◌, ◌||◌, ◌<◌, true, false, Some, None, IsSome, OnOk, OnErr, nat_eq};
 ghost use Rattle.std.specs.Global.{Box};
 ghost use Rattle.std.specs.Option.{option_map};
-ghost use Rattle.pb_lists.specs.Heaped.{Entry, is_same, IsTop};
-ghost use Rattle.pb_lists.specs.Buckets.{has_boxed, top_of_boxed, count_of_boxed, has_entry, count_of, top_of, is_of};
+ghost use Rattle.pb_lists.specs.Heaped.{Entry, estimate_and_place, is_same, IsTop};
+ghost use Rattle.pb_lists.specs.Buckets.{has_boxed, top_of_boxed, has_entry, count_of, top_of, place_if_of};
 
-use crate::heap::Heap;
 use crate::wide_entries::{WideEntries, first_of_two, is_second_first};
+use crate::word_entries::WordEntries;
+use crate::word_entry::WordEntry;
 use pb_packed::Packed;
 use std::alloc::{AllocError, Global};
 
-// The entries at one sum, each an estimate and a state. The least entry, by the estimate and then by
-// the state, comes first. The states of most tasks have one word, and such a bucket has no wide
-// part.
+// The entries at one sum, each an estimate, a state and the place of its row. The least entry, by
+// the estimate and then by the state, comes first. The states of most tasks have one word, and such
+// a bucket has no wide part.
 #[derive(Drop)]
 pub(crate) struct Bucket {
-    pub(crate) words: Heap<1>,
+    pub(crate) words: WordEntries,
     pub(crate) wide: Option<Box<WideEntries>>,
 }
 
@@ -26,39 +27,49 @@ impl Bucket {
         ensures top { top_of result ≡ None }
     {
         Bucket {
-            words: Heap::new(alloc),
+            words: WordEntries::new(alloc),
             wide: None,
         }
     }
 
     // Puts an entry into the bucket. The top is then the entry, or the same as before: the calls of
-    // `top` are for their clauses alone.
-    pub(crate) fn push(&mut self, alloc: Global, h: u64, state: &Packed) -> Result<(), AllocError>
-        ensures member { OnOk result (has_entry self.new (h, state.now) ≡ true) }
+    // `show_top` are for their clauses alone.
+    pub(crate) fn push(
+        &mut self,
+        alloc: Global,
+        h: u64,
+        state: &Packed,
+        place: u64,
+    ) -> Result<(), AllocError>
+        ensures member { OnOk result (has_entry self.new (h, state.now, place) ≡ true) }
         ensures kept { (other : Entry) → has_entry self.old other ≡ true
             → has_entry self.new other ≡ true }
+        ensures had { OnOk result ((other : Entry) → has_entry self.new other ≡ true
+            → (other ≡ (h, state.now, place)) ⊎ (has_entry self.old other ≡ true)) }
         ensures top { OnOk result ((top_of self.new ≡ top_of self.old)
-            ⊎ (top_of self.new ≡ Some (h, state.now))) }
+            ⊎ (top_of self.new ≡ Some (h, state.now, place))) }
         ensures first { OnOk result (IsTop (has_entry self.new) (top_of self.new)) }
         ensures err { OnErr result (top_of self.new ≡ top_of self.old) }
+        ensures same { OnErr result ((other : Entry)
+            → has_entry self.new other ≡ has_entry self.old other) }
     {
         self.show_top();
-        self.add(alloc, h, state)?;
+        self.add(alloc, h, state, place)?;
         self.show_top();
         Ok(())
     }
 
     #[inline]
-    fn add(&mut self, alloc: Global, h: u64, state: &Packed) -> Result<(), AllocError>
+    fn add(&mut self, alloc: Global, h: u64, state: &Packed, place: u64) -> Result<(), AllocError>
         ensures added { OnOk result ((other : Entry) → has_entry self.new other
-            ≡ (is_same other (h, state.now) || has_entry self.old other)) }
+            ≡ (is_same other (h, state.now, place) || has_entry self.old other)) }
         ensures err { OnErr result ((other : Entry)
             → has_entry self.new other ≡ has_entry self.old other) }
         ensures top { OnErr result (top_of self.new ≡ top_of self.old) }
     {
-        match state.as_words::<1>() {
-            Some(words) => self.words.push(h, words),
-            None => add_wide(alloc, &mut self.wide, h, state),
+        match WordEntry::of(h, state, place) {
+            Some(entry) => self.words.push(entry),
+            None => add_wide(alloc, &mut self.wide, h, state, place),
         }
     }
 
@@ -73,7 +84,7 @@ impl Bucket {
 
     // The first entry: that of the least estimate, and of the least state among equal estimates.
     #[inline]
-    pub(crate) fn top(&self) -> Option<(u64, Packed)>
+    pub(crate) fn top(&self) -> Option<(u64, Packed, u64)>
         ensures first { result ≡ top_of self.now }
         ensures top { IsTop (has_entry self.now) (top_of self.now) }
     {
@@ -84,45 +95,48 @@ impl Bucket {
         }
     }
 
-    // The estimate of the first entry.
+    // The estimate and the place of the first entry. It makes no state.
     #[inline]
-    pub(crate) fn least(&self) -> Option<u64>
-        ensures least { result ≡ option_map (λ entry. entry.0) (top_of self.now) }
+    pub(crate) fn first(&self) -> Option<(u64, u64)>
+        ensures first { result ≡ option_map estimate_and_place (top_of self.now) }
         ensures top { IsTop (has_entry self.now) (top_of self.now) }
     {
         match &self.wide {
             Some(_) => match self.top() {
-                Some(top) => Some(top.0),
+                Some(top) => Some((top.0, top.2)),
                 None => None,
             },
             None => match self.words.first() {
-                Some(first) => Some(first.0),
+                Some(first) => Some((first.estimate(), first.place())),
                 None => None,
             },
         }
     }
 
-    // Whether the first entry is one of this state.
+    // The place of the first entry, if that is one of this state.
     #[inline]
-    pub(crate) fn is_on_top(&self, state: &Packed) -> bool
-        ensures { result ≡ is_of (top_of self.now) state.now }
+    pub(crate) fn place_if_first(&self, state: &Packed) -> Option<u64>
+        ensures { result ≡ place_if_of (top_of self.now) state.now }
     {
         match &self.wide {
             Some(_) => match self.top() {
-                Some(top) => top.1 == *state,
-                None => false,
+                Some(top) if top.1 == *state => Some(top.2),
+                _ => None,
             },
-            None => match (self.words.first(), state.as_words::<1>()) {
-                (Some(first), Some(words)) => first.1 == words,
-                _ => false,
+            None => match self.words.first() {
+                Some(first) if is_word(state, first.word()) => Some(first.place()),
+                _ => None,
             },
         }
     }
 
     // Takes the first entry out.
+    #[inline]
     pub(crate) fn pop(&mut self)
         ensures left { (other : Entry) → has_entry self.old other ≡ true
             → (top_of self.old ≡ Some other) ⊎ (has_entry self.new other ≡ true) }
+        ensures had { (other : Entry) → has_entry self.new other ≡ true
+            → has_entry self.old other ≡ true }
         ensures fewer { IsSome (top_of self.old) → count_of self.new < count_of self.old }
     {
         match &mut self.wide {
@@ -136,38 +150,16 @@ impl Bucket {
             None => self.words.pop(),
         }
     }
+}
 
-    // Whether all states have one word.
-    #[inline]
-    pub(crate) fn is_narrow(&self) -> bool
-        ensures { result ≡ true → self.now.wide ≡ None }
-    {
-        self.wide.is_none()
-    }
-
-    // The first entry of a bucket whose states have one word, with that word.
-    #[inline]
-    pub(crate) fn first_word(&self) -> Option<(u64, u64)>
-        requires { self.now.wide ≡ None }
-        ensures first { result ≡ top_of self.now }
-        ensures top { IsTop (has_entry self.now) (top_of self.now) }
-    {
-        match self.words.first() {
-            Some(first) => Some((first.0, first.1.low_word())),
-            None => None,
-        }
-    }
-
-    // Takes the first entry out of a bucket whose states have one word.
-    #[inline]
-    pub(crate) fn pop_word(&mut self)
-        requires { self.old.wide ≡ None }
-        ensures narrow { self.new.wide ≡ None }
-        ensures left { (other : Entry) → has_entry self.old other ≡ true
-            → (top_of self.old ≡ Some other) ⊎ (has_entry self.new other ≡ true) }
-        ensures fewer { IsSome (top_of self.old) → count_of self.new < count_of self.old }
-    {
-        self.words.pop();
+// Whether the state is this word.
+#[inline]
+fn is_word(state: &Packed, word: u64) -> bool
+    ensures { result ≡ nat_eq word state.now }
+{
+    match state.as_word() {
+        Some(own) => word == own,
+        None => false,
     }
 }
 
@@ -188,18 +180,19 @@ fn add_wide(
     wide: &mut Option<Box<WideEntries>>,
     h: u64,
     state: &Packed,
+    place: u64,
 ) -> Result<(), AllocError>
     ensures added { OnOk result ((other : Entry) → has_boxed wide.new other
-        ≡ (is_same other (h, state.now) || has_boxed wide.old other)) }
+        ≡ (is_same other (h, state.now, place) || has_boxed wide.old other)) }
     ensures err { OnErr result ((other : Entry)
         → has_boxed wide.new other ≡ has_boxed wide.old other) }
     ensures top { OnErr result (top_of_boxed wide.new ≡ top_of_boxed wide.old) }
 {
     match wide {
-        Some(entries) => entries.push(h, state),
+        Some(entries) => entries.push(h, state, place),
         None => {
             let mut entries = WideEntries::new(alloc);
-            entries.push(h, state)?;
+            entries.push(h, state, place)?;
             *wide = Some(Box::new(alloc, entries)?);
             Ok(())
         }

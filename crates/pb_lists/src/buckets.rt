@@ -1,5 +1,5 @@
 //! The Opened rows of a bundle, in buckets by the sum of their keys.
-ghost use Rattle.std.specs.Prelude.{◌≡◌, ◌≤◌, ◌∷◌, true, false, ℕ, List, Some, None, OnOk, OnErr};
+ghost use Rattle.std.specs.Prelude.{◌≡◌, ◌≤◌, true, false, ℕ, List, Some, OnOk, OnErr};
 ghost use Rattle.std.specs.BTreeMap.{btree_map_len};
 ghost use Rattle.pb_lists.specs.Bundle.{row_in};
 ghost use Rattle.pb_lists.specs.Fields.{weight_of, has_key, is_open_at, sum_of, estimate_in, key_with};
@@ -7,8 +7,9 @@ ghost use Rattle.pb_model.specs.Key.{key_of};
 ghost use Rattle.pb_model.specs.Weight.{Weight};
 ghost use Rattle.pb_model.specs.declared.row.Row.{Row};
 ghost use Rattle.pb_lists.specs.Heaped.{Entry};
-ghost use Rattle.pb_lists.specs.Buckets.{has_entry, has_at, has_state, first_key_of, is_on_top, top_of};
+ghost use Rattle.pb_lists.specs.Buckets.{has_entry, has_at, first_key_of, place_on_top, top_of};
 ghost use Rattle.pb_lists.specs.Buckets.{KeepsLive, KeepsEntries, HasFiled, IsTidy, is_led};
+ghost use Rattle.pb_lists.specs.Buckets.{IsPlaced, ArePlaced, HasPlaces};
 
 use crate::bucket::Bucket;
 use crate::rows::Rows;
@@ -65,59 +66,53 @@ pub(crate) fn key_from(sum: &Key, h: u64) -> Key
     }
 }
 
-// Puts a state into the bucket of its key's sum. If memory runs out, each bucket keeps its entries.
+// Puts a state into the bucket of its key's sum, with the place of its row. If memory runs out,
+// each bucket keeps its entries.
 pub(crate) fn file(
     alloc: Global,
     buckets: &mut Buckets,
     key: &Key,
     state: &Packed,
+    place: u64,
 ) -> Result<(), AllocError>
     ensures kept { KeepsEntries buckets.old buckets.new }
-    ensures filed { OnOk result (has_state buckets.new key.now state.now ≡ true) }
+    ensures filed { OnOk result (has_at buckets.new (sum_of key.now)
+        (estimate_in key.now, state.now, place) ≡ true) }
+    ensures placed { OnOk result ((entries : List (ℕ × Row))
+        → IsPlaced entries (estimate_in key.now, state.now, place)
+        → HasPlaces entries buckets.old → HasPlaces entries buckets.new) }
     ensures led { OnOk result ((weight : Weight) (entries : List (ℕ × Row))
         → is_open_at weight (row_in entries state.now) key.now ≡ true
         → IsTidy weight entries buckets.old → IsTidy weight entries buckets.new) }
     ensures err { OnErr result ((weight : Weight) (entries : List (ℕ × Row))
         → IsTidy weight entries buckets.old → IsTidy weight entries buckets.new) }
+    ensures same { OnErr result ((entries : List (ℕ × Row))
+        → HasPlaces entries buckets.old → HasPlaces entries buckets.new) }
 {
     let sum = sum_in(key);
     let h = h_in(key);
     match buckets.get_mut(&sum) {
         Some(bucket) => {
-            bucket.push(alloc, h, state)?;
+            bucket.push(alloc, h, state, place)?;
             Ok(())
         }
         None => {
             let mut bucket = Bucket::new(alloc);
-            bucket.push(alloc, h, state)?;
+            bucket.push(alloc, h, state, place)?;
             buckets.insert(sum, bucket)?;
             Ok(())
         }
     }
 }
 
-// Tidies the first bucket if what it has on top is this state, whose row alone was changed.
-pub(crate) fn tidy_after(buckets: &mut Buckets, rows: &Rows, num: u64, den: u64, state: &Packed)
-    requires num { num ≤ 1000 }
-    requires den { den ≤ 1000 }
-    requires tidy { is_on_top buckets.old.entries state.now ≡ false
-        → IsTidy (weight_of num den) rows.now.entries buckets.old }
-    ensures filed { HasFiled (weight_of num den) rows.now.entries buckets.old
-        → HasFiled (weight_of num den) rows.now.entries buckets.new }
-    ensures tidy { IsTidy (weight_of num den) rows.now.entries buckets.new }
-{
-    if is_first(buckets, state) {
-        tidy(buckets, rows, num, den);
-    }
-}
-
-// Whether the first bucket has this state on top.
-fn is_first(buckets: &Buckets, state: &Packed) -> bool
-    ensures { result ≡ is_on_top buckets.now.entries state.now }
+// The place of this state's row, if the first bucket has the state on top. It looks up nothing.
+#[inline]
+pub(crate) fn place_on_top(buckets: &Buckets, state: &Packed) -> Option<u64>
+    ensures { result ≡ place_on_top buckets.now.entries state.now }
 {
     match buckets.first_key_value() {
-        Some((_, bucket)) => bucket.is_on_top(state),
-        None => false,
+        Some((_, bucket)) => bucket.place_if_first(state),
+        None => None,
     }
 }
 
@@ -126,9 +121,11 @@ fn is_first(buckets: &Buckets, state: &Packed) -> bool
 pub(crate) fn tidy(buckets: &mut Buckets, rows: &Rows, num: u64, den: u64)
     requires num { num ≤ 1000 }
     requires den { den ≤ 1000 }
+    requires placed { HasPlaces rows.now.entries buckets.old }
     ensures filed { HasFiled (weight_of num den) rows.now.entries buckets.old
         → HasFiled (weight_of num den) rows.now.entries buckets.new }
     ensures tidy { IsTidy (weight_of num den) rows.now.entries buckets.new }
+    ensures placed { HasPlaces rows.now.entries buckets.new }
 {
     while let Some(sum) = first_sum(buckets) {
         if clear_first(buckets, rows, num, den, &sum) {
@@ -152,9 +149,11 @@ fn clear_first(buckets: &mut Buckets, rows: &Rows, num: u64, den: u64, sum: &Key
     requires num { num ≤ 1000 }
     requires den { den ≤ 1000 }
     requires first { first_key_of buckets.old.entries ≡ Some sum.now }
+    requires placed { HasPlaces rows.now.entries buckets.old }
     ensures filed { HasFiled (weight_of num den) rows.now.entries buckets.old
         → HasFiled (weight_of num den) rows.now.entries buckets.new }
     ensures tidy { result ≡ true → IsTidy (weight_of num den) rows.now.entries buckets.new }
+    ensures placed { HasPlaces rows.now.entries buckets.new }
     ensures first { first_key_of buckets.new.entries ≡ Some sum.now }
     ensures empty { result ≡ false → (entry : Entry) → has_at buckets.new sum.now entry ≡ false }
     ensures len { btree_map_len buckets.new ≡ btree_map_len buckets.old }
@@ -166,55 +165,22 @@ fn clear_first(buckets: &mut Buckets, rows: &Rows, num: u64, den: u64, sum: &Key
 }
 
 // Takes entries from the top of a bucket until the row of the top entry is Opened at the bucket's
-// sum and the entry's estimate. The answer is whether an entry is left.
+// sum and the entry's estimate. The row is read at the entry's place, so no state is made or looked
+// up. The answer is whether an entry is left.
 fn clear(bucket: &mut Bucket, rows: &Rows, num: u64, den: u64, sum: &Key) -> bool
     requires num { num ≤ 1000 }
     requires den { den ≤ 1000 }
+    requires placed { ArePlaced rows.now.entries bucket.old }
     ensures kept { KeepsLive (weight_of num den) rows.now.entries sum.now bucket.old bucket.new }
+    ensures had { (entry : Entry) → has_entry bucket.new entry ≡ true
+        → has_entry bucket.old entry ≡ true }
     ensures led { result ≡ true
         → is_led (weight_of num den) rows.now.entries sum.now (top_of bucket.new) ≡ true }
     ensures none { result ≡ false → (entry : Entry) → has_entry bucket.new entry ≡ false }
 {
-    if bucket.is_narrow() {
-        clear_words(bucket, rows, num, den, sum)
-    } else {
-        clear_all(bucket, rows, num, den, sum)
-    }
-}
-
-// The same for a bucket whose states have one word. Each is looked up as that word.
-fn clear_words(bucket: &mut Bucket, rows: &Rows, num: u64, den: u64, sum: &Key) -> bool
-    requires num { num ≤ 1000 }
-    requires den { den ≤ 1000 }
-    requires narrow { bucket.old.wide ≡ None }
-    ensures kept { KeepsLive (weight_of num den) rows.now.entries sum.now bucket.old bucket.new }
-    ensures led { result ≡ true
-        → is_led (weight_of num den) rows.now.entries sum.now (top_of bucket.new) ≡ true }
-    ensures none { result ≡ false → (entry : Entry) → has_entry bucket.new entry ≡ false }
-{
-    while let Some(first) = bucket.first_word() {
+    while let Some(first) = bucket.first() {
         let key = key_from(sum, first.0);
-        if is_at(rows.opened_word(first.1), num, den, &key) {
-            return true;
-        }
-        bucket.pop_word();
-    }
-    false
-}
-
-// The same for a bucket of any states.
-#[inline(never)]
-fn clear_all(bucket: &mut Bucket, rows: &Rows, num: u64, den: u64, sum: &Key) -> bool
-    requires num { num ≤ 1000 }
-    requires den { den ≤ 1000 }
-    ensures kept { KeepsLive (weight_of num den) rows.now.entries sum.now bucket.old bucket.new }
-    ensures led { result ≡ true
-        → is_led (weight_of num den) rows.now.entries sum.now (top_of bucket.new) ≡ true }
-    ensures none { result ≡ false → (entry : Entry) → has_entry bucket.new entry ≡ false }
-{
-    while let Some(top) = bucket.top() {
-        let key = key_from(sum, top.0);
-        if is_at(rows.opened(&top.1), num, den, &key) {
+        if is_at(rows.opened_at(first.1), num, den, &key) {
             return true;
         }
         bucket.pop();

@@ -1,4 +1,4 @@
-ghost use Rattle.std.specs.Prelude.{◌≡◌, false, ℕ, ◌<◌, ◌≤◌, Option, Some, None, [], IfOk, IsSome, IfSome, IfNone, OnOk, OnErr, nat_eq, slice_get, length};
+ghost use Rattle.std.specs.Prelude.{◌≡◌, false, ℕ, ◌<◌, ◌≤◌, Option, Some, None, [], IfOk, IfSome, IfNone, OnOk, OnErr, nat_eq, option_copied, slice_get, length};
 ghost use Rattle.std.specs.Map.{keys_of};
 ghost use Rattle.std.specs.List.{IsDistinct};
 ghost use Rattle.pb_model.specs.Key.{IsBest, IsFirstRow};
@@ -10,7 +10,7 @@ ghost use Rattle.pb_lists.specs.Bundle.{Content, row_in, row_of, put, SetsRow, S
 ghost use Rattle.pb_lists.specs.Offers.{offer_of};
 ghost use Rattle.pb_lists.specs.Fields.{is_opened};
 
-use crate::buckets::{Buckets, file, key_from, key_of, tidy, tidy_after};
+use crate::buckets::{Buckets, file, key_from, key_of, place_on_top, tidy};
 use crate::rows::Rows;
 use pb_model::{Estimate, Key, Row, Status};
 use pb_packed::Packed;
@@ -73,11 +73,15 @@ impl Bundle {
         })
     }
 
-    /// The row of a state, or None if it has no row.
+    /// The row of a state, or None if it has no row. That of the state that `first` gave is read
+    /// without a look-up.
     pub fn row(&self, state: &Packed) -> Option<Row>
         ensures { result ≡ row_of self.now state.now }
     {
-        self.rows.row(state)
+        match place_on_top(&self.opened, state) {
+            Some(place) => self.rows.row_at(place),
+            None => self.rows.row(state),
+        }
     }
 
     /// How many states have a row.
@@ -128,8 +132,8 @@ impl Bundle {
         ensures { IsBest self.now.weight (row_of self.now) result }
     {
         match self.opened.first_key_value() {
-            Some((sum, bucket)) => match bucket.least() {
-                Some(h) => Some(key_from(sum, h)),
+            Some((sum, bucket)) => match bucket.first() {
+                Some(first) => Some(key_from(sum, first.0)),
                 None => None,
             },
             None => None,
@@ -156,12 +160,12 @@ impl Bundle {
         ensures answer { IfOk result (λ answer. answer ≡ offer_of (row_of self.old state) g) }
         ensures err { OnErr result (self.new ≡ self.old) }
     {
-        match self.row(&state) {
+        match self.place_of(&state) {
             None => {
-                self.add(&state, &opened_row(g, estimate, parent, action))?;
+                self.add(&state, &opened_row(g, estimate, parent.as_ref(), action))?;
                 Ok(Offer::New)
             }
-            Some(was) => self.lower(&state, &was, g, parent, action),
+            Some(place) => self.offer_at(place, g, parent.as_ref(), action),
         }
     }
 
@@ -171,18 +175,18 @@ impl Bundle {
         &mut self,
         place: u64,
         g: u64,
-        parent: Option<Packed>,
+        parent: Option<&Packed>,
         action: u32,
     ) -> Result<Offer, AllocError>
         requires { place < length self.old.entries }
         ensures put { OnOk result ((state : _) (row : _)
             → slice_get self.old.entries place ≡ Some (state, row)
             → self.new ≡ put self.old state
-            (offered_row g row.estimate parent action (Some row))) }
+            (offered_row g row.estimate (option_copied parent.entry) action (Some row))) }
         ensures sets { OnOk result ((state : _) (row : _)
             → slice_get self.old.entries place ≡ Some (state, row)
             → SetsRow (row_of self.old) (row_of self.new) state
-            (offered_row g row.estimate parent action (Some row))) }
+            (offered_row g row.estimate (option_copied parent.entry) action (Some row))) }
         ensures answer { IfOk result (λ answer. (state : ℕ) (row : _)
             → slice_get self.old.entries place ≡ Some (state, row)
             → answer ≡ offer_of (Some row) g) }
@@ -193,26 +197,26 @@ impl Bundle {
             return Ok(Offer::Worse);
         }
         let (state, was) = self.at(place);
-        self.lower(&state, &was, g, parent, action)
+        self.lower(place, &state, &was, g, parent, action)
     }
 
     /// Offers a row to a state that has none, as `offer` does, with one look-up less.
     pub fn offer_new(
         &mut self,
-        state: Packed,
+        state: &Packed,
         g: u64,
         estimate: Estimate,
-        parent: Option<Packed>,
+        parent: Option<&Packed>,
         action: u32,
     ) -> Result<(), AllocError>
-        requires { row_of self.old state ≡ None }
-        ensures put { OnOk result (self.new ≡ put self.old state
-            (offered_row g estimate parent action None)) }
-        ensures sets { OnOk result (SetsRow (row_of self.old) (row_of self.new) state
-            (offered_row g estimate parent action None)) }
+        requires { row_of self.old state.now ≡ None }
+        ensures put { OnOk result (self.new ≡ put self.old state.now
+            (offered_row g estimate (option_copied parent.entry) action None)) }
+        ensures sets { OnOk result (SetsRow (row_of self.old) (row_of self.new) state.now
+            (offered_row g estimate (option_copied parent.entry) action None)) }
         ensures err { OnErr result (self.new ≡ self.old) }
     {
-        self.add(&state, &opened_row(g, estimate, parent, action))
+        self.add(state, &opened_row(g, estimate, parent, action))
     }
 
     /// Closes an Opened row: its state was expanded. It takes no memory.
@@ -238,7 +242,8 @@ impl Bundle {
     }
 
     // Adds an Opened row for a state that has none. Room is taken in the table, then the state
-    // enters its bucket, then the table gets its row: the steps that may fail come first.
+    // enters its bucket, then the table gets its row: the steps that may fail come first. The row
+    // goes last, so its place is the count of those that are there.
     fn add(&mut self, state: &Packed, row: &Row) -> Result<(), AllocError>
         requires absent { row_of self.old state.now ≡ None }
         requires opened { row.now.status ≡ Opened }
@@ -249,39 +254,42 @@ impl Bundle {
         let key = key_of(self.num, self.den, row.g, &row.estimate);
         self.rows.make_place(state, row)?;
         self.rows.reserve()?;
-        file(self.alloc, &mut self.opened, &key, state)?;
+        let place = self.rows.len();
+        file(self.alloc, &mut self.opened, &key, state, place)?;
         self.rows.insert(state, row);
         Ok(())
     }
 
-    // Offers a state its row with this g, if that is lower.
+    // Offers the state at a place its row with this g, if that is lower.
     fn lower(
         &mut self,
+        place: u64,
         state: &Packed,
         was: &Row,
         g: u64,
-        parent: Option<Packed>,
+        parent: Option<&Packed>,
         action: u32,
     ) -> Result<Offer, AllocError>
-        requires { row_of self.old state.now ≡ Some was.now }
+        requires found { row_of self.old state.now ≡ Some was.now }
+        requires place { slice_get self.old.entries place ≡ Some (state.now, was.now) }
         ensures put { OnOk result (self.new ≡ put self.old state.now
-            (offered_row g was.now.estimate parent action (Some was.now))) }
+            (offered_row g was.now.estimate (option_copied parent.entry) action (Some was.now))) }
         ensures sets { OnOk result (SetsRow (row_of self.old) (row_of self.new) state.now
-            (offered_row g was.now.estimate parent action (Some was.now))) }
+            (offered_row g was.now.estimate (option_copied parent.entry) action (Some was.now))) }
         ensures answer { IfOk result (λ answer. answer ≡ offer_of (Some was.now) g) }
         ensures err { OnErr result (self.new ≡ self.old) }
     {
         if was.g <= g {
             return Ok(Offer::Worse);
         }
-        self.open_again(state, &opened_row(g, was.estimate, parent, action))?;
+        self.open_again(place, state, &opened_row(g, was.estimate, parent, action))?;
         Ok(Offer::Better)
     }
 
-    // Replaces the row of a state by an Opened one, which enters its new bucket first. The state is
+    // Replaces the row at a place by an Opened one, which enters its new bucket first. The state is
     // still in its old bucket, and leaves it when it comes first there.
-    fn open_again(&mut self, state: &Packed, row: &Row) -> Result<(), AllocError>
-        requires found { IsSome (row_of self.old state.now) }
+    fn open_again(&mut self, place: u64, state: &Packed, row: &Row) -> Result<(), AllocError>
+        requires place { (was : _) × (slice_get self.old.entries place ≡ Some (state.now, was)) }
         requires opened { row.now.status ≡ Opened }
         ensures put { OnOk result (self.new ≡ put self.old state.now row.now) }
         ensures sets { OnOk result (SetsRow (row_of self.old) (row_of self.new) state.now row.now) }
@@ -289,13 +297,15 @@ impl Bundle {
     {
         let key = key_of(self.num, self.den, row.g, &row.estimate);
         self.rows.make_place(state, row)?;
-        file(self.alloc, &mut self.opened, &key, state)?;
-        self.rows.insert(state, row);
+        file(self.alloc, &mut self.opened, &key, state, place)?;
+        self.rows.put_at(place, state, row);
         tidy(&mut self.opened, &self.rows, self.num, self.den);
         Ok(())
     }
 
-    // Gives an Opened row another status.
+    // Gives an Opened row another status. Only what the first bucket has on top must be Opened, so
+    // no other settled row is followed by tidying. The entry on top has its row's place. The count
+    // is read for its clause alone, that no state has two rows.
     fn settle(&mut self, state: &Packed, status: Status)
         requires opened { IsOpened (row_of self.old state.now) }
         requires settled { is_opened status ≡ false }
@@ -304,16 +314,22 @@ impl Bundle {
         ensures sets { SetsStatus (row_of self.old) (row_of self.new) state.now status }
         ensures weight { self.new.weight ≡ self.old.weight }
     {
-        self.rows.set_status(state, status);
-        tidy_after(&mut self.opened, &self.rows, self.num, self.den, state);
+        let _ = self.rows.len();
+        match place_on_top(&self.opened, state) {
+            Some(place) => {
+                self.rows.set_status_at(place, status);
+                tidy(&mut self.opened, &self.rows, self.num, self.den);
+            }
+            None => self.rows.set_status(state, status),
+        }
     }
 }
 
-fn opened_row(g: u64, estimate: Estimate, parent: Option<Packed>, action: u32) -> Row
+fn opened_row(g: u64, estimate: Estimate, parent: Option<&Packed>, action: u32) -> Row
     ensures { result ≡ record {
       g = g;
       estimate = estimate;
-      parent = parent;
+      parent = option_copied parent.entry;
       action = action;
       status = Opened;
     } }
@@ -321,7 +337,7 @@ fn opened_row(g: u64, estimate: Estimate, parent: Option<Packed>, action: u32) -
     Row {
         g,
         estimate,
-        parent,
+        parent: parent.copied(),
         action,
         status: Status::Opened,
     }

@@ -1,4 +1,4 @@
-//! Entries of states of so many words, the least on top.
+//! Entries of states of several words, the least on top.
 ghost use Rattle.std.specs.Prelude.{◌≡◌, ◌⊎◌, ◌||◌, ◌≤◌, ◌<◌, [], true, Some, IsSome, IfSome, IfNone, OnOk, OnErr};
 ghost use Rattle.std.specs.BinaryHeap.{heap_items, IsHeap};
 ghost use Rattle.pb_lists.specs.Heaped.{Entry, later, is_same, is_among, first_of, IsNoLater, IsTop};
@@ -9,11 +9,12 @@ use std::cmp::Reverse;
 use std::collections::BinaryHeap;
 use std::marker::Model;
 
-// Entries, each an estimate and a state of `W` words. The least, by the estimate and then by the
-// state, is on top.
+// Entries, each an estimate, a state of `W` words and the place of its row. The least, by the
+// estimate and then by the state, is on top. An estimate and a place have 64 bits each, so there is
+// a place here for each entry whose state fits.
 #[derive(Drop)]
 pub(crate) struct Heap<const W: usize> {
-    items: BinaryHeap<Reverse<(u64, Words<W>)>>,
+    items: BinaryHeap<Reverse<(u64, Words<W>, u64)>>,
 }
 
 impl<const W: usize> Model for Heap<W> {
@@ -42,18 +43,19 @@ impl<const W: usize> Heap<W> {
 
     // Puts an entry in.
     #[inline]
-    pub(crate) fn push(&mut self, h: u64, words: Words<W>) -> Result<(), AllocError>
+    pub(crate) fn push(&mut self, h: u64, words: Words<W>, place: u64) -> Result<(), AllocError>
         ensures added { OnOk result ((other : Entry) → is_among other self.new.items
-            ≡ (is_same other (h, words.entry) || is_among other self.old.items)) }
+            ≡ (is_same other (h, words.entry, place)
+            || is_among other self.old.items)) }
         ensures err { OnErr result (self.new.items ≡ self.old.items) }
     {
-        self.items.push(Reverse((h, words)))?;
+        self.items.push(Reverse((h, words, place)))?;
         Ok(())
     }
 
-    // The first entry, as the words of its state.
+    // The first entry, with the words of its state.
     #[inline]
-    pub(crate) fn first(&self) -> Option<(u64, Words<W>)>
+    pub(crate) fn first(&self) -> Option<(u64, Words<W>, u64)>
         ensures first { result ≡ first_of self.now.items }
         ensures top { IsTop (λ entry. is_among entry self.now.items) (first_of self.now.items) }
     {
@@ -62,13 +64,13 @@ impl<const W: usize> Heap<W> {
 
     // The first entry.
     #[inline]
-    pub(crate) fn top(&self) -> Option<(u64, Packed)>
+    pub(crate) fn top(&self) -> Option<(u64, Packed, u64)>
         ensures first { result ≡ first_of self.now.items }
         ensures top { IsTop (λ entry. is_among entry self.now.items) (first_of self.now.items) }
     {
         let _ = &self.items;
         match self.first() {
-            Some(entry) => Some((entry.0, Packed::from_words(&entry.1))),
+            Some(entry) => Some((entry.0, Packed::from_words(&entry.1), entry.2)),
             None => None,
         }
     }
@@ -78,6 +80,8 @@ impl<const W: usize> Heap<W> {
     pub(crate) fn pop(&mut self)
         ensures left { (other : Entry) → is_among other self.old.items ≡ true
             → (first_of self.old.items ≡ Some other) ⊎ (is_among other self.new.items ≡ true) }
+        ensures had { (other : Entry) → is_among other self.new.items ≡ true
+            → is_among other self.old.items ≡ true }
         ensures fewer { IsSome (first_of self.old.items) → self.new.len < self.old.len }
     {
         let _ = self.items.pop();
@@ -86,7 +90,9 @@ impl<const W: usize> Heap<W> {
 
 // The entry on top of a heap.
 #[inline]
-fn peeked<const W: usize>(items: &BinaryHeap<Reverse<(u64, Words<W>)>>) -> Option<(u64, Words<W>)>
+fn peeked<const W: usize>(
+    items: &BinaryHeap<Reverse<(u64, Words<W>, u64)>>,
+) -> Option<(u64, Words<W>, u64)>
     ensures first { result ≡ first_of (heap_items items.now) }
     ensures least { IsHeap later (heap_items items.now) → IfSome result (λ entry. (other : Entry)
         → is_among other (heap_items items.now) ≡ true → IsNoLater entry other) }

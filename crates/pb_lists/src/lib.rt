@@ -15,6 +15,8 @@ mod rules;
 mod store;
 mod wide_entries;
 mod wide_rows;
+mod word_entries;
+mod word_entry;
 
 pub use bundle::{Bundle, Offer};
 pub use laws::{entries_are_rows, keys_are_ordered};

@@ -151,7 +151,7 @@ fn narrow_estimate(estimate: &Estimate) -> Option<(bool, u32)>
 }
 
 // The number in 32 bits, if it fits them.
-fn half_word(number: u64) -> Option<u32>
+pub(crate) fn half_word(number: u64) -> Option<u32>
     ensures some { IfSome result (λ half. half ≡ number) }
     ensures fits { IfSome result (λ _. number < 2 ^ 32) }
     ensures none { IfNone result (2 ^ 32 ≤ number) }

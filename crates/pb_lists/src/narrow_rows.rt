@@ -86,24 +86,26 @@ impl<const W: usize> NarrowRows<W> {
         }
     }
 
-    // The g and the estimate of the row of the state of these words, if that is Opened.
-    pub(crate) fn opened_at(&self, words: &Words<W>) -> Option<(u64, Estimate)>
-        ensures { result ≡ opened_costs (row_in self.now.entries words.now) }
+    // The row at this place.
+    #[inline]
+    pub(crate) fn row_at(&self, place: u64) -> Option<Row>
+        ensures { (state : ℕ) (row : _) → slice_get self.now.entries place ≡ Some (state, row)
+            → result ≡ row_in self.now.entries state }
     {
-        let _ = &self.rows;
-        match self.found(words) {
-            Some(row) => row.opened(),
+        match self.rows.get_index(place as usize) {
+            Some(entry) => Some(entry.1.row()),
             None => None,
         }
     }
 
-    // The g and the estimate of a state's row, if that is Opened.
-    pub(crate) fn opened(&self, state: &Packed) -> Option<(u64, Estimate)>
-        ensures { result ≡ opened_costs (row_in self.now.entries state.now) }
+    // The g and the estimate of the row at this place, if that is Opened.
+    #[inline]
+    pub(crate) fn opened_at(&self, place: u64) -> Option<(u64, Estimate)>
+        ensures { (state : ℕ) (row : _) → slice_get self.now.entries place ≡ Some (state, row)
+            → result ≡ opened_costs (row_in self.now.entries state) }
     {
-        let _ = &self.rows;
-        match state.as_words::<W>() {
-            Some(words) => self.opened_at(&words),
+        match self.rows.get_index(place as usize) {
+            Some(entry) => entry.1.opened(),
             None => None,
         }
     }
@@ -178,6 +180,39 @@ impl<const W: usize> NarrowRows<W> {
             Ok(_) => {}
             Err(_) => unreachable!(),
         }
+    }
+
+    // Writes the status of the row at this place. It looks up nothing.
+    #[inline]
+    pub(crate) fn set_status_at(&mut self, place: u64, status: Status)
+        ensures entries { (state : ℕ) (row : _)
+            → slice_get self.old.entries place ≡ Some (state, row)
+            → self.new.entries ≡ insert_entry nat_eq self.old.entries state
+            (record row { status = status }) }
+        ensures width { self.new.width ≡ self.old.width }
+    {
+        let Some(row) = self.rows.get_index_mut(place as usize) else {
+            return;
+        };
+        row.set_status(status);
+    }
+
+    // Replaces the row at this place. It looks up nothing.
+    pub(crate) fn put_at(&mut self, place: u64, row: &Row)
+        requires { IsNarrow W row.now }
+        ensures entries { (state : ℕ) (was : _)
+            → slice_get self.old.entries place ≡ Some (state, was)
+            → self.new.entries ≡ insert_entry nat_eq self.old.entries state row.now }
+        ensures width { self.new.width ≡ self.old.width }
+    {
+        let _ = &self.rows;
+        let Some(narrow) = NarrowRow::<W>::of(row) else {
+            unreachable!()
+        };
+        let Some(old) = self.rows.get_index_mut(place as usize) else {
+            return;
+        };
+        *old = narrow;
     }
 
     // Writes the status of a state's row, by one look-up.

@@ -10,7 +10,7 @@ ghost use Rattle.pb_lists.specs.ListedRows.{HasPlaceFor};
 use crate::narrow_rows::{NarrowRows, is_narrow};
 use crate::wide_rows::{WideRows, widened};
 use pb_model::{Estimate, Row, Status};
-use pb_packed::{Packed, Words};
+use pb_packed::Packed;
 use std::alloc::{AllocError, Global};
 use std::marker::Model;
 
@@ -72,23 +72,27 @@ impl Rows {
         }
     }
 
-    // The g and the estimate of a state's row, if that is Opened.
-    pub(crate) fn opened(&self, state: &Packed) -> Option<(u64, Estimate)>
-        ensures { result ≡ opened_costs (row_in self.now.entries state.now) }
+    // The row at this place.
+    #[inline]
+    pub(crate) fn row_at(&self, place: u64) -> Option<Row>
+        ensures { (state : ℕ) (row : _) → slice_get self.now.entries place ≡ Some (state, row)
+            → result ≡ row_in self.now.entries state }
     {
         match &self.table {
-            Table::Small(rows) => rows.opened(state),
-            Table::Wide(rows) => rows.opened(state),
+            Table::Small(rows) => rows.row_at(place),
+            Table::Wide(rows) => rows.row_at(place),
         }
     }
 
-    // The g and the estimate of the row of the state that is this word, if that is Opened.
-    pub(crate) fn opened_word(&self, word: u64) -> Option<(u64, Estimate)>
-        ensures { result ≡ opened_costs (row_in self.now.entries word) }
+    // The g and the estimate of the row at this place, if that is Opened.
+    #[inline]
+    pub(crate) fn opened_at(&self, place: u64) -> Option<(u64, Estimate)>
+        ensures { (state : ℕ) (row : _) → slice_get self.now.entries place ≡ Some (state, row)
+            → result ≡ opened_costs (row_in self.now.entries state) }
     {
         match &self.table {
-            Table::Small(rows) => rows.opened_at(&Words::of_word(word)),
-            Table::Wide(rows) => rows.opened(&Packed::of_word(word)),
+            Table::Small(rows) => rows.opened_at(place),
+            Table::Wide(rows) => rows.opened_at(place),
         }
     }
 
@@ -179,6 +183,55 @@ impl Rows {
         match &mut self.table {
             Table::Small(rows) => rows.insert(state, row),
             Table::Wide(rows) => rows.insert(state, row),
+        }
+    }
+
+    // Writes the status of the row at this place. It looks up nothing.
+    pub(crate) fn set_status_at(&mut self, place: u64, status: Status)
+        ensures entries { (state : ℕ) (row : _)
+            → slice_get self.old.entries place ≡ Some (state, row)
+            → self.new.entries ≡ insert_entry nat_eq self.old.entries state
+            (record row { status = status }) }
+        ensures updates { (state : ℕ) (row : _)
+            → slice_get self.old.entries place ≡ Some (state, row) → (other : _)
+            → row_in self.new.entries other
+            ≡ (if nat_eq state other then Some (record row { status = status })
+            else row_in self.old.entries other) }
+    {
+        self.put_status_at(place, status);
+    }
+
+    fn put_status_at(&mut self, place: u64, status: Status)
+        ensures { (state : ℕ) (row : _) → slice_get self.old.entries place ≡ Some (state, row)
+            → self.new.entries ≡ insert_entry nat_eq self.old.entries state
+            (record row { status = status }) }
+    {
+        match &mut self.table {
+            Table::Small(rows) => rows.set_status_at(place, status),
+            Table::Wide(rows) => rows.set_status_at(place, status),
+        }
+    }
+
+    // Replaces the row at this place, of this state. It looks up nothing.
+    pub(crate) fn put_at(&mut self, place: u64, state: &Packed, row: &Row)
+        requires { HasPlaceFor self.old state.now row.now }
+        ensures entries { (was : _) → slice_get self.old.entries place ≡ Some (state.now, was)
+            → self.new.entries ≡ insert_entry nat_eq self.old.entries state.now row.now }
+        ensures updates { (was : _) → slice_get self.old.entries place ≡ Some (state.now, was)
+            → (other : ℕ) → row_in self.new.entries other
+            ≡ (if nat_eq state.now other then Some row.now else row_in self.old.entries other) }
+    {
+        self.replace_at(place, state, row);
+    }
+
+    fn replace_at(&mut self, place: u64, state: &Packed, row: &Row)
+        requires { HasPlaceFor self.old state.now row.now }
+        ensures { (was : _) → slice_get self.old.entries place ≡ Some (state.now, was)
+            → self.new.entries ≡ insert_entry nat_eq self.old.entries state.now row.now }
+    {
+        match &mut self.table {
+            Table::Small(rows) => rows.put_at(place, row),
+            Table::Wide(rows) => rows.put_at(place, state, row),
         }
     }
 

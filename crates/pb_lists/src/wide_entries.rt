@@ -1,4 +1,4 @@
-//! The entries of states of more than one word.
+//! The entries of states of more than one word, and of rows whose estimate or place is great.
 ghost use Rattle.std.specs.Prelude.{◌≡◌, ◌⊎◌, ◌||◌, ◌+◌, ◌≤◌, ◌<◌, ◌^◌, true, false, None, Some, IsSome, OnOk, OnErr};
 ghost use Rattle.pb_lists.specs.Heaped.{Entry, entry_cmp, is_same, is_second_first, top_of_two, IsTop};
 ghost use Rattle.pb_lists.specs.Buckets.{has_wide, top_of_wide};
@@ -8,7 +8,8 @@ use pb_packed::Packed;
 use std::alloc::{AllocError, Global};
 use std::cmp::Ordering;
 
-// The entries at one sum whose states have two to four words, and those of five to sixteen.
+// The entries at one sum whose states have up to four words, and those of five to sixteen. Entries
+// of states of one word are here only if the estimate or the place has more than 32 bits.
 #[derive(Drop)]
 pub(crate) struct WideEntries {
     pub(crate) few: Heap<4>,
@@ -28,22 +29,22 @@ impl WideEntries {
     }
 
     // Puts an entry in.
-    pub(crate) fn push(&mut self, h: u64, state: &Packed) -> Result<(), AllocError>
+    pub(crate) fn push(&mut self, h: u64, state: &Packed, place: u64) -> Result<(), AllocError>
         ensures added { OnOk result ((other : Entry) → has_wide self.new other
-            ≡ (is_same other (h, state.now) || has_wide self.old other)) }
+            ≡ (is_same other (h, state.now, place) || has_wide self.old other)) }
         ensures err { OnErr result ((other : Entry)
             → has_wide self.new other ≡ has_wide self.old other) }
         ensures top { OnErr result (top_of_wide self.new ≡ top_of_wide self.old) }
     {
         match state.as_words::<4>() {
-            Some(words) => self.few.push(h, words),
-            None => self.many.push(h, state.words()),
+            Some(words) => self.few.push(h, words, place),
+            None => self.many.push(h, state.words(), place),
         }
     }
 
     // The first entry.
     #[inline(never)]
-    pub(crate) fn top(&self) -> Option<(u64, Packed)>
+    pub(crate) fn top(&self) -> Option<(u64, Packed, u64)>
         ensures first { result ≡ top_of_wide self.now }
         ensures top { IsTop (has_wide self.now) (top_of_wide self.now) }
     {
@@ -64,6 +65,8 @@ impl WideEntries {
     pub(crate) fn pop(&mut self)
         ensures left { (other : Entry) → has_wide self.old other ≡ true
             → (top_of_wide self.old ≡ Some other) ⊎ (has_wide self.new other ≡ true) }
+        ensures had { (other : Entry) → has_wide self.new other ≡ true
+            → has_wide self.old other ≡ true }
         ensures fewer { IsSome (top_of_wide self.old)
             → self.new.few.len + self.new.many.len < self.old.few.len + self.old.many.len }
     {
@@ -77,7 +80,10 @@ impl WideEntries {
 
 // Whether the first entry of the second part comes before that of the first: by the estimate, and
 // for equal estimates by the state.
-pub(crate) fn is_second_first(first: &Option<(u64, Packed)>, second: &Option<(u64, Packed)>) -> bool
+pub(crate) fn is_second_first(
+    first: &Option<(u64, Packed, u64)>,
+    second: &Option<(u64, Packed, u64)>,
+) -> bool
     ensures { result ≡ is_second_first first.now second.now }
 {
     match second {
@@ -94,9 +100,9 @@ pub(crate) fn is_second_first(first: &Option<(u64, Packed)>, second: &Option<(u6
 
 // The first entry of two parts.
 pub(crate) fn first_of_two(
-    first: Option<(u64, Packed)>,
-    second: Option<(u64, Packed)>,
-) -> Option<(u64, Packed)>
+    first: Option<(u64, Packed, u64)>,
+    second: Option<(u64, Packed, u64)>,
+) -> Option<(u64, Packed, u64)>
     ensures { result ≡ top_of_two first second }
 {
     if is_second_first(&first, &second) {

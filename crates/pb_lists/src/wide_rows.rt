@@ -54,15 +54,31 @@ impl WideRows {
         }
     }
 
-    // The g and the estimate of a state's row, if that is Opened.
+    // The row at this place.
     #[inline(never)]
-    pub(crate) fn opened(&self, state: &Packed) -> Option<(u64, Estimate)>
-        ensures { result ≡ opened_costs (row_in (wide_of self.now).entries state.now) }
+    pub(crate) fn row_at(&self, place: u64) -> Option<Row>
+        ensures { (state : ℕ) (row : _)
+            → slice_get (wide_of self.now).entries place ≡ Some (state, row)
+            → result ≡ row_in (wide_of self.now).entries state }
     {
         match self {
-            WideRows::Few(rows) => rows.opened(state),
-            WideRows::Many(rows) => rows.opened(state),
-            WideRows::Any(rows) => rows.opened(state),
+            WideRows::Few(rows) => rows.row_at(place),
+            WideRows::Many(rows) => rows.row_at(place),
+            WideRows::Any(rows) => rows.row_at(place),
+        }
+    }
+
+    // The g and the estimate of the row at this place, if that is Opened.
+    #[inline(never)]
+    pub(crate) fn opened_at(&self, place: u64) -> Option<(u64, Estimate)>
+        ensures { (state : ℕ) (row : _)
+            → slice_get (wide_of self.now).entries place ≡ Some (state, row)
+            → result ≡ opened_costs (row_in (wide_of self.now).entries state) }
+    {
+        match self {
+            WideRows::Few(rows) => rows.opened_at(place),
+            WideRows::Many(rows) => rows.opened_at(place),
+            WideRows::Any(rows) => rows.opened_at(place),
         }
     }
 
@@ -168,6 +184,38 @@ impl WideRows {
             WideRows::Few(rows) => rows.insert(state, row),
             WideRows::Many(rows) => rows.insert(state, row),
             WideRows::Any(rows) => rows.insert(state, row),
+        }
+    }
+
+    // Writes the status of the row at this place. It looks up nothing.
+    #[inline(never)]
+    pub(crate) fn set_status_at(&mut self, place: u64, status: Status)
+        ensures entries { (state : ℕ) (row : _)
+            → slice_get (wide_of self.old).entries place ≡ Some (state, row)
+            → (wide_of self.new).entries ≡ insert_entry nat_eq (wide_of self.old).entries state
+            (record row { status = status }) }
+    {
+        match self {
+            WideRows::Few(rows) => rows.set_status_at(place, status),
+            WideRows::Many(rows) => rows.set_status_at(place, status),
+            WideRows::Any(rows) => rows.set_status_at(place, status),
+        }
+    }
+
+    // Replaces the row at this place, of this state. It looks up nothing.
+    #[inline(never)]
+    pub(crate) fn put_at(&mut self, place: u64, state: &Packed, row: &Row)
+        requires { HasPlaceFor (wide_of self.old) state.now row.now }
+        ensures entries { (was : _)
+            → slice_get (wide_of self.old).entries place ≡ Some (state.now, was)
+            → (wide_of self.new).entries
+            ≡ insert_entry nat_eq (wide_of self.old).entries state.now row.now }
+    {
+        let _ = state;
+        match self {
+            WideRows::Few(rows) => rows.put_at(place, row),
+            WideRows::Many(rows) => rows.put_at(place, row),
+            WideRows::Any(rows) => rows.put_at(place, row),
         }
     }
 

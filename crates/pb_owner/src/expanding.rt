@@ -49,7 +49,7 @@ pub fn offer(
     ensures tables { IsOfTask estimator.new task.now choice.now }
 {
     match share.bundle.place_of(state) {
-        Some(place) => match share.bundle.offer_at(place, g, Some(*parent), action) {
+        Some(place) => match share.bundle.offer_at(place, g, Some(parent), action) {
             Ok(_) => Ok(()),
             Err(error) => Err(error),
         },
@@ -57,7 +57,7 @@ pub fn offer(
             let estimate = estimator.estimate(task, state);
             share
                 .bundle
-                .offer_new(*state, g, estimate, Some(*parent), action)
+                .offer_new(state, g, estimate, Some(parent), action)
         }
     }
 }

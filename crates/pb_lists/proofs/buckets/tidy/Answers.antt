@@ -1,5 +1,5 @@
 use Rattle.pb_lists.specs.Fields.{weight_of}
-use Rattle.pb_lists.proofs.Filing.{pop_filed}
+use Rattle.pb_lists.proofs.Filing.{pop_filed, pop_placed}
 use Rattle.pb_lists.proofs.buckets.tidy.Goals as goal
 
 pub returns-then-clear_first-clause-filed : goal.returns-then-clear_first-clause-filed
@@ -11,6 +11,9 @@ loop-sum-preserved-else-clear_first c = record {
       pop_filed c.clear_first.new.buckets c.pop_first.new.self c.in-Some.sum (weight_of c.args.num c.args.den) c.args.rows.now.entries c.pop_first.result
       c.clear_first.ensures.first (c.clear_first.ensures.empty c.if-clear_first.false) c.pop_first.ensures.removal c.pop_first.ensures.updates c.pop_first.ensures.unchanged
       (c.clear_first.ensures.filed (c.loop-sum.invariant.filed filed));
+  placed =
+      pop_placed c.clear_first.new.buckets c.pop_first.new.self c.in-Some.sum c.args.rows.now.entries c.pop_first.result
+      c.pop_first.ensures.updates c.pop_first.ensures.unchanged c.clear_first.ensures.placed;
 }
 
 pub loop-sum-preserved-else-clear_first-2 : goal.loop-sum-preserved-else-clear_first-2
@@ -19,4 +22,7 @@ loop-sum-preserved-else-clear_first-2 c = record {
       pop_filed c.clear_first.new.buckets c.pop_first.new.self c.in-Some.sum (weight_of c.args.num c.args.den) c.args.rows.now.entries c.pop_first.result
       c.clear_first.ensures.first (c.clear_first.ensures.empty c.if-clear_first.false) c.pop_first.ensures.removal c.pop_first.ensures.updates c.pop_first.ensures.unchanged
       (c.clear_first.ensures.filed (c.loop-sum.invariant.filed filed));
+  placed =
+      pop_placed c.clear_first.new.buckets c.pop_first.new.self c.in-Some.sum c.args.rows.now.entries c.pop_first.result
+      c.pop_first.ensures.updates c.pop_first.ensures.unchanged c.clear_first.ensures.placed;
 }

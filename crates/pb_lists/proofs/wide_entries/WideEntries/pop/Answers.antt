@@ -1,6 +1,6 @@
 use Rattle.std.proofs.Common.{◌∙◌, sym, ap, subst, IsSome, arith, if◌then◌else◌}
 use Rattle.pb_lists.specs.Heaped.{is_among, first_of, is_second_first}
-use Rattle.pb_lists.proofs.Parts.{first_less, second_less}
+use Rattle.pb_lists.proofs.Parts.{first_less, second_less, first_had, second_had}
 use Rattle.pb_lists.proofs.wide_entries.WideEntries.pop.Goals as goal
 
 pub returns-then-is_second_first-clause-left : goal.returns-then-is_second_first-clause-left
@@ -40,3 +40,12 @@ returns-else-is_second_first-clause-fewer c = λ some.
     ∙ (ap (λ t. is_second_first c.top.result t) (sym c.top-2.ensures.first) ∙ (sym c.is_second_first.ensures ∙ c.if-is_second_first.false)) in
     let less = c.pop-else-is_second_first.ensures.fewer (subst (λ t. IsSome t) (ap (λ b. if b then first_of many else first_of few) is) some) in
     omega (arith, less)
+
+pub returns-then-is_second_first-clause-had : goal.returns-then-is_second_first-clause-had
+returns-then-is_second_first-clause-had c = λ other has.
+    second_had (is_among other c.args.self.now.few.items) (is_among other c.args.self.now.many.items) (is_among other c.pop.new.self.items) (c.pop.ensures.had other) has
+
+pub returns-else-is_second_first-clause-had : goal.returns-else-is_second_first-clause-had
+returns-else-is_second_first-clause-had c = λ other has.
+    first_had (is_among other c.args.self.now.few.items) (is_among other c.pop-else-is_second_first.new.self.items) (is_among other c.args.self.now.many.items)
+    (c.pop-else-is_second_first.ensures.had other) has

@@ -8,8 +8,8 @@ returns-in-Some-clause-added c =
     let few = c.args.self.now.few.items in
     let many = c.args.self.now.many.items in
     ok_then c.push.result (λ added other.
-    first_more (is_among other c.push.new.self.items) (is_same other (c.args.h, c.args.state.now)) (is_among other few) (is_among other many)
-    (added other ∙ ap (λ n. is_same other (c.args.h, n) || is_among other few) c.in-Some.ensures.some)) c.push.ensures.added
+    first_more (is_among other c.push.new.self.items) (is_same other (c.args.h, c.args.state.now, c.args.place)) (is_among other few) (is_among other many)
+    (added other ∙ ap (λ n. is_same other (c.args.h, n, c.args.place) || is_among other few) c.in-Some.ensures.some)) c.push.ensures.added
 
 pub returns-in-None-clause-added : goal.returns-in-None-clause-added
 returns-in-None-clause-added c =
@@ -17,8 +17,8 @@ returns-in-None-clause-added c =
     let many = c.args.self.now.many.items in
     let pushed = c.push-in-None in
     ok_then pushed.result (λ added other.
-    second_more (is_among other pushed.new.self.items) (is_same other (c.args.h, c.args.state.now)) (is_among other few) (is_among other many)
-    (added other ∙ ap (λ n. is_same other (c.args.h, n) || is_among other many) c.words.ensures)) pushed.ensures.added
+    second_more (is_among other pushed.new.self.items) (is_same other (c.args.h, c.args.state.now, c.args.place)) (is_among other few) (is_among other many)
+    (added other ∙ ap (λ n. is_same other (c.args.h, n, c.args.place) || is_among other many) c.words.ensures)) pushed.ensures.added
 
 pub returns-in-Some-clause-err : goal.returns-in-Some-clause-err
 returns-in-Some-clause-err c = err_then c.push.result (λ same other. ap (λ items. is_among other items || is_among other c.args.self.now.many.items) same) c.push.ensures.err
