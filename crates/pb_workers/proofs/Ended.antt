@@ -1,5 +1,5 @@
 -- What a search has when it ended.
-use Rattle.std.proofs.Common.{◌≡◌, ℕ, false, Some, refl, ap, ◌∙◌, subst}
+use Rattle.std.proofs.Common.{◌≡◌, ℕ, false, Some, ap, ◌∙◌, subst}
 use Rattle.pb_model.specs.Store.{Rows, Store}
 use Rattle.pb_model.specs.Work.{Comes, opening_store}
 use Rattle.pb_model.specs.Store.{IsQuiet, IsShown, HasOpened}

@@ -16,6 +16,7 @@ use Rattle.pb_lease.proofs.Callers.{keeps_in_order}
 use Rattle.pb_yard.specs.Order.{RunsInTime}
 use Rattle.pb_yard.proofs.Callers.{GrantsNone, events_of_moves, in_time_on, in_time_events}
 use Rattle.pb_workers.specs.Runs.{IsSameSearch, RunsTo, RunsOn}
+use Rattle.pb_workers.specs.Serving.{searched_in}
 
 -- ---- the same search
 
@@ -27,6 +28,9 @@ same_then old mid new first second = record { task = second.task ∙ first.task;
 
 pub setup_is_same : (old new : GraphValue) → IsSameSearch old new → setup_in new ≡ setup_in old
 setup_is_same old new same = λ i. setup_of (same.task i) (same.graph i) (same.choice i) (same.settings i) (same.past i).reopenings
+
+pub same_searched : (old new : GraphValue) → IsSameSearch old new → searched_in new ≡ searched_in old
+same_searched old new same = λ i. record { task = same.task i; abstraction = same.graph i; choice = same.choice i }
 
 -- ---- runs
 

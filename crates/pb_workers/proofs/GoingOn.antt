@@ -1,14 +1,10 @@
 -- A lease that goes on, turn after turn, and then comes back.
-use Rattle.std.proofs.Common.{◌≡◌, ◌<◌, arith, subst, ◌⊎◌, inl, inr}
+use Rattle.std.proofs.Common.{◌≡◌, ◌<◌, refl, arith, subst, inl, inr}
 use Rattle.pb_lease.specs.LeaseValue.{LeaseValue}
 use Rattle.pb_lease.specs.GraphValue.{GraphValue}
 use Rattle.pb_workers.specs.Runs.{IsSameSearch}
-use Rattle.pb_workers.specs.Holding.{RunsOut, RunsHome, left_with, IsNearer}
-use Rattle.pb_workers.proofs.Going.{run_none, run_then}
-
--- the lease went on with less of the budget, or it is where it began
-abbrev pub IsOn : (first : GraphValue) → LeaseValue → (now : GraphValue) → LeaseValue → Type 0
-IsOn first lease now held = (left_with now held < left_with first lease) ⊎ ((now ≡ first) × (held ≡ lease))
+use Rattle.pb_workers.specs.Holding.{IsHeld, RunsOut, RunsHome, left_with, IsNearer, IsOn, GoesOnTo}
+use Rattle.pb_workers.proofs.Going.{same_self, run_none, run_then}
 
 pub out_none : (g : GraphValue) (lease : LeaseValue) → RunsOut g lease g lease
 out_none g lease recorded machine m out = (recorded, machine, run_none g recorded machine m, out)
@@ -37,3 +33,7 @@ nearer_then first now new lease held (inl less) (inr (inl more)) = inr (inl (ome
 nearer_then first now new lease held (inl less) (inr (inr equal)) = let left = equal.0 in inr (inl (omega (arith, less, left)))
 nearer_then first now new lease held (inr same) near =
     subst (λ (l : LeaseValue). IsNearer first l new) same.1 (subst (λ (g : GraphValue). IsNearer g held new) same.0 near)
+
+-- a lease that was given now
+pub goes_from : (g : GraphValue) (lease : LeaseValue) → IsHeld g lease → GoesOnTo g lease g lease
+goes_from g lease held = record { held = held; worker = refl; same = same_self g; signed_off = refl; runs = out_none g lease; on = inr (refl, refl) }

@@ -1,11 +1,11 @@
 pub mod Callers
 mod Going
-mod Serving
 mod Opened
 mod Marked
 mod Returned
-mod Held
+mod Renewing
 mod GoingOn
+mod Held
 mod Searching
 mod Closed
 mod Ended

@@ -1,12 +1,16 @@
 -- What a mark leaves as it was.
-use Rattle.std.proofs.Common.{◌≡◌, ◌↔◌, ℕ, ◌-◌, ◌≤◌, Bool, IsTrue, IsFalse, [], ◌∷◌, sym, ap, ◌∙◌, arith, subst, inl, inr}
-use Rattle.pb_model.specs.Store.{Rows}
+use Rattle.std.proofs.Common.{◌≡◌, ◌↔◌, ℕ, ◌-◌, ◌≤◌, Bool, IsTrue, IsFalse, IfSome, IfNone, [], ◌∷◌, Option, Some, None, refl, sym, ap, ◌∙◌, arith, subst, inl, inr}
+use Rattle.pb_model.specs.Store.{Rows, Store}
 use Rattle.pb_model.proofs.Callers.{by_cases, equal_self}
 use Rattle.pb_machine.specs.declared.event.Event.TheVariants.{Hot}
 use Rattle.pb_machine.specs.Counts.{Counts}
+use Rattle.pb_machine.specs.Blocks.{interferes}
+use Rattle.pb_machine.specs.Choice.{IsRival}
 use Rattle.pb_machine.specs.Machine.{Machine}
 use Rattle.pb_machine.proofs.Callers.{entry_here}
-use Rattle.pb_lease.specs.Tables.{rooms}
+use Rattle.pb_bundles.specs.Homes.{key_at}
+use Rattle.pb_bundles.specs.Choosing.{IsRivalBy}
+use Rattle.pb_lease.specs.Tables.{blocks, rooms}
 use Rattle.pb_lease.specs.LeaseValue.{LeaseValue}
 use Rattle.pb_lease.specs.Leased.{IsOutInTurns}
 use Rattle.pb_lease.specs.GraphValue.{GraphValue, setup_in, counts_in}
@@ -16,7 +20,7 @@ use Rattle.pb_lease.specs.Steps.{IsMarked, KeepsLeases}
 use Rattle.pb_lease.proofs.Callers.{keeps_in_order}
 use Rattle.pb_yard.proofs.Callers.{in_time_events}
 use Rattle.pb_workers.specs.Runs.{IsSameSearch, RunsTo}
-use Rattle.pb_workers.specs.Holding.{MarksWhereMay, IsMarkedAtMost}
+use Rattle.pb_workers.specs.Holding.{MarksWhereMay, MarksRival, IsMarkedAtMost, IsToldRival}
 use Rattle.pb_workers.proofs.Going.{run_none, run_one}
 
 module _ (old : GraphValue) (worker : ℕ) (new : GraphValue) where
@@ -85,3 +89,14 @@ module _ (old : GraphValue) (worker called rival : ℕ) (new : GraphValue) (resu
 
   pub marked_at_most : (IsTrue result → KeepsLeases old (Hot called rival ∷ []) new) → IsMarkedAtMost old worker new
   marked_at_most keeps = subst (λ w. IsMarkedAtMost old w new) by (by_cases result (λ e. inr (rival, marked e, keeps e)) (λ e. inl (refused e)))
+
+-- ---- the rival that a graph told
+
+module _ (g : GraphValue) (lease : LeaseValue) (store : Store) where
+  pub told_some : (o : Option ℕ) → IsRivalBy (interferes (blocks g.table) lease.block) (key_at g.homes) lease.block o → IsRival (blocks g.table) store lease.block o → IfSome o (λ rival. IsToldRival g lease rival g)
+  told_some None by is = tt
+  told_some (Some rival) by is = record { rival_is = by; known = is.0.known; same = refl }
+
+pub told_none : (g : GraphValue) (lease : LeaseValue) (o : Option ℕ) → IsRivalBy (interferes (blocks g.table) lease.block) (key_at g.homes) lease.block o → IfNone o (MarksRival g lease g)
+told_none g lease None by = inl (by, refl)
+told_none g lease (Some rival) by = tt

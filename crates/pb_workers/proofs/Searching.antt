@@ -19,8 +19,9 @@ use Rattle.pb_lease.specs.Steps.{IsLeased, LeasesNext, IsEnded, KeepsLeases, end
 use Rattle.pb_lease.proofs.Callers.{passes_from, leases_in_order}
 use Rattle.pb_yard.proofs.Callers.{in_time_one, end_grants_none}
 use Rattle.pb_workers.specs.Runs.{IsSameSearch, IsAnyMoment, RunsOn}
-use Rattle.pb_workers.specs.Holding.{IsHeld, RunsHome, left_with, opened_blocks, IsNearer}
+use Rattle.pb_workers.specs.Holding.{IsHeld, RunsHome, left_with, opened_blocks, IsNearer, GoesOnTo}
 use Rattle.pb_workers.proofs.Going.{run_one, run_then, run_home, on_then, keeping_runs}
+use Rattle.pb_workers.proofs.GoingOn.{goes_from}
 
 -- ---- one worker
 
@@ -53,7 +54,7 @@ module _ (old : GraphValue) (worker : ℕ) (lease : LeaseValue) (new : GraphValu
   pub leased_opened : opened_blocks new ≡ opened_blocks old
   leased_opened = λ i. count_below (blocks_of (l.events.graph i)).count (λ block. is_some (get_or (l.keys i) block None))
 
-  pub leased_held : LeasesNext old lease new → IsAnyMoment old → IsHeld new lease
+  leased_held : LeasesNext old lease new → IsAnyMoment old → IsHeld new lease
   leased_held next any =
       let step = leases_in_order old lease new next l.incumbent any.0 any.1 any.2 in
       record {
@@ -65,6 +66,9 @@ module _ (old : GraphValue) (worker : ℕ) (lease : LeaseValue) (new : GraphValu
         moment = step.1.moment;
         out = step.3;
       }
+
+  pub leased_on : LeasesNext old lease new → IsAnyMoment old → GoesOnTo new lease new lease
+  leased_on next any = goes_from new lease (leased_held next any)
 
 -- a lease that came back: it is the same search, and a run from before the lease
 pub leased_runs : (first old mid new : GraphValue) (worker : ℕ) (lease : LeaseValue) → IsLeased old worker lease mid → LeasesNext old lease mid → RunsHome mid lease new → IsSameSearch first old

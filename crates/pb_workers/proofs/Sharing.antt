@@ -1,14 +1,13 @@
 -- A worker that shares a yard: what its pass knows after each of its calls.
-use Rattle.std.proofs.Common.{◌≡◌, ℕ, ◌<◌, ◌||◌, Bool, true, false, cond, is_some, List, [], ◌∷◌, Option, Some, None, refl, sym, ap, ◌∙◌, arith, subst}
+use Rattle.std.proofs.Common.{◌≡◌, ℕ, ◌<◌, Bool, true, false, is_some, IfSome, IfNone, IsSome, OnSome, List, [], Option, Some, None, refl, sym, ap, ◌∙◌, arith, subst, true≢false}
 use Rattle.std.specs.List.{list_any}
 use Rattle.std.proofs.lemmas.Bool.{or_from}
 use Rattle.std.proofs.lemmas.List.Folds.{list_any-append}
-use Rattle.std.proofs.Math.Bool.{or-true}
 use Rattle.pb_model.specs.Work.{Work}
-use Rattle.pb_model.proofs.Callers.{at_most_self, equal_self}
+use Rattle.pb_model.proofs.Callers.{at_most_self}
 use Rattle.pb_machine.specs.declared.event.End.{End}
 use Rattle.pb_machine.specs.declared.event.Event.{Event}
-use Rattle.pb_machine.specs.declared.event.Event.TheVariants.{Hot, Off}
+use Rattle.pb_machine.specs.declared.event.Event.TheVariants.{Hot}
 use Rattle.pb_machine.specs.History.{events_of, is_off, end_in}
 use Rattle.pb_machine.specs.Views as of_machine
 use Rattle.pb_machine.specs.Machine.{lent_store}
@@ -21,21 +20,25 @@ use Rattle.pb_lease.specs.declared.answer.LeaseReply.TheVariants.{Leased, NotYet
 use Rattle.pb_lease.specs.declared.answer.LeaseReply.{LeaseReply}
 use Rattle.pb_lease.specs.declared.answer.Renewed.TheVariants.{Kept, Given}
 use Rattle.pb_lease.specs.Tables.{blocks}
-use Rattle.pb_lease.specs.Events.{ending}
 use Rattle.pb_lease.specs.LeaseValue.{LeaseValue, leased_store, IsSameLease}
 use Rattle.pb_lease.specs.Leased.{guide_of, HasScope}
 use Rattle.pb_lease.specs.GraphValue.{GraphValue, setup_in, counts_in}
 use Rattle.pb_expand.specs.Turned.{IsAtWork}
 use Rattle.pb_expand.specs.Watching.{IsOfSearch, IsWatched}
 use Rattle.pb_yard.specs.declared.view.View.{View}
+use Rattle.pb_yard.specs.declared.yard.Yard.{Yard}
 use Rattle.pb_yard.specs.Views.{view_then}
 use Rattle.pb_yard.specs.Rule.{rows_of, was_read, grant_in, IsViewOf}
-use Rattle.pb_yard.specs.Replies.{LeasesAs, lease_events, lent_by, told_by, ReleasesAs, release_events, RenewsAs, renewal_events, RivalsAs, MarksAs, mark_events, off_events}
+use Rattle.pb_yard.specs.Replies.{LeasesAs, lease_events, lent_by, told_by, ReleasesAs, release_events, RenewsAs, renewal_events, RivalsAs, MarksAs, mark_events}
 use Rattle.pb_yard.specs.Returning.{IsLeaseOf, IsBrought}
-use Rattle.pb_yard.specs.Calls.{Holds, HasRead, ReadsAndHolds, Looks, Leases, Renews, GivesAndLeases, Releases, AsksRival, Marks, SignsOff, IsActive}
+use Rattle.pb_yard.specs.Passes.{view_of, worker_of, KeepsPass}
+use Rattle.pb_yard.specs.Calls.{Holds, HasRead, ReadsAndHolds, Looks, Leases, Renews, GivesAndLeases, Releases, AsksRival, Marks, IsActive}
 use Rattle.pb_yard.proofs.Callers.{history, leased, begins, own_none_off, end_none_off, ending_none_off, ended_end}
-use Rattle.pb_workers.specs.Shared.{IsSameHolder, IsIdle, IsLeased}
-use Rattle.pb_workers.specs.Watching.{watch_view, KeepsLease}
+use Rattle.pb_workers.specs.declared.yard_watch.YardWatch.{YardWatch}
+use Rattle.pb_workers.specs.Serving.{searched_by}
+use Rattle.pb_workers.specs.Shared.{IsSameHolder, IsIdle, IsLeased, MarksRivalTold}
+use Rattle.pb_workers.specs.Sharing.{IsSameWorker, HasLease, HasWork, HasNone, IsToldRivalIn}
+use Rattle.pb_workers.specs.Watching.{watch_view, IsWatchOf, KeepsLease, IsSameWatch}
 
 -- ---- which events sign off
 
@@ -341,18 +344,6 @@ module _ (task : TaskParts) (graph : AbstractGraph) (old new : View) (of_task : 
       (reader_holds (RenewsAs worked Given) (λ found. renewal_events worked Given) old None None between gives)
       (reader_holds (LeasesAs worker reply) (lease_events worker reply) between (lent_by reply between.lent) (told_by reply between.told) new leases)
 
--- ---- signing off
-
-pub off_then : (worker : ℕ) (trouble : Bool) (old new : View) → old.journal.own.worker ≡ worker → SignsOff worker trouble old new → list_any is_off new.journal.own.events ≡ true
-off_then worker trouble old new own h =
-    ap (λ (v : View). list_any is_off v.journal.own.events) h.view
-    ∙ list_any-append is_off old.journal.own.events (events_of old.journal.own.worker (off_events worker trouble h.found))
-    ∙ ap (λ r. list_any is_off old.journal.own.events || r) there ∙ or-true (list_any is_off old.journal.own.events)
-  where
-    there : list_any is_off (events_of old.journal.own.worker (off_events worker trouble h.found)) ≡ true
-    there = ap (λ k. list_any is_off (events_of k (off_events worker trouble h.found))) own
-        ∙ ap (λ r. list_any is_off (cond r (Off worker trouble ∷ events_of worker (ending trouble h.found.table.end)) (events_of worker (ending trouble h.found.table.end)))) (equal_self worker)
-
 -- ---- the same task and the same blocks
 
 module _ (task same_task : TaskParts) (graph same_graph : AbstractGraph) (task_is : same_task ≡ task) (graph_is : same_graph ≡ graph) where
@@ -361,3 +352,137 @@ module _ (task same_task : TaskParts) (graph same_graph : AbstractGraph) (task_i
 
   pub idle_with : (view : View) → IsIdle task graph view → IsIdle same_task same_graph view
   idle_with view i = subst (λ (p : TaskParts). IsIdle p same_graph view) (sym task_is) (subst (λ (a : AbstractGraph). IsIdle task a view) (sym graph_is) i)
+
+-- ---- the same search
+
+pub holder_searched : (old new : View) → IsSameHolder old new → searched_by new ≡ searched_by old
+holder_searched old new same = λ i. record { task = same.task i; abstraction = same.graph i; choice = same.choice i }
+
+pub kept_searched : (old new : View) → KeepsLease old new → searched_by new ≡ searched_by old
+kept_searched old new kept = λ i. record { task = kept.task i; abstraction = kept.graph i; choice = kept.choice i }
+
+pub leased_for : (view : View) (lease : LeaseValue) (task : TaskParts) (graph : AbstractGraph) → view.task ≡ task → view.graph ≡ graph → IsLeased view.task view.graph view lease → IsLeased task graph view lease
+leased_for view lease task graph task_is graph_is l = leased_with view.task task view.graph graph (sym task_is) (sym graph_is) view lease l
+
+-- ---- the same worker since an earlier moment
+
+pub worker_self : (watch : YardWatch) → IsSameWorker watch watch
+worker_self watch = record { yard = refl; pass = ((((refl, refl, refl, refl), refl)), refl); holder = holder_self (view_of watch.pass) }
+
+module _ (begin old new : YardWatch) (since : IsSameWorker begin old) (own : IsWatchOf old) (yard : new.yard.now ≡ old.yard.now) (keeps : KeepsPass old.pass new.pass) (same : IsSameHolder (view_of old.pass) (view_of new.pass)) where
+  since_then : IsSameWorker begin new
+  since_then =
+      let p = since.pass.0.0 in
+      let q = keeps.0.0 in
+      record {
+        yard = yard ∙ since.yard;
+        pass = (((q.0 ∙ p.0, q.1 ∙ p.1, q.2 ∙ p.2, q.3 ∙ p.3), keeps.0.1 ∙ since.pass.0.1), keeps.1 ∙ since.pass.1);
+        holder = holder_then (view_of begin.pass) (view_of old.pass) (view_of new.pass) since.holder same;
+      }
+
+  own_then : IsWatchOf new
+  own_then = keeps.0.0.0 ∙ own ∙ ap (λ (y : Yard). y.lock.table.shared.table_id) (sym yard)
+
+  pub lease_since : (lease : LeaseValue) → IsLeased (view_of old.pass).task (view_of old.pass).graph (view_of new.pass) lease → HasLease begin new lease
+  lease_since lease l = record {
+    own = own_then;
+    since = since_then;
+    leased = leased_with (view_of old.pass).task (view_of new.pass).task (view_of old.pass).graph (view_of new.pass).graph same.task same.graph (view_of new.pass) lease l;
+  }
+
+  pub none_since : IsIdle (view_of old.pass).task (view_of old.pass).graph (view_of new.pass) → HasNone begin new
+  none_since idle = record {
+    own = own_then;
+    since = since_then;
+    idle = idle_with (view_of old.pass).task (view_of new.pass).task (view_of old.pass).graph (view_of new.pass).graph same.task same.graph (view_of new.pass) idle;
+  }
+
+-- a lease that was asked for
+module _ (begin old new : YardWatch) (none : HasNone begin old) (yard : new.yard.now ≡ old.yard.now) (keeps : KeepsPass old.pass new.pass) (worker : ℕ) where
+  pub asked_holder : (reply : LeaseReply) → Leases worker (view_of old.pass) reply (view_of new.pass) → IsSameHolder (view_of old.pass) (view_of new.pass)
+  asked_holder reply asks =
+      let v = view_of old.pass in
+      reader_holds (LeasesAs worker reply) (lease_events worker reply) v (lent_by reply v.lent) (told_by reply v.told) (view_of new.pass) asks
+
+  pub lease_asked : (lease : LeaseValue) → Leases worker (view_of old.pass) (Leased lease) (view_of new.pass) → HasLease begin new lease
+  lease_asked lease asks =
+      let v = view_of old.pass in
+      lease_since begin old new none.since none.own yard keeps (asked_holder (Leased lease) asks) lease (leased_then v.task v.graph worker v (view_of new.pass) none.idle lease asks)
+
+  pub wait_asked : Leases worker (view_of old.pass) NotYet (view_of new.pass) → HasNone begin new
+  wait_asked asks =
+      let v = view_of old.pass in
+      none_since begin old new none.since none.own yard keeps (asked_holder NotYet asks) (wait_then v.task v.graph worker v (view_of new.pass) none.idle (lease_events worker NotYet) (LeasesAs worker NotYet) asks (λ g. refl))
+
+  pub memory_asked : Leases worker (view_of old.pass) Memory (view_of new.pass) → HasNone begin new
+  memory_asked asks =
+      let v = view_of old.pass in
+      none_since begin old new none.since none.own yard keeps (asked_holder Memory asks) (wait_then v.task v.graph worker v (view_of new.pass) none.idle (lease_events worker Memory) (LeasesAs worker Memory) asks (λ g. refl))
+
+  pub over_asked : (end : End) → Leases worker (view_of old.pass) (Over end) (view_of new.pass) → HasNone begin new × (is_some (end_in (view_of new.pass).journal.seen) ≡ true)
+  over_asked end asks =
+      let v = view_of old.pass in
+      let over = over_then v.task v.graph worker v (view_of new.pass) none.idle end asks in
+      (none_since begin old new none.since none.own yard keeps (asked_holder (Over end) asks) over.0, over.1)
+
+-- work on a lease
+module _ (begin old new : YardWatch) (lease : LeaseValue) (h : HasLease begin old lease) (task : TaskParts) (graph : AbstractGraph) (task_is : (view_of old.pass).task ≡ task) (graph_is : (view_of old.pass).graph ≡ graph) where
+  pub work_since : IsWatchOf new → IsSameWatch old new → (worked : LeaseValue) → IsSameLease lease worked → (broken : ℕ)
+      → IsWatched (space_of task) (guide_of task graph lease.choice) (watch_view (view_of new.pass)) broken worked → HasScope graph worked → HasWork begin new worked broken
+  work_since own stays worked same broken w scope =
+      let v = view_of old.pass in
+      let u = view_of new.pass in
+      let l = leased_for v lease task graph task_is graph_is h.leased in
+      record {
+        own = own;
+        since = since_then begin old new h.since h.own stays.yard stays.pass (work_holder task graph v old.pass.is_live lease l u stays.lease worked same);
+        of_task = subst (λ (p : TaskParts). IsGraphOf p u.graph) (sym stays.lease.task) (subst (λ (a : AbstractGraph). IsGraphOf v.task a) (sym stays.lease.graph) h.leased.of_task);
+        stays = work_active task graph v old.pass.is_live lease l u stays.lease worked same;
+        lease_of = lease_of task graph v old.pass.is_live lease l u stays.lease worked same;
+        brought = brought task graph v old.pass.is_live lease l u stays.lease worked same broken w scope;
+      }
+
+-- a look, or a try that found the turn held
+module _ (begin old new : YardWatch) (lease : LeaseValue) (broken : ℕ) (h : HasWork begin old lease broken) (yard : new.yard.now ≡ old.yard.now) (keeps : KeepsPass old.pass new.pass) where
+  pub look_since : (step : GraphValue → GraphValue → Type 0) (list : GraphValue → List Event) → Looks step list (view_of old.pass) (view_of new.pass) → IsActive (view_of new.pass) → HasWork begin new lease broken
+  look_since step list looks stays =
+      let v = view_of old.pass in
+      let u = view_of new.pass in
+      let same = holder step list v v.lent v.told u looks in
+      record {
+        own = own_then begin old new h.since h.own yard keeps same;
+        since = since_then begin old new h.since h.own yard keeps same;
+        of_task = subst (λ (p : TaskParts). IsGraphOf p u.graph) (sym same.task) (subst (λ (a : AbstractGraph). IsGraphOf v.task a) (sym same.graph) h.of_task);
+        stays = stays;
+        lease_of = (h.lease_of.0 ∙ sym same.worker, ap grant_in (lent_is step list v v.lent v.told u looks) ∙ h.lease_of.1);
+        brought = still_brought v broken lease h.brought step list u looks;
+      }
+
+  pub busy_since : view_of new.pass ≡ view_of old.pass → HasWork begin new lease broken
+  busy_since is =
+      let v = view_of old.pass in
+      let same : IsSameHolder v (view_of new.pass) = subst (λ (x : View). IsSameHolder v x) (sym is) (holder_self v) in
+      record {
+        own = own_then begin old new h.since h.own yard keeps same;
+        since = since_then begin old new h.since h.own yard keeps same;
+        of_task = subst (λ (x : View). IsGraphOf x.task x.graph) (sym is) h.of_task;
+        stays = subst (λ (x : View). IsActive x) (sym is) h.stays;
+        lease_of = subst (λ (x : View). IsLeaseOf x lease) (sym is) h.lease_of;
+        brought = subst (λ (x : View). IsBrought x broken lease) (sym is) h.brought;
+      }
+
+-- ---- the rival that a pass was told
+
+pub told_some_in : (lease : LeaseValue) (old new : YardWatch) → worker_of new.pass ≡ worker_of old.pass → (o : Option ℕ) → AsksRival lease (view_of old.pass) o (view_of new.pass) → IfSome o (λ rival. IsToldRivalIn old lease rival new)
+told_some_in lease old new worker None asks = tt
+told_some_in lease old new worker (Some rival) asks = record { asked = asks; known = rival_known lease (view_of old.pass) (view_of new.pass) rival old.pass.is_live asks; worker = worker }
+
+pub told_none_in : (worker : ℕ) (lease : LeaseValue) (old new : View) (o : Option ℕ) → AsksRival lease old o new → IfNone o (MarksRivalTold worker lease old new)
+told_none_in worker lease old new None asks = (new, None, asks, refl)
+told_none_in worker lease old new (Some rival) asks = tt
+
+-- ---- a loop that may not end
+
+pub some_so : {A : Type 0} (o : Option A) (P : Type 0) → IsSome o → OnSome o P → P
+some_so None P is so = absurd (true≢false (sym is))
+some_so (Some x) P is so = so

@@ -1,5 +1,5 @@
 -- A worker that has a lease, and what it leaves.
-use Rattle.std.specs.Prelude.{◌≡◌, ℕ, ◌+◌, ◌<◌, IsSome, is_some, None, Some, ◌⊎◌, ◌∷◌, []}
+use Rattle.std.specs.Prelude.{◌≡◌, ℕ, ◌+◌, ◌<◌, ◌≤◌, IsSome, is_some, None, Some, ◌⊎◌, ◌∷◌, []}
 use Rattle.pb_model.specs.Store.{Rows}
 use Rattle.pb_machine.specs.declared.event.Event.TheVariants.{Hot}
 use Rattle.pb_machine.specs.declared.settings.Settings.{Settings}
@@ -12,13 +12,13 @@ use Rattle.pb_abstract.specs.Graph.{AbstractGraph}
 use Rattle.pb_bundles.specs.Homes.{key_at}
 use Rattle.pb_bundles.specs.Choosing.{IsRivalBy}
 use Rattle.pb_lease.specs.Tables.{blocks}
-use Rattle.pb_lease.specs.LeaseValue.{LeaseValue}
-use Rattle.pb_lease.specs.Leased.{setup_of, IsOut, IsInTurns, IsOutInTurns}
-use Rattle.pb_lease.specs.GraphValue.{GraphValue, setup_in, IsOfGraph}
+use Rattle.pb_lease.specs.LeaseValue.{LeaseValue, IsSameLease}
+use Rattle.pb_lease.specs.Leased.{setup_of, HasScope, IsOut, IsInTurns, IsOutInTurns}
+use Rattle.pb_lease.specs.GraphValue.{GraphValue, setup_in, counts_in, IsOfGraph}
 use Rattle.pb_lease.specs.Choices.{MayMark}
 use Rattle.pb_lease.specs.Moments.{IsMoment}
 use Rattle.pb_lease.specs.Steps.{IsMarked, KeepsLeases}
-use Rattle.pb_workers.specs.Runs.{RunsTo}
+use Rattle.pb_workers.specs.Runs.{IsSameSearch, RunsTo}
 
 -- what work makes of a lease that is out
 abbrev pub Works : TaskParts → AbstractGraph → Choice → LeaseValue → LeaseValue → (broken : ℕ)
@@ -92,3 +92,62 @@ abbrev pub IsMarkedAtMost : (old : GraphValue) → (worker : ℕ) → (new : Gra
 IsMarkedAtMost old worker new =
     (new ≡ old) ⊎ ((block : ℕ) × IsMarked old worker (Hot worker block) new
     × KeepsLeases old (Hot worker block ∷ []) new)
+
+-- the graph told this rival of the lease's block
+pub record IsToldRival (old : GraphValue) (lease : LeaseValue) (rival : ℕ) (new : GraphValue) :
+    Type 0 where
+  pub rival_is : IsRivalBy (interferes (blocks new.table) lease.block) (key_at new.homes)
+      lease.block (Some rival)
+  pub known : rival < (blocks new.table).count
+  pub same : new ≡ old
+
+-- ---- a worker's lease, from when it was given until it comes back
+
+-- the lease went on with less of the budget, or it is where it began
+abbrev pub IsOn : (first : GraphValue) → LeaseValue → (now : GraphValue) → LeaseValue → Type 0
+IsOn first lease now held =
+    (left_with now held < left_with first lease) ⊎ ((now ≡ first) × (held ≡ lease))
+
+-- The lease that was given at the first graph went on until it is this one, which is held now. It
+-- is the same search, and a run in order leads from the one lease to the other.
+pub record GoesOnTo (begin : GraphValue) (given : LeaseValue) (now : GraphValue)
+    (lease : LeaseValue) : Type 0 where
+  pub held : IsHeld now lease
+  pub worker : lease.worker ≡ given.worker
+  pub same : IsSameSearch begin now
+  pub signed_off : (counts_in now).signed_off ≡ (counts_in begin).signed_off
+  pub runs : RunsOut begin given now lease
+  pub on : IsOn begin given now lease
+
+-- Of the lease that was held at this graph its worker has made this one, by at most so many
+-- expansions that were broken off.
+pub record IsWorkOf (g : GraphValue) (held worked : LeaseValue) (broken : ℕ) : Type 0 where
+  pub works : Works g.task g.table.graph held.choice held worked broken
+  pub within : worked.used ≤ worked.quota
+  pub same : IsSameLease held worked
+  pub scope : HasScope g.table.graph worked
+
+-- the lease went on, and then it was worked on
+pub record HasWorkedOn (begin : GraphValue) (given : LeaseValue) (now : GraphValue)
+    (lease : LeaseValue) (broken : ℕ) : Type 0 where
+  pub held : LeaseValue
+  pub on : GoesOnTo begin given now held
+  pub work : IsWorkOf now held lease broken
+
+-- the lease went on, then it was worked on, and then at most one block was marked
+pub record IsToReturn (begin : GraphValue) (given : LeaseValue) (now : GraphValue)
+    (lease : LeaseValue) (broken : ℕ) : Type 0 where
+  pub first : GraphValue
+  pub held : LeaseValue
+  pub on : GoesOnTo begin given first held
+  pub work : IsWorkOf first held lease broken
+  pub mark : IsMarkedAtMost first lease.worker now
+
+-- The lease that was given at the first graph came back, by a run in order. It is the same search,
+-- which came nearer to its end.
+pub record IsBack (begin : GraphValue) (given : LeaseValue) (now : GraphValue) : Type 0 where
+  pub home : RunsHome begin given now
+  pub vacant : (counts_in now).leases given.worker ≡ None
+  pub nearer : IsNearer begin given now
+  pub same : IsSameSearch begin now
+  pub signed_off : (counts_in now).signed_off ≡ (counts_in begin).signed_off

@@ -17,7 +17,9 @@ pub mod Runs
 pub mod Holding
 pub mod Ends
 pub mod Shared
+pub mod Sharing
 pub mod Teams
 pub mod Tools
 pub mod Serving
+pub mod Switched
 pub mod Watching

@@ -4,7 +4,7 @@ ghost use Rattle.pb_lease.specs.GraphValue.{counts_in};
 ghost use Rattle.pb_lease.specs.Choices.{is_out_in};
 ghost use Rattle.pb_workers.specs.Runs.{IsSameSearch, IsAnyMoment, RunsOn};
 ghost use Rattle.pb_workers.specs.Ends.{IsBestEnd, IsSpentEnd};
-ghost use Rattle.pb_workers.specs.Serving.{Serves};
+ghost use Rattle.pb_workers.specs.Serving.{Serves, searched_in};
 
 use crate::closing::sign_off;
 use crate::holding::hold;
@@ -63,7 +63,7 @@ pub fn run_alone<G: Gate>(
 // Leases blocks and works on them until the search ends, and answers the end. Answers None if
 // memory for a lease runs out.
 fn search<G: Gate>(worker: &mut Worker, graph: &mut LeaseGraph, gate: &G) -> Option<End>
-    requires serves { Serves worker.old graph.old }
+    requires serves { Serves worker.old (searched_in graph.old) }
     requires alone { graph.old.table.settings.workers ≡ 1 }
     requires moment { IsAnyMoment graph.old }
     requires home { IsFalse (is_out_in graph.old) }

@@ -1,30 +1,31 @@
-ghost use Rattle.std.specs.Prelude.{◌≡◌, None};
-ghost use Rattle.pb_lease.specs.GraphValue.{counts_in};
-ghost use Rattle.pb_workers.specs.Runs.{IsSameSearch};
-ghost use Rattle.pb_workers.specs.Holding.{IsHeld, RunsHome, IsNearer};
+ghost use Rattle.std.specs.Prelude.{◌≡◌};
+ghost use Rattle.pb_lease.specs.LeaseValue.{LeaseValue};
 ghost use Rattle.pb_workers.specs.Serving.{Serves};
 
+use crate::lessor::Lessor;
 use crate::turning::turn;
 use crate::worker::Worker;
-use pb_lease::{Lease, LeaseGraph};
+use pb_lease::Lease;
 use pb_outside::Gate;
 
-/// Works on a lease for as long as it goes on, until it comes back.
-pub fn hold<G: Gate>(worker: &mut Worker, graph: &mut LeaseGraph, gate: &G, lease: Lease)
-    requires serves { Serves worker.old graph.old }
-    requires held { IsHeld graph.old lease }
-    ensures home { RunsHome graph.old lease graph.new }
-    ensures vacant { (counts_in graph.new).leases lease.worker ≡ None }
-    ensures nearer { IsNearer graph.old lease graph.new }
-    ensures same { IsSameSearch graph.old graph.new }
-    ensures signed_off { (counts_in graph.new).signed_off ≡ (counts_in graph.old).signed_off }
-    ensures serves { Serves worker.new graph.new }
+/// Works on a lease for as long as it goes on, or others in its place, until it comes back. Those
+/// that wait for a block are told so.
+pub fn hold<L: Lessor, G: Gate>(worker: &mut Worker, lessor: &mut L, gate: &G, lease: Lease)
+    requires serves { Serves worker.old (L.searched lessor.old) }
+    requires holds { (begin : L) × (given : LeaseValue) × L.holds begin given lessor.old lease }
+    ensures home { (begin : L) (given : LeaseValue) → L.holds begin given lessor.old lease
+        → L.returned begin given lessor.new }
+    ensures searched { L.searched lessor.new ≡ L.searched lessor.old }
+    ensures serves { Serves worker.new (L.searched lessor.new) }
 {
     let mut held = lease;
     'turns: loop {
-        match turn(worker, graph, gate, held) {
+        match turn(worker, lessor, gate, held) {
             Some(kept) => held = kept,
-            None => return,
+            None => {
+                lessor.tell_return();
+                return;
+            }
         }
     }
 }

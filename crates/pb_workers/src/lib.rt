@@ -6,13 +6,15 @@
 mod alone;
 mod closing;
 mod event_count;
+mod graph_lessor;
 mod holding;
+mod lessor;
 mod marking;
 mod turning;
 mod worker;
 mod workers;
+mod yard_lessor;
 mod yard_search;
-mod yard_turns;
 mod yard_watch;
 
 pub use alone::run_alone;

@@ -1,20 +1,22 @@
-ghost use Rattle.std.specs.Prelude.{◌≡◌, Some};
-ghost use Rattle.pb_lease.specs.Leased.{grant_of};
-ghost use Rattle.pb_lease.specs.GraphValue.{counts_in};
-ghost use Rattle.pb_workers.specs.Runs.{IsAnyMoment};
-ghost use Rattle.pb_workers.specs.Holding.{MarksRival, IsMarkedAtMost};
+ghost use Rattle.std.specs.Prelude.{◌≡◌, ◌≤◌};
+ghost use Rattle.pb_lease.specs.LeaseValue.{LeaseValue};
 
-use pb_lease::{Lease, LeaseGraph};
+use crate::lessor::Lessor;
+use pb_lease::Lease;
 
 /// Marks the rival of the lease's block hot, if there is one and it may be marked: in a plain
 /// search it never may.
-pub fn mark_rival(graph: &mut LeaseGraph, lease: &Lease)
-    requires leased { (counts_in graph.old).leases lease.now.worker ≡ Some (grant_of lease.now) }
-    requires moment { IsAnyMoment graph.old }
-    ensures rival { MarksRival graph.old lease.now graph.new }
-    ensures moment { IsMarkedAtMost graph.old lease.now.worker graph.new }
+pub fn mark_rival<L: Lessor>(lessor: &mut L, lease: &Lease)
+    requires worked { (begin : L) × (given : LeaseValue)
+        × L.worked begin given lessor.old lease.now 0 }
+    ensures may_return { (begin : L) (given : LeaseValue)
+        → L.worked begin given lessor.old lease.now 0
+        → L.may_return begin given lessor.new lease.now 0 }
+    ensures marked { L.marked lessor.old lease.now lessor.new }
+    ensures left { L.turns_left lessor.new lease.now ≤ L.turns_left lessor.old lease.now }
+    ensures searched { L.searched lessor.new ≡ L.searched lessor.old }
 {
-    if let Some(rival) = graph.rival(lease) {
-        graph.mark_hot(lease.worker(), rival);
+    if let Some(rival) = lessor.rival_of(lease) {
+        lessor.mark(lease, rival);
     }
 }

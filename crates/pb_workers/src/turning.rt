@@ -1,63 +1,87 @@
-ghost use Rattle.std.specs.Prelude.{◌≡◌, ◌<◌, IfSome, IfNone, None};
-ghost use Rattle.pb_lease.specs.Tables.{rooms};
-ghost use Rattle.pb_lease.specs.GraphValue.{counts_in};
-ghost use Rattle.pb_workers.specs.Runs.{IsSameSearch};
-ghost use Rattle.pb_workers.specs.Holding.{IsHeld, RunsOut, RunsHome, left_with, IsNearer};
+//! The rule of a worker that has a lease, whatever it has it from.
+ghost use Rattle.std.specs.Prelude.{◌≡◌, ◌<◌, ◌≤◌, false, IfSome, IfNone, IsTrue};
+ghost use Rattle.pb_lease.specs.LeaseValue.{LeaseValue};
+ghost use Rattle.pb_yard.specs.Order.{HasCause};
 ghost use Rattle.pb_workers.specs.Serving.{Serves};
 
+use crate::lessor::{Lessor, Switched};
 use crate::marking::mark_rival;
 use crate::worker::Worker;
 use pb_expand::Worked;
-use pb_lease::{Lease, LeaseGraph, Renewed};
+use pb_lease::{Lease, Renewed};
 use pb_outside::Gate;
 
+// Goes on without waiting, if that can be tried, with the lease or with another one. Else a lease
+// whose quota is used up is renewed or comes back, and any other comes back.
+fn settle<L: Lessor, G: Gate>(
+    lessor: &mut L,
+    gate: &G,
+    lease: Lease,
+    is_spent: bool,
+) -> Option<Lease>
+    requires may_return { (begin : L) × (given : LeaseValue)
+        × L.may_return begin given lessor.old lease 0 }
+    requires cause { HasCause lease false }
+    requires spent { IsTrue is_spent → lease.used ≡ lease.quota }
+    ensures holds { (begin : L) (given : LeaseValue) → L.may_return begin given lessor.old lease 0
+        → IfSome result (L.holds begin given lessor.new) }
+    ensures left { IfSome result (λ kept. L.turns_left lessor.new kept
+        < L.turns_left lessor.old lease) }
+    ensures home { (begin : L) (given : LeaseValue) → L.may_return begin given lessor.old lease 0
+        → IfNone result (L.returned begin given lessor.new) }
+    ensures searched { L.searched lessor.new ≡ L.searched lessor.old }
+{
+    match lessor.switch(lease) {
+        Switched::Kept(kept) => Some(kept),
+        Switched::Next(next) => {
+            lessor.tell_return();
+            gate.leased(next.worker(), next.block());
+            Some(next)
+        }
+        Switched::Home => None,
+        Switched::Busy(lease) => {
+            if is_spent {
+                match lessor.go_on(lease) {
+                    Renewed::Kept(kept) => Some(kept),
+                    Renewed::Given => None,
+                }
+            } else {
+                lessor.give_back(lease, false);
+                None
+            }
+        }
+    }
+}
+
 /// Works on a lease until its quota is used up, no row of its block is Opened, or memory runs out.
-/// Then the lease goes on, if its block would be the first choice with the lease home. Else it
-/// comes back.
-pub fn turn<G: Gate>(
+/// Then the worker goes on, with the lease or with another one, or its lease comes back.
+pub fn turn<L: Lessor, G: Gate>(
     worker: &mut Worker,
-    graph: &mut LeaseGraph,
+    lessor: &mut L,
     gate: &G,
     mut lease: Lease,
 ) -> Option<Lease>
-    requires serves { Serves worker.old graph.old }
-    requires held { IsHeld graph.old lease }
-
-    // A lease that goes on.
-    ensures held { IfSome result (IsHeld graph.new) }
-    ensures worker { IfSome result (λ kept. kept.worker ≡ lease.worker) }
-    ensures room_left { IfSome result (λ kept. rooms graph.new.table kept.worker
-        < rooms graph.old.table lease.worker) }
-    ensures less { IfSome result (λ kept. left_with graph.new kept < left_with graph.old lease) }
-    ensures out { IfSome result (RunsOut graph.old lease graph.new) }
-
-    // A lease that comes back.
-    ensures home { IfNone result (RunsHome graph.old lease graph.new) }
-    ensures vacant { IfNone result ((counts_in graph.new).leases lease.worker ≡ None) }
-    ensures nearer { IfNone result (IsNearer graph.old lease graph.new) }
-
-    // What stays.
-    ensures same { IsSameSearch graph.old graph.new }
-    ensures signed_off { (counts_in graph.new).signed_off ≡ (counts_in graph.old).signed_off }
-    ensures serves { Serves worker.new graph.new }
+    requires serves { Serves worker.old (L.searched lessor.old) }
+    requires holds { (begin : L) × (given : LeaseValue) × L.holds begin given lessor.old lease }
+    ensures holds { (begin : L) (given : LeaseValue) → L.holds begin given lessor.old lease
+        → IfSome result (L.holds begin given lessor.new) }
+    ensures left { IfSome result (λ kept. L.turns_left lessor.new kept
+        < L.turns_left lessor.old lease) }
+    ensures home { (begin : L) (given : LeaseValue) → L.holds begin given lessor.old lease
+        → IfNone result (L.returned begin given lessor.new) }
+    ensures searched { L.searched lessor.new ≡ L.searched lessor.old }
+    ensures serves { Serves worker.new (L.searched lessor.new) }
 {
-    let _ = graph.abstraction();
-    let worked = worker.work(&mut lease);
+    let worked = lessor.work_on(worker, &mut lease);
     gate.giving(lease.worker(), lease.block());
     match worked {
         Worked::Spent => {
-            mark_rival(graph, &lease);
-            match graph.renew(lease) {
-                Renewed::Kept(kept) => Some(kept),
-                Renewed::Given => None,
-            }
+            mark_rival(lessor, &lease);
+            settle(lessor, gate, lease, true)
         }
-        Worked::Empty => {
-            graph.release(lease, false);
-            None
-        }
+        Worked::Empty => settle(lessor, gate, lease, false),
         Worked::Memory => {
-            graph.release(lease, true);
+            lessor.give_back(lease, true);
             None
         }
     }

@@ -2,15 +2,16 @@
 ghost use Rattle.std.specs.Prelude.{◌≡◌, ◌||◌, None, IsTrue, is_some};
 ghost use Rattle.std.specs.List.{list_any};
 ghost use Rattle.pb_machine.specs.History.{is_off, end_in};
-ghost use Rattle.pb_estimate.specs.Tables.{IsOfTask};
-ghost use Rattle.pb_yard.specs.Passes.{view_of, parts_of, IsOf, IsSamePass, KeepsPass};
-ghost use Rattle.pb_workers.specs.Watching.{IsWatchOf};
+ghost use Rattle.pb_yard.specs.Passes.{view_of, parts_of, IsOf, IsSamePass};
+ghost use Rattle.pb_workers.specs.Serving.{Serves, searched_by};
 ghost use Rattle.pb_workers.specs.Shared.{IsSameHolder, IsIdle};
+ghost use Rattle.pb_workers.specs.Sharing.{HasNone};
 ghost use Rattle.pb_workers.specs.Tools.{AreFor};
 
 use crate::event_count::EventCount;
+use crate::holding::hold;
 use crate::worker::{Tools, Worker};
-use crate::yard_turns::yard_hold;
+use crate::yard_lessor::YardLessor;
 use crate::yard_watch::YardWatch;
 use pb_abstract::AbsGraph;
 use pb_lease::LeaseReply;
@@ -23,31 +24,24 @@ use std::sync::Wait;
 // whether memory ran out.
 fn take_leases<W: Wait, G: Gate>(
     rt: &W,
-    count: &EventCount,
     gate: &G,
     worker: &mut Worker,
-    watch: &mut YardWatch,
+    lessor: &mut YardLessor<W>,
 ) -> bool
-    requires own { IsWatchOf watch.old }
-    requires idle { IsIdle worker.old.task.now worker.old.abstraction.now
-        (view_of watch.old.pass) }
-    requires tools { IsOfTask worker.old.estimator worker.old.task.now
-        (view_of watch.old.pass).choice }
-    ensures same { KeepsPass watch.old.pass watch.new.pass }
-    ensures yard { watch.new.yard.now ≡ watch.old.yard.now }
-    ensures holder { IsSameHolder (view_of watch.old.pass) (view_of watch.new.pass) }
-    ensures idle { IsIdle worker.old.task.now worker.old.abstraction.now
-        (view_of watch.new.pass) }
-    ensures cause { IsTrue (result || is_some (end_in (view_of watch.new.pass).journal.seen)) }
+    requires serves { Serves worker.old (searched_by (view_of lessor.old.watch.pass)) }
+    requires idle { HasNone lessor.old.watch lessor.old.watch }
+    ensures idle { HasNone lessor.old.watch lessor.new.watch }
+    ensures cause { IsTrue (result
+        || is_some (end_in (view_of lessor.new.watch.pass).journal.seen)) }
 {
     for _ in rt.forever() {
-        let noted = count.note(rt);
-        match watch.yard.lease(rt, &mut watch.pass) {
+        let noted = lessor.count.note(rt);
+        match lessor.watch.yard.lease(rt, &mut lessor.watch.pass) {
             LeaseReply::Leased(lease) => {
-                gate.leased(watch.pass.worker(), lease.block());
-                yard_hold(rt, count, gate, worker, watch, lease);
+                gate.leased(lessor.watch.pass.worker(), lease.block());
+                hold(worker, lessor, gate, lease);
             }
-            LeaseReply::NotYet => count.sleep_past(rt, noted),
+            LeaseReply::NotYet => lessor.count.sleep_past(rt, noted),
             LeaseReply::Over(_) => return false,
             LeaseReply::Memory => return true,
         }
@@ -75,8 +69,19 @@ pub fn run_worker<W: Wait, G: Gate>(
     ensures signed_off { IsTrue (list_any is_off (view_of result).journal.own.events) }
 {
     let mut worker = Worker::new(task, abstraction, tools);
-    let mut watch = YardWatch { yard, pass };
-    let trouble = take_leases(rt, count, gate, &mut worker, &mut watch);
+    let mut lessor = YardLessor {
+        rt,
+        count,
+        watch: YardWatch { yard, pass },
+        turns: rt.forever(),
+    };
+    let trouble = take_leases(rt, gate, &mut worker, &mut lessor);
+    let YardLessor {
+        rt: _,
+        count: _,
+        watch,
+        turns: _,
+    } = lessor;
     let YardWatch { yard: _, mut pass } = watch;
     yard.sign_off(rt, &mut pass, trouble);
     count.advance(rt);

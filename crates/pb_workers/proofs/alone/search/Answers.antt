@@ -2,9 +2,9 @@ use Rattle.std.proofs.Common.{refl, sym, ap, ◌∙◌, subst, inr}
 use Rattle.pb_lease.specs.GraphValue.{GraphValue, counts_in}
 use Rattle.pb_yard.proofs.Callers.{ended_end}
 use Rattle.pb_workers.specs.Runs.{RunsOn}
-use Rattle.pb_workers.proofs.Going.{same_then}
-use Rattle.pb_workers.proofs.Serving.{serves_then}
-use Rattle.pb_workers.proofs.Searching.{alone_vacant, alone_home, leased_same, leased_signed, leased_held, leased_runs, comes_nearer, ended_same, ended_leases, ended_signed, ended_runs, none_stands}
+use Rattle.pb_workers.specs.Serving.{Serves}
+use Rattle.pb_workers.proofs.Going.{same_then, same_searched}
+use Rattle.pb_workers.proofs.Searching.{alone_vacant, alone_home, leased_same, leased_signed, leased_on, leased_runs, comes_nearer, ended_same, ended_leases, ended_signed, ended_runs, none_stands}
 use Rattle.pb_workers.proofs.alone.search.Goals as goal
 
 pub lease-requires-clause-vacant : goal.lease-requires-clause-vacant
@@ -13,31 +13,37 @@ lease-requires-clause-vacant g c = alone_vacant c.leases.graph c.leases.invarian
 pub hold-requires-clause-serves : goal.hold-requires-clause-serves
 hold-requires-clause-serves g c _ _ =
     let same = leased_same c.leases.graph 0 c.in-Leased.lease c.lease.new.self (c.in-Leased.ensures.leased c.in-Leased.lease refl) in
-    serves_then c.leases.graph c.lease.new.self c.leases.worker c.leases.worker same c.leases.invariant.serves refl refl c.leases.invariant.serves.tools
+    subst (Serves c.leases.worker) (sym (same_searched c.leases.graph c.lease.new.self same)) c.leases.invariant.serves
 
-pub hold-requires-clause-held : goal.hold-requires-clause-held
-hold-requires-clause-held g c _ _ =
-    leased_held c.leases.graph 0 c.in-Leased.lease c.lease.new.self (c.in-Leased.ensures.leased c.in-Leased.lease refl) (c.in-Leased.ensures.leased_moment c.in-Leased.lease refl) c.leases.invariant.moment
+pub hold-requires-clause-holds : goal.hold-requires-clause-holds
+hold-requires-clause-holds g c _ _ = (
+  c.lease.new.self,
+  c.in-Leased.lease,
+  leased_on c.leases.graph 0 c.in-Leased.lease c.lease.new.self (c.in-Leased.ensures.leased c.in-Leased.lease refl) (c.in-Leased.ensures.leased_moment c.in-Leased.lease refl) c.leases.invariant.moment,
+)
 
 pub leases-smaller : goal.leases-smaller
 leases-smaller g c =
-    comes_nearer c.leases.graph c.lease.new.self c.hold.new.graph 0 c.in-Leased.lease (c.in-Leased.ensures.leased c.in-Leased.lease refl) c.hold.ensures.same c.hold.ensures.nearer
+    let l = c.in-Leased.ensures.leased c.in-Leased.lease refl in
+    let b = c.hold.ensures.home c.lease.new.self c.in-Leased.lease (leased_on c.leases.graph 0 c.in-Leased.lease c.lease.new.self l (c.in-Leased.ensures.leased_moment c.in-Leased.lease refl) c.leases.invariant.moment) in
+    comes_nearer c.leases.graph c.lease.new.self c.hold.new.lessor 0 c.in-Leased.lease l b.same b.nearer
 
 pub leases-preserved : goal.leases-preserved
 leases-preserved g c =
     let l = c.in-Leased.ensures.leased c.in-Leased.lease refl in
-    let same = same_then c.leases.graph c.lease.new.self c.hold.new.graph (leased_same c.leases.graph 0 c.in-Leased.lease c.lease.new.self l) c.hold.ensures.same in
+    let b = c.hold.ensures.home c.lease.new.self c.in-Leased.lease (leased_on c.leases.graph 0 c.in-Leased.lease c.lease.new.self l (c.in-Leased.ensures.leased_moment c.in-Leased.lease refl) c.leases.invariant.moment) in
+    let same = same_then c.leases.graph c.lease.new.self c.hold.new.lessor (leased_same c.leases.graph 0 c.in-Leased.lease c.lease.new.self l) b.same in
     let alone = ap (λ s. s.workers) same.settings ∙ c.leases.invariant.alone in
-    let home = alone_home c.hold.new.graph alone (ap (counts_in c.hold.new.graph).leases (sym l.worker_is) ∙ c.hold.ensures.vacant) in
-    let runs = leased_runs c.args.graph.now c.leases.graph c.lease.new.self c.hold.new.graph 0 c.in-Leased.lease l (c.in-Leased.ensures.leased_moment c.in-Leased.lease refl) c.hold.ensures.home c.leases.invariant.same home c.leases.invariant.runs in
+    let home = alone_home c.hold.new.lessor alone (ap (counts_in c.hold.new.lessor).leases (sym l.worker_is) ∙ b.vacant) in
+    let runs = leased_runs c.args.graph.now c.leases.graph c.lease.new.self c.hold.new.lessor 0 c.in-Leased.lease l (c.in-Leased.ensures.leased_moment c.in-Leased.lease refl) b.home c.leases.invariant.same home c.leases.invariant.runs in
     let last = runs c.requires.moment.0 c.requires.moment.1 c.requires.moment.2 in
     record {
       serves = c.hold.ensures.serves;
       alone = alone;
       moment = (c.requires.moment.0, last.0, last.1.moment);
       home = home;
-      stays = (λ i. c.hold.ensures.signed_off i 0) ∙ (λ i. leased_signed c.leases.graph 0 c.in-Leased.lease c.lease.new.self l i 0) ∙ c.leases.invariant.stays;
-      same = same_then c.args.graph.now c.leases.graph c.hold.new.graph c.leases.invariant.same same;
+      stays = (λ i. b.signed_off i 0) ∙ (λ i. leased_signed c.leases.graph 0 c.in-Leased.lease c.lease.new.self l i 0) ∙ c.leases.invariant.stays;
+      same = same_then c.args.graph.now c.leases.graph c.hold.new.lessor c.leases.invariant.same same;
       runs = runs;
     }
 

@@ -2,13 +2,13 @@ use Rattle.std.proofs.Common.{◌≡◌, IsFalse}
 use Rattle.pb_lease.specs.GraphValue.{counts_in}
 use Rattle.pb_lease.specs.Choices.{is_out_in}
 use Rattle.pb_workers.specs.Runs.{IsSameSearch, IsAnyMoment, RunsOn}
-use Rattle.pb_workers.specs.Serving.{Serves}
+use Rattle.pb_workers.specs.Serving.{Serves, searched_in}
 use Rattle.pb_workers.proofs.Searching.{distance}
 use Rattle.pb_workers.proofs.alone.search.Given as goal
 
 abbrev pub invariant-leases : goal.invariant-leases
 invariant-leases g l = record {
-  serves : Serves l.worker l.graph;
+  serves : Serves l.worker (searched_in l.graph);
   alone : l.graph.table.settings.workers ≡ 1;
   moment : IsAnyMoment l.graph;
   home : IsFalse (is_out_in l.graph);

@@ -1,24 +1,54 @@
-use Rattle.std.proofs.Common.{Some, None, sym, subst}
-use Rattle.pb_estimate.specs.Tables.{IsOfTask}
-use Rattle.pb_lease.specs.declared.answer.LeaseReply.TheVariants.{Leased}
-use Rattle.pb_yard.specs.Replies.{LeasesAs, lease_events}
+use Rattle.std.proofs.Common.{refl, sym, subst, rules}
+use Rattle.pb_lease.specs.declared.answer.LeaseReply.TheVariants.{Leased, NotYet}
 use Rattle.pb_yard.specs.Passes.{view_of, worker_of}
-use Rattle.pb_workers.specs.Shared.{IsSameHolder}
-use Rattle.pb_workers.proofs.Sharing.{reader_holds, leased_then, over_then, leased_with}
+use Rattle.pb_workers.specs.declared.yard_watch.YardWatch.{YardWatch}
+use Rattle.pb_workers.specs.Serving.{Serves}
+use Rattle.pb_workers.proofs.Sharing.{holder_searched, asked_holder, lease_asked, wait_asked, memory_asked, over_asked}
 use Rattle.pb_workers.proofs.yard_search.take_leases.Goals as goal
 
-pub yard_hold-requires-clause-leased : goal.yard_hold-requires-clause-leased
-yard_hold-requires-clause-leased g c _ _ =
-    let i = c.loop.invariant in
-    leased_with c.args.worker.now.task.now c.loop.worker.task.now c.args.worker.now.abstraction.now c.loop.worker.abstraction.now i.6 i.7 (view_of c.lease.new.pass) c.in-Leased.lease
-    (leased_then c.args.worker.now.task.now c.args.worker.now.abstraction.now (worker_of c.loop.watch.pass) (view_of c.loop.watch.pass) (view_of c.lease.new.pass) i.5 c.in-Leased.lease c.in-Leased.ensures.leased)
+pub hold-requires-clause-serves : goal.hold-requires-clause-serves
+hold-requires-clause-serves g c _ _ =
+    let w = c.loop.lessor.watch in let n : YardWatch = record w { pass = c.lease.new.pass } in let l = c.in-Leased.lease in
+    subst (Serves c.loop.worker)
+    (sym (holder_searched (view_of w.pass) (view_of n.pass) (asked_holder c.args.lessor.now.watch w n c.loop.invariant.none refl c.lease.ensures.same (worker_of w.pass) (Leased l) c.in-Leased.ensures.leased))) c.loop.invariant.serves
 
-pub yard_hold-requires-clause-tools : goal.yard_hold-requires-clause-tools
-yard_hold-requires-clause-tools g c _ _ =
-    let v = view_of c.loop.watch.pass in let l = c.in-Leased.lease in let worker = worker_of c.loop.watch.pass in
-    subst (IsOfTask c.loop.worker.estimator c.loop.worker.task.now)
-    (sym (IsSameHolder.choice (reader_holds (LeasesAs worker (Leased l)) (lease_events worker (Leased l)) v (Some l) None (view_of c.lease.new.pass) c.in-Leased.ensures.leased))) c.loop.invariant.8
+pub hold-requires-clause-holds : goal.hold-requires-clause-holds
+hold-requires-clause-holds g c _ _ =
+    let w = c.loop.lessor.watch in let n : YardWatch = record w { pass = c.lease.new.pass } in let l = c.in-Leased.lease in
+    (c.args.lessor.now, l, lease_asked c.args.lessor.now.watch w n c.loop.invariant.none refl c.lease.ensures.same (worker_of w.pass) l c.in-Leased.ensures.leased)
+
+pub loop-preserved-in-Leased : goal.loop-preserved-in-Leased
+loop-preserved-in-Leased g c =
+    let w = c.loop.lessor.watch in let n : YardWatch = record w { pass = c.lease.new.pass } in let l = c.in-Leased.lease in
+    record {
+      can = search rules;
+      finite = search rules;
+      none = c.hold.ensures.home c.args.lessor.now l (lease_asked c.args.lessor.now.watch w n c.loop.invariant.none refl c.lease.ensures.same (worker_of w.pass) l c.in-Leased.ensures.leased);
+      serves = c.hold.ensures.serves;
+    }
+
+pub loop-preserved : goal.loop-preserved
+loop-preserved g c =
+    let w = c.loop.lessor.watch in let n : YardWatch = record w { pass = c.lease.new.pass } in let none = c.loop.invariant.none in
+    record {
+      can = search rules;
+      finite = search rules;
+      none = wait_asked c.args.lessor.now.watch w n none refl c.lease.ensures.same (worker_of w.pass) c.in-NotYet.ensures.leased;
+      serves = subst (Serves c.loop.worker)
+          (sym (holder_searched (view_of w.pass) (view_of n.pass) (asked_holder c.args.lessor.now.watch w n none refl c.lease.ensures.same (worker_of w.pass) NotYet c.in-NotYet.ensures.leased))) c.loop.invariant.serves;
+    }
+
+pub returns-in-Over-clause-idle : goal.returns-in-Over-clause-idle
+returns-in-Over-clause-idle g c =
+    let w = c.loop.lessor.watch in let n : YardWatch = record w { pass = c.lease.new.pass } in
+    (over_asked c.args.lessor.now.watch w n c.loop.invariant.none refl c.lease.ensures.same (worker_of w.pass) c.in-Over.field-0 c.in-Over.ensures.leased).0
 
 pub returns-in-Over-clause-cause : goal.returns-in-Over-clause-cause
 returns-in-Over-clause-cause g c =
-    (over_then c.args.worker.now.task.now c.args.worker.now.abstraction.now (worker_of c.loop.watch.pass) (view_of c.loop.watch.pass) (view_of c.lease.new.pass) c.loop.invariant.5 c.in-Over.field-0 c.in-Over.ensures.leased).1
+    let w = c.loop.lessor.watch in let n : YardWatch = record w { pass = c.lease.new.pass } in
+    (over_asked c.args.lessor.now.watch w n c.loop.invariant.none refl c.lease.ensures.same (worker_of w.pass) c.in-Over.field-0 c.in-Over.ensures.leased).1
+
+pub returns-in-Memory-clause-idle : goal.returns-in-Memory-clause-idle
+returns-in-Memory-clause-idle g c =
+    let w = c.loop.lessor.watch in let n : YardWatch = record w { pass = c.lease.new.pass } in
+    memory_asked c.args.lessor.now.watch w n c.loop.invariant.none refl c.lease.ensures.same (worker_of w.pass) c.in-Memory.ensures.leased
