@@ -11,11 +11,14 @@ mod Rounds
 mod Fixed
 mod Reached
 mod Counts
+mod NextAtoms
 mod Lowered
 mod Least
 mod Queue
 mod Released
 mod Sets
+mod Pieces
+mod Standing
 mod Underway
 mod Steps
 mod Relaxing

@@ -1,10 +1,8 @@
 -- Costs of atoms of which one is set: what they cost then, and the queue of those that were reached.
-use Rattle.std.proofs.Common.{◌≡◌, ◌≢◌, ℕ, zero, suc, ◌+◌, ◌<◌, ◌≤◌, true, false, List, [], ◌∷◌, ◌++◌, length, get_or, set, take, replicate, ◌==◌, Contains, Option, None, Some, is_some, refl, sym, subst, ap, arith, ◌∙◌, ◌⊎◌, inl, inr}
-use Rattle.std.proofs.lemmas.Bool.{cases_eq}
-use Rattle.std.proofs.lemmas.Bool.Decides.{nat_tests}
+use Rattle.std.proofs.Common.{◌≡◌, ◌≢◌, ℕ, zero, suc, ◌+◌, ◌<◌, ◌≤◌, true, false, List, [], ◌∷◌, ◌++◌, length, get_or, set, take, replicate, Contains, Option, None, Some, is_some, refl, sym, subst, ap, arith, ◌∙◌, ◌⊎◌, inl, inr}
+use Rattle.std.proofs.lemmas.Bool.{cases_eq, cases_lt}
 use Rattle.std.proofs.lemmas.List.{take_more, get_or-set_same, get_or-set_other, length-set}
 use Rattle.std.proofs.lemmas.List.Elements.{Contains-append_left, Contains-append_right, Contains-append_cases}
-use Rattle.pb_packed.specs.Bits.{bits_of}
 use Rattle.pb_task.specs.Strips.{has_atom}
 use Rattle.pb_estimate.specs.declared.exploration.AtomCost.{AtomCost}
 use Rattle.pb_estimate.specs.declared.exploration.AtomCost.TheVariants.{Unreached, Open}
@@ -228,19 +226,14 @@ all_unreached costs n e atom = ap (λ xs. known_in xs atom) e ∙ none_in n atom
 
 -- ---- the atoms of a state
 
-pub has_bit : (set atom : ℕ) → bits_of set atom 1 ≡ 1 → has_atom set atom ≡ true
-has_bit set atom e = ap (λ n. n == 1) e
-
-pub has_no_bit : (set atom : ℕ) → (bits_of set atom 1 ≡ 1 → ⊥) → has_atom set atom ≡ true → ⊥
-has_no_bit set atom off e = off (grind (arith, nat_tests))
-
-module _ (state atom : ℕ) (before after : List AtomCost) where
+module _ (state atom next : ℕ) (before after : List AtomCost) where
   pub holds_more : AreLowered (atom ∷ []) 0 before after → ((a : ℕ) → a < atom → has_atom state a ≡ true → IsAtMost (cost_in before a) 0)
-      → (a : ℕ) → a < atom + 1 → has_atom state a ≡ true → IsAtMost (cost_in after a) 0
-  holds_more low holds a less has = go (cases_eq a atom) where
-    go : (a ≡ atom) ⊎ (a ≢ atom) → IsAtMost (cost_in after a) 0
-    go (inl e) = (low a 0).1 (inr ((0, omega arith, sym e), omega arith))
-    go (inr apart) = (low a 0).1 (inl (holds a (omega (arith, less, apart)) has))
+      → ((a : ℕ) → atom + 1 ≤ a → a < next → has_atom state a ≡ false) → (a : ℕ) → a < next → has_atom state a ≡ true → IsAtMost (cost_in after a) 0
+  holds_more low holds none a less has = go (cases_lt a atom) (cases_eq a atom) where
+    go : (a < atom) ⊎ (atom ≤ a) → (a ≡ atom) ⊎ (a ≢ atom) → IsAtMost (cost_in after a) 0
+    go (inl earlier) same = (low a 0).1 (inl (holds a earlier has))
+    go (inr from) (inl e) = (low a 0).1 (inr ((0, omega arith, sym e), omega arith))
+    go (inr from) (inr apart) = absurd (let wrong : false ≡ true = sym (none a (omega (arith, from, apart)) less) ∙ has in let no : ⊥ = cc in no)
 
   pub only_more : AreLowered (atom ∷ []) 0 before after → has_atom state atom ≡ true → ((a cost : ℕ) → IsAtMost (cost_in before a) cost → has_atom state a ≡ true)
       → (a cost : ℕ) → IsAtMost (cost_in after a) cost → has_atom state a ≡ true
@@ -248,10 +241,3 @@ module _ (state atom : ℕ) (before after : List AtomCost) where
     go : IsAtMost (cost_in before a) cost ⊎ (Contains (atom ∷ []) a × (0 ≤ cost)) → has_atom state a ≡ true
     go (inl was) = only a cost was
     go (inr (among, le)) = ap (has_atom state) (one_of atom a among) ∙ here
-
-pub holds_past : (state atom : ℕ) (costs : List AtomCost) → (has_atom state atom ≡ true → ⊥) → ((a : ℕ) → a < atom → has_atom state a ≡ true → IsAtMost (cost_in costs a) 0)
-    → (a : ℕ) → a < atom + 1 → has_atom state a ≡ true → IsAtMost (cost_in costs a) 0
-holds_past state atom costs off holds a less has = go (cases_eq a atom) where
-  go : (a ≡ atom) ⊎ (a ≢ atom) → IsAtMost (cost_in costs a) 0
-  go (inl e) = absurd (off (sym (ap (has_atom state) e) ∙ has))
-  go (inr apart) = holds a (omega (arith, less, apart)) has

@@ -1,14 +1,15 @@
 -- The delete relaxation of a task, action by action.
-use Rattle.std.proofs.Common.{◌≡◌, ◌≢◌, ℕ, zero, suc, ◌+◌, ◌<◌, ◌≤◌, ◌==◌, Bool, true, false, List, [], ◌∷◌, ◌++◌, length, map, get_or, set, take, replicate, All, Contains, Vec, Global, if◌then◌else◌, refl, sym, subst, ap, arith, ◌∙◌, ◌⊎◌, inl, inr}
+use Rattle.std.proofs.Common.{◌≡◌, ◌≢◌, ℕ, zero, suc, ◌+◌, ◌<◌, ◌≤◌, ◌==◌, Bool, true, false, List, [], ◌∷◌, ◌++◌, length, get_or, set, take, replicate, All, Contains, Vec, Global, if◌then◌else◌, refl, sym, subst, ap, arith, ◌∙◌, ◌⊎◌, inl, inr}
 use Rattle.std.proofs.lemmas.Bool.Decides.{nat_tests}
 use Rattle.std.proofs.lemmas.Bool.{cases_eq}
 use Rattle.std.proofs.lemmas.List.{get_or_append_left, get_or_push, length_push, get_or-set_same, get_or-set_other, length-map, map-append, append-nil}
-use Rattle.std.proofs.lemmas.List.Elements.{All-push, All-more, All-weaker, All-contains, All-nil, filter-append, Contains-append_left, Contains-push}
-use Rattle.pb_task.specs.declared.parts.GroundAction.{GroundAction}
-use Rattle.pb_task.specs.Strips.{action_at, has_atom}
+use Rattle.std.proofs.lemmas.List.Elements.{All-push, All-more, All-weaker, All-contains, All-nil, Contains-append_left, Contains-push}
+use Rattle.pb_task.specs.Strips.{has_atom}
+use Rattle.pb_estimate.specs.declared.merging.MergedAction.{MergedAction}
 use Rattle.pb_estimate.specs.declared.relaxed.RelaxedTask.{RelaxedTask}
 use Rattle.pb_estimate.specs.Exploring.{count}
-use Rattle.pb_estimate.specs.Tables.{atoms_in, has_more, useful_actions, relaxed_action, AreUsers, AreFree, AreRelaxed, IsWanted}
+use Rattle.pb_estimate.specs.Merged.{merged_at}
+use Rattle.pb_estimate.specs.Tables.{atoms_in, relaxed_action, AreUsers, AreFree, AreRelaxed, IsWanted}
 use Rattle.pb_estimate.proofs.Rounds.{count_is_small}
 use Rattle.pb_estimate.proofs.Counts.{counted_at, count_none}
 use Rattle.pb_estimate.proofs.Released.{Ascend, all_still, not_before, in_front, in_next}
@@ -52,12 +53,12 @@ few_atoms set below = let e : length (atoms_in set below) ≡ count (has_atom se
 
 -- ---- an action more
 
-module _ (kept : List GroundAction) (action : GroundAction) where
-  at_front : (user : ℕ) → user < length kept → action_at (kept ++ action ∷ []) user ≡ action_at kept user
-  at_front user less = get_or_append_left kept (action ∷ []) (record { name = []; needs = 0; adds = 0; deletes = 0; cost = 1 }) user less
+module _ (kept : List MergedAction) (action : MergedAction) where
+  at_front : (user : ℕ) → user < length kept → merged_at (kept ++ action ∷ []) user ≡ merged_at kept user
+  at_front user less = get_or_append_left kept (action ∷ []) (record { needs = 0; adds = 0; cost = 1 }) user less
 
-  at_last : action_at (kept ++ action ∷ []) (length kept) ≡ action
-  at_last = get_or_push kept action (record { name = []; needs = 0; adds = 0; deletes = 0; cost = 1 }) (length kept) refl
+  at_last : merged_at (kept ++ action ∷ []) (length kept) ≡ action
+  at_last = get_or_push kept action (record { needs = 0; adds = 0; cost = 1 }) (length kept) refl
 
   place : (user : ℕ) → user < length (kept ++ action ∷ []) → (user < length kept) ⊎ (user ≡ length kept)
   place user less = let long : length (kept ++ action ∷ []) ≡ length kept + 1 = length_push kept action in go (cases_eq user (length kept)) long less where
@@ -72,48 +73,48 @@ module _ (kept : List GroundAction) (action : GroundAction) where
   last_within = let long : length (kept ++ action ∷ []) ≡ length kept + 1 = length_push kept action in omega arith
 
   module _ (atom : ℕ) (users : List ℕ) (are : AreUsers kept atom users) where
-    need_still : (user : ℕ) → (user < length kept) × (has_atom (action_at kept user).needs atom ≡ true)
-        → (user < length (kept ++ action ∷ [])) × (has_atom (action_at (kept ++ action ∷ []) user).needs atom ≡ true)
-    need_still user (less, has) = (within_more user less, ap (λ (a : GroundAction). has_atom a.needs atom) (at_front user less) ∙ has)
+    need_still : (user : ℕ) → (user < length kept) × (has_atom (merged_at kept user).needs atom ≡ true)
+        → (user < length (kept ++ action ∷ [])) × (has_atom (merged_at (kept ++ action ∷ []) user).needs atom ≡ true)
+    need_still user (less, has) = (within_more user less, ap (λ (a : MergedAction). has_atom a.needs atom) (at_front user less) ∙ has)
 
     pub users_push : has_atom action.needs atom ≡ true → AreUsers (kept ++ action ∷ []) atom (users ++ length kept ∷ [])
     users_push has = record {
-      need = All-push (λ user. (user < length (kept ++ action ∷ [])) × (has_atom (action_at (kept ++ action ∷ []) user).needs atom ≡ true)) users (length kept)
-          (All-weaker (λ user. (user < length kept) × (has_atom (action_at kept user).needs atom ≡ true))
-          (λ user. (user < length (kept ++ action ∷ [])) × (has_atom (action_at (kept ++ action ∷ []) user).needs atom ≡ true)) need_still users are.need)
-          (last_within, ap (λ (a : GroundAction). has_atom a.needs atom) at_last ∙ has);
+      need = All-push (λ user. (user < length (kept ++ action ∷ [])) × (has_atom (merged_at (kept ++ action ∷ []) user).needs atom ≡ true)) users (length kept)
+          (All-weaker (λ user. (user < length kept) × (has_atom (merged_at kept user).needs atom ≡ true))
+          (λ user. (user < length (kept ++ action ∷ [])) × (has_atom (merged_at (kept ++ action ∷ []) user).needs atom ≡ true)) need_still users are.need)
+          (last_within, ap (λ (a : MergedAction). has_atom a.needs atom) at_last ∙ has);
       all = λ user less needs. all user (place user less) needs;
       ascend = ascend_push users (length kept) are.ascend
-          (All-weaker (λ user. (user < length kept) × (has_atom (action_at kept user).needs atom ≡ true)) (λ user. user < length kept) (λ user both. both.0) users are.need);
+          (All-weaker (λ user. (user < length kept) × (has_atom (merged_at kept user).needs atom ≡ true)) (λ user. user < length kept) (λ user both. both.0) users are.need);
     }
       where
-        all : (user : ℕ) → (user < length kept) ⊎ (user ≡ length kept) → has_atom (action_at (kept ++ action ∷ []) user).needs atom ≡ true → Contains (users ++ length kept ∷ []) user
+        all : (user : ℕ) → (user < length kept) ⊎ (user ≡ length kept) → has_atom (merged_at (kept ++ action ∷ []) user).needs atom ≡ true → Contains (users ++ length kept ∷ []) user
         all user (inl less) needs =
-            Contains-append_left users (length kept ∷ []) user (are.all user less (sym (ap (λ (a : GroundAction). has_atom a.needs atom) (at_front user less)) ∙ needs))
+            Contains-append_left users (length kept ∷ []) user (are.all user less (sym (ap (λ (a : MergedAction). has_atom a.needs atom) (at_front user less)) ∙ needs))
         all user (inr e) needs = subst (λ n. Contains (users ++ length kept ∷ []) n) (sym e) (Contains-push users (length kept))
 
     pub users_stay : has_atom action.needs atom ≡ false → AreUsers (kept ++ action ∷ []) atom users
     users_stay hasn't = record {
-      need = All-weaker (λ user. (user < length kept) × (has_atom (action_at kept user).needs atom ≡ true))
-          (λ user. (user < length (kept ++ action ∷ [])) × (has_atom (action_at (kept ++ action ∷ []) user).needs atom ≡ true)) need_still users are.need;
+      need = All-weaker (λ user. (user < length kept) × (has_atom (merged_at kept user).needs atom ≡ true))
+          (λ user. (user < length (kept ++ action ∷ [])) × (has_atom (merged_at (kept ++ action ∷ []) user).needs atom ≡ true)) need_still users are.need;
       all = λ user less needs. all user (place user less) needs;
       ascend = are.ascend;
     }
       where
-        all : (user : ℕ) → (user < length kept) ⊎ (user ≡ length kept) → has_atom (action_at (kept ++ action ∷ []) user).needs atom ≡ true → Contains users user
-        all user (inl less) needs = are.all user less (sym (ap (λ (a : GroundAction). has_atom a.needs atom) (at_front user less)) ∙ needs)
+        all : (user : ℕ) → (user < length kept) ⊎ (user ≡ length kept) → has_atom (merged_at (kept ++ action ∷ []) user).needs atom ≡ true → Contains users user
+        all user (inl less) needs = are.all user less (sym (ap (λ (a : MergedAction). has_atom a.needs atom) (at_front user less)) ∙ needs)
         all user (inr e) needs =
             absurd
-            (let wrong : false ≡ true = sym hasn't ∙ sym (ap (λ (a : GroundAction). has_atom a.needs atom) (ap (action_at (kept ++ action ∷ [])) e ∙ at_last)) ∙ needs in
+            (let wrong : false ≡ true = sym hasn't ∙ sym (ap (λ (a : MergedAction). has_atom a.needs atom) (ap (merged_at (kept ++ action ∷ [])) e ∙ at_last)) ∙ needs in
             let no : ⊥ = cc in no)
 
   module _ (below : ℕ) (free : List ℕ) (are : AreFree below kept free) where
     -- needing none of the atoms
-    abbrev pub NeedsNone : List GroundAction → (user : ℕ) → Type 0
-    NeedsNone actions user = (atom : ℕ) → atom < below → has_atom (action_at actions user).needs atom ≡ false
+    abbrev pub NeedsNone : List MergedAction → (user : ℕ) → Type 0
+    NeedsNone actions user = (atom : ℕ) → atom < below → has_atom (merged_at actions user).needs atom ≡ false
 
     none_still : (user : ℕ) → user < length kept → NeedsNone kept user → NeedsNone (kept ++ action ∷ []) user
-    none_still user less none atom a_less = ap (λ (a : GroundAction). has_atom a.needs atom) (at_front user less) ∙ none atom a_less
+    none_still user less none atom a_less = ap (λ (a : MergedAction). has_atom a.needs atom) (at_front user less) ∙ none atom a_less
 
     needs_still : All (NeedsNone (kept ++ action ∷ [])) free
     needs_still k d less = none_still (get_or free k d) (are.inside k d less) (are.need k d less)
@@ -122,7 +123,7 @@ module _ (kept : List GroundAction) (action : GroundAction) where
     inside_still = All-weaker (λ user. user < length kept) (λ user. user < length (kept ++ action ∷ [])) within_more free are.inside
 
     before : (user : ℕ) → user < length kept → NeedsNone (kept ++ action ∷ []) user → NeedsNone kept user
-    before user less none atom a_less = sym (ap (λ (a : GroundAction). has_atom a.needs atom) (at_front user less)) ∙ none atom a_less
+    before user less none atom a_less = sym (ap (λ (a : MergedAction). has_atom a.needs atom) (at_front user less)) ∙ none atom a_less
 
     off : (set atom : ℕ) → length (atoms_in set below) ≡ 0 → atom < below → has_atom set atom ≡ false
     off set atom e less = go (has_atom set atom) refl where
@@ -137,7 +138,7 @@ module _ (kept : List GroundAction) (action : GroundAction) where
     free_push none = record {
       inside = All-push (λ user. user < length (kept ++ action ∷ [])) free (length kept) inside_still last_within;
       need = All-push (NeedsNone (kept ++ action ∷ [])) free (length kept) needs_still
-          (λ atom less. ap (λ (a : GroundAction). has_atom a.needs atom) at_last ∙ off action.needs atom none less);
+          (λ atom less. ap (λ (a : MergedAction). has_atom a.needs atom) at_last ∙ off action.needs atom none less);
       all = λ user less needs. all user (place user less) needs;
     }
       where
@@ -159,98 +160,64 @@ module _ (kept : List GroundAction) (action : GroundAction) where
             (some
             (many_in action.needs below
             ∙ count_none (has_atom action.needs) below (λ atom less.
-            sym (ap (λ (a : GroundAction). has_atom a.needs atom) (ap (action_at (kept ++ action ∷ [])) e ∙ at_last)) ∙ needs atom less)))
+            sym (ap (λ (a : MergedAction). has_atom a.needs atom) (ap (merged_at (kept ++ action ∷ [])) e ∙ at_last)) ∙ needs atom less)))
 
 -- ---- a task
 
-useful_push : (below : ℕ) (actions : List GroundAction) (action : GroundAction) (test : Bool) → has_more (atoms_in action.adds below) action.needs ≡ test
-    → useful_actions below (actions ++ action ∷ []) ≡ useful_actions below actions ++ (if test then action ∷ [] else [])
-useful_push below actions action test e =
-    filter-append (λ (a : GroundAction). has_more (atoms_in a.adds below) a.needs) actions (action ∷ [])
-    ∙ ap (λ t. useful_actions below actions ++ (if t then action ∷ [] else [])) e
-
--- an action that adds nothing but what it needs is left out
-pub relaxed_past : (below : ℕ) (actions : List GroundAction) (action : GroundAction) (task : RelaxedTask) → has_more (atoms_in action.adds below) action.needs ≡ false → AreRelaxed below actions task
-    → AreRelaxed below (actions ++ action ∷ []) task
-relaxed_past below actions action task e are = record {
-  relaxed = are.relaxed ∙ ap (map (relaxed_action below)) (sym same);
-  needs = are.needs ∙ ap (map (λ (a : GroundAction). length (atoms_in a.needs below))) (sym same);
-  many = are.many;
-  users = λ atom less. subst (λ kept. AreUsers kept atom (get_or task.users atom [])) (sym same) (are.users atom less);
-  free = subst (λ kept. AreFree below kept task.free) (sym same) are.free;
-}
-  where
-    same : useful_actions below (actions ++ action ∷ []) ≡ useful_actions below actions
-    same = useful_push below actions action false e ∙ append-nil (useful_actions below actions)
-
-module _ (below : ℕ) (actions : List GroundAction) (action : GroundAction) (old new : RelaxedTask) (useful : has_more (atoms_in action.adds below) action.needs ≡ true) (are : AreRelaxed below actions old)
+module _ (below : ℕ) (merged : List MergedAction) (action : MergedAction) (users users' : List (List ℕ)) (old new : RelaxedTask) (are : AreRelaxed below merged users old)
     (pushed_actions : new.actions ≡ old.actions ++ relaxed_action below action ∷ [])
     (pushed_needs : new.needs.items ≡ old.needs.items ++ length (atoms_in action.needs below) ∷ [])
-    (same_many : length new.users ≡ length old.users)
-    (pushed : All (λ atom. get_or new.users atom [] ≡ get_or old.users atom [] ++ length old.needs.items ∷ []) (atoms_in action.needs below))
-    (others : (atom : ℕ) → (Contains (atoms_in action.needs below) atom → ⊥) → get_or new.users atom [] ≡ get_or old.users atom [])
+    (same_many : length users' ≡ length users)
+    (pushed : All (λ atom. get_or users' atom [] ≡ get_or users atom [] ++ length old.needs.items ∷ []) (atoms_in action.needs below))
+    (others : (atom : ℕ) → (Contains (atoms_in action.needs below) atom → ⊥) → get_or users' atom [] ≡ get_or users atom [])
     (pushed_free : new.free ≡ (if length (atoms_in action.needs below) == 0 then old.free ++ length old.needs.items ∷ [] else old.free)) where
-  now : useful_actions below (actions ++ action ∷ []) ≡ useful_actions below actions ++ action ∷ []
-  now = useful_push below actions action true useful
+  number : length old.needs.items ≡ length merged
+  number = ap length are.needs ∙ length-map merged (λ (a : MergedAction). length (atoms_in a.needs below))
 
-  number : length old.needs.items ≡ length (useful_actions below actions)
-  number = ap length are.needs ∙ length-map (useful_actions below actions) (λ (a : GroundAction). length (atoms_in a.needs below))
-
-  users_now : (atom : ℕ) → atom < below → AreUsers (useful_actions below actions ++ action ∷ []) atom (get_or new.users atom [])
+  users_now : (atom : ℕ) → atom < below → AreUsers (merged ++ action ∷ []) atom (get_or users' atom [])
   users_now atom less = go (has_atom action.needs atom) refl where
-    go : (test : Bool) → has_atom action.needs atom ≡ test → AreUsers (useful_actions below actions ++ action ∷ []) atom (get_or new.users atom [])
+    go : (test : Bool) → has_atom action.needs atom ≡ test → AreUsers (merged ++ action ∷ []) atom (get_or users' atom [])
     go true has =
-        subst (AreUsers (useful_actions below actions ++ action ∷ []) atom)
+        subst (AreUsers (merged ++ action ∷ []) atom)
         (sym
-        (All-contains (λ a. get_or new.users a [] ≡ get_or old.users a [] ++ length old.needs.items ∷ []) (atoms_in action.needs below) atom pushed (contains_in action.needs below atom less has)
-        ∙ ap (λ n. get_or old.users atom [] ++ n ∷ []) number))
-        (users_push (useful_actions below actions) action atom (get_or old.users atom []) (are.users atom less) has)
+        (All-contains (λ a. get_or users' a [] ≡ get_or users a [] ++ length old.needs.items ∷ []) (atoms_in action.needs below) atom pushed (contains_in action.needs below atom less has)
+        ∙ ap (λ n. get_or users atom [] ++ n ∷ []) number))
+        (users_push merged action atom (get_or users atom []) (are.users atom less) has)
     go false hasn't =
-        subst (AreUsers (useful_actions below actions ++ action ∷ []) atom)
+        subst (AreUsers (merged ++ action ∷ []) atom)
         (sym (others atom (λ among. let wrong : false ≡ true = sym hasn't ∙ (is_in action.needs below atom among).1 in cc)))
-        (users_stay (useful_actions below actions) action atom (get_or old.users atom []) (are.users atom less) hasn't)
+        (users_stay merged action atom (get_or users atom []) (are.users atom less) hasn't)
 
   not_zero : (n : ℕ) → (suc n == 0) ≡ false
   not_zero n = grind (arith, nat_tests)
 
-  free_now : AreFree below (useful_actions below actions ++ action ∷ []) new.free
+  free_now : AreFree below (merged ++ action ∷ []) new.free
   free_now = go (length (atoms_in action.needs below)) refl pushed_free where
     go : (n : ℕ) → length (atoms_in action.needs below) ≡ n → new.free ≡ (if length (atoms_in action.needs below) == 0 then old.free ++ length old.needs.items ∷ [] else old.free)
-        → AreFree below (useful_actions below actions ++ action ∷ []) new.free
+        → AreFree below (merged ++ action ∷ []) new.free
     go zero e is =
-        subst (AreFree below (useful_actions below actions ++ action ∷ []))
+        subst (AreFree below (merged ++ action ∷ []))
         (sym (is ∙ ap (λ n. if n == 0 then old.free ++ length old.needs.items ∷ [] else old.free) e ∙ ap (λ n. old.free ++ n ∷ []) number))
-        (free_push (useful_actions below actions) action below old.free are.free e)
+        (free_push merged action below old.free are.free e)
     go (suc n) e is =
-        subst (AreFree below (useful_actions below actions ++ action ∷ []))
+        subst (AreFree below (merged ++ action ∷ []))
         (sym (is ∙ ap (λ m. if m == 0 then old.free ++ length old.needs.items ∷ [] else old.free) e ∙ ap (λ test. if test then old.free ++ length old.needs.items ∷ [] else old.free) (not_zero n)))
-        (free_stay (useful_actions below actions) action below old.free are.free (λ none. absurd (omega (arith, e, none))))
+        (free_stay merged action below old.free are.free (λ none. absurd (omega (arith, e, none))))
 
-  pub relaxed_more : AreRelaxed below (actions ++ action ∷ []) new
+  pub relaxed_more : AreRelaxed below (merged ++ action ∷ []) users' new
   relaxed_more = record {
-    relaxed = pushed_actions ∙ ap (λ xs. xs ++ relaxed_action below action ∷ []) are.relaxed
-        ∙ sym (map-append (relaxed_action below) (useful_actions below actions) (action ∷ [])) ∙ ap (map (relaxed_action below)) (sym now);
+    relaxed = pushed_actions ∙ ap (λ xs. xs ++ relaxed_action below action ∷ []) are.relaxed ∙ sym (map-append (relaxed_action below) merged (action ∷ []));
     needs = pushed_needs ∙ ap (λ xs. xs ++ length (atoms_in action.needs below) ∷ []) are.needs
-        ∙ sym (map-append (λ (a : GroundAction). length (atoms_in a.needs below)) (useful_actions below actions) (action ∷ []))
-        ∙ ap (map (λ (a : GroundAction). length (atoms_in a.needs below))) (sym now);
+        ∙ sym (map-append (λ (a : MergedAction). length (atoms_in a.needs below)) merged (action ∷ []));
     many = same_many ∙ are.many;
-    users = λ atom less. subst (λ kept. AreUsers kept atom (get_or new.users atom [])) (sym now) (users_now atom less);
-    free = subst (λ kept. AreFree below kept new.free) (sym now) free_now;
+    users = λ atom less. users_now atom less;
+    free = free_now;
   }
-
--- no more actions are useful than there are
-pub few_useful : (below : ℕ) (actions : List GroundAction) → length (useful_actions below actions) ≤ length actions
-few_useful below [] = omega arith
-few_useful below (action ∷ actions) = go (has_more (atoms_in action.adds below) action.needs) (few_useful below actions) where
-  go : (test : Bool) → length (useful_actions below actions) ≤ length actions
-      → length (if test then action ∷ useful_actions below actions else useful_actions below actions) ≤ suc (length actions)
-  go true rest = omega arith
-  go false rest = omega arith
 
 -- no actions
 pub none_use : (atom : ℕ) → AreUsers [] atom []
 none_use atom = record {
-  need = All-nil (λ user. (user < 0) × (has_atom (action_at [] user).needs atom ≡ true));
+  need = All-nil (λ user. (user < 0) × (has_atom (merged_at [] user).needs atom ≡ true));
   all = λ user less has. absurd (omega (arith, less));
   ascend = ascend_none;
 }
@@ -258,7 +225,7 @@ none_use atom = record {
 pub none_free : (below : ℕ) → AreFree below [] []
 none_free below = record {
   inside = All-nil (λ user. user < 0);
-  need = All-nil (λ user. (atom : ℕ) → atom < below → has_atom (action_at [] user).needs atom ≡ false);
+  need = All-nil (λ user. (atom : ℕ) → atom < below → has_atom (merged_at [] user).needs atom ≡ false);
   all = λ user less none. absurd (omega (arith, less));
 }
 

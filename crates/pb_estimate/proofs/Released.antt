@@ -3,10 +3,10 @@ use Rattle.std.proofs.Common.{◌≡◌, ◌≢◌, ℕ, ◌+◌, ◌-◌, ◌<�
 use Rattle.std.proofs.lemmas.List.{take_more, get_or-take, get_or_default, length-take-le, get_or-set_same, get_or-set_other}
 use Rattle.std.proofs.lemmas.List.Elements.{All-more, All-weaker, All-contains_itself, Contains-append_left, Contains-push}
 use Rattle.pb_estimate.specs.declared.exploration.AtomCost.{AtomCost}
-use Rattle.pb_estimate.specs.declared.relaxed.RelaxedAction.{RelaxedAction}
 use Rattle.pb_estimate.specs.Hmax.{IsAtMost}
 use Rattle.pb_estimate.specs.Exploring.{cost_in, AreNoLess, AreLowered}
-use Rattle.pb_estimate.specs.Tables.{relaxed_at, AddsAt, IsAddedBy}
+use Rattle.pb_estimate.specs.Relaxed.{RelaxedAction, relaxed_at}
+use Rattle.pb_estimate.specs.Tables.{AddsAt, IsAddedBy}
 
 -- ---- lists in ascending order
 

@@ -1,13 +1,14 @@
--- The atoms of a set, and the useful ones of a task's actions.
-use Rattle.std.proofs.Common.{◌≡◌, ℕ, zero, suc, ◌+◌, ◌<◌, ◌≤◌, Bool, true, false, not, ◌||◌, List, [], ◌∷◌, ◌++◌, length, map, get_or, All, Contains, if◌then◌else◌, refl, sym, subst, ap, arith, ◌∙◌, ◌⊎◌, inl, inr}
+-- The atoms of a set, and merged actions as relaxed ones.
+use Rattle.std.proofs.Common.{◌≡◌, ℕ, zero, suc, ◌+◌, ◌<◌, ◌≤◌, Bool, true, false, List, [], ◌∷◌, ◌++◌, length, map, All, Contains, if◌then◌else◌, refl, sym, subst, ap, arith, ◌∙◌, ◌⊎◌, inl, inr}
 use Rattle.std.proofs.Math.Nat.{eq-or-lt_of_le}
-use Rattle.std.specs.List.{filter}
-use Rattle.std.proofs.lemmas.List.{get_or-map, get_or_default, length-append}
-use Rattle.std.proofs.lemmas.List.Elements.{All-append, All-cons, All-nil, All-contains, All-contains_itself, All-filter, Contains-append_left, Contains-push}
-use Rattle.pb_task.specs.declared.parts.GroundAction.{GroundAction}
-use Rattle.pb_task.specs.Strips.{action_at, has_atom}
+use Rattle.std.proofs.lemmas.List.{get_or-map, length-append}
+use Rattle.std.proofs.lemmas.List.Elements.{All-append, All-cons, All-nil, All-contains, Contains-append_left, Contains-push}
+use Rattle.pb_task.specs.Strips.{has_atom}
 use Rattle.pb_estimate.specs.Exploring.{count}
-use Rattle.pb_estimate.specs.Tables.{atoms_in, has_more, useful_actions, relaxed_action, relaxed_at}
+use Rattle.pb_estimate.specs.declared.merging.MergedAction.{MergedAction}
+use Rattle.pb_estimate.specs.Merged.{merged_at}
+use Rattle.pb_estimate.specs.Relaxed.{relaxed_at}
+use Rattle.pb_estimate.specs.Tables.{atoms_in, relaxed_action}
 
 -- ---- the atoms of a set
 
@@ -46,48 +47,7 @@ many_in set (suc last) =
     one true = refl
     one false = refl
 
--- ---- useful actions
+-- ---- merged actions
 
-pub contains_filter : {X : Type 0} (p : X → Bool) (xs : List X) (x : X) → Contains xs x → p x ≡ true → Contains (filter p xs) x
-contains_filter p [] x (k, less, e) passes = absurd (omega (arith, less))
-contains_filter p (first ∷ xs) x (k, less, e) passes = go k less e (p first) refl (contains_filter p xs x) where
-  later : (test : Bool) → Contains (filter p xs) x → Contains (if test then first ∷ filter p xs else filter p xs) x
-  later true (j, j_less, same) = (suc j, omega (arith, j_less), same)
-  later false among = among
-
-  now : (test : Bool) → first ≡ x → test ≡ true → Contains (if test then first ∷ filter p xs else filter p xs) x
-  now true same is = (0, omega arith, same)
-  now false same is = cc
-
-  go : (k : ℕ) → k < length (first ∷ xs) → get_or (first ∷ xs) k x ≡ x → (test : Bool) → p first ≡ test → (Contains xs x → p x ≡ true → Contains (filter p xs) x)
-      → Contains (filter p (first ∷ xs)) x
-  go zero less e test is rest = now (p first) e (ap p e ∙ passes)
-  go (suc k) less e test is rest = later (p first) (rest (k, omega (arith, less), e) passes)
-
--- where no atom of these isn't in the set, each is
-pub no_more_in : (atoms : List ℕ) (set atom : ℕ) → has_more atoms set ≡ false → Contains atoms atom → has_atom set atom ≡ true
-no_more_in [] set atom none (k, less, e) = absurd (omega (arith, less))
-no_more_in (first ∷ atoms) set atom none (k, less, e) = go k less e (has_atom set first) refl (has_more atoms set) refl none (no_more_in atoms set atom) where
-  go : (k : ℕ) → k < length (first ∷ atoms) → get_or (first ∷ atoms) k atom ≡ atom → (test : Bool) → has_atom set first ≡ test → (more : Bool) → has_more atoms set ≡ more
-      → (not test || more) ≡ false → (has_more atoms set ≡ false → Contains atoms atom → has_atom set atom ≡ true) → has_atom set atom ≡ true
-  go k less e false is more more_is none rest = cc
-  go k less e true is true more_is none rest = cc
-  go zero less e true is false more_is none rest = ap (has_atom set) (sym e) ∙ is
-  go (suc k) less e true is false more_is none rest = rest more_is (k, omega (arith, less), e)
-
-module _ (atoms : ℕ) (actions : List GroundAction) where
-  pub among_actions : (user : ℕ) → user < length (useful_actions atoms actions) → Contains actions (action_at (useful_actions atoms actions) user)
-  among_actions user less =
-      All-filter (λ action. has_more (atoms_in action.adds atoms) action.needs) (Contains actions) actions (All-contains_itself actions) user
-      (record { name = []; needs = 0; adds = 0; deletes = 0; cost = 1 }) less
-
-  pub found_among : (action : GroundAction) → Contains actions action → has_more (atoms_in action.adds atoms) action.needs ≡ true
-      → (user : ℕ) × (user < length (useful_actions atoms actions)) × (action_at (useful_actions atoms actions) user ≡ action)
-  found_among action among useful =
-      let at = contains_filter (λ (a : GroundAction). has_more (atoms_in a.adds atoms) a.needs) actions action among useful in
-      (at.0, at.1, get_or_default (useful_actions atoms actions) at.0 (record { name = []; needs = 0; adds = 0; deletes = 0; cost = 1 }) action at.1 ∙ at.2)
-
-  pub relaxed_is : (user : ℕ) → user < length (useful_actions atoms actions)
-      → relaxed_at (map (relaxed_action atoms) (useful_actions atoms actions)) user ≡ relaxed_action atoms (action_at (useful_actions atoms actions) user)
-  relaxed_is user less =
-      get_or-map (relaxed_action atoms) (useful_actions atoms actions) user (record { name = []; needs = 0; adds = 0; deletes = 0; cost = 1 }) (record { adds = []; cost = 1 }) less
+pub relaxed_is : (count : ℕ) (merged : List MergedAction) (user : ℕ) → user < length merged → relaxed_at (map (relaxed_action count) merged) user ≡ relaxed_action count (merged_at merged user)
+relaxed_is count merged user less = get_or-map (relaxed_action count) merged user (record { needs = 0; adds = 0; cost = 1 }) (record { adds = []; cost = 1 }) less

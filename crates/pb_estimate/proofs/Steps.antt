@@ -1,77 +1,74 @@
 -- An exploration begins at a state, and goes on by an atom whose cost becomes final.
-use Rattle.std.proofs.Common.{◌≡◌, ◌≢◌, ℕ, suc, ◌+◌, ◌*◌, ◌^◌, ◌<◌, ◌≤◌, Bool, true, false, not, ◌&&◌, List, [], length, map, get_or, set, All, Contains, Option, None, Some, is_some, refl, sym, subst, ap, arith, ◌∙◌, ◌⊎◌, inl, inr}
+use Rattle.std.proofs.Common.{◌≡◌, ◌≢◌, ℕ, suc, ◌+◌, ◌*◌, ◌^◌, ◌<◌, ◌≤◌, Bool, true, false, not, ◌&&◌, List, length, map, get_or, set, All, Contains, Option, None, Some, is_some, refl, sym, subst, ap, arith, ◌∙◌, ◌⊎◌, inl, inr}
 use Rattle.std.proofs.lemmas.Bool.{cases_eq, cases_lt}
 use Rattle.std.proofs.lemmas.List.{get_or-map, length-map, length-set}
 use Rattle.std.proofs.lemmas.List.Elements.{All-contains}
 use Rattle.pb_packed.specs.Sizes.{most_atoms}
-use Rattle.pb_task.specs.declared.parts.GroundAction.{GroundAction}
 use Rattle.pb_task.specs.declared.parts.StripsParts.{StripsParts}
-use Rattle.pb_task.specs.Strips.{action_at, has_atom, IsGroundAction, IsStrips}
+use Rattle.pb_task.specs.Strips.{has_atom, IsStrips}
 use Rattle.pb_estimate.specs.declared.exploration.AtomCost.{AtomCost}
 use Rattle.pb_estimate.specs.declared.exploration.AtomCost.TheVariants.{Final}
-use Rattle.pb_estimate.specs.declared.relaxed.RelaxedAction.{RelaxedAction}
+use Rattle.pb_estimate.specs.declared.merging.MergedAction.{MergedAction}
+use Rattle.pb_estimate.specs.Merged.{merged_at, StandFor}
+use Rattle.pb_estimate.specs.Relaxed.{RelaxedAction, relaxed_at}
 use Rattle.pb_estimate.specs.Hmax.{IsAtMost, atom_cost}
 use Rattle.pb_estimate.specs.Exploring.{known_cost, final_cost, known_in, cost_in, final_in, is_final_in, waiting, AreNoLess, HaveSameFinals, IsLeastOpen}
-use Rattle.pb_estimate.specs.Tables.{atoms_in, useful_actions, relaxed_action, relaxed_at, AddsAt, IsAddedBy, IsRelaxed, AreUsers, AreFree}
+use Rattle.pb_estimate.specs.Tables.{atoms_in, relaxed_action, AddsAt, IsAddedBy, IsRelaxed, AreUsers, AreFree}
 use Rattle.pb_estimate.proofs.Costs.{at_most_more}
 use Rattle.pb_estimate.proofs.Rounds.{count_is_small, in_later_rounds}
 use Rattle.pb_estimate.proofs.Fixed.{holds_from}
 use Rattle.pb_estimate.proofs.Counts.{count_same}
-use Rattle.pb_estimate.proofs.Sets.{all_in, contains_in, is_in, many_in, among_actions, relaxed_is}
+use Rattle.pb_estimate.proofs.Sets.{all_in, contains_in, is_in, many_in, relaxed_is}
 use Rattle.pb_estimate.proofs.Underway.{inside, final_costs, has_final, is_at_most_itself, final_there, is_here, no_cost_changes, costs_this, cheaper_is_final, still_final, waiting_drops, waiting_stays, finals_within, all_final, none_waiting, same_waiting, IsUnderway, AreCounted, by_action}
 
-module _ (strips : StripsParts) (state : ℕ) (is : IsStrips strips) (actions : List RelaxedAction)
-    (same : actions ≡ map (relaxed_action strips.atoms) (useful_actions strips.atoms strips.actions)) where
-  abbrev useful : List GroundAction
-  useful = useful_actions strips.atoms strips.actions
+module _ (strips : StripsParts) (state : ℕ) (is : IsStrips strips) (merged : List MergedAction) (stand : StandFor strips.atoms strips.actions merged) (actions : List RelaxedAction)
+    (same : actions ≡ map (relaxed_action strips.atoms) merged) where
+  pub many_actions : length actions ≡ length merged
+  many_actions = ap length same ∙ length-map merged (relaxed_action strips.atoms)
 
-  pub many_actions : length actions ≡ length (useful_actions strips.atoms strips.actions)
-  many_actions = ap length same ∙ length-map (useful_actions strips.atoms strips.actions) (relaxed_action strips.atoms)
+  pub user_is : (user : ℕ) → user < length merged
+      → relaxed_at actions user ≡ relaxed_action strips.atoms (merged_at merged user)
+  user_is user less = ap (λ xs. relaxed_at xs user) same ∙ relaxed_is strips.atoms merged user less
 
-  pub user_is : (user : ℕ) → user < length (useful_actions strips.atoms strips.actions)
-      → relaxed_at actions user ≡ relaxed_action strips.atoms (action_at (useful_actions strips.atoms strips.actions) user)
-  user_is user less = ap (λ xs. relaxed_at xs user) same ∙ relaxed_is strips.atoms strips.actions user less
-
-  pub price : (user : ℕ) → user < length (useful_actions strips.atoms strips.actions) → (action_at (useful_actions strips.atoms strips.actions) user).cost ≤ 2 ^ 20
-  price user less =
-      (All-contains (IsGroundAction strips.atoms) strips.actions (action_at (useful_actions strips.atoms strips.actions) user) is.actions
-      (among_actions strips.atoms strips.actions user less)).cost.1
+  pub price : (user : ℕ) → user < length merged → (merged_at merged user).cost ≤ 2 ^ 20
+  price user less = stand.cheap user less
 
   pub actions_are_relaxed : All (IsRelaxed strips.atoms) actions
   actions_are_relaxed k d less =
-      let k_less : k < length (useful_actions strips.atoms strips.actions) = (let e : length actions ≡ length (useful_actions strips.atoms strips.actions) = many_actions in omega arith) in
+      let k_less : k < length merged = (let e : length actions ≡ length merged = many_actions in omega arith) in
       subst (IsRelaxed strips.atoms)
-      (sym (ap (λ xs. get_or xs k d) same ∙ get_or-map (relaxed_action strips.atoms) (useful_actions strips.atoms strips.actions) k (record { name = []; needs = 0; adds = 0; deletes = 0; cost = 1 }) d k_less))
+      (sym (ap (λ xs. get_or xs k d) same ∙ get_or-map (relaxed_action strips.atoms) merged k (record { needs = 0; adds = 0; cost = 1 }) d k_less))
       (record {
-        adds = all_in (λ atom. atom < strips.atoms) (action_at (useful_actions strips.atoms strips.actions) k).adds strips.atoms (λ atom a_less has. a_less);
+        adds = all_in (λ atom. atom < strips.atoms) (merged_at merged k).adds strips.atoms (λ atom a_less has. a_less);
         cost = price k k_less;
       })
 
   -- what an action adds costs no more by hmax than what it needs, with the action
-  added : (user atom level cost : ℕ) → user < length (useful_actions strips.atoms strips.actions) → AddsAt (relaxed_at actions user) level atom cost
-      → ((need : ℕ) → need < strips.atoms → has_atom (action_at (useful_actions strips.atoms strips.actions) user).needs need ≡ true → IsAtMost (atom_cost strips state strips.atoms need) level)
+  added : (user atom level cost : ℕ) → user < length merged → AddsAt (relaxed_at actions user) level atom cost
+      → ((need : ℕ) → need < strips.atoms → has_atom (merged_at merged user).needs need ≡ true → IsAtMost (atom_cost strips state strips.atoms need) level)
       → IsAtMost (atom_cost strips state strips.atoms atom) cost
   added user atom level cost less (among, le) needs =
-      let adds = is_in (action_at (useful_actions strips.atoms strips.actions) user).adds strips.atoms atom (subst (λ (a : RelaxedAction). Contains a.adds atom) (user_is user less) among) in
-      let sum : level + (action_at (useful_actions strips.atoms strips.actions) user).cost ≤ cost = subst (λ (a : RelaxedAction). level + a.cost ≤ cost) (user_is user less) le in
-      at_most_more (atom_cost strips state strips.atoms atom) ((action_at (useful_actions strips.atoms strips.actions) user).cost + level) cost (omega arith)
-      (by_action strips state (action_at (useful_actions strips.atoms strips.actions) user) (among_actions strips.atoms strips.actions user less) level needs atom adds.0 adds.1)
+      let adds = is_in (merged_at merged user).adds strips.atoms atom (subst (λ (a : RelaxedAction). Contains a.adds atom) (user_is user less) among) in
+      let sum : level + (merged_at merged user).cost ≤ cost = subst (λ (a : RelaxedAction). level + a.cost ≤ cost) (user_is user less) le in
+      let from = stand.sound user less atom adds.0 adds.1 in
+      at_most_more (atom_cost strips state strips.atoms atom) (from.action.cost + level) cost (omega (arith, from.cost, sum))
+      (by_action strips state from.action from.among level (λ need n_less has. needs need n_less (subst (λ (set : ℕ). has_atom set need ≡ true) from.needs has)) atom adds.0 from.adds)
 
   -- what is said of all that an action adds
-  cheap_at : (costs : List AtomCost) (user atom bound : ℕ) → user < length (useful_actions strips.atoms strips.actions)
+  cheap_at : (costs : List AtomCost) (user atom bound : ℕ) → user < length merged
       → All (λ a. IsAtMost (cost_in costs a) (bound + (relaxed_at actions user).cost)) (relaxed_at actions user).adds
-      → atom < strips.atoms → has_atom (action_at (useful_actions strips.atoms strips.actions) user).adds atom ≡ true
-      → IsAtMost (cost_in costs atom) (bound + (action_at (useful_actions strips.atoms strips.actions) user).cost)
+      → atom < strips.atoms → has_atom (merged_at merged user).adds atom ≡ true
+      → IsAtMost (cost_in costs atom) (bound + (merged_at merged user).cost)
   cheap_at costs user atom bound less all a_less adds =
-      let cheap : All (λ a. IsAtMost (cost_in costs a) (bound + (action_at (useful_actions strips.atoms strips.actions) user).cost)) (atoms_in (action_at (useful_actions strips.atoms strips.actions) user).adds strips.atoms) =
+      let cheap : All (λ a. IsAtMost (cost_in costs a) (bound + (merged_at merged user).cost)) (atoms_in (merged_at merged user).adds strips.atoms) =
       subst (λ (x : RelaxedAction). All (λ a. IsAtMost (cost_in costs a) (bound + x.cost)) x.adds) (user_is user less) all in
-      All-contains (λ a. IsAtMost (cost_in costs a) (bound + (action_at (useful_actions strips.atoms strips.actions) user).cost))
-      (atoms_in (action_at (useful_actions strips.atoms strips.actions) user).adds strips.atoms) atom cheap
-      (contains_in (action_at (useful_actions strips.atoms strips.actions) user).adds strips.atoms atom a_less adds)
+      All-contains (λ a. IsAtMost (cost_in costs a) (bound + (merged_at merged user).cost))
+      (atoms_in (merged_at merged user).adds strips.atoms) atom cheap
+      (contains_in (merged_at merged user).adds strips.atoms atom a_less adds)
 
   -- ---- the beginning
 
-  module _ (free : List ℕ) (are : AreFree strips.atoms (useful_actions strips.atoms strips.actions) free) (first last : List AtomCost)
+  module _ (free : List ℕ) (are : AreFree strips.atoms merged free) (first last : List AtomCost)
       (long : length last ≡ strips.atoms)
       (holds : (atom : ℕ) → atom < strips.atoms → has_atom state atom ≡ true → IsAtMost (cost_in first atom) 0)
       (only : (atom cost : ℕ) → IsAtMost (cost_in first atom) cost → has_atom state atom ≡ true)
@@ -83,13 +80,13 @@ module _ (strips : StripsParts) (state : ℕ) (is : IsStrips strips) (actions : 
     pub none_final : (atom : ℕ) → final_in last atom ≡ None
     none_final atom = finals atom ∙ none atom
 
-    at_free : (user : ℕ) → Contains free user → user < length (useful_actions strips.atoms strips.actions)
-    at_free user among = All-contains (λ u. u < length (useful_actions strips.atoms strips.actions)) free user are.inside among
+    at_free : (user : ℕ) → Contains free user → user < length merged
+    at_free user among = All-contains (λ u. u < length merged) free user are.inside among
 
-    no_needs : (user : ℕ) → Contains free user → (need : ℕ) → need < strips.atoms → has_atom (action_at (useful_actions strips.atoms strips.actions) user).needs need ≡ true → ⊥
+    no_needs : (user : ℕ) → Contains free user → (need : ℕ) → need < strips.atoms → has_atom (merged_at merged user).needs need ≡ true → ⊥
     no_needs user among need less has =
         let wrong : false ≡ true =
-        sym (All-contains (λ u. (atom : ℕ) → atom < strips.atoms → has_atom (action_at (useful_actions strips.atoms strips.actions) u).needs atom ≡ false) free user are.need among need less) ∙ has in
+        sym (All-contains (λ u. (atom : ℕ) → atom < strips.atoms → has_atom (merged_at merged u).needs atom ≡ false) free user are.need among need less) ∙ has in
         cc
 
     free_reaches : (user : ℕ) → Contains free user → All (λ a. IsAtMost (cost_in last a) (0 + (relaxed_at actions user).cost)) (relaxed_at actions user).adds
@@ -98,7 +95,7 @@ module _ (strips : StripsParts) (state : ℕ) (is : IsStrips strips) (actions : 
         All-contains (λ u. All (λ atom. IsAtMost (cost_in last atom) (relaxed_at actions u).cost) (relaxed_at actions u).adds) free user reaches among in
         subst (λ n. All (λ a. IsAtMost (cost_in last a) n) (relaxed_at actions user).adds) (let e : (relaxed_at actions user).cost ≡ 0 + (relaxed_at actions user).cost = omega arith in e) all
 
-    pub begun : IsUnderway strips state 0 last
+    pub begun : IsUnderway strips merged state 0 last
     begun = record {
       long = long;
       holds = λ atom less has. falls atom 0 (holds atom less has);
@@ -117,21 +114,21 @@ module _ (strips : StripsParts) (state : ℕ) (is : IsStrips strips) (actions : 
         sound atom cost (inl was) = in_later_rounds strips state atom cost 0 strips.atoms (omega arith) (holds_from (has_atom state atom) cost (only atom cost was))
         sound atom cost (inr (user, among, adds)) = added user atom 0 cost (at_free user among) adds (λ need less has. absurd (no_needs user among need less has))
 
-        reach : (user : ℕ) → user < length (useful_actions strips.atoms strips.actions) → (cost : ℕ)
-            → ((atom : ℕ) → atom < strips.atoms → has_atom (action_at (useful_actions strips.atoms strips.actions) user).needs atom ≡ true → IsAtMost (final_in last atom) cost)
-            → (atom : ℕ) → atom < strips.atoms → has_atom (action_at (useful_actions strips.atoms strips.actions) user).adds atom ≡ true
-            → IsAtMost (cost_in last atom) ((action_at (useful_actions strips.atoms strips.actions) user).cost + cost)
+        reach : (user : ℕ) → user < length merged → (cost : ℕ)
+            → ((atom : ℕ) → atom < strips.atoms → has_atom (merged_at merged user).needs atom ≡ true → IsAtMost (final_in last atom) cost)
+            → (atom : ℕ) → atom < strips.atoms → has_atom (merged_at merged user).adds atom ≡ true
+            → IsAtMost (cost_in last atom) ((merged_at merged user).cost + cost)
         reach user less cost needs atom a_less adds =
-            at_most_more (cost_in last atom) (0 + (action_at (useful_actions strips.atoms strips.actions) user).cost) ((action_at (useful_actions strips.atoms strips.actions) user).cost + cost) (omega arith)
+            at_most_more (cost_in last atom) (0 + (merged_at merged user).cost) ((merged_at merged user).cost + cost) (omega arith)
             (cheap_at last user atom 0 less (free_reaches user among) a_less adds)
           where
-            off : (need : ℕ) → need < strips.atoms → (test : Bool) → has_atom (action_at (useful_actions strips.atoms strips.actions) user).needs need ≡ test
-                → has_atom (action_at (useful_actions strips.atoms strips.actions) user).needs need ≡ false
+            off : (need : ℕ) → need < strips.atoms → (test : Bool) → has_atom (merged_at merged user).needs need ≡ test
+                → has_atom (merged_at merged user).needs need ≡ false
             off need n_less true e = absurd (subst (λ o. IsAtMost o cost) (none_final need) (needs need n_less e))
             off need n_less false e = e
 
             among : Contains free user
-            among = are.all user less (λ need n_less. off need n_less (has_atom (action_at (useful_actions strips.atoms strips.actions) user).needs need) refl)
+            among = are.all user less (λ need n_less. off need n_less (has_atom (merged_at merged user).needs need) refl)
 
         small : (atom cost : ℕ) → IsAtMost (cost_in last atom) cost → IsAtMost (cost_in first atom) cost ⊎ ((user : ℕ) × Contains free user × AddsAt (relaxed_at actions user) 0 atom cost)
             → IsAtMost (cost_in last atom) (0 + 2 ^ 20)
@@ -139,10 +136,10 @@ module _ (strips : StripsParts) (state : ℕ) (is : IsStrips strips) (actions : 
             at_most_more (cost_in last atom) 0 (0 + 2 ^ 20) (omega arith)
             (falls atom 0 (holds atom (let less : atom < length last = inside last atom cost h in omega (arith, long, less)) (only atom cost was)))
         small atom cost h (inr (user, among, (adds, le))) =
-            let u_less : user < length (useful_actions strips.atoms strips.actions) = at_free user among in
-            let most : (action_at (useful_actions strips.atoms strips.actions) user).cost ≤ 2 ^ 20 = price user u_less in
-            let part = is_in (action_at (useful_actions strips.atoms strips.actions) user).adds strips.atoms atom (subst (λ (a : RelaxedAction). Contains a.adds atom) (user_is user u_less) adds) in
-            at_most_more (cost_in last atom) (0 + (action_at (useful_actions strips.atoms strips.actions) user).cost) (0 + 2 ^ 20) (omega arith)
+            let u_less : user < length merged = at_free user among in
+            let most : (merged_at merged user).cost ≤ 2 ^ 20 = price user u_less in
+            let part = is_in (merged_at merged user).adds strips.atoms atom (subst (λ (a : RelaxedAction). Contains a.adds atom) (user_is user u_less) adds) in
+            at_most_more (cost_in last atom) (0 + (merged_at merged user).cost) (0 + 2 ^ 20) (omega arith)
             (cheap_at last user atom 0 u_less (free_reaches user among) part.0 part.1)
 
     -- what is waited for at the beginning
@@ -156,21 +153,21 @@ module _ (strips : StripsParts) (state : ℕ) (is : IsStrips strips) (actions : 
         and_true true = refl
         and_true false = refl
 
-    pub begun_counts : (counts : List ℕ) → counts ≡ map (λ (action : GroundAction). length (atoms_in action.needs strips.atoms)) (useful_actions strips.atoms strips.actions)
-        → AreCounted strips counts last
+    pub begun_counts : (counts : List ℕ) → counts ≡ map (λ (action : MergedAction). length (atoms_in action.needs strips.atoms)) merged
+        → AreCounted strips merged counts last
     begun_counts counts e = record {
-      many = ap length e ∙ length-map (useful_actions strips.atoms strips.actions) (λ (action : GroundAction). length (atoms_in action.needs strips.atoms));
+      many = ap length e ∙ length-map merged (λ (action : MergedAction). length (atoms_in action.needs strips.atoms));
       counted = λ user less.
           ap (λ xs. get_or xs user 0) e
-          ∙ get_or-map (λ (action : GroundAction). length (atoms_in action.needs strips.atoms)) (useful_actions strips.atoms strips.actions) user
-          (record { name = []; needs = 0; adds = 0; deletes = 0; cost = 1 }) 0 less
-          ∙ waiting_at_first (action_at (useful_actions strips.atoms strips.actions) user).needs;
+          ∙ get_or-map (λ (action : MergedAction). length (atoms_in action.needs strips.atoms)) merged user
+          (record { needs = 0; adds = 0; cost = 1 }) 0 less
+          ∙ waiting_at_first (merged_at merged user).needs;
     }
 
   -- ---- one atom more
 
-  module _ (level atom cost : ℕ) (costs : List AtomCost) (u : IsUnderway strips state level costs) (least : IsLeastOpen costs atom cost) (counts : List ℕ) (c : AreCounted strips counts costs)
-      (users : List ℕ) (are : AreUsers (useful_actions strips.atoms strips.actions) atom users) where
+  module _ (level atom cost : ℕ) (costs : List AtomCost) (u : IsUnderway strips merged state level costs) (least : IsLeastOpen costs atom cost) (counts : List ℕ) (c : AreCounted strips merged counts costs)
+      (users : List ℕ) (are : AreUsers merged atom users) where
     pub atom_less : atom < strips.atoms
     atom_less = let less : atom < length costs = least.inside in omega (arith, u.long, less)
 
@@ -192,20 +189,20 @@ module _ (strips : StripsParts) (state : ℕ) (is : IsStrips strips) (actions : 
         let more : waiting (λ _. true) costs strips.atoms ≡ suc (waiting (λ _. true) (set costs atom (Final cost)) strips.atoms) = rest_waits in
         omega arith
 
-    need_at : (user : ℕ) → Contains users user → (user < length (useful_actions strips.atoms strips.actions)) × (has_atom (action_at (useful_actions strips.atoms strips.actions) user).needs atom ≡ true)
+    need_at : (user : ℕ) → Contains users user → (user < length merged) × (has_atom (merged_at merged user).needs atom ≡ true)
     need_at user among =
-        All-contains (λ n. (n < length (useful_actions strips.atoms strips.actions)) × (has_atom (action_at (useful_actions strips.atoms strips.actions) n).needs atom ≡ true)) users user are.need among
+        All-contains (λ n. (n < length merged) × (has_atom (merged_at merged n).needs atom ≡ true)) users user are.need among
 
     pub users_wait : All (λ user. (user < length actions) × (1 ≤ get_or counts user 0)) users
     users_wait k d less =
         let need = are.need k d less in
-        let user_less : get_or users k d < length (useful_actions strips.atoms strips.actions) = need.0 in
-        let drop : waiting (has_atom (action_at (useful_actions strips.atoms strips.actions) (get_or users k d)).needs) costs strips.atoms
-        ≡ suc (waiting (has_atom (action_at (useful_actions strips.atoms strips.actions) (get_or users k d)).needs) (set costs atom (Final cost)) strips.atoms) =
-        waiting_drops costs atom cost least (has_atom (action_at (useful_actions strips.atoms strips.actions) (get_or users k d)).needs) strips.atoms atom_less need.1 in
-        let is_counted : get_or counts (get_or users k d) 0 ≡ waiting (has_atom (action_at (useful_actions strips.atoms strips.actions) (get_or users k d)).needs) costs strips.atoms =
+        let user_less : get_or users k d < length merged = need.0 in
+        let drop : waiting (has_atom (merged_at merged (get_or users k d)).needs) costs strips.atoms
+        ≡ suc (waiting (has_atom (merged_at merged (get_or users k d)).needs) (set costs atom (Final cost)) strips.atoms) =
+        waiting_drops costs atom cost least (has_atom (merged_at merged (get_or users k d)).needs) strips.atoms atom_less need.1 in
+        let is_counted : get_or counts (get_or users k d) 0 ≡ waiting (has_atom (merged_at merged (get_or users k d)).needs) costs strips.atoms =
         c.counted (get_or users k d) user_less in
-        (let e : length actions ≡ length (useful_actions strips.atoms strips.actions) = many_actions in omega arith, omega arith)
+        (let e : length actions ≡ length merged = many_actions in omega arith, omega arith)
 
     module _ (after : List ℕ) (last : List AtomCost) (long : length last ≡ length (set costs atom (Final cost))) (after_long : length after ≡ length counts)
         (counted : All (λ user. get_or after user 0 + 1 ≡ get_or counts user 0) users)
@@ -214,37 +211,37 @@ module _ (strips : StripsParts) (state : ℕ) (is : IsStrips strips) (actions : 
         (reaches : All (λ user. get_or after user 0 ≡ 0 → All (λ a. IsAtMost (cost_in last a) (cost + (relaxed_at actions user).cost)) (relaxed_at actions user).adds) users)
         (only : (a n : ℕ) → IsAtMost (cost_in last a) n → IsAtMost (cost_in (set costs atom (Final cost)) a) n ⊎ ((user : ℕ) × Contains users user × IsAddedBy actions cost after user a n)) where
       -- the counters are right again
-      pub count_now : (user : ℕ) → user < length (useful_actions strips.atoms strips.actions)
-          → get_or after user 0 ≡ waiting (has_atom (action_at (useful_actions strips.atoms strips.actions) user).needs) (set costs atom (Final cost)) strips.atoms
-      count_now user less = go (has_atom (action_at (useful_actions strips.atoms strips.actions) user).needs atom) refl where
-        go : (test : Bool) → has_atom (action_at (useful_actions strips.atoms strips.actions) user).needs atom ≡ test
-            → get_or after user 0 ≡ waiting (has_atom (action_at (useful_actions strips.atoms strips.actions) user).needs) (set costs atom (Final cost)) strips.atoms
+      pub count_now : (user : ℕ) → user < length merged
+          → get_or after user 0 ≡ waiting (has_atom (merged_at merged user).needs) (set costs atom (Final cost)) strips.atoms
+      count_now user less = go (has_atom (merged_at merged user).needs atom) refl where
+        go : (test : Bool) → has_atom (merged_at merged user).needs atom ≡ test
+            → get_or after user 0 ≡ waiting (has_atom (merged_at merged user).needs) (set costs atom (Final cost)) strips.atoms
         go true has =
-            let drop : waiting (has_atom (action_at (useful_actions strips.atoms strips.actions) user).needs) costs strips.atoms
-            ≡ suc (waiting (has_atom (action_at (useful_actions strips.atoms strips.actions) user).needs) (set costs atom (Final cost)) strips.atoms) =
-            waiting_drops costs atom cost least (has_atom (action_at (useful_actions strips.atoms strips.actions) user).needs) strips.atoms atom_less has in
+            let drop : waiting (has_atom (merged_at merged user).needs) costs strips.atoms
+            ≡ suc (waiting (has_atom (merged_at merged user).needs) (set costs atom (Final cost)) strips.atoms) =
+            waiting_drops costs atom cost least (has_atom (merged_at merged user).needs) strips.atoms atom_less has in
             let one : get_or after user 0 + 1 ≡ get_or counts user 0 =
             All-contains (λ n. get_or after n 0 + 1 ≡ get_or counts n 0) users user counted (are.all user less has) in
-            let before : get_or counts user 0 ≡ waiting (has_atom (action_at (useful_actions strips.atoms strips.actions) user).needs) costs strips.atoms = c.counted user less in
+            let before : get_or counts user 0 ≡ waiting (has_atom (merged_at merged user).needs) costs strips.atoms = c.counted user less in
             omega arith
         go false hasn't =
             others user (λ among. let wrong : false ≡ true = sym hasn't ∙ (need_at user among).1 in cc)
-            ∙ c.counted user less ∙ sym (waiting_stays costs atom cost least (has_atom (action_at (useful_actions strips.atoms strips.actions) user).needs) strips.atoms hasn't)
+            ∙ c.counted user less ∙ sym (waiting_stays costs atom cost least (has_atom (merged_at merged user).needs) strips.atoms hasn't)
 
-      pub counted_on : AreCounted strips after last
+      pub counted_on : AreCounted strips merged after last
       counted_on = record {
         many = after_long ∙ c.many;
         counted = λ user less.
             count_now user less
-            ∙ sym (same_waiting (has_atom (action_at (useful_actions strips.atoms strips.actions) user).needs) (set costs atom (Final cost)) last strips.atoms finals);
+            ∙ sym (same_waiting (has_atom (merged_at merged user).needs) (set costs atom (Final cost)) last strips.atoms finals);
       }
 
       -- the needs of an action of whose counter nothing is left cost at most this
-      needs_are_final : (user : ℕ) → user < length (useful_actions strips.atoms strips.actions) → get_or after user 0 ≡ 0 → (need : ℕ) → need < strips.atoms
-          → has_atom (action_at (useful_actions strips.atoms strips.actions) user).needs need ≡ true → IsAtMost (atom_cost strips state strips.atoms need) cost
+      needs_are_final : (user : ℕ) → user < length merged → get_or after user 0 ≡ 0 → (need : ℕ) → need < strips.atoms
+          → has_atom (merged_at merged user).needs need ≡ true → IsAtMost (atom_cost strips state strips.atoms need) cost
       needs_are_final user less nothing need n_less has =
           let final = has_final (final_in (set costs atom (Final cost)) need)
-          (all_final (has_atom (action_at (useful_actions strips.atoms strips.actions) user).needs) (set costs atom (Final cost)) strips.atoms (sym (count_now user less) ∙ nothing) need n_less has) in
+          (all_final (has_atom (merged_at merged user).needs) (set costs atom (Final cost)) strips.atoms (sym (count_now user less) ∙ nothing) need n_less has) in
           let lower : final.0 ≤ cost = finals_within costs atom cost least level not_below u.finals need final.0 final.1 in
           at_most_more (atom_cost strips state strips.atoms need) final.0 cost lower
           (u.sound need final.0 (subst (λ o. IsAtMost o final.0) (no_cost_changes costs atom cost least need)
@@ -259,12 +256,12 @@ module _ (strips : StripsParts) (state : ℕ) (is : IsStrips strips) (actions : 
       final_on : (a n : ℕ) → IsAtMost (final_in costs a) n → IsAtMost (final_in last a) n
       final_on a n h = subst (λ o. IsAtMost o n) (sym (finals a)) (still_final costs atom cost least a n h)
 
-      pub goes_on : IsUnderway strips state cost last
+      pub goes_on : IsUnderway strips merged state cost last
       goes_on = record {
         long = long ∙ length-set costs atom (Final cost) ∙ u.long;
         holds = λ a less has. after_it a 0 (u.holds a less has);
         sound = λ a n h. sound a n (only a n h);
-        reaches = λ user less n needs a a_less adds. reach user less n needs a a_less adds (has_atom (action_at (useful_actions strips.atoms strips.actions) user).needs atom) refl;
+        reaches = λ user less n needs a a_less adds. reach user less n needs a a_less adds (has_atom (merged_at merged user).needs atom) refl;
         below = λ a n h lower. below a n lower (only a n h);
         finals = λ a n e. finals_within costs atom cost least level not_below u.finals a n (sym (finals a) ∙ e);
         within = λ a n h. within a n (only a n h);
@@ -291,37 +288,37 @@ module _ (strips : StripsParts) (state : ℕ) (is : IsStrips strips) (actions : 
           within a n (inl was) =
               after_it a (cost + 2 ^ 20) (at_most_more (cost_in costs a) (level + 2 ^ 20) (cost + 2 ^ 20) (let le : level ≤ cost = not_below in omega arith) (u.within a n (before_it a n was)))
           within a n (inr (user, among, (nothing, (adds, le)))) =
-              let less : user < length (useful_actions strips.atoms strips.actions) = (need_at user among).0 in
-              let most : (action_at (useful_actions strips.atoms strips.actions) user).cost ≤ 2 ^ 20 = price user less in
-              let part = is_in (action_at (useful_actions strips.atoms strips.actions) user).adds strips.atoms a (subst (λ (x : RelaxedAction). Contains x.adds a) (user_is user less) adds) in
-              at_most_more (cost_in last a) (cost + (action_at (useful_actions strips.atoms strips.actions) user).cost) (cost + 2 ^ 20) (omega arith)
+              let less : user < length merged = (need_at user among).0 in
+              let most : (merged_at merged user).cost ≤ 2 ^ 20 = price user less in
+              let part = is_in (merged_at merged user).adds strips.atoms a (subst (λ (x : RelaxedAction). Contains x.adds a) (user_is user less) adds) in
+              at_most_more (cost_in last a) (cost + (merged_at merged user).cost) (cost + 2 ^ 20) (omega arith)
               (cheap_at last user a cost less
               (All-contains (λ x. get_or after x 0 ≡ 0 → All (λ b. IsAtMost (cost_in last b) (cost + (relaxed_at actions x).cost)) (relaxed_at actions x).adds) users user reaches among nothing) part.0 part.1)
 
           -- the needs of an action that doesn't need the atom were final before
-          others_final : (user n : ℕ) → has_atom (action_at (useful_actions strips.atoms strips.actions) user).needs atom ≡ false
-              → ((need : ℕ) → need < strips.atoms → has_atom (action_at (useful_actions strips.atoms strips.actions) user).needs need ≡ true → IsAtMost (final_in last need) n)
-              → (need : ℕ) → need < strips.atoms → has_atom (action_at (useful_actions strips.atoms strips.actions) user).needs need ≡ true → IsAtMost (final_in costs need) n
+          others_final : (user n : ℕ) → has_atom (merged_at merged user).needs atom ≡ false
+              → ((need : ℕ) → need < strips.atoms → has_atom (merged_at merged user).needs need ≡ true → IsAtMost (final_in last need) n)
+              → (need : ℕ) → need < strips.atoms → has_atom (merged_at merged user).needs need ≡ true → IsAtMost (final_in costs need) n
           others_final user n hasn't needs need n_less has = go (cases_eq need atom) where
             go : (need ≡ atom) ⊎ (need ≢ atom) → IsAtMost (final_in costs need) n
             go (inl e) =
                 absurd
-                (let wrong : false ≡ true = sym hasn't ∙ ap (has_atom (action_at (useful_actions strips.atoms strips.actions) user).needs) (sym e) ∙ has in
+                (let wrong : false ≡ true = sym hasn't ∙ ap (has_atom (merged_at merged user).needs) (sym e) ∙ has in
                 let no : ⊥ = cc in no)
             go (inr apart) = subst (λ o. IsAtMost o n) (finals need ∙ final_there costs atom cost least need apart) (needs need n_less has)
 
-          reach : (user : ℕ) → user < length (useful_actions strips.atoms strips.actions) → (n : ℕ)
-              → ((need : ℕ) → need < strips.atoms → has_atom (action_at (useful_actions strips.atoms strips.actions) user).needs need ≡ true → IsAtMost (final_in last need) n)
-              → (a : ℕ) → a < strips.atoms → has_atom (action_at (useful_actions strips.atoms strips.actions) user).adds a ≡ true
-              → (test : Bool) → has_atom (action_at (useful_actions strips.atoms strips.actions) user).needs atom ≡ test
-              → IsAtMost (cost_in last a) ((action_at (useful_actions strips.atoms strips.actions) user).cost + n)
+          reach : (user : ℕ) → user < length merged → (n : ℕ)
+              → ((need : ℕ) → need < strips.atoms → has_atom (merged_at merged user).needs need ≡ true → IsAtMost (final_in last need) n)
+              → (a : ℕ) → a < strips.atoms → has_atom (merged_at merged user).adds a ≡ true
+              → (test : Bool) → has_atom (merged_at merged user).needs atom ≡ test
+              → IsAtMost (cost_in last a) ((merged_at merged user).cost + n)
           reach user less n needs a a_less adds true has =
               let nothing : get_or after user 0 ≡ 0 =
-              count_now user less ∙ sym (same_waiting (has_atom (action_at (useful_actions strips.atoms strips.actions) user).needs) (set costs atom (Final cost)) last strips.atoms finals)
-              ∙ none_waiting (has_atom (action_at (useful_actions strips.atoms strips.actions) user).needs) last strips.atoms (λ need n_less need_has. final_is need (needs need n_less need_has)) in
+              count_now user less ∙ sym (same_waiting (has_atom (merged_at merged user).needs) (set costs atom (Final cost)) last strips.atoms finals)
+              ∙ none_waiting (has_atom (merged_at merged user).needs) last strips.atoms (λ need n_less need_has. final_is need (needs need n_less need_has)) in
               let here : IsAtMost (final_in last atom) n = needs atom atom_less has in
               let le : cost ≤ n = subst (λ o. IsAtMost o n) (finals atom ∙ ap final_cost (is_here costs atom cost least)) here in
-              at_most_more (cost_in last a) (cost + (action_at (useful_actions strips.atoms strips.actions) user).cost) ((action_at (useful_actions strips.atoms strips.actions) user).cost + n) (omega arith)
+              at_most_more (cost_in last a) (cost + (merged_at merged user).cost) ((merged_at merged user).cost + n) (omega arith)
               (cheap_at last user a cost less
               (All-contains (λ x. get_or after x 0 ≡ 0 → All (λ b. IsAtMost (cost_in last b) (cost + (relaxed_at actions x).cost)) (relaxed_at actions x).adds) users user reaches
               (are.all user less has) nothing) a_less adds)
@@ -332,4 +329,4 @@ module _ (strips : StripsParts) (state : ℕ) (is : IsStrips strips) (actions : 
                 some_at None h = absurd h
                 some_at (Some m) h = refl
           reach user less n needs a a_less adds false hasn't =
-              after_it a ((action_at (useful_actions strips.atoms strips.actions) user).cost + n) (u.reaches user less n (others_final user n hasn't needs) a a_less adds)
+              after_it a ((merged_at merged user).cost + n) (u.reaches user less n (others_final user n hasn't needs) a a_less adds)

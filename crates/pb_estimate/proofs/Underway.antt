@@ -5,18 +5,20 @@ use Rattle.std.proofs.Math.ListN.{get_or-eq_default}
 use Rattle.std.proofs.lemmas.Bool.{and_parts, not-true, cases_eq, cases_lt}
 use Rattle.pb_task.specs.declared.parts.GroundAction.{GroundAction}
 use Rattle.pb_task.specs.declared.parts.StripsParts.{StripsParts}
-use Rattle.pb_task.specs.Strips.{action_at, has_atom}
+use Rattle.pb_task.specs.Strips.{has_atom}
 use Rattle.pb_estimate.specs.declared.exploration.AtomCost.{AtomCost}
 use Rattle.pb_estimate.specs.declared.exploration.AtomCost.TheVariants.{Unreached, Open, Final}
 use Rattle.pb_estimate.specs.Hmax.{IsAtMost, cheapest_by, atom_cost, goal_cost}
 use Rattle.pb_estimate.specs.Exploring.{count, known_cost, final_cost, known_in, cost_in, final_in, is_final_in, waiting, AreNoLess, HaveSameFinals, FinalsAreWithin, OpensAreFrom, IsLeastOpen}
-use Rattle.pb_estimate.specs.Tables.{atoms_in, has_more, useful_actions}
+use Rattle.pb_estimate.specs.declared.merging.MergedAction.{MergedAction}
+use Rattle.pb_estimate.specs.declared.relaxed.RelaxedTask.{RelaxedTask}
+use Rattle.pb_estimate.specs.Merged.{merged_at, IsMergedInto, StandFor}
+use Rattle.pb_estimate.specs.Tables.{AreRelaxed}
 use Rattle.pb_estimate.proofs.Costs.{at_most_more, lesser_right, lesser_cases, same_cost, dearest_at, dearest_from, CostsByOne, cheapest_is, cheapest_from}
 use Rattle.pb_estimate.proofs.Rounds.{no_cheaper}
 use Rattle.pb_estimate.proofs.Fixed.{holds_is}
 use Rattle.pb_estimate.proofs.Counts.{count_same, none_counted, some_counted, count_drops}
 use Rattle.pb_estimate.proofs.Lowered.{known_here, known_there}
-use Rattle.pb_estimate.proofs.Sets.{contains_in, no_more_in, found_among}
 
 -- ---- costs
 
@@ -146,24 +148,32 @@ same_waiting wanted before after below same =
 
 -- The costs of an exploration that has come to a level: no cost is below that of hmax; what an action adds, of whose needs all costs are final, costs
 -- no more than by it; and what costs less than the level is final.
-pub record IsUnderway (strips : StripsParts) (state level : ℕ) (costs : List AtomCost) : Type 0 where
+pub record IsUnderway (strips : StripsParts) (merged : List MergedAction) (state level : ℕ) (costs : List AtomCost) : Type 0 where
   pub long : length costs ≡ strips.atoms
   pub holds : (atom : ℕ) → atom < strips.atoms → has_atom state atom ≡ true → IsAtMost (cost_in costs atom) 0
   pub sound : AreNoLess (cost_in costs) (atom_cost strips state strips.atoms)
-  pub reaches : (user : ℕ) → user < length (useful_actions strips.atoms strips.actions) → (cost : ℕ)
-      → ((atom : ℕ) → atom < strips.atoms → has_atom (action_at (useful_actions strips.atoms strips.actions) user).needs atom ≡ true → IsAtMost (final_in costs atom) cost)
-      → (atom : ℕ) → atom < strips.atoms → has_atom (action_at (useful_actions strips.atoms strips.actions) user).adds atom ≡ true
-      → IsAtMost (cost_in costs atom) ((action_at (useful_actions strips.atoms strips.actions) user).cost + cost)
+  pub reaches : (user : ℕ) → user < length merged → (cost : ℕ)
+      → ((atom : ℕ) → atom < strips.atoms → has_atom (merged_at merged user).needs atom ≡ true → IsAtMost (final_in costs atom) cost)
+      → (atom : ℕ) → atom < strips.atoms → has_atom (merged_at merged user).adds atom ≡ true
+      → IsAtMost (cost_in costs atom) ((merged_at merged user).cost + cost)
   pub below : (atom cost : ℕ) → IsAtMost (cost_in costs atom) cost → cost < level → IsAtMost (final_in costs atom) cost
   pub finals : FinalsAreWithin level costs
   pub within : (atom cost : ℕ) → IsAtMost (cost_in costs atom) cost → IsAtMost (cost_in costs atom) (level + 2 ^ 20)
   pub room : level + 2 ^ 20 * waiting (λ _. true) costs strips.atoms ≤ 2 ^ 30
 
 -- the counters are those of the atoms that each action needs whose costs aren't final
-pub record AreCounted (strips : StripsParts) (counts : List ℕ) (costs : List AtomCost) : Type 0 where
-  pub many : length counts ≡ length (useful_actions strips.atoms strips.actions)
-  pub counted : (user : ℕ) → user < length (useful_actions strips.atoms strips.actions)
-      → get_or counts user 0 ≡ waiting (has_atom (action_at (useful_actions strips.atoms strips.actions) user).needs) costs strips.atoms
+pub record AreCounted (strips : StripsParts) (merged : List MergedAction) (counts : List ℕ) (costs : List AtomCost) : Type 0 where
+  pub many : length counts ≡ length merged
+  pub counted : (user : ℕ) → user < length merged
+      → get_or counts user 0 ≡ waiting (has_atom (merged_at merged user).needs) costs strips.atoms
+
+-- An exploration of a relaxed task that is under way.
+pub record IsOnItsWay (strips : StripsParts) (state : ℕ) (task : RelaxedTask) (level : ℕ) (counts : List ℕ) (costs : List AtomCost) : Type 0 where
+  pub merged : List MergedAction
+  pub stand : StandFor strips.atoms strips.actions merged
+  pub relaxed : AreRelaxed strips.atoms merged task.users task
+  pub underway : IsUnderway strips merged state level costs
+  pub counted : AreCounted strips merged counts costs
 
 module _ (strips : StripsParts) (state : ℕ) where
   -- where the atoms that an action needs cost at most this by hmax, what it adds costs at most that and the action
@@ -181,7 +191,7 @@ module _ (strips : StripsParts) (state : ℕ) where
       })))
 
   -- Where all that costs less than a bound is final, that is all that costs less by hmax.
-  module _ (level bound : ℕ) (costs : List AtomCost) (u : IsUnderway strips state level costs)
+  module _ (merged : List MergedAction) (stand : StandFor strips.atoms strips.actions merged) (level bound : ℕ) (costs : List AtomCost) (u : IsUnderway strips merged state level costs)
       (settled : (atom cost : ℕ) → IsAtMost (cost_in costs atom) cost → cost < bound → IsAtMost (final_in costs atom) cost) where
     pub is_settled : (round atom cost : ℕ) → atom < strips.atoms → cost < bound → IsAtMost (atom_cost strips state round atom) cost → IsAtMost (final_in costs atom) cost
     is_settled zero atom cost less lower h =
@@ -192,7 +202,7 @@ module _ (strips : StripsParts) (state : ℕ) where
         go : ((need c : ℕ) → need < strips.atoms → c < bound → IsAtMost (atom_cost strips state round need) c → IsAtMost (final_in costs need) c)
             → IsAtMost (atom_cost strips state round atom) cost ⊎ IsAtMost (cheapest_by strips.atoms (atom_cost strips state round) atom strips.actions) cost → IsAtMost (final_in costs atom) cost
         go rest (inl was) = rest atom cost less lower was
-        go rest (inr by) = one (has_more (atoms_in it.action.adds strips.atoms) it.action.needs) refl where
+        go rest (inr by) = one (stand.all it.action it.among atom less it.by.adds) where
           it : CostsByOne strips.atoms (atom_cost strips state round) atom strips.actions cost
           it = cheapest_is strips.atoms (atom_cost strips state round) atom strips.actions cost by
 
@@ -202,24 +212,20 @@ module _ (strips : StripsParts) (state : ℕ) where
           needs : (need : ℕ) → need < strips.atoms → has_atom it.action.needs need ≡ true → IsAtMost (final_in costs need) it.by.needed
           needs need need_less has = rest need it.by.needed need_less needed_less (it.by.needs need need_less has)
 
-          one : (test : Bool) → has_more (atoms_in it.action.adds strips.atoms) it.action.needs ≡ test → IsAtMost (final_in costs atom) cost
-          one true useful =
-              let at = found_among strips.atoms strips.actions it.action it.among useful in
-              let cheap : IsAtMost (cost_in costs atom) (it.action.cost + it.by.needed) =
-              subst (λ (a : GroundAction). IsAtMost (cost_in costs atom) (a.cost + it.by.needed)) at.2
-              (u.reaches at.0 at.1 it.by.needed (λ need need_less has. needs need need_less (subst (λ (a : GroundAction). has_atom a.needs need ≡ true) at.2 has)) atom less
-              (subst (λ (a : GroundAction). has_atom a.adds atom ≡ true) (sym at.2) it.by.adds)) in
-              settled atom cost (at_most_more (cost_in costs atom) (it.action.cost + it.by.needed) cost it.by.sum cheap) lower
-          one false useless =
-              at_most_more (final_in costs atom) it.by.needed cost (let sum : it.action.cost + it.by.needed ≤ cost = it.by.sum in omega arith)
-              (needs atom less (no_more_in (atoms_in it.action.adds strips.atoms) it.action.needs atom useless (contains_in it.action.adds strips.atoms atom less it.by.adds)))
+          one : (has_atom it.action.needs atom ≡ true) ⊎ IsMergedInto merged it.action atom → IsAtMost (final_in costs atom) cost
+          one (inr into) =
+              let cheap : IsAtMost (cost_in costs atom) ((merged_at merged into.place).cost + it.by.needed) =
+              u.reaches into.place into.inside it.by.needed (λ need need_less has. needs need need_less (subst (λ (set : ℕ). has_atom set need ≡ true) into.needs has)) atom less into.adds in
+              let sum : it.action.cost + it.by.needed ≤ cost = it.by.sum in
+              settled atom cost (at_most_more (cost_in costs atom) ((merged_at merged into.place).cost + it.by.needed) cost (omega (arith, into.cost, sum)) cheap) lower
+          one (inl need) = at_most_more (final_in costs atom) it.by.needed cost (let sum : it.action.cost + it.by.needed ≤ cost = it.by.sum in omega arith) (needs atom less need)
 
   -- ---- the goal
 
   -- the goal costs as much as the last of its atoms whose cost becomes final
-  pub goal_is : (level atom cost : ℕ) (costs : List AtomCost) → IsUnderway strips state level costs → IsLeastOpen costs atom cost → atom < strips.atoms → level ≤ cost
+  pub goal_is : (merged : List MergedAction) → StandFor strips.atoms strips.actions merged → (level atom cost : ℕ) (costs : List AtomCost) → IsUnderway strips merged state level costs → IsLeastOpen costs atom cost → atom < strips.atoms → level ≤ cost
       → has_atom strips.goal atom ≡ true → waiting (has_atom strips.goal) (set costs atom (Final cost)) strips.atoms ≡ 0 → Some cost ≡ goal_cost strips state
-  goal_is level atom cost costs u least less le has none = same_cost (Some cost) (goal_cost strips state) to from where
+  goal_is merged stand level atom cost costs u least less le has none = same_cost (Some cost) (goal_cost strips state) to from where
     to : (c : ℕ) → IsAtMost (Some cost) c → IsAtMost (goal_cost strips state) c
     to c h = dearest_from (atom_cost strips state strips.atoms) strips.goal strips.atoms c (λ a a_less wanted.
         let final = has_final (final_in (set costs atom (Final cost)) a) (all_final (has_atom strips.goal) (set costs atom (Final cost)) strips.atoms none a a_less wanted) in
@@ -234,14 +240,14 @@ module _ (strips : StripsParts) (state : ℕ) where
       go (inr le) = le
       go (inl lower) =
           let final : IsAtMost (final_in costs atom) c =
-          is_settled level cost costs u (cheaper_is_final costs atom cost least) strips.atoms atom c less lower
+          is_settled merged stand level cost costs u (cheaper_is_final costs atom cost least) strips.atoms atom c less lower
           (dearest_at (atom_cost strips state strips.atoms) strips.goal strips.atoms c h atom less has) in
           absurd (subst (λ known. IsAtMost (final_cost known) c) least.is final)
 
   -- where no cost is open, and an atom of the goal has no final cost, none is enough for the goal
-  pub goal_is_dead : (level : ℕ) (costs : List AtomCost) → IsUnderway strips state level costs → ((atom cost : ℕ) → known_in costs atom ≡ Open cost → ⊥)
+  pub goal_is_dead : (merged : List MergedAction) → StandFor strips.atoms strips.actions merged → (level : ℕ) (costs : List AtomCost) → IsUnderway strips merged state level costs → ((atom cost : ℕ) → known_in costs atom ≡ Open cost → ⊥)
       → 1 ≤ waiting (has_atom strips.goal) costs strips.atoms → None ≡ goal_cost strips state
-  goal_is_dead level costs u closed some = same_cost None (goal_cost strips state) (λ c h. absurd h) (λ c h. from c h) where
+  goal_is_dead merged stand level costs u closed some = same_cost None (goal_cost strips state) (λ c h. absurd h) (λ c h. from c h) where
     found : (k : ℕ) × (k < strips.atoms) × ((has_atom strips.goal k && not (is_final_in costs k)) ≡ true)
     found = some_counted (λ a. has_atom strips.goal a && not (is_final_in costs a)) strips.atoms some
 
@@ -255,13 +261,13 @@ module _ (strips : StripsParts) (state : ℕ) where
     from c h =
         let parts = is_waited_for (has_atom strips.goal found.0) (is_final_in costs found.0) found.2 in
         let final : IsAtMost (final_in costs found.0) c =
-        is_settled level (suc c) costs u (settled c) strips.atoms found.0 c found.1 (omega arith)
+        is_settled merged stand level (suc c) costs u (settled c) strips.atoms found.0 c found.1 (omega arith)
         (dearest_at (atom_cost strips state strips.atoms) strips.goal strips.atoms c h found.0 found.1 parts.0) in
         let wrong : false ≡ true = sym parts.1 ∙ is_final_where (final_in costs found.0) c final in cc
 
   -- no open cost is below the level
-  pub opens_from : (level : ℕ) (costs : List AtomCost) → IsUnderway strips state level costs → OpensAreFrom level costs
-  opens_from level costs u atom c is = go (cases_lt c level) where
+  pub opens_from : (merged : List MergedAction) (level : ℕ) (costs : List AtomCost) → IsUnderway strips merged state level costs → OpensAreFrom level costs
+  opens_from merged level costs u atom c is = go (cases_lt c level) where
     go : (c < level) ⊎ (level ≤ c) → level ≤ c
     go (inr le) = le
     go (inl lower) =

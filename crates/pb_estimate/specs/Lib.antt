@@ -4,7 +4,10 @@ pub use Rattle.pb_task.specs.Strips
 pub use Rattle.pb_task.specs.Tiles
 pub mod Hmax
 pub mod Estimates
+pub mod CostWords
 pub mod Exploring
+pub mod Merged
+pub mod Relaxed
 pub mod Tables
 pub mod Spelling
 pub mod Laws

@@ -1,19 +1,20 @@
 -- What the estimator of a task keeps. A further kind of task is one case more, and so is a further
 -- choice of an estimate.
-use Rattle.std.specs.Prelude.{◌≡◌, ℕ, zero, suc, ◌+◌, ◌*◌, ◌<◌, ◌≤◌, ◌^◌, Bool, true, false, not, List, [], ◌∷◌, ◌++◌, map, length, All, Contains, slice_index, slice_index_or, if◌then◌else◌}
-use Rattle.std.specs.List.{filter, list_any}
+use Rattle.std.specs.Prelude.{◌≡◌, ℕ, zero, suc, ◌+◌, ◌*◌, ◌<◌, ◌≤◌, ◌^◌, true, false, List, [], ◌∷◌, ◌++◌, map, length, All, Contains, slice_index, slice_index_or, if◌then◌else◌}
 use Rattle.pb_task.specs.declared.parts.GroundAction.{GroundAction}
 use Rattle.pb_task.specs.declared.parts.StripsParts.{StripsParts}
 use Rattle.pb_task.specs.declared.parts.TaskParts.{TaskParts}
 use Rattle.pb_task.specs.declared.parts.TaskParts.TheVariants as parts
-use Rattle.pb_task.specs.Strips.{action_at, has_atom}
+use Rattle.pb_task.specs.Strips.{has_atom}
 use Rattle.pb_estimate.specs.declared.choice.Choice.{Choice}
 use Rattle.pb_estimate.specs.declared.choice.Choice.TheVariants.{Plain}
 use Rattle.pb_estimate.specs.Estimates.{way_home}
 use Rattle.pb_estimate.specs.Hmax.{IsAtMost}
 use Rattle.pb_estimate.specs.Exploring.{count, cost_in, IsExploration}
 use Rattle.pb_estimate.specs.declared.exploration.AtomCost.{AtomCost}
-use Rattle.pb_estimate.specs.declared.relaxed.RelaxedAction.{RelaxedAction}
+use Rattle.pb_estimate.specs.declared.merging.MergedAction.{MergedAction}
+use Rattle.pb_estimate.specs.Merged.{merged_at, StandFor}
+use Rattle.pb_estimate.specs.Relaxed.{RelaxedAction, relaxed_at}
 use Rattle.pb_estimate.specs.declared.relaxed.RelaxedTask.{RelaxedTask}
 use Rattle.pb_estimate.specs.declared.strips.Counters.{Counters}
 use Rattle.pb_estimate.specs.declared.estimator.Tables.{Tables}
@@ -33,21 +34,9 @@ abbrev pub atoms_in : (set count : ℕ) → List ℕ
 atoms_in set zero = []
 atoms_in set (suc atom) = atoms_in set atom ++ (if has_atom set atom then atom ∷ [] else [])
 
--- whether an atom is among these that isn't in the set
-abbrev pub has_more : (atoms : List ℕ) → (set : ℕ) → Bool
-has_more atoms set = list_any (λ atom. not (has_atom set atom)) atoms
-
--- those of some actions that add an atom that they don't need: no other makes an atom cheaper
-abbrev pub useful_actions : (count : ℕ) → List GroundAction → List GroundAction
-useful_actions count actions =
-    filter (λ action. has_more (atoms_in action.adds count) action.needs) actions
-
--- an action without what it deletes
-abbrev pub relaxed_action : (count : ℕ) → GroundAction → RelaxedAction
+-- a merged action as what it adds and what it costs
+abbrev pub relaxed_action : (count : ℕ) → MergedAction → RelaxedAction
 relaxed_action count action = record { adds = atoms_in action.adds count; cost = action.cost }
-
-abbrev pub relaxed_at : List RelaxedAction → (number : ℕ) → RelaxedAction
-relaxed_at actions number = slice_index_or actions number (record { adds = []; cost = 1 })
 
 -- an action adds atoms below `count`, and costs at most 2^20
 pub record IsRelaxed (count : ℕ) (action : RelaxedAction) : Type 0 where
@@ -74,32 +63,39 @@ IsAddedBy actions level counts user atom cost =
 -- ---- who needs what
 
 -- exactly the numbers of those actions that need an atom, in ascending order
-pub record AreUsers (actions : List GroundAction) (atom : ℕ) (users : List ℕ) : Type 0 where
+pub record AreUsers (actions : List MergedAction) (atom : ℕ) (users : List ℕ) : Type 0 where
   pub need : All (λ user. (user < length actions)
-      × (has_atom (action_at actions user).needs atom ≡ true)) users
-  pub all : (user : ℕ) → user < length actions → has_atom (action_at actions user).needs atom ≡ true
+      × (has_atom (merged_at actions user).needs atom ≡ true)) users
+  pub all : (user : ℕ) → user < length actions → has_atom (merged_at actions user).needs atom ≡ true
       → Contains users user
   pub ascend : (j k : ℕ) → j < k → k < length users → slice_index users j < slice_index users k
 
 -- all numbers of those actions that need none of the first `count` atoms, and no others
-pub record AreFree (count : ℕ) (actions : List GroundAction) (free : List ℕ) : Type 0 where
+pub record AreFree (count : ℕ) (actions : List MergedAction) (free : List ℕ) : Type 0 where
   pub inside : All (λ user. user < length actions) free
-  pub need : All (λ user. (atom : ℕ) → atom < count → has_atom (action_at actions user).needs atom
+  pub need : All (λ user. (atom : ℕ) → atom < count → has_atom (merged_at actions user).needs atom
       ≡ false) free
   pub all : (user : ℕ) → user < length actions
-      → ((atom : ℕ) → atom < count → has_atom (action_at actions user).needs atom ≡ false)
+      → ((atom : ℕ) → atom < count → has_atom (merged_at actions user).needs atom ≡ false)
       → Contains free user
 
--- The useful actions without what they delete, and which action needs which atom, for some actions
--- over `count` atoms.
-pub record AreRelaxed (count : ℕ) (actions : List GroundAction) (task : RelaxedTask) : Type 0 where
-  pub relaxed : task.actions ≡ map (relaxed_action count) (useful_actions count actions)
-  pub needs : task.needs.items ≡ map (λ (action : GroundAction). length
-      (atoms_in action.needs count)) (useful_actions count actions)
-  pub many : length task.users ≡ count
-  pub users : (atom : ℕ) → atom < count → AreUsers (useful_actions count actions) atom
-      (slice_index_or task.users atom [])
-  pub free : AreFree count (useful_actions count actions) task.free
+-- Merged actions over `count` atoms as relaxed ones, and for each atom the list of those that need
+-- it.
+pub record AreRelaxed (count : ℕ) (merged : List MergedAction) (lists : List (List ℕ))
+    (task : RelaxedTask) : Type 0 where
+  pub relaxed : task.actions ≡ map (relaxed_action count) merged
+  pub needs : task.needs.items ≡ map (λ (action : MergedAction). length
+      (atoms_in action.needs count)) merged
+  pub many : length lists ≡ count
+  pub users : (atom : ℕ) → atom < count → AreUsers merged atom (slice_index_or lists atom [])
+  pub free : AreFree count merged task.free
+
+-- The relaxed task of some actions over `count` atoms: it has merged actions that stand for them.
+pub record IsRelaxation (count : ℕ) (actions : List GroundAction) (task : RelaxedTask)
+    : Type 0 where
+  pub merged : List MergedAction
+  pub stand : StandFor count actions merged
+  pub relaxed : AreRelaxed count merged task.users task
 
 -- Which atoms the goal has, and how many.
 pub record IsWanted (goal atoms : ℕ) (task : RelaxedTask) : Type 0 where
@@ -113,7 +109,7 @@ pub record IsWanted (goal atoms : ℕ) (task : RelaxedTask) : Type 0 where
 -- The counters are of a task: the task's actions and goal, and room for a counter for each action
 -- and a cost for each atom.
 pub record AreCounters (strips : StripsParts) (counters : Counters) : Type 0 where
-  pub actions : AreRelaxed strips.atoms strips.actions counters.task
+  pub actions : IsRelaxation strips.atoms strips.actions counters.task
   pub goal : IsWanted strips.goal strips.atoms counters.task
   pub counts : length counters.counts.items ≡ length counters.task.needs.items
   pub costs : length counters.exploration.costs.items ≡ strips.atoms

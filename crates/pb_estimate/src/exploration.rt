@@ -1,12 +1,14 @@
-ghost use Rattle.std.specs.Prelude.{[], ◌∷◌, ◌≡◌, ℕ, ◌<◌, ◌≤◌, ◌↔◌, IsTrue, IfOk, IfSome, IfNone, All, length, slice_index, slice_set, true, None, is_some};
+ghost use Rattle.std.specs.Prelude.{[], ◌∷◌, ◌≡◌, ℕ, ◌+◌, ◌-◌, ◌^◌, ◌<◌, ◌≤◌, ◌↔◌, IsTrue, IfOk, IfSome, IfNone, All, length, slice_index, slice_set, true, None, is_some};
 ghost use Rattle.pb_packed.specs.Sizes.{most_atoms};
 ghost use Rattle.pb_task.specs.Strips.{has_atom};
 ghost use Rattle.pb_estimate.specs.declared.exploration.AtomCost.TheVariants.{Unreached, Open, Final};
 ghost use Rattle.pb_estimate.specs.Hmax.{IsAtMost};
 ghost use Rattle.pb_estimate.specs.Exploring.{known_in, cost_in, final_in, final_cost, is_final_in, AreLowered, HaveSameFinals, FinalsAreWithin, OpensAreFrom, IsExploration, IsLeastOpen, IsOneOf};
 
+use crate::atom_sets::next_atom;
 use pb_packed::Packed;
 use std::alloc::{AllocError, Global};
+use std::marker::Model;
 
 /// What is known of the cost of an atom.
 #[derive(Clone, Copy)]
@@ -19,12 +21,78 @@ pub enum AtomCost {
     Final(u32),
 }
 
+// What the word of an open cost has more than the cost.
+const OPEN: u32 = 0x8000_0000;
+
+/// What is known of the cost of an atom, in one word. A final cost is below 2^31. An open one is
+/// kept with 2^31 more. The greatest word means that the atom isn't reached.
+#[derive(Clone, Copy)]
+pub struct CostWord {
+    word: u32,
+}
+
+impl Model for CostWord {
+    ghost use Rattle.pb_estimate.specs.declared.exploration.AtomCost.{AtomCost};
+    ghost use Rattle.pb_estimate.specs.CostWords.{cost_of_word, word_of_cost, word_is_back};
+
+    ghost Value = { AtomCost };
+
+    ghost view = { λ c. cost_of_word c.word };
+
+    ghost inverse = { λ cost. record { word = word_of_cost cost } };
+
+    ghost inverse_ok = { λ a h i. record { word = word_is_back a.word i } };
+}
+
+impl CostWord {
+    // The atom isn't reached.
+    fn unreached() -> CostWord
+        ensures { result ≡ Unreached }
+    {
+        CostWord { word: u32::MAX }
+    }
+
+    // The atom costs at most this.
+    #[inline]
+    fn open(cost: u32) -> CostWord
+        requires { cost < 2 ^ 31 - 1 }
+        ensures { result ≡ Open cost }
+    {
+        CostWord { word: OPEN + cost }
+    }
+
+    // The open cost as a final one.
+    #[inline]
+    fn as_final(self) -> CostWord
+        requires { (cost : ℕ) × (self ≡ Open cost) }
+        ensures { (cost : ℕ) → self ≡ Open cost → result ≡ Final cost }
+    {
+        CostWord {
+            word: self.word - OPEN,
+        }
+    }
+
+    // What is known of the cost.
+    #[inline]
+    fn read(self) -> AtomCost
+        ensures { result ≡ self }
+    {
+        if self.word < OPEN {
+            AtomCost::Final(self.word)
+        } else if self.word == u32::MAX {
+            AtomCost::Unreached
+        } else {
+            AtomCost::Open(self.word - OPEN)
+        }
+    }
+}
+
 /// An exploration of what can hold after a state if nothing is deleted: what each atom costs so
 /// far, and a queue of the atoms that were reached.
 #[derive(Drop)]
 pub struct Exploration {
     /// The cost of each atom.
-    pub costs: Vec<AtomCost>,
+    pub costs: Vec<CostWord>,
     /// The atoms that were reached, in the order in which they were. Later places are unused.
     pub queue: Vec<u16>,
     /// The costs of the atoms at the places before this one are final.
@@ -58,7 +126,7 @@ fn lesser(best: Option<(u16, u32)>, other: (u16, u32)) -> Option<(u16, u32)>
 }
 
 // The cheapest of these atoms whose cost is open. No open cost is less than `level`.
-fn least(costs: &[AtomCost], atoms: &[u16], level: u32) -> Option<(u16, u32)>
+fn least(costs: &[CostWord], atoms: &[u16], level: u32) -> Option<(u16, u32)>
     requires inside { All (λ atom. atom < length costs.now) atoms.now }
     requires level { OpensAreFrom level costs.now }
     ensures found { IfSome result (λ found. (found.0 < length costs.now)
@@ -70,7 +138,7 @@ fn least(costs: &[AtomCost], atoms: &[u16], level: u32) -> Option<(u16, u32)>
 {
     let mut best = None;
     for atom in atoms {
-        if let AtomCost::Open(cost) = costs[*atom as usize] {
+        if let AtomCost::Open(cost) = costs[*atom as usize].read() {
             if cost == level {
                 return Some((*atom, cost));
             }
@@ -88,7 +156,7 @@ impl Exploration {
         ensures long { IfOk result (λ made. length made.costs.items ≡ count) }
     {
         Ok(Exploration {
-            costs: vec![in alloc; AtomCost::Unreached; count]?,
+            costs: vec![in alloc; CostWord::unreached(); count]?,
             queue: vec![in alloc; 0; count]?,
             first: 0,
             reached: 0,
@@ -102,7 +170,7 @@ impl Exploration {
         ensures long { length self.new.costs.items ≡ length self.old.costs.items }
         ensures none { (atom : ℕ) → known_in self.new.costs.items atom ≡ Unreached }
     {
-        self.costs.fill(AtomCost::Unreached);
+        self.costs.fill(CostWord::unreached());
         self.first = 0;
         self.reached = 0;
     }
@@ -120,10 +188,10 @@ impl Exploration {
         ensures finals { (atom : ℕ) → final_in self.new.costs.items atom ≡ None }
     {
         self.clear();
-        for atom in 0..count {
-            if state.has(atom) {
-                self.lower(atom as u16, 0);
-            }
+        let mut atom = next_atom(state, 0, count);
+        while atom < count {
+            self.lower(atom as u16, 0);
+            atom = next_atom(state, atom + 1, count);
         }
     }
 
@@ -131,21 +199,22 @@ impl Exploration {
     fn lower(&mut self, atom: u16, cost: u32)
         requires is { IsExploration self.old }
         requires inside { atom < length self.old.costs.items }
+        requires small { cost ≤ 2 ^ 30 + 2 ^ 20 }
         requires finals { FinalsAreWithin cost self.old.costs.items }
         ensures is { IsExploration self.new }
         ensures long { length self.new.costs.items ≡ length self.old.costs.items }
         ensures lowered { AreLowered (atom ∷ []) cost self.old.costs.items self.new.costs.items }
         ensures finals { HaveSameFinals self.old.costs.items self.new.costs.items }
     {
-        match self.costs[atom as usize] {
+        match self.costs[atom as usize].read() {
             AtomCost::Unreached => {
-                self.costs[atom as usize] = AtomCost::Open(cost);
+                self.costs[atom as usize] = CostWord::open(cost);
                 self.queue[self.reached] = atom;
                 self.reached += 1;
             }
             AtomCost::Open(known) => {
                 if cost < known {
-                    self.costs[atom as usize] = AtomCost::Open(cost);
+                    self.costs[atom as usize] = CostWord::open(cost);
                 }
             }
             AtomCost::Final(_) => {}
@@ -156,6 +225,7 @@ impl Exploration {
     pub fn lower_each(&mut self, atoms: &[u16], cost: u32)
         requires is { IsExploration self.old }
         requires inside { All (λ atom. atom < length self.old.costs.items) atoms.now }
+        requires small { cost ≤ 2 ^ 30 + 2 ^ 20 }
         requires finals { FinalsAreWithin cost self.old.costs.items }
         ensures is { IsExploration self.new }
         ensures long { length self.new.costs.items ≡ length self.old.costs.items }
@@ -178,7 +248,7 @@ impl Exploration {
         let queue = self.queue.as_slice();
         let costs = self.costs.as_slice();
         let mut first = self.first;
-        while first < self.reached && is_final(costs[queue[first] as usize]) {
+        while first < self.reached && is_final(costs[queue[first] as usize].read()) {
             first += 1;
         }
         first
@@ -199,7 +269,8 @@ impl Exploration {
         self.first = self.first_open();
         let queue = &self.queue.as_slice()[self.first..self.reached];
         let (atom, cost) = least(self.costs.as_slice(), queue, level)?;
-        self.costs[atom as usize] = AtomCost::Final(cost);
+        let open = self.costs[atom as usize];
+        self.costs[atom as usize] = open.as_final();
         Some((atom, cost))
     }
 }

@@ -7,12 +7,15 @@
 //! STRIPS tasks it is hmax: the cost of the dearest atom of the goal if nothing is deleted.
 #![tactic(auto)]
 
+mod atom_sets;
 mod choice;
 mod distance;
 mod estimator;
 mod exploration;
+mod flat_lists;
 mod grid;
 mod laws;
+mod merging;
 mod relaxed;
 mod spelling;
 mod strips;
@@ -20,8 +23,9 @@ mod tiles;
 
 pub use choice::Choice;
 pub use estimator::{Estimator, Tables};
-pub use exploration::{AtomCost, Exploration};
+pub use exploration::{AtomCost, CostWord, Exploration};
+pub use flat_lists::FlatLists;
 pub use laws::{estimates_are_admissible, estimates_count_tiles, hmax_is_fixed};
-pub use relaxed::{ActionList, AtomList, RelaxedAction, RelaxedActions, RelaxedTask, Users};
+pub use relaxed::{ActionList, RelaxedActions, RelaxedTask};
 pub use spelling::{Spelling, Stated, Version};
 pub use strips::Counters;

@@ -1,36 +1,17 @@
 ghost use Rattle.std.specs.Prelude.{[], ◌∷◌, ◌≡◌, ℕ, ◌<◌, ◌≤◌, ◌++◌, All, Contains, IfOk, List, OnOk, length, replicate, false, slice_index, slice_index_or, slice_set, if◌then◌else◌, ◌==◌};
-ghost use Rattle.pb_packed.specs.Sizes.{state_bits, most_atoms};
-ghost use Rattle.pb_task.specs.declared.parts.GroundAction.{GroundAction};
-ghost use Rattle.pb_task.specs.Strips.{action_at, has_atom, IsGroundAction, IsStrips};
-ghost use Rattle.pb_estimate.specs.Tables.{atoms_in, has_more, AreRelaxed, IsWanted};
+ghost use Rattle.pb_packed.specs.Sizes.{most_atoms};
+ghost use Rattle.pb_task.specs.Strips.{has_atom, IsStrips};
+ghost use Rattle.pb_estimate.specs.declared.merging.MergedAction.{MergedAction};
+ghost use Rattle.pb_estimate.specs.Relaxed.{relaxed_at};
+ghost use Rattle.pb_estimate.specs.Tables.{AreRelaxed, IsRelaxation, IsWanted};
 
+use crate::atom_sets::atoms_in;
+use crate::flat_lists::FlatLists;
+use crate::merging::{MergedAction, merged_actions};
 use pb_packed::Packed;
-use pb_task::{Actions, StripsParts};
+use pb_task::StripsParts;
 use std::alloc::{AllocError, Global};
 use std::marker::Model;
-
-/// The numbers of some ground atoms.
-#[derive(Drop)]
-pub struct AtomList {
-    atoms: Vec<u16>,
-}
-
-impl Model for AtomList {
-    ghost use Rattle.std.specs.Prelude.{ℕ, List};
-
-    ghost Value = { List ℕ };
-
-    ghost view = { λ l. l.atoms.items };
-}
-
-impl AtomList {
-    /// The numbers, in ascending order.
-    pub fn as_slice(&self) -> &[u16]
-        ensures { result.now ≡ self.now }
-    {
-        self.atoms.as_slice()
-    }
-}
 
 /// The numbers of some relaxed actions.
 #[derive(Drop)]
@@ -72,36 +53,75 @@ impl ActionList {
     }
 }
 
-/// A ground action without what it deletes.
-#[derive(Drop)]
-pub struct RelaxedAction {
-    /// The atoms that hold after the action.
-    pub adds: AtomList,
-    /// The action's cost.
-    pub cost: u32,
+// What a relaxed action adds, as the place of a list in an array, and its cost.
+#[derive(Clone, Copy)]
+struct Entry {
+    from: usize,
+    to: usize,
+    cost: u32,
 }
 
-/// Relaxed actions, in the order of the task's actions.
+/// Actions without what they delete. What they add lies in one array.
 #[derive(Drop)]
 pub struct RelaxedActions {
-    actions: Vec<RelaxedAction>,
+    atoms: Vec<u16>,
+    entries: Vec<Entry>,
 }
 
 impl Model for RelaxedActions {
-    ghost use Rattle.std.specs.Prelude.{List};
-    ghost use Rattle.pb_estimate.specs.declared.relaxed.RelaxedAction.{RelaxedAction};
+    ghost use Rattle.std.specs.Prelude.{ℕ, List, All, length, map};
+    ghost use Rattle.pb_estimate.specs.declared.relaxed.Entry.{Entry};
+    ghost use Rattle.pb_estimate.specs.Relaxed.{RelaxedAction, action_of, IsPiece};
 
     ghost Value = { List RelaxedAction };
 
-    ghost view = { λ a. a.actions.items };
+    ghost view = { λ a. map (λ (e : Entry). action_of a.atoms.items e.from e.to e.cost)
+        a.entries.items };
+
+    ghost invariant = { λ a. All (λ (e : Entry). IsPiece (length a.atoms.items) e.from e.to)
+        a.entries.items };
 }
 
 impl RelaxedActions {
-    /// The actions.
-    pub fn as_slice(&self) -> &[RelaxedAction]
-        ensures { result.now ≡ self.now }
+    // No actions.
+    fn new(alloc: Global) -> RelaxedActions
+        ensures { result ≡ [] }
     {
-        self.actions.as_slice()
+        RelaxedActions {
+            atoms: Vec::new(alloc),
+            entries: Vec::new(alloc),
+        }
+    }
+
+    // Adds an action after the others.
+    fn push(&mut self, adds: &[u16], cost: u32) -> Result<(), AllocError>
+        ensures { OnOk result (self.new
+            ≡ self.old ++ record { adds = adds.now; cost = cost } ∷ []) }
+    {
+        let from = self.atoms.len();
+        self.atoms.extend_from_slice(adds)?;
+        let to = self.atoms.len();
+        self.entries.push(Entry { from, to, cost })?;
+        Ok(())
+    }
+
+    /// What an action adds.
+    #[inline]
+    pub fn adds(&self, number: usize) -> &[u16]
+        requires { number < length self.now }
+        ensures { result.now ≡ (relaxed_at self.now number).adds }
+    {
+        let entry = self.entries[number];
+        &self.atoms.as_slice()[entry.from..entry.to]
+    }
+
+    /// The cost of an action.
+    #[inline]
+    pub fn cost(&self, number: usize) -> u32
+        requires { number < length self.now }
+        ensures { result ≡ (relaxed_at self.now number).cost }
+    {
+        self.entries[number].cost
     }
 }
 
@@ -132,9 +152,20 @@ fn push_each(lists: &mut Vec<ActionList>, atoms: &[u16], action: u16) -> Result<
     Ok(())
 }
 
-/// For each atom the actions that need it.
+// Some lists in one array.
+fn flat_lists(alloc: Global, lists: &[ActionList]) -> Result<FlatLists, AllocError>
+    ensures { IfOk result (λ flat. flat ≡ lists.now) }
+{
+    let mut flat = FlatLists::new(alloc);
+    for list in lists {
+        flat.push(list.as_slice())?;
+    }
+    Ok(flat)
+}
+
+// For each atom the actions that need it, while more are added.
 #[derive(Drop)]
-pub struct Users {
+struct Users {
     lists: Vec<ActionList>,
 }
 
@@ -172,25 +203,24 @@ impl Users {
         push_each(&mut self.lists, atoms, action)
     }
 
-    /// The actions that need an atom.
-    pub fn of(&self, atom: u16) -> &[u16]
-        requires { atom < length self.now }
-        ensures { result.now ≡ slice_index_or self.now atom [] }
+    // The same lists in one array.
+    fn flat(&self, alloc: Global) -> Result<FlatLists, AllocError>
+        ensures { IfOk result (λ flat. flat ≡ self.now) }
     {
-        self.lists[atom as usize].as_slice()
+        flat_lists(alloc, self.lists.as_slice())
     }
 }
 
-/// The delete relaxation of a STRIPS task: an atom that held once goes on holding. Actions that add
-/// only atoms that they need are left out.
+/// The delete relaxation of a STRIPS task: an atom that held once goes on holding. Actions that
+/// need the same and cost the same are merged into one, and no action adds what it needs.
 #[derive(Drop)]
 pub struct RelaxedTask {
-    /// The task's actions without what they delete.
+    /// The task's actions, merged, without what they delete.
     pub actions: RelaxedActions,
     /// How many atoms each action needs.
     pub needs: Vec<u16>,
     /// For each atom the actions that need it.
-    pub users: Users,
+    pub users: FlatLists,
     /// The actions that need nothing.
     pub free: ActionList,
     /// Whether each atom is in the goal.
@@ -199,93 +229,62 @@ pub struct RelaxedTask {
     pub wanted: u32,
 }
 
-// The atoms of a set.
-fn atoms_in(alloc: Global, set: &Packed, count: u32) -> Result<AtomList, AllocError>
-    requires { count ≤ most_atoms }
-    ensures { IfOk result (λ atoms. atoms ≡ atoms_in set.now count) }
-{
-    let mut atoms = Vec::new(alloc);
-    for atom in 0..count {
-        if set.has(atom) {
-            atoms.push(atom as u16)?;
-        }
-    }
-    Ok(AtomList { atoms })
-}
-
-// Whether an atom is among these that isn't in the set.
-fn has_more(atoms: &[u16], set: &Packed) -> bool
-    requires { All (λ atom. atom < state_bits) atoms.now }
-    ensures { result ≡ has_more atoms.now set.now }
-{
-    for atom in atoms {
-        if !set.has(u32::from(*atom)) {
-            return true;
-        }
-    }
-    false
-}
-
-// Adds an action at the end of a task's.
+// Adds an action at the end of a task's, and to the users of what it needs.
 fn add_action(
     task: &mut RelaxedTask,
+    users: &mut Users,
     needs: &[u16],
-    adds: AtomList,
+    adds: &[u16],
     cost: u32,
 ) -> Result<(), AllocError>
-    requires inside { All (λ atom. atom < length task.old.users) needs.now }
+    requires inside { All (λ atom. atom < length users.old) needs.now }
     requires ascend { (j k : ℕ) → j < k → k < length needs.now
         → slice_index needs.now j < slice_index needs.now k }
     requires many { length task.old.needs.items < 65536 }
     requires few { length needs.now ≤ most_atoms }
     ensures actions { OnOk result (task.new.actions ≡ task.old.actions
-        ++ record { adds = adds; cost = cost } ∷ []) }
+        ++ record { adds = adds.now; cost = cost } ∷ []) }
     ensures needs { OnOk result (task.new.needs.items ≡ task.old.needs.items
         ++ length needs.now ∷ []) }
-    ensures many { OnOk result (length task.new.users ≡ length task.old.users) }
-    ensures pushed { OnOk result (All (λ atom. slice_index_or task.new.users atom []
-        ≡ slice_index_or task.old.users atom [] ++ length task.old.needs.items ∷ []) needs.now) }
+    ensures many { OnOk result (length users.new ≡ length users.old) }
+    ensures pushed { OnOk result (All (λ atom. slice_index_or users.new atom []
+        ≡ slice_index_or users.old atom [] ++ length task.old.needs.items ∷ []) needs.now) }
     ensures others { OnOk result ((atom : ℕ) → (Contains needs.now atom → ⊥)
-        → slice_index_or task.new.users atom [] ≡ slice_index_or task.old.users atom []) }
+        → slice_index_or users.new atom [] ≡ slice_index_or users.old atom []) }
     ensures free { OnOk result (task.new.free ≡ (if length needs.now == 0 then task.old.free
         ++ length task.old.needs.items ∷ [] else task.old.free)) }
     ensures goal { (task.new.goal ≡ task.old.goal) × (task.new.wanted ≡ task.old.wanted) }
 {
     let number = task.needs.len() as u16;
-    task.users.push(needs, number)?;
+    users.push(needs, number)?;
     if needs.is_empty() {
         task.free.push(number)?;
     }
     task.needs.push(needs.len() as u16)?;
-    task.actions.actions.push(RelaxedAction { adds, cost })?;
+    task.actions.push(adds, cost)?;
     Ok(())
 }
 
-// Adds an action at the end of a task's actions, unless it adds only atoms that it needs.
-fn add_useful(
+// Adds a merged action at the end of a task's actions.
+fn add_merged(
     alloc: Global,
     count: u32,
     task: &mut RelaxedTask,
-    actions: &Actions,
-    at: usize,
+    users: &mut Users,
+    action: &MergedAction,
 ) -> Result<(), AllocError>
     requires count { count ≤ most_atoms }
-    requires at { at < length actions.now }
-    requires action { IsGroundAction count (action_at actions.now at) }
-    requires users { length task.old.users ≡ count }
+    requires users { length users.old ≡ count }
     requires many { length task.old.needs.items < 65536 }
-    ensures relaxed { OnOk result ((before : List GroundAction)
-        → AreRelaxed count before task.old → AreRelaxed count (before
-        ++ action_at actions.now at ∷ []) task.new) }
+    ensures users { OnOk result (length users.new ≡ count) }
+    ensures relaxed { OnOk result ((before : List MergedAction)
+        → AreRelaxed count before users.old task.old
+        → AreRelaxed count (before ++ action.now ∷ []) users.new task.new) }
     ensures goal { (task.new.goal ≡ task.old.goal) × (task.new.wanted ≡ task.old.wanted) }
 {
-    let needed = actions.needs(at);
-    let adds = atoms_in(alloc, &actions.adds(at), count)?;
-    if !has_more(adds.as_slice(), &needed) {
-        return Ok(());
-    }
-    let needs = atoms_in(alloc, &needed, count)?;
-    add_action(task, needs.as_slice(), adds, actions.cost(at) as u32)?;
+    let needs = atoms_in(alloc, &action.needs, count)?;
+    let adds = atoms_in(alloc, &action.adds, count)?;
+    add_action(task, users, needs.as_slice(), adds.as_slice(), action.cost)?;
     Ok(())
 }
 
@@ -306,15 +305,14 @@ fn flags(alloc: Global, set: &Packed, count: u32) -> Result<Vec<bool>, AllocErro
 // A task without actions.
 fn empty_task(alloc: Global, strips: &StripsParts) -> Result<RelaxedTask, AllocError>
     requires { IsStrips strips.now }
-    ensures actions { IfOk result (AreRelaxed strips.now.atoms []) }
+    ensures actions { IfOk result (AreRelaxed strips.now.atoms []
+        (replicate strips.now.atoms [])) }
     ensures goal { IfOk result (IsWanted strips.now.goal strips.now.atoms) }
 {
     Ok(RelaxedTask {
-        actions: RelaxedActions {
-            actions: Vec::new(alloc),
-        },
+        actions: RelaxedActions::new(alloc),
         needs: Vec::new(alloc),
-        users: Users::none(alloc, strips.atoms)?,
+        users: FlatLists::new(alloc),
         free: ActionList::new(alloc),
         goal: flags(alloc, &strips.goal, strips.atoms)?,
         wanted: atoms_in(alloc, &strips.goal, strips.atoms)?
@@ -326,12 +324,15 @@ fn empty_task(alloc: Global, strips: &StripsParts) -> Result<RelaxedTask, AllocE
 /// A task without what its actions delete.
 pub fn relaxed_task(alloc: Global, strips: &StripsParts) -> Result<RelaxedTask, AllocError>
     requires { IsStrips strips.now }
-    ensures actions { IfOk result (AreRelaxed strips.now.atoms strips.now.actions) }
+    ensures actions { IfOk result (IsRelaxation strips.now.atoms strips.now.actions) }
     ensures goal { IfOk result (IsWanted strips.now.goal strips.now.atoms) }
 {
+    let merged = merged_actions(alloc, strips)?;
     let mut task = empty_task(alloc, strips)?;
-    for at in 0..strips.actions.len() {
-        add_useful(alloc, strips.atoms, &mut task, &strips.actions, at)?;
+    let mut users = Users::none(alloc, strips.atoms)?;
+    for at in 0..merged.len() {
+        add_merged(alloc, strips.atoms, &mut task, &mut users, &merged[at])?;
     }
+    task.users = users.flat(alloc)?;
     Ok(task)
 }

@@ -2,10 +2,11 @@ ghost use Rattle.std.specs.Prelude.{◌⊎◌, ◌≡◌, ℕ, ◌+◌, ◌-◌,
 ghost use Rattle.pb_task.specs.Strips.{IsStrips};
 ghost use Rattle.pb_estimate.specs.Hmax.{IsAtMost, goal_cost, hmax};
 ghost use Rattle.pb_estimate.specs.Exploring.{cost_in, final_in, AreNoLess, HaveSameFinals, FinalsAreWithin, IsExploration};
-ghost use Rattle.pb_estimate.specs.Tables.{AddsAt, AddsAtMost, IsAddedBy, relaxed_at, AreFree, AreRelaxed, IsWanted, IsRelaxed, AreCounters};
+ghost use Rattle.pb_estimate.specs.Relaxed.{relaxed_at};
+ghost use Rattle.pb_estimate.specs.Tables.{AddsAt, AddsAtMost, IsAddedBy, IsRelaxation, IsWanted, IsRelaxed, AreCounters};
 
 use crate::exploration::Exploration;
-use crate::relaxed::{RelaxedAction, RelaxedTask, relaxed_task};
+use crate::relaxed::{RelaxedActions, RelaxedTask, relaxed_task};
 use pb_model::Estimate;
 use pb_packed::Packed;
 use pb_task::StripsParts;
@@ -42,7 +43,7 @@ pub fn counters_of(alloc: Global, strips: &StripsParts) -> Result<Counters, Allo
 fn count_down(
     exploration: &mut Exploration,
     counts: &mut [u16],
-    actions: &[RelaxedAction],
+    actions: &RelaxedActions,
     user: u16,
     level: u32,
 )
@@ -68,8 +69,8 @@ fn count_down(
     let left = counts[user as usize] - 1;
     counts[user as usize] = left;
     if left == 0 {
-        let action = &actions[user as usize];
-        exploration.lower_each(action.adds.as_slice(), level + action.cost);
+        let cost = level + actions.cost(user as usize);
+        exploration.lower_each(actions.adds(user as usize), cost);
     }
 }
 
@@ -78,7 +79,7 @@ fn count_down(
 fn count_down_each(
     exploration: &mut Exploration,
     counts: &mut [u16],
-    actions: &[RelaxedAction],
+    actions: &RelaxedActions,
     users: &[u16],
     level: u32,
 )
@@ -113,7 +114,7 @@ fn count_down_each(
 }
 
 // Lowers the costs of the atoms that some actions add to at most the costs of the actions.
-fn lower_free(exploration: &mut Exploration, actions: &[RelaxedAction], free: &[u16])
+fn lower_free(exploration: &mut Exploration, actions: &RelaxedActions, free: &[u16])
     requires is { IsExploration exploration.old }
     requires actions { All (IsRelaxed (length exploration.old.costs.items)) actions.now }
     requires free { All (λ user. user < length actions.now) free.now }
@@ -131,8 +132,8 @@ fn lower_free(exploration: &mut Exploration, actions: &[RelaxedAction], free: &[
         ⊎ ((user : ℕ) × Contains free.now user × AddsAt (relaxed_at actions.now user) 0 atom cost) }
 {
     for user in free {
-        let action = &actions[*user as usize];
-        exploration.lower_each(action.adds.as_slice(), action.cost);
+        let action = *user as usize;
+        exploration.lower_each(actions.adds(action), actions.cost(action));
     }
 }
 
@@ -145,7 +146,7 @@ fn goal_cost(
     state: &Packed,
 ) -> Option<u32>
     requires strips { IsStrips strips.now }
-    requires actions { AreRelaxed strips.now.atoms strips.now.actions task.now }
+    requires actions { IsRelaxation strips.now.atoms strips.now.actions task.now }
     requires goal { IsWanted strips.now.goal strips.now.atoms task.now }
     requires counts { counts.old ≡ task.now.needs.items }
     requires some { 1 ≤ task.now.wanted }
@@ -156,7 +157,7 @@ fn goal_cost(
     ensures costs { length exploration.new.costs.items ≡ strips.now.atoms }
 {
     exploration.begin(strips.atoms, state);
-    lower_free(exploration, task.actions.as_slice(), task.free.as_slice());
+    lower_free(exploration, &task.actions, task.free.as_slice());
     let mut wanted = task.wanted;
     let mut level = 0;
     while let Some((atom, cost)) = exploration.next(level) {
@@ -170,8 +171,8 @@ fn goal_cost(
         count_down_each(
             exploration,
             counts,
-            task.actions.as_slice(),
-            task.users.of(atom),
+            &task.actions,
+            task.users.at(atom as usize),
             cost,
         );
     }

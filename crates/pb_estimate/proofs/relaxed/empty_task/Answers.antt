@@ -1,4 +1,4 @@
-use Rattle.std.proofs.Common.{◌≡◌, ◌≤◌, [], length, get_or, subst, sym, ap, arith, ◌∙◌}
+use Rattle.std.proofs.Common.{◌≡◌, ◌≤◌, [], length, subst, sym, ap, arith, ◌∙◌}
 use Rattle.std.proofs.lemmas.List.{length-replicate}
 use Rattle.pb_packed.specs.Sizes.{most_atoms}
 use Rattle.pb_estimate.specs.Tables.{atoms_in, AreUsers, AreFree}
@@ -15,11 +15,11 @@ overflow_cast-result c =
 
 pub returns-clause-actions : goal.returns-clause-actions
 returns-clause-actions c = record {
-  relaxed = c.new.ensures.items;
+  relaxed = c.new.ensures;
   needs = c.new-2.ensures.items;
-  many = ap length c.in_ok-none.ensures ∙ length-replicate c.args.strips.now.atoms [];
-  users = λ atom less. subst (AreUsers [] atom) (sym (ap (λ xs. get_or xs atom []) c.in_ok-none.ensures ∙ none_at c.args.strips.now.atoms atom)) (none_use atom);
-  free = subst (AreFree c.args.strips.now.atoms []) (sym c.new-3.ensures) (none_free c.args.strips.now.atoms);
+  many = length-replicate c.args.strips.now.atoms [];
+  users = λ atom less. subst (AreUsers [] atom) (sym (none_at c.args.strips.now.atoms atom)) (none_use atom);
+  free = subst (AreFree c.args.strips.now.atoms []) (sym c.new-4.ensures) (none_free c.args.strips.now.atoms);
 }
 
 pub returns-clause-goal : goal.returns-clause-goal

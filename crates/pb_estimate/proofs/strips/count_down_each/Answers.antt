@@ -2,7 +2,8 @@ use Rattle.std.proofs.Common.{◌≡◌, ℕ, ◌+◌, ◌<◌, ◌≤◌, ◌�
 use Rattle.std.proofs.lemmas.List.{take_all}
 use Rattle.pb_estimate.specs.Hmax.{IsAtMost}
 use Rattle.pb_estimate.specs.Exploring.{cost_in}
-use Rattle.pb_estimate.specs.Tables.{relaxed_at, IsAddedBy}
+use Rattle.pb_estimate.specs.Relaxed.{relaxed_at}
+use Rattle.pb_estimate.specs.Tables.{IsAddedBy}
 use Rattle.pb_estimate.proofs.Released.{not_before, counted_more, others_more, reaches_more, only_more}
 use Rattle.pb_estimate.proofs.strips.count_down_each.Goals as goal
 

@@ -1,7 +1,8 @@
 use Rattle.std.proofs.Common.{◌≡◌, ℕ, ◌+◌, ◌⊎◌, length, get_or, take, All, Contains}
 use Rattle.pb_estimate.specs.Hmax.{IsAtMost}
 use Rattle.pb_estimate.specs.Exploring.{cost_in, AreNoLess, HaveSameFinals, IsExploration}
-use Rattle.pb_estimate.specs.Tables.{relaxed_at, IsAddedBy}
+use Rattle.pb_estimate.specs.Relaxed.{relaxed_at}
+use Rattle.pb_estimate.specs.Tables.{IsAddedBy}
 use Rattle.pb_estimate.proofs.strips.count_down_each.Given as goal
 
 abbrev pub invariant-loop-user : goal.invariant-loop-user

@@ -1,22 +1,18 @@
-use Rattle.std.proofs.Common.{◌≡◌, ℕ, ◌⊎◌, List, [], get_or, take, All, Contains, subst, ◌∙◌, inl}
-use Rattle.std.proofs.lemmas.List.{take_all, get_or_read}
-use Rattle.pb_estimate.specs.declared.relaxed.RelaxedAction.{RelaxedAction}
+use Rattle.std.proofs.Common.{◌≡◌, ℕ, ◌⊎◌, List, get_or, take, All, Contains, subst, ◌∙◌, inl}
+use Rattle.std.proofs.lemmas.List.{take_all}
 use Rattle.pb_estimate.specs.Hmax.{IsAtMost}
 use Rattle.pb_estimate.specs.Exploring.{cost_in, AreLowered}
-use Rattle.pb_estimate.specs.Tables.{relaxed_at, AddsAt}
+use Rattle.pb_estimate.specs.Relaxed.{relaxed_at}
+use Rattle.pb_estimate.specs.Tables.{AddsAt}
 use Rattle.pb_estimate.proofs.Released.{only_free, reaches_free}
 use Rattle.pb_estimate.proofs.strips.lower_free.Goals as goal
 
 pub loop-user-preserved : goal.loop-user-preserved
 loop-user-preserved c =
-    let is : c.index-actions-user.result ≡ relaxed_at c.args.actions.now (get_or c.args.free.now c.loop-user.user-index 0) =
-    get_or_read c.args.actions.now (get_or c.args.free.now c.loop-user.user-index 0) c.index-actions-user.result (c.requires.free c.loop-user.user-index 0 c.loop-user-test.true)
-    c.index-actions-user.is (record { adds = []; cost = 1 }) in
     let low : AreLowered (relaxed_at c.args.actions.now (get_or c.args.free.now c.loop-user.user-index 0)).adds (relaxed_at c.args.actions.now (get_or c.args.free.now c.loop-user.user-index 0)).cost
     c.loop-user.exploration.costs.items c.lower_each.new.self.costs.items =
-    subst (λ (action : RelaxedAction). AreLowered action.adds action.cost c.loop-user.exploration.costs.items c.lower_each.new.self.costs.items) is
-    (subst (λ (atoms : List ℕ). AreLowered atoms c.index-actions-user.result.cost c.loop-user.exploration.costs.items c.lower_each.new.self.costs.items) c.as_slice.ensures
-    c.lower_each.ensures.lowered) in
+    subst (λ (cost : ℕ). AreLowered (relaxed_at c.args.actions.now (get_or c.args.free.now c.loop-user.user-index 0)).adds cost c.loop-user.exploration.costs.items c.lower_each.new.self.costs.items) c.cost.ensures
+    (subst (λ (atoms : List ℕ). AreLowered atoms c.cost.result c.loop-user.exploration.costs.items c.lower_each.new.self.costs.items) c.adds.ensures c.lower_each.ensures.lowered) in
     record {
       is = c.lower_each.ensures.is;
       long = c.lower_each.ensures.long ∙ c.loop-user.invariant.long;

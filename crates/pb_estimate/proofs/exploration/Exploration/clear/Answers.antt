@@ -1,4 +1,4 @@
-use Rattle.std.proofs.Common.{◌≡◌, ◌≤◌, ℕ, length, subst, sym, arith, rules, ◌∙◌, vec_len}
+use Rattle.std.proofs.Common.{◌≡◌, ◌≤◌, ℕ, length, replicate, subst, sym, ap, arith, rules, ◌∙◌, vec_len}
 use Rattle.pb_packed.specs.Sizes.{most_atoms}
 use Rattle.pb_estimate.specs.declared.exploration.AtomCost.TheVariants.{Unreached}
 use Rattle.pb_estimate.specs.Exploring.{known_in}
@@ -7,7 +7,7 @@ use Rattle.pb_estimate.proofs.exploration.Exploration.clear.Goals as goal
 
 pub returns-clause-is : goal.returns-clause-is
 returns-clause-is c =
-    let none : (atom : ℕ) → known_in c.fill.new.self.items atom ≡ Unreached = all_unreached c.fill.new.self.items (vec_len c.args.self.now.costs) (c.fill.ensures.items (λ y e. e)) in
+    let none : (atom : ℕ) → known_in c.fill.new.self.items atom ≡ Unreached = all_unreached c.fill.new.self.items (vec_len c.args.self.now.costs) (c.fill.ensures.items (λ y e. e) ∙ ap (replicate (vec_len c.args.self.now.costs)) c.unreached.ensures) in
     let long : length c.fill.new.self.items ≡ length c.args.self.now.costs.items = search rules in
     record {
       few = subst (λ n. n ≤ most_atoms) (sym long) c.requires.is.few;

@@ -1,8 +1,9 @@
-use Rattle.std.proofs.Common.{◌≡◌, ◌<◌, ◌≤◌, ℕ, length, List, All, IfNone, refl, is_some, subst, sym, ap, inr}
+use Rattle.std.proofs.Common.{◌≡◌, ◌<◌, ◌≤◌, ℕ, length, List, All, IfNone, is_some, subst, sym, ap, inr, ◌∙◌}
+use Rattle.std.proofs.lemmas.List.{get_or_read}
 use Rattle.pb_packed.specs.Sizes.{most_atoms}
 use Rattle.pb_estimate.specs.declared.exploration.AtomCost.{AtomCost}
-use Rattle.pb_estimate.specs.declared.exploration.AtomCost.TheVariants.{Open, Final}
-use Rattle.pb_estimate.specs.Exploring.{known_cost, known_in}
+use Rattle.pb_estimate.specs.declared.exploration.AtomCost.TheVariants.{Unreached, Open, Final}
+use Rattle.pb_estimate.specs.Exploring.{known_cost, final_cost, known_in}
 use Rattle.pb_estimate.proofs.Least.{IsNoMore, HasNone}
 use Rattle.pb_estimate.proofs.Lowered.{same_length, changed}
 use Rattle.pb_estimate.proofs.Queue.{part, part_inside, open_in_part}
@@ -30,11 +31,13 @@ returns-clause-is c =
     subst (λ (costs : List AtomCost). c.in_ok-atom.atom < length costs) c.as_slice-2.ensures.value c.in_ok-atom.ensures.found.0 in
     let is : known_in c.args.self.now.costs.items c.in_ok-atom.atom ≡ Open c.in_ok-atom.cost =
     subst (λ (costs : List AtomCost). known_in costs c.in_ok-atom.atom ≡ Open c.in_ok-atom.cost) c.as_slice-2.ensures.value c.in_ok-atom.ensures.found.1 in
+    let final : c.as_final.result ≡ Final c.in_ok-atom.cost =
+    c.as_final.ensures c.in_ok-atom.cost (get_or_read c.args.self.now.costs.items c.in_ok-atom.atom c.index-open.result.now less c.index-open.ensures Unreached ∙ is) in
     let q = changed c.args.self.now.costs.items c.args.self.now.queue.items c.first_open-self.result c.args.self.now.reached c.in_ok-atom.atom c.in_ok-atom.cost less c.requires.is.places
-    c.requires.is.reached c.requires.is.inside c.requires.is.all c.first_open-self.ensures.reached c.first_open-self.ensures.passed (Final c.in_ok-atom.cost)
-    (ap (λ known. is_some (known_cost known)) is) refl (inr refl) in
+    c.requires.is.reached c.requires.is.inside c.requires.is.all c.first_open-self.ensures.reached c.first_open-self.ensures.passed c.as_final.result
+    (ap (λ known. is_some (known_cost known)) is) (ap (λ known. is_some (known_cost known)) final) (inr (ap (λ known. is_some (final_cost known)) final)) in
     record {
-      few = subst (λ n. n ≤ most_atoms) (sym (same_length c.args.self.now.costs.items c.in_ok-atom.atom (Final c.in_ok-atom.cost))) c.requires.is.few;
+      few = subst (λ n. n ≤ most_atoms) (sym (same_length c.args.self.now.costs.items c.in_ok-atom.atom c.as_final.result)) c.requires.is.few;
       places = q.0;
       reached = q.1;
       inside = q.2;

@@ -1,4 +1,4 @@
-use Rattle.std.proofs.Common.{◌≡◌, ◌≤◌, ℕ, length, subst, sym, arith, rules, ◌∙◌}
+use Rattle.std.proofs.Common.{◌≡◌, ◌≤◌, ℕ, length, replicate, subst, sym, ap, arith, rules, ◌∙◌}
 use Rattle.pb_packed.specs.Sizes.{most_atoms}
 use Rattle.pb_estimate.specs.declared.exploration.AtomCost.TheVariants.{Unreached}
 use Rattle.pb_estimate.specs.Exploring.{known_in}
@@ -7,7 +7,7 @@ use Rattle.pb_estimate.proofs.exploration.Exploration.of.Goals as goal
 
 pub returns-clause-is : goal.returns-clause-is
 returns-clause-is c =
-    let none : (atom : ℕ) → known_in c.in_ok-vec.field-0.items atom ≡ Unreached = all_unreached c.in_ok-vec.field-0.items c.args.count (c.in_ok-vec.ensures.items_if_clones_equal (λ y e. e)) in
+    let none : (atom : ℕ) → known_in c.in_ok-vec.field-0.items atom ≡ Unreached = all_unreached c.in_ok-vec.field-0.items c.args.count (c.in_ok-vec.ensures.items_if_clones_equal (λ y e. e) ∙ ap (replicate c.args.count) c.unreached.ensures) in
     let long : length c.in_ok-vec.field-0.items ≡ c.args.count = search rules in
     let places : length c.in_ok-vec-2.field-0.items ≡ c.args.count = search rules in
     record {
